@@ -1,7 +1,7 @@
-# make            builds the program, crates/luksrd/out/luksrd, which proves all it stands on
-# make demo       reads both sample volumes by a program that is built without proofs
+# make            builds the program, crates/luksrd/out/luksrd, which proves everything that it uses
+# make demo       reads both sample volumes with a program that is built without proofs
 # make check      runs the built program on files and pipes, and beside cryptsetup and qemu-img: all of `make test` but the gate
-# make test       what CI runs: the gate, which proves everything, tries each wrong body of must-fail/ and runs the tests, and beside it the same
+# make test       what CI runs: the gate, which proves everything, tries each must-fail edit and runs the tests, and beside it the same
 #                 scripts on the program that it builds; it prints the processor time that each crate took
 # make bench      measures key derivation, decryption and whole volumes beside other implementations
 # make library    builds the library for C: out/libluksrd.a, out/libluksrd.so and out/luksrd.pc
@@ -9,7 +9,7 @@
 # make install    puts the program, its man page and its completions below PREFIX (/usr/local if it is
 #                 not given), in DESTDIR if that is given; the library too if it is built, and the
 #                 plugin if it is built, which goes into nbdkit's own folder (PLUGINS)
-# make uninstall  takes them away again
+# make uninstall  removes them again
 # make deb        makes a Debian package of the program as it is built, in DEB, and if the plugin is
 #                 built, one of that in PLUGIN_DEB
 
@@ -42,7 +42,7 @@ SHARED_NAMES = libluksrd.so.$(VERSION) libluksrd.so.$(INTERFACE) libluksrd.so
 
 all: $(PROGRAM)
 
-# `rt run` proves, builds and runs; the run here merges one stripe into the key that it is.
+# `rt run` proves, builds and runs; the run here merges one stripe, which gives the stripe itself.
 $(PROGRAM): FORCE | toolchain
 	cd crates/luksrd && rt run -- afMerge --hash sha256 --stripes 1 --key-bytes 32 data/stripes >/dev/null
 
@@ -57,13 +57,13 @@ $(SEALER): FORCE | toolchain
 $(DERIVER): FORCE | toolchain
 	cd crates/bench_pbkdf2 && rt run >/dev/null
 
-# `rt lib` proves and builds it; nothing of C is in it.
+# `rt lib` proves and builds it; it has no code in C.
 crates/luks_c/out/libluks_c.a: FORCE | toolchain
 	cd crates/luks_c && rt lib >/dev/null
 
 library: $(LIBRARY) $(SHARED) out/luksrd.pc
 
-# One object with what it needs of the kit, in which only the names of luksrd.h are seen from outside.
+# One object with what it needs from the kit, which exports only the names of luksrd.h.
 out/libluksrd.a: $(ARCHIVE)
 	mkdir -p out
 	ld -r -o out/luksrd.o --whole-archive $(ARCHIVE) "$$(dirname "$$(rt doc)")/c/liblibc_c.a"
@@ -76,7 +76,7 @@ out/libluksrd.so: $(LIBRARY)
 	    -Wl,-z,defs,-z,relro,-z,now,-z,noexecstack -Wl,--whole-archive $(LIBRARY) -Wl,--no-whole-archive $(LDLIBS)
 	cd out && ln -sf $(word 1,$(SHARED_NAMES)) $(word 2,$(SHARED_NAMES)) && ln -sf $(word 2,$(SHARED_NAMES)) $(word 3,$(SHARED_NAMES))
 
-# $(call package_config,FILE): what pkg-config says of the library below PREFIX
+# $(call package_config,FILE): what pkg-config reports about the library below PREFIX
 package_config = sed -e 's|@PREFIX@|$(PREFIX)|' -e 's|@VERSION@|$(VERSION)|' c/luksrd.pc.in >"$(1)"
 
 out/luksrd.pc: c/luksrd.pc.in FORCE
@@ -85,7 +85,7 @@ out/luksrd.pc: c/luksrd.pc.in FORCE
 
 nbdkit: $(PLUGIN)
 
-# The library is in it, and is not seen from outside.
+# The library is in it, and is not exported.
 $(PLUGIN): $(wildcard nbdkit/*.[ch]) c/luksrd.h $(LIBRARY)
 	mkdir -p "$(dir $@)"
 	$(CC) $(CFLAGS) -std=c11 -D_GNU_SOURCE -DVERSION='"$(VERSION)"' -Wall -Wextra -Werror -fPIC -fvisibility=hidden -Ic \
@@ -100,9 +100,9 @@ toolchain:
 
 check: all $(SEALER) $(DERIVER) library nbdkit scripts
 
-# The programs, the library and the plugin are taken as they are. Four scripts run side by side; what
-# each prints comes when it has ended. Some ask for the sealer, the program that derives keys, or what
-# is built of C.
+# The programs, the library and the plugin are used as they are. Four scripts run side by side; the
+# output of each comes when it has ended. Some need the sealer, the program that derives keys, or what
+# is built from C.
 TESTS := stripes volumes devices memory hostile completions
 INTEROP := headers headers2 volumes volumes2 detached filesystems
 PROGRAM_SCRIPTS := test-names $(TESTS:%=test-%) $(INTEROP:%=interop-%)
@@ -155,7 +155,7 @@ bench: all
 	bench/nbd
 	bench/plot
 
-# What is built already is installed as it is, so that this needs no toolchain.
+# What is already built is installed as it is, so this needs no toolchain.
 built:
 	@test -f "$(PROGRAM)" -a -x "$(PROGRAM)" || { echo "luksrd is not built: run make first" >&2; exit 1; }
 
@@ -190,7 +190,7 @@ uninstall:
 	rm -f "$(HEADERS)/luksrd.h" "$(LIBRARIES)/libluksrd.a" $(SHARED_NAMES:%="$(LIBRARIES)/%") "$(LIBRARIES)/pkgconfig/luksrd.pc"
 	rm -f "$(PAGES)/nbdkit-luksrd-plugin.1" $(if $(PLUGINS),"$(DESTDIR)$(PLUGINS)/nbdkit-luksrd-plugin.so")
 
-# This too takes the program and the plugin as they are.
+# This too uses the program and the plugin as they are.
 deb: built
 	packaging/deb luksrd "$(PROGRAM)" "$(VERSION)" "$(DEB)"
 	@echo "$(DEB)"

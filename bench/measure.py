@@ -1,4 +1,4 @@
-"""What the measurements of whole runs share: the program, and what a run takes."""
+"""Shared by the measurements of whole runs: the program, and the cost of a run."""
 
 import os
 import pathlib
@@ -15,7 +15,7 @@ def build():
 
 
 def measured(folder, command, environment=None):
-    """Processor time in seconds and peak memory in KiB of a command and what it starts, as GNU time tells them."""
+    """Processor time in seconds and peak memory in KiB of a command and what it starts, as GNU time reports them."""
     usage = folder / "usage"
     words = ["/usr/bin/time", "-f", "%U %S %M", "-o", usage, *command]
     done = subprocess.run([str(word) for word in words], stdout=subprocess.DEVNULL, env={**os.environ, **(environment or {})})
@@ -54,7 +54,7 @@ def run_cryptsetup(folder, command, *words):
 
 
 def volume(folder, name, iterations, payload, hash_name="sha256"):
-    """A volume whose payload is zeros as they are stored, which every reader has to decrypt to the same bytes."""
+    """A volume whose payload is stored as zeros, which every reader has to decrypt to the same bytes."""
     image = folder / name
     with open(image, "wb") as file:
         file.truncate(4 * MIB)
@@ -70,6 +70,6 @@ def volume(folder, name, iterations, payload, hash_name="sha256"):
 
 
 def start_of(image):
-    """The place of the payload's first byte, as cryptsetup tells it."""
+    """The offset of the payload's first byte, as cryptsetup reports it."""
     header = subprocess.run(["cryptsetup", "luksDump", image], check=True, capture_output=True, text=True).stdout
     return next(int(line.split()[2]) for line in header.splitlines() if line.startswith("Payload offset:")) * 512

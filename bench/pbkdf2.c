@@ -1,5 +1,5 @@
 /* PBKDF2 with HMAC-SHA1, HMAC-SHA256 and HMAC-SHA512 in plain C, to be timed beside luks_kdf:
- * `pbkdf2 sha256 100000 64` derives a key of 64 bytes in that many turns, its blocks one after the
+ * `pbkdf2 sha256 100000 64` derives a key of 64 bytes with 100000 iterations, its blocks one after the
  * other, with both padded key blocks hashed once, and writes the evaluations of HMAC, the nanoseconds
  * of processor time and the key.
  */
@@ -67,7 +67,7 @@ static void compress512(u64 h[8], const u64 block[16]) { ROUNDS(u64, ROR64, 80, 
 static u64 root_bits(unsigned p, int root) {
     unsigned __int128 whole = 0;
     while ((root == 2 ? (whole + 1) * (whole + 1) : (whole + 1) * (whole + 1) * (whole + 1)) <= p) whole++;
-    /* Bit by bit, in numbers of 32 bits a limb: x is the root times 2^64. */
+    /* Bit by bit, in numbers with limbs of 32 bits: x is the root times 2^64. */
     unsigned __int128 x = whole << 64;
     for (int bit = 63; bit >= 0; bit--) {
         unsigned __int128 y = x | (unsigned __int128)1 << bit;
@@ -110,7 +110,7 @@ static void fill_constants(void) {
 
 typedef const unsigned char *bytes;
 
-/* The words of the message's one block after the key block: at most eight words and then the end. */
+/* The words of the one block that the message has after the key block: at most eight words, then the padding. */
 #define DERIVE(T, WORDS, H, compress)                                                          \
     T inner[8], outer[8], key[16] = {0}, pad[16], u[8], sum[8], block[16];                     \
     unsigned size = sizeof(T), evaluations = 0;                                                \

@@ -2,9 +2,9 @@
  *
  *     tables VARIANT BYTES COUNT
  *
- * decrypts COUNT data units of BYTES bytes under the numbers from 0, and prints how many bytes that were
- * and how many nanoseconds it took. VARIANT is `one` (one table of 256 words, and its rotations) or
- * `four` (four tables). The tables are computed from the field, and an example of IEEE 1619 is tried first. */
+ * decrypts COUNT data units of BYTES bytes under the numbers from 0, and prints the number of bytes
+ * and the nanoseconds that it took. VARIANT is `one` (one table of 256 words, and its rotations) or
+ * `four` (four tables). The tables are computed from the field, and an example of IEEE 1619 is checked first. */
 #include <stdint.h>
 #include <stdio.h>
 #include <stdlib.h>
@@ -86,7 +86,7 @@ static void expand_inverse(const uint8_t key[32], uint32_t w[WORDS]) {
     }
 }
 
-/* A column from the four that meet in it, in the order of the rows. */
+/* A column from the four columns whose bytes it has, in the order of the rows. */
 #define MIXED(T, table, a, b, c, d) \
     (T(table, 0, (a) & 255) ^ T(table, 1, (b) >> 8 & 255) ^ T(table, 2, (c) >> 16 & 255) ^ T(table, 3, (d) >> 24))
 #define LAST(box, a, b, c, d)                                                                  \
@@ -115,7 +115,7 @@ static inline const uint32_t *backwards(const uint32_t *w, int round) { return w
         out[3] = LAST(box, s[3], s[(3 + X) % 4], s[1], s[(3 + Y) % 4]) ^ k[3];                 \
     }
 
-/* T(table, n, b): entry b of table n, which is table 0 turned by n bytes. */
+/* T(table, n, b): entry b of table n, which is table 0 rotated by n bytes. */
 #define ONE(table, n, b) ((n) ? turned(table[0][b], 8 * (n)) : table[0][b])
 #define FOUR(table, n, b) table[n][b]
 
@@ -157,7 +157,7 @@ int main(int argc, char **argv) {
         0x62, 0x49, 0x77, 0x57, 0x24, 0x70, 0x93, 0x69, 0x99, 0x59, 0x57, 0x49, 0x66, 0x96, 0x76, 0x27,
         0x31, 0x41, 0x59, 0x26, 0x53, 0x58, 0x97, 0x93, 0x23, 0x84, 0x62, 0x64, 0x33, 0x83, 0x27, 0x95,
         0x02, 0x88, 0x41, 0x97, 0x16, 0x93, 0x99, 0x37, 0x51, 0x05, 0x82, 0x09, 0x74, 0x94, 0x45, 0x92};
-    /* Vector 10 of IEEE 1619, annex B: the first two blocks of the unit of number ff are 00 to 1f. */
+    /* Vector 10 of IEEE 1619, annex B: the first two blocks of the data unit with number ff are 00 to 1f. */
     static const uint8_t example[32] = {
         0x1c, 0x3b, 0x3a, 0x10, 0x2f, 0x77, 0x03, 0x86, 0xe4, 0x83, 0x6c, 0x99, 0xe3, 0x70, 0xcf, 0x9b,
         0xea, 0x00, 0x80, 0x3f, 0x5e, 0x48, 0x23, 0x57, 0xa4, 0xae, 0x12, 0xd4, 0x14, 0xa3, 0xe6, 0x3b};

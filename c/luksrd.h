@@ -6,14 +6,14 @@
  * in place: sector n of the payload begins at byte `offset + n * sector_size` of the image, and
  * becomes the bytes from `n * sector_size` on of what `luksrd luksCat` writes.
  *
- * What a caller must keep to, in every function:
+ * Rules for the caller, in every function:
  *   - no pointer is NULL, not even one to no bytes;
- *   - a pointer with a length is to that many bytes; another is to one whole value of its type,
- *     aligned as its type is;
- *   - what is passed does not overlap and is not changed by another thread until the call returns.
+ *   - a pointer with a length points to that many bytes; any other points to one whole value of its
+ *     type, aligned as its type is;
+ *   - memory that is passed does not overlap, and no other thread changes it until the call returns.
  *
  * No function keeps state, so threads may call all of them at once, with the same volume too. Only
- * luksrd_open takes memory, by malloc, realloc and free. It may not be called from a signal
+ * luksrd_open allocates memory, by malloc, realloc and free. It may not be called from a signal
  * handler, nor from the forked child of a process with threads.
  */
 #ifndef LUKSRD_H
@@ -26,8 +26,8 @@
 extern "C" {
 #endif
 
-/* The first bytes of an image or of a detached header that decide all of opening: with them the
- * outcome is the same as with all its bytes. A shorter one is passed whole. */
+/* The number of first bytes of an image or of a detached header that decide everything about opening:
+ * with them the outcome is the same as with all its bytes. A shorter one is passed whole. */
 #define LUKSRD_HEADER_BYTES 33554432
 
 /* The longest passphrase in bytes, which is also that of a key file. */
@@ -48,23 +48,23 @@ enum luksrd_code {
   LUKSRD_NO_KEY = 10,         /* no key slot that was tried opens */
   LUKSRD_OUT_OF_MEMORY = 11,
 
-  /* how an image ends that is not whole */
+  /* how an incomplete image ends */
   LUKSRD_ENDS_BEFORE_PAYLOAD = 12, /* before its payload begins */
   LUKSRD_ENDS_INSIDE_SECTOR = 13,  /* inside a sector of the payload */
   LUKSRD_ENDS_BEFORE_SEGMENT = 14, /* before the end of a payload of fixed size */
 
   /* a call that no caller should make */
   LUKSRD_BAD_OPTIONS = 15, /* a key slot number above 31 */
-  LUKSRD_BAD_VOLUME = 16,  /* a struct that holds no open volume */
+  LUKSRD_BAD_VOLUME = 16,  /* a struct without an open volume */
   LUKSRD_BAD_RANGE = 17    /* no whole sectors, or sector numbers that are too large */
 };
 
 /* How a volume is opened. All zero: an attached header, every key slot, no limit. */
 struct luksrd_options {
   uint32_t detached;       /* not 0: the bytes are those of a detached header */
-  uint32_t has_key_slot;   /* not 0: only the key slot of number `key_slot` is tried */
+  uint32_t has_key_slot;   /* not 0: only key slot number `key_slot` is tried */
   uint32_t key_slot;       /* 0 to 31 */
-  uint32_t max_iterations; /* the most PBKDF2 iterations of a key slot or a digest; 0: no limit */
+  uint32_t max_iterations; /* the limit of PBKDF2 iterations of a key slot or a digest; 0: no limit */
 };
 
 /* How a payload is encrypted: the last part of `aes-..` in a header. */
@@ -75,8 +75,8 @@ enum luksrd_mode {
   LUKSRD_CBC_PLAIN64 = 4
 };
 
-/* A volume that is open. It belongs to the caller, holds no pointer and may be copied. It holds the
- * volume key: wipe it (explicit_bzero) once it is not needed. */
+/* An open volume. It belongs to the caller, has no pointers and may be copied. It contains the
+ * volume key: wipe it (explicit_bzero) when it is no longer needed. */
 struct luksrd_volume {
   uint64_t offset;      /* the first byte of the payload in its image */
   uint64_t size;        /* the payload's length in bytes, if has_size is 1; else 0 */
@@ -93,30 +93,30 @@ struct luksrd_volume {
 /* A message: the exit status of `luksrd luksCat`, and the line that it prints on standard
  * error, without its newline. The text is not ended by a zero byte: print it by "%.*s". */
 struct luksrd_message {
-  uint32_t status;    /* 0: success; 1: refused; 2: no key; 3: no memory; 4: the image is not as
-                       * it has to be */
-  uint32_t len;       /* how many bytes the text has, at most 1016; 0 if the status is 0 */
-  uint8_t text[1016]; /* it; the bytes past `len` are 0 */
+  uint32_t status;    /* 0: success; 1: refused; 2: no key; 3: out of memory; 4: the image is
+                       * not as it has to be */
+  uint32_t len;       /* the text's length in bytes, at most 1016; 0 if the status is 0 */
+  uint8_t text[1016]; /* the text; the bytes past `len` are 0 */
 };
 
 /* Opens a volume by a passphrase.
  *
  * `header` is the image's first bytes, or those of the detached header if the options say so: the
- * first LUKSRD_HEADER_BYTES of it, or all of it if it is shorter. The passphrase is taken as it is,
- * a newline at its end too.
+ * first LUKSRD_HEADER_BYTES of it, or all of it if it is shorter. The passphrase is used as it is,
+ * including a newline at its end.
  *
  * Returns LUKSRD_OK: the volume is filled and the message is empty. Or returns, with a volume that
  * is all zero:
  *   - LUKSRD_BAD_OPTIONS, exactly if has_key_slot is not 0 and key_slot is above 31. The message is
  *     that of luksrd_status_text;
  *   - a code from 1 to 11, with the message of `luksrd luksCat`.
- * Time is that of PBKDF2, which the header decides: seconds and more, if it has many iterations and
- * no limit is given. */
+ * The time is that of PBKDF2, which the header decides: seconds and more, if it has many iterations
+ * and no limit is given. */
 uint32_t luksrd_open(const uint8_t *header, size_t header_len, const uint8_t *passphrase,
                      size_t passphrase_len, const struct luksrd_options *options,
                      struct luksrd_volume *volume, struct luksrd_message *message);
 
-/* How many bytes of plaintext a volume has whose payload's image has `image_len` bytes: its whole
+/* The length in bytes of a volume's plaintext, if its payload's image has `image_len` bytes: its whole
  * sectors, a multiple of the sector size. 0 if `sector_size` is none of its four values, as in a
  * struct that luksrd_open has set to zero. */
 uint64_t luksrd_len(const struct luksrd_volume *volume, uint64_t image_len);
@@ -124,31 +124,31 @@ uint64_t luksrd_len(const struct luksrd_volume *volume, uint64_t image_len);
 /* How the payload ends in an image of `image_len` bytes.
  *
  * Returns LUKSRD_OK, with 0 in `bytes`, if it is whole; LUKSRD_ENDS_BEFORE_PAYLOAD, with 0;
- * LUKSRD_ENDS_INSIDE_SECTOR, with how many bytes of that sector there are; or
- * LUKSRD_ENDS_BEFORE_SEGMENT, with how many bytes of the payload are missing. The message is
- * that with which `luksrd luksCat` ends.
+ * LUKSRD_ENDS_INSIDE_SECTOR, with the number of bytes of that sector that are there; or
+ * LUKSRD_ENDS_BEFORE_SEGMENT, with the number of bytes of the payload that are missing. The message
+ * is the one with which `luksrd luksCat` ends.
  *
  * Returns LUKSRD_BAD_VOLUME, with 0 in `bytes` and the message of luksrd_status_text, exactly if
  * `sector_size` is none of its four values, as in a struct that luksrd_open has set to zero. */
 uint32_t luksrd_ending(const struct luksrd_volume *volume, uint64_t image_len, uint64_t *bytes,
                        struct luksrd_message *message);
 
-/* Decrypts whole sectors in place, the first of which is sector `first_sector` of the payload.
+/* Decrypts whole sectors in place, from sector `first_sector` of the payload on.
  *
  * The bytes are those of the image from byte `offset + first_sector * sector_size` on: a caller
- * that read fewer must not pass the others.
+ * that read fewer bytes than it wanted must not pass the rest.
  *
- * Returns LUKSRD_OK. Or returns, with the bytes as they were:
+ * Returns LUKSRD_OK. Or returns, with the bytes unchanged:
  *   - LUKSRD_BAD_VOLUME, if `sector_size` or `mode` is none of its values, `has_size` is 1 and
- *     `size` is no multiple of the sector size, or `key_size` is no key length of the mode: 32 or
- *     64 for XTS, 16 or 32 for CBC. A struct that luksrd_open has filled is never refused;
- *   - otherwise LUKSRD_BAD_RANGE, if `len` is no multiple of the sector size, or
+ *     `size` is not a multiple of the sector size, or `key_size` is not a key length of the mode:
+ *     32 or 64 for XTS, 16 or 32 for CBC. A struct that luksrd_open has filled is never refused;
+ *   - otherwise LUKSRD_BAD_RANGE, if `len` is not a multiple of the sector size, or
  *     `first_sector + len / sector_size` is above 2^64 - 1. */
 uint32_t luksrd_decrypt(const struct luksrd_volume *volume, uint64_t first_sector, uint8_t *bytes,
                         size_t len);
 
 /* The status and the sentence of a code alone, without slot numbers, reasons and counts of bytes.
- * LUKSRD_OK has status 0 and an empty sentence. A number that is no code has status 1 and the
+ * LUKSRD_OK has status 0 and an empty sentence. A number that is not a code has status 1 and the
  * sentence "luksrd: no such code". */
 void luksrd_status_text(uint32_t code, struct luksrd_message *message);
 

@@ -1,5 +1,5 @@
 # shellcheck shell=bash
-# Completes the words of luksrd in bash: commands, the options of each that are not there yet,
+# Completes the arguments of luksrd in bash: commands, the options of each that are not there yet,
 # hash names, and files. Files are left to readline, which knows how to quote them.
 _luksrd() {
     local current=${COMP_WORDS[COMP_CWORD]} before=${COMP_WORDS[COMP_CWORD - 1]}
@@ -12,8 +12,8 @@ _luksrd() {
     afMerge) options=' --hash --stripes --key-bytes ' ;;
     esac
 
-    # which option awaits its text, which ones are not there yet, and how many inputs are named;
-    # readline makes words of their own of = and :
+    # which option awaits its value, which ones are not there yet, and how many inputs are named;
+    # readline makes = and : words of their own
     for ((at = 2; at < COMP_CWORD; at++)); do
         word=${COMP_WORDS[at]}
         if [ "$word" = = ] && [ -n "$awaited" ] && [ "${COMP_WORDS[at - 1]}" = "$awaited" ]; then

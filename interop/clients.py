@@ -1,10 +1,10 @@
 #!/usr/bin/python3
 """Clients of a volume that is served, for interop/nbd.sh; Debian's python3-libnbd is for Debian's own Python.
 
-    clients.py ranges URI TEXT COUNT    reads so many ranges from 8 connections at once, and compares them with the text
+    clients.py ranges URI TEXT COUNT    reads COUNT ranges from 8 connections at once, and compares them with the text
     clients.py shrinks URI TEXT IMAGE   the same while the image becomes shorter, piece by piece
     clients.py asks ANSWER COMMAND..    runs a command on a terminal of its own, and types an answer
-    clients.py finds TEXT PID..         how often the text lies in the memory of these processes
+    clients.py finds TEXT PID..         how often the text is in the memory of these processes
 """
 
 import concurrent.futures
@@ -23,7 +23,7 @@ LONGEST = 70000
 
 
 def connected(uri):
-    """A connection that leaves it to the server to refuse a request."""
+    """A connection that lets the server refuse requests."""
     handle = nbd.NBD()
     handle.set_strict_mode(0)
     handle.connect_uri(uri)
@@ -39,7 +39,7 @@ def read(handle, count, offset):
 
 
 def some_range(chance, size):
-    """A range: at either end, past the end, within a sector or over some, at a sector's edge or anywhere."""
+    """A range: at either end, past the end, within a sector or over several, at a sector's edge or anywhere."""
     count = chance.choice((1, 2, 511, 512, 513, 4095, 4096, 4097, chance.randrange(1, 600), chance.randrange(1, LONGEST)))
     offset = chance.choice((0, chance.randrange(0, 600), size - min(count, size), size - chance.randrange(0, 600), size, size + 1,
                             size + 2 ** 40, chance.randrange(0, size), chance.randrange(0, size) // 512 * 512))
@@ -47,7 +47,7 @@ def some_range(chance, size):
 
 
 def in_threads(work):
-    """Calls work(number) for each connection in a thread of its own, and answers all that they found amiss."""
+    """Calls work(number) for each connection in a thread of its own, and returns all problems that they found."""
     with concurrent.futures.ThreadPoolExecutor(CONNECTIONS) as threads:
         return [line for lines in threads.map(lambda number: list(work(number)), range(CONNECTIONS)) for line in lines]
 
@@ -67,7 +67,7 @@ def read_ranges(uri, text, count):
 
 
 def read_shrinking(uri, text, image):
-    """What is read is the text's, or the read failed by EIO, which it does of all that is gone; the payload ends with the image."""
+    """The bytes read are the text's, or the read failed with EIO, as every read of the missing part does; the payload ends with the image."""
     start = os.stat(image).st_size - len(text)
     left = [len(text)]
 
@@ -118,7 +118,7 @@ def ask(answer, command):
 
 
 def find(text, process):
-    """How often the text lies in what the process may write to."""
+    """How often the text is in the memory that the process may write to."""
     count = 0
     with open(f"/proc/{process}/maps") as maps, open(f"/proc/{process}/mem", "rb", 0) as memory:
         for line in maps:

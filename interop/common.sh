@@ -1,5 +1,5 @@
 # shellcheck shell=bash
-# What the scripts that compare luksrd with cryptsetup and qemu-img share: how volumes are made, and what cryptsetup says of them in our words.
+# Shared by the scripts that compare luksrd with cryptsetup and qemu-img: how volumes are made, and what cryptsetup reports about them, worded as luksrd does.
 # shellcheck source=tests/common.sh
 . "$(dirname "${BASH_SOURCE[0]}")/../tests/common.sh"
 
@@ -13,13 +13,13 @@ sums() {
     echo "${PIPESTATUS[0]} $(cat message)"
 }
 
-# sum_of FILE STATUS [MESSAGE]: what `sums` says of a run that writes these bytes and ends so
+# sum_of FILE STATUS [MESSAGE]: what `sums` prints for a run that writes these bytes and ends with this status and message
 sum_of() {
     sha256sum <"$1"
     echo "$2 ${3-}"
 }
 
-# theirs1 WORD..: cryptsetup's dump of a LUKS1 header, that of its luksDump on these words, in the lines of ours
+# theirs1 WORD..: cryptsetup's dump of a LUKS1 header, by its luksDump with these arguments, in the lines of luksrd's dump
 theirs1() {
     cryptsetup luksDump "$@" | tr '\t' ' ' | awk '
         function rest(n,   s, i) { s = ""; for (i = n; i <= NF; i++) s = s $i; return s }
@@ -49,7 +49,7 @@ theirs1() {
         END { flush() }'
 }
 
-# theirs2 PLACE SIZE WORD..: the dump of a LUKS2 header as luksrd words it, made of what cryptsetup's luksDump prints on these words
+# theirs2 PLACE SIZE WORD..: the dump of a LUKS2 header as luksrd words it, made from what cryptsetup's luksDump prints with these arguments
 theirs2() {
     local place=$1 size=$2
     shift 2
@@ -106,7 +106,7 @@ held_of1() {
     echo $(((area + 511) / 512 * 512))
 }
 
-# fill IMAGE: qemu-img encrypts plain into it; the image ends with it
+# fill IMAGE: qemu-img encrypts plain into the image, which ends where plain does
 fill() {
     local start
     start=$(start_of1 "$1")
@@ -127,7 +127,7 @@ seal() {
     cryptsetup -q luksAddKey --pbkdf pbkdf2 --pbkdf-force-iterations 1200 --hash sha512 --key-file pass "$image" pass2 >err 2>&1 || { cat err >&2; exit 1; }
 }
 
-# start_of2 IMAGE: where the payload of a LUKS2 volume starts, as cryptsetup says of a copy, since it mends a damaged header that it reads
+# start_of2 IMAGE: where the payload of a LUKS2 volume starts, as cryptsetup reports for a copy, since it repairs a damaged header that it reads
 start_of2() {
     cp "$1" copy
     cryptsetup luksDump copy | awk '/offset: .*bytes/ { print $2; exit }'

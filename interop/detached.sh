@@ -1,10 +1,10 @@
 #!/usr/bin/env bash
-# Compares what luksrd reads with `--header`, of volumes whose header stands in a file of its own and of volumes with a damaged front and a backup of their header,
-# with the plain bytes that were encrypted into them, and with what cryptsetup says of these headers.
+# Compares what luksrd reads with `--header`, for volumes with a detached header and for volumes with a damaged start and a backup of their header,
+# with the plain bytes that were encrypted into them, and with what cryptsetup reports about these headers.
 #
-# cryptsetup encrypts and decrypts LUKS2 in user space, with a header of its own as well. Of LUKS1 it does neither there: qemu-img fills the volumes that have
-# their header in front, and what a header of its own makes of given bytes is what cryptsetup decrypts under a copy of it that it has converted to LUKS2.
-# qemu-img takes headers of their own (`detached-header`) from version 9 on, which Debian 12 does not have: they are not compared with what it reads.
+# cryptsetup encrypts and decrypts LUKS2 in user space, with a detached header too. It does neither with LUKS1 there: qemu-img fills the volumes with an
+# attached header, and for a detached one the plain bytes are those that cryptsetup decrypts under a copy of the header that it has converted to LUKS2.
+# qemu-img accepts detached headers (`detached-header`) from version 9 on, which Debian 12 does not have: they are not compared with what it reads.
 # shellcheck source=interop/common.sh
 . "$(dirname "$0")/common.sh"
 
@@ -13,7 +13,7 @@ in_area='luksrd: image ends inside the header or a key area'
 of_luks1=(--type luks1 --pbkdf-force-iterations 1000 --key-file pass)
 of_luks2=(--type luks2 --luks2-metadata-size 16k --luks2-keyslots-size 1m --pbkdf pbkdf2 --pbkdf-force-iterations 1000 --key-file pass)
 
-# quietly WORD..: cryptsetup on these words; what it says is shown where it fails
+# quietly WORD..: cryptsetup with these arguments; its messages are shown if it fails
 quietly() {
     cryptsetup -q "$@" >err 2>&1 || { cat err >&2; exit 1; }
 }
@@ -32,7 +32,7 @@ reads() {
 0"
 }
 
-# agree HEADER IMAGE PLAIN DUMP: luksrd says of the header what cryptsetup does, and gives the plain bytes for either passphrase, and for no other
+# agree HEADER IMAGE PLAIN DUMP: luksrd reports the same about the header as cryptsetup, and gives the plain bytes for either passphrase, and for no other
 agree() {
     local header=$1 image=$2 key
     same "$header: isLuks" "$(told isLuks --header "$header" "$image")" 0
@@ -51,17 +51,17 @@ agree() {
     same "$header: testPassphrase of a wrong one" "$(told testPassphrase --key-file wrong --header "$header" "$image")" "$no_key"
 }
 
-# agree1 and agree2 HEADER IMAGE PLAIN: the same of LUKS1, and of LUKS2
+# agree1 and agree2 HEADER IMAGE PLAIN: the same for LUKS1, and for LUKS2
 agree1() { agree "$@" "$(theirs1 --header "$1" "$2")"; }
 agree2() { agree "$@" "$(theirs2 primary 16384 --header "$1" "$2")"; }
 
-# front FILE IMAGE START: the image with the bytes of the file, for as many as there are before its payload, in place of them
+# front FILE IMAGE START: the image with as many bytes of the file as it has before its payload, in place of those
 front() {
     head -c "$3" "$1"
     tail -c +$(($3 + 1)) "$2"
 }
 
-# rescued VERSION IMAGE START PLAIN: a backup of the header gives the plain bytes of the image also where the front of that is lost
+# rescued VERSION IMAGE START PLAIN: a backup of the header gives the plain bytes of the image even if the start of the image is lost
 rescued() {
     local version=$1 image=$2 lost
     quietly luksHeaderBackup --header-backup-file "backup of $image" "$image"
@@ -88,7 +88,7 @@ decrypted() {
     cat copy
 }
 
-# apart1 NAME CIPHER KEY_BITS OPTION..: a LUKS1 header for bytes that are there, in NAME.header and NAME; slot 5 is the one of the passphrase in pass2
+# apart1 NAME CIPHER KEY_BITS OPTION..: a detached LUKS1 header for existing bytes, in NAME.header and NAME; slot 5 is that of the passphrase in pass2
 apart1() {
     local name=$1
     cp noise "$name"
@@ -96,7 +96,7 @@ apart1() {
     add_key "$name.header" --key-slot 5
 }
 
-# apart2 NAME CIPHER KEY_BITS OPTION..: likewise of LUKS2, and slot 1
+# apart2 NAME CIPHER KEY_BITS OPTION..: the same for LUKS2, and slot 1
 apart2() {
     local name=$1
     cp noise "$name"
@@ -112,7 +112,7 @@ sealed2() {
     add_key "$name.header" --pbkdf pbkdf2
 }
 
-# moved NAME OPTION..: a header with the volume's key, whose payload starts at sector 8192 of the image; cryptsetup decrypts none such
+# moved NAME OPTION..: a header with the volume's key, whose payload starts at sector 8192 of the image; cryptsetup decrypts no such image
 moved() {
     local name=$1
     quietly luksDump --dump-volume-key --volume-key-file volume_key --key-file pass "$name.header"
@@ -121,7 +121,7 @@ moved() {
     rm volume_key
 }
 
-# cut_header NAME BYTES MESSAGE PLAIN: the header cut to so many bytes gives this message, or with none the plain bytes
+# cut_header NAME BYTES MESSAGE PLAIN: the header truncated to BYTES bytes gives this message, or the plain bytes if the message is empty
 cut_header() {
     local status=4
     [ -n "$3" ] || status=0
@@ -130,7 +130,7 @@ cut_header() {
     same "$1.header cut to $2 bytes, from a pipe" "$(sums luksCat --key-file pass2 --header - "$1" <shorter)" "$(sum_of "$4" "$status" "$3")"
 }
 
-# cut_page NAME BYTES ISLUKS OTHERS: the header cut to so many bytes: what isLuks says, and what luksUUID, luksDump and luksCheck do, or with none that they are as of the whole
+# cut_page NAME BYTES ISLUKS OTHERS: the header truncated to BYTES bytes: what isLuks reports, and what luksUUID, luksDump and luksCheck do; if OTHERS is empty, they do as with the whole
 cut_page() {
     local command
     head -c "$2" "$1.header" >shorter
@@ -140,7 +140,7 @@ cut_page() {
     done
 }
 
-# cut_image HEADER IMAGE BYTES PLAIN PLAIN_BYTES MESSAGE: the image cut to so many bytes gives so many plain ones and this message
+# cut_image HEADER IMAGE BYTES PLAIN PLAIN_BYTES MESSAGE: the image truncated to BYTES bytes gives PLAIN_BYTES plain bytes and this message
 cut_image() {
     local status=4
     [ -n "$6" ] || status=0
@@ -159,7 +159,7 @@ printf 'a wrong one' >wrong
 head -c 300032 /dev/urandom >plain
 head -c 303104 /dev/urandom >noise
 
-# LUKS1, a damaged front and a backup
+# LUKS1, a damaged start and a backup
 for sealed in 'xts-plain64 256' 'xts-plain64 512' 'xts-plain 512' 'cbc-essiv:sha256 128' 'cbc-essiv:sha256 256' 'cbc-plain64 256' 'xts-plain64 512 --offset 5000'; do
     read -r cipher bits option <<<"$sealed"
     # shellcheck disable=SC2086
@@ -168,7 +168,7 @@ for sealed in 'xts-plain64 256' 'xts-plain64 512' 'xts-plain 512' 'cbc-essiv:sha
     rescued 1 "luks1 $sealed" "$(start_of1 "luks1 $sealed")" plain
 done
 
-# LUKS2, likewise. Behind the plain bytes the payload has more, as an encryption in place has it.
+# LUKS2, likewise. The payload has more bytes after the plain ones, as after an encryption in place.
 truncate -s 303104 plain
 for sealed in 'xts-plain64 256 512' 'xts-plain64 256 4096' 'xts-plain64 512 512' 'xts-plain64 512 4096' 'xts-plain 512 512' 'cbc-essiv:sha256 256 4096' \
     'cbc-plain64 128 512'; do
@@ -179,7 +179,7 @@ for sealed in 'xts-plain64 256 512' 'xts-plain64 256 4096' 'xts-plain64 512 512'
     rescued 2 "luks2 $sealed" "$(start_of2 "luks2 $sealed")" whole
 done
 
-# LUKS1, a header in a file of its own
+# LUKS1, a detached header
 for sealed in 'xts-plain64 256' 'xts-plain64 512' 'xts-plain 256' 'xts-plain 512' 'cbc-essiv:sha256 128' 'cbc-essiv:sha256 256' 'cbc-plain64 128' 'cbc-plain64 256'; do
     name="apart1 $sealed"
     apart1 "$name" "aes-${sealed% *}" "${sealed#* }"
@@ -190,7 +190,7 @@ for sealed in 'xts-plain64 256' 'xts-plain64 512' 'xts-plain 256' 'xts-plain 512
     agree2 "$name.converted" "$name" theirs
 done
 
-# LUKS2, likewise: for bytes that are there, and for plain ones that are encrypted
+# LUKS2, likewise: for existing bytes, and for plain ones that are encrypted
 for sealed in 'xts-plain64 256' 'xts-plain64 512' 'xts-plain 512' 'cbc-essiv:sha256 128' 'cbc-essiv:sha256 256' 'cbc-plain64 256'; do
     for sector in 512 4096; do
         name="apart2 $sealed $sector"
@@ -207,7 +207,7 @@ for sealed in 'xts-plain64 256' 'xts-plain64 512' 'xts-plain 512' 'cbc-essiv:sha
     agree2 "$name.backup" "$name" plain
 done
 
-# a payload that starts further on
+# a payload that starts at a later offset
 for sealed in 256 512; do
     apart1 "further1 $sealed" aes-xts-plain64 "$sealed"
     cp "further1 $sealed.header" converted
@@ -225,7 +225,7 @@ for sealed in 256 512; do
     done
 done
 
-# headers that are cut short: nothing is written
+# truncated headers: nothing is written
 name='apart1 xts-plain64 512'
 decrypted "$name.converted" "$name" >theirs
 held=$(held_of1 "$name.header")
@@ -259,7 +259,7 @@ cut_header "$name" $((held - 1)) "$in_area" none
 cut_header "$name" "$held" '' plain
 image2=$name
 
-# images that are cut short: all their whole sectors are written
+# truncated images: all their whole sectors are written
 before='luksrd: image ends before the payload'
 for case in '0 0 0' '1 0 1' '511 0 511' '512 512 0' '100000 99840 160'; do
     read -r bytes given left <<<"$case"
@@ -285,18 +285,18 @@ cut_image "backup of $name" "$name, zeros" "$start" plain 0 ''
 cut_image "backup of $name" "$name, noise" $((start + 1023)) plain 512 'luksrd: image ends inside a sector: 511 bytes left over'
 cut_image "backup of $name" none 0 plain 0 "$before"
 
-# one file as both, and the wrong way round
+# one file as both, and both swapped
 same 'an image as its own header' "$(sums luksCat --key-file pass --header "$name" "$name")" "$(sums luksCat --key-file pass "$name")"
 same 'header and payload the wrong way round' "$(told luksCat --key-file pass --header "$image2" "$image2.header")" "$no_luks
 4"
 same 'a header that stands apart, without being said to' "$(told luksCat --key-file pass "$image2.header")" 'luksrd: segment refused: offset
 1'
 
-# The inputs open in this order: the image, the header, the key file. The first that does not is told.
+# The inputs are opened in this order: the image, the header, the key file. The first that cannot be opened is reported.
 cp "$image2" image
 cp "$image2.header" header
 : >in
-# refused INPUT WORD..: these words are refused, since this one is missing
+# refused INPUT WORD..: these arguments are refused, since this input is missing
 refused() {
     local missing=$1
     shift

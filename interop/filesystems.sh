@@ -1,10 +1,10 @@
 #!/usr/bin/env bash
-# Reads file systems out of volumes, without mounting any: what luksrd writes is held against the file system that was sealed, by that file system's own checker,
-# file by file with GRUB's reader, and beside what nbdkit (of LUKS1) and GRUB (of both versions) read of the same volume.
+# Reads file systems out of volumes, without mounting any: luksrd's output is compared with the file system that was sealed, checked by that file system's own checker,
+# read file by file with GRUB's reader, and compared with what nbdkit (for LUKS1) and GRUB (for both versions) read from the same volume.
 # shellcheck source=interop/common.sh
 . "$(dirname "$0")/common.sh"
 
-# file_system NAME SIZE: one of this kind that holds what lies in the folder files
+# file_system NAME SIZE: one of this kind with the contents of the folder files
 file_system() {
     truncate -s "$2" "$1"
     case $1 in
@@ -14,7 +14,7 @@ file_system() {
     esac >err 2>&1 || { cat err >&2; exit 1; }
 }
 
-# checked NAME FILE: what the checker of this kind of file system ends with; it changes nothing
+# checked NAME FILE: the status of the checker of this kind of file system, which changes nothing
 checked() {
     case $1 in
     ext4) e2fsck -fn "$2" ;;
@@ -24,13 +24,13 @@ checked() {
     echo $?
 }
 
-# grub IMAGE WORD..: GRUB's reader over an image, which asks for the passphrase where it is a volume; it has no terminal, and so takes standard input
+# grub IMAGE WORD..: GRUB's reader over an image, which asks for the passphrase if the image is a volume; it has no terminal, so it reads standard input
 grub() {
     setsid -w grub-fstest -C "$work/$1" "${@:2}" <line >err 2>&1
     echo $?
 }
 
-# reads IMAGE NAME: luksrd gives the file system of this kind whole, and with the files that were put into it; GRUB reads the same of the volume
+# reads IMAGE NAME: luksrd gives the file system of this kind whole, and with the files that were put into it; GRUB reads the same from the volume
 reads() {
     local file size
     size=$(stat -c %s "$2")
@@ -48,7 +48,7 @@ reads() {
     same "$1: and its bytes are the same" "$(sha256sum <theirs)" "$(sha256sum <given)"
 }
 
-# nbdkit_reads IMAGE: nbdkit gives of a LUKS1 volume just what luksrd gave
+# nbdkit_reads IMAGE: nbdkit gives exactly what luksrd gave, from a LUKS1 volume
 nbdkit_reads() {
     nbdkit -U - file "$1" --filter=luks passphrase=+pass --run 'nbdcopy "$uri" theirs' >err 2>&1
     same "$1: nbdkit reads the volume" $? 0
@@ -68,7 +68,7 @@ file_system ext4 2M
 file_system vfat 2M
 file_system xfs 16M
 
-# one KIND CIPHER KEY_BITS: it is sealed as LUKS1
+# one KIND CIPHER KEY_BITS: the file system is sealed as LUKS1
 one() {
     cp "$1" plain
     format1 "$1 in LUKS1 by $2-$3" "aes-$2" sha256 "$3"
@@ -78,7 +78,7 @@ one() {
     [[ $2 = *essiv* ]] || nbdkit_reads "$1 in LUKS1 by $2-$3"
 }
 
-# two KIND CIPHER KEY_BITS SECTOR: it is sealed as LUKS2
+# two KIND CIPHER KEY_BITS SECTOR: the file system is sealed as LUKS2
 two() {
     cp "$1" plain
     seal "$1 in LUKS2 by $2-$3 in sectors of $4" "aes-$2" "$3" --sector-size "$4"

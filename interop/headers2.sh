@@ -1,5 +1,5 @@
 #!/usr/bin/env bash
-# Compares what luksrd says of LUKS2 headers with what cryptsetup says of them, and with the JSON text that it prints.
+# Compares what luksrd reports about LUKS2 headers with what cryptsetup reports, and with the JSON text that it prints.
 # shellcheck source=interop/common.sh
 . "$(dirname "$0")/common.sh"
 
@@ -11,7 +11,7 @@ format() {
     cryptsetup -q luksFormat --type luks2 --key-file pass "$@" "$image" 2>err || { cat err; exit 1; }
 }
 
-# agree IMAGE PLACE SIZE: luksrd says of it what cryptsetup does
+# agree IMAGE PLACE SIZE: luksrd reports the same about the image as cryptsetup
 agree() {
     same "$1: isLuks" "$(told isLuks "$1")" 0
     same "$1: luksUUID" "$(told luksUUID "$1")" "$(cryptsetup luksUUID "$1")
@@ -21,7 +21,7 @@ agree() {
     same "$1: luksDump of a pipe" "$(dd if="$1" bs=777 status=none | "$program" luksDump -)" "$(theirs2 "$2" "$3" "$1")"
 }
 
-# clean IMAGE: there is nothing amiss
+# clean IMAGE: there are no findings
 clean() {
     same "$1: luksCheck" "$(told luksCheck "$1")" 'clean
 0'
@@ -66,12 +66,12 @@ clean several
 cryptsetup -q luksKillSlot --key-file pass several 1 || exit 1
 agree several primary 16384
 
-# what lies in a header backup is a header too
+# a header backup is a header too
 cryptsetup -q luksHeaderBackup --header-backup-file backup several || exit 1
 same 'a header backup: luksDump' "$(told luksDump backup)" "$(theirs2 primary 16384 several)
 0"
 
-# Damaged headers. cryptsetup mends what it reads, so it gets copies; what it says of the undamaged one is what is left.
+# Damaged headers. cryptsetup repairs what it reads, so it gets copies; the expected text is what it reports about the undamaged one.
 cp several damaged
 dd if=/dev/zero of=damaged bs=512 count=1 conv=notrunc status=none
 same 'a damaged primary header: luksDump' "$(told luksDump damaged)" "$(theirs2 secondary 16384 several)

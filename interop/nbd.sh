@@ -1,6 +1,6 @@
 #!/usr/bin/env bash
-# Serves volumes by the plugin for nbdkit (the second argument), and compares what clients read of them with what luksCat writes and with what went into them: all of it,
-# and ranges from many connections at once. Then what the plugin refuses, how it ends without memory, an image that is cut while it is served, and the plugin's C under
+# Serves volumes by the plugin for nbdkit (the second argument), and compares what clients read from them with what luksCat writes and with what went into them: all of it,
+# and ranges from many connections at once. Then what the plugin refuses, how it ends out of memory, an image that is truncated while it is served, and the plugin's C under
 # valgrind and AddressSanitizer, for which it is built again with the library (the third argument).
 # shellcheck disable=SC2016 # nbdkit's commands find the address in $uri
 plugin=$(realpath "${2:?the built plugin}")
@@ -9,24 +9,24 @@ here=$(realpath "$(dirname "$0")")
 # shellcheck source=interop/common.sh
 . "$(dirname "$0")/common.sh"
 
-# text IMAGE KEY OPTION..: what luksCat writes of the volume, in the file text
+# text IMAGE KEY OPTION..: what luksCat writes for the volume, in the file text
 text() {
     "$program" luksCat --key-file "$2" "${@:3}" "$1" >text 2>text.err
 }
 
-# served COMMAND PARAMETER..: runs a command while the plugin serves a volume; what it and nbdkit say is in the file said
+# served COMMAND PARAMETER..: runs a command while the plugin serves a volume; its messages and those of nbdkit are in the file said
 served() {
     timeout 60 nbdkit -U - "$plugin" "${@:2}" --run "$1" >said 2>&1
 }
 
-# compared WAY NAME WORD PARAMETER..: what the clients of this way find amiss, beside the text; nbdkit's own messages are in the file said
+# compared WAY NAME WORD PARAMETER..: the problems that the clients of this way find, compared with the text; nbdkit's own messages are in the file said
 compared() {
     served "/usr/bin/python3 '$here/clients.py' $1 \"\$uri\" text '$3' >answer" "${@:4}"
     same "$2: status" $? 0
     same "$2: $1" "$(cat answer)" 'all the same'
 }
 
-# serves NAME IMAGE KEY [PLAIN [SKIP]]: nbdcopy gives what luksCat writes, which begins with the bytes of PLAIN behind the first SKIP ones, and so do ranges
+# serves NAME IMAGE KEY [PLAIN [SKIP]]: nbdcopy gives what luksCat writes, which begins with the bytes of PLAIN after the first SKIP ones, and so do ranges
 serves() {
     local skip=${5-0}
     text "$2" "$3"
@@ -37,7 +37,7 @@ serves() {
     same "$1: what was encrypted" "$(head -c $(($(stat -c %s "${4-plain}") - skip)) copy | sha256sum)" "$(tail -c +$((skip + 1)) "${4-plain}" | sha256sum)"
 }
 
-# says NAME MESSAGE: this is among what was said last
+# says NAME MESSAGE: this is among the last messages
 says() {
     case $(cat said) in
     *"$2"*) passed=$((passed + 1)) ;;
@@ -45,7 +45,7 @@ says() {
     esac
 }
 
-# refused NAME MESSAGE PARAMETER..: the volume is not served, and this is among what is said
+# refused NAME MESSAGE PARAMETER..: the volume is not served, and this is among the messages
 refused() {
     served 'echo it is served' "${@:3}"
     same "$1: status" $? 1
@@ -59,12 +59,12 @@ opens() {
     same "$1: what is served" "$(sha256sum <copy)" "$(sha256sum <text)"
 }
 
-# quietly WORD..: cryptsetup on these words; what it says is shown if it fails
+# quietly WORD..: cryptsetup with these arguments; its messages are shown if it fails
 quietly() {
     cryptsetup -q "$@" >err 2>&1 || { cat err >&2; exit 1; }
 }
 
-# changed IMAGE MEMBER=TEXT..: these members of the segment of a LUKS2 volume are others, in both headers, under checksums that are made anew
+# changed IMAGE MEMBER=TEXT..: replaces these members of the segment of a LUKS2 volume, in both headers, and recomputes the checksums
 changed() {
     python3 - "$@" <<'PYTHON'
 import hashlib, json, sys
@@ -110,7 +110,7 @@ done
 volume2="luks2 $sealed"
 compared ranges 'one sector at once' 2001 "$volume2" key-file=pass --filter=blocksize minblock=4096 maxdata=4096
 
-# a payload of fixed size, and one whose unit numbers begin further on: the text from its second page on
+# a payload of fixed size, and one whose data unit numbers start higher: the text from its second page on
 cp "$volume2" 'of fixed size'
 changed 'of fixed size' size=200704
 head -c 200704 plain >first
@@ -121,7 +121,7 @@ for sealed in "$volume2" 'luks2 xts-plain64 512 512' 'luks2 cbc-essiv:sha256 256
     serves "$sealed, further on" "$sealed, further on" pass plain 4096
 done
 
-# a detached header, from a file and from a pipe: cryptsetup encrypts under one of LUKS2, and decrypts under one of LUKS1 that it has converted
+# a detached header, from a file and from a pipe: cryptsetup encrypts under a LUKS2 header, and decrypts under a LUKS1 header that it has converted
 cp plain detached2
 quietly reencrypt --encrypt --type luks2 --force-offline-reencrypt --luks2-metadata-size 16k --luks2-keyslots-size 1m --cipher aes-xts-plain64 --key-size 512 \
     --pbkdf pbkdf2 --pbkdf-force-iterations 1000 --key-file pass --header header2 detached2
@@ -172,7 +172,7 @@ quietly luksConvertKey --key-slot 1 --pbkdf argon2id --pbkdf-memory 32 --pbkdf-p
 serves 'Argon2 beside PBKDF2' argon2 pass
 refused 'a passphrase by Argon2' 'luksrd: no key opens the volume; skipped: 1 (argon2id)' argon2 key-file=pass2
 
-# images that are truncated: whole sectors are served, and it is said how they end
+# truncated images: whole sectors are served, and a message says how the image ends
 # truncated NAME IMAGE BYTES SERVED MESSAGE
 truncated() {
     head -c "$3" "$2" >shorter
@@ -237,7 +237,7 @@ for twice in file=pipe header=pipe key-file=pass key-slot=5 max-iterations=9 pas
     refused "$twice twice" "${twice%%=*}= is given twice" "$twice" "$twice"
 done
 
-# what it says of itself
+# what it reports about itself
 nbdkit "$plugin" --dump-plugin >dumped
 for line in name=luksrd magic_config_key=file max_thread_model=parallel luksrd_library_version='[0-9]*\.[0-9]*\.[0-9]*' luksrd_formats='luks1 luks2'; do
     same "--dump-plugin: ${line%%=*}" "$(grep -cx "$line" dumped)" 1
@@ -251,7 +251,7 @@ for line in '"is_read_only": true' '"can_multi_conn": true' '"block_size_minimum
     same "nbdinfo: $line" "$(grep -c "$line" said)" 1
 done
 
-# qemu-img has it that they are alike
+# qemu-img finds that they are alike
 head -c 300032 plain >plain1
 served 'qemu-img compare -f raw -F raw "$uri" plain1' "$volume1" key-file=pass
 same 'qemu-img compares' "$? $(cat said)" '0 Images are identical.'
@@ -282,8 +282,8 @@ else
     echo 'loop devices cannot be made here: no block device is served'
 fi
 
-# no memory: it ends with a message, and by no signal. With too little for nbdkit alone, that ends by one.
-# within MIB WORD..: runs nbdkit by these words in so much address space
+# out of memory: it ends with a message, not by a signal. With too little memory for nbdkit alone, nbdkit ends by one.
+# within MIB WORD..: runs nbdkit with these arguments in MIB MiB of address space
 within() {
     (ulimit -v $(($1 * 1024)); exec timeout 60 nbdkit -U - "${@:2}" --run true) >said 2>&1
 }
@@ -301,7 +301,7 @@ same 'with more memory' $((mib < 300)) 1
 same 'memory that is refused' $((refusals > 0)) 1
 
 # The plugin's C under valgrind, and under AddressSanitizer with undefined behaviour: whole reads, ranges, an image that ends and refusals.
-# instrumented NAME PLUGIN WORD..: nbdkit by these words, with the plugin of this build
+# instrumented NAME PLUGIN WORD..: nbdkit with these arguments, with the plugin of this build
 instrumented() {
     local name=$1 plugin=$2 key
     shift 2
@@ -344,7 +344,7 @@ built checked.so '-O1 -g'
 instrumented valgrind "$work/checked.so" valgrind -q --leak-check=full --suppressions=suppressed --log-file=valgrind.%p
 same 'what valgrind says' "$(cat valgrind.*)" ''
 built sanitized.so '-O1 -g -fsanitize=address,undefined -fno-sanitize-recover=all'
-# (Leaks are valgrind's. Under the sanitizer the C library's strerror leaves a lock that libraries of nbdkit wait for at the end, to free a locale; here they leave that be)
+# (valgrind checks for leaks. Under the sanitizer the C library's strerror leaves a lock that libraries of nbdkit wait for at the end, to free a locale; here freeing one does nothing)
 printf 'void freelocale(void *locale) { (void)locale; }' | gcc -shared -fPIC -x c - -o left.so
 instrumented AddressSanitizer "$work/sanitized.so" env ASAN_OPTIONS=log_path=sanitizer:detect_leaks=0 LD_PRELOAD="$(gcc -print-file-name=libasan.so) $(gcc -print-file-name=libubsan.so) $work/left.so"
 same 'what AddressSanitizer says' "$(cat sanitizer.* 2>/dev/null)" ''

@@ -1,7 +1,7 @@
 #!/usr/bin/env bash
 # Runs README's recipes as they are written there, in bash and in zsh, on volumes of cryptsetup and qemu-img: they
-# write the plain text, and no image changes, also not one with a damaged secondary header. Mounting is left out.
-# nbdkit takes its plugin from where that is built (the second argument).
+# write the plain text, and no image changes, not even one with a damaged secondary header. Mounting is left out.
+# nbdkit loads the plugin from where it is built (the second argument).
 readme=$(realpath "$(dirname "$0")/../README.md")
 plugin=$(realpath "${2:?the built plugin}")
 # shellcheck source=interop/common.sh
@@ -46,7 +46,7 @@ cooks() {
 }
 
 # gives FOLDER FILE WANTED: in both shells the recipes left this file, which begins with these bytes (a volume that
-# cryptsetup encrypts has more than was asked for)
+# cryptsetup encrypts has more than the requested ones)
 gives() {
     local shell
     for shell in bash zsh; do
@@ -90,11 +90,11 @@ says volume 'Key slot 0 opens the volume.'
 says volume 'TYPE="ext4"'
 says volume ' inside'
 
-# the same volume as a file over a scratch copy, which is mended; its image is not
+# the same volume as a file over a scratch copy, which is repaired; its image is not
 damaged_plain() {
     debugfs -w -R 'set_super_value free_blocks_count 1' plain >err 2>&1
 }
-# whether FUSE mounts a disk of nothing here
+# whether FUSE mounts an empty disk here
 has_fuse() {
     mkdir tried
     nbdfuse -r tried/disk --command nbdkit -s null 1M >err 2>&1 &
@@ -141,7 +141,7 @@ for shell in bash zsh; do
 done
 mv whole_plain plain
 
-# a partition of a whole disk, which is as long as README says
+# a partition of a whole disk, with the length that README gives
 mkdir partition
 seal partition/disk.img aes-xts-plain64 512
 truncate -s 16M partition/whole.img
@@ -172,7 +172,7 @@ says backup "clean
 Key slot 0 opens the volume."
 says backup 'TYPE="ext4"'
 
-# key slots by Argon2 alone, and a damaged secondary header
+# key slots of Argon2 only, and a damaged secondary header
 mkdir argon2
 cp plain argon2/disk.img
 truncate -s +4M argon2/disk.img

@@ -4,7 +4,7 @@ sealer=$(realpath "${2:?the program that writes sealed volumes}")
 # shellcheck source=interop/common.sh
 . "$(dirname "$0")/common.sh"
 
-# decrypted IMAGE: cryptsetup decrypts the payload of a copy, under a header of its own
+# decrypted IMAGE: cryptsetup decrypts the payload of a copy, under a detached header
 decrypted() {
     local start
     start=$(start_of2 "$1")
@@ -13,7 +13,7 @@ decrypted() {
     tail -c +$((start + 1)) "$1" >copy
     python3 - header <<'PYTHON'
 import hashlib, json, sys
-# The same header for a payload that begins with its file: the segment's offset is 0, and checksums are made anew.
+# The same header for a payload that begins with its file: the segment's offset is 0, and the checksums are recomputed.
 bytes_ = bytearray(open(sys.argv[1], 'rb').read())
 size = int.from_bytes(bytes_[8:16], 'big')
 for place in (0, size):
@@ -30,7 +30,7 @@ PYTHON
     cat copy
 }
 
-# opens IMAGE: either passphrase opens its slot and gives the plain bytes, as cryptsetup says, and another opens none
+# opens IMAGE: either passphrase opens its slot and gives the plain bytes, as cryptsetup reports, and another opens none
 opens() {
     local key
     for key in one two; do

@@ -1,9 +1,9 @@
 #!/usr/bin/env bash
-# Compares what luksrd reads of LUKS2 volumes with the plain bytes that cryptsetup encrypted into them, and with what cryptsetup says of their key slots.
+# Compares what luksrd reads from LUKS2 volumes with the plain bytes that cryptsetup encrypted into them, and with what cryptsetup reports about their key slots.
 # shellcheck source=interop/common.sh
 . "$(dirname "$0")/common.sh"
 
-# gives IMAGE SOURCE KEY: the payload of the image, read from a file or as a pipe (-), begins with the plain bytes, and ends well
+# gives IMAGE SOURCE KEY: the payload of the image, read from a file or as a pipe (-), begins with the plain bytes, and the run succeeds
 gives() {
     if [ "$2" = - ]; then
         dd if="$1" bs=777 status=none | "$program" luksCat --key-file "$3" - >payload 2>message
@@ -28,12 +28,12 @@ opens() {
     same "$1: a wrong passphrase" "$(told luksCat --key-file wrong "$1")" "$no_key"
 }
 
-# damage IMAGE PLACE: one byte of the image is changed
+# damage IMAGE PLACE: changes the byte of the image at this offset
 damage() {
     printf 'X' | dd of="$1" bs=1 seek="$2" conv=notrunc status=none
 }
 
-# cut IMAGE BYTES MESSAGE: the image cut to so many bytes ends so
+# cut IMAGE BYTES MESSAGE: the image truncated to BYTES bytes gives this message
 cut() {
     head -c "$2" "$1" >shorter
     same "$1 cut to $2 bytes" "$(told luksCat --key-file pass2 shorter)" "$3
@@ -91,12 +91,12 @@ gives damaged - pass
 damage second 20000
 gives second file pass2
 
-# one that says that it has 4,194,304 bytes: the search for the other one reads past the payload's start
+# a header that claims to have 4,194,304 bytes: the search for the other one reads past the payload's start
 printf '\0\0\0\0\0\100\0\0' | dd of=past bs=1 seek=8 conv=notrunc status=none
 gives past file pass
 gives past - pass2
 
-# images that end early
+# truncated images
 start=$(start_of2 second)
 in_area='luksrd: image ends inside the header or a key area'
 cut second 16383 'luksrd: not a LUKS image'

@@ -9,7 +9,7 @@
 #define NBDKIT_API_VERSION 2
 #include <nbdkit-plugin.h>
 
-/* Reports that a file cannot be opened, and closes what was opened of it. Answers -1. */
+/* Reports that a file cannot be opened, and closes it if it was opened. Returns -1. */
 static int refuse(const char *name, int fd, const char *why)
 {
   nbdkit_error("luksrd: cannot open %s: %s", name, why);
@@ -18,7 +18,7 @@ static int refuse(const char *name, int fd, const char *why)
   return -1;
 }
 
-/* Opens a file that is no folder. */
+/* Opens a file that is not a folder. */
 static int open_file(const char *name, int flags, struct stat *found)
 {
   const int fd = open(name, O_RDONLY | O_CLOEXEC | O_NOCTTY | flags);
@@ -38,13 +38,13 @@ int open_stream(const char *name)
 int open_image(const char *name, uint64_t *len)
 {
   struct stat found;
-  /* A pipe without a writer would keep a blocking open waiting, only to be refused. */
+  /* A blocking open would wait for a writer of a pipe, which is then refused. */
   const int fd = open_file(name, O_NONBLOCK, &found);
   if (fd < 0)
     return -1;
   if (!S_ISREG(found.st_mode) && !S_ISBLK(found.st_mode))
     return refuse(name, fd, "neither a regular file nor a block device");
-  /* The length of a block device is known by its end alone. */
+  /* The length of a block device is known only by its end. */
   const off_t end = lseek(fd, 0, SEEK_END);
   if (end < 0 || lseek(fd, 0, SEEK_SET) < 0)
     return refuse(name, fd, strerror(errno));
@@ -67,8 +67,8 @@ ssize_t read_next(int fd, uint8_t *to, size_t size)
   return (ssize_t)got;
 }
 
-/* Whether a file still has so many bytes. One that is cut while it is read may give zeros from its
- * last page, so that its length is asked for after the read. A block device has no length here. */
+/* Whether a file still has this many bytes. A file that is truncated while it is read may give zeros
+ * from its last page, so its length is checked after the read. A block device has no length here. */
 static bool reaches(int fd, uint64_t end)
 {
   struct stat found;

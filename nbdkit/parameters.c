@@ -27,7 +27,7 @@ static int take_number(const char *key, const char *value, uint64_t least, uint6
   return -1;
 }
 
-/* Keeps the name of a file. */
+/* Stores the name of a file. */
 static int take_name(const char *key, const char *value, char **name)
 {
   if (*name) {

@@ -1,4 +1,4 @@
-/* What the parameters of the plugin ask for. */
+/* The parameters of the plugin. */
 #ifndef LUKSRD_NBDKIT_PARAMETERS_H
 #define LUKSRD_NBDKIT_PARAMETERS_H
 
@@ -8,20 +8,20 @@ struct parameters {
   char *file;       /* the image */
   char *header;     /* its detached header, or NULL */
   char *key_file;   /* the file whose bytes are the passphrase, or NULL */
-  char *passphrase; /* the passphrase, or NULL; one of both is given */
+  char *passphrase; /* the passphrase, or NULL; one of the two is given */
   struct luksrd_options options;
 };
 
-/* Takes one parameter. Answers 0, or -1 and reports why not. */
+/* Reads one parameter. Returns 0, or -1 and reports why not. */
 int take_parameter(struct parameters *parameters, const char *key, const char *value);
 
-/* Whether all is given that a volume needs: 0, or -1 and reports what is missing. */
+/* Returns 0 if all parameters that a volume needs are given, or -1 and reports what is missing. */
 int check_parameters(const struct parameters *parameters);
 
 /* Wipes and frees the passphrase. */
 void forget_passphrase(struct parameters *parameters);
 
-/* Frees all, and wipes what is secret. */
+/* Frees all parameters, and wipes the secret ones. */
 void free_parameters(struct parameters *parameters);
 
 #endif

@@ -1,7 +1,7 @@
 /* nbdkit-luksrd-plugin: the plain text of a LUKS1 or LUKS2 volume as a network block device.
  *
  * This is glue: it reads files and calls luksrd's library (luksrd.h), whose functions are proved to
- * meet their contracts. The glue itself is tested and not proved. */
+ * meet their contracts. The glue itself is tested, not proved. */
 #define NBDKIT_API_VERSION 2
 #include <nbdkit-plugin.h>
 
@@ -66,7 +66,7 @@ static int can_multi_conn(void *handle)
   return 1;
 }
 
-/* Any range is served. Below a sector, a whole one is decrypted for each; no sector is longer than
+/* Any range is served. For less than a sector, a whole sector is decrypted; no sector is longer than
  * a page. */
 static int block_size(void *handle, uint32_t *minimum, uint32_t *preferred, uint32_t *maximum)
 {

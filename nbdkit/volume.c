@@ -13,8 +13,8 @@
 /* The longest sector. */
 #define MOST_SECTOR 4096
 
-/* How many bytes are read and decrypted at once, whole sectors of any size: more would leave the
- * processor's cache before they are decrypted. */
+/* The number of bytes that are read and decrypted at once, whole sectors of any size: more would leave
+ * the processor's cache before they are decrypted. */
 #define PIECE 262144
 
 /* Bytes that were read from a file, all of them or its first ones. */
@@ -32,7 +32,7 @@ static void wipe(struct bytes *bytes)
   *bytes = (struct bytes){ 0 };
 }
 
-/* Reads all of a file, or its first `most` bytes. Answers 0, or -1 and reports why not. */
+/* Reads all of a file, or its first `most` bytes. Returns 0, or -1 and reports why not. */
 static int read_first(const char *name, int fd, size_t most, struct bytes *bytes)
 {
   bytes->at = malloc(most);
@@ -43,7 +43,7 @@ static int read_first(const char *name, int fd, size_t most, struct bytes *bytes
   const ssize_t got = read_next(fd, bytes->at, most);
   if (got < 0) {
     nbdkit_error("%s: luksrd: read failed: %s", name, strerror(errno));
-    /* what was read before that is unknown, and may be a part of the key file */
+    /* it is unknown what was read before that; it may be a part of the key file */
     bytes->len = most;
     return -1;
   }
@@ -51,14 +51,14 @@ static int read_first(const char *name, int fd, size_t most, struct bytes *bytes
   return 0;
 }
 
-/* Reports luksrd's own sentence on an image. */
+/* Reports luksrd's own message on an image. */
 static void report(const char *name, const struct luksrd_message *message)
 {
   nbdkit_error("%s: %.*s", name, (int)message->len, (const char *)message->text);
 }
 
-/* Takes the length of the plain text, and reports an image that is not whole: it is served all the
- * same, as far as it goes. */
+/* Gets the length of the plain text, and reports an incomplete image: it is served all the same, as
+ * far as it goes. */
 static void measure(struct volume *volume, uint64_t image_len)
 {
   struct luksrd_message message;
@@ -84,13 +84,13 @@ static int unlock(struct volume *volume, const struct bytes *header, const struc
   return -1;
 }
 
-/* The inputs besides the image: a descriptor of the header, which is the image's own if none is
- * detached, and one of the key file, or -1. */
+/* The inputs besides the image: a descriptor of the header, which is the image's own if the header
+ * is not detached, and one of the key file, or -1. */
 struct inputs {
   int header, key_file;
 };
 
-/* Opens the image and the other inputs, in the order of luksrd's. */
+/* Opens the image and the other inputs, in the order in which luksrd does. */
 static int open_inputs(struct volume *volume, const struct parameters *parameters,
                        uint64_t *image_len, struct inputs *inputs)
 {
@@ -114,8 +114,8 @@ static void close_inputs(const struct volume *volume, const struct inputs *input
     close(inputs->key_file);
 }
 
-/* Moves the passphrase out of the parameters, or reads the key file. One byte more than the longest
- * is read, so that luksrd_open refuses what is longer. */
+/* Moves the passphrase out of the parameters, or reads the key file: up to one byte more than the
+ * longest passphrase, so that luksrd_open refuses a longer one. */
 static int take_secret(struct parameters *parameters, int key_file, struct bytes *passphrase)
 {
   if (parameters->key_file)
@@ -148,7 +148,7 @@ int open_volume(struct volume *volume, struct parameters *parameters)
   return status;
 }
 
-/* Puts whole sectors from that number on into the buffer. */
+/* Puts whole sectors into the buffer, from that sector number on. */
 static int read_sectors(const struct volume *volume, uint64_t first, uint8_t *to, size_t len)
 {
   const uint64_t offset = volume->opened.offset + first * volume->opened.sector_size;
@@ -193,7 +193,7 @@ int read_plain(const struct volume *volume, uint8_t *to, uint32_t count, uint64_
       status = read_sectors(volume, sector, to + done, len);
     }
     if (status < 0) {
-      /* Neither what was decrypted before nor what is still encrypted is an answer. */
+      /* Neither the bytes decrypted before nor those still encrypted are a reply. */
       memset(to, 0, count);
       return -1;
     }

@@ -1,4 +1,4 @@
-/* A volume that is open, and any part of its plain text. */
+/* An open volume, and any part of its plain text. */
 #ifndef LUKSRD_NBDKIT_VOLUME_H
 #define LUKSRD_NBDKIT_VOLUME_H
 
@@ -7,20 +7,20 @@
 
 #include <stdint.h>
 
-/* Once it is open it does not change, so that threads may read of it at once. */
+/* It does not change after it is opened, so threads may read it at the same time. */
 struct volume {
   const char *name; /* of the image */
   int fd;           /* of the image, or -1 */
-  uint64_t len;     /* how many bytes of plain text are served: whole sectors */
+  uint64_t len;     /* the number of bytes of plain text that are served: whole sectors */
   struct luksrd_volume opened;
 };
 
-/* Opens the volume that the parameters name, and wipes their passphrase in any case. Answers 0, or
+/* Opens the volume that the parameters name, and wipes their passphrase in any case. Returns 0, or
  * -1 and reports why not. */
 int open_volume(struct volume *volume, struct parameters *parameters);
 
 /* Puts `count` bytes of plain text from `offset` on, which are within the volume, into the buffer.
- * Answers 0; or -1 and reports why not, and then the buffer is zeroed. */
+ * Returns 0; or -1 and reports why not, and then the buffer is zeroed. */
 int read_plain(const struct volume *volume, uint8_t *to, uint32_t count, uint64_t offset);
 
 /* Wipes the key and closes the image. */

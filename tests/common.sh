@@ -1,8 +1,8 @@
 # shellcheck shell=bash
-# What the scripts that run the built program share: a folder to work in, and how a run is compared. The first argument is the program.
+# Shared by the scripts that run the built program: a folder to work in, and how a run is compared. The first argument is the program.
 # Images are plain files; no device mapper and no kernel cryptography is used.
 set -u
-# what the make that calls this script was told is not for those that it calls
+# the options of the make that calls this script are not for those that it calls
 unset MAKEFLAGS
 program=$(realpath "${1:?the built program}")
 work=$(mktemp -d)
@@ -14,10 +14,10 @@ failed=0
 # bytes HEX: these bytes
 bytes() { printf '%b' "$(printf '%s' "$1" | sed 's/../\\x&/g')"; }
 
-# hex FILE: the bytes of a file as digits
+# hex FILE: the bytes of a file as hexadecimal digits
 hex() { od -An -v -tx1 "$1" | tr -d ' \n'; }
 
-# expect NAME STATUS HEX MESSAGE: the last run, whose output, message and status lie in out, err and status
+# expect NAME STATUS HEX MESSAGE: checks the last run, whose output, message and status are in out, err and status
 expect() {
     local output message
     output=$(hex out)
@@ -40,19 +40,19 @@ same() {
     fi
 }
 
-# told WORD..: the message of a run without output and its status; output is shown where there is some
+# told WORD..: the message of a run without output and its status; any output is shown
 told() {
     "$program" "$@" 2>&1
     echo $?
 }
 
-# slot_of IMAGE KEY_FILE OPTION..: the key slot that cryptsetup opens, in our words
+# slot_of IMAGE KEY_FILE OPTION..: the key slot that cryptsetup opens, worded as luksrd does
 slot_of() {
     cryptsetup open --test-passphrase --verbose --key-file "$2" "${@:3}" "$1" 2>&1 | sed -n 's/^Key slot \([0-9]*\) unlocked\.$/Key slot \1 opens the volume./p'
 }
 
 # sealed_by_qemu OPTIONS IMAGE: qemu-img makes a LUKS volume of 1 MiB. It times its own key derivation by the processor's clock, and gives up
-# where that has not moved; so it is asked again.
+# if that clock has not advanced; so it is tried again.
 sealed_by_qemu() {
     for _ in $(seq 50); do
         qemu-img create -q -f luks --object secret,id=s,file=pass -o "key-secret=s,iter-time=10$1" "$2" 1M 2>qemu.err && return
@@ -61,7 +61,7 @@ sealed_by_qemu() {
     exit 1
 }
 
-# run WORD..: the program on these words, with standard input from the file in
+# run WORD..: the program with these arguments, with standard input from the file in
 run() {
     "$program" "$@" <in >out 2>err
     echo $? >status
@@ -79,7 +79,7 @@ usage: luksrd isLuks [--header FILE] IMAGE
 TEXT
 )
 
-# scarce HEX WORD..: with less memory than a run on these words needs, it says so and writes nothing, and else these bytes
+# scarce HEX WORD..: with less memory than a run with these arguments needs, it reports that and writes nothing; otherwise it writes these bytes
 scarce() {
     local output=$1 refused=0 kib
     shift

@@ -1,5 +1,5 @@
 #!/usr/bin/env bash
-# Holds what bash and zsh offer for luksrd's words against the usage text that the built program
+# Compares what bash and zsh offer for luksrd's arguments with the usage text that the built program
 # prints: every command and every option of it, and nothing else.
 completions=$(realpath "$(dirname "$0")/../completions")
 # shellcheck source=tests/common.sh
@@ -7,7 +7,7 @@ completions=$(realpath "$(dirname "$0")/../completions")
 
 export LC_ALL=C
 
-# the forms of a command line that the usage text has, one a line
+# the forms of a command line that the usage text has, one per line
 "$program" 2>&1 | sed 's/^usage://' >forms
 commands=$(awk '{ print $2 }' forms)
 hashes='sha1 sha224 sha256 sha384 sha512'
@@ -17,7 +17,7 @@ options_of() {
     awk -v name="$1" '$2 == name' forms | grep -o -e '--[a-z-]*'
 }
 
-# behind COMMAND OPTION: what is to be offered behind this option
+# behind COMMAND OPTION: what should be offered after this option
 behind() {
     case $(awk -v name="$1" '$2 == name' forms | grep -o -e "$2 [A-Z]*") in
     *' FILE') echo files ;;
@@ -27,7 +27,7 @@ behind() {
     esac
 }
 
-# joined: the words of standard input in one line, by rising bytes
+# joined: the words of standard input in one line, sorted by bytes
 joined() {
     tr ' ' '\n' | sort | paste -sd' '
 }
@@ -36,7 +36,7 @@ for hash in $hashes; do
     same "hash $hash" "$(printf a | told afMerge --hash "$hash" --stripes 1 --key-bytes 1 -)" 'a0'
 done
 
-# wanted_lines: lines to be completed at their ends, each with a bar and what is to be offered there
+# wanted_lines: lines to be completed at their ends, each with a bar and what should be offered there
 wanted_lines() {
     local command option offers
     echo "luksrd |$(joined <<<"$commands")"
@@ -68,13 +68,13 @@ wanted_lines() {
 }
 wanted_lines >wanted
 
-# the files that are there to be offered
+# the files that can be offered
 mkdir files
 cd files || exit 1
 touch first second 'third one'
 
-# bash calls the function with the words as readline parts them, where = is one of its own, and lets
-# readline offer files where the function asks for that
+# bash calls the function with the words as readline splits them, with = as a word of its own, and lets
+# readline offer files if the function requests it
 cat >../bash.answers <<'BASH'
 compopt() { [ "$*" = '-o default' ] && files=yes; }
 . "$1"
@@ -90,8 +90,8 @@ BASH
 bash --norc --noprofile ../bash.answers "$completions/luksrd.bash" <../wanted >../offered 2>&1
 same 'what bash offers' "$(diff ../wanted ../offered)" ''
 
-# typed LINE: bash reads this line and a tab, and calls a function in the program's stead with what
-# it has made of them
+# typed LINE: bash reads this line and a tab, and calls a function instead of the program with the
+# completed words
 typed() {
     # shellcheck disable=SC2016
     printf '%s\n' ". '$completions/luksrd.bash'" 'luksrd() { printf "<%s>" "$@" >../called; }' \
@@ -108,8 +108,8 @@ same 'a key file' "$(typed 'luksCat --key-file=sec')" '<luksCat><--key-file=seco
 same 'a number' "$(typed 'luksCat --key-slot fir')" '<luksCat><--key-slot><fir>'
 same 'a second image' "$(typed 'isLuks first sec')" '<isLuks><first><sec>'
 
-# zsh completes in a terminal alone, which another zsh makes; there one key completes all lines, and
-# writes down what that would add
+# zsh completes only in a terminal, which another zsh makes; there one key completes all lines, and
+# records what that would add
 cat >../zsh.terminal <<'ZSH'
 zmodload zsh/zpty
 zpty shell zsh -f -i

@@ -1,5 +1,5 @@
 #!/usr/bin/env bash
-# Runs the built program on devices as a shell hands them over: files and block devices that are their own output, pipes, folders, closed
+# Runs the built program on devices as a shell passes them: files and block devices that are their own output, pipes, folders, closed
 # descriptors, and system calls that are interrupted or fail (by strace, if a program may be traced).
 sample=$(realpath "$(dirname "$0")/../sample")
 sources=$(realpath "$(dirname "$0")/..")
@@ -15,7 +15,7 @@ head -c $held volume >header
 printf 'another one' >wrong
 : >in
 
-# into NAME MESSAGE FILE WORD..: a run that writes into a file or a device ends with this message and leaves it as it is
+# into NAME MESSAGE FILE WORD..: a run that writes into a file or a device ends with this message and leaves it unchanged
 into() {
     local name=$1 message=$2 file=$3 before
     shift 3
@@ -27,7 +27,7 @@ into() {
     same "$name: what it writes into" "$(sha256sum <"$file")" "$before"
 }
 
-# onto NAME MESSAGE FILE WORD..: the same of a file, and of a run that appends to it
+# onto NAME MESSAGE FILE WORD..: the same for a file, and for a run that appends to it
 onto() {
     local name=$1 message=$2 file=$3 before
     into "$@"
@@ -114,7 +114,7 @@ expect 'a folder for standard input as a header' 4 '' 'luksrd: cannot open -'
 rm in
 : >in
 
-# descriptors that are closed: no input comes in their place
+# closed descriptors: no input takes their place
 : >out
 "$program" luksCat --key-file - volume <&- >out 2>err
 echo $? >status
@@ -158,9 +158,9 @@ expect 'no standard error' 0 "$plain" ''
 same 'none at all' "$("$program" luksCat --key-file pass volume <&- >&- 2>&-; echo $?)" 6
 same 'none at all, and none needed' "$("$program" isLuks volume <&- >&- 2>&-; echo $?)" 0
 
-# what is not needed of a pipe stays in it
+# bytes of a pipe that are not needed stay in it
 mkfifo pipe
-# taken BYTES WORD..: a run over a named pipe, into which an image and more are written, takes so many bytes of it
+# taken BYTES WORD..: a run over a named pipe, into which an image and more are written, consumes this number of its bytes
 piped=volume
 taken() {
     local count=$1 writer
@@ -183,7 +183,7 @@ expect 'a header in a named pipe, and the payload in a file' 0 "$plain" ''
 taken 592 isLuks --header pipe volume
 expect 'a header in a named pipe, which is looked for' 0 '' ''
 
-# nothing of the image is read before a key was found, nor by a command that needs the header alone
+# the image is not read before a key was found, nor by a command that needs only the header
 taken 0 luksCat --key-file wrong --header header pipe
 expect 'a wrong passphrase beside a header' 2 '' 'luksrd: no key opens the volume'
 taken 0 luksCat --key-file pass --header pass pipe
@@ -202,7 +202,7 @@ done
 gzip -dc "$sample/volume2.img.gz" >dynamic
 truncate -s +200k dynamic
 "$program" luksCat --key-file pass dynamic >whole
-# sized BYTES: the same volume with a payload of a fixed size, of whose two headers the checksums agree
+# sized BYTES: the same volume with a payload of a fixed size and two headers with valid checksums
 sized() {
     python3 - "$1" <<'PYTHON'
 import hashlib, sys
@@ -241,7 +241,7 @@ expect 'pipes of the shell' 0 "$plain" ''
 run luksCat --key-file <(cat pass) --header <(cat header) <(cat volume)
 expect 'pipes of the shell, with a header' 0 "$plain" ''
 
-# a long derivation ends at once where it is told to
+# a long derivation ends at once when a signal stops it
 cp volume long
 printf '\377\377\377\377' | dd of=long bs=1 seek=212 conv=notrunc status=none
 timeout -k 60 1 "$program" testPassphrase --key-file pass long >out 2>err
@@ -265,7 +265,7 @@ done
 make -s -C "$sources" uninstall DESTDIR="$work/a folder" PREFIX=/usr PROGRAM="$program"
 same 'what is left of it' "$(find 'a folder' -type f)" ''
 
-# traced CALL FILE HOW WORD..: a run of which the calls on a file are tampered with
+# traced CALL FILE HOW WORD..: a run in which the calls on a file are tampered with
 traced() {
     local call=$1 file=$2 how=$3
     shift 3
@@ -304,7 +304,7 @@ for file in header volume pass; do
     traced read "$work/$file" error=EIO:when=1 luksCat --key-file pass --header header volume
     expect "a read of $file beside a header that fails" 6 '' "$read_failed"
 done
-# so many sectors come in fewer calls than there are, though a pipe may give as little as a page
+# these sectors are read in fewer calls than there are sectors, though a pipe may give as little as a page
 cat sized >pipe &
 strace -qq -o trace -P "$work/pipe" -e trace=read "$program" luksCat --key-file pass pipe >out 2>err
 echo $? >status

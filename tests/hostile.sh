@@ -1,6 +1,6 @@
 #!/usr/bin/env bash
-# Runs the built program over drawn headers of both versions, in their image or in a file of their own: fields at their extremes, bytes changed with the checksum made anew, JSON of any shape.
-# Each run has to end by itself with a known status, and to print nothing but visible ASCII and lines. The seed is printed; it can be given as
+# Runs the built program over generated headers of both versions, attached or detached: fields at their extremes, bytes changed with the checksum recomputed, JSON of any shape.
+# Each run has to end by itself with a known status, and to print only visible ASCII and newlines. The seed is printed; it can be given as
 # SEED, and the number of headers as HEADERS.
 # shellcheck source=tests/common.sh
 . "$(dirname "$0")/../tests/common.sh"
@@ -35,7 +35,7 @@ def value(depth=0):
     return {draw.choice(['type', 'offset', 'size', 'hash', '0', '1', '31', '01', '32', 'x\n']): value(depth + 1) for _ in range(draw.randrange(4))}
 
 def usual(n):
-    """The JSON of a usual header, with so many slots."""
+    """The JSON of a usual header, with this number of slots."""
     area = lambda i: {'type': 'raw', 'offset': str(32768 + i * 131072), 'size': '131072', 'encryption': 'aes-xts-plain64', 'key_size': 32}
     slots = {str(i): {'type': 'luks2', 'key_size': 32, 'af': {'type': 'luks1', 'stripes': 4000, 'hash': 'sha256'}, 'area': area(i),
                       'kdf': {'type': draw.choice(['pbkdf2', 'pbkdf2', 'argon2id', 'argon2i', 'scrypt']), 'hash': 'sha256', 'iterations': 1000, 'salt': 'AAAA'}}

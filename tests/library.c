@@ -4,8 +4,8 @@
  *
  * writes the plain text of a volume to standard output and luksrd's sentence to standard error, and
  * ends with luksrd's status. HEADER is - if it is not detached. On the way it reads each sector by
- * itself from several threads at once, and makes the calls that are refused; what it passes lies in
- * memory of just its length. */
+ * itself from several threads at once, and makes the calls that are refused; each argument is in
+ * memory of exactly its length. */
 #include "luksrd.h"
 
 #include <pthread.h>
@@ -56,7 +56,7 @@ static struct bytes contents(const char *name)
   return all;
 }
 
-/* Ends with what luksrd says. */
+/* Ends with luksrd's message. */
 static void end_with(const struct luksrd_message *message)
 {
   if (message->len > 0)
@@ -115,7 +115,7 @@ static void make_bad_calls(const struct job *job)
   free(two.at);
 }
 
-/* A message has a status and a sentence, and zeros behind it. */
+/* A message has a status and a sentence, and zeros after it. */
 static void check_message(const struct luksrd_message *message)
 {
   must(message->status >= 1 && message->status <= 4, "a message's status");
@@ -142,7 +142,7 @@ static void read_texts(void)
   must(strlen(none) == message.len && memcmp(message.text, none, message.len) == 0, "no code");
 }
 
-/* Opens the volume; if it does not open, ends with what luksrd says. */
+/* Opens the volume; if it cannot be opened, ends with luksrd's message. */
 static void open_volume(struct bytes header, struct bytes passphrase,
                         struct luksrd_options *options, struct luksrd_volume *volume)
 {

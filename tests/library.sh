@@ -1,25 +1,25 @@
 #!/usr/bin/env bash
 # Runs small programs over luksrd.h, one in C that is built with AddressSanitizer and also run under valgrind, and one in Python by ctypes: each writes what luksCat
-# does, and says what it says, of both sample volumes and of volumes that are truncated, detached or not opened.
+# does, with the same messages, for both sample volumes and for volumes that are truncated, detached or not opened.
 sources=$(realpath "$(dirname "$0")/..")
 library=$(realpath "${2:?the built library}")
 shared=$(realpath "${3:?the same as a shared one}")
 # shellcheck source=tests/common.sh
 . "$(dirname "$0")/common.sh"
 
-# compiled NAME WORD..: the program in C, with these words for the compiler
+# compiled NAME WORD..: the program in C, with these arguments for the compiler
 compiled() {
     gcc -std=c11 -D_GNU_SOURCE -Wall -Wextra -Werror -O1 -g -o "$1" "$sources/tests/library.c" "${@:2}" -lpthread || exit 1
 }
 compiled checked -I"$sources/c" "$library"
 compiled sanitized -I"$sources/c" "$library" -fsanitize=address,undefined -fno-sanitize-recover=all
-# as it is installed, with the shared library and the words of pkg-config
+# as it is installed, with the shared library and the flags of pkg-config
 make -s -C "$sources" install-library LIBRARY="$library" SHARED="$shared" PREFIX="$work/installed" >log 2>&1 || { cat log; exit 1; }
 export PKG_CONFIG_PATH=$work/installed/lib/pkgconfig LD_LIBRARY_PATH=$work/installed/lib
 read -ra words <<<"$(pkg-config --cflags --libs luksrd)"
 compiled shared "${words[@]}"
 
-# reads NAME IMAGE HEADER KEY WORD..: the program of these words writes and says what luksCat does
+# reads NAME IMAGE HEADER KEY WORD..: the program with these arguments has the output and the messages of luksCat
 reads() {
     local name=$1 status
     "${@:5}" "$2" "$3" "$4" >given 2>said
@@ -81,7 +81,7 @@ cp "$example/data/disk.img" .
 same 'the example in C' "$? $(cat said)" '0 '
 same 'what it writes' "$(sha256sum <given)" "$(sha256sum <"$example/stdout")"
 
-# it bears the version of the program, and gives the names of luksrd.h alone
+# it has the version of the program, and exports only the names of luksrd.h
 same 'its version' "$(pkg-config --modversion luksrd)" "$(make -s -C "$sources" -f Makefile -f - version <<<$'version:\n\t@echo $(VERSION)')"
 same "its header's version" "$(sed -n 's/^#define LUKSRD_VERSION 0x\(..\)\(..\)\(..\)$/\1 \2 \3/p' "$sources/c/luksrd.h" | { read -r major minor patch; echo "$((16#$major)).$((16#$minor)).$((16#$patch))"; })" "$(pkg-config --modversion luksrd)"
 same 'what the library exports' "$(nm -D --defined-only "$shared" | awk '{ print $3 }' | sort | tr '\n' ' ')" \

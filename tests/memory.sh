@@ -1,6 +1,6 @@
 #!/usr/bin/env bash
-# Runs the built program in rising address space, from none to more than enough, a page more at a time: each run that the C library's loader lets
-# begin ends with the stated output and status, or with status 3, `out of memory` and no output; and once a command has ended well it does so with more.
+# Runs the built program in growing address space, from none to more than enough, one more page at a time: each run that the C library's loader lets
+# start ends with the specified output and status, or with status 3, `out of memory` and no output; if a command succeeds once, it does so with more memory too.
 sample=$(realpath "$(dirname "$0")/../sample")
 # shellcheck source=tests/common.sh
 . "$(dirname "$0")/../tests/common.sh"

@@ -1,7 +1,7 @@
 #!/usr/bin/env bash
 # Makes Debian packages of the built program and of the built plugin (the second argument), and looks
-# into them; as root, and if none of both is installed, dpkg also installs them, they run from
-# there, and dpkg takes all of them away.
+# into them; as root, and if neither is installed, dpkg also installs them, they run from
+# there, and dpkg removes all of them.
 sources=$(realpath "$(dirname "$0")/..")
 plugin=$(realpath "${2:?the built plugin}")
 # shellcheck source=tests/common.sh
@@ -44,7 +44,7 @@ made "$work/again" "$work/plugin again" >log
 same 'the package made again' "$(cmp "$program_package" again 2>&1)" ''
 same "the plugin's package made again" "$(cmp "$plugin_package" 'plugin again' 2>&1)" ''
 
-# holds NAME FILE PAGE LISTED: what is in a package, and that it bears one version; it is unpacked into the folder of its name
+# holds NAME FILE PAGE LISTED: what is in a package, and that it has one version; it is unpacked into the folder of its name
 version=$(make -s -C "$sources" -f Makefile -f - version <<<$'version:\n\t@echo $(VERSION)')
 same 'a version of three numbers' "$(grep -cxE '[0-9]+\.[0-9]+\.[0-9]+' <<<"$version")" 1
 holds() {
@@ -83,7 +83,7 @@ holds nbdkit-plugin-luksrd "$plugin_package" nbdkit-luksrd-plugin.1 "-rw-r--r-- 
 -rw-r--r-- root/root ./usr/share/man/man1/nbdkit-luksrd-plugin.1.gz"
 same 'the plugin asks for nbdkit' "$(dpkg -f "$plugin_package" Depends | grep -c ', nbdkit (>= ')" 1
 
-# works PROGRAM COMPLETION: both do as those that they were made of
+# works PROGRAM COMPLETION: both behave like those that they were made from
 works() {
     cp "$sources/sample/passphrase" pass
     gzip -dc "$sources/sample/volume.img.gz" | "$1" luksCat --key-file pass - >out 2>err
@@ -108,7 +108,7 @@ serves() {
 }
 serves "$work/nbdkit-plugin-luksrd$plugins/nbdkit-luksrd-plugin.so"
 
-# what `make install` puts below a folder of its own, `make uninstall` takes away; what is not built is left out
+# `make uninstall` removes what `make install` puts below a folder of its own; what is not built is left out
 there() { (cd "$work/there" && find . ! -type d | sort); }
 program_files=(./usr/local/bin/luksrd ./usr/local/share/bash-completion/completions/luksrd
     ./usr/local/share/man/man1/luksrd.1 ./usr/local/share/zsh/site-functions/_luksrd)

@@ -70,7 +70,7 @@ run afMerge --hash sha1 --stripes 3 --key-bytes 64 -
 expect 'three stripes of 64 bytes merged' 0 "$long_key" ''
 : >in
 
-# what a run leaves of standard input is there for the next program
+# the standard input that a run does not consume is there for the next program
 (bytes "$zeros$last"; printf 'the rest') | (
     "$program" afMerge --hash sha256 --stripes 2 --key-bytes 28 - >out 2>err
     echo $? >status
@@ -80,7 +80,7 @@ expect 'two stripes from a pipe' 0 "$key" ''
 cp rest out
 expect 'the rest of the pipe' 0 7468652072657374 ''
 
-# words
+# arguments
 for line in '' 'afSplit' 'luksrd' '--help' '-h' 'help' '--version' 'afMerge --hash sha256 --stripes 4001 --key-bytes 32 stripes' \
     'afMerge --hash sha3 --stripes 1 --key-bytes 32 stripes' 'afSplit --hash sha256 --stripes 2 --random - -' \
     'luksCat --key-file - -' 'afMerge --hash sha256 --stripes +1 --key-bytes 32 stripes'; do
@@ -111,7 +111,7 @@ expect 'no output to a full device' 4 '' 'luksrd: stripes are too few'
 # memory
 scarce "$numbers" afMerge --hash sha256 --stripes 1 --key-bytes 32 stripes
 
-# a reader that goes away ends the program
+# the program ends if its reader closes the pipe
 head -c 512 /dev/zero >key512
 timeout 60 bash -c '"$0" afSplit --hash sha512 --stripes 4000 --random /dev/zero key512 2>err; echo $? >status' "$program" | head -c 10 >out
 expect 'a reader that goes away' 6 00000000000000000000 'luksrd: write failed'

@@ -1,5 +1,5 @@
-//! PBKDF2 with the blocks of a key one after the other, as luksrd 1.0.0 derived them: what luks_kdf
-//! is measured against. No contract says that it is PBKDF2; `bench/pbkdf2` compares the keys.
+//! PBKDF2 with the blocks of a key one after the other, as luksrd 1.0.0 derived them, to measure
+//! luks_kdf against. No contract says that it is PBKDF2; `bench/pbkdf2` compares the keys.
 
 ghost use Rattle.std.specs.Prelude.{ℕ, ◌≤◌, length};
 
@@ -15,12 +15,12 @@ const INNER_PAD: u8 = 0x36;
 
 const OUTER_PAD: u8 = 0x5C;
 
-/// Fills `out` with the key, and answers how many times HMAC was evaluated.
+/// Fills `out` with the key, and returns the number of evaluations of HMAC.
 pub(crate) fn by_sha1(pass: &[u8], salt: &[u8], turns: u32, out: &mut [u8]) -> u128 {
     derive::<Sha1>(pass, salt, turns, out)
 }
 
-/// Fills `out` with the key, and answers how many times HMAC was evaluated.
+/// Fills `out` with the key, and returns the number of evaluations of HMAC.
 pub(crate) fn by_sha256(pass: &[u8], salt: &[u8], turns: u32, out: &mut [u8]) -> u128 {
     derive::<Sha256>(pass, salt, turns, out)
 }
@@ -117,7 +117,8 @@ impl<H: Hasher> Keyed<H> {
     }
 }
 
-// The first bytes of a key, which is to be no longer than a block.
+// A hasher that has absorbed a block: the key, which should be no longer than the block, with zeros
+// after it, and each byte XORed with `pad`.
 fn after_block<H: Hasher>(key: &[u8], pad: u8) -> H {
     let mut block = [pad; BLOCK];
     let length = key.len().min(BLOCK);

@@ -1,8 +1,8 @@
-//! Derives keys, and reports what that costs: `bench_pbkdf2 luks_kdf sha256 100000 64` derives a
-//! key of 64 bytes with that many iterations, and writes the evaluations of HMAC, the nanoseconds
-//! of processor time and the key to standard error. Each further number is one more length, with a
-//! line of its own. `blockwise` in place of `luks_kdf` derives the blocks of a key one after the
-//! other, by SHA-1 or SHA-256. With no arguments, or with others, it does nothing.
+//! Derives keys, and reports the cost: `bench_pbkdf2 luks_kdf sha256 100000 64` derives a key of 64
+//! bytes with 100000 iterations, and writes the evaluations of HMAC, the nanoseconds of processor
+//! time and the key to standard error. Each further number is one more length, and gets a line of
+//! its own. `blockwise` in place of `luks_kdf` derives the blocks of a key one after the other, by
+//! SHA-1 or SHA-256. With no arguments, or with others, it does nothing.
 #![tactic(auto)]
 
 ghost use Rattle.std.specs.Prelude.{◌≤◌};

@@ -12,7 +12,7 @@ use std::fs::{self, File};
 use std::io::Write;
 use std::process::ExitCode;
 
-/// The bytes of a sector of 512 bytes, or the message that says why there are none.
+/// The 512 bytes of the first sector, or the message that says why there are none.
 fn first_sector(rt: &HostRuntime, image: &str, passphrase: &str) -> Result<[u8; 512], Message> {
     let file = File::open(rt, image).map_err(|_| Message::ReadFailed)?;
     let image = FileImage::new(file).map_err(|_| Message::ReadFailed)?;

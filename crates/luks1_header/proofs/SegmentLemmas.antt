@@ -1,4 +1,4 @@
--- What is known of a header whose segment is not refused.
+-- Properties of a header whose segment is valid.
 use Rattle.std.proofs.Common.{◌≡◌, ◌*◌, ◌≤◌, refl, Bool, true, false, List, [], ◌∷◌, Option, Some, None, Ok, Err}
 use Rattle.std.specs.Prelude.{not, is_none}
 use Rattle.std.proofs.lemmas.Bool.{ltb-false}
@@ -17,14 +17,15 @@ use Rattle.luks1_header.specs.Segment1.{overlaps_header1}
 use Rattle.luks1_header.specs.Slot1.{hash1_of, mode1_of}
 use Rattle.luks1_header.specs.declared.header.Header1.{Header1}
 
--- a volume that can be read: its mode and hash function are known ones, and its key has a length of the mode
+-- a volume that can be read: its mode and hash function are known, its key has a length that the mode allows, and with
+-- an attached header its payload starts behind the header
 pub record IsReadable (header : Header1) : Type 0 where
   pub mode : (mode : Mode) × (mode1_of header ≡ Some mode)
   pub hash : (hash : Hash) × (hash1_of header ≡ Some hash)
   pub key : is_key_length1 (mode1_of header) header.key_bytes ≡ true
   pub behind_header : header.detached ≡ false → 592 ≤ 512 * header.payload_offset
 
--- a payload in the header's image that does not start inside the header starts behind it
+-- with an attached header, a payload that does not start inside the header starts behind it
 starts_behind : (header : Header1) → overlaps_header1 header ≡ false → header.detached ≡ false
     → 592 ≤ 512 * header.payload_offset
 unfolding overlaps_header1
@@ -48,7 +49,7 @@ IsReadable-none header none =
       behind_header = starts_behind header offset.0;
     }
 
--- its segment
+-- the segment of a header, by its fields
 pub record IsSegment1 (header : Header1) (segment : Segment) : Type 0 where
   pub offset : segment.offset ≡ 512 * header.payload_offset
   pub mode : mode1_of header ≡ Some segment.mode
@@ -62,7 +63,7 @@ segment_made header segment mode known made = of_mode (mode1_of header) refl
     of_mode None none = absurd cc
     of_mode (Some read) some = record { offset = cc; mode = cc }
 
--- of a segment that is not refused
+-- a header whose segment is valid has that segment and can be read
 pub IsReadable-ok : (header : Header1) (segment : Segment) → segment1_of header ≡ Ok segment
     → IsSegment1 header segment × IsReadable header
 unfolding segment1_of
@@ -71,7 +72,7 @@ IsReadable-ok header segment is =
     let readable = IsReadable-none header made.0 in
     (segment_made header segment readable.mode.0 readable.mode.1 made.1, readable)
 
--- the segment, by its fault
+-- a segment with a fault is refused with that fault
 pub segment1-fault : (header : Header1) (fault : SegmentFault) → fault1_of header ≡ Some fault
     → segment1_of header ≡ Err fault
 unfolding segment1_of

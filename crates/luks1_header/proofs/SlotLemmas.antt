@@ -1,4 +1,4 @@
--- What is known of a slot that there is no reason to skip.
+-- Properties of a slot that there is no reason to skip.
 use Rattle.std.proofs.Common.{◌≡◌, ◌∙◌, ℕ, ◌+◌, ◌*◌, ◌≤◌, sym, subst, refl, Bool, true, false, List, [], ◌∷◌, Option}
 use Rattle.std.proofs.Common.{Some, None, arith}
 use Rattle.std.specs.Prelude.{if◌then◌else◌, option_map, option_and_then, slice_get}
@@ -24,7 +24,7 @@ use Rattle.luks1_header.specs.Slot1.{verdict1_of}
 use Rattle.luks1_header.specs.declared.header.Header1.{Header1}
 use Rattle.luks1_header.specs.declared.header.KeySlot.{KeySlot}
 
--- none of the lines of its table holds
+-- none of these reasons to skip a slot applies
 record NoReason (header : Header1) (limit : Option ℕ) (slot : KeySlot) : Type 0 where
   stripes : stripes_out_of_range slot.stripes ≡ false
   iterations : iterations_out_of_range limit slot.iterations ≡ false
@@ -45,14 +45,14 @@ no_reason header limit slot none =
     let digest = first_not (has_no_usable_digest limit (digest1_of header)) Digest [] area.1 in
     record { stripes = stripes.0; iterations = iterations.0; area = area.0; digest = digest.0 }
 
--- its key material is in its place
+-- key material that is in range ends at or before the payload's start, if that is known, and within the longest area
 placed : (header : Header1) (slot : KeySlot) → area1_out_of_range header slot ≡ false
     → (exceeds (payload1_start header) (512 * slot.offset + need_of header.key_bytes slot.stripes) ≡ false)
     × (512 * slot.offset + need_of header.key_bytes slot.stripes ≤ max_area_len)
 unfolding area1_out_of_range area_out_of_range
 placed header slot is = (grind (arith, nat_tests), grind (arith, nat_tests))
 
--- so its numbers are in range
+-- if there is no reason to skip a slot, its numbers are in range
 range_of : (header : Header1) (limit : Option ℕ) (slot : KeySlot) → NoReason header limit slot
     → are_in_range (slot_parts1_of header slot) ≡ true
 unfolding is_in_range iterations_out_of_range stripes_out_of_range slot_parts1_of
@@ -62,7 +62,7 @@ range_of header limit slot none =
     let iterations = none.iterations in
     grind (arith, nat_tests)
 
--- and it can be opened
+-- if there is no reason to skip a slot, there is what is needed to open it
 pub slot_there : (header : Header1) (limit : Option ℕ) (slot : KeySlot) → reason1_of header limit slot ≡ None
     → (is : are_in_range (slot_parts1_of header slot) ≡ true)
     × (slot1_of header slot ≡ Some (slot_of (slot_parts1_of header slot) is))
@@ -71,7 +71,7 @@ slot_there header limit slot none =
     let is = range_of header limit slot (no_reason header limit slot none) in
     (is, slot_from-yes (slot_parts1_of header slot) is)
 
--- what becomes of it, without what it takes to open it
+-- the kind of verdict on a slot that is not disabled and that there is no reason to skip: it can be tried
 pub usable_verdict : (header : Header1) (limit : Option ℕ) (slot : KeySlot) → is_disabled slot.state ≡ false
     → reason1_of header limit slot ≡ None
     → verdict_kind_of (verdict1_of header limit slot) ≡ Open 1
@@ -80,10 +80,10 @@ usable_verdict header limit slot enabled none =
     let there = slot_there header limit slot none in
     rw (enabled, none, there.1) refl
 
--- ---- what is known of a slot that can be tried
+-- ---- properties of a slot that can be tried
 
--- what it takes to open it is of this header, its key material ends before a payload of its image, and there is a
--- digest
+-- what is needed to open a slot is from this header, its key material ends at or before the payload's start, if the
+-- header is attached, and there is a digest
 pub record IsOf (header : Header1) (usable : Slot) : Type 0 where
   pub kdf : usable.parts.kdf_hash ≡ hash1_of header
   pub af : usable.parts.af_hash ≡ hash1_of header
@@ -93,7 +93,7 @@ pub record IsOf (header : Header1) (usable : Slot) : Type 0 where
   pub before_payload : exceeds (payload1_start header) (material_end usable) ≡ false
   pub digest : (digest : KeyDigest) × (digest1_of header ≡ Some digest)
 
--- a verdict that it can be tried says that there is no reason to skip it, and what it takes to open it
+-- if the verdict is that a slot can be tried, there is no reason to skip it, and this is what is needed to open it
 of_verdict : (header : Header1) (limit : Option ℕ) (slot : KeySlot) (usable : Slot)
     → verdict1_of header limit slot ≡ Usable usable
     → (reason1_of header limit slot ≡ None) × (slot1_of header slot ≡ Some usable)
@@ -128,7 +128,7 @@ usable_is header limit slot usable is =
       digest = digest_there limit (digest1_of header) none.digest;
     })
 
--- of the slot of a number
+-- if the slot of this number can be tried, this is what is needed to open it, and it is from this header
 pub slot_usable_at : (header : Header1) (limit : Option ℕ) (number : ℕ) (usable : Slot)
     → verdict1_at header limit number ≡ Some (Usable usable)
     → IsOf header usable × (slot1_at header number ≡ Some usable)

@@ -6,7 +6,7 @@ use Rattle.luks1_header.specs.declared.header.KeySlot.{KeySlot}
 use Rattle.luks1_header.specs.declared.header.SlotState.{SlotState}
 use Rattle.luks1_header.specs.declared.header.SlotState.TheVariants.{Enabled, Disabled, Damaged}
 
--- what an image of LUKS1 begins with: the letters LUKS, BA BE, and the version 1 in two bytes
+-- the first bytes of a LUKS1 image: the letters LUKS, the bytes BA BE, and the version 1 in two bytes
 abbrev pub magic_and_version : List ℕ
 magic_and_version = 0x4c ∷ 0x55 ∷ 0x4b ∷ 0x53 ∷ 0xba ∷ 0xbe ∷ 0x00 ∷ 0x01 ∷ []
 
@@ -18,11 +18,11 @@ is_luks1 image = bytes_eq (at 0 8 image) magic_and_version
 abbrev pub header1_len : ℕ
 header1_len = 592
 
--- the state that a number says
+-- the state that a number encodes
 abbrev pub slot_state : ℕ → SlotState
 slot_state n = if n == 0x00ac71f3 then Enabled else if n == 0x0000dead then Disabled else Damaged n
 
--- the key slot that 48 bytes write
+-- the key slot that 48 bytes encode
 unfoldable pub key_slot_of : List ℕ → KeySlot
 key_slot_of bytes = record {
   state = slot_state (be32 (at 0 4 bytes));

@@ -1,4 +1,4 @@
--- Where the payload of LUKS1 lies, or why it cannot be read.
+-- Where the payload of LUKS1 is, or why it cannot be read.
 use Rattle.std.specs.Prelude.{◌≡◌, ◌≢◌, ◌*◌, ◌&&◌, ℕ, not, nat_lt, Bool, false, List, [], ◌∷◌, Option, Some, None}
 use Rattle.std.specs.Prelude.{Result, is_none}
 use Rattle.luks_cipher.specs.Sector.{is_mode_key_length}
@@ -14,7 +14,7 @@ use Rattle.luks1_header.specs.Header1.{header1_len}
 use Rattle.luks1_header.specs.Slot1.{hash1_of, mode1_of}
 use Rattle.luks1_header.specs.declared.header.Header1.{Header1}
 
--- the volume key has a length of the mode, as far as that is known
+-- the mode is known, and the length of the volume key is one of this mode
 abbrev pub is_key_length1 : Option Mode → ℕ → Bool
 is_key_length1 (Some mode) n = is_mode_key_length mode n
 is_key_length1 None n = false
@@ -32,7 +32,7 @@ fault1_of header = first_match (
     ∷ (overlaps_header1 header, Offset)
     ∷ [])
 
--- what the header says of the segment: its units are numbered from 0 in sectors of 512 bytes up to the image's end
+-- the parts of the segment: its sectors of 512 bytes are numbered from 0, and it goes to the image's end
 abbrev pub segment_parts1_of : Header1 → SegmentParts
 segment_parts1_of header = record {
   offset = Some (512 * header.payload_offset);
@@ -42,14 +42,14 @@ segment_parts1_of header = record {
   mode = mode1_of header;
 }
 
--- a segment whose mode is known is made
+-- if no fault is found, the mode is known and a segment is made
 made_in : (mode : Option Mode) (others : List (Bool × SegmentFault)) (offset : ℕ)
     → first_match ((is_none mode, Encryption) ∷ others) ≡ None
     → segment_of_all (Some offset) (Some None) (Some 0) (Some B512) mode ≢ None
 made_in None others offset no_fault none = cc
 made_in (Some mode) others offset no_fault none = cc
 
--- a segment without a fault is made: its mode is known
+-- a segment without a fault is made
 pub made1 : (header : Header1) → fault1_of header ≡ None → segment_from (segment_parts1_of header) ≢ None
 unfolding fault1_of segment_from
 made1 header =
@@ -59,6 +59,6 @@ made1 header =
     ∷ (overlaps_header1 header, Offset)
     ∷ []) (512 * header.payload_offset)
 
--- the segment, or its first fault
+-- the segment of a header, or its first fault
 unfoldable pub segment1_of : Header1 → Result Segment SegmentFault
 segment1_of header = refused_or (fault1_of header) (segment_from (segment_parts1_of header)) (made1 header)

@@ -29,7 +29,7 @@ is_disabled Enabled = false
 is_disabled Disabled = true
 is_disabled (Damaged _) = false
 
--- the state is neither that of a slot in use nor that of one that is not
+-- the state is neither that of a used slot nor that of an unused one
 abbrev pub is_damaged : SlotState → Bool
 is_damaged Enabled = false
 is_damaged Disabled = false
@@ -39,12 +39,11 @@ is_damaged (Damaged _) = true
 unfoldable pub hash1_of : Header1 → Option Hash
 hash1_of header = hash_named header.hash_spec
 
--- the mode of AES in which sectors are encrypted, those of the payload and of key material alike, if cipher and mode
--- are known
+-- the mode of AES for the sectors of the payload and of key material, if cipher and mode are known
 unfoldable pub mode1_of : Header1 → Option Mode
 mode1_of header = if bytes_eq header.cipher_name (codes "aes") then mode_named header.cipher_mode else None
 
--- what the header says of its digest, which is that of all slots
+-- the parts of the header's digest, which all slots share
 unfoldable pub digest_parts1_of : Header1 → DigestParts
 digest_parts1_of header = record {
   hash = hash1_of header;
@@ -57,11 +56,11 @@ digest_parts1_of header = record {
 unfoldable pub digest1_of : Header1 → Option KeyDigest
 digest1_of header = digest_from (digest_parts1_of header)
 
--- where the payload starts, if the header is attached. Key material ends there at the latest
+-- the payload's start, if the header is attached. Key material has to end there or before
 unfoldable pub payload1_start : Header1 → Option ℕ
 payload1_start header = if header.detached then None else Some (512 * header.payload_offset)
 
--- the key material of a slot does not fit. Its area has just the bytes that it needs
+-- the key material of a slot does not fit. Its area has exactly the bytes that it needs
 unfoldable pub area1_out_of_range : Header1 → KeySlot → Bool
 area1_out_of_range header slot =
     area_out_of_range header1_len (payload1_start header) (512 * slot.offset)
@@ -77,7 +76,7 @@ reason1_of header limit slot = first_match (
     ∷ (has_no_usable_digest limit (digest1_of header), Digest)
     ∷ [])
 
--- what the header says of a slot. The key material's key is as long as the volume key
+-- the parts of a slot. The key of its key material is as long as the volume key
 unfoldable pub slot_parts1_of : Header1 → KeySlot → SlotParts
 slot_parts1_of header slot = record {
   priority = 1;
@@ -106,6 +105,6 @@ verdict1_of header limit slot =
 unfoldable pub verdict1_at : Header1 → Option ℕ → ℕ → Option Verdict
 verdict1_at header limit number = option_map (verdict1_of header limit) (slice_get header.slots number)
 
--- what is needed to open the slot of this number
+-- what is needed to open the slot of this number, if it is there and its numbers are in range
 unfoldable pub slot1_at : Header1 → ℕ → Option Slot
 slot1_at header number = option_and_then (slot1_of header) (slice_get header.slots number)

@@ -7,7 +7,7 @@ ghost use Rattle.luks1_header.specs.Header1.{slot_state};
 use luks_area::field::{bytes_at, number_at, text_at};
 use luks_area::text::FixedText;
 
-/// What an image of LUKS1 begins with: the magic bytes and the version 1.
+/// The first bytes of a LUKS1 image: the magic bytes and the version 1.
 const MAGIC_AND_VERSION: [u8; 8] = [0x4c, 0x55, 0x4b, 0x53, 0xba, 0xbe, 0x00, 0x01];
 
 /// The length of a header in bytes.
@@ -16,9 +16,9 @@ pub const HEADER1_LEN: usize = 592;
 /// The fields of a header, as they are stored, and whether it is detached.
 #[derive(Drop, Debug)]
 pub struct Header1 {
-    /// The cipher, as `aes`.
+    /// The cipher, such as `aes`.
     pub cipher_name: FixedText<32>,
-    /// How the cipher is used on sectors, as `xts-plain64`.
+    /// How the cipher is used on sectors, such as `xts-plain64`.
     pub cipher_mode: FixedText<32>,
     /// The hash function of the key slots, the stripes and the digest.
     pub hash_spec: FixedText<32>,
@@ -26,7 +26,7 @@ pub struct Header1 {
     pub payload_offset: u32,
     /// The length of the volume key in bytes.
     pub key_bytes: u32,
-    /// The digest by which a volume key is known.
+    /// The digest that identifies the volume key.
     pub digest: [u8; 20],
     /// The salt of the digest.
     pub digest_salt: [u8; 32],
@@ -36,7 +36,7 @@ pub struct Header1 {
     pub uuid: FixedText<40>,
     /// The key slots.
     pub slots: [KeySlot; 8],
-    /// Whether the header is detached. No header says so itself: it is read as an attached one.
+    /// Whether the header is detached. No header stores this: it is read as an attached one.
     pub detached: bool,
 }
 
@@ -45,13 +45,13 @@ pub struct Header1 {
 pub struct KeySlot {
     /// Whether it is in use.
     pub state: SlotState,
-    /// The iterations by which its key comes of a passphrase.
+    /// The iterations of PBKDF2, which derives its key from a passphrase.
     pub iterations: u32,
-    /// The salt by which its key comes of a passphrase.
+    /// The salt of PBKDF2, which derives its key from a passphrase.
     pub salt: [u8; 32],
     /// Where its key material starts, in sectors of 512 bytes.
     pub offset: u32,
-    /// How many stripes the key material has.
+    /// The number of stripes in the key material.
     pub stripes: u32,
 }
 
@@ -62,12 +62,12 @@ pub enum SlotState {
     Enabled,
     /// It has none.
     Disabled,
-    /// The stored number is neither state's.
+    /// The stored number is that of neither state.
     Damaged(u32),
 }
 
 impl SlotState {
-    /// The state that the number says.
+    /// The state that the number encodes.
     pub fn from_number(number: u32) -> SlotState
         ensures { result ≡ slot_state number }
     {
@@ -79,7 +79,7 @@ impl SlotState {
     }
 }
 
-/// Whether an image begins as one of LUKS1 does.
+/// Whether an image starts as LUKS1, with the magic bytes and the version 1.
 #[tactic(auto, unfolding(crate::specs::Header1::is_luks1))]
 pub fn is_header1(image: &[u8]) -> bool
     ensures { result ≡ is_luks1 image.now }
@@ -119,7 +119,7 @@ fn key_slots(bytes: &[u8]) -> [KeySlot; 8]
 }
 
 impl Header1 {
-    /// The header that the bytes write.
+    /// The header that the bytes encode.
     pub fn from_bytes(bytes: &[u8]) -> Header1
         requires { length bytes.now ≡ 592 }
         ensures { result ≡ header1_of bytes.now }

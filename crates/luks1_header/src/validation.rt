@@ -25,7 +25,7 @@ use std::str;
 /// The first byte behind the header.
 const HEADER_END: u64 = HEADER1_LEN as u64;
 
-// The mode that a text names.
+// The mode with this name.
 fn mode_of(name: &[u8]) -> Option<Mode>
     ensures { result ≡ mode_named name.now }
 {
@@ -44,8 +44,8 @@ impl Header1 {
         Hash::from_bytes(self.hash_spec.as_bytes())
     }
 
-    /// The mode of AES in which sectors are encrypted, those of the payload and of key material
-    /// alike, if cipher and mode are known.
+    /// The mode of AES for the sectors of the payload and of key material, if cipher and mode are
+    /// known.
     #[tactic(auto, unfolding(crate::specs::Slot1::mode1_of))]
     pub fn mode(&self) -> Option<Mode>
         ensures { result ≡ mode1_of self.now }
@@ -58,7 +58,7 @@ impl Header1 {
     }
 }
 
-// The place in bytes of a sector of 512 bytes.
+// The offset in bytes of a sector of 512 bytes.
 fn place(sector: u32) -> u64
     ensures { result ≡ 512 * sector }
 {
@@ -77,8 +77,8 @@ fn payload(header: &Header1) -> Option<u64>
     }
 }
 
-// The key material of a slot starts inside the header, or it ends past the payload's start or past
-// byte 33,554,432.
+// Whether the key material of a slot starts inside the header, or ends past the payload's start or
+// past byte 33,554,432.
 #[tactic(auto, unfolding(crate::specs::Slot1::area1_out_of_range))]
 fn area1_out_of_range(header: &Header1, slot: &KeySlot) -> bool
     ensures { result ≡ area1_out_of_range header.now slot.now }
@@ -88,7 +88,7 @@ fn area1_out_of_range(header: &Header1, slot: &KeySlot) -> bool
     area_out_of_range(HEADER_END, payload, place(slot.offset), need, need)
 }
 
-// There is no digest to try a slot against, or its iterations are not made.
+// Whether there is no usable digest, or its iterations are out of range.
 #[tactic(auto, unfolding(crate::specs::Slot1::digest1_of, crate::specs::Slot1::digest_parts1_of))]
 fn no_usable_digest1(header: &Header1, limit: Option<u32>) -> bool
     ensures { result ≡ has_no_usable_digest limit (digest1_of header.now) }
@@ -116,7 +116,7 @@ fn reason(header: &Header1, limit: Option<u32>, slot: &KeySlot) -> Option<SkipRe
     }
 }
 
-// A slot of this state is not in use.
+// Whether a slot of this state is not in use.
 fn disabled(state: SlotState) -> bool
     ensures { result ≡ is_disabled state }
 {
@@ -195,7 +195,7 @@ pub fn digest(alloc: Global, header: &Header1) -> Result<Option<KeyDigest>, Allo
     Ok(KeyDigest::from_parts(parts))
 }
 
-// The payload starts inside an attached header.
+// Whether the payload starts inside an attached header.
 #[tactic(auto, unfolding(crate::specs::Segment1::overlaps_header1))]
 fn overlaps_header1(header: &Header1) -> bool
     ensures { result ≡ overlaps_header1 header.now }

@@ -1,4 +1,4 @@
--- Where the parts of a sealed volume of LUKS1 stand in its image.
+-- Where the parts of a sealed volume of LUKS1 are stored in its image.
 use Rattle.std.proofs.Common.{◌≡◌, ◌∙◌, ℕ, ◌+◌, ◌-◌, ◌*◌, ◌/◌, ◌<◌, ◌≤◌, ◌++◌, length, Some, sym, ap, arith}
 use Rattle.std.proofs.Common.{length-append}
 use Rattle.std.proofs.lemmas.List.{take_all}
@@ -19,7 +19,7 @@ use Rattle.luks1_seal.proofs.Layout1Lemmas.{length-payload1}
 use Rattle.luks1_seal.proofs.Read1.{front1_of}
 
 module _ (p : Seal1) (fits : AreParameters p) (typed : AreTyped1 p) where
-  -- what stands before the payload
+  -- bytes before the end of the areas are bytes of the header and the areas
   before_payload : (place len : ℕ) → place + len ≤ length (header1_bytes p ++ areas1_below p 8)
       → at place len (image1_of p) ≡ at place len (header1_bytes p ++ areas1_below p 8)
   unfolding image1_of
@@ -39,7 +39,7 @@ module _ (p : Seal1) (fits : AreParameters p) (typed : AreTyped1 p) where
         length-areas1 p fits typed 8,
       )
 
-  -- the header
+  -- the header is at the start of the image
   pub image_header : (place len : ℕ) → place + len ≤ 592 → at place len (image1_of p) ≡ at place len (front1_of p)
   unfolding header1_bytes
   image_header place len inside =
@@ -47,14 +47,14 @@ module _ (p : Seal1) (fits : AreParameters p) (typed : AreTyped1 p) where
       ∙ at_first place len (header1_bytes p) (areas1_below p 8) (omega (arith, length-header1 p fits typed))
       ∙ at_padded place len 4096 (front1_of p) (omega (arith, length-front1 p fits typed))
 
-  -- the areas
+  -- the areas start at byte 4096
   image_areas : (place k len : ℕ) → place ≡ 4096 + k → k + len ≤ 8 * (area_sectors_of p * 512)
       → at place len (image1_of p) ≡ at k len (areas1_below p 8)
   image_areas place k len is inside =
       before_payload place len (omega (arith, length-areas))
       ∙ at_behind place k len (header1_bytes p) (areas1_below p 8) (omega (arith, length-header1 p fits typed))
 
-  -- the payload
+  -- the payload starts at its sector
   pub image_payload : (place : ℕ) → place ≡ p.payload_sectors * 512
       → at place (length p.plain.now) (image1_of p) ≡ payload1_bytes p
   unfolding image1_of
@@ -64,7 +64,7 @@ module _ (p : Seal1) (fits : AreParameters p) (typed : AreTyped1 p) where
 
   -- ---- the area of a slot
 
-  -- an area ends within all of them
+  -- each area ends within the eight areas
   area_within : (number : ℕ) → number < 8
       → number * (area_sectors_of p * 512) + area_sectors_of p * 512 ≤ 8 * (area_sectors_of p * 512)
   area_within number low =
@@ -80,7 +80,7 @@ module _ (p : Seal1) (fits : AreParameters p) (typed : AreTyped1 p) where
 
   module _ (number : ℕ) (slot : Slot1) (found : slot1_numbered number p.slots.now ≡ Some slot) (low : number < 8)
       (of_slot : FitsSlot ((p.stripes - 1) * length p.key.now) slot) where
-    -- it begins with the key material
+    -- an area begins with the slot's key material
     area_begins : at 0 ((length p.key.now * p.stripes + 511) / 512 * 512) (area1_of p number) ≡ material1_of p slot
     unfolding area1_of
     area_begins =

@@ -123,7 +123,7 @@ module _ (p : Seal1) (fits : AreParameters p) (typed : AreTyped1 p) where
   length-key_slots1 n =
       ap length (key_slots_joined n) ∙ pieces_length (key_slot1_of p) 48 n (λ j low. length-key_slot1 j)
 
-  -- the header with all its key slots
+  -- the header with all its key slots has 592 bytes
   pub length-front1 : length (fields1_of p ++ key_slots1_below p 8) ≡ 592
   length-front1 =
       omega (arith, length-append (fields1_of p) (key_slots1_below p 8), length-fields1, length-key_slots1 8)
@@ -134,7 +134,7 @@ module _ (p : Seal1) (fits : AreParameters p) (typed : AreTyped1 p) where
 
   -- ---- the areas
 
-  -- each slot draws as many random bytes as it should
+  -- each slot has as many random bytes as its stripes need
   pub drawn1 : (slot : Slot1) → FitsSlot ((p.stripes - 1) * length p.key.now) slot
       → AreDrawn p.key.now p.stripes slot.random.now
   drawn1 slot of_slot = record {
@@ -185,7 +185,7 @@ module _ (p : Seal1) (fits : AreParameters p) (typed : AreTyped1 p) where
       let room = fits.counts.3 in
       omega (arith, length-append (header1_bytes p) (areas1_below p 8), length-header1, length-areas1 8)
 
-  -- so the payload begins where it should
+  -- the part before the payload, padded with zeros, ends at the payload's sector
   pub length-before_payload : length (padded (p.payload_sectors * 512) (header1_bytes p ++ areas1_below p 8))
       ≡ p.payload_sectors * 512
   length-before_payload = length-padded (p.payload_sectors * 512) (header1_bytes p ++ areas1_below p 8) areas_fit

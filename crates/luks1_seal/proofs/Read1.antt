@@ -35,7 +35,7 @@ use Rattle.luks1_seal.proofs.Layout1Lemmas.{length-start1}
 
 -- ---- numbers and texts of fields
 
--- four bytes write a number
+-- a number written as four bytes is read back
 number_read : (field : List ℕ) (n : ℕ) → n < 2 ^ 32 → field ≡ to_be_bytes w32 n → be32 field ≡ n
 unfolding be32
 number_read field n small is = ap be32 is ∙ from_be_bytes-to_be_bytes_4 n small
@@ -61,7 +61,7 @@ hash_read Sha512 = refl
 
 -- ---- a key slot
 
--- what is read of a key slot in use
+-- a key slot that is read has the values of a slot in use
 pub record IsKeySlot (slot : Slot1) (place count : ℕ) (read : KeySlot) : Type 0 where
   pub state : read.state ≡ Enabled
   pub iterations : read.iterations ≡ slot.iterations
@@ -95,7 +95,7 @@ key_slot_read slot place count salt turns low few =
           (at_second 44 4 (state ++ starts) last (sym all) refl);
     }
 
--- the key slots of a header by their numbers
+-- each key slot of a header is read from its own 48 bytes
 key_slots_read : (bytes : List ℕ) (number : ℕ) → number < 8
     → slice_get (key_slots_of bytes) number ≡ Some (key_slot_of (at (208 + 48 * number) 48 bytes))
 unfolding key_slots_of
@@ -111,7 +111,7 @@ key_slots_read bytes (suc (suc (suc (suc (suc (suc (suc (suc n)))))))) low = abs
 
 -- ---- the header
 
--- the header of these parameters, as it is read
+-- a header that is read has the values of these parameters
 pub record IsRead1 (p : Seal1) (header : Header1) : Type 0 where
   pub cipher_name : header.cipher_name ≡ codes "aes"
   pub cipher_mode : header.cipher_mode ≡ mode_name p.mode
@@ -130,7 +130,7 @@ abbrev pub front1_of : Seal1 → List ℕ
 front1_of p = fields1_of p ++ key_slots1_below p 8
 
 module _ (p : Seal1) (fits : AreParameters p) (typed : AreTyped1 p) where
-  -- what stands before the key slots
+  -- bytes before the key slots are bytes of the fields
   in_fields : (place len : ℕ) → place + len ≤ 208 → at place len (front1_of p) ≡ at place len (fields1_of p)
   in_fields place len inside =
       at_first place len (fields1_of p) (key_slots1_below p 8) (omega (arith, length-fields1 p fits typed))
@@ -181,7 +181,7 @@ module _ (p : Seal1) (fits : AreParameters p) (typed : AreTyped1 p) where
       ∙ ap (at (number * 48) 48) (key_slots_joined p fits typed 8)
       ∙ piece_at (key_slot1_of p) 48 8 number (λ j below. length-key_slot1 p fits typed j) low
 
-  -- ---- its fields
+  -- ---- the fields of the header
 
   cipher_name_is : text_of (at 8 32 (front1_of p)) ≡ codes "aes"
   unfolding start1_of
@@ -268,7 +268,7 @@ module _ (p : Seal1) (fits : AreParameters p) (typed : AreTyped1 p) where
       ∙ at_second 52 4 (digest ++ p.digest_salt) turns
       (omega (arith, length-append digest p.digest_salt, long, typed.salt)) refl)
 
-  -- the header that is read of the 592 bytes is that of the parameters
+  -- the header that is read from the 592 bytes has the values of the parameters
   pub header1_is : IsRead1 p (read_header1 (front1_of p))
   unfolding read_header1
   header1_is = record {
@@ -285,7 +285,7 @@ module _ (p : Seal1) (fits : AreParameters p) (typed : AreTyped1 p) where
     attached = refl;
   }
 
-  -- and a key slot of it that of the slot of its number
+  -- a key slot that is read from it has the values of the slot with its number
   pub key_slot1_is : (number : ℕ) (slot : Slot1) → slot1_numbered number p.slots.now ≡ Some slot
       → length slot.salt ≡ 32 → slot.iterations < 2 ^ 32 → number < 8
       → IsKeySlot slot (8 + number * area_sectors_of p) p.stripes (key_slot_of (key_slot1_of p number))

@@ -72,7 +72,7 @@ module _ (p : Seal1) (fits : AreParameters p) (typed : AreTyped1 p) where
         (key_slot_of (key_slot1_of p slot.number))
     stored_is = key_slot1_is p fits typed slot.number slot found of_types.salt of_types.iterations low
 
-    -- what is read of it gives the key
+    -- a key slot that is read back gives the key
     gives1 : (header : Header1) (stored : KeySlot) → IsRead1 p header
         → IsKeySlot slot (8 + slot.number * area_sectors_of p) p.stripes stored
         → GivesKey (slot_parts1_of header stored) slot.passphrase.now p.key.now (image1_of p)

@@ -12,7 +12,7 @@ use Rattle.luks1_seal.specs.Ranges1.{AreDistinct}
 all_rest : (P : Slot1 → Type 0) (slot : Slot1) (slots : List Slot1) → All P (slot ∷ slots) → All P slots
 all_rest P slot slots all = λ k d below. all (suc k) d (omega arith)
 
--- what is found by a number has that number, and what holds of each slot holds of it
+-- a slot that is found by a number has that number, and what holds for each slot holds for it
 pub found_slot : (P : Slot1 → Type 0) (number : ℕ) (slots : List Slot1) (slot : Slot1) → All P slots
     → slot1_numbered number slots ≡ Some slot → P slot × (slot.number ≡ number)
 found_slot P number [] slot all is = absurd (none-some slot is)

@@ -1,4 +1,4 @@
--- What becomes of the segment, the key slots and the digest of a sealed volume of LUKS1.
+-- The segment, the verdicts on the key slots and the digest of a sealed volume of LUKS1.
 use Rattle.std.proofs.Common.{◌≡◌, ◌∙◌, ℕ, ◌+◌, ◌*◌, ◌^◌, ◌<◌, ◌≤◌, true, false, length, Some, None, Ok, refl, ap}
 use Rattle.std.proofs.Common.{arith}
 use Rattle.std.proofs.Math.Nat.{mul-le-mul_right}
@@ -59,7 +59,7 @@ module _ (p : Seal1) (header : Header1) (fits : AreParameters p) (typed : AreTyp
 
   -- ---- the segment
 
-  -- the payload begins where it was put
+  -- the payload begins at the stated sector
   pub payload_starts : 512 * header.payload_offset ≡ p.payload_sectors * 512
   payload_starts = omega (arith, read.payload_offset)
 

@@ -35,7 +35,7 @@ digest1_fields p =
     derived_key p.hash p.key.now p.digest_salt p.digest_iterations 20 ++ p.digest_salt
     ++ to_be_bytes w32 p.digest_iterations
 
--- the header as far as the key slots, which ends with `uuid`
+-- the header up to the key slots, which ends with `uuid`
 unfoldable pub fields1_of : Seal1 → List ℕ
 fields1_of p = start1_of p ++ middle1_of p ++ digest1_fields p ++ padded 40 p.uuid.now
 

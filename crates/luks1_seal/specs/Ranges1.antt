@@ -1,4 +1,4 @@
--- What a volume of LUKS1 may be made from.
+-- The ranges of what a volume of LUKS1 is made from.
 use Rattle.std.specs.Prelude.{◌≡◌, ◌≢◌, ℕ, ◌+◌, ◌-◌, ◌*◌, ◌/◌, ◌%◌, ◌≤◌, List, [], ◌∷◌, All, length}
 use Rattle.luks_seal.specs.Ranges.{FitsKey, FitsText, max_plain_len}
 use Rattle.luks_seal.specs.declared.parameters.Seal1.{Seal1}
@@ -8,20 +8,20 @@ use Rattle.luks_seal.specs.declared.parameters.Slot1.{Slot1}
 abbrev pub area_sectors : ℕ → ℕ → ℕ
 area_sectors key stripes = (key * stripes + 4095) / 4096 * 8
 
--- the counts are in their ranges, and the payload begins behind the areas of eight slots
+-- the counts are in their ranges, and the payload begins after the areas of eight slots
 abbrev pub FitsCounts : Seal1 → Type 0
 FitsCounts p = (1 ≤ p.stripes) × (p.stripes ≤ 4000) × (1 ≤ p.digest_iterations)
     × (8 + 8 * area_sectors (length p.key.now) p.stripes ≤ p.payload_sectors) × (p.payload_sectors ≤ 65536)
 
--- whole sectors, and not too many
+-- a plain text of this length is whole sectors of 512 bytes, and is not too long
 abbrev pub FitsPlain : ℕ → Type 0
 FitsPlain len = (len % 512 ≡ 0) × (len ≤ max_plain_len)
 
--- one slot of a volume with so many random bytes for each
+-- one slot of a volume whose slots have this many random bytes each
 abbrev pub FitsSlot : ℕ → Slot1 → Type 0
 FitsSlot random slot = (slot.number ≤ 7) × (1 ≤ slot.iterations) × (length slot.random.now ≡ random)
 
--- no slot has the number of one before it
+-- no two slots have the same number
 abbrev pub AreDistinct : List Slot1 → Type 0
 AreDistinct [] = Unit {0}
 AreDistinct (slot ∷ slots) = All (λ other. other.number ≢ slot.number) slots × AreDistinct slots

@@ -12,10 +12,10 @@ use luks_seal::parameters::{Seal1, Slot1};
 use luks_seal::pieces::{derived_key, padded, push_padded};
 use std::alloc::{AllocError, Global};
 
-/// A key slot that is in use.
+/// The state of a key slot that is in use.
 const ENABLED: u32 = 0x00ac_71f3;
 
-/// A key slot that is not.
+/// The state of a key slot that is not in use.
 const DISABLED: u32 = 0x0000_dead;
 
 /// The slot of this number, if it is in use.
@@ -73,7 +73,7 @@ fn push_digest(alloc: Global, header: &mut Vec<u8>, seal: &Seal1<'_>) -> Result<
     header.extend_from_slice(&seal.digest_iterations.to_be_bytes())
 }
 
-/// Adds the header as far as the key slots.
+/// Adds the header up to the key slots.
 #[tactic(auto, unfolding(crate::specs::Layout1::fields1_of))]
 fn push_fields(alloc: Global, header: &mut Vec<u8>, seal: &Seal1<'_>) -> Result<(), AllocError>
     requires { AreParameters seal.now }
@@ -85,7 +85,7 @@ fn push_fields(alloc: Global, header: &mut Vec<u8>, seal: &Seal1<'_>) -> Result<
     push_padded(alloc, header, seal.uuid, 40)
 }
 
-/// Adds what a key slot in use begins with.
+/// Adds the start of a key slot in use: its state, iterations and salt.
 #[tactic(auto, unfolding(crate::specs::Layout1::state1_of))]
 fn push_enabled(header: &mut Vec<u8>, slot: &Slot1<'_>) -> Result<(), AllocError>
     ensures { OnOk result (header.new.items ≡ header.old.items ++ state1_of (Some slot.now)) }
@@ -95,7 +95,7 @@ fn push_enabled(header: &mut Vec<u8>, slot: &Slot1<'_>) -> Result<(), AllocError
     header.extend_from_slice(&slot.salt)
 }
 
-/// Adds what a key slot that is not in use begins with.
+/// Adds the start of a key slot that is not in use: its state and zeros.
 #[tactic(auto, unfolding(crate::specs::Layout1::state1_of))]
 fn push_disabled(alloc: Global, header: &mut Vec<u8>) -> Result<(), AllocError>
     ensures { OnOk result (header.new.items ≡ header.old.items ++ state1_of None) }

@@ -1,5 +1,5 @@
-//! Volumes of LUKS1 made from values that are all passed in, for tests and for what is proved about
-//! honest volumes: [`seal1`].
+//! Volumes of LUKS1 made from values that are all passed in, for tests and for proofs about honest
+//! volumes: [`seal1`].
 #![tactic(auto)]
 
 pub use luks1::seal1;

@@ -17,7 +17,7 @@ pub(super) fn area_of(key: usize, stripes: u32) -> u32
     (key as u32 * stripes + 4095) / 4096 * 8
 }
 
-/// The counts are in their ranges, and the payload begins behind the areas of eight slots.
+/// The counts are in their ranges, and the payload begins after the areas of eight slots.
 pub(super) fn fits_counts(seal: &Seal1<'_>) -> bool
     requires { length seal.now.key.now ≤ 64 }
     ensures { IsTrue result ↔ FitsCounts seal.now }
@@ -29,14 +29,14 @@ pub(super) fn fits_counts(seal: &Seal1<'_>) -> bool
     seal.digest_iterations >= 1 && start <= seal.payload_sectors && seal.payload_sectors <= 65536
 }
 
-/// Whole sectors, and not too many.
+/// A plain text of this length is whole sectors of 512 bytes, and is not too long.
 pub(super) fn fits_plain(len: usize) -> bool
     ensures { IsTrue result ↔ FitsPlain len }
 {
     len % 512 == 0 && len <= 8_388_608
 }
 
-/// One slot of a volume with so many random bytes for each.
+/// One slot of a volume whose slots have this many random bytes each.
 pub(super) fn fits_slot(random: usize, slot: &Slot1<'_>) -> bool
     ensures { IsTrue result ↔ FitsSlot random slot.now }
 {
@@ -57,7 +57,7 @@ fn is_free(number: u32, slots: &[Slot1<'_>]) -> bool
     slots.iter().all(|slot| slot.number != number)
 }
 
-/// No slot has the number of one before it.
+/// No two slots have the same number.
 fn are_distinct(slots: &[Slot1<'_>]) -> bool
     ensures { IsTrue result ↔ AreDistinct slots.now }
 {

@@ -1,5 +1,5 @@
-//! What the types of the parameters of LUKS1 say of their values: nothing is done here, the clauses
-//! are for proofs.
+//! What the types of the parameters of LUKS1 guarantee for their values: nothing is done here, the
+//! clauses are for proofs.
 
 ghost use Rattle.luks1_seal.specs.Typed1.{AreTyped1, IsTypedSlot1};
 ghost use Rattle.std.specs.Prelude.{All};
@@ -7,7 +7,7 @@ ghost use Rattle.std.specs.Prelude.{All};
 use luks_seal::parameters::{Seal1, Slot1};
 use luks_seal::typed::bytes;
 
-/// What a key slot of LUKS1 has.
+/// What the types guarantee for a key slot of LUKS1.
 fn slot1(slot: &Slot1<'_>)
     ensures { IsTypedSlot1 slot.now }
 {
@@ -16,7 +16,7 @@ fn slot1(slot: &Slot1<'_>)
     bytes(slot.random);
 }
 
-/// What each of these key slots has.
+/// What the types guarantee for each of these key slots.
 fn slots1(slots: &[Slot1<'_>])
     ensures { All IsTypedSlot1 slots.now }
 {
@@ -25,7 +25,7 @@ fn slots1(slots: &[Slot1<'_>])
     }
 }
 
-/// What the parameters of a volume of LUKS1 have.
+/// What the types guarantee for the parameters of a volume of LUKS1.
 pub(crate) fn typed1(seal: &Seal1<'_>)
     ensures { AreTyped1 seal.now }
 {

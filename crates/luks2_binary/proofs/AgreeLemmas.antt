@@ -1,4 +1,4 @@
--- The front of an image says of its headers what the image says.
+-- The loaded start of an image has the same headers as the image, as far as it is loaded.
 use Rattle.std.proofs.Common.{◌≡◌, ◌∙◌, ℕ, ◌+◌, ◌-◌, ◌<◌, ◌≤◌, List, Some, None, Bool, true, false, ap, sym, refl, take}
 use Rattle.std.proofs.Common.{drop, length, max, arith}
 use Rattle.std.specs.Prelude.{if◌then◌else◌, not, IsTrue, ◌↔◌}
@@ -14,7 +14,7 @@ use Rattle.luks2_binary.proofs.FrontLemmas.{short_from_not}
 use Rattle.luks2_binary.proofs.ValidLemmas.{unfit-is_valid}
 
 module _ (held : List ℕ) (ended : Bool) (image : List ℕ) (front : IsPrefixOf held ended image) where
-  -- bytes that are held are the image's
+  -- loaded bytes are the image's
   pub at-front : (place n : ℕ) → place + n ≤ length held → at place n held ≡ at place n image
   at-front place n within =
       let split : length held ≡ place + (length held - place) = omega arith in
@@ -23,7 +23,7 @@ module _ (held : List ℕ) (ended : Bool) (image : List ℕ) (front : IsPrefixOf
       ∙ ap (take n) (drop-take place (length held - place) image)
       ∙ take-take n (length held - place) (drop place image) (omega arith)
 
-  -- a header fits what is held where it fits the image
+  -- if a binary header's length is loaded, a header fits the loaded bytes if and only if it fits the image
   pub fits-front : (place : ℕ) → place + 4096 ≤ length held → fits held place ≡ fits image place
   unfolding fits
   fits-front place within =
@@ -33,7 +33,7 @@ module _ (held : List ℕ) (ended : Bool) (image : List ℕ) (front : IsPrefixOf
         at-front place 4096 within,
       ) refl
 
-  -- one that is held whole is valid where it is so in the image
+  -- a header that fits and is loaded whole is valid in the loaded bytes if and only if it is valid in the image
   valid-whole : (place : ℕ) → place + 4096 ≤ length held → fits image place ≡ true
       → place + size_at image place ≤ length held → is_valid held place ≡ is_valid image place
   unfolding is_valid
@@ -54,39 +54,39 @@ module _ (held : List ℕ) (ended : Bool) (image : List ℕ) (front : IsPrefixOf
   valid-by place false is within whole =
       unfit-is_valid held place (fits-front place within ∙ is) ∙ sym (unfit-is_valid image place is)
 
-  -- a header is valid in what is held where it is so in the image
+  -- a header that is loaded whole, or does not fit, is valid in the loaded bytes if and only if it is in the image
   pub valid-front : (place : ℕ) → place + 4096 ≤ length held
       → (fits image place ≡ true → place + size_at image place ≤ length held)
       → is_valid held place ≡ is_valid image place
   valid-front place = valid-by place (fits image place) refl
 
--- where an image ends before its header does, that is not valid
+-- a header is not valid if the image ends before it does
 pub short-valid : (image : List ℕ) (place : ℕ) → fits image place ≡ true
     → length image < place + size_at image place → is_valid image place ≡ false
 unfolding is_valid
 short-valid image place fit short = rw (fit, lt-leb (place + size_at image place) (length image) short) refl
 
--- what is not valid has no length
+-- a header that is not valid has no length
 pub no_size : (image : List ℕ) (place : ℕ) → is_valid image place ≡ false → None ≡ valid_size image place
 no_size image place is = rw is refl
 
--- a place is looked at by a binary header's length at least
+-- at least a binary header's length is read to check an offset
 pub reach_least : (image : List ℕ) (place : ℕ) → place + 4096 ≤ probe_end image place
 unfolding probe_end
 reach_least image place = omega arith
 
--- and by no more where none fits
+-- no more is read to check an offset if no header fits
 pub reach_unfit : (image : List ℕ) (place : ℕ) → fits image place ≡ false → probe_end image place ≡ place + 4096
 unfolding probe_end
 reach_unfit image place is = rw is (omega arith)
 
--- and by the header's whole length where one fits
+-- the whole header is read to check an offset if one fits
 pub reach_fit : (image : List ℕ) (place : ℕ) → fits image place ≡ true
     → probe_end image place ≡ max (place + 4096) (place + size_at image place)
 unfolding probe_end
 reach_fit image place is = rw is refl
 
--- where less is there than was asked for, the image is held whole
+-- if fewer bytes are loaded than were requested, the image is loaded whole
 pub whole_image : (held : List ℕ) (ended : Bool) (image : List ℕ) (whole : Bool) (end : ℕ) → IsPrefixOf held ended image
     → (IsTrue whole ↔ (end ≤ length held)) → (ended ≡ false → end ≤ length held) → whole ≡ false
     → (image ≡ held) × (length held < end)
@@ -95,12 +95,12 @@ whole_image held true image whole end front iff complete is =
 whole_image held false image whole end front iff complete is =
     (let short = short_from_not whole end (length held) iff (ap not is) in absurd (omega (arith, complete refl)))
 
--- a test that answered None has failed
+-- a test whose answer is `None` does not hold
 pub none_fails : (b : Bool) (n : ℕ) → None ≡ (if b then Some n else None) → b ≡ false
 none_fails true n is = absurd (cc)
 none_fails false n is = refl
 
--- one that answered a number has not, and that is the number
+-- a test whose answer is a number holds, and that is the number
 pub some_holds : (b : Bool) (size n : ℕ) → Some size ≡ (if b then Some n else None) → (b ≡ true) × (size ≡ n)
 some_holds true size n is = (refl, cc)
 some_holds false size n is = absurd (cc)
@@ -110,11 +110,11 @@ module _ (held : List ℕ) (ended : Bool) (image bytes : List ℕ) (place : ℕ)
   fits-bytes : fits bytes place ≡ fits image place
   fits-bytes = ap (λ l. fits l place) is ∙ fits-front held ended image front place there
 
-  -- no header fits, as far as what is held says
+  -- if no header fits the loaded bytes, none fits the image
   pub unfit_here : None ≡ (if fits bytes place then Some (size_at bytes place) else None) → fits image place ≡ false
   unfit_here none = sym fits-bytes ∙ none_fails (fits bytes place) (size_at bytes place) none
 
-  -- a header fits, and this is its length
+  -- if a header of this length fits the loaded bytes, it fits the image
   pub fit_here : (size : ℕ) → Some size ≡ (if fits bytes place then Some (size_at bytes place) else None)
       → (fits image place ≡ true) × (size ≡ size_at image place)
   fit_here size some =
@@ -127,7 +127,7 @@ then_some_is : (b : Bool) (n : ℕ) → then_some b n ≡ (if b then Some n else
 then_some_is true n = refl
 then_some_is false n = refl
 
--- a header that fits and is held whole
+-- for a header that is loaded whole, the loaded bytes give the same length as the image, or none if it is not valid
 pub valid_here : (held : List ℕ) (ended : Bool) (image bytes : List ℕ) (place size : ℕ) → IsPrefixOf held ended image
     → bytes ≡ held → place + 4096 ≤ length held → size ≡ size_at image place → place + size ≤ length held
     → then_some (is_valid bytes place) size ≡ valid_size image place

@@ -14,7 +14,7 @@ use Rattle.luks2_binary.proofs.FrontLemmas.{end_hit_joined}
 use Rattle.luks2_binary.proofs.ValidLemmas.{fits_parts, size_is_place, valid_parts, valid_range}
 
 module _ (image : List ℕ) where
-  -- an image with a valid primary header
+  -- the choice for an image with a valid primary header
   pub chosen_primary : is_valid image 0 ≡ true → chosen2_of image ≡ with_valid_primary image
   unfolding chosen2_of
   chosen_primary is = rw is refl
@@ -23,7 +23,7 @@ module _ (image : List ℕ) where
   unfolding reach2_of
   reach_primary is = rw is refl
 
-  -- and one without
+  -- the choice for an image without a valid primary header
   pub chosen_other : is_valid image 0 ≡ false
       → chosen2_of image ≡ option_and_then (found_at image) (least_valid image)
   unfolding chosen2_of
@@ -43,7 +43,7 @@ module _ (image : List ℕ) where
         omega (arith, reach_fit image 0 fit.0, reach_primary e, range.1)
     by false e = omega (arith, reach_other e)
 
-  -- an image is read by a binary header's length at least
+  -- at least a binary header's length is read of an image
   pub reach_some : 4096 ≤ reach2_of image
   reach_some = omega (arith, reach_first, reach_least image 0)
 
@@ -67,7 +67,7 @@ module _ (held : List ℕ) (ended : Bool) (image : List ℕ) (front : IsPrefixOf
         at-front held ended image front size 4096 long,
       ) refl
 
-  -- what is held of the two headers says which is chosen
+  -- the loaded bytes of the two headers decide which one is chosen
   pub beside_same : (ended ≡ false → 2 * size_at image 0 ≤ length held)
       → with_valid_primary held ≡ with_valid_primary image
   beside_same whole = by ended refl where
@@ -75,16 +75,16 @@ module _ (held : List ℕ) (ended : Bool) (image : List ℕ) (front : IsPrefixOf
     by true e = ap with_valid_primary (sym (front.ends e))
     by false e = beside_whole (whole e)
 
--- a valid header's length that was answered
+-- if a length was answered, it is that of a valid header
 pub size_valid : (image : List ℕ) (place size : ℕ) → Some size ≡ valid_size image place
     → (is_valid image place ≡ true) × (size ≡ size_at image place)
 size_valid image place size is = some_holds (is_valid image place) size (size_at image place) is
 
--- none was
+-- if no length was answered, no valid header is there
 pub no_size_valid : (image : List ℕ) (place : ℕ) → None ≡ valid_size image place → is_valid image place ≡ false
 no_size_valid image place is = none_fails (is_valid image place) (size_at image place) is
 
--- what is held once a valid primary header was seen
+-- the bytes that are loaded after a valid primary header was found
 pub primary_within : (image old first both : List ℕ) (size : ℕ) → Some size ≡ valid_size image 0
     → length first ≤ max (length old) (probe_end image 0) → length both ≤ max (length first) (2 * size)
     → length both ≤ max (length old) (reach2_of image)
@@ -92,7 +92,7 @@ primary_within image old first both size is near far =
     let valid = size_valid image 0 size is in
     omega (arith, near, far, reach_first image, reach_primary image valid.0, valid.1)
 
--- what the search answers is what is chosen where the primary header is not valid
+-- if the primary header is not valid, the header that the search finds is the chosen one
 pub found_chosen : (held : List ℕ) (ended : Bool) (found : Result (Option Header2) HeaderFault)
     → OfEach held ended (λ image. is_valid image 0 ≡ false)
     → IfOk found (λ header. OfEach held ended (λ image. header ≡ option_and_then (found_at image) (least_valid image)))
@@ -101,7 +101,7 @@ found_chosen held ended (Ok header) none is = λ image front.
     is image front ∙ sym (chosen_other image (none image front))
 found_chosen held ended (Err fault) none is = tt
 
--- and so far is read for it
+-- if the primary header is not valid, all bytes that are to be read are loaded after the search
 pub found_complete : (held' : List ℕ) (ended' : Bool) (found : Result (Option Header2) HeaderFault)
     → OfEach held' ended' (λ image. is_valid image 0 ≡ false)
     → OfEach held' ended' (λ image. ended' ≡ false → probe_end image 0 ≤ length held')
@@ -111,7 +111,7 @@ found_complete held' ended' (Ok header) none first reaches = λ image front goes
     omega (arith, reach_other image (none image front), first image front goes, reaches image front goes)
 found_complete held' ended' (Err fault) none first reaches = tt
 
--- and less is held where memory was refused
+-- if the primary header is not valid and memory ran out, fewer bytes are loaded than are to be read
 pub found_stopped_below : (held' : List ℕ) (ended' : Bool) (found : Result (Option Header2) HeaderFault)
     → OfEach held' ended' (λ image. is_valid image 0 ≡ false)
     → IfErr found (λ fault. fault ≡ Memory → StaysBelow held' ended' search_reach)
@@ -120,7 +120,7 @@ found_stopped_below held' ended' (Ok header) none stopped_below = tt
 found_stopped_below held' ended' (Err fault) none stopped_below = λ stops image front.
     omega (arith, stopped_below stops image front, reach_other image (none image front))
 
--- and less is held where the end was found
+-- if the primary header is not valid and the end was hit, fewer bytes are loaded than were to be read
 pub found_end_hit : (held held' : List ℕ) (e e1 e2 : Bool) (found : Result (Option Header2) HeaderFault)
     → ((image : List ℕ) → IsPrefixOf held' e2 image → IsPrefixOf held e1 image)
     → OfEach held' e2 (λ image. is_valid image 0 ≡ false)

@@ -1,4 +1,4 @@
--- What is held of an image, call after call.
+-- The loaded bytes of an image, call after call.
 use Rattle.std.proofs.Common.{◌≡◌, ◌∙◌, ℕ, ◌+◌, ◌-◌, ◌<◌, ◌≤◌, List, ◌++◌, Option, Some, Bool, true, false, ap, sym}
 use Rattle.std.proofs.Common.{refl, take, drop, length, length-take-le, length-append, length-drop, take_all, min, inl}
 use Rattle.std.proofs.Common.{inr, arith}
@@ -19,12 +19,12 @@ use Rattle.luks2_binary.specs.Front2.{Extended, HoldsFront, IsPrefixOf}
 pub longer_than : (old new : List ℕ) → take (length old) new ≡ old → length old ≤ length new
 longer_than old new kept = omega (arith, ap length kept, length-take (length old) new)
 
--- what could not grow is shorter than it was to be
+-- a list that had fewer than `end` bytes and did not grow still has fewer
 pub not_grown : (old new : List ℕ) (end : ℕ) → new ≡ old → (end ≤ length old → ⊥) → length new < end
 not_grown old new end same some =
     elim (cases_lt (length old) end) [ inl few ↦ omega (arith, few, ap length same) | inr all ↦ absurd (some all) ]
 
--- a front of a front is a front
+-- a prefix of an image's prefix is a prefix of the image
 front_of : (old new image : List ℕ) (ended' : Bool) → take (length old) new ≡ old → IsPrefixOf new ended' image
     → IsPrefixOf old false image
 front_of old new image ended' kept front = record {
@@ -34,7 +34,7 @@ front_of old new image ended' kept front = record {
   ends = λ wrong. absurd (cc);
 }
 
--- the bytes that were taken went behind those that were held
+-- the consumed bytes were appended to the loaded ones
 holds_more : (image old new known : List ℕ) (ended' : Bool) (left left' : Option (List ℕ)) (count : ℕ)
     → HoldsFront image old false left → left ≡ Some known → ConsumedOnto old new known left' count
     → (ended' ≡ true → length known ≤ count) → HoldsFront image new ended' left'
@@ -63,7 +63,7 @@ holds_more image old new known ended' left left' count holds is took all =
           ∙ ap (λ n. Some (drop n image)) (sym len);
     }
 
--- a source gave some of the bytes that it knew, and all of them where its end was found
+-- a source gave some of the bytes that it knew, and all of them if its end was hit
 pub grew_by : (old new : List ℕ) (ended' : Bool) (left left' : Option (List ℕ)) (failed' : Bool)
     (counts counts' : ReadCounts) → take (length old) new ≡ old
     → ((known : List ℕ) → left ≡ Some known
@@ -80,7 +80,7 @@ grew_by old new ended' left left' failed' counts counts' kept gave reads = recor
   rests = λ wrong. absurd (cc);
 }
 
--- where nothing is done nothing changes
+-- without a call nothing changes
 pub grew_none : (held : List ℕ) (ended : Bool) (left : Option (List ℕ)) (counts : ReadCounts)
     → Extended held held ended ended left left false counts counts
 grew_none held ended left counts = record {
@@ -95,19 +95,19 @@ grew_none held ended left counts = record {
   by true = no_reads counts
   by false = no_reads counts
 
--- an area remembers whether the image's end was hit
+-- an area records whether the image's end was hit
 pub ended_is : (r : Result Bool HeaderFault) (whole old new : Bool) → r ≡ Ok whole → old ≡ false
     → new ≡ cond (is_truncated r) true old → new ≡ not whole
 ended_is r true old new is goes e = rw (is, goes) at e
 ended_is r false old new is goes e = rw is at e
 
--- not whole is short
+-- if not all bytes up to `end` are loaded, fewer than `end` are
 pub short_from_not : (whole : Bool) (end len : ℕ) → (IsTrue whole ↔ (end ≤ len)) → not whole ≡ true → len < end
 short_from_not true end len iff is = absurd (cc)
 short_from_not false end len iff is =
     elim (cases_lt len end) [ inl short ↦ short | inr all ↦ (let yes : false ≡ true = iff.1 all in absurd (cc)) ]
 
--- where not all is there that was asked for, the image was taken to its end
+-- if not all requested bytes are loaded, the image was consumed to its end
 pub ended_short : (old new known : List ℕ) (whole : Bool) (left' : Option (List ℕ)) (end : ℕ)
     → ConsumedOnto old new known left' (min (end - length old) (length known))
     → (IsTrue whole ↔ (end ≤ length new)) → not whole ≡ true → length known ≤ min (end - length old) (length known)
@@ -122,7 +122,7 @@ ended_short old new known whole left' end took iff short =
       length-take count known,
     )
 
--- what stops an area from taking bytes
+-- if consuming bytes onto an area was aborted, those consumed before were appended to it
 pub gave_broken : (most : ℕ) (old new known : List ℕ) (left' : Option (List ℕ)) (fault : HeaderFault)
     → AbortsConsuming most old new known left' fault
     → (count : ℕ) × ConsumedOnto old new known left' count × (false ≡ true → length known ≤ count)
@@ -132,7 +132,7 @@ gave_broken most old new known left' NotLuks h = absurd h
 gave_broken most old new known left' Cut h = absurd h
 gave_broken most old new known left' Json h = absurd h
 
--- reads of which none failed, and then further ones, unless the image's end was hit by then
+-- reads without a failure and further reads count as one run of reads, if none was made after the image's end
 reads_join : (failed' e e1 e2 : Bool) (n n1 n2 : ReadCounts) → (e ≡ true → e1 ≡ true) → (e1 ≡ true → e2 ≡ true)
     → Reads false (not e && e1) n n1 → (e1 ≡ true → n2 ≡ n1) → Reads failed' (not e1 && e2) n1 n2
     → Reads failed' (not e && e2) n n2
@@ -147,7 +147,7 @@ reads_join failed' false true true n n1 n2 s s1 first rests then = record {
 reads_join failed' false true false n n1 n2 s s1 first rests then = absurd (let wrong = s1 refl in cc)
 reads_join failed' false false e2 n n1 n2 s s1 first rests then = reads_more failed' e2 n n1 n2 first then
 
--- more came to be held, and then more again
+-- further bytes were loaded by two calls, one after the other
 pub grew_more : (a b c : List ℕ) (e e1 e2 : Bool) (l l1 l2 : Option (List ℕ)) (failed' : Bool) (n n1 n2 : ReadCounts)
     → Extended a b e e1 l l1 false n n1 → Extended b c e1 e2 l1 l2 failed' n1 n2
     → Extended a c e e2 l l2 failed' n n2
@@ -164,7 +164,7 @@ grew_more a b c e e1 e2 l l1 l2 failed' n n1 n2 first then = record {
       (after.0 ∙ before.0, after.1 ∙ before.1, after.2 ∙ before.2);
 }
 
--- what is held is its own front
+-- the loaded bytes are a prefix of themselves
 pub front_self : (held : List ℕ) (ended : Bool) → IsPrefixOf held ended held
 front_self held ended = record {
   begins = take_all (length held) held (omega arith);
@@ -172,12 +172,12 @@ front_self held ended = record {
   ends = λ _. refl;
 }
 
--- where the end is not found in the end it was not found before
+-- if the end was not hit after a call, it was not hit before it
 pub not_ended : (ended ended' : Bool) → (ended ≡ true → ended' ≡ true) → ended' ≡ false → ended ≡ false
 not_ended true ended' stays goes = absurd (let wrong = stays refl in cc)
 not_ended false ended' stays goes = refl
 
--- the end was found in one of two calls, so that less is held than is to be read
+-- if the end was hit in one of two calls, fewer bytes are loaded than were to be read
 pub end_hit_joined : (image held held' : List ℕ) (e e1 e2 : Bool) (near far most : ℕ) → IsPrefixOf held e1 image
     → IsPrefixOf held' e2 image → (e ≡ false → e1 ≡ true → length held < near)
     → (e1 ≡ false → e2 ≡ true → length held' < far) → near ≤ most → far ≤ most → e ≡ false → e2 ≡ true

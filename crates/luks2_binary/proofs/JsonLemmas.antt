@@ -1,4 +1,4 @@
--- The header that an image has stands, with its JSON area, within the bytes that were read to choose it.
+-- The header of an image is, with its JSON area, within the bytes that were read to choose it.
 use Rattle.std.proofs.Common.{◌≡◌, ◌∙◌, ℕ, ◌+◌, ◌-◌, ◌≤◌, List, [], ◌∷◌, Option, Some, None, Bool, true, false, ap, sym}
 use Rattle.std.proofs.Common.{refl, take, arith}
 use Rattle.std.specs.Prelude.{Ok, nat_lt, ok_or}
@@ -23,7 +23,7 @@ use Rattle.luks2_binary.proofs.SearchLemmas.{least_is, search_reach_is}
 use Rattle.luks2_binary.proofs.ValidLemmas.{fits_parts, size_is_place, valid_parts, valid_range}
 use Rattle.luks2_binary.proofs.WalkLemmas.{first_valid, furthest}
 
--- the first valid place is valid, and the places are looked at as far as it is
+-- the first valid offset is valid, and the search reads at least as far as it does for this offset
 first_is : (valid : ℕ → Bool) (reach : ℕ → ℕ) (places : List ℕ) (place : ℕ) → first_valid valid places ≡ Some place
     → (valid place ≡ true) × (reach place ≤ furthest valid reach places)
 unfolding first_valid furthest
@@ -37,7 +37,7 @@ first_is valid reach (here ∷ places) place is = by (valid here) refl (first_is
       (ap valid (sym same) ∙ e, omega (arith, ap reach same))
   by false e behind = (let rest = behind (rw e at is) in (rest.0, rw e (omega (arith, rest.1))))
 
--- what the fields of a header say of its place, its length and the payload's image
+-- a header that was made from bytes has this place, the length that they give, and is attached
 made_of : (place : Place) (finding : Option Finding) (binary : List ℕ) (header : Header2)
     → header2_from place finding binary ≡ Some header
     → (header.place ≡ place) × (header.size ≡ size_in binary) × (header.detached ≡ false)
@@ -48,7 +48,7 @@ made_of place finding binary header is = by (checksum_hash_in binary) refl where
   by (Some hash) e = (let made = rw e at is in (cc, cc, cc))
   by None e = absurd (let made = rw e at is in cc)
 
--- the header stands at this place of the image, where it is valid, and that is looked at as far as it goes
+-- a header is at this offset of the image, is valid there, is within the bytes that are to be read, and is attached
 record HasHeaderAt (image : List ℕ) (header : Header2) (place : ℕ) : Type 0 where
   pub valid : is_valid image place ≡ true
   pub here : header_offset header.place header.size ≡ place
@@ -56,12 +56,12 @@ record HasHeaderAt (image : List ℕ) (header : Header2) (place : ℕ) : Type 0 
   pub reached : place + header.size ≤ reach2_of image
   pub attached : header.detached ≡ false
 
--- the sequence number of the header at a place
+-- the sequence number of the header at an offset
 abbrev sequence_at : List ℕ → ℕ → ℕ
 sequence_at image place = sequence_in (binary_at image place)
 
 module _ (image : List ℕ) (header : Header2) where
-  -- a primary header
+  -- a primary header is at the image's start
   primary_stands : (finding : Option Finding) → is_valid image 0 ≡ true
       → header2_from Primary finding (binary_at image 0) ≡ Some header → HasHeaderAt image header 0
   primary_stands finding valid is =
@@ -74,7 +74,7 @@ module _ (image : List ℕ) (header : Header2) where
         attached = made.2;
       }
 
-  -- a secondary header, which is as long as its place says
+  -- a secondary header is at the offset that is its own length
   secondary_stands : (finding : Option Finding) (place : ℕ) → is_valid image place ≡ true → (place ≡ 0 → ⊥)
       → place + place ≤ reach2_of image
       → header2_from Secondary finding (binary_at image place) ≡ Some header → HasHeaderAt image header place
@@ -90,7 +90,7 @@ module _ (image : List ℕ) (header : Header2) where
         attached = made.2;
       }
 
-  -- the header of an image with a valid primary one
+  -- the header of an image with a valid primary one is at an offset of the image
   beside_stands : is_valid image 0 ≡ true → with_valid_primary image ≡ Some header
       → (place : ℕ) × HasHeaderAt image header place
   unfolding with_valid_primary
@@ -119,7 +119,7 @@ module _ (image : List ℕ) (header : Header2) where
     by false e = (0, primary_stands (Some SecondaryNotValid) valid (rw e at is))
     by true e = later e (nat_lt (sequence_at image 0) (sequence_at image (size_at image 0))) refl
 
-  -- the header that the search finds
+  -- the header that the search finds is at the offset where it was found
   found_stands : is_valid image 0 ≡ false → (place : ℕ) → least_valid image ≡ Some place
       → found_at image place ≡ Some header → HasHeaderAt image header place
   found_stands none place least is =
@@ -131,7 +131,7 @@ module _ (image : List ℕ) (header : Header2) where
       secondary_stands (Some PrimaryNotValid) place one.0 some
       (omega (arith, one.1, reach_fit image place fit.0, own, search_reach_is image, reach_other image none)) is
 
-  -- the header that is chosen
+  -- the header that is chosen is at an offset of the image
   chosen_stands : chosen2_of image ≡ Some header → (place : ℕ) × HasHeaderAt image header place
   chosen_stands is = by (is_valid image 0) refl where
     by : (b : Bool) → is_valid image 0 ≡ b → (place : ℕ) × HasHeaderAt image header place
@@ -140,7 +140,7 @@ module _ (image : List ℕ) (header : Header2) where
         option_and_then_some (found_at image) (least_valid image) header (sym (chosen_other image e) ∙ is)
         (λ place least made. (place, found_stands e place least made))
 
-  -- the header of an image
+  -- the header of an image is at an offset of it
   stands : header2_of image ≡ Ok header → (place : ℕ) × HasHeaderAt image header place
   unfolding header2_of
   stands is = by (chosen2_of image) refl where
@@ -157,11 +157,11 @@ size_range image header is =
     let range = valid_range image it.0 it.1.valid in
     (omega (arith, range.1, it.1.size), omega (arith, range.2, it.1.size))
 
--- it is read as one that stands in the payload's image
+-- a header is read as an attached one
 pub read_attached : (image : List ℕ) (header : Header2) → header2_of image ≡ Ok header → header.detached ≡ false
 read_attached image header is = (stands image header is).1.attached
 
--- and it ends with its JSON area within the bytes that were read to choose it
+-- a header ends, with its JSON area, within the bytes that were read to choose it
 pub json_within : (image : List ℕ) (header : Header2) → header2_of image ≡ Ok header
     → header_offset header.place header.size + binary_len + (header.size - binary_len) ≤ header2_read_len image
 unfolding header2_read_len
@@ -170,7 +170,7 @@ json_within image header is =
     let whole = valid_parts image it.0 it.1.valid in
     omega (arith, (size_range image header is).0, it.1.here, it.1.size, it.1.reached, whole.1)
 
--- so those bytes say the header's JSON text
+-- the bytes that were read to choose a header have its JSON text
 pub json_beginning : (image : List ℕ) (header : Header2) → header2_of image ≡ Ok header
     → json_text_of (take (header2_read_len image) image) header ≡ json_text_of image header
 unfolding json_text_of json_area_of

@@ -1,4 +1,4 @@
--- The search for a secondary header, place by place.
+-- The search for a secondary header, offset by offset.
 use Rattle.std.proofs.Common.{◌≡◌, ◌∙◌, ℕ, suc, ◌+◌, ◌<◌, ◌≤◌, List, ◌∷◌, Option, Some, None, Bool, true, false, ap}
 use Rattle.std.proofs.Common.{sym, refl, drop, get_or, length, max, add-one, arith}
 use Rattle.std.proofs.Math.Seq.{drop-cons}
@@ -19,18 +19,18 @@ use Rattle.luks2_binary.proofs.FrontLemmas.{end_hit_joined}
 use Rattle.luks2_binary.proofs.ValidLemmas.{valid_range}
 use Rattle.luks2_binary.proofs.WalkLemmas.{are_one, first_valid, furthest}
 
--- how far the places from number k on are looked at
+-- the end of the bytes that are read to check the offsets from number k on
 abbrev pub ahead : List ℕ → ℕ → ℕ
 ahead image k = furthest (is_valid image) (probe_end image) (drop k sizes)
 
--- none of the first k places has a valid header, and as much is held as they are looked at
+-- none of the first k offsets has a valid header, and the bytes that are read to check them are loaded
 pub record Searched (image old held : List ℕ) (ended : Bool) (k : ℕ) : Type 0 where
   pub place : first_valid (is_valid image) sizes ≡ first_valid (is_valid image) (drop k sizes)
   pub within : length held ≤ max (length old) (ahead image 0)
   pub complete : ended ≡ false → ahead image 0 ≤ max (length held) (ahead image k)
   pub behind : ahead image k ≤ ahead image 0
 
--- before the first place
+-- before the first offset
 pub searched_none : (image held : List ℕ) (ended : Bool) → Searched image held held ended 0
 searched_none image held ended = record {
   place = refl;
@@ -39,7 +39,7 @@ searched_none image held ended = record {
   behind = omega arith;
 }
 
--- the definitions say what the walk says
+-- the definition of the search and the walk give the same offset
 pub least_is : (image : List ℕ) → least_valid image ≡ first_valid (is_valid image) sizes
 unfolding least_valid is_tried
 least_is image = (let one = are_one (is_valid image) (probe_end image) in sym one.0)
@@ -48,7 +48,7 @@ pub search_reach_is : (image : List ℕ) → search_reach image ≡ ahead image 
 unfolding search_reach is_tried
 search_reach_is image = (let one = are_one (is_valid image) (probe_end image) in sym one.1)
 
--- at place number k of a list that is that of the places
+-- at offset number k of the list of offsets
 module _ (image old held held' : List ℕ) (ended ended' : Bool) (k : ℕ) (items : List ℕ) (are : items ≡ sizes)
     (inside : k < length items) (so_far : Searched image old held ended k)
     (longer : length held ≤ length held') (stays : ended ≡ true → ended' ≡ true)
@@ -67,7 +67,7 @@ module _ (image old held held' : List ℕ) (ended ended' : Bool) (k : ℕ) (item
     went true e = absurd (let wrong = stays e in cc)
     went false e = e
 
-  -- how far the places from this one on are looked at
+  -- the end of the bytes that are read to check the offsets from this one on
   reached : (is_valid image place ≡ false) → ahead image k ≡ max (probe_end image place) (ahead image (suc k))
   unfolding furthest
   reached fails = rw (here, fails) refl
@@ -76,7 +76,7 @@ module _ (image old held held' : List ℕ) (ended ended' : Bool) (k : ℕ) (item
   unfolding furthest
   reached_last holds = rw (here, holds) (omega arith)
 
-  -- no valid header here: the search goes on
+  -- no valid header is here: the search continues
   pub searched_on : is_valid image place ≡ false → (ended' ≡ false → probe_end image place ≤ length held')
       → Searched image old held' ended' (k + 1)
   unfolding first_valid
@@ -87,18 +87,18 @@ module _ (image old held held' : List ℕ) (ended ended' : Bool) (k : ℕ) (item
     behind = omega (arith, reached fails, so_far.behind);
   }
 
-  -- this place is one of those that are looked at
+  -- the bytes that are read to check this offset are among those that the search reads
   pub reach_below : probe_end image place ≤ search_reach image
   reach_below = by (is_valid image place) refl where
     by : (b : Bool) → is_valid image place ≡ b → probe_end image place ≤ search_reach image
     by true e = omega (arith, reached_last e, so_far.behind, search_reach_is image)
     by false e = omega (arith, reached e, so_far.behind, search_reach_is image)
 
-  -- what is held stays within what the search looks at
+  -- no more bytes are loaded than the search reads
   pub searched_within : length held' ≤ max (length old) (search_reach image)
   searched_within = omega (arith, reach_below, so_far.within, within, search_reach_is image)
 
-  -- where the end was found by now less is held than the search looks at
+  -- if the end was hit by now, fewer bytes are loaded than the search reads
   pub end_hit_here : (before : Bool) → IsPrefixOf held ended image → IsPrefixOf held' ended' image
       → (before ≡ false → ended ≡ true → length held < search_reach image)
       → (ended ≡ false → ended' ≡ true → length held' < probe_end image place)
@@ -124,7 +124,7 @@ module _ (image old held held' : List ℕ) (ended ended' : Bool) (k : ℕ) (item
         search_reach_is image,
       )
 
--- what says that a header has a length says that it is valid
+-- a header that has a length is valid
 pub some_valid : (image : List ℕ) (place : ℕ) (found : Option ℕ) → found ≡ valid_size image place
     → is_some found ≡ true → is_valid image place ≡ true
 some_valid image place found is some = by (is_valid image place) refl where
@@ -143,13 +143,13 @@ none_valid image place found is none = by (is_valid image place) refl where
       absurd (let some : found ≡ Some (size_at image place) = is ∙ rw e refl in
       let right : is_some found ≡ true = ap is_some some in cc)
 
--- the places are in range
+-- the offsets are in range
 pub place_range : (k : ℕ) → k < length sizes → get_or sizes k 0 ≤ 4194304
 unfolding sizes
 place_range k inside =
     leb-true (get_or sizes k 0) 4194304 (AllPass-from_list_all (λ size. nat_le size 4194304) sizes refl k 0 inside)
 
--- the header that was found is that of the least place
+-- the header that was found is that of the lowest valid offset
 pub found_least : (held : List ℕ) (ended : Bool) (image bytes : List ℕ) (place : ℕ) (header : Option Header2)
     → IsPrefixOf held ended image → bytes ≡ held → is_valid held place ≡ true
     → header ≡ header2_from Secondary (Some PrimaryNotValid) (binary_at bytes place)
@@ -162,7 +162,7 @@ found_least held ended image bytes place header front is valid made first =
     made ∙ ap (header2_from Secondary (Some PrimaryNotValid)) same
     ∙ sym (ap (option_and_then (found_at image)) (least_is image ∙ first))
 
--- where no place is left none has a valid header
+-- if no offset remains, none has a valid header
 pub searched_all : (image old held : List ℕ) (ended : Bool) (k : ℕ) → Searched image old held ended k → length sizes ≤ k
     → (first_valid (is_valid image) sizes ≡ None) × (ahead image k ≡ 0)
 unfolding first_valid furthest

@@ -1,4 +1,4 @@
--- What is held and taken once the header of an image is found, or is not.
+-- The bytes that are loaded and consumed after the search for the header of an image, whether or not it was found.
 use Rattle.std.proofs.Common.{◌≡◌, ◌∙◌, ℕ, ◌+◌, ◌-◌, ◌<◌, ◌≤◌, ◌⊎◌, inl, inr, List, ◌++◌, Option, Some, None, Err}
 use Rattle.std.proofs.Common.{Bool, true, false, ap, sym, subst, refl, take, drop, take_all, length, length-append}
 use Rattle.std.proofs.Common.{append-nil, max, arith}
@@ -20,12 +20,12 @@ use Rattle.luks2_binary.proofs.ChoiceLemmas.{reach_some}
 
 module _ (image old new : List ℕ) (ended : Bool) (front : IsPrefixOf new ended image) (few : length old ≤ 4096)
     (within : length new ≤ max (length old) (reach2_of image)) where
-  -- no more is held than the header costs
+  -- no more bytes are loaded than are read for the header
   pub below_cost : length new ≤ header2_read_len image
   unfolding header2_read_len
   below_cost = omega (arith, reach_some image, within, front.within)
 
-  -- and just that where the header was found
+  -- exactly as many bytes are loaded as are read for the header if the search was finished
   pub cost_held : (ended ≡ false → reach2_of image ≤ length new) → length new ≡ header2_read_len image
   unfolding header2_read_len
   cost_held complete = by ended refl where
@@ -33,13 +33,13 @@ module _ (image old new : List ℕ) (ended : Bool) (front : IsPrefixOf new ended
     by true e = omega (arith, reach_some image, within, ap length (front.ends e))
     by false e = omega (arith, reach_some image, within, complete e, front.within)
 
--- what the code answers of a choice is the header of the image
+-- the answer that the code makes of a choice is the header of the image
 pub answer_is : (image : List ℕ) (chosen : Option Header2) (answer : Result Header2 HeaderFault)
     → answer ≡ ok_or chosen NotLuks → chosen ≡ chosen2_of image → header2_of image ≡ answer
 unfolding header2_of
 answer_is image chosen answer is choice = sym (is ∙ ap (λ o. ok_or o NotLuks) choice)
 
--- before anything is taken
+-- before anything is consumed
 pub holds_start : (old rest : List ℕ) (ended : Bool) (left : Option (List ℕ)) → ended ≡ false → left ≡ Some rest
     → HoldsFront (old ++ rest) old ended left
 holds_start old rest ended left goes is = record {
@@ -51,14 +51,14 @@ holds_start old rest ended left goes is = record {
   behind = is ∙ ap Some (sym (drop-append_seam old rest));
 }
 
--- once the image's end was hit, its source has no bytes left
+-- if the image's end was hit, no bytes remain in its source
 pub nothing_behind : (image held : List ℕ) (ended : Bool) (left : Option (List ℕ)) → HoldsFront image held ended left
     → ended ≡ true → left ≡ Some []
 nothing_behind image held ended left holds is =
     holds.behind ∙ ap Some (drop_all (length held) image (omega (arith, ap length (holds.front.ends is))))
 
 module _ (old new rest : List ℕ) (ended : Bool) (left' : Option (List ℕ)) where
-  -- what was taken went behind what was held
+  -- the consumed bytes were appended to the loaded ones
   pub consumed_count : HoldsFront (old ++ rest) new ended left' → length old ≤ length new
       → ConsumedOnto old new rest left' (length new - length old)
   consumed_count holds longer =
@@ -74,7 +74,7 @@ module _ (old new rest : List ℕ) (ended : Bool) (left' : Option (List ℕ)) wh
         sym holds.front.begins ∙ ap (λ n. take n (old ++ rest)) split ∙ take-append-add old rest count,
       )
 
-  -- all that the header costs was taken
+  -- all bytes that are read for the header were consumed
   pub consumed_read_len : HoldsFront (old ++ rest) new ended left' → length old ≤ length new
       → length new ≡ header2_read_len (old ++ rest) → ConsumedReadLen (old ++ rest) old new rest left'
   consumed_read_len holds longer cost = (
@@ -82,7 +82,7 @@ module _ (old new rest : List ℕ) (ended : Bool) (left' : Option (List ℕ)) wh
     subst (λ n. ConsumedOnto old new rest left' (n - length old)) cost (consumed_count holds longer),
   )
 
-  -- no more than that was taken before something failed, and less than was to be read where memory was refused
+  -- no more than that was consumed before a failure, and less than was to be read if memory ran out
   pub aborts_seeking : (fault : HeaderFault) → (fault ≡ Read) ⊎ (fault ≡ Memory)
       → HoldsFront (old ++ rest) new ended left' → length old ≤ length new → length new ≤ header2_read_len (old ++ rest)
       → (fault ≡ Memory → length new < reach2_of (old ++ rest))
@@ -102,14 +102,14 @@ pub seeks_answer : (old new rest : List ℕ) (left' : Option (List ℕ)) (chosen
 seeks_answer old new rest left' (Some header) answer is known taken = rw is (known ∙ is, taken)
 seeks_answer old new rest left' None answer is known taken = rw is (known ∙ is, taken)
 
--- so have the loaded bytes
+-- the loaded bytes have the header that was answered, or none
 pub answered_from : (held : List ℕ) (chosen : Option Header2) (answer : Result Header2 HeaderFault)
     → answer ≡ ok_or chosen NotLuks → header2_of held ≡ answer → length held ≡ header2_read_len held
     → AnsweredFrom held answer
 answered_from held (Some header) answer is known long = rw is (known ∙ is, long)
 answered_from held None answer is known long = rw is (known ∙ is, long)
 
--- a failure answers nothing of the image
+-- a failure claims nothing about the header of the image
 pub fault_answered : (held : List ℕ) (fault : HeaderFault) → (fault ≡ Read) ⊎ (fault ≡ Memory)
     → (fault ≡ Memory → StaysBelow held false reach2_of) → AnsweredFrom held (Err fault)
 fault_answered held Read which stopped_below = tt
@@ -118,7 +118,7 @@ fault_answered held NotLuks which stopped_below = absurd (elim which [ inl e ↦
 fault_answered held Cut which stopped_below = absurd (elim which [ inl e ↦ cc | inr e ↦ cc ])
 fault_answered held Json which stopped_below = absurd (elim which [ inl e ↦ cc | inr e ↦ cc ])
 
--- what is behind the loaded bytes, whether the image's end was hit before or not
+-- the bytes behind the loaded ones, whether or not the image's end was hit before
 pub holds_unloaded : (old new rest : List ℕ) (ended ended' : Bool) (left left' : Option (List ℕ)) (failed' : Bool)
     (counts counts' : ReadCounts) → Extended old new ended ended' left left' failed' counts counts'
     → unloaded ended left ≡ Some rest → HoldsFront (old ++ rest) new ended' (unloaded ended left')
@@ -135,7 +135,7 @@ holds_unloaded old new rest true ended' left left' failed' counts counts' grew i
       behind = ap Some (sym (drop_all (length old) old (omega arith)));
     })
 
--- the image's end was hit exactly if less is loaded than is to be read
+-- the image's end was hit exactly if fewer bytes are loaded than are to be read
 pub hits_end : (new : List ℕ) (ended ended' : Bool) (chosen : Option Header2) (answer : Result Header2 HeaderFault)
     → answer ≡ ok_or chosen NotLuks → FallsShort new ended ended' reach2_of → Reaches new ended' reach2_of
     → ended ≡ false → ended' ≡ hits_eof answer new
@@ -148,7 +148,7 @@ hits_end new ended ended' chosen answer is end_hit complete goes = by_answer cho
   by_answer (Some header) e = rw e (by_end ended' refl)
   by_answer None e = rw e (by_end ended' refl)
 
--- an area remembers the end of its image
+-- an area records the end of its image
 pub remembers_end : (hit : Bool) (area area' : HeaderAreaModel) (left left' : Option (List ℕ)) (failed' : Bool)
     (counts counts' : ReadCounts)
     → Extended area.bytes area'.bytes area.ended area'.ended left left' failed' counts counts'

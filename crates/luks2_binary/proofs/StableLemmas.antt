@@ -1,4 +1,4 @@
--- The first bytes of an image, as many as its header costs, have the same header and the same cost.
+-- The first bytes of an image that are read for its header have the same header, and all of them are read for it.
 use Rattle.std.proofs.Common.{◌≡◌, ◌∙◌, ℕ, ◌+◌, ◌*◌, ◌<◌, ◌≤◌, List, [], ◌∷◌, Option, Some, None, Bool, true}
 use Rattle.std.proofs.Common.{false, ap, sym, refl, inl, inr, take, take_all, length, length-take-le, max, arith}
 use Rattle.std.specs.Prelude.{nat_lt, option_and_then}
@@ -24,7 +24,7 @@ first_by valid reach other places place true e next is =
     rw e (omega (arith, ap reach same))
 first_by valid reach other places place false e next is = rw e (let below = next (rw e at is) in omega (arith, below))
 
--- the first valid place is one that is looked at
+-- the bytes that are read to check the first valid offset are among those that the search reads
 first_reach : (valid : ℕ → Bool) (reach : ℕ → ℕ) (places : List ℕ) (place : ℕ) → first_valid valid places ≡ Some place
     → reach place ≤ furthest valid reach places
 unfolding first_valid furthest
@@ -38,7 +38,7 @@ module _ (held image : List ℕ) (front : IsPrefixOf held false image) where
   reach_same place there =
       rw (fits-front held false image front place there, at-front held false image front place 4096 there) refl
 
-  -- a place that is held as far as it is looked at
+  -- an offset for which all bytes to be read are loaded
   place_same : (place : ℕ) → probe_end image place ≤ length held
       → (is_valid held place ≡ is_valid image place) × (probe_end held place ≡ probe_end image place)
   place_same place within =
@@ -70,7 +70,7 @@ module _ (held image : List ℕ) (front : IsPrefixOf held false image) where
   walk_same [] within = (refl, refl)
   walk_same (place ∷ places) within = walk_by place places (is_valid image place) refl (walk_same places) within
 
-  -- the header at the first valid place
+  -- the first valid offset is the same
   same_first : (places : List ℕ) → furthest (is_valid image) (probe_end image) places ≤ length held
       → first_valid (is_valid held) places ≡ first_valid (is_valid image) places
   unfolding AreSame
@@ -90,7 +90,7 @@ module _ (held image : List ℕ) (front : IsPrefixOf held false image) where
       ap (header2_from Secondary (Some PrimaryNotValid))
       (at-front held false image front place 4096 (omega (arith, below, within, reach_least image place)))
 
-  -- an image is looked at no further than it is held: so it has the same header, and is looked at as far
+  -- if all bytes to be read of an image are loaded, these have the same header, and as many of them are to be read
   pub stable_by : (b : Bool) → is_valid image 0 ≡ b → reach2_of image ≤ length held
       → (chosen2_of held ≡ chosen2_of image) × (reach2_of held ≡ reach2_of image)
   stable_by true e whole =
@@ -120,7 +120,7 @@ module _ (held image : List ℕ) (front : IsPrefixOf held false image) where
             ∙ sym (reach_other image e),
       )
 
--- the image's front that is as long as the header costs
+-- the bytes that are read for the header are a prefix of the image
 front_of_cost : (image : List ℕ) → IsPrefixOf (take (header2_read_len image) image) false image
 unfolding header2_read_len
 front_of_cost image =
@@ -147,7 +147,7 @@ module _ (image : List ℕ) where
         (same.0, omega (arith, same.1, long)))
   ]
 
-  -- the first bytes of an image, as many as its header costs, end before all that is looked at where it does
+  -- the bytes that are read for the header fall short if and only if the image does
   pub falls_short-take : nat_lt (length (take (header2_read_len image) image)) (reach2_of (take
       (header2_read_len image) image))
       ≡ nat_lt (length image) (reach2_of image)

@@ -1,4 +1,4 @@
--- What a header that fits says of itself.
+-- Properties of a header that fits.
 use Rattle.std.proofs.Common.{◌≡◌, ◌==◌, ◌&&◌, ◌||◌, ℕ, ◌+◌, ◌<◌, ◌≤◌, List, Bool, true, false, refl, length, arith}
 use Rattle.std.specs.Prelude.{bytes_eq, is_some, nat_le}
 use Rattle.std.specs.List.{list_any}
@@ -9,23 +9,23 @@ use Rattle.luks2_binary.specs.Checksum2.{checksum_matches}
 use Rattle.luks2_binary.specs.Choice2.{beginning_at, binary_at, fits, is_binary_of, is_valid, size_at}
 use Rattle.luks2_binary.specs.Header2.{checksum_hash_in, hdr_offset_in, size_in, sizes}
 
--- both of two tests hold
+-- if both of two tests hold together, each holds
 pub and_parts : (a b : Bool) → (a && b) ≡ true → (a ≡ true) × (b ≡ true)
 and_parts true b h = (refl, h)
 and_parts false b h = (h, absurd (let wrong : false ≡ true = h in cc))
 
--- a length that is one of the nine
+-- the range of a length that is one of the nine
 known_size : (n : ℕ) → list_any (λ size. size == n) sizes ≡ true → (16384 ≤ n) × (n ≤ 4194304)
 unfolding sizes
 known_size n h = (grind (arith, nat_tests), grind (arith, nat_tests))
 
--- either holds, and not the first
+-- if one of two tests holds and it is not the first, the second holds
 or_second : (a b : Bool) → a ≡ false → (a || b) ≡ true → b ≡ true
 or_second true b fails h = absurd (cc)
 or_second false b fails h = h
 
 module _ (place : ℕ) (binary : List ℕ) (is : is_binary_of place binary ≡ true) where
-  -- the tests of a binary header, but for its hash function and its own place
+  -- two tests of a binary header: its length is one of the nine, and that of a secondary header is its offset
   tests : (list_any (λ size. size == size_in binary) sizes ≡ true) × ((place == 0 || size_in binary == place) ≡ true)
   unfolding is_binary_of
   tests =
@@ -44,13 +44,13 @@ module _ (place : ℕ) (binary : List ℕ) (is : is_binary_of place binary ≡ t
   pub size_range : (16384 ≤ size_in binary) × (size_in binary ≤ 4194304)
   size_range = known_size (size_in binary) tests.0
 
-  -- a header that is no primary one is as long as its place says
+  -- the length of a header that is not primary is its offset
   pub size_is_place : (place ≡ 0 → ⊥) → size_in binary ≡ place
   size_is_place some =
       eqb-true (size_in binary) place (or_second (place == 0) (size_in binary == place) (ne_eqb place 0 some) tests.1)
 
 module _ (image : List ℕ) (place : ℕ) where
-  -- a header that fits is there
+  -- if a header fits, its binary header is in the image
   pub fits_parts : fits image place ≡ true
       → (place + 4096 ≤ length image) × (is_binary_of place (binary_at image place) ≡ true)
   unfolding fits
@@ -58,17 +58,17 @@ module _ (image : List ℕ) (place : ℕ) where
       let both = and_parts (nat_le (place + 4096) (length image)) (is_binary_of place (binary_at image place)) h in
       (leb-true (place + 4096) (length image) both.0, both.1)
 
-  -- none fits an image that ends before
+  -- no header fits if the image ends before a binary header does
   pub short-fits : length image < place + 4096 → fits image place ≡ false
   unfolding fits
   short-fits h = rw (lt-leb (place + 4096) (length image) h) refl
 
-  -- what does not fit is not valid
+  -- a header that does not fit is not valid
   pub unfit-is_valid : fits image place ≡ false → is_valid image place ≡ false
   unfolding is_valid
   unfit-is_valid h = rw h refl
 
-  -- what is valid fits, and is there whole
+  -- a valid header fits, and all of it is in the image
   pub valid_parts : is_valid image place ≡ true
       → (fits image place ≡ true) × (place + size_at image place ≤ length image)
   unfolding is_valid
@@ -78,7 +78,7 @@ module _ (image : List ℕ) (place : ℕ) where
       let one = and_parts (fits image place) whole two.0 in
       (one.0, leb-true (place + size_at image place) (length image) one.1)
 
-  -- a valid header has room for its binary header, and one of the nine lengths
+  -- the binary header of a valid header is in the image, and its length is in the range of the nine
   pub valid_range : is_valid image place ≡ true
       → (place + 4096 ≤ length image) × (16384 ≤ size_at image place) × (size_at image place ≤ 4194304)
   valid_range h =

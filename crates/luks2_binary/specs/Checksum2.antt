@@ -5,7 +5,7 @@ use Rattle.luks_area.specs.Fields.{at}
 use Rattle.luks_kdf.specs.Hash.{hash_of, digest_len}
 use Rattle.luks2_binary.specs.Header2.{checksum_hash_in}
 
--- zeros in the length of the checksum's field
+-- as many zeros as the checksum's field has bytes
 unfoldable pub no_checksum : List ℕ
 no_checksum = replicate 64 0
 
@@ -13,8 +13,8 @@ no_checksum = replicate 64 0
 unfoldable pub without_checksum : List ℕ → List ℕ
 without_checksum header = take 448 header ++ no_checksum ++ drop 512 header
 
--- the checksum agrees: it is the hash of the whole header and JSON area, with zeros in place of the checksum itself.
--- Only as many bytes of its field count as the hash has
+-- the checksum matches: it is the hash of the whole header and JSON area, with zeros in place of the checksum itself.
+-- Only as many bytes of its field are compared as the hash has
 unfoldable pub checksum_matches : List ℕ → Bool
 checksum_matches header =
     option_map_or (λ hash. bytes_eq (hash_of hash (without_checksum header)) (at 448 (digest_len hash) header))

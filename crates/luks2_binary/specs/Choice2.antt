@@ -1,5 +1,5 @@
--- Which header of LUKS2 an image has (LUKS2 On-Disk Format Specification 1.1, sections 2.1 and 2.2): the primary one is
--- at the image's start, the secondary one at the offset of its own length.
+-- Which LUKS2 header an image has (LUKS2 On-Disk Format Specification 1.1, sections 2.1 and 2.2): the primary one is at
+-- the image's start, the secondary one at the offset that is its own length.
 use Rattle.std.specs.Prelude.{ℕ, ◌+◌, ◌==◌, ◌&&◌, ◌||◌, not, nat_le, nat_lt, if◌then◌else◌, Bool, List, [], ◌∷◌, Option}
 use Rattle.std.specs.Prelude.{Some, None, Result, bytes_eq, is_some, length, ok_or, option_and_then}
 use Rattle.std.specs.List.{find, list_any}
@@ -13,15 +13,15 @@ use Rattle.luks2_binary.specs.declared.header.Finding.TheVariants.{PrimaryNotVal
 use Rattle.luks2_binary.specs.declared.header.Header2.{Header2}
 use Rattle.luks2_binary.specs.declared.header.Place.TheVariants.{Primary, Secondary}
 
--- what the header at a place begins with: LUKS at the image's start and SKUL elsewhere, BA BE, and the version 2 in two
--- bytes
+-- the first bytes of a header at this offset: LUKS at the image's start and SKUL elsewhere, BA BE, and the version 2 in
+-- two bytes
 unfoldable pub beginning_at : ℕ → List ℕ
 beginning_at place =
     if place == 0 then 0x4c ∷ 0x55 ∷ 0x4b ∷ 0x53 ∷ 0xba ∷ 0xbe ∷ 0x00 ∷ 0x02 ∷ []
     else 0x53 ∷ 0x4b ∷ 0x55 ∷ 0x4c ∷ 0xba ∷ 0xbe ∷ 0x00 ∷ 0x02 ∷ []
 
--- these 4096 bytes are a binary header of this place: its magic bytes and version, one of the nine lengths, which is
--- the place of a secondary header, the place itself, and a hash function that is known
+-- these 4096 bytes are a binary header for this offset: they have its magic bytes and version, one of the nine lengths,
+-- which is the offset of a secondary header, the offset itself, and a hash function that is known
 unfoldable pub is_binary_of : ℕ → List ℕ → Bool
 is_binary_of place binary =
     bytes_eq (at 0 8 binary) (beginning_at place)
@@ -30,30 +30,30 @@ is_binary_of place binary =
     && hdr_offset_in binary == place
     && is_some (checksum_hash_in binary)
 
--- the 4096 bytes at a place
+-- the 4096 bytes at an offset
 abbrev pub binary_at : List ℕ → ℕ → List ℕ
 binary_at image place = at place binary_len image
 
--- the length of the header at a place with its JSON area
+-- the length of the header at an offset, with its JSON area
 abbrev pub size_at : List ℕ → ℕ → ℕ
 size_at image place = size_in (binary_at image place)
 
--- the image has a binary header of this place there
+-- a binary header for this offset is in the image at this offset
 unfoldable pub fits : List ℕ → ℕ → Bool
 fits image place = nat_le (place + binary_len) (length image) && is_binary_of place (binary_at image place)
 
--- and all of the header, with a checksum that agrees
+-- a valid header is in the image at this offset: it fits, all of it is there, and its checksum matches
 unfoldable pub is_valid : List ℕ → ℕ → Bool
 is_valid image place =
     fits image place
     && nat_le (place + size_at image place) (length image)
     && checksum_matches (at place (size_at image place) image)
 
--- an offset is tried, if the primary header is not valid: one of the nine before which there is no valid header
+-- the search tries an offset, if the primary header is not valid: no lower one of the nine offsets has a valid header
 unfoldable pub is_tried : List ℕ → ℕ → Bool
 is_tried image place = not (list_any (λ other. nat_lt other place && is_valid image other) sizes)
 
--- the least place of the nine with a valid header
+-- the lowest of the nine offsets with a valid header
 unfoldable pub least_valid : List ℕ → Option ℕ
 least_valid image = find (λ place. is_tried image place && is_valid image place) sizes
 
@@ -70,7 +70,7 @@ with_valid_primary image =
     then header2_from Primary (Some SequencesDiffer) primary
     else header2_from Primary None primary
 
--- the header that is found at a place by the search
+-- the header that the search finds at an offset
 abbrev pub found_at : List ℕ → ℕ → Option Header2
 found_at image place = header2_from Secondary (Some PrimaryNotValid) (binary_at image place)
 
@@ -79,6 +79,6 @@ unfoldable pub chosen2_of : List ℕ → Option Header2
 chosen2_of image =
     if is_valid image 0 then with_valid_primary image else option_and_then (found_at image) (least_valid image)
 
--- the header of an image that is not of LUKS1, or the fault that it has none
+-- the LUKS2 header of an image that does not start as LUKS1, or the fault if it has none
 unfoldable pub header2_of : List ℕ → Result Header2 HeaderFault
 header2_of image = ok_or (chosen2_of image) NotLuks

@@ -1,4 +1,4 @@
--- What is loaded of an image while its header is sought.
+-- The bytes of an image that are loaded during the search for its header.
 use Rattle.std.specs.Prelude.{IfErr, OnErr, OnOk, ◌⊎◌}
 use Rattle.std.specs.Prelude.{◌≡◌, ◌+◌, ◌-◌, ◌<◌, ◌≤◌, ◌&&◌, ℕ, Bool, true, false, not, if◌then◌else◌, List, Option}
 use Rattle.std.specs.Prelude.{[], Some, None, Result, Ok, Err, drop, length, max, nat_lt, take}
@@ -18,13 +18,13 @@ pub record IsPrefixOf (held : List ℕ) (ended : Bool) (image : List ℕ) : Type
   pub within : length held ≤ length image
   pub ends : ended ≡ true → image ≡ held
 
--- the start of the image is loaded, and what is behind it remains in a source that knows its bytes
+-- the start of the image is loaded, and the bytes behind it remain in a source that knows its bytes
 pub record HoldsFront (image held : List ℕ) (ended : Bool) (left : Option (List ℕ)) : Type 0 where
   pub front : IsPrefixOf held ended image
   pub behind : left ≡ Some (drop (length held) image)
 
--- more of an image was loaded, unless a read failed, from a source that counts its reads. Once the image's end was hit,
--- nothing more is loaded, and the source is not read again
+-- further bytes of an image were loaded, unless a read failed, from a source that counts its reads. After the image's
+-- end was hit, nothing more is loaded, and the source is not read again
 pub record Extended (held held' : List ℕ) (ended ended' : Bool) (left left' : Option (List ℕ)) (failed' : Bool)
     (counts counts' : ReadCounts) : Type 0 where
   pub fronts : (image : List ℕ) → IsPrefixOf held' ended' image → IsPrefixOf held ended image
@@ -38,24 +38,24 @@ pub record Extended (held held' : List ℕ) (ended ended' : Bool) (left left' : 
 abbrev pub valid_size : List ℕ → ℕ → Option ℕ
 valid_size image place = if is_valid image place then Some (size_at image place) else None
 
--- a fact of each image of which this is the front
+-- a fact of each image that starts with the loaded bytes
 abbrev pub OfEach : List ℕ → Bool → (List ℕ → Type 0) → Type 0
 OfEach held ended Holds = (image : List ℕ) → IsPrefixOf held ended image → Holds image
 
--- as many bytes of an image are loaded as were loaded before, or as are to be read at most
+-- no more bytes of an image are loaded than were loaded before, or than are to be read
 abbrev pub WithinReach : List ℕ → List ℕ → Bool → (List ℕ → ℕ) → Type 0
 WithinReach held held' ended' reach = OfEach held' ended' (λ image. length held' ≤ max (length held) (reach image))
 
--- unless the image's end was hit, as many bytes are loaded as are to be read
+-- unless the image's end was hit, at least as many bytes are loaded as are to be read
 abbrev pub Reaches : List ℕ → Bool → (List ℕ → ℕ) → Type 0
 Reaches held ended reach = OfEach held ended (λ image. ended ≡ false → reach image ≤ length held)
 
--- the end was hit in this call: less is loaded than was to be read
+-- if the end was hit in this call, fewer bytes are loaded than were to be read
 abbrev pub FallsShort : List ℕ → Bool → Bool → (List ℕ → ℕ) → Type 0
 FallsShort held' ended ended' reach = OfEach held' ended' (λ image. ended ≡ false → ended' ≡ true
     → length held' < reach image)
 
--- less of an image is loaded than is to be read
+-- fewer bytes of an image are loaded than are to be read
 abbrev pub StaysBelow : List ℕ → Bool → (List ℕ → ℕ) → Type 0
 StaysBelow held ended reach = OfEach held ended (λ image. length held < reach image)
 
@@ -71,23 +71,23 @@ pub record LoadedFor {T : Type 0} (reach : List ℕ → ℕ) (answer : Result T 
   pub stopped_below : IfErr answer (λ fault. fault ≡ Memory → StaysBelow held' ended' reach)
   pub refusals : IfErr answer (λ fault. (fault ≡ Read) ⊎ (fault ≡ Memory))
 
--- the rest of an image, as much of it as is read for the header, went behind what was loaded
+-- as much of the rest of an image as is read for the header was appended to the loaded bytes
 abbrev pub ConsumedReadLen : List ℕ → List ℕ → List ℕ → List ℕ → Option (List ℕ) → Type 0
 ConsumedReadLen image held held' rest left = (held' ≡ take (header2_read_len image) image)
     × ConsumedOnto held held' rest left (header2_read_len image - length held)
 
--- some of the rest went behind it: no more than that
+-- some of the rest was appended, no more than that
 abbrev pub ConsumedUpToReadLen : List ℕ → List ℕ → List ℕ → List ℕ → Option (List ℕ) → Type 0
 ConsumedUpToReadLen image held held' rest left = (count : ℕ) × (count ≤ header2_read_len image - length held)
     × ConsumedOnto held held' rest left count
 
--- some of the rest went behind it, and less is loaded than the image is to be read
+-- some of the rest was appended, and fewer bytes of the image are loaded than are to be read
 abbrev pub ConsumedBeforeReach : List ℕ → List ℕ → List ℕ → List ℕ → Option (List ℕ) → Type 0
 ConsumedBeforeReach image held held' rest left = (count : ℕ) × (length held + count < reach2_of image)
     × ConsumedOnto held held' rest left count
 
--- seeking the header ended without one. If the image has none, as many of its bytes are loaded as must be read to know
--- that; a failed read ended it somewhere before, or memory ran out while more was yet to be read
+-- the search for the header ended without one. If the image has none, as many of its bytes are loaded as must be read
+-- to know that; a failed read ended the search at or before that point, or memory ran out while more was to be read
 abbrev pub AbortsSeeking : List ℕ → List ℕ → List ℕ → List ℕ → Option (List ℕ) → HeaderFault → Type 0
 AbortsSeeking image held held' rest left NotLuks = (header2_of image ≡ Err NotLuks)
     × ConsumedReadLen image held held' rest left
@@ -96,7 +96,7 @@ AbortsSeeking image held held' rest left Json = ⊥
 AbortsSeeking image held held' rest left Read = ConsumedUpToReadLen image held held' rest left
 AbortsSeeking image held held' rest left Memory = ConsumedBeforeReach image held held' rest left
 
--- the image ended before all that was asked of it was there
+-- whether the image ended before all requested bytes; not reported if a read failed or memory ran out
 abbrev pub hits_eof : {T : Type 0} → Result T HeaderFault → List ℕ → Bool
 hits_eof (Err Read) held = false
 hits_eof (Err Memory) held = false
@@ -110,14 +110,15 @@ abbrev pub unloaded : Bool → Option (List ℕ) → Option (List ℕ)
 unloaded true left = Some []
 unloaded false left = left
 
--- the header was sought in an image, of which some bytes were loaded before, and more went behind them
+-- the header was searched for in an image of which some bytes were loaded before, and further ones were appended to
+-- them
 abbrev pub SeeksHeader2 : List ℕ → List ℕ → List ℕ → List ℕ → Option (List ℕ) → Result Header2 HeaderFault → Type 0
 SeeksHeader2 image held held' rest left (Ok header) = (header2_of image ≡ Ok header)
     × ConsumedReadLen image held held' rest left
 SeeksHeader2 image held held' rest left (Err fault) = AbortsSeeking image held held' rest left fault
 
--- what is answered of an image whose end was hit, or of which as much is loaded as must be read, is a fact of the
--- loaded bytes alone. Memory ran out while more was yet to be read
+-- the answer for an image whose end was hit, or of which all bytes to be read are loaded, is a fact about the loaded
+-- bytes alone. If memory ran out, more was to be read
 abbrev pub AnsweredFrom : List ℕ → Result Header2 HeaderFault → Type 0
 AnsweredFrom held (Ok header) = (header2_of held ≡ Ok header) × (length held ≡ header2_read_len held)
 AnsweredFrom held (Err NotLuks) = (header2_of held ≡ Err NotLuks) × (length held ≡ header2_read_len held)
@@ -126,8 +127,8 @@ AnsweredFrom held (Err Json) = ⊥
 AnsweredFrom held (Err Read) = Unit {0}
 AnsweredFrom held (Err Memory) = StaysBelow held false reach2_of
 
--- how an area remembers the end of its image: it was hit in this call, and nothing remains; or it was hit before, and
--- nothing happened
+-- how an area records the end of its image: if it was not hit before, whether it was hit in this call, and then nothing
+-- remains; if it was hit before, nothing changes
 abbrev pub RemembersEnd : Bool → HeaderAreaModel → HeaderAreaModel → Option (List ℕ) → Option (List ℕ) → Type 0
 RemembersEnd hit area area' left left' =
     (area.ended ≡ false → (area'.ended ≡ hit) × (hit ≡ true → IfKnown left (λ _. left' ≡ Some [])))

@@ -11,7 +11,7 @@ use Rattle.luks2_binary.specs.declared.header.Place.{Place}
 abbrev pub binary_len : ℕ
 binary_len = 4096
 
--- the lengths that a header and its JSON area can have together, in bytes. They are also the places of secondary
+-- the lengths that a header and its JSON area can have together, in bytes. They are also the offsets of secondary
 -- headers
 unfoldable pub sizes : List ℕ
 sizes = 16384 ∷ 32768 ∷ 65536 ∷ 131072 ∷ 262144 ∷ 524288 ∷ 1048576 ∷ 2097152 ∷ 4194304 ∷ []
@@ -20,7 +20,7 @@ sizes = 16384 ∷ 32768 ∷ 65536 ∷ 131072 ∷ 262144 ∷ 524288 ∷ 1048576 �
 unfoldable pub size_in : List ℕ → ℕ
 size_in binary = be64 (at 8 8 binary)
 
--- `seqid`: the number that rises with each change of the header
+-- `seqid`: the number that increases with each change of the header
 unfoldable pub sequence_in : List ℕ → ℕ
 sequence_in binary = be64 (at 16 8 binary)
 
@@ -28,7 +28,7 @@ sequence_in binary = be64 (at 16 8 binary)
 unfoldable pub checksum_hash_in : List ℕ → Option Hash
 checksum_hash_in binary = hash_named (text_of (at 72 32 binary))
 
--- `hdr_offset`: the header's own place in bytes
+-- `hdr_offset`: the header's own offset in bytes
 unfoldable pub hdr_offset_in : List ℕ → ℕ
 hdr_offset_in binary = be64 (at 256 8 binary)
 

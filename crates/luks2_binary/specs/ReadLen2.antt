@@ -1,10 +1,10 @@
--- How many bytes of an image are read to learn which header of LUKS2 it has.
+-- The number of bytes of an image that are read to learn which LUKS2 header it has.
 use Rattle.std.specs.Prelude.{ℕ, ◌+◌, ◌*◌, if◌then◌else◌, List, [], ◌∷◌, filter, length, map, max, min}
 use Rattle.luks2_binary.specs.Choice2.{fits, is_tried, is_valid, size_at}
 use Rattle.luks2_binary.specs.Header2.{binary_len, sizes}
 
--- how far an offset is looked at: a binary header's length, and, if one fits, its whole length. At one of the nine
--- offsets that is twice the offset
+-- the end of the bytes that are read to check an offset: a binary header's length, and, if one fits, its whole length.
+-- At one of the nine offsets the latter end is twice the offset
 unfoldable pub probe_end : List ℕ → ℕ → ℕ
 probe_end image place = max (place + binary_len) (if fits image place then place + size_at image place else 0)
 
@@ -13,17 +13,17 @@ abbrev pub greatest : List ℕ → ℕ
 greatest [] = 0
 greatest (number ∷ numbers) = max number (greatest numbers)
 
--- how far the places that are tried are looked at
+-- the end of the bytes that are read to check the offsets that the search tries
 unfoldable pub search_reach : List ℕ → ℕ
 search_reach image = greatest (map (probe_end image) (filter (is_tried image) sizes))
 
--- how far an image is read if it is long enough: both headers of a valid primary one, and otherwise the image's start
--- and each offset that is tried
+-- the end of the bytes that are read of an image that is long enough: both headers if the primary one is valid, and
+-- otherwise the image's start and each offset that the search tries
 unfoldable pub reach2_of : List ℕ → ℕ
 reach2_of image =
     if is_valid image 0 then 2 * size_at image 0
     else max (probe_end image 0) (search_reach image)
 
--- how many bytes of the image are read
+-- the number of bytes of the image that are read
 unfoldable pub header2_read_len : List ℕ → ℕ
 header2_read_len image = min (reach2_of image) (length image)

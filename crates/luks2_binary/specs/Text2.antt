@@ -15,6 +15,6 @@ header_offset Secondary size = size
 unfoldable pub json_area_of : List ℕ → Header2 → List ℕ
 json_area_of image header = at (header_offset header.place header.size + binary_len) (header.size - binary_len) image
 
--- its text, which ends before the first zero byte or with the area
+-- the JSON text of a header, which ends before the first zero byte or with its JSON area
 unfoldable pub json_text_of : List ℕ → Header2 → List ℕ
 json_text_of image header = text_of (json_area_of image header)

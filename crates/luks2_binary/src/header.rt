@@ -18,7 +18,7 @@ pub const BINARY_LEN: usize = 4096;
 pub enum Place {
     /// The one at the image's start.
     Primary,
-    /// The one right behind it, at its own length.
+    /// The one right behind it, at the offset of its own length.
     Secondary,
 }
 
@@ -40,7 +40,7 @@ pub struct Header2 {
     pub place: Place,
     /// The length of the header and its JSON area in bytes, 16,384 to 4,194,304.
     pub size: u32,
-    /// The number that rises with each change of the header.
+    /// The number that increases with each change of the header.
     pub sequence: u64,
     /// The volume's label.
     pub label: FixedText<48>,
@@ -54,7 +54,7 @@ pub struct Header2 {
     pub subsystem: FixedText<48>,
     /// What is wrong with the two headers, if anything.
     pub finding: Option<Finding>,
-    /// Whether the header is detached. No header says so itself: it is read as an attached one.
+    /// Whether the header is detached. No header stores this: it is read as an attached one.
     pub detached: bool,
 }
 
@@ -85,7 +85,7 @@ pub(crate) fn sequence_in(binary: &[u8]) -> u64
     number64_at(binary, 16)
 }
 
-/// The place that a header gives for itself.
+/// The offset that a header gives for itself.
 #[tactic(auto, unfolding(crate::specs::Header2::hdr_offset_in))]
 pub(crate) fn hdr_offset_in(binary: &[u8]) -> u64
     requires { 4096 ≤ length binary.now }
@@ -144,7 +144,7 @@ impl Header2 {
     }
 }
 
-// So many bytes from a place on, or as many of them as there are.
+// The `len` bytes from `start` on, or as many of them as there are.
 fn range(bytes: &[u8], start: usize, len: usize) -> &[u8]
     ensures { result.now ≡ at start len bytes.now }
 {
@@ -159,7 +159,7 @@ fn text_before_zero(area: &[u8]) -> &[u8]
     &area[..first_zero(area).unwrap_or(area.len())]
 }
 
-// The place of the first zero byte.
+// The index of the first zero byte, if there is one.
 fn first_zero(bytes: &[u8]) -> Option<usize>
     ensures { result ≡ position (λ b. b == 0) bytes.now }
 {

@@ -19,8 +19,8 @@ use luks_area::area::HeaderArea;
 use luks_area::fault::HeaderFault;
 use luks_io::source::Source;
 
-// Loads `end` bytes of the image in all, if it has them, and answers whether it does. Once the
-// image's end was hit, the source is not read again.
+// Loads `end` bytes of the image in all, if it has them, and returns whether it does. The source is
+// not read again after the image's end was hit.
 fn grow<S: Source>(area: &mut HeaderArea, source: &mut S, end: usize) -> Result<bool, HeaderFault>
     requires { end ≤ max_area_len }
     ensures whole { IfOk result (λ whole. IsTrue whole ↔ (end ≤ length area.new.bytes)) }
@@ -111,17 +111,18 @@ fn choose<S: Source>(area: &mut HeaderArea, source: &mut S) -> Result<Option<Hea
     Ok(with_valid_primary(area.as_slice(), size))
 }
 
-/// Finds the header of LUKS2 of an image whose first bytes are loaded, and loads as much of the
-/// image as that requires (LUKS2 On-Disk Format Specification 1.1, section 2).
+/// Finds the LUKS2 header of an image whose first bytes are loaded, and loads as much of the image
+/// as that requires (LUKS2 On-Disk Format Specification 1.1, section 2).
 ///
-/// The image is one that does not start as LUKS1 does. If its end was hit before, the source is not
-/// touched.
+/// The image is one that does not start as LUKS1. The source is not touched if the image's end was
+/// hit before.
 ///
 /// # Errors
 ///
 /// [`HeaderFault::NotLuks`] for an image without a valid header. After [`HeaderFault::Read`] and
-/// [`HeaderFault::Memory`] the area has what was consumed before, and no more than is read for the
-/// header; after `Memory` less than the image is looked at, and its end was not hit.
+/// [`HeaderFault::Memory`] the area has the bytes that were consumed before, and no more than are
+/// read for the header; after `Memory` it has fewer than were to be read, and the image's end was
+/// not hit.
 pub fn read_header2<S: Source>(
     area: &mut HeaderArea,
     source: &mut S,

@@ -1,4 +1,4 @@
-//! Whether there is a valid header at a place.
+//! Whether there is a valid header at an offset.
 
 ghost use Rattle.std.specs.Prelude.{◌≡◌, ◌+◌, ◌≤◌, ◌==◌, ◌&&◌, ◌||◌, IfSome, bytes_eq};
 ghost use Rattle.std.specs.Prelude.{if◌then◌else◌, length, Some, None};
@@ -14,18 +14,18 @@ use crate::header::{BINARY_LEN, checksum_hash_in, hdr_offset_in, size_in};
 use luks_kdf::{Hash, digest};
 
 /// The lengths that a header and its JSON area can have together, in bytes. They are also the
-/// places of secondary headers.
+/// offsets of secondary headers.
 static SIZES: [u64; 9] = [
     16_384, 32_768, 65_536, 131_072, 262_144, 524_288, 1_048_576, 2_097_152, 4_194_304,
 ];
 
-/// What a primary header begins with: the magic bytes and the version 2.
+/// The first bytes of a primary header: the magic bytes and the version 2.
 const PRIMARY_BEGINNING: [u8; 8] = [0x4c, 0x55, 0x4b, 0x53, 0xba, 0xbe, 0x00, 0x02];
 
-/// What a secondary header begins with.
+/// The first bytes of a secondary header.
 const SECONDARY_BEGINNING: [u8; 8] = [0x53, 0x4b, 0x55, 0x4c, 0xba, 0xbe, 0x00, 0x02];
 
-// A header begins as it has to at this place.
+// Whether a header starts as it has to at this offset.
 #[tactic(auto, unfolding(crate::specs::Choice2::beginning_at))]
 fn begins(place: u64, binary: &[u8]) -> bool
     ensures { result ≡ bytes_eq (at 0 8 binary.now) (beginning_at place) }
@@ -37,7 +37,7 @@ fn begins(place: u64, binary: &[u8]) -> bool
     }
 }
 
-// The number is one of the nine lengths.
+// Whether the number is one of the nine lengths.
 #[tactic(auto, unfolding(crate::specs::Header2::sizes))]
 fn is_size(number: u64) -> bool
     ensures { result ≡ list_any (λ size. size == number) sizes }
@@ -45,7 +45,7 @@ fn is_size(number: u64) -> bool
     SIZES.contains(&number)
 }
 
-// These bytes are a binary header of this place.
+// Whether these bytes are a binary header for this offset.
 #[tactic(auto, unfolding(crate::specs::Choice2::is_binary_of))]
 fn is_binary_of(place: u64, binary: &[u8]) -> bool
     requires { length binary.now ≡ 4096 }
@@ -59,7 +59,7 @@ fn is_binary_of(place: u64, binary: &[u8]) -> bool
         && checksum_hash_in(binary).is_some()
 }
 
-/// The 4,096 bytes at a place.
+/// The 4,096 bytes at an offset.
 pub(crate) fn binary_at(bytes: &[u8], place: usize) -> &[u8]
     requires { place + 4096 ≤ length bytes.now }
     ensures value { result.now ≡ binary_at bytes.now place }
@@ -68,7 +68,7 @@ pub(crate) fn binary_at(bytes: &[u8], place: usize) -> &[u8]
     &bytes[place..place + BINARY_LEN]
 }
 
-/// There is a binary header of this place.
+/// Whether a binary header for this offset is at the offset.
 #[tactic(auto, unfolding(crate::specs::Choice2::fits))]
 pub(crate) fn fits(bytes: &[u8], place: usize) -> bool
     requires { place ≤ 4194304 }
@@ -87,7 +87,8 @@ fn no_checksum() -> &'static [u8]
     &NO_CHECKSUM
 }
 
-// The checksum of a header by this hash function is the stored one. `sum` is a buffer for it.
+// Whether the checksum of a header by this hash function is the stored one. `sum` is a buffer for
+// it.
 #[tactic(auto, unfolding(crate::specs::Checksum2::without_checksum))]
 fn agrees(hash: Hash, header: &[u8], sum: &mut [u8]) -> bool
     requires whole { 4096 ≤ length header.now }
@@ -99,7 +100,7 @@ fn agrees(hash: Hash, header: &[u8], sum: &mut [u8]) -> bool
     header[448..].starts_with(sum)
 }
 
-// The checksum of a header and its JSON area is the stored one.
+// Whether the checksum of a header and its JSON area is the stored one.
 #[tactic(auto, unfolding(crate::specs::Checksum2::checksum_matches))]
 fn checksum_matches(header: &[u8]) -> bool
     requires { 4096 ≤ length header.now }
@@ -112,7 +113,7 @@ fn checksum_matches(header: &[u8]) -> bool
     }
 }
 
-/// There is a valid header at the place: it fits, is there whole, and its checksum agrees.
+/// Whether a valid header is at the offset: it fits, all of it is there, and its checksum matches.
 #[tactic(auto, unfolding(crate::specs::Choice2::is_valid))]
 pub(crate) fn is_valid(bytes: &[u8], place: usize) -> bool
     requires { place ≤ 4194304 }

@@ -1,4 +1,4 @@
--- A text in base64 is looked at group by group.
+-- A base64 string is decoded group by group.
 use Rattle.std.proofs.Common.{◌≡◌, ◌∙◌, ℕ, ◌+◌, ◌*◌, ◌<◌, ◌≤◌, ◌-◌, Bool, true, false, List, [], ◌++◌, length, take}
 use Rattle.std.proofs.Common.{take_all, drop, Option, Some, None, Ok, Err, refl, sym, ap, subst, arith}
 use Rattle.std.specs.Prelude.{◌&&◌, if◌then◌else◌, not, is_none, option_map, slice_index}
@@ -49,7 +49,7 @@ none_from_is_none : (o : Option DecodeError) → is_none o ≡ true → o ≡ No
 none_from_is_none None is = refl
 none_from_is_none (Some e) is = absurd cc
 
--- four symbols are a group
+-- a text begins with a group exactly if its first four bytes decode without an error
 of_one : (has : Bool) (e : DecodeError) (more : Option DecodeError)
     → is_none (or_else (if has then Some e else None) more) ≡ (not has && is_none more)
 of_one true e more = refl
@@ -65,7 +65,7 @@ group_is text = sym (of_one _ _ _ ∙ ap (λ b. is_symbol (slice_index text 0) &
     ∙ ap (λ b. is_symbol (slice_index text 1) && b) (of_one _ _ _
     ∙ ap (λ b. is_symbol (slice_index text 2) && b) (of_last _ _))))
 
--- of a text with a first group, and of the rest
+-- a text that starts with a group encodes three bytes more than the rest of it
 len_known : (front : List ℕ) (rest : Option (List ℕ)) → length front ≡ 3 → (before : ℕ)
     → option_map (λ (n : ℕ). before + 3 + n) (option_map (λ (bytes : List ℕ). length bytes) rest)
     ≡ option_map (λ (n : ℕ). before + n) (option_map (λ (bytes : List ℕ). length bytes) (prepend_known front rest))
@@ -85,7 +85,7 @@ len_past text before more is =
     let three : length (groups_bytes_of standard text 1) ≡ 3 = length-groups_bytes standard.decode_table text 1 in
     rw whole (len_known (groups_bytes_of standard text 1) (decoded_of standard (drop 4 text)) three before)
 
--- as the rest of a slice
+-- the same, with the rest as a part of a slice
 pub len_rest : (text : List ℕ) (before : ℕ) → 4 < length text → begins_with_group text ≡ true
     → option_map (λ (n : ℕ). before + 3 + n) (encoded_len (take (length text - 4) (drop 4 text)))
     ≡ option_map (λ (n : ℕ). before + n) (encoded_len text)
@@ -100,7 +100,7 @@ outcome_none : (lone groups suffix : Option DecodeError) (e : DecodeError) (byte
 outcome_none None groups suffix e bytes is = (e, rw is refl)
 outcome_none (Some d) groups suffix e bytes is = (d, refl)
 
--- a text whose first group is none stands for nothing
+-- a text that does not begin with a group encodes nothing
 pub not_encoded : (text : List ℕ) → 4 < length text → begins_with_group text ≡ false → encoded_len text ≡ None
 unfolding decoded_of
 not_encoded text more is =
@@ -113,7 +113,7 @@ not_encoded text more is =
     (4 * groups_before_last (length text)) text) error.0 (decoded_bytes standard.decode_table 61 text) first in
     rw none.1 refl
 
--- a last group
+-- the length of a last group: as many bytes as it decodes to, or none if decoding fails
 pub len_ok : (text new : List ℕ) (n : ℕ) → decode_of standard text ≡ Ok (take n new) → n ≤ length new
     → encoded_len text ≡ Some n
 len_ok text new n is few =

@@ -1,4 +1,4 @@
--- Lists of JSON values beside their items.
+-- Lists of JSON values, and the items of arrays.
 use Rattle.std.proofs.Common.{◌≡◌, ◌∙◌, ℕ, ◌+◌, ◌<◌, Bool, List, [], ◌∷◌, ◌++◌, Option, Some, None, ap, sym, refl}
 use Rattle.std.proofs.Common.{get_or, length, take}
 use Rattle.std.specs.Prelude.{◌&&◌, ◌||◌}
@@ -31,7 +31,7 @@ texts_among-append : (values : List Value) (value : Value)
 texts_among-append [] value = refl
 texts_among-append (first ∷ rest) value = cons_append (as_str (view first)) _ _ _ (texts_among-append rest value)
 
--- the texts of one value more
+-- one more value adds its string, if it is one
 pub texts_more : (values : List Value) (i : ℕ) (value : Value) → i < length values → value ≡ get_or values i value
     → texts_among (items_view (take (i + 1) values))
     ≡ texts_among (items_view (take i values)) ++ cons_option (as_str (view value)) []

@@ -1,4 +1,4 @@
--- The numbers that texts write in decimal digits.
+-- Numbers that strings write in decimal digits.
 use Rattle.std.proofs.Common.{◌≡◌, ◌<◌, ◌≤◌, ◌^◌, ℕ, List, None, Result, Ok, Err, ◌⊎◌, true, length, arith, rules, refl}
 use Rattle.std.proofs.Common.{inl, inr}
 use Rattle.std.proofs.lemmas.Bool.{cases_lt, le-ltb, lt-ltb, le-leb}
@@ -12,13 +12,13 @@ use Rattle.luks2_json.specs.Member.{decimal_of}
 numerals : IsNumeralModel (λ ds. list_all is_ascii_digit ds ≡ true) (digits_value 10)
 numerals = numerals_by_value _ (search rules)
 
--- what is read of a text only where the number is small enough
+-- a number of 2^64 or more is not read, if only smaller ones are
 none_of_large : {E : Type 0} (P : Type 0) (n : ℕ) (r : Result ℕ E) → OkIff r (P × (n < 2 ^ 64)) n → 2 ^ 64 ≤ n
     → result_ok r ≡ None
 none_of_large P n (Ok x) h large = absurd (omega (arith, h.0.1))
 none_of_large P n (Err e) h large = refl
 
--- std's `parse`, for a text of 1 to 20 digits
+-- std's `parse` reads a string of 1 to 20 digits as `decimal_of` states
 pub parse-decimal : {E : Type 0} (text : List ℕ) (r : Result ℕ E) → ParsesUnsigned 64 10 text r
     → list_all is_ascii_digit text ≡ true → 0 < length text → length text ≤ 20 → result_ok r ≡ decimal_of text
 unfolding decimal_of

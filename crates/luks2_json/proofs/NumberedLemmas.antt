@@ -18,13 +18,13 @@ pub none_below : (name : List ℕ) → is_number_below 0 name ≡ false
 unfolding is_number_below
 none_below name = refl
 
--- the next number
+-- a name that is no number below n is one below n + 1 exactly if it is n
 pub number_next : (n : ℕ) (name : List ℕ) (is : Bool) → is_number_below n name ≡ false → bytes_eq name (decimal n) ≡ is
     → is_number_below (n + 1) name ≡ is
 unfolding is_number_below
 number_next n name is none here = rw (add-one, none, here) refl
 
--- a number below n is one below any higher one
+-- a name that is a number below n is one below any higher number
 of_place : (n m : ℕ) (name : List ℕ) → (n ≤ m → is_number_below m name ≡ true) → is_number_below n name ≡ true
     → (n < suc m) ⊎ (suc m ≤ n) → n ≤ suc m → is_number_below (suc m) name ≡ true
 unfolding is_number_below
@@ -40,19 +40,19 @@ number_stays n zero name few is =
 number_stays n (suc m) name few is =
     of_place n m name (λ below. number_stays n m name below is) is (cases_lt n (suc m)) few
 
--- the names of an object's members
+-- the keys of a map are the names of the object's members
 pub list_any-names : (test : List ℕ → Bool) (entries : List (String Global × Value))
     → list_any (λ (key : String Global). test (string_bytes key)) (keys_of entries)
     ≡ any_name test (members_view entries)
 list_any-names test [] = refl
 list_any-names test (entry ∷ rest) = ap (λ others. test (string_bytes entry.0) || others) (list_any-names test rest)
 
--- the chain that gives the keys of a map
+-- the iterator over the keys of a map yields each of them in order
 pub keys_given : {K : Type 0} (keys : List K) → YieldsList (TakesFirst (deref {X = K})) (deref {X = K}) keys keys
 keys_given {K} keys = YieldsList-from_shown (TakesFirst (deref {X = K})) (deref {X = K}) (λ rest. rest)
     (λ s t ended. ap (λ (l : List K). length l) ended.0) (λ s x t taken. taken) keys
 
--- ---- the lowest number of which something is made
+-- ---- the lowest number with a result
 
 pub none_from_not_some : {T : Type 0} (o : Option T) → is_some o ≡ false → o ≡ None
 none_from_not_some None is = refl
@@ -78,7 +78,7 @@ lowest_stays f n (suc k) is =
     let before = lowest_stays f n k is in
     ap (lowest f) same ∙ (lowest_kept (lowest f (n + k)) (f (n + k)) (ap is_some before ∙ is) ∙ before)
 
--- the first that is found
+-- if no number below n has a result and n has one, that is the lowest one's result below any higher bound
 pub lowest_found : {T : Type 0} (f : ℕ → Option T) (n m : ℕ) → lowest f n ≡ None → n < m → is_some (f n) ≡ true
     → lowest f m ≡ f n
 lowest_found f n m none below is =

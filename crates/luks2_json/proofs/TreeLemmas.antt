@@ -1,4 +1,4 @@
--- The text of a JSON area, as it is read.
+-- Reading the text of a JSON area.
 use Rattle.std.proofs.Common.{◌≡◌, ℕ, Bool, true, false, List, Some, None, Result, Ok, Err, refl}
 use Rattle.std.specs.Prelude.{IfOk, IsUtf8, if◌then◌else◌}
 use Rattle.std.specs.Str.{is_utf8}
@@ -9,12 +9,12 @@ use Rattle.luks2_json.specs.Tree.{has_objects, tree_of, value_of, where_header}
 use Rattle.serde_json.specs.Data.{Data}
 use Rattle.serde_json.specs.Read.{read}
 
--- a text that is read says its tree, if that has the objects
+-- the tree of a text that can be read is its value, if that has the objects
 tree_of-read : (text : List ℕ) (tree : Data) → IsUtf8 text → read text ≡ Some tree → tree_of text ≡ where_header tree
 unfolding tree_of value_of
 tree_of-read text tree utf8 is = rw (is_utf8-from_IsUtf8 text utf8, is) refl
 
--- what it comes to: its tree
+-- a tree that is read is the tree of the text
 pub read-ok : (text : List ℕ) (tree : Data) (result : Result Data HeaderFault) → IsUtf8 text → read text ≡ Some tree
     → result ≡ (if has_objects tree then Ok tree else Err Json) → IfOk result (λ said. tree_of text ≡ Some said)
 read-ok text tree result utf8 read is = of_test (has_objects tree) (tree_of-read text tree utf8 read) is
@@ -24,7 +24,7 @@ read-ok text tree result utf8 read is = of_test (has_objects tree) (tree_of-read
     of_test true says is = rw is says
     of_test false says is = rw is tt
 
--- or Json, if it lacks an object
+-- if the answer is Json, since the value lacks an object, the text has no tree
 pub read-json : (text : List ℕ) (tree : Data) (result : Result Data HeaderFault) → IsUtf8 text → read text ≡ Some tree
     → result ≡ (if has_objects tree then Ok tree else Err Json) → result ≡ Err Json → tree_of text ≡ None
 read-json text tree result utf8 read is = of_test (has_objects tree) (tree_of-read text tree utf8 read) is
@@ -34,7 +34,7 @@ read-json text tree result utf8 read is = of_test (has_objects tree) (tree_of-re
     of_test true says is refused = absurd cc
     of_test false says is refused = says
 
--- one that is not read
+-- a text that cannot be read has no tree
 pub tree_of-unread : (text : List ℕ) → (IsUtf8 text → read text ≡ None) → tree_of text ≡ None
 unfolding tree_of value_of
 tree_of-unread text none = of_test (is_utf8 text) refl

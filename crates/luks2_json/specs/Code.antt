@@ -1,4 +1,4 @@
--- A code of JSON values, by which a proof distinguishes them: it is required of every value that a clause mentions.
+-- A code for JSON values, by which a proof distinguishes them: every value that a clause mentions needs one.
 use Rattle.std.specs.Prelude.{◌≡◌, ◌⊎◌, ℕ, ℤ, Float, refl}
 use Rattle.std.specs.Coded.{Coded, code_by, coded_ℕ, coded_ℤ, coded_bool, coded_list, coded⊎}
 use Rattle.std.proofs.Common.{ap, arith, inl, inr}
@@ -68,7 +68,7 @@ is_pair gnil = 0
 is_pair (gnum n) = 0
 is_pair (gcons a b) = 1
 
--- values of one code are one value
+-- values with the same code are the same
 mutual
   pub same_value : (x y : Data) → code_of x ≡ code_of y → x ≡ y
   same_value null null p = refl

@@ -1,5 +1,4 @@
--- What is said of a use of PBKDF2 (LUKS2 On-Disk Format Specification 1.1, section 3). Key slots and digests say it
--- alike.
+-- The parameters of PBKDF2 (LUKS2 On-Disk Format Specification 1.1, section 3). Key slots and digests state them alike.
 use Rattle.std.specs.Prelude.{ℕ, List, [], Option, codes, option_and_then, unwrap_or}
 use Rattle.luks_kdf.specs.Hash.{hash_named}
 use Rattle.luks_kdf.specs.declared.hash.Hash.{Hash}

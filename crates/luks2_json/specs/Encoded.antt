@@ -12,7 +12,7 @@ is_in_alphabet byte = is_ascii_alphanumeric byte || (byte == 43 || byte == 47)
 unfoldable pub is_symbol : ℕ → Bool
 is_symbol byte = not (slice_index standard.decode_table byte == 255)
 
--- the first four bytes have
+-- each of the first four bytes has a value in the standard alphabet
 abbrev pub begins_with_group : List ℕ → Bool
 begins_with_group text =
     is_symbol (slice_index text 0)

@@ -1,45 +1,45 @@
--- Lists of texts, as digests have them (LUKS2 On-Disk Format Specification 1.1, section 3, the digests object).
+-- Arrays of strings, as digests have them (LUKS2 On-Disk Format Specification 1.1, section 3, the digests object).
 use Rattle.std.specs.Prelude.{ℕ, ◌&&◌, ◌||◌, Bool, true, false, List, [], Option, bytes_eq, is_some, option_and_then}
 use Rattle.std.specs.Prelude.{option_map, unwrap_or}
 use Rattle.std.specs.List.{cons_option}
 use Rattle.serde_json.specs.Data.{Data, Items, no_items, item}
 use Rattle.serde_json.specs.Find.{as_array, as_str, get}
 
--- all that a list has passes the test
+-- all items of the array pass the test
 abbrev pub all_items : (Data → Bool) → Items → Bool
 all_items test no_items = true
 all_items test (item value rest) = test value && all_items test rest
 
--- something that a list has does
+-- some item of the array passes the test
 abbrev pub any_item : (Data → Bool) → Items → Bool
 any_item test no_items = false
 any_item test (item value rest) = test value || any_item test rest
 
--- the value is a text
+-- the value is a string
 abbrev pub is_text : Data → Bool
 is_text value = is_some (as_str value)
 
--- it is this text
+-- the value is this string
 abbrev pub is_the_text : List ℕ → Data → Bool
 is_the_text text value = unwrap_or (option_map (bytes_eq text) (as_str value)) false
 
--- the texts that a list has, in its order
+-- the strings among the items, in their order
 abbrev pub texts_among : Items → List (List ℕ)
 texts_among no_items = []
 texts_among (item value rest) = cons_option (as_str value) (texts_among rest)
 
--- the list under this name
+-- the items of the array under this name
 abbrev pub list_at : List ℕ → Data → Option Items
 list_at name owner = option_and_then as_array (get name owner)
 
--- there is a list under this name, and all that it has are texts
+-- there is an array under this name, and all its items are strings
 unfoldable pub has_texts : List ℕ → Data → Bool
 has_texts name owner = unwrap_or (option_map (all_items is_text) (list_at name owner)) false
 
--- there is a list under this name, and it has the text
+-- there is an array under this name, and it contains the string
 unfoldable pub array_contains : List ℕ → List ℕ → Data → Bool
 array_contains name text owner = unwrap_or (option_map (any_item (is_the_text text)) (list_at name owner)) false
 
--- the texts of the list under this name
+-- the strings in the array under this name
 unfoldable pub texts_at : List ℕ → Data → List (List ℕ)
 texts_at name owner = unwrap_or (option_map texts_among (list_at name owner)) []

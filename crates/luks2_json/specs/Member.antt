@@ -1,6 +1,6 @@
--- The kinds of members (LUKS2 On-Disk Format Specification 1.1, section 3): each definition finds the value of an
--- object under a name, if it is there and of that kind. JSON's null is a value like others: a member that is null is
--- there, and is neither a number nor a string nor an object.
+-- The types of members (LUKS2 On-Disk Format Specification 1.1, section 3): each definition finds the value that an
+-- object has under a name, if it is present and of that type. JSON's null is a value like others: a member that is null
+-- is present, and is neither a number nor a string nor an object.
 use Rattle.std.specs.Prelude.{ℕ, ◌&&◌, ◌^◌, Bool, false, List, Option, Some, None, bytes_eq, codes, is_some, length}
 use Rattle.std.specs.Prelude.{nat_le, nat_lt, if◌then◌else◌, option_and_then, option_map, unwrap_or}
 use Rattle.std.specs.Char.{is_ascii_digit}
@@ -11,24 +11,24 @@ use Rattle.base64.specs.GeneralPurpose.{decoded_of}
 use Rattle.serde_json.specs.Data.{Data}
 use Rattle.serde_json.specs.Find.{as_number, as_str, as_u64, get}
 
--- a whole number: a JSON number without sign, fraction or exponent, below 2^64
+-- an integer: a JSON number without sign, fraction or exponent, below 2^64
 unfoldable pub integer_member : List ℕ → Data → Option ℕ
 integer_member name owner = option_and_then as_u64 (option_and_then as_number (get name owner))
 
--- a string_member
+-- a string
 unfoldable pub string_member : List ℕ → Data → Option (List ℕ)
 string_member name owner = option_and_then as_str (get name owner)
 
--- the string_member is a number below 2^64 in 1 to 20 decimal digits, of which the first may be zeros
+-- the string is a number below 2^64 in 1 to 20 decimal digits; leading zeros are allowed
 abbrev pub is_decimal : List ℕ → Bool
 is_decimal digits = nat_lt 0 (length digits) && nat_le (length digits) 20 && list_all is_ascii_digit digits
     && nat_lt (digits_value 10 digits) (2 ^ 64)
 
--- the number that such a string_member writes
+-- the number that such a string writes
 unfoldable pub decimal_of : List ℕ → Option ℕ
 decimal_of digits = if is_decimal digits then Some (digits_value 10 digits) else None
 
--- a number in decimal digits: JSON has no numbers of 64 bits, so the format writes them as texts
+-- a number in decimal digits: JSON has no numbers of 64 bits, so the format writes them as strings
 unfoldable pub decimal_member : List ℕ → Data → Option ℕ
 decimal_member name owner = option_and_then decimal_of (string_member name owner)
 
@@ -36,19 +36,19 @@ decimal_member name owner = option_and_then decimal_of (string_member name owner
 unfoldable pub base64_member : List ℕ → Data → Option (List ℕ)
 base64_member name owner = option_and_then (decoded_of standard) (string_member name owner)
 
--- the string_member under this name is that one
+-- the string under this name is the expected one
 unfoldable pub is_named : List ℕ → List ℕ → Data → Bool
 is_named name expected owner = unwrap_or (option_map (bytes_eq expected) (string_member name owner)) false
 
--- the member `type` is this string_member
+-- the member `type` is this string
 abbrev pub is_type : List ℕ → Data → Bool
 is_type expected owner = is_named (codes "type") expected owner
 
--- the object has something under this name, whatever it is
+-- the object has a member with this name, of any type
 abbrev pub has : List ℕ → Data → Bool
 has name owner = is_some (get name owner)
 
--- what is found in the member of this name
+-- what `find` gives for the member with this name
 abbrev pub in_member : {T : Type 0} → List ℕ → (Data → Option T) → Data → Option T
 in_member name find owner = option_and_then find (get name owner)
 

@@ -1,5 +1,5 @@
 -- The names of key slots and digests (LUKS2 On-Disk Format Specification 1.1, section 3): the numbers from 0 to 31 in
--- decimal digits, without leading zeros. Members under other names are passed over.
+-- decimal digits, without leading zeros. Members under other names are ignored.
 use Rattle.std.specs.Prelude.{ℕ, zero, suc, ◌||◌, not, Bool, false, List, Option, None, bytes_eq, codes, decimal}
 use Rattle.std.specs.Prelude.{nat_lt, if◌then◌else◌, option_map, unwrap_or}
 use Rattle.std.specs.Option.{option_or}
@@ -8,7 +8,7 @@ use Rattle.luks2_json.specs.Member.{in_member}
 use Rattle.serde_json.specs.Data.{Data, Members, no_members, member}
 use Rattle.serde_json.specs.Find.{as_object, get}
 
--- what the object of these names, `keyslots` or `digests`, has for a number
+-- the value with a number in the object of this name, `keyslots` or `digests`
 unfoldable pub object_numbered : List ℕ → Data → ℕ → Option Data
 object_numbered names tree number =
     if nat_lt number max_slots then in_member names (get (decimal number)) tree else None
@@ -23,13 +23,13 @@ abbrev pub any_name : (List ℕ → Bool) → Members → Bool
 any_name test no_members = false
 any_name test (member name value rest) = test name || any_name test rest
 
--- a member of `keyslots` is passed over
+-- a member of `keyslots` is ignored, since its name is no number below 32
 unfoldable pub has_key_out_of_range : Data → Bool
 has_key_out_of_range tree =
     unwrap_or (option_map (any_name (λ name. not (is_number_below max_slots name)))
     (in_member (codes "keyslots") as_object tree)) false
 
--- what is made of the lowest number below n of which something is made
+-- the result of the lowest number below n that has one
 unfoldable pub lowest : {T : Type 0} → (ℕ → Option T) → ℕ → Option T
 lowest f zero = None
 lowest f (suc n) = option_or (lowest f n) (f n)

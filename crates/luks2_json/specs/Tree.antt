@@ -1,19 +1,19 @@
--- The JSON area of a LUKS2 header (LUKS2 On-Disk Format Specification 1.1, section 3): what its text says as a whole.
+-- The JSON area of a LUKS2 header (LUKS2 On-Disk Format Specification 1.1, section 3): the tree of its whole text.
 use Rattle.std.specs.Prelude.{ℕ, ◌&&◌, Bool, List, Option, Some, None, codes, is_some, if◌then◌else◌, option_and_then}
 use Rattle.std.specs.Str.{is_utf8}
 use Rattle.serde_json.specs.Data.{Data}
 use Rattle.serde_json.specs.Find.{as_object, get}
 use Rattle.serde_json.specs.Read.{read}
 
--- the JSON value that a text is, nested at most 127 deep. Bytes that are not UTF-8 are none
+-- the JSON value of a text, nested at most 127 deep. Bytes that are not UTF-8 have none
 unfoldable pub value_of : List ℕ → Option Data
 value_of text = if is_utf8 text then read text else None
 
--- the member of this name is there, and is an object
+-- the member with this name is present, and is an object
 abbrev pub is_object_at : List ℕ → Data → Bool
 is_object_at name tree = is_some (option_and_then as_object (get name tree))
 
--- the objects of key slots, segments and digests are there
+-- the objects of key slots, segments and digests are present
 unfoldable pub has_objects : Data → Bool
 has_objects tree = is_object_at (codes "keyslots") tree
     && is_object_at (codes "segments") tree
@@ -23,6 +23,6 @@ has_objects tree = is_object_at (codes "keyslots") tree
 abbrev pub where_header : Data → Option Data
 where_header tree = if has_objects tree then Some tree else None
 
--- what the text of a JSON area says, if it can be read
+-- the tree of the text of a JSON area, if it can be read
 unfoldable pub tree_of : List ℕ → Option Data
 tree_of text = option_and_then where_header (value_of text)

@@ -1,4 +1,4 @@
-//! What is said of a use of PBKDF2. Key slots and digests say it alike.
+//! The parameters of PBKDF2. Key slots and digests state them alike.
 
 ghost use Rattle.std.specs.Prelude.{◌≡◌, [], IfOk, unwrap_or};
 ghost use Rattle.luks2_json.specs.Derivation.{hash_member, iterations_in, salt_in};
@@ -27,7 +27,7 @@ pub fn iterations_in(object: &Value) -> u64
     integer_member(object, "iterations").unwrap_or(0)
 }
 
-/// The bytes under this name in base64, or none if they are missing.
+/// The bytes under this name in base64, or no bytes if they are missing.
 pub fn bytes_in(alloc: Global, object: &Value, name: &str) -> Result<HeaderBytes, AllocError>
     ensures { IfOk result (λ bytes. bytes
         ≡ unwrap_or (base64_member name.now (data_of object.now)) []) }

@@ -25,7 +25,7 @@ fn is_symbol(byte: u8) -> bool
     is_in_alphabet(byte)
 }
 
-// The first four bytes have.
+// Each of the first four bytes has a value in the standard alphabet.
 fn begins_with_group(text: &[u8]) -> bool
     requires { 4 ≤ length text.now }
     ensures { result ≡ begins_with_group text.now }
@@ -33,7 +33,8 @@ fn begins_with_group(text: &[u8]) -> bool
     is_symbol(text[0]) && is_symbol(text[1]) && is_symbol(text[2]) && is_symbol(text[3])
 }
 
-// The number of bytes that a last group encodes. It may have padding, or be empty.
+// The number of bytes that a last group encodes, if it encodes any. The group may have padding, or
+// be empty.
 fn last_len(text: &[u8]) -> Option<usize>
     requires { length text.now ≤ 4 }
     ensures value { result ≡ encoded_len text.now }

@@ -5,7 +5,7 @@ ghost use Rattle.luks2_json.specs.Encryption.{is_length_for, encryption_mode};
 
 use luks_cipher::Mode;
 
-/// The mode that a text names behind `aes-`, if that is known.
+/// The mode that a string names after `aes-`, if that mode is known.
 #[tactic(auto, unfolding(crate::specs::Encryption::encryption_mode))]
 pub fn encryption_mode(encryption: &str) -> Option<Mode>
     ensures { result ≡ encryption_mode encryption.now }

@@ -1,5 +1,5 @@
 //! The JSON area of a LUKS2 header (LUKS2 On-Disk Format Specification 1.1, section 3): its text as
-//! a tree of values, and the kinds of members that objects of a header have.
+//! a tree of values, and the types of members that objects of a header have.
 #![tactic(auto)]
 
 pub mod derivation;

@@ -1,4 +1,4 @@
-//! Lists of texts.
+//! Arrays of strings.
 
 ghost use Rattle.std.specs.Prelude.{◌≡◌, ◌++◌, [], IfOk, OnOk, List, ℕ, map, string_bytes};
 ghost use Rattle.std.specs.List.{cons_option};
@@ -11,7 +11,7 @@ use serde_json::Value;
 use std::alloc::{AllocError, Global};
 use std::marker::Model;
 
-// The value is this text.
+// The value is this string.
 fn is_the_text(value: &Value, text: &str) -> bool
     ensures { result ≡ is_the_text text.now (data_of value.now) }
 {
@@ -21,21 +21,21 @@ fn is_the_text(value: &Value, text: &str) -> bool
     }
 }
 
-// All that the list has are texts.
+// All items of the array are strings.
 fn all_texts(values: &[Value]) -> bool
     ensures { result ≡ all_items is_text (items_view values.now) }
 {
     values.iter().all(|value| value.is_string())
 }
 
-// The list has the text.
+// Some item of the array is this string.
 fn any_text(values: &[Value], text: &str) -> bool
     ensures { result ≡ any_item (is_the_text text.now) (items_view values.now) }
 {
     values.iter().any(|value| is_the_text(value, text))
 }
 
-/// There is a list under this name, and all that it has are texts.
+/// There is an array under this name, and all its items are strings.
 #[tactic(auto, unfolding(crate::specs::List::has_texts))]
 pub fn has_texts(object: &Value, name: &str) -> bool
     ensures { result ≡ has_texts name.now (data_of object.now) }
@@ -49,7 +49,7 @@ pub fn has_texts(object: &Value, name: &str) -> bool
     }
 }
 
-/// There is a list under this name, and it has the text.
+/// There is an array under this name, and it contains the string.
 #[tactic(auto, unfolding(crate::specs::List::array_contains))]
 pub fn array_contains(object: &Value, name: &str, text: &str) -> bool
     ensures { result ≡ array_contains name.now text.now (data_of object.now) }
@@ -63,7 +63,7 @@ pub fn array_contains(object: &Value, name: &str, text: &str) -> bool
     }
 }
 
-/// Names, in the order in which a list has them. A clause sees their bytes.
+/// Names, in the order of the array that they come from. A clause sees their bytes.
 #[derive(Drop, Debug)]
 pub struct Names {
     names: Vec<String>,
@@ -84,7 +84,7 @@ impl Names {
     }
 }
 
-// Puts the value behind the names, if it is a text.
+// Appends the value to the names, if it is a string.
 fn push_text(alloc: Global, names: &mut Vec<String>, value: &Value) -> Result<(), AllocError>
     ensures { OnOk result (map string_bytes names.new.items
         ≡ map string_bytes names.old.items ++ cons_option (as_str (data_of value.now)) []) }
@@ -95,7 +95,7 @@ fn push_text(alloc: Global, names: &mut Vec<String>, value: &Value) -> Result<()
     Ok(())
 }
 
-// The texts that the list has.
+// The strings among the items of the array.
 fn texts_among(alloc: Global, values: &[Value]) -> Result<Names, AllocError>
     ensures { IfOk result (λ names. names ≡ texts_among (items_view values.now)) }
 {
@@ -106,7 +106,7 @@ fn texts_among(alloc: Global, values: &[Value]) -> Result<Names, AllocError>
     Ok(Names { names })
 }
 
-/// The texts of the list under this name.
+/// The strings in the array under this name.
 #[tactic(auto, unfolding(crate::specs::List::texts_at))]
 pub fn texts_at(alloc: Global, object: &Value, name: &str) -> Result<Names, AllocError>
     ensures { IfOk result (λ names. names ≡ texts_at name.now (data_of object.now)) }

@@ -1,5 +1,5 @@
-//! The kinds of members: each function finds the value of an object under a name, if it is there
-//! and of that kind.
+//! The types of members: each function finds the value that an object has under a name, if it is
+//! present and of that type.
 
 ghost use Rattle.std.specs.Prelude.{◌≡◌, List, ℕ, length, option_map, IfOk};
 ghost use Rattle.std.specs.Char.{is_ascii_digit};
@@ -12,7 +12,7 @@ use crate::encoded::{decoded, encoded_len};
 use serde_json::Value;
 use std::alloc::{AllocError, Global};
 
-/// The whole number under this name.
+/// The integer under this name.
 #[tactic(auto, unfolding(crate::specs::Member::integer_member))]
 pub fn integer_member(object: &Value, name: &str) -> Option<u64>
     ensures { result ≡ integer_member name.now (view object.now) }
@@ -20,7 +20,7 @@ pub fn integer_member(object: &Value, name: &str) -> Option<u64>
     object.get(name)?.as_u64()
 }
 
-/// The text under this name.
+/// The string under this name.
 #[tactic(auto, unfolding(crate::specs::Member::string_member))]
 pub fn string_member<'v>(object: &'v Value, name: &str) -> Option<&'v str>
     ensures { option_map (λ t. t.now) result ≡ text_of name.now (view object.now) }
@@ -28,7 +28,7 @@ pub fn string_member<'v>(object: &'v Value, name: &str) -> Option<&'v str>
     object.get(name)?.as_str()
 }
 
-/// The text under this name is that one.
+/// The string under this name is the expected one.
 #[tactic(auto, unfolding(crate::specs::Member::is_named))]
 pub fn is_named(object: &Value, name: &str, expected: &str) -> bool
     ensures { result ≡ is_named name.now expected.now (view object.now) }
@@ -39,21 +39,21 @@ pub fn is_named(object: &Value, name: &str, expected: &str) -> bool
     }
 }
 
-/// The member `type` is this text.
+/// The member `type` is this string.
 pub fn is_type(object: &Value, expected: &str) -> bool
     ensures { result ≡ is_type expected.now (view object.now) }
 {
     is_named(object, "type", expected)
 }
 
-// Each byte of the text is a decimal digit.
+// Each byte of the string is a decimal digit.
 fn all_digits(text: &str) -> bool
     ensures { result ≡ list_all is_ascii_digit text.now }
 {
     text.bytes().all(|byte| byte.is_ascii_digit())
 }
 
-// The number below 2^64 that the text writes in 1 to 20 decimal digits.
+// The number below 2^64 that the string writes in 1 to 20 decimal digits.
 #[tactic(auto, unfolding(crate::specs::Member::decimal_of))]
 fn number_of(text: &str) -> Option<u64>
     ensures { result ≡ decimal_of text.now }
@@ -64,7 +64,7 @@ fn number_of(text: &str) -> Option<u64>
     text.parse().ok()
 }
 
-/// The number below 2^64 that the text under this name writes in 1 to 20 decimal digits.
+/// The number below 2^64 that the string under this name writes in 1 to 20 decimal digits.
 #[tactic(auto, unfolding(crate::specs::Member::decimal_member))]
 pub fn decimal_member(object: &Value, name: &str) -> Option<u64>
     ensures { result ≡ decimal_member name.now (view object.now) }

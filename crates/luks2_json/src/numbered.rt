@@ -1,4 +1,4 @@
-//! Members under numbers.
+//! Members whose names are numbers.
 
 ghost use Rattle.std.specs.Prelude.{◌≡◌, bytes_eq, decimal, not, option_map, string_bytes};
 ghost use Rattle.luks_verdict.specs.Rule.{max_slots};
@@ -10,7 +10,7 @@ use itoa::Buffer;
 use luks_verdict::rule::MAX_SLOTS;
 use serde_json::{Map, Value};
 
-/// What the object of these names has for the number, which is below 32.
+/// The value with this number in the object of this name. A number of 32 or more has none.
 #[tactic(auto, unfolding(crate::specs::Numbered::object_numbered))]
 pub fn object_numbered<'v>(tree: &'v Value, names: &str, number: u8) -> Option<&'v Value>
     ensures { option_map (λ value. data_of value.now) result
@@ -23,7 +23,7 @@ pub fn object_numbered<'v>(tree: &'v Value, names: &str, number: u8) -> Option<&
     tree.get(names)?.get(name.format(number))
 }
 
-// The name is that of this number.
+// The name is this number in decimal digits.
 fn is_name(name: &str, number: u8) -> bool
     ensures { result ≡ bytes_eq name.now (decimal number) }
 {
@@ -43,7 +43,7 @@ fn is_number(name: &str) -> bool
     false
 }
 
-// A member has another name.
+// A member has a name that is no number below 32.
 fn any_other_name(members: &Map<String, Value>) -> bool
     ensures { result ≡ any_name (λ name. not (is_number_below max_slots name))
         (members_view members.now.entries) }

@@ -1,4 +1,4 @@
-//! What the text of a JSON area says as a whole.
+//! The text of a JSON area as a tree of values.
 
 ghost use Rattle.std.specs.Prelude.{◌≡◌, ◌<◌, ◌⊎◌, ◌↔◌, Some, None, Ok, Err, IfOk, IfErr};
 ghost use Rattle.std.specs.Prelude.{if◌then◌else◌, length};
@@ -11,8 +11,8 @@ use serde_json::Value;
 use std::alloc::Global;
 use std::marker::Model;
 
-/// What a JSON area says: an object with objects of key slots, segments and digests. A clause sees
-/// the tree of JSON values.
+/// The metadata in a JSON area: an object with objects of key slots, segments and digests. A clause
+/// sees the tree of JSON values.
 #[derive(Drop, Debug)]
 pub struct Metadata {
     tree: Value,
@@ -40,7 +40,7 @@ fn object_at(tree: &Value, name: &str) -> bool
     }
 }
 
-// The objects of key slots, segments and digests are there.
+// The objects of key slots, segments and digests are present.
 #[tactic(auto, unfolding(crate::specs::Tree::has_objects))]
 fn complete(tree: &Value) -> bool
     ensures { result ≡ has_objects (data_of tree.now) }
@@ -74,7 +74,7 @@ impl Metadata {
         }
     }
 
-    /// What the text of a JSON area says.
+    /// Reads the metadata from the text of a JSON area.
     ///
     /// # Errors
     ///

@@ -13,18 +13,18 @@ use Rattle.luks2_metadata.specs.Digest2.{digest2_of, digest_parts2_of, is_digest
 use Rattle.luks2_json.specs.Derivation.{iterations_in}
 use Rattle.serde_json.specs.Data.{Data}
 
--- one that lacks a member, or has one of a wrong kind
+-- a digest that lacks a member, has one of a wrong type or names an unknown hash function is not usable
 pub not_digest : (digest : Data) → is_digest2 digest ≡ false → digest2_of digest ≡ None
 unfolding digest2_of
 not_digest digest is = rw is refl
 
--- one whose numbers are not in range
+-- a digest whose numbers are out of range is not usable
 pub out_of_range : (digest : Data) → is_digest2 digest ≡ true
     → is_digest (iterations_in digest) (length (value_in digest)) ≡ false → digest2_of digest ≡ None
 unfolding digest2_of
 out_of_range digest is none = rw is (digest_from-no (digest_parts2_of digest) none)
 
--- one with more iterations than four bytes can say
+-- iterations that do not fit into four bytes are out of range
 too_many : (iterations len : ℕ) → max_iteration_count < iterations → is_digest iterations len ≡ false
 unfolding is_digest iterations_out_of_range
 too_many iterations len many = grind (arith, nat_tests)
@@ -34,7 +34,7 @@ pub many_iterations : (digest : Data) → is_digest2 digest ≡ true → max_ite
 many_iterations digest is many =
     out_of_range digest is (too_many (iterations_in digest) (length (value_in digest)) many)
 
--- one whose numbers are in range
+-- a digest whose numbers are in range is usable, and has the stated iterations
 pub digest_in_range : (digest : Data) → is_digest2 digest ≡ true
     → is_digest (iterations_in digest) (length (value_in digest)) ≡ true
     → option_map iterations_of_digest (digest2_of digest) ≡ Some (iterations_in digest)
@@ -44,7 +44,7 @@ digest_in_range digest is held = rw (is, digest_from-yes (digest_parts2_of diges
 pub few_iterations : (iterations len : ℕ) → is_digest iterations len ≡ true → iterations ≤ max_iteration_count
 few_iterations iterations len is = (usable_digest iterations len is).few_iterations
 
--- ---- the lowest one
+-- ---- the lowest-numbered digest
 
 pub same_some : (o : Option KeyDigest) → is_some (option_map iterations_of_digest o) ≡ is_some o
 same_some None = refl

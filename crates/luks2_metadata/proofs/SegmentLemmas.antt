@@ -31,7 +31,7 @@ use Rattle.serde_json.specs.Find.{as_array, as_object, get, get_member}
 use Rattle.serde_json.specs.View.{items_view, members_view, view}
 use Rattle.serde_json.specs.declared.value.Value.{Value}
 
--- ---- lists without items
+-- ---- empty arrays
 
 none_viewed : (values : List Value) → (length values == 0) ≡ are_none (items_view values)
 none_viewed [] = refl
@@ -63,7 +63,7 @@ none_only name [] more = refl
 none_only name (entry ∷ []) more = absurd (more refl)
 none_only name (entry ∷ next ∷ rest) more = refl
 
--- what an object has is what its members have
+-- looking up a name in an object looks it up among its members
 get_object : (name : List ℕ) (value : Data) (all : json.Members) → as_object value ≡ Some all
     → get name value ≡ get_member name all
 get_object name (object found) all is = let same : found ≡ all = cc in ap (get_member name) same
@@ -73,7 +73,7 @@ get_object name (json.number n) all is = absurd cc
 get_object name (json.string s) all is = absurd cc
 get_object name (json.array values) all is = absurd cc
 
--- the segment, where the object of segments has one member, and where it has another number of them
+-- the segment, if the object of segments has exactly one member, and if it has another number of members
 pub segment_only : (tree segments : Data) (entries : List (String Global × Value)) (found : Option Data)
     → Some segments ≡ get (codes "segments") tree → Some (members_view entries) ≡ as_object segments
     → length entries ≡ 1 → found ≡ get (codes "0") segments → found ≡ the_segment tree
@@ -100,13 +100,13 @@ pub fault2-segments : (tree : Data) (bounds : Bounds) → has_requirement tree �
 unfolding fault2_of
 fault2-segments tree bounds requires none = rw (requires, none) refl
 
--- where nothing is required and there is one, it is that of its members
+-- if nothing is required and there is a segment, the first fault is that of the segment
 pub fault2-there : (tree : Data) (bounds : Bounds) (segment : Data) → has_requirement tree ≡ false
     → the_segment tree ≡ Some segment → fault2_of tree bounds ≡ first_match (segment_faults bounds segment)
 unfolding fault2_of
 fault2-there tree bounds segment requires there = rw (requires, there) refl
 
--- the segment, by its fault
+-- a segment with a fault is refused with its first one; a segment without a fault is made from its parts
 pub segment2-fault : (tree : Data) (bounds : Bounds) (fault : SegmentFault) → fault2_of tree bounds ≡ Some fault
     → segment2_of tree bounds ≡ Err fault
 unfolding segment2_of
@@ -121,7 +121,7 @@ segment2-none tree bounds segment none made =
     refused_or-none (fault2_of tree bounds) (segment_from (segment_parts2_of (segment_said tree)))
     (made2 tree bounds) segment none made
 
--- what is said of the segment that is there
+-- if there is a segment, `segment_said` is its value
 pub said-there : (tree segment : Data) → the_segment tree ≡ Some segment → segment_said tree ≡ segment
 said-there tree segment there = rw there refl
 
@@ -131,7 +131,7 @@ mapped : {A B : Type 0} (f : A → B) (o : Option A) (y : B) → option_map f o 
 mapped f (Some x) y is = (x, same_Some _ _ is)
 mapped f None y is = absurd cc
 
--- starts where the header says that it does
+-- the segment that these parts make starts at the stated offset
 offset_made : (offset : Option ℕ) (size : Option (Option ℕ)) (iv_tweak : Option ℕ) (sector_size : Option Sector)
     (mode : Option Mode) (segment : Segment) → segment_of_all offset size iv_tweak sector_size mode ≡ Some segment
     → offset ≡ Some segment.offset
@@ -142,7 +142,7 @@ offset_made (Some offset) (Some size) (Some iv_tweak) (Some sector_size) (Some m
     ap (λ (s : Segment). Some s.offset) made.1
 offset_made _ _ _ _ _ segment is = absurd cc
 
--- a payload in the header's image that does not start wrong starts behind the header
+-- with an attached header, a payload with a valid offset starts after the header
 starts_right : (bounds : Bounds) (offset : ℕ) → starts_wrong bounds (Some offset) ≡ false → bounds.detached ≡ false
     → bounds.end ≤ offset
 unfolding starts_wrong overlaps_headers2
@@ -150,7 +150,7 @@ starts_right bounds offset is attached =
     let right : (nat_lt offset bounds.end || not (offset % 512 == 0)) ≡ false = rw attached at is in
     grind (arith, nat_tests)
 
--- key material ends where it starts at the latest
+-- with an attached header, key areas are checked against the segment's offset
 payload_starts : (tree : Data) (bounds : Bounds) (segment : Segment) → segment2_of tree bounds ≡ Ok segment
     → bounds.detached ≡ false → payload2_of tree bounds ≡ Some segment.offset
 unfolding payload2_of
@@ -160,7 +160,8 @@ payload_starts tree bounds segment is attached =
     subst (λ detached. (if detached then None else offset_in (segment2_of tree bounds)) ≡ Some segment.offset)
     (sym attached) (ap offset_in is)
 
--- a segment that is not refused is what key slots are judged by, and in the header's image it starts behind the header
+-- a segment that is not refused has the mode that key slots are checked against; with an attached header, it also has
+-- the offset that they are checked against, and starts after the header
 pub record IsSegment2 (tree : Data) (bounds : Bounds) (segment : Segment) : Type 0 where
   pub start : bounds.detached ≡ false → payload2_of tree bounds ≡ Some segment.offset
   pub mode : payload_mode2_of tree bounds ≡ Some segment.mode

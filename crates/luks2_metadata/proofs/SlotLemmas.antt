@@ -1,4 +1,4 @@
--- What is known of a slot that there is no reason to skip.
+-- Properties of a slot that there is no reason to skip.
 use Rattle.std.proofs.Common.{◌≡◌, ◌∙◌, ℕ, ◌+◌, ◌≤◌, sym, subst, refl, Bool, true, false, Option, Some, None, arith}
 use Rattle.std.specs.Prelude.{◌&&◌, ◌||◌, nat_lt, not, codes, is_none, option_map, option_and_then, unwrap_or}
 use Rattle.std.proofs.lemmas.Bool.Decides.{nat_tests}
@@ -56,7 +56,7 @@ pub stripes_few : (stripes : ℕ) → stripes_out_of_range stripes ≡ false →
 unfolding stripes_out_of_range
 stripes_few stripes is = grind (arith, nat_tests)
 
--- ---- none of the lines of its table holds
+-- ---- absence of each reason to skip a slot
 
 pub record NoReason (tree : Data) (bounds : Bounds) (limit : Option ℕ) (number : ℕ) (slot : Data) : Type 0 where
   pub kind : not (is_type (codes "luks2") slot) ≡ false
@@ -92,7 +92,7 @@ no_reason tree bounds limit number slot none =
       digest = all.1.1.1.1.1.1.1.1.1.1.1.0;
     }
 
--- so its numbers are in range
+-- if there is no reason to skip a slot, its numbers are in range
 pub range_of : (tree : Data) (bounds : Bounds) (limit : Option ℕ) (number : ℕ) (slot : Data)
     → NoReason tree bounds limit number slot → are_in_range (slot_parts2_of slot) ≡ true
 unfolding is_in_range iterations_out_of_range stripes_out_of_range slot_parts2_of area2_out_of_range area_out_of_range
@@ -102,7 +102,7 @@ range_of tree bounds limit number slot none =
     let iterations = none.iterations in
     grind (arith, nat_tests)
 
--- fewer reasons hold without a limit
+-- a reason that does not hold with a limit does not hold without one
 beyond_none : (limit : Option ℕ) (iterations : ℕ) → iterations_out_of_range limit iterations ≡ false
     → iterations_out_of_range None iterations ≡ false
 unfolding iterations_out_of_range
@@ -133,7 +133,7 @@ no_reason_none tree bounds limit number slot none =
       undigested_none limit (digest2_for tree number) none.digest,
     ) refl
 
--- and it can be opened
+-- if there is no reason to skip a slot, there is what is needed to open it
 pub slot_there : (tree : Data) (bounds : Bounds) (limit : Option ℕ) (number : ℕ) (slot : Data)
     → reason2_of tree bounds limit number slot ≡ None
     → (is : are_in_range (slot_parts2_of slot) ≡ true)
@@ -144,7 +144,7 @@ slot_there tree bounds limit number slot none =
     let is = range_of tree bounds limit number slot no in
     (is, rw (no_reason_none tree bounds limit number slot no) (slot_from-yes (slot_parts2_of slot) is))
 
--- what becomes of it, without what it takes to open it
+-- the verdict on such a slot, without what is needed to open it
 pub usable_verdict : (tree : Data) (bounds : Bounds) (limit : Option ℕ) (number : ℕ) (slot : Data)
     → reason2_of tree bounds limit number slot ≡ None
     → verdict_kind_of (verdict2_of tree bounds limit number slot) ≡ Open (unwrap_or (priority_of slot) 0)
@@ -153,7 +153,7 @@ usable_verdict tree bounds limit number slot none =
     let there = slot_there tree bounds limit number slot none in
     rw (none, there.1) refl
 
--- the lengths of its keys, its stripes and its iterations fit into four bytes
+-- a slot's iterations, its stripes and the lengths of its keys fit into four bytes
 pub record IsSmall (slot : Data) : Type 0 where
   pub iterations : iterations_of_slot slot ≤ max_iteration_count
   pub stripes : stripes_member slot ≤ 4000
@@ -178,10 +178,11 @@ small_of tree bounds number slot none =
       area_key = keys.0;
     }
 
--- ---- what is known of a slot that can be tried
+-- ---- properties of a usable slot
 
--- what it takes to open it is of the header: its hash functions and the area's mode are known ones, its keys have
--- lengths of the modes, its key material lies behind the header and before the payload, and there is a digest
+-- what is needed to open the slot agrees with the header: its hash functions and its area's mode are known, its keys
+-- have valid lengths for their modes, its key material is after the header and before the payload, and there is a
+-- digest
 pub record IsOf2 (tree : Data) (bounds : Bounds) (number : ℕ) (usable : Slot) : Type 0 where
   pub kdf : (hash : Hash) × (usable.parts.kdf_hash ≡ Some hash)
   pub af : (hash : Hash) × (usable.parts.af_hash ≡ Some hash)
@@ -220,7 +221,7 @@ placed start payload offset size need is =
     let room = neither (nat_lt offset start) (nat_lt size need) before.0 in
     (ltb-false offset start room.0, before.1)
 
--- a verdict that it can be tried says that there is no reason to skip it, and what it takes to open it
+-- if the verdict is that a slot is usable, there is no reason to skip it, and the verdict has what is needed to open it
 of_verdict : (reason : Option SkipReason) (made : Option Slot) (usable : Slot) → verdict_by reason made ≡ Usable usable
     → (reason ≡ None) × (made ≡ Some usable)
 of_verdict (Some reason) made usable is = absurd cc
@@ -251,7 +252,7 @@ usable_is tree bounds limit number slot usable is =
     } in
     (subst (IsOf2 tree bounds number) (sym same) known, verdict.1)
 
--- of the slot of a number
+-- the same for the slot with a number
 pub usable2_at : (tree : Data) (bounds : Bounds) (limit : Option ℕ) (number : ℕ) (usable : Slot)
     → verdict2_at tree bounds limit number ≡ Some (Usable usable)
     → IsOf2 tree bounds number usable × (slot2_at tree bounds number ≡ Some usable)

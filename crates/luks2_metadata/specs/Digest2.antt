@@ -17,7 +17,7 @@ use Rattle.serde_json.specs.Data.{Data}
 unfoldable pub value_in : Data → List ℕ
 value_in digest = unwrap_or (base64_member (codes "digest") digest) []
 
--- each member of a digest is there, in its kind, and its hash function is known
+-- every member of the digest is present and of the right type, and its hash function is known
 unfoldable pub is_digest2 : Data → Bool
 is_digest2 digest =
     is_type (codes "pbkdf2") digest
@@ -28,7 +28,7 @@ is_digest2 digest =
     && is_some (base64_member (codes "salt") digest)
     && is_some (base64_member (codes "digest") digest)
 
--- what is said of a digest
+-- the values of a digest's members
 abbrev pub digest_parts2_of : Data → DigestParts
 digest_parts2_of digest = record {
   hash = hash_member digest;
@@ -37,28 +37,28 @@ digest_parts2_of digest = record {
   value = value_in digest;
 }
 
--- the digest, if it is usable: its numbers are in range too
+-- the digest, if it is usable: it has all its members, and its numbers are in range
 unfoldable pub digest2_of : Data → Option KeyDigest
 digest2_of digest = if is_digest2 digest then digest_from (digest_parts2_of digest) else None
 
--- the digest array_contains the key slot of this number, and the segment
+-- the digest lists the key slot with this number, and segment 0
 unfoldable pub is_of_slot : ℕ → Data → Bool
 is_of_slot number digest =
     array_contains (codes "keyslots") (decimal number) digest && array_contains (codes "segments") (codes "0") digest
 
--- the digest, if it is usable and is of the key slot of this number: its own
+-- the digest, if it is usable and belongs to the key slot with this number
 unfoldable pub own_digest : ℕ → Data → Option KeyDigest
 own_digest number digest = if is_of_slot number digest then digest2_of digest else None
 
--- the digest of number n, if it is usable and is of the key slot of this number: its own
+-- digest number n, if it is usable and belongs to the key slot with this number
 unfoldable pub own_digest_at : Data → ℕ → ℕ → Option KeyDigest
 own_digest_at tree number n = option_and_then (own_digest number) (object_numbered (codes "digests") tree n)
 
--- the digest that the key slot of this number is opened against: the usable one of it with the lowest number
+-- the digest that the key slot with this number is opened against: the lowest-numbered usable digest that belongs to it
 unfoldable pub digest2_for : Data → ℕ → Option KeyDigest
 digest2_for tree number = lowest (own_digest_at tree number) max_slots
 
--- its iterations
+-- the iterations of a digest
 abbrev pub iterations_of_digest : KeyDigest → ℕ
 iterations_of_digest key = key.iterations
 
@@ -71,7 +71,7 @@ listed_of digest =
       segments = texts_at (codes "segments") digest;
     }) (digest2_of digest)
 
--- the digest of number n beside its number, if there is one
+-- digest number n, paired with its number, if there is one
 abbrev pub digest2_numbered : Data → ℕ → Option (ℕ × Option Digest)
 digest2_numbered tree n = option_map (λ digest. (n, listed_of digest)) (object_numbered (codes "digests") tree n)
 

@@ -1,4 +1,4 @@
--- Where the payload of LUKS2 lies, or why it cannot be read (LUKS2 On-Disk Format Specification 1.1, section 3, the
+-- Where the payload of LUKS2 is, or why it cannot be read (LUKS2 On-Disk Format Specification 1.1, section 3, the
 -- segments object and the config object).
 use Rattle.std.specs.Prelude.{◌≡◌, ◌≢◌, ℕ, ◌%◌, ◌==◌, ◌&&◌, ◌||◌, not, nat_lt, Bool, true, false, List, [], ◌∷◌}
 use Rattle.std.specs.Prelude.{Option, Some, None, Result, bytes_eq, codes, is_none, is_some, if◌then◌else◌}
@@ -26,7 +26,7 @@ use Rattle.serde_json.specs.Find.{as_array, as_object, get}
 
 -- ---- requirements
 
--- the value is a list without items
+-- the value is an empty array
 abbrev pub are_none : Items → Bool
 are_none no_items = true
 are_none (item value rest) = false
@@ -34,17 +34,17 @@ are_none (item value rest) = false
 abbrev pub is_empty_list : Data → Bool
 is_empty_list value = unwrap_or (option_map are_none (as_array value)) false
 
--- there is nothing under this name, or an empty list
+-- the member with this name is missing or an empty array
 unfoldable pub has_none_of : List ℕ → Data → Bool
 has_none_of name value = unwrap_or (option_map is_empty_list (get name value)) true
 
--- what `requirements` may be without anything being required: an empty list, or an object without mandatory ones
+-- `requirements` that require nothing: an empty array, or an object without mandatory requirements
 unfoldable pub requires_nothing : Data → Bool
 requires_nothing requirements =
     is_empty_list requirements
     || (is_some (as_object requirements) && has_none_of (codes "mandatory") requirements)
 
--- the configuration requires something of whoever reads the volume
+-- the configuration requires something of a program that reads the volume
 unfoldable pub has_requirement : Data → Bool
 has_requirement tree =
     unwrap_or (option_map (λ requirements. not (requires_nothing requirements))
@@ -52,7 +52,7 @@ has_requirement tree =
 
 -- ---- the segment and its members
 
--- the only member, if it is named so
+-- the only member, if it has this name
 abbrev pub only_member : List ℕ → Members → Option Data
 only_member name no_members = None
 only_member name (member found value no_members) = if bytes_eq name found then Some value else None
@@ -62,24 +62,24 @@ only_member name (member _ _ (member _ _ _)) = None
 unfoldable pub the_segment : Data → Option Data
 the_segment tree = option_and_then (only_member (codes "0")) (in_member (codes "segments") as_object tree)
 
--- what is said of it (nothing if it is not there)
+-- the segment's value, or null if there is no such segment
 abbrev pub segment_said : Data → Data
 segment_said tree = unwrap_or (the_segment tree) null
 
--- its first byte
+-- the segment's offset: its first byte
 abbrev pub offset_of : Data → Option ℕ
 offset_of segment = decimal_member (codes "offset") segment
 
--- its length in bytes, or None inside if it goes to the image's end
+-- the segment's length in bytes, or `Some None` if it goes to the image's end
 unfoldable pub size_member : Data → Option (Option ℕ)
 size_member segment = if is_named (codes "size") (codes "dynamic") segment then Some None
     else option_map (λ bytes. Some bytes) (decimal_member (codes "size") segment)
 
--- the unit number of its first sector
+-- the unit number of the segment's first sector
 abbrev pub iv_tweak_of : Data → Option ℕ
 iv_tweak_of segment = decimal_member (codes "iv_tweak") segment
 
--- the length of a sector of so many bytes, if there is one
+-- the sector size of this many bytes, if there is one
 abbrev pub sector_size_with : ℕ → Option Sector
 sector_size_with bytes =
     if bytes == 512 then Some B512
@@ -91,11 +91,11 @@ sector_size_with bytes =
 unfoldable pub sector_size_of : Data → Option Sector
 sector_size_of segment = option_and_then sector_size_with (integer_member (codes "sector_size") segment)
 
--- the mode in which its sectors are encrypted by AES
+-- the mode of AES in which the segment's sectors are encrypted
 unfoldable pub mode2_of : Data → Option Mode
 mode2_of segment = option_and_then encryption_mode (string_member (codes "encryption") segment)
 
--- each member of a segment of type crypt is there, in its kind
+-- every member of a segment of type crypt is present and of the right type
 unfoldable pub has_segment_members : Data → Bool
 has_segment_members segment =
     is_some (offset_of segment)
@@ -104,7 +104,7 @@ has_segment_members segment =
     && is_some (string_member (codes "encryption") segment)
     && is_some (integer_member (codes "sector_size") segment)
 
--- its type is a string_member, and a segment of type crypt has its members
+-- the segment's type is a string, and a segment of type crypt has its members
 unfoldable pub is_segment : Data → Bool
 is_segment segment =
     is_some (string_member (codes "type") segment)
@@ -112,21 +112,21 @@ is_segment segment =
 
 -- ---- the table of faults
 
--- it starts inside an attached header
+-- the segment starts inside an attached header
 unfoldable pub overlaps_headers2 : Bounds → ℕ → Bool
 overlaps_headers2 bounds offset = not bounds.detached && nat_lt offset bounds.end
 
--- it starts inside the header, or in_member a sector of 512 bytes
+-- the segment has no offset, or starts inside an attached header or not at a multiple of 512 bytes
 unfoldable pub starts_wrong : Bounds → Option ℕ → Bool
 starts_wrong bounds None = true
 starts_wrong bounds (Some offset) = overlaps_headers2 bounds offset || not (offset % 512 == 0)
 
--- its length is fixed and is no multiple of its sectors' length
+-- the segment's length or sector size is missing, or its length is fixed and not a multiple of the sector size
 unfoldable pub is_torn : Option (Option ℕ) → Option Sector → Bool
 is_torn (Some size) (Some sector_size) = not (are_sectors size sector_size)
 is_torn _ _ = true
 
--- the faults of a segment that is there, in a header with these bounds
+-- the possible faults of a segment that exists, in a header with these bounds
 abbrev pub segment_faults : Bounds → Data → List (Bool × SegmentFault)
 segment_faults bounds segment =
     (not (is_segment segment), Member)
@@ -145,7 +145,7 @@ fault2_of tree bounds = first_match (
     ∷ (is_none (the_segment tree), Segments)
     ∷ segment_faults bounds (segment_said tree))
 
--- what is said of a segment
+-- the values of a segment's members
 unfoldable pub segment_parts2_of : Data → SegmentParts
 segment_parts2_of segment = record {
   offset = offset_of segment;
@@ -155,15 +155,15 @@ segment_parts2_of segment = record {
   mode = mode2_of segment;
 }
 
--- ---- a segment without a fault is made
+-- ---- the segment that parts without a fault make
 
--- what a test lets through is made if it holds
+-- if a test holds, `make` gives a segment
 made_of_test : (test : Bool) (make : test ≡ true → Segment) → not test ≡ false
     → option_map make (evidence_if test) ≢ None
 made_of_test true make holds none = cc
 made_of_test false make holds none = cc
 
--- parts that are there make a segment, if its length is one of whole sectors
+-- parts that are all present make a segment, if its length is whole sectors or not fixed
 made_of_parts : (offset : Option ℕ) (size : Option (Option ℕ)) (iv_tweak : Option ℕ) (sector_size : Option Sector)
     (mode : Option Mode) → is_some offset ≡ true → is_some size ≡ true → is_some iv_tweak ≡ true
     → is_none sector_size ≡ false → is_none mode ≡ false → is_torn size sector_size ≡ false
@@ -173,13 +173,13 @@ made_of_parts (Some offset) (Some size) (Some iv_tweak) (Some sector_size) (Some
     made_of_test (are_sectors size sector_size) (segment_by offset size iv_tweak sector_size mode) whole
 made_of_parts _ _ _ _ _ o s i z m whole = absurd cc
 
--- the members of a segment of type crypt are there
+-- a valid segment of type crypt has its members
 members_there : (typed crypt members : Bool) → not (typed && (not crypt || members)) ≡ false → not crypt ≡ false
     → members ≡ true
 members_there true true true is kind = cc
 members_there _ _ _ is kind = absurd cc
 
--- what is said of a segment without a fault makes one
+-- the values of a segment without a fault make a segment
 pub made2 : (tree : Data) (bounds : Bounds) → fault2_of tree bounds ≡ None
     → segment_from (segment_parts2_of (segment_said tree)) ≢ None
 unfolding fault2_of segment_from segment_parts2_of is_segment has_segment_members
@@ -203,7 +203,7 @@ unfoldable pub segment2_of : Data → Bounds → Result Segment SegmentFault
 segment2_of tree bounds =
     refused_or (fault2_of tree bounds) (segment_from (segment_parts2_of (segment_said tree))) (made2 tree bounds)
 
--- ---- what key slots are judged by
+-- ---- values that key slots are checked against
 
 -- where the payload starts, if the header is attached and the segment is not refused. Key material ends there at the
 -- latest

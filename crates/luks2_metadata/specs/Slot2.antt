@@ -35,14 +35,14 @@ priority_said (Some _) slot =
 unfoldable pub priority_of : Data → Option ℕ
 priority_of slot = priority_said (get (codes "priority") slot) slot
 
--- how the key material is split into stripes
+-- the value is an `af` object of type luks1 with all its members: how the key material is split into stripes
 unfoldable pub is_af : Data → Bool
 is_af af =
     is_type (codes "luks1") af
     && is_some (integer_member (codes "stripes") af)
     && is_some (string_member (codes "hash") af)
 
--- where the key material is, and how it is encrypted
+-- the value is an `area` object of type raw with all its members: where the key material is, and how it is encrypted
 unfoldable pub is_area : Data → Bool
 is_area area =
     is_type (codes "raw") area
@@ -51,7 +51,7 @@ is_area area =
     && is_some (string_member (codes "encryption") area)
     && is_some (integer_member (codes "key_size") area)
 
--- how the key material's key comes of a passphrase. Members are known of PBKDF2 alone
+-- the object has all parameters of PBKDF2, the only key derivation function whose members are checked
 unfoldable pub is_pbkdf2 : Data → Bool
 is_pbkdf2 kdf =
     is_some (string_member (codes "hash") kdf)
@@ -61,7 +61,7 @@ is_pbkdf2 kdf =
 unfoldable pub is_kdf : Data → Bool
 is_kdf kdf = is_some (string_member (codes "type") kdf) && (not (is_type (codes "pbkdf2") kdf) || is_pbkdf2 kdf)
 
--- each member of a key slot is there, in its kind
+-- every member of the key slot is present and of the right type
 unfoldable pub has_members : Data → Bool
 has_members slot =
     is_some (integer_member (codes "key_size") slot)
@@ -70,9 +70,9 @@ has_members slot =
     && passes (codes "area") is_area slot
     && passes (codes "kdf") is_kdf slot
 
--- ---- what the members say (0 and no bytes if they are missing)
+-- ---- values of the members (0 or no bytes if they are missing)
 
--- the function by which the key comes of a passphrase is of this type
+-- the slot's key derivation function is of this type
 abbrev pub is_kdf_type : List ℕ → Data → Bool
 is_kdf_type type slot = passes (codes "kdf") (is_type type) slot
 
@@ -95,11 +95,11 @@ stripes_member slot = unwrap_or (in_member (codes "af") (integer_member (codes "
 abbrev pub key_size_of : Data → ℕ
 key_size_of slot = unwrap_or (integer_member (codes "key_size") slot) 0
 
--- the length in bytes of the key material's key
+-- the length in bytes of the key that encrypts the key material
 abbrev pub area_key_size_of : Data → ℕ
 area_key_size_of slot = unwrap_or (in_member (codes "area") (integer_member (codes "key_size")) slot) 0
 
--- the mode in which the key material is encrypted by AES
+-- the mode of AES in which the key material is encrypted
 abbrev pub area_mode_of : Data → Option Mode
 area_mode_of slot = option_and_then encryption_mode (in_member (codes "area") (string_member (codes "encryption")) slot)
 
@@ -115,13 +115,13 @@ area_size_of slot = unwrap_or (in_member (codes "area") (decimal_member (codes "
 unfoldable pub has_unknown_hash : Data → Bool
 has_unknown_hash slot = is_none (kdf_hash_of slot) || is_none (af_hash_of slot)
 
--- its keys have lengths that the modes have: the key material's key one of its area's mode, the volume key one of the
--- payload's
+-- the slot's keys have valid lengths for their modes: the key of the key material for the area's mode, the volume key
+-- for the payload's mode
 unfoldable pub are_key_sizes : Option Mode → Data → Bool
 are_key_sizes payload_mode slot =
     is_length_for (area_mode_of slot) (area_key_size_of slot) && is_length_for payload_mode (key_size_of slot)
 
--- the key material does not fit
+-- the slot's key area is too small for the key material, or out of range
 unfoldable pub area2_out_of_range : ℕ → Option ℕ → Data → Bool
 area2_out_of_range end payload slot =
     area_out_of_range end payload (area_offset_of slot) (area_size_of slot)
@@ -144,13 +144,13 @@ slot_reasons tree bounds limit number slot =
     ∷ (has_no_usable_digest limit (digest2_for tree number), Digest)
     ∷ []
 
--- the first of them that holds
+-- the first reason to skip the slot
 unfoldable pub reason2_of : Data → Bounds → Option ℕ → ℕ → Data → Option SkipReason
 reason2_of tree bounds limit number slot = first_match (slot_reasons tree bounds limit number slot)
 
 -- ---- verdicts
 
--- what is said of a slot
+-- the values of a slot's members
 unfoldable pub slot_parts2_of : Data → SlotParts
 slot_parts2_of slot = record {
   priority = unwrap_or (priority_of slot) 0;
@@ -166,7 +166,8 @@ slot_parts2_of slot = record {
   area_mode = area_mode_of slot;
 }
 
--- what is needed to open the slot of this number, if there is no reason to skip it but a limit on iterations
+-- what is needed to open the slot with this number, unless there is a reason to skip it other than a limit on
+-- iterations
 unfoldable pub slot2_of : Data → Bounds → ℕ → Data → Option Slot
 slot2_of tree bounds number slot =
     if is_none (reason2_of tree bounds None number slot) then slot_from (slot_parts2_of slot) else None
@@ -181,7 +182,8 @@ unfoldable pub verdict2_at : Data → Bounds → Option ℕ → ℕ → Option V
 verdict2_at tree bounds limit number =
     option_map (verdict2_of tree bounds limit number) (object_numbered (codes "keyslots") tree number)
 
--- what is needed to open it
+-- what is needed to open the key slot with this number, unless there is a reason to skip it other than a limit on
+-- iterations
 unfoldable pub slot2_at : Data → Bounds → ℕ → Option Slot
 slot2_at tree bounds number =
     option_and_then (slot2_of tree bounds number) (object_numbered (codes "keyslots") tree number)

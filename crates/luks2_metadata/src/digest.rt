@@ -1,4 +1,4 @@
-//! The digests of a header, by which its volume key is known.
+//! The digests of a header, which identify its volume key.
 
 ghost use Rattle.std.specs.Prelude.{◌≡◌, ◌≤◌, [], IfOk, length, option_map, unwrap_or, vec_len};
 ghost use Rattle.luks_verdict.specs.Rule.{max_slots};
@@ -19,14 +19,14 @@ use luks2_json::tree::Metadata;
 use serde_json::Value;
 use std::alloc::{AllocError, Global};
 
-/// A usable digest, and what it is a digest of.
+/// A usable digest, and the key slots and segments that it lists.
 #[derive(Drop, Debug)]
 pub struct Digest {
-    /// By what the volume key is known.
+    /// The digest that identifies the volume key.
     pub key: KeyDigest,
     /// The names of the key slots that hold the key.
     pub keyslots: Names,
-    /// The names of the segments that are encrypted under it.
+    /// The names of the segments that are encrypted under the key.
     pub segments: Names,
 }
 
@@ -38,7 +38,7 @@ fn value_in(alloc: Global, digest: &Value) -> Result<HeaderBytes, AllocError>
     bytes_in(alloc, digest, "digest")
 }
 
-// How many bytes the value has.
+// The length of the value in bytes.
 #[tactic(auto, unfolding(crate::specs::Digest2::value_in))]
 fn value_len(digest: &Value) -> usize
     ensures { result ≡ length (value_in (data_of digest.now)) }
@@ -46,7 +46,7 @@ fn value_len(digest: &Value) -> usize
     base64_len(digest, "digest").unwrap_or(0)
 }
 
-// Each member of a digest is there, in its kind, and its hash function is known.
+// Every member of the digest is present and of the right type, and its hash function is known.
 #[tactic(auto, unfolding(crate::specs::Digest2::is_digest2))]
 fn is_digest(digest: &Value) -> bool
     ensures { result ≡ is_digest2 (data_of digest.now) }
@@ -60,7 +60,7 @@ fn is_digest(digest: &Value) -> bool
         && base64_len(digest, "digest").is_some()
 }
 
-// The digest lists the key slot of this number, and the segment.
+// The digest lists the key slot with this number, and segment 0.
 #[tactic(auto, unfolding(crate::specs::Digest2::is_of_slot))]
 fn is_of_slot(digest: &Value, number: u8) -> bool
     ensures { result ≡ is_of_slot number (data_of digest.now) }
@@ -105,7 +105,7 @@ fn usable_iterations(digest: &Value) -> Option<u32>
     Some(iterations as u32)
 }
 
-// The digest of a number, if it is usable and is of the key slot.
+// The digest with a number, if it is usable and belongs to the key slot.
 #[tactic(auto, unfolding(crate::specs::Digest2::own_digest, crate::specs::Digest2::own_digest_at))]
 fn of_slot_at(
     alloc: Global,
@@ -121,7 +121,7 @@ fn of_slot_at(
     }
 }
 
-// The iterations of the digest of a number, if it is usable and is of the key slot.
+// The iterations of the digest with a number, if it is usable and belongs to the key slot.
 #[tactic(auto, unfolding(crate::specs::Digest2::own_digest, crate::specs::Digest2::own_digest_at))]
 fn iterations_of_slot_at(tree: &Value, slot: u8, number: u8) -> Option<u32>
     ensures { result
@@ -133,8 +133,8 @@ fn iterations_of_slot_at(tree: &Value, slot: u8, number: u8) -> Option<u32>
     }
 }
 
-/// The digest that the key slot of this number is opened against, if there is one: of the usable
-/// digests that list the slot and the segment, the one with the lowest number.
+/// The digest that the key slot with this number is opened against, if there is one: the
+/// lowest-numbered usable digest that lists the slot and segment 0.
 pub fn digest_for(
     alloc: Global,
     metadata: &Metadata,
@@ -179,7 +179,7 @@ fn listed(alloc: Global, digest: &Value) -> Result<Option<Digest>, AllocError>
     }))
 }
 
-// The digest of a number beside it, if there is one.
+// The digest with a number, paired with that number, if there is one.
 fn numbered_digest(
     alloc: Global,
     tree: &Value,
@@ -193,8 +193,8 @@ fn numbered_digest(
     }
 }
 
-/// The digests by ascending number, each with what it is a digest of, or `None` if it is not
-/// usable.
+/// The digests by ascending number, each with the key slots and segments that it lists, or `None`
+/// if it is not usable.
 pub fn digests(alloc: Global, metadata: &Metadata) -> Result<Vec<(u8, Option<Digest>)>, AllocError>
     ensures value { IfOk result (λ digests. digests.items ≡ digests2_of metadata.now) }
     ensures few { IfOk result (λ digests. vec_len digests ≤ max_slots) }

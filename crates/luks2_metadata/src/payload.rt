@@ -1,4 +1,4 @@
-//! Where the payload lies, or why it cannot be read.
+//! Where the payload is, or why it cannot be read.
 
 ghost use Rattle.std.specs.Prelude.{◌≡◌, option_map};
 ghost use Rattle.luks_verdict.specs.Table.{first_match};
@@ -20,7 +20,7 @@ use luks2_json::member::{decimal_member, integer_member, is_named, is_type, stri
 use luks2_json::tree::Metadata;
 use serde_json::Value;
 
-// The value is a list without items.
+// The value is an empty array.
 fn is_empty_list(value: &Value) -> bool
     ensures { result ≡ is_empty_list (data_of value.now) }
 {
@@ -30,7 +30,7 @@ fn is_empty_list(value: &Value) -> bool
     }
 }
 
-// There is nothing under this name, or an empty list.
+// The member with this name is missing or an empty array.
 #[tactic(auto, unfolding(crate::specs::Segment2::has_none_of))]
 fn has_none_of(name: &str, value: &Value) -> bool
     ensures { result ≡ has_none_of name.now (data_of value.now) }
@@ -41,7 +41,7 @@ fn has_none_of(name: &str, value: &Value) -> bool
     }
 }
 
-// These requirements are none.
+// These requirements require nothing.
 #[tactic(auto, unfolding(crate::specs::Segment2::requires_nothing))]
 fn requires_nothing(requirements: &Value) -> bool
     ensures { result ≡ requires_nothing (data_of requirements.now) }
@@ -50,7 +50,7 @@ fn requires_nothing(requirements: &Value) -> bool
         || requirements.is_object() && has_none_of("mandatory", requirements)
 }
 
-// The configuration requires something of whoever reads the volume.
+// The configuration requires something of a program that reads the volume.
 #[tactic(auto, unfolding(crate::specs::Segment2::has_requirement))]
 fn has_requirement(tree: &Value) -> bool
     ensures { result ≡ has_requirement (data_of tree.now) }
@@ -77,7 +77,7 @@ fn the_segment(tree: &Value) -> Option<&Value>
     }
 }
 
-// Its length in bytes, or `Some(None)` if it goes to the image's end.
+// The segment's length in bytes, or `Some(None)` if it goes to the image's end.
 #[tactic(auto, unfolding(crate::specs::Segment2::size_member))]
 fn size(segment: &Value) -> Option<Option<u64>>
     ensures { result ≡ size_member (data_of segment.now) }
@@ -88,7 +88,7 @@ fn size(segment: &Value) -> Option<Option<u64>>
     Some(Some(decimal_member(segment, "size")?))
 }
 
-// The length of a sector of so many bytes, if there is one.
+// The sector size of this many bytes, if there is one.
 fn sector_size_with(bytes: u64) -> Option<SectorSize>
     ensures { result ≡ sector_size_with bytes }
 {
@@ -101,7 +101,7 @@ fn sector_size_with(bytes: u64) -> Option<SectorSize>
     }
 }
 
-// The length of its sectors.
+// The segment's sector size.
 #[tactic(auto, unfolding(crate::specs::Segment2::sector_size_of))]
 fn sector_size(segment: &Value) -> Option<SectorSize>
     ensures { result ≡ sector_size_of (data_of segment.now) }
@@ -109,7 +109,7 @@ fn sector_size(segment: &Value) -> Option<SectorSize>
     sector_size_with(integer_member(segment, "sector_size")?)
 }
 
-// The mode in which its sectors are encrypted.
+// The mode in which the segment's sectors are encrypted.
 #[tactic(auto, unfolding(crate::specs::Segment2::mode2_of))]
 fn mode(segment: &Value) -> Option<Mode>
     ensures { result ≡ mode2_of (data_of segment.now) }
@@ -117,7 +117,7 @@ fn mode(segment: &Value) -> Option<Mode>
     encryption_mode(string_member(segment, "encryption")?)
 }
 
-// Each member of a segment of type crypt is there, in its kind.
+// Every member of a segment of type crypt is present and of the right type.
 #[tactic(auto, unfolding(crate::specs::Segment2::has_segment_members))]
 fn has_members(segment: &Value) -> bool
     ensures { result ≡ has_segment_members (data_of segment.now) }
@@ -129,7 +129,7 @@ fn has_members(segment: &Value) -> bool
         && integer_member(segment, "sector_size").is_some()
 }
 
-// Its type is a text, and a segment of type crypt has its members.
+// The segment's type is a string, and a segment of type crypt has its members.
 #[tactic(auto, unfolding(crate::specs::Segment2::is_segment))]
 fn is_segment(segment: &Value) -> bool
     ensures { result ≡ is_segment (data_of segment.now) }
@@ -137,7 +137,7 @@ fn is_segment(segment: &Value) -> bool
     string_member(segment, "type").is_some() && (!is_type(segment, "crypt") || has_members(segment))
 }
 
-// It starts inside an attached header.
+// The segment starts inside an attached header.
 #[tactic(auto, unfolding(crate::specs::Segment2::overlaps_headers2))]
 fn overlaps_headers2(bounds: Bounds, offset: u64) -> bool
     ensures { result ≡ overlaps_headers2 bounds offset }
@@ -145,7 +145,7 @@ fn overlaps_headers2(bounds: Bounds, offset: u64) -> bool
     !bounds.detached && offset < bounds.end
 }
 
-// It starts inside the header, or within a sector of 512 bytes.
+// The segment has no offset, or starts inside an attached header or not at a multiple of 512 bytes.
 #[tactic(auto, unfolding(crate::specs::Segment2::starts_wrong))]
 fn starts_wrong(bounds: Bounds, offset: Option<u64>) -> bool
     ensures { result ≡ starts_wrong bounds offset }
@@ -156,7 +156,8 @@ fn starts_wrong(bounds: Bounds, offset: Option<u64>) -> bool
     }
 }
 
-// Its length is fixed and is no multiple of its sectors' length.
+// The segment's length or sector size is missing, or its length is fixed and not a multiple of the
+// sector size.
 #[tactic(auto, unfolding(crate::specs::Segment2::is_torn))]
 fn is_torn(size: Option<Option<u64>>, sector_size: Option<SectorSize>) -> bool
     ensures { result ≡ is_torn size sector_size }
@@ -170,7 +171,7 @@ fn is_torn(size: Option<Option<u64>>, sector_size: Option<SectorSize>) -> bool
     }
 }
 
-// The first fault of a segment that is there.
+// The first fault of a segment that exists.
 fn fault(segment: &Value, bounds: Bounds) -> Option<SegmentFault>
     ensures { result ≡ first_match (segment_faults bounds (data_of segment.now)) }
 {
@@ -193,7 +194,7 @@ fn fault(segment: &Value, bounds: Bounds) -> Option<SegmentFault>
     }
 }
 
-// What is said of a segment.
+// The values of a segment's members.
 #[tactic(auto, unfolding(crate::specs::Segment2::segment_parts2_of))]
 fn parts(segment: &Value) -> SegmentParts
     ensures { result ≡ segment_parts2_of (data_of segment.now) }

@@ -1,4 +1,4 @@
-//! What becomes of the key slots of a header.
+//! The verdicts on the key slots of a header.
 
 ghost use Rattle.std.specs.Prelude.{◌≡◌, ◌≤◌, IfOk, option_map};
 ghost use Rattle.luks_verdict.specs.Digest.{has_no_usable_digest};
@@ -33,7 +33,7 @@ use members::{has_members, priority};
 use serde_json::Value;
 use std::alloc::{AllocError, Global};
 
-// The function by which the key comes of a passphrase is of this type.
+// The slot's key derivation function is of this type.
 fn is_kdf_type(slot: &Value, expected: &str) -> bool
     ensures { result ≡ is_kdf_type expected.now (data_of slot.now) }
 {
@@ -43,14 +43,14 @@ fn is_kdf_type(slot: &Value, expected: &str) -> bool
     }
 }
 
-// The hash function by which it does.
+// The hash function of the key derivation.
 fn kdf_hash(slot: &Value) -> Option<Hash>
     ensures { result ≡ kdf_hash_of (data_of slot.now) }
 {
     hash_member(slot.get("kdf")?)
 }
 
-// Its iterations, or 0 if they are missing.
+// The iterations of the key derivation, or 0 if they are missing.
 fn iterations(slot: &Value) -> u64
     ensures { result ≡ iterations_of_slot (data_of slot.now) }
 {
@@ -60,7 +60,7 @@ fn iterations(slot: &Value) -> u64
     }
 }
 
-// Its salt, or no bytes if it is missing.
+// The salt of the key derivation, or no bytes if it is missing.
 fn salt(alloc: Global, slot: &Value) -> Result<HeaderBytes, AllocError>
     ensures { IfOk result (λ salt. salt ≡ salt_of (data_of slot.now)) }
 {
@@ -94,7 +94,7 @@ fn key_size(slot: &Value) -> u64
     integer_member(slot, "key_size").unwrap_or(0)
 }
 
-// The length in bytes of the key material's key, or 0 if it is missing.
+// The length in bytes of the key that encrypts the key material, or 0 if it is missing.
 fn area_key_size(slot: &Value) -> u64
     ensures { result ≡ area_key_size_of (data_of slot.now) }
 {
@@ -111,7 +111,7 @@ fn area_mode(slot: &Value) -> Option<Mode>
     encryption_mode(string_member(slot.get("area")?, "encryption")?)
 }
 
-// The first byte of the key material, or 0 if it is missing.
+// The offset of the key material in bytes, or 0 if it is missing.
 fn area_offset(slot: &Value) -> u64
     ensures { result ≡ area_offset_of (data_of slot.now) }
 {
@@ -139,7 +139,7 @@ fn has_unknown_hash(slot: &Value) -> bool
     kdf_hash(slot).is_none() || af_hash(slot).is_none()
 }
 
-// The keys of the slot have lengths that the modes have.
+// The slot's keys have valid lengths for their modes.
 #[tactic(auto, unfolding(crate::specs::Slot2::are_key_sizes))]
 fn are_key_sizes(payload_mode: Option<Mode>, slot: &Value) -> bool
     ensures { result ≡ are_key_sizes payload_mode (data_of slot.now) }
@@ -148,7 +148,7 @@ fn are_key_sizes(payload_mode: Option<Mode>, slot: &Value) -> bool
         && is_length_for(payload_mode, key_size(slot))
 }
 
-// The key material does not fit.
+// The slot's key area is too small for the key material, or out of range.
 #[tactic(auto, unfolding(crate::specs::Slot2::area2_out_of_range))]
 fn area2_out_of_range(header_end: u64, payload: Option<u64>, slot: &Value) -> bool
     requires short { key_size_of (data_of slot.now) ≤ 64 }
@@ -165,7 +165,7 @@ fn area2_out_of_range(header_end: u64, payload: Option<u64>, slot: &Value) -> bo
     )
 }
 
-// There is no digest to try the slot of this number against, or its iterations are not made.
+// There is no usable digest for the slot with this number, or its iterations are out of range.
 #[tactic(auto, unfolding(luks_verdict::specs::Digest::has_no_usable_digest))]
 fn has_no_usable_digest(tree: &Value, limit: Option<u32>, number: u8) -> bool
     ensures { result ≡ has_no_usable_digest limit (digest2_for (data_of tree.now) number) }
@@ -249,7 +249,7 @@ pub fn verdict_kind(
     Some(slot_verdict_kind(metadata.tree(), bounds, limit, number, slot))
 }
 
-// What is said of a slot.
+// The values of a slot's members.
 #[tactic(auto, unfolding(crate::specs::Slot2::slot_parts2_of))]
 fn parts(alloc: Global, slot: &Value) -> Result<SlotParts, AllocError>
     requires iterations { iterations_of_slot (data_of slot.now) ≤ max_iteration_count }
@@ -273,7 +273,8 @@ fn parts(alloc: Global, slot: &Value) -> Result<SlotParts, AllocError>
     })
 }
 
-// What is needed to open a slot, if there is no reason to skip it but a limit on iterations.
+// What is needed to open a slot, unless there is a reason to skip it other than a limit on
+// iterations.
 #[tactic(auto, unfolding(crate::specs::Slot2::slot2_of))]
 fn usable(
     alloc: Global,
@@ -291,8 +292,8 @@ fn usable(
     Ok(Slot::from_parts(parts(alloc, slot)?))
 }
 
-/// What is needed to open the key slot of this number, if there is one and there is no reason to
-/// skip it but a limit on iterations, in a header with these bounds.
+/// What is needed to open the key slot with this number in a header with these bounds, if there is
+/// such a slot and no reason to skip it other than a limit on iterations.
 #[tactic(auto, unfolding(crate::specs::Slot2::slot2_at))]
 pub fn slot(
     alloc: Global,

@@ -16,7 +16,7 @@ use Rattle.luks2_seal.specs.Metadata2.{json_of, kdf_object, keyslot_object, keys
 use Rattle.luks2_seal.specs.Metadata2.{segment_object, size_value}
 use Rattle.luks2_seal.specs.SlotAreas.{slot_numbered}
 
--- a member more
+-- one more member keeps the depth within a bound
 either_depth : (o : Ordering) (a b c : Members) (n : ℕ) → members_depth a ≤ n → members_depth b ≤ n
     → members_depth c ≤ n → members_depth (match_ordering o a b c) ≤ n
 either_depth Less a b c n first second third = first
@@ -45,7 +45,7 @@ keyslots_depth p zero = omega arith
 keyslots_depth p (suc n) =
     member_depth p n (keyslots_below p n) (slot_numbered n p.slots.now) (keyslots_depth p n)
 
--- a list of texts
+-- one more string keeps the depth of an array of strings
 texts_depth : (ds : List Data) (n : ℕ) → items_depth (items_of ds) ≤ 0
     → items_depth (items_of (ds ++ decimal_value n ∷ [])) ≤ 0
 texts_depth [] n of_ds = omega arith
@@ -81,7 +81,7 @@ pub metadata_depth : (p : Seal2) → depth (metadata_of p) ≤ 127
 unfolding metadata_of
 metadata_depth p = omega (arith, config_depth p, digest_depth p, keyslots_depth p 32, segment_depth p)
 
--- the text that is written of it is read again
+-- the text that is written of the metadata is read back
 pub text_read : {E : Type 0} (p : Seal2) (text : Result (Vec ℕ Global) E) → IfOk text (λ t. t.items ≡ json_of p)
     → IfOk text (λ t. IsUtf8 t.items) → IfOk text (λ t. read t.items ≡ Some (metadata_of p))
     → IfOk text (λ t. ReadsBack p)

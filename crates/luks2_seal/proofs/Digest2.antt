@@ -1,4 +1,4 @@
--- What the metadata says of the key's digest is read again: it is the digest of each key slot.
+-- The key's digest in the metadata is read back: it is the digest of each key slot.
 use Rattle.std.proofs.Common.{◌≡◌, ◌∙◌, ◌<◌, ◌≤◌, ◌^◌, ℕ, Some, true, ap, arith, refl, sym}
 use Rattle.std.specs.Prelude.{codes}
 use Rattle.std.proofs.lemmas.Bool.Decides.{nat_tests}
@@ -30,7 +30,7 @@ use Rattle.luks2_seal.specs.Typed2.{AreTyped2}
 use Rattle.luks2_seal.proofs.Slots2.{names_texts, slot_listed}
 use Rattle.luks2_seal.proofs.TextLemmas.{base64_read, hash_read}
 
--- what it is made of
+-- the parts that the digest is made from
 abbrev pub digest_parts : Seal2 → DigestParts
 digest_parts p = record {
   hash = Some p.digest_hash;
@@ -91,7 +91,7 @@ module _ (p : Seal2) (fits : AreParameters2 p) (typed : AreTyped2 p) where
   unfolding digest2_of digest_is
   made = rw (is_said, parts_said) (digest_from-yes (digest_parts p) usable)
 
-  -- it is that of the key
+  -- the digest is that of the key
   pub of_key : IsDigestOf digest_is p.key.now
   unfolding digest_is digest_of
   of_key = record {
@@ -101,7 +101,7 @@ module _ (p : Seal2) (fits : AreParameters2 p) (typed : AreTyped2 p) where
         (sym (length-derived_key p.digest_hash p.key.now p.digest_salt p.digest_iterations (digest_len p.digest_hash)));
   }
 
-  -- and of each key slot
+  -- the digest belongs to each key slot
   of_slot : (number : ℕ) (slot : Slot2) → slot_numbered number p.slots.now ≡ Some slot → number < 32
       → is_of_slot number (digest_object p) ≡ true
   unfolding is_of_slot array_contains digest_object

@@ -1,4 +1,4 @@
--- A binary header of LUKS2 that was put together is read again, and its checksum agrees.
+-- A binary header of LUKS2 that was put together is read back, and its checksum matches.
 use Rattle.std.proofs.Common.{◌≡◌, ◌≢◌, ◌∙◌, ◌+◌, ◌-◌, ◌≤◌, ◌==◌, ℕ, Bool, true, false, List, [], ◌++◌, Some, length}
 use Rattle.std.proofs.Common.{take, drop, ap, arith, refl, sym, append_assoc, length-append}
 use Rattle.std.specs.Prelude.{◌||◌, codes}
@@ -31,7 +31,7 @@ size_listed : (n : ℕ) → is_header_size n ≡ true → list_any (λ size. siz
 unfolding sizes
 size_listed n is = grind (arith, nat_tests)
 
--- the bytes that a header begins with say whose place it is
+-- the first 24 bytes of a header have its offset's magic, its size and its sequence number; the offset is 0 or the size
 pub record IsStart (p : Seal2) (magic : List ℕ) (place : ℕ) : Type 0 where
   pub len : length (start_of p magic) ≡ 24
   pub begins : at 0 8 (start_of p magic) ≡ beginning_at place
@@ -40,7 +40,7 @@ pub record IsStart (p : Seal2) (magic : List ℕ) (place : ℕ) : Type 0 where
   pub own : (place == 0 || p.hdr_size == place) ≡ true
   pub within : place ≤ p.hdr_size
 
--- as those of both headers do
+-- both headers start with such bytes
 pub primary_start : (p : Seal2) → IsStart p primary_magic 0
 unfolding start_of beginning_at
 primary_start p = record {
@@ -74,7 +74,7 @@ secondary_start p fits = record {
 abbrev header_sum : Seal2 → List ℕ → List ℕ → ℕ → List ℕ
 header_sum p magic salt place = hash_of Sha256 (fields_of p magic salt place ++ padded 64 [] ++ body_bytes p)
 
--- the checksum's field filled with something else
+-- the checksum's field is replaced by other bytes
 zeroed_of : (front sum rest zeros : List ℕ) → length front ≡ 448 → length sum ≡ 64
     → take 448 (front ++ sum ++ rest) ++ zeros ++ drop 512 (front ++ sum ++ rest) ≡ front ++ zeros ++ rest
 zeroed_of front sum rest zeros long filled =
@@ -126,7 +126,7 @@ module _ (p : Seal2) (fits : AreParameters2 p) (json : FitsJson p) (magic salt :
 
   -- ---- fields
 
-  -- what lies before the checksum
+  -- bytes before the checksum are bytes of the fields
   in_fields : (k len : ℕ) → k + len ≤ 448
       → at k len (header2_bytes p magic salt place) ≡ at k len (fields_of p magic salt place)
   unfolding header2_bytes
@@ -139,14 +139,14 @@ module _ (p : Seal2) (fits : AreParameters2 p) (json : FitsJson p) (magic salt :
   length-before : length (start_of p magic ++ middle_of p salt) ≡ 168
   length-before = rw (length-append, start.len, length-middle) refl
 
-  -- what lies within the first 24 bytes
+  -- bytes within the first 24 bytes are bytes of the start
   in_start : (k len : ℕ) → k + len ≤ 24 → at k len (header2_bytes p magic salt place) ≡ at k len (start_of p magic)
   in_start k len below =
       in_fields k len (omega arith)
       ∙ at_first k len (start_of p magic ++ middle_of p salt) (fields_end_bytes p place) (omega (arith, length-before))
       ∙ at_first k len (start_of p magic) (middle_of p salt) (omega (arith, start.len))
 
-  -- the name of the checksum's hash function
+  -- the name of the checksum's hash function is in its field
   name_there : at 72 32 (header2_bytes p magic salt place) ≡ padded 32 (codes "sha256")
   unfolding middle_of padded
   name_there =
@@ -159,7 +159,7 @@ module _ (p : Seal2) (fits : AreParameters2 p) (json : FitsJson p) (magic salt :
       ∙ at_first 48 32 (label ++ name) salt (omega (arith, length-append label name, long))
       ∙ at_behind 48 0 32 label name (omega (arith, long))
 
-  -- the header's own place
+  -- the header's own offset is in its field
   own_there : at 256 8 (header2_bytes p magic salt place) ≡ to_be_bytes w64 place
   unfolding fields_end_bytes padded
   own_there =
@@ -186,7 +186,7 @@ module _ (p : Seal2) (fits : AreParameters2 p) (json : FitsJson p) (magic salt :
       ∙ at_padded 0 32 64 sum (omega (arith, sum_long))
       ∙ take_all 32 sum (omega (arith, sum_long))
 
-  -- what the checksum is made of
+  -- the bytes that the checksum is computed over
   zeroed : without_checksum (header2_bytes p magic salt place)
       ≡ fields_of p magic salt place ++ padded 64 [] ++ body_bytes p
   unfolding without_checksum no_checksum header2_bytes padded
@@ -198,7 +198,7 @@ module _ (p : Seal2) (fits : AreParameters2 p) (json : FitsJson p) (magic salt :
   unfolding checksum_hash_in padded
   hash_known = ap (λ field. hash_named (text_of field)) name_there
 
-  -- it agrees
+  -- the checksum matches
   pub intact : checksum_matches (header2_bytes p magic salt place) ≡ true
   unfolding checksum_matches
   intact =
@@ -207,7 +207,7 @@ module _ (p : Seal2) (fits : AreParameters2 p) (json : FitsJson p) (magic salt :
 
   -- ---- the binary header
 
-  -- what lies within the first 4096 bytes
+  -- bytes within the first 4096 bytes are bytes of the header
   in_binary : (k len : ℕ) → k + len ≤ 4096
       → at k len (at 0 4096 (header2_bytes p magic salt place)) ≡ at k len (header2_bytes p magic salt place)
   in_binary k len below =
@@ -237,7 +237,7 @@ module _ (p : Seal2) (fits : AreParameters2 p) (json : FitsJson p) (magic salt :
   unfolding checksum_hash_in padded
   binary_hash = ap (λ field. hash_named (text_of field)) (in_binary 72 32 (omega arith) ∙ name_there)
 
-  -- it is one of its place
+  -- the first 4096 bytes are a binary header for its offset
   pub is_binary : is_binary_of place (at 0 4096 (header2_bytes p magic salt place)) ≡ true
   unfolding is_binary_of
   is_binary =

@@ -1,4 +1,4 @@
--- Where the parts of a sealed volume of LUKS2 stand in its image.
+-- Where the parts of a sealed volume of LUKS2 are stored in its image.
 use Rattle.std.proofs.Common.{◌≡◌, ◌∙◌, ℕ, zero, suc, ◌+◌, ◌-◌, ◌*◌, ◌/◌, ◌%◌, ◌<◌, ◌≤◌, ◌==◌, Bool, true, false, List}
 use Rattle.std.proofs.Common.{[], ◌∷◌, ◌++◌, length, Option, Some, None, inl, inr, refl, sym, subst, ap, arith}
 use Rattle.std.proofs.Common.{length-append}
@@ -28,7 +28,7 @@ use Rattle.luks2_seal.proofs.Header2.{length-header, primary_start, secondary_st
 use Rattle.luks2_seal.proofs.Slots2.{start_rises}
 use Rattle.luks2_seal.proofs.Verdicts2.{need_fits}
 
--- what holds of each slot holds of the one of a number
+-- what holds for each slot holds for the slot with a number
 numbered_fits : (P : Slot2 → Type 0) (number : ℕ) (slots : List Slot2) (slot : Slot2) → All P slots
     → slot_numbered number slots ≡ Some slot → P slot
 numbered_fits P number [] slot all is = absurd (cc)
@@ -103,7 +103,7 @@ module _ (p : Seal2) (fits : AreParameters2 p) (json : FitsJson p) (typed : AreT
   unfolding headers_of
   length-headers = rw (length-append, length-primary, length-secondary) (omega arith)
 
-  -- what stands before the payload, as far as it is said
+  -- the headers and the areas end where an area of slot 32 would start
   length-front : length (headers_of p ++ areas_below p 32) ≡ area_start p 32
   length-front =
       omega (arith, length-append (headers_of p) (areas_below p 32), length-headers, length-areas 32)
@@ -130,7 +130,7 @@ module _ (p : Seal2) (fits : AreParameters2 p) (json : FitsJson p) (typed : AreT
 
   -- ---- the headers
 
-  -- what is read before the payload is read of them and the areas
+  -- bytes before the end of the areas are bytes of the headers and the areas
   before_payload : (place len : ℕ) → place + len ≤ area_start p 32
       → at place len (image2_of p) ≡ at place len (headers_of p ++ areas_below p 32)
   unfolding image2_of
@@ -164,7 +164,7 @@ module _ (p : Seal2) (fits : AreParameters2 p) (json : FitsJson p) (typed : AreT
 
   -- ---- the areas
 
-  -- a slot's area begins behind those of lower numbers
+  -- the next area starts at the end of a slot's area
   pub area_next : (n : ℕ) (slot : Slot2) → slot_numbered n p.slots.now ≡ Some slot
       → area_start p (suc n) ≡ area_start p n + area_size (length p.key.now) slot.stripes
   unfolding area_start
@@ -198,7 +198,7 @@ module _ (p : Seal2) (fits : AreParameters2 p) (json : FitsJson p) (typed : AreT
     low : slot.number < 32
     low = omega (arith, of_slot.0)
 
-    -- an area lies behind both headers and ends before the payload
+    -- an area starts after both headers and ends before the payload
     pub area_behind : 2 * p.hdr_size ≤ area_start p slot.number
     area_behind = omega (arith, length-areas slot.number)
 
@@ -208,7 +208,7 @@ module _ (p : Seal2) (fits : AreParameters2 p) (json : FitsJson p) (typed : AreT
         let same : suc slot.number + (32 - suc slot.number) ≡ 32 = omega (arith, low) in
         omega (arith, area_next slot.number slot found, rises, ap (area_start p) same)
 
-    -- it begins with the key material
+    -- an area begins with the slot's key material
     material_begins : at 0 (need_of (length p.key.now) slot.stripes) (area_of p slot) ≡ material2_of p slot
     unfolding area_of
     material_begins =

@@ -1,4 +1,4 @@
--- What the metadata says of a key slot is read again, and there is no reason to skip the slot.
+-- A key slot in the metadata is read back: it has all its members, and its parts are those of the slot.
 use Rattle.std.proofs.Common.{◌≡◌, ◌+◌, ◌*◌, ◌≤◌, Some, true, length, arith, refl}
 use Rattle.std.specs.Prelude.{codes}
 use Rattle.std.proofs.lemmas.Bool.{le-leb}
@@ -15,7 +15,7 @@ use Rattle.luks2_seal.specs.Ranges2.{FitsSlot2}
 use Rattle.luks2_seal.specs.Typed2.{IsTypedSlot2}
 use Rattle.luks2_seal.proofs.TextLemmas.{base64_read, decimal_read, hash_read, mode_read}
 
--- a key slot of a volume, and where its area lies
+-- a key slot of a volume, and where its area is
 pub record IsPlaced (p : Seal2) (slot : Slot2) : Type 0 where
   pub fits : FitsSlot2 (length p.key.now) slot
   pub typed : IsTypedSlot2 slot
@@ -24,7 +24,7 @@ pub record IsPlaced (p : Seal2) (slot : Slot2) : Type 0 where
   pub before : area_start p slot.number + area_size (length p.key.now) slot.stripes ≤ p.offset
   pub held : p.offset ≤ 33554432
 
--- what it is made of
+-- the parts that the key slot is made from
 abbrev pub parts_of : Seal2 → Slot2 → SlotParts
 parts_of p slot = record {
   priority = slot.priority;

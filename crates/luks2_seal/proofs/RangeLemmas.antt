@@ -7,7 +7,7 @@ use Rattle.luks_cipher.proofs.ModeLemmas.{key_length_of_mode, longest_mode_key}
 use Rattle.luks_seal.specs.declared.parameters.Seal2.{Seal2}
 use Rattle.luks2_seal.specs.Ranges2.{AreParameters2, is_header_size}
 
--- a header has one of the nine lengths
+-- each of the nine lengths of a header is from 16,384 to 4,194,304 bytes
 pub size_range : (n : ℕ) → is_header_size n ≡ true → (16384 ≤ n) × (n ≤ 4194304)
 size_range n is = (grind (arith, nat_tests), grind (arith, nat_tests))
 

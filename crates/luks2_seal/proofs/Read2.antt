@@ -1,4 +1,4 @@
--- The header of a sealed volume of LUKS2 is read again: it is the primary one, and its text is the metadata.
+-- The header of a sealed volume of LUKS2 is read back: it is the primary one, and its text is the metadata.
 use Rattle.std.proofs.Common.{◌≡◌, ◌≢◌, ◌∙◌, ℕ, zero, suc, ◌+◌, ◌-◌, ◌*◌, ◌<◌, ◌≤◌, ◌==◌, List, ◌++◌, length, take}
 use Rattle.std.proofs.Common.{replicate, Some, None, Ok, true, false, refl, sym, ap, arith, get_or, length-append}
 use Rattle.std.specs.Prelude.{slice_index}
@@ -40,7 +40,7 @@ zeros_at zero k = refl
 zeros_at (suc n) zero = refl
 zeros_at (suc n) (suc k) = zeros_at n k
 
--- the text of a field is what was put into it, where no byte of that is zero
+-- a text without zero bytes is read back from its field
 text_back : (room : ℕ) (text : List ℕ) → ((i : ℕ) → i < length text → slice_index text i ≢ 0)
     → text_of (padded room text) ≡ text
 unfolding padded
@@ -92,7 +92,7 @@ module _ (p : Seal2) (fit : AreParameters2 p) (json : FitsJson p) (magic salt : 
       ) refl
 
 module _ (p : Seal2) (fit : AreParameters2 p) (json : FitsJson p) (back : ReadsBack p) (typed : AreTyped2 p) where
-  -- the header, as its binary part writes it
+  -- the header, as its binary part states it
   unfoldable pub header_is : Header2
   header_is =
       let binary = binary_at (image2_of p) 0 in
@@ -114,7 +114,7 @@ module _ (p : Seal2) (fit : AreParameters2 p) (json : FitsJson p) (back : ReadsB
   unfolding area_start
   both_long = omega (arith, start_rises p 0 32, length-image p fit json typed, fit.offset.2)
 
-  -- the primary one
+  -- the primary header is at the start of the image
   primary_there : at 0 p.hdr_size (image2_of p) ≡ header2_bytes p primary_magic p.primary_salt 0
   primary_there = image_primary p fit json typed
 
@@ -152,7 +152,7 @@ module _ (p : Seal2) (fit : AreParameters2 p) (json : FitsJson p) (back : ReadsB
       let same = le-ltb (be64 (to_be_bytes w64 p.seqid)) (be64 (to_be_bytes w64 p.seqid)) (omega arith) in
       rw (first, primary_size, second, number, other, same, primary_hash) refl
 
-  -- and the image does not begin as one of LUKS1
+  -- the image does not begin like an image of LUKS1
   not_luks1 : is_luks1 (image2_of p) ≡ false
   unfolding is_luks1 beginning_at
   not_luks1 =
@@ -162,7 +162,7 @@ module _ (p : Seal2) (fit : AreParameters2 p) (json : FitsJson p) (back : ReadsB
       ∙ binary_begins p fit json primary_magic p.primary_salt 0 (primary_start p) typed.primary_salt) in
       rw begins refl
 
-  -- ---- its text
+  -- ---- the JSON text
 
   text_there : json_text_of (image2_of p) header_is ≡ json_of p
   unfolding json_text_of json_area_of header_is
@@ -176,7 +176,7 @@ module _ (p : Seal2) (fit : AreParameters2 p) (json : FitsJson p) (back : ReadsB
       ∙ json_there p fit json primary_magic p.primary_salt 0 (primary_start p) typed.primary_salt))
       ∙ text_back (p.hdr_size - 4096) (json_of p) json.1
 
-  -- which is the metadata's
+  -- the metadata has the objects of key slots, segments and digests
   objects : has_objects (metadata_of p) ≡ true
   unfolding has_objects metadata_of
   objects = refl
@@ -185,12 +185,12 @@ module _ (p : Seal2) (fit : AreParameters2 p) (json : FitsJson p) (back : ReadsB
   unfolding tree_of value_of
   tree_there = rw (is_utf8-from_IsUtf8 (json_of p) back.0, back.1, objects) refl
 
-  -- so this is the header
+  -- reading the image gives this header and the metadata
   pub header_read : read_header (image2_of p) ≡ Ok (V2 header_is (metadata_of p))
   unfolding read_header header2_of
   header_read = rw (not_luks1, chosen, text_there, tree_there) refl
 
-  -- which sets these bounds
+  -- the header sets these bounds
   pub bounds_there : bounds2_of header_is ≡ bounds_of p
   unfolding bounds2_of header_is
   bounds_there = ap (λ (n : ℕ). record { end = 2 * n; detached = false }) primary_size

@@ -32,7 +32,7 @@ use Rattle.luks2_seal.proofs.Read2.{bounds_there, header_is, header_read}
 use Rattle.luks2_seal.proofs.Segment2.{fixed_size, segment_is, segment_read}
 use Rattle.luks2_seal.proofs.Verdicts2.{need_fits, slot_is, slot_parts, slot_usable}
 
--- a payload that ends with the image ends there, whether its length is fixed or not
+-- if the image ends with the payload, the payload ends there, whether its length is fixed or not
 ends_there : (fixed : Bool) (plain image : List ℕ) (end : ℕ) → length image ≡ end
     → EndsWith (fixed_size fixed (length plain)) plain end image
 ends_there true plain image end is = refl

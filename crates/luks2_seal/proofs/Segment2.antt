@@ -1,4 +1,4 @@
--- What the metadata says of the segment is read again: it is not refused.
+-- The segment in the metadata is read back: it is not refused.
 use Rattle.std.proofs.Common.{◌≡◌, ◌∙◌, ◌*◌, ◌%◌, ◌<◌, ◌≤◌, ◌^◌, ℕ, Bool, true, false, Option, Some, None, Ok, length}
 use Rattle.std.proofs.Common.{ap, arith, refl, sym, true≢false}
 use Rattle.std.specs.Prelude.{bytes_eq, codes, decimal, if◌then◌else◌, option_and_then, option_map, unwrap_or}
@@ -28,16 +28,16 @@ use Rattle.luks2_seal.specs.Typed2.{AreTyped2}
 use Rattle.luks2_seal.proofs.Slots2.{start_rises}
 use Rattle.luks2_seal.proofs.TextLemmas.{decimal_read, decimal_digits, mode_read}
 
--- the bounds that a header of this size sets, in the payload's image
+-- the bounds that an attached header of this size sets
 abbrev pub bounds_of : Seal2 → Bounds
 bounds_of p = record { end = 2 * p.hdr_size; detached = false }
 
--- the payload's length, where it is fixed
+-- the payload's length, if it is fixed
 abbrev pub fixed_size : Bool → ℕ → Option ℕ
 fixed_size true len = Some len
 fixed_size false len = None
 
--- a number is not taken for the word that says that there is none
+-- no number is written as the word `dynamic`
 not_dynamic : (n : ℕ) → n < 2 ^ 64 → bytes_eq (codes "dynamic") (decimal n) ≡ false
 not_dynamic n small =
     false_from_ne_true (bytes_eq (codes "dynamic") (decimal n)) (λ yes.
@@ -126,7 +126,7 @@ module _ (p : Seal2) (fits : AreParameters2 p) (typed : AreTyped2 p) where
       rw (offset_said, size_said, iv_tweak_said, sector_size_said, mode_said)
       (segment_of_all-yes p.offset (fixed_size p.fixed (length p.plain.now)) p.iv_tweak p.sector_size p.mode whole)
 
-  -- which is not refused
+  -- the segment that is read back is this one, which is not refused
   pub segment_read : segment2_of (metadata_of p) (bounds_of p) ≡ Ok segment_is
   segment_read =
       let said = said-there (metadata_of p) (segment_object p) is_there in

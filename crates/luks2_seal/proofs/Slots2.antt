@@ -1,5 +1,5 @@
--- The key slots by their numbers: each stands under its number's name, is listed by the digest, and has an area of its
--- own before the payload.
+-- The key slots by their numbers: each is stored under its number, is listed by the digest, and has an area of its own
+-- before the payload.
 use Rattle.std.proofs.Common.{◌≡◌, ◌≢◌, ◌∙◌, ◌<◌, ◌≤◌, ◌+◌, ◌^◌, ℕ, zero, suc, Bool, true, false, List, [], ◌∷◌, ◌++◌}
 use Rattle.std.proofs.Common.{Option, Some, None, inl, inr, add-suc, add-zero, ap, arith, refl, sym}
 use Rattle.std.specs.Prelude.{All, ◌&&◌, ◌||◌, decimal, slice_index_or}
@@ -18,7 +18,7 @@ use Rattle.luks2_seal.specs.Metadata2.{decimal_value, keyslot_object, keyslots_b
 use Rattle.luks2_seal.specs.SlotAreas.{area_size_at, area_start, slot_numbered}
 use Rattle.luks2_seal.specs.Ranges2.{AreDistinct2}
 
--- each slot is that of its number
+-- each slot is found by its number
 pub numbered_each : (slots : List Slot2) → AreDistinct2 slots
     → All (λ (slot : Slot2). slot_numbered slot.number slots ≡ Some slot) slots
 numbered_each [] distinct k d below = absurd (omega arith)
@@ -30,11 +30,11 @@ numbered_each (slot ∷ slots) distinct (suc k) d below =
 
 -- ---- names
 
--- a number's text is that number's name
+-- the string of a number is that number's name
 same_name : (n : ℕ) → is_the_text (decimal n) (decimal_value n) ≡ true
 same_name n = (bytes_eq-Decides (decimal n) (decimal n)).1 refl
 
--- a list with a text more behind it
+-- an array keeps its items when a string is appended
 any_kept : (test : Data → Bool) (ds : List Data) (d : Data) → any_item test (items_of ds) ≡ true
     → any_item test (items_of (ds ++ d ∷ [])) ≡ true
 any_kept test [] d is = absurd (cc)
@@ -65,9 +65,9 @@ all_more (e ∷ ds) n are = by (is_text e) (all_more ds n) are where
   by false later rest = absurd (cc)
 
 module _ (p : Seal2) where
-  -- ---- under its name
+  -- ---- a slot under its name
 
-  -- what is put under another name leaves it
+  -- a slot is still found after a slot with a higher number is added
   found_later : (n m : ℕ) (slot : Slot2) (next : Option Slot2) → n < m → m < 2 ^ 64
       → get_member (decimal n) (keyslots_below p m) ≡ Some (keyslot_object p slot)
       → get_member (decimal n) (option_map_or (λ other. put (decimal m) (keyslot_object p other) (keyslots_below p m))
@@ -91,9 +91,9 @@ module _ (p : Seal2) where
         rw (← same, is) (get_member-put (decimal n) (keyslot_object p slot) (keyslots_below p n))
   ]
 
-  -- ---- in the digest's list
+  -- ---- a slot in the digest's list
 
-  -- what is listed behind it leaves it
+  -- a number is still listed after a further one is listed
   listed_later : (n m : ℕ) (next : Option Slot2)
       → any_item (is_the_text (decimal n)) (items_of (names_below p m)) ≡ true
       → any_item (is_the_text (decimal n)) (items_of (option_map_or (λ other. names_below p m ++ decimal_value m ∷ [])
@@ -119,13 +119,13 @@ module _ (p : Seal2) where
   texts_more m None before = before
   texts_more m (Some other) before = all_more (names_below p m) m before
 
-  -- all that is listed are texts
+  -- all items of the digest's list are strings
   pub names_texts : (m : ℕ) → all_items is_text (items_of (names_below p m)) ≡ true
   unfolding names_below
   names_texts zero = refl
   names_texts (suc m) = texts_more m (slot_numbered m p.slots.now) (names_texts m)
 
-  -- ---- where its area lies
+  -- ---- where a slot's area is
 
   pub start_rises : (n k : ℕ) → area_start p n ≤ area_start p (n + k)
   unfolding area_start

@@ -1,4 +1,4 @@
--- What is written of numbers, bytes, hash functions and modes is read again.
+-- Numbers, bytes, hash functions and modes are read back as they were written.
 use Rattle.std.proofs.Common.{◌≡◌, ◌<◌, ◌^◌, ℕ, List, ◌++◌, Some, true, length, ap, arith, rules, refl}
 use Rattle.std.specs.Prelude.{codes, decimal}
 use Rattle.std.specs.Char.{is_ascii_digit}

@@ -1,4 +1,4 @@
--- No reason to skip a key slot holds of what the metadata says of it.
+-- There is no reason to skip a key slot of the metadata.
 use Rattle.std.proofs.Common.{◌≡◌, ◌∙◌, ◌+◌, ◌*◌, ◌<◌, ◌≤◌, ◌^◌, ℕ, true, false, Some, None, length, ap, arith, refl}
 use Rattle.std.specs.Prelude.{◌&&◌, ◌||◌, codes, is_none}
 use Rattle.std.proofs.lemmas.Bool.{lt-ltb}
@@ -44,7 +44,7 @@ few_stripes : (stripes : ℕ) → 1 ≤ stripes → stripes ≤ 4000 → stripes
 unfolding stripes_out_of_range
 few_stripes stripes some few = grind (arith, nat_tests)
 
--- an area has room for what it needs
+-- an area is large enough for its key material
 pub need_fits : (key stripes : ℕ) → need_of key stripes ≤ area_size key stripes
 unfolding need_of
 need_fits key stripes = omega arith
@@ -55,7 +55,7 @@ unfolding area_out_of_range
 well_placed start payload offset size need behind room before held = grind (arith, nat_tests)
 
 module _ (p : Seal2) (fits : AreParameters2 p) (typed : AreTyped2 p) (slot : Slot2) (placed : IsPlaced p slot) where
-  -- ---- what it is judged by
+  -- ---- the values that the slot is checked against
 
   payload_mode : payload_mode2_of (metadata_of p) (bounds_of p) ≡ Some p.mode
   unfolding segment_is segment_by
@@ -114,7 +114,7 @@ module _ (p : Seal2) (fits : AreParameters2 p) (typed : AreTyped2 p) (slot : Slo
       (need_of (length p.key.now) slot.stripes) placed.behind (need_fits (length p.key.now) slot.stripes) placed.before
       placed.held)
 
-  -- none of them holds
+  -- no reason to skip the slot holds
   no_reasons : reason2_of (metadata_of p) (bounds_of p) None slot.number (keyslot_object p slot) ≡ None
   unfolding reason2_of is_named string_member keyslot_object kdf_object
   no_reasons =
@@ -139,7 +139,7 @@ module _ (p : Seal2) (fits : AreParameters2 p) (typed : AreTyped2 p) (slot : Slo
       rw (lt-ltb slot.number 32 (omega (arith, placed.fits.0)))
       (keyslot_found p slot.number 32 slot placed.numbered (omega (arith, placed.fits.0)) (omega arith))
 
-  -- it can be tried
+  -- the slot is usable
   pub slot_usable : verdict2_at (metadata_of p) (bounds_of p) None slot.number ≡ Some (Usable slot_is)
   unfolding verdict2_at verdict2_of slot2_of slot_is
   slot_usable = rw (there, no_reasons, slot_from-yes (slot_parts2_of (keyslot_object p slot)) in_range) refl

@@ -15,12 +15,12 @@ use Rattle.luks2_seal.specs.Metadata2.{keyslot_object, keyslots_below, metadata_
 use Rattle.luks2_seal.specs.Metadata2.{size_value}
 use Rattle.luks2_seal.specs.SlotAreas.{slot_numbered}
 
--- where one or the other is false, both are
+-- if a disjunction is false, both of its parts are
 both_false : (a b : Bool) → (a || b) ≡ false → (a ≡ false) × (b ≡ false)
 both_false false b is = (refl, is)
 both_false true b is = absurd (cc)
 
--- a member more
+-- one more member without a fraction adds none
 put_whole : (k : List ℕ) (d : Data) (ms : Members) → has_float d ≡ false → members_have_float ms ≡ false
     → members_have_float (put k d ms) ≡ false
 put_whole k d no_members of_d of_ms = rw of_d refl
@@ -41,7 +41,7 @@ keyslot_whole : (p : Seal2) (slot : Slot2) → has_float (keyslot_object p slot)
 unfolding keyslot_object af_object area_object kdf_object
 keyslot_whole p slot = refl
 
--- a slot where there is one
+-- a slot, if there is one, adds no fraction
 member_whole : (p : Seal2) (n : ℕ) (ms : Members) (found : Option Slot2) → members_have_float ms ≡ false
     → members_have_float (option_map_or (λ slot. put (decimal n) (keyslot_object p slot) ms) found ms) ≡ false
 member_whole p n ms None of_ms = of_ms
@@ -53,7 +53,7 @@ keyslots_whole p zero = refl
 keyslots_whole p (suc n) =
     member_whole p n (keyslots_below p n) (slot_numbered n p.slots.now) (keyslots_whole p n)
 
--- a text at the end
+-- one more string at the end adds no fraction
 item_whole : (ds : List Data) (n : ℕ) → items_have_float (items_of ds) ≡ false
     → items_have_float (items_of (ds ++ decimal_value n ∷ [])) ≡ false
 item_whole [] n of_ds = refl

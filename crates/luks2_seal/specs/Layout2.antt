@@ -27,7 +27,7 @@ start_of p magic = magic ++ to_be_bytes w16 2 ++ to_be_bytes w64 p.hdr_size ++ t
 unfoldable pub middle_of : Seal2 → List ℕ → List ℕ
 middle_of p salt = padded 48 p.label.now ++ padded 32 (codes "sha256") ++ salt
 
--- `uuid`, `subsystem` and `hdr_offset`, which is the header's own place in bytes, and the zeros before the checksum
+-- `uuid`, `subsystem` and `hdr_offset`, which is the header's own offset in bytes, and the zeros before the checksum
 unfoldable pub fields_end_bytes : Seal2 → ℕ → List ℕ
 fields_end_bytes p place = padded 40 p.uuid.now ++ padded 48 p.subsystem.now ++ padded 192 (to_be_bytes w64 place)
 
@@ -35,11 +35,11 @@ fields_end_bytes p place = padded 40 p.uuid.now ++ padded 48 p.subsystem.now ++ 
 abbrev pub fields_of : Seal2 → List ℕ → List ℕ → ℕ → List ℕ
 fields_of p magic salt place = start_of p magic ++ middle_of p salt ++ fields_end_bytes p place
 
--- the bytes behind it: zeros to byte 4096, and the JSON area
+-- the bytes after the checksum: zeros to byte 4096, and the JSON area
 unfoldable pub body_bytes : Seal2 → List ℕ
 body_bytes p = padded 3584 [] ++ padded (p.hdr_size - 4096) (json_of p)
 
--- a header with its JSON area. The checksum is the hash of them with zeros in its place
+-- a header with its JSON area. The checksum is the hash of both, with zeros in the checksum's field
 unfoldable pub header2_bytes : Seal2 → List ℕ → List ℕ → ℕ → List ℕ
 header2_bytes p magic salt place =
     let fields = fields_of p magic salt place in
@@ -54,7 +54,7 @@ headers_of p =
 unfoldable pub area_key_of : Seal2 → Slot2 → List ℕ
 area_key_of p slot = derived_key slot.hash slot.passphrase.now slot.salt slot.iterations p.area_key_size
 
--- a slot's area: its key material, and zeros
+-- a slot's area: its key material, padded with zeros
 unfoldable pub area_of : Seal2 → Slot2 → List ℕ
 area_of p slot =
     padded (area_size (length p.key.now) slot.stripes)
@@ -67,7 +67,7 @@ areas_below p zero = []
 areas_below p (suc n) =
     areas_below p n ++ option_map_or (area_of p) (slot_numbered n p.slots.now) []
 
--- the payload: unit numbers count in steps of 512 bytes, whatever the sector's length
+-- the payload: unit numbers count in steps of 512 bytes, whatever the sector size
 unfoldable pub payload_of : Seal2 → List ℕ
 payload_of p =
     sectors_encrypted (p.mode, p.key.now) p.iv_tweak (bytes_of p.sector_size / 512) (bytes_of p.sector_size) p.plain.now

@@ -6,7 +6,7 @@ use Rattle.luks2_seal.specs.Metadata2.{base64_value, decimal_value, encryption_t
 use Rattle.luks2_seal.specs.declared.members.Content.{Content}
 use Rattle.luks2_seal.specs.declared.members.Content.TheVariants.{Text, Number, Decimal, Bytes, Encryption}
 
--- what a member says
+-- the JSON value of a member
 abbrev pub data_of : Content → Data
 data_of (Text text) = string text.now
 data_of (Number n) = number (unsigned n)
@@ -14,7 +14,7 @@ data_of (Decimal n) = decimal_value n
 data_of (Bytes bytes) = base64_value bytes.now
 data_of (Encryption mode) = encryption_text mode
 
--- an object's members, with these as well
+-- an object's members, with these added
 abbrev pub with_members : List (Bor (List ℕ) × Content) → Members → Members
 with_members [] old = old
 with_members (m ∷ ms) old = with_members ms (put m.0.now (data_of m.1) old)

@@ -24,7 +24,7 @@ abbrev pub members : List (List ℕ × Data) → Members
 members [] = no_members
 members (m ∷ ms) = member m.0 m.1 (members ms)
 
--- a number of bytes, which the format writes as a text
+-- a number in decimal digits, which the format writes as a string
 abbrev pub decimal_value : ℕ → Data
 decimal_value n = string (decimal n)
 
@@ -36,7 +36,7 @@ base64_value bytes = string (encode_of standard bytes)
 abbrev pub encryption_text : Mode → Data
 encryption_text mode = string (codes "aes-" ++ mode_name mode)
 
--- how the key is split
+-- how the key is split into stripes
 unfoldable pub af_object : Slot2 → Data
 af_object slot = object (members (
     (codes "hash", string (hash_name slot.af_hash))
@@ -54,7 +54,7 @@ area_object p slot = object (members (
     ∷ (codes "type", string (codes "raw"))
     ∷ []))
 
--- how the key of the area comes of the passphrase
+-- how the key of the area is derived from the passphrase
 unfoldable pub kdf_object : Slot2 → Data
 kdf_object slot = object (members (
     (codes "hash", string (hash_name slot.hash))
@@ -80,7 +80,7 @@ keyslots_below p (suc n) =
     option_map_or (λ slot. put (decimal n) (keyslot_object p slot) (keyslots_below p n)) (slot_numbered n p.slots.now)
     (keyslots_below p n)
 
--- the numbers of slots that are below this one, as texts, rising
+-- the numbers of the slots that are below this one, as strings, in ascending order
 unfoldable pub names_below : Seal2 → ℕ → List Data
 names_below p zero = []
 names_below p (suc n) =
@@ -101,7 +101,7 @@ digest_object p = object (members ((
     ∷ (codes "type", string (codes "pbkdf2"))
     ∷ []))
 
--- the payload's length, if it is fixed
+-- the payload's length, or `dynamic` if it is not fixed
 abbrev pub size_value : Bool → ℕ → Data
 size_value true len = decimal_value len
 size_value false len = string (codes "dynamic")
@@ -137,10 +137,10 @@ metadata_of p = object (members (
 unfoldable pub json_of : Seal2 → List ℕ
 json_of p = compact_text (metadata_of p)
 
--- the text fits: it holds no zero byte and, with one behind it, is no longer than the JSON area
+-- the text fits: it has no zero byte and, with one after it, is no longer than the JSON area
 abbrev pub FitsJson : Seal2 → Type 0
 FitsJson p = FitsText (p.hdr_size - 4096 - 1) (json_of p)
 
--- the text is UTF-8, and is read as the metadata
+-- the text is UTF-8, and is read back as the metadata
 abbrev pub ReadsBack : Seal2 → Type 0
 ReadsBack p = IsUtf8 (json_of p) × (read (json_of p) ≡ Some (metadata_of p))

@@ -1,4 +1,4 @@
--- What a volume of LUKS2 may be made from.
+-- The ranges of what a volume of LUKS2 is made from.
 use Rattle.std.specs.Prelude.{◌≡◌, ◌≢◌, ℕ, ◌-◌, ◌*◌, ◌%◌, ◌≤◌, ◌==◌, ◌||◌, Bool, true, List, [], ◌∷◌, All, length}
 use Rattle.luks_verdict.specs.SectorSize.{bytes_of}
 use Rattle.luks_seal.specs.Ranges.{FitsKey, FitsText, max_plain_len}
@@ -13,33 +13,33 @@ is_header_size n =
     n == 16384 || n == 32768 || n == 65536 || n == 131072 || n == 262144 || n == 524288 || n == 1048576 || n == 2097152
     || n == 4194304
 
--- a key of the payload, of a length of its mode, and a length of the keys of the areas, which is one of theirs
+-- the payload's key has a length that its mode has, and so have the keys of the areas
 abbrev pub FitKeys : Seal2 → Type 0
 FitKeys p = FitsKey p.mode (length p.key.now) × FitsKey p.area_mode p.area_key_size
 
--- the texts of the header
+-- the texts of the header fit their fields
 abbrev pub FitTexts : Seal2 → Type 0
 FitTexts p = FitsText 40 p.uuid.now × FitsText 48 p.label.now × FitsText 48 p.subsystem.now
 
--- whole sectors of this length, and not too many
+-- a plain text of this length is whole sectors, and is not too long
 abbrev pub FitsPlain2 : ℕ → ℕ → Type 0
 FitsPlain2 sector len = (len % sector ≡ 0) × (len ≤ max_plain_len)
 
--- one slot of a volume whose key has so many bytes
+-- one slot of a volume whose key has this many bytes
 abbrev pub FitsSlot2 : ℕ → Slot2 → Type 0
 FitsSlot2 key slot = (slot.number ≤ 31) × (slot.priority ≤ 2) × (1 ≤ slot.iterations) × (1 ≤ slot.stripes)
     × (slot.stripes ≤ 4000) × (length slot.random.now ≡ (slot.stripes - 1) * key)
 
--- no slot has the number of one before it
+-- no two slots have the same number
 abbrev pub AreDistinct2 : List Slot2 → Type 0
 AreDistinct2 [] = Unit {0}
 AreDistinct2 (slot ∷ slots) = All (λ other. other.number ≢ slot.number) slots × AreDistinct2 slots
 
--- the payload begins behind all areas, at a multiple of 4096 bytes, and not too late
+-- the payload begins after all areas, at a multiple of 4096 bytes, and at byte 33,554,432 at most
 abbrev pub FitsOffset : Seal2 → Type 0
 FitsOffset p = (p.offset % 4096 ≡ 0) × (p.offset ≤ 33554432) × (area_start p 32 ≤ p.offset)
 
--- the parameters are all in their ranges, as far as they can be judged without the JSON text
+-- the parameters are all in their ranges, as far as they can be checked without the JSON text
 pub record AreParameters2 (p : Seal2) : Type 0 where
   pub size : is_header_size p.hdr_size ≡ true
   pub keys : FitKeys p

@@ -14,12 +14,12 @@ slot_numbered number (slot ∷ slots) = if slot.number == number then Some slot 
 abbrev pub area_size : ℕ → ℕ → ℕ
 area_size key stripes = (key * stripes + 4095) / 4096 * 4096
 
--- the length of the area of the slot of this number, if there is one
+-- the length of the area of the slot of this number, or 0 if there is no such slot
 abbrev pub area_size_at : Seal2 → ℕ → ℕ
 area_size_at p number =
     option_map_or (λ slot. area_size (length p.key.now) slot.stripes) (slot_numbered number p.slots.now) 0
 
--- where the area of the slot of this number starts, in bytes: behind both headers and the areas of all slots with lower
+-- where the area of the slot of this number starts, in bytes: after both headers and the areas of all slots with lower
 -- numbers
 unfoldable pub area_start : Seal2 → ℕ → ℕ
 area_start p zero = 2 * p.hdr_size

@@ -1,16 +1,16 @@
--- What the types of a volume's parameters say of them: which are bytes, how large numbers are, and how long salts are.
+-- What the types of a volume's parameters guarantee: which are bytes, how large numbers are, and how long salts are.
 use Rattle.std.specs.Prelude.{◌≡◌, ◌<◌, ◌^◌, All, length}
 use Rattle.luks_aes.specs.Bytes.{IsBytes}
 use Rattle.luks_seal.specs.declared.parameters.Seal2.{Seal2}
 use Rattle.luks_seal.specs.declared.parameters.Slot2.{Slot2}
 
--- of a key slot
+-- for a key slot
 pub record IsTypedSlot2 (slot : Slot2) : Type 0 where
   pub iterations : slot.iterations < 2 ^ 32
   pub salt : IsBytes slot.salt
   pub random : IsBytes slot.random.now
 
--- of a volume of LUKS2
+-- for a volume of LUKS2
 pub record AreTyped2 (p : Seal2) : Type 0 where
   pub primary_salt : length p.primary_salt ≡ 64
   pub secondary_salt : length p.secondary_salt ≡ 64

@@ -35,7 +35,7 @@ pub(crate) fn area_size(key: usize, stripes: u32) -> u64
     (key as u64 * stripes as u64 + 4095) / 4096 * 4096
 }
 
-/// The length of the area of the slot of this number, if there is one.
+/// The length of the area of the slot of this number, or 0 if there is no such slot.
 fn area_size_at(seal: &Seal2<'_>, number: u32) -> u64
     requires key { length seal.now.key.now ≤ 64 }
     requires slots { All (FitsSlot2 (length seal.now.key.now)) seal.now.slots.now }
@@ -48,8 +48,8 @@ fn area_size_at(seal: &Seal2<'_>, number: u32) -> u64
     }
 }
 
-/// Where the area of the slot of this number starts: behind both headers and the areas of all slots
-/// with lower numbers.
+/// Where the area of the slot of this number starts, in bytes: after both headers and the areas of
+/// all slots with lower numbers.
 #[tactic(auto, unfolding(crate::specs::SlotAreas::area_start))]
 pub(crate) fn area_start(seal: &Seal2<'_>, number: u32) -> u64
     requires size { seal.now.hdr_size ≤ 4194304 }
@@ -102,7 +102,7 @@ fn push_area(
     push_padded(alloc, image, &material, size as usize)
 }
 
-/// Adds the areas of all slots, by rising number.
+/// Adds the areas of all slots, by ascending number.
 #[tactic(auto, unfolding(crate::specs::Layout2::areas_below))]
 pub(crate) fn push_areas(
     alloc: Global,

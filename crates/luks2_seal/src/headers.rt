@@ -14,7 +14,7 @@ use luks_seal::parameters::Seal2;
 use luks_seal::pieces::{padded, push_padded};
 use std::alloc::{AllocError, Global};
 
-/// How long the checksum's field is.
+/// The length of the checksum's field in bytes.
 const CHECKSUM: usize = 64;
 
 /// Adds `magic`, `version`, `hdr_size` and `seqid`.
@@ -76,7 +76,7 @@ fn fields_of(
     Ok(fields)
 }
 
-/// The bytes behind the checksum: zeros, and the JSON area.
+/// The bytes after the checksum: zeros, and the JSON area.
 #[tactic(auto, unfolding(crate::specs::Layout2::body_bytes))]
 fn body_bytes(alloc: Global, seal: &Seal2<'_>, json: &[u8]) -> Result<Vec<u8>, AllocError>
     requires fits { AreParameters2 seal.now }
@@ -99,7 +99,7 @@ fn checksum_of(alloc: Global, fields: &[u8], rest: &[u8]) -> Result<Vec<u8>, All
     Ok(sum)
 }
 
-/// Adds a header with its JSON area, where `rest` is what is behind the checksum.
+/// Adds a header with its JSON area; `rest` is the bytes after the checksum.
 #[tactic(auto, unfolding(crate::specs::Layout2::header2_bytes))]
 fn push_header(
     alloc: Global,

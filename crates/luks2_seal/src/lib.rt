@@ -1,5 +1,5 @@
-//! Volumes of LUKS2 made from values that are all passed in, for tests and for what is proved about
-//! honest volumes: [`seal2`].
+//! Volumes of LUKS2 made from values that are all passed in, for tests and for proofs about honest
+//! volumes: [`seal2`].
 #![tactic(auto)]
 
 pub use luks2::seal2;

@@ -53,13 +53,13 @@ fn image_of(alloc: Global, seal: &Seal2<'_>, json: &[u8]) -> Result<Vec<u8>, All
 
 /// Makes the image of a volume with the cipher `aes` and PBKDF2 in all its key slots.
 ///
-/// The areas follow one another by ascending slot number, right behind both headers. The payload
+/// The areas follow one another by ascending slot number, right after both headers. The payload
 /// ends the image. Bytes that are not named are zero.
 ///
 /// # Errors
 ///
 /// [`Parameters`](SealFault::Parameters) if a parameter is out of range, before any memory is
-/// allocated, or if the JSON text does not fit the header, which is known only once the text is
+/// allocated, or if the JSON text does not fit the header, which is only known after the text is
 /// made; otherwise [`Memory`](SealFault::Memory) if memory runs out.
 pub fn seal2(alloc: Global, seal: &Seal2<'_>) -> Result<Vec<u8>, SealFault>
     ensures answer { SealsOrSaysLate (AreParameters2 seal.now) (FitsJson seal.now) result }

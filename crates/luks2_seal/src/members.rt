@@ -11,14 +11,14 @@ use luks_cipher::Mode;
 use serde_json::{Map, Value, put};
 use std::alloc::{AllocError, Global};
 
-/// What a member says.
+/// The value of a member.
 #[derive(Clone, Copy)]
 pub(crate) enum Content<'a> {
-    /// A text.
+    /// A string.
     Text(&'a str),
     /// A number.
     Number(u64),
-    /// A number in decimal digits, as a text.
+    /// A number in decimal digits, as a string.
     Decimal(u64),
     /// Bytes in base64.
     Bytes(&'a [u8]),
@@ -26,7 +26,7 @@ pub(crate) enum Content<'a> {
     Encryption(Mode),
 }
 
-/// A number in decimal digits, as a text.
+/// A number in decimal digits, as a string.
 pub(crate) fn decimal_value(alloc: Global, number: u64) -> Result<Value, AllocError>
     ensures { IfOk result (λ value. view value ≡ decimal_value number) }
 {
@@ -49,7 +49,7 @@ fn encryption_text(alloc: Global, mode: Mode) -> Result<Value, AllocError>
     Ok(Value::from(text))
 }
 
-/// What a member says, as a value.
+/// The JSON value of a member.
 fn value_of(alloc: Global, content: Content<'_>) -> Result<Value, AllocError>
     ensures { IfOk result (λ value. view value ≡ data_of content.entry) }
 {

@@ -19,7 +19,7 @@ use luks_seal::pieces::derived_key;
 use serde_json::{Map, Value, json, put};
 use std::alloc::{AllocError, Global};
 
-/// Puts how the key is split into the key slot.
+/// Puts `af` into the key slot: how the key is split into stripes.
 #[tactic(auto, unfolding(crate::specs::Metadata2::af_object))]
 fn put_af(alloc: Global, map: &mut Map<String, Value>, slot: &Slot2<'_>) -> Result<(), AllocError>
     ensures { OnOk result (members_view map.new.entries
@@ -37,7 +37,7 @@ fn put_af(alloc: Global, map: &mut Map<String, Value>, slot: &Slot2<'_>) -> Resu
     )
 }
 
-/// Puts where the key material is, and how it is encrypted, into the key slot.
+/// Puts `area` into the key slot: where the key material is, and how it is encrypted.
 #[tactic(auto, unfolding(crate::specs::Metadata2::area_object))]
 fn put_area(
     alloc: Global,
@@ -67,7 +67,7 @@ fn put_area(
     )
 }
 
-/// Puts how the key of the area comes of the passphrase into the key slot.
+/// Puts `kdf` into the key slot: how the key of the area is derived from the passphrase.
 #[tactic(auto, unfolding(crate::specs::Metadata2::kdf_object))]
 fn put_kdf(alloc: Global, map: &mut Map<String, Value>, slot: &Slot2<'_>) -> Result<(), AllocError>
     ensures { OnOk result (members_view map.new.entries
@@ -97,7 +97,7 @@ fn keyslot_object(alloc: Global, seal: &Seal2<'_>, slot: &Slot2<'_>) -> Result<V
     Ok(Value::Object(map))
 }
 
-/// Puts what a key slot has into an empty object.
+/// Puts the members of a key slot into an empty object.
 #[tactic(auto, unfolding(crate::specs::Metadata2::keyslot_object))]
 fn put_keyslot(
     alloc: Global,
@@ -142,7 +142,7 @@ fn keyslots(alloc: Global, seal: &Seal2<'_>) -> Result<Map<String, Value>, Alloc
     Ok(map)
 }
 
-/// The numbers of the key slots as texts, rising.
+/// The numbers of the key slots as strings, in ascending order.
 #[tactic(auto, unfolding(crate::specs::Metadata2::names_below))]
 fn keyslot_names(alloc: Global, seal: &Seal2<'_>) -> Result<Vec<Value>, AllocError>
     requires { AreParameters2 seal.now }
@@ -199,7 +199,7 @@ fn digest_object(alloc: Global, seal: &Seal2<'_>) -> Result<Value, AllocError>
     Ok(Value::Object(map))
 }
 
-/// Puts what the digest has into an empty object.
+/// Puts the members of the digest into an empty object.
 #[tactic(auto, unfolding(crate::specs::Metadata2::digest_object))]
 fn put_digest(
     alloc: Global,
@@ -233,7 +233,7 @@ fn put_digest(
     )
 }
 
-/// The payload's length, if it is fixed.
+/// The payload's length, or `dynamic` if it is not fixed.
 fn size_value<'a>(fixed: bool, len: usize) -> Content<'a>
     ensures { data_of result ≡ size_value fixed len }
 {

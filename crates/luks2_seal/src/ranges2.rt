@@ -25,7 +25,7 @@ fn is_header_size(size: u64) -> bool
         || size == 4_194_304
 }
 
-/// The keys have lengths of their modes.
+/// The keys have lengths that their modes have.
 fn fit_keys(seal: &Seal2<'_>) -> bool
     ensures { IsTrue result ↔ FitKeys seal.now }
 {
@@ -39,14 +39,14 @@ fn fit_texts(seal: &Seal2<'_>) -> bool
     fits_text(40, seal.uuid) && fits_text(48, seal.label) && fits_text(48, seal.subsystem)
 }
 
-/// Whole sectors, and not too many.
+/// A plain text of this length is whole sectors, and is not too long.
 fn fits_plain(sector: SectorSize, len: usize) -> bool
     ensures { IsTrue result ↔ FitsPlain2 (bytes_of sector) len }
 {
     len % sector.bytes() == 0 && len <= 8_388_608
 }
 
-/// One slot of a volume whose key has so many bytes.
+/// One slot of a volume whose key has this many bytes.
 fn fits_slot(key: usize, slot: &Slot2<'_>) -> bool
     requires { key ≤ 64 }
     ensures { IsTrue result ↔ FitsSlot2 key slot.now }
@@ -75,7 +75,7 @@ fn is_free(number: u32, slots: &[Slot2<'_>]) -> bool
     slots.iter().all(|slot| slot.number != number)
 }
 
-/// No slot has the number of one before it.
+/// No two slots have the same number.
 fn are_distinct(slots: &[Slot2<'_>]) -> bool
     ensures { IsTrue result ↔ AreDistinct2 slots.now }
 {
@@ -85,7 +85,7 @@ fn are_distinct(slots: &[Slot2<'_>]) -> bool
     }
 }
 
-/// The payload begins behind all areas, at a multiple of 4096 bytes, and not too late.
+/// The payload begins after all areas, at a multiple of 4096 bytes, and at byte 33,554,432 at most.
 fn fits_offset(seal: &Seal2<'_>) -> bool
     requires size { seal.now.hdr_size ≤ 4194304 }
     requires key { length seal.now.key.now ≤ 64 }
@@ -95,7 +95,7 @@ fn fits_offset(seal: &Seal2<'_>) -> bool
     seal.offset % 4096 == 0 && seal.offset <= 33_554_432 && area_start(seal, 32) <= seal.offset
 }
 
-/// All parameters are in their ranges, as far as they can be judged without the JSON text.
+/// All parameters are in their ranges, as far as they can be checked without the JSON text.
 #[tactic(auto, using(luks_cipher::proofs::ModeLemmas::longest_mode_key))]
 pub(crate) fn are_parameters2(seal: &Seal2<'_>) -> bool
     ensures { IsTrue result ↔ AreParameters2 seal.now }

@@ -1,5 +1,5 @@
-//! What the types of the parameters of LUKS2 say of their values: nothing is done here, the clauses
-//! are for proofs.
+//! What the types of the parameters of LUKS2 guarantee for their values: nothing is done here, the
+//! clauses are for proofs.
 
 ghost use Rattle.luks2_seal.specs.Typed2.{AreTyped2, IsTypedSlot2};
 ghost use Rattle.std.specs.Prelude.{All};
@@ -7,7 +7,7 @@ ghost use Rattle.std.specs.Prelude.{All};
 use luks_seal::parameters::{Seal2, Slot2};
 use luks_seal::typed::bytes;
 
-/// What a key slot has.
+/// What the types guarantee for a key slot.
 fn slot2(slot: &Slot2<'_>)
     ensures { IsTypedSlot2 slot.now }
 {
@@ -17,7 +17,7 @@ fn slot2(slot: &Slot2<'_>)
     bytes(slot.random);
 }
 
-/// What each of these key slots has.
+/// What the types guarantee for each of these key slots.
 fn slots2(slots: &[Slot2<'_>])
     ensures { All IsTypedSlot2 slots.now }
 {
@@ -26,7 +26,7 @@ fn slots2(slots: &[Slot2<'_>])
     }
 }
 
-/// What the parameters of a volume have.
+/// What the types guarantee for the parameters of a volume.
 pub(crate) fn typed2(seal: &Seal2<'_>)
     ensures { AreTyped2 seal.now }
 {

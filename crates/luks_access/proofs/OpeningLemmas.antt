@@ -1,4 +1,4 @@
--- What opening a volume comes to, in the words of `luksCat`.
+-- The outcome of opening a volume, compared with that of `luksCat`.
 use Rattle.std.proofs.Common.{◌≡◌, ◌≢◌, ℕ, ◌≤◌, inl, inr, List, Option, Some, None, Result, Ok, Err, ◌∙◌, ap, sym}
 use Rattle.std.proofs.Common.{refl, subst, take, drop, length, ◌-◌, ◌%◌, Bool, true, false}
 use Rattle.std.specs.Prelude.{◌==◌, nat_lt, if◌then◌else◌}
@@ -43,7 +43,7 @@ use Rattle.luks_access.specs.Opens.{cat_outcome_of, payload_image_of, plaintext_
 use Rattle.luks_access.specs.Unlocks.{UnlocksVolume}
 use Rattle.luks_access.specs.declared.options.Options.{Options}
 
--- ---- only the named key slot and the limit matter of what is asked
+-- ---- the options that matter: the named key slot and the limit
 
 module _ (o p : VolumeRequest) (slot : o.key_slot ≡ p.key_slot) (limit : o.max_iterations ≡ p.max_iterations) where
   same_in_segment : (header : Header) (r : Result Segment SegmentFault)
@@ -62,7 +62,7 @@ module _ (o p : VolumeRequest) (slot : o.key_slot ≡ p.key_slot) (limit : o.max
       ap (outcome_after on_opened o.key_slot image pass) (same_in_header (read image))
       ∙ ap (λ named. outcome_after on_opened named image pass (volume_in_header p (read image))) slot
 
--- two commands with the same options are asked for the same
+-- two requests with the same options have the same outcome
 pub same_options : (options : Options) (o p : VolumeRequest) → HasOptions o options → HasOptions p options
     → (read : HeaderReader) (on_opened : OnOpened) (image pass : List ℕ)
     → volume_outcome_by read on_opened o image pass ≡ volume_outcome_by read on_opened p image pass
@@ -70,7 +70,7 @@ same_options options o p of_o of_p = same_outcome o p (of_o.0 ∙ sym of_p.0) (o
 
 -- ---- refusals
 
--- a command of these options comes to this outcome, whatever it does with a volume
+-- a command with these options has this outcome, whatever it does with an open volume
 abbrev ComesTo : Options → VolumeRequest → List ℕ → List ℕ → Outcome → Type 0
 ComesTo options o image pass out =
     (on_opened : OnOpened) → volume_outcome_by (reader_for options.location) on_opened o image pass ≡ out
@@ -86,7 +86,7 @@ refused_by options o image pass message a b has comes = record {
 
 module _ (options : Options) (o : VolumeRequest) (image pass : List ℕ) (i : Option (List ℕ))
     (has : HasOptions o options) where
-  -- there is no volume
+  -- no volume was found
   pub refused_unfound : (message : Message) → aborts message ≡ false
       → AbortsFinding (reader_for options.location) o image i message → Refuses options image pass message
   refused_unfound OutOfMemory never stop = cc
@@ -100,7 +100,7 @@ module _ (options : Options) (o : VolumeRequest) (image pass : List ℕ) (i : Op
       (found : reader_for options.location image ≡ Ok header) (is_segment : segment_of header ≡ Ok segment)
       (ordered : order_of header o.key_slot o.max_iterations ≡ Ok order) (area area' : List ℕ)
       (front : area ≡ take (header_read_len image) image) where
-    -- the key slots were tried, and none of them opens
+    -- the image ended within the key areas, or none of the key slots opens
     refused_slots : (short : length pass ≤ max_key_file_len) (message : Message) → aborts message ≡ false
         → TriesSlots o.key_slot segment order pass area area' (drop (header_read_len image) image) i (Err message)
         → Refuses options image pass message
@@ -149,7 +149,7 @@ module _ (options : Options) (o : VolumeRequest) (image pass : List ℕ) (i : Op
         }
     opened_by opened (inr (long, is)) = cc
 
--- ---- what an open volume means
+-- ---- the plaintext of an open volume
 
 module _ (o : VolumeRequest) (header image pass : List ℕ) (v : UnlockedVolume) (loaded : ℕ) where
   cat_by : (location : HeaderLocation)
@@ -165,13 +165,13 @@ module _ (o : VolumeRequest) (header image pass : List ℕ) (v : UnlockedVolume)
       let cat = outcome (detached_payload_outcome image pass) in
       (ap (λ (out : Outcome). out.output) cat, ap (λ (out : Outcome). out.message) cat)
 
--- `luksCat` writes its plain text
+-- `luksCat` writes the volume's plaintext
 pub cat_of : (options : Options) (header pass : List ℕ) (v : UnlockedVolume) → Opens options header pass v
     → IsCatOf options header pass v
 cat_of options header pass v opens o image has =
     cat_by o header image pass v opens.loaded options.location (opens.outcome o has)
 
--- a payload that is not found to end too soon ends well
+-- if the message at a payload's end is `Done`, the payload is whole
 by_tail : (b : Bool) (n : ℕ) → message_at_end (if b then Ok End else Err (HasTail n)) ≡ Done
     → (if b then Ok End else Err (HasTail n)) ≡ Ok End
 by_tail true n well = refl
@@ -197,7 +197,7 @@ ends_whole s image well =
     by_start (nat_lt (length image) s.offset) (ending_of_len s.size (sector_len s) (payload_len s image))
     (ends_within s.size (sector_len s) (payload_len s image)) well
 
--- of an honestly sealed volume it is the text that was sealed
+-- the plaintext of an honestly sealed volume is the text that was sealed, and it is whole
 pub plain_of_honest : (options : Options) (image pass : List ℕ) (v : UnlockedVolume) → Opens options image pass v
     → IsPlainOf options image pass v
 plain_of_honest options image pass v opens o plain attached has honest =
@@ -208,7 +208,7 @@ plain_of_honest options image pass v opens o plain attached has honest =
     let sealed = unsealed o image pass plain honest in
     (sym cat.0 ∙ sealed.0, ends_whole v.segment image (sym cat.1 ∙ sealed.1))
 
--- and it is opened, unless memory or a read failed
+-- an honestly sealed volume is opened, unless memory ran out or a read failed
 pub aborted_only : (options : Options) (image pass : List ℕ) (message : Message) → OpeningMessage message
     → (aborts message ≡ false → Refuses options image pass message) → IsOnlyAborted options image pass message
 aborted_only options image pass message only refuses o plain attached has never honest =

@@ -1,4 +1,4 @@
--- Parts of what is joined, and sectors decrypted one after the other.
+-- Parts of joined pieces, and sectors decrypted one after the other.
 use Rattle.std.proofs.Common.{◌≡◌, ℕ, zero, suc, ◌+◌, ◌-◌, ◌*◌, ◌/◌, ◌%◌, ◌<◌, ◌≤◌, List, [], ◌++◌, length, take, drop}
 use Rattle.std.proofs.Common.{length-drop, length-take-le, append-nil, append_assoc, add-one, arith}
 use Rattle.std.proofs.Common.{refl, sym, ap, ◌∙◌}
@@ -16,9 +16,9 @@ use Rattle.luks_payload.proofs.SectorLemmas.{one_more_fits}
 use Rattle.luks_runs.proofs.PayloadLemmas.{joined_length, unit_len, within_len}
 use Rattle.luks_access.specs.Sectors.{AreStored, plain_at, plain_in, sector_in}
 
--- ---- pieces joined
+-- ---- joined pieces
 
--- the pieces before number a, and then n more
+-- a + n joined pieces are the first a of them, followed by n more
 joined_both : (f : ℕ → List ℕ) (a n : ℕ) → joined f (a + n) ≡ joined f a ++ joined (λ j. f (a + j)) n
 unfolding joined
 joined_both f a zero =
@@ -30,7 +30,7 @@ joined_both f a (suc n) =
     (ap (λ l. l ++ f (a + n)) (joined_both f a n)
     ∙ append_assoc (joined f a) (joined (λ j. f (a + j)) n) (f (a + n)))
 
--- n pieces from number a on are a part of what is joined
+-- n pieces from number a on are a part of the joined pieces
 pub joined_part : (f : ℕ → List ℕ) (z a n total : ℕ) → ((j : ℕ) → j < total → length (f j) ≡ z) → a + n ≤ total
     → take (n * z) (drop (a * z) (joined f total)) ≡ joined (λ j. f (a + j)) n
 joined_part f z a n total sizes few =
@@ -45,9 +45,9 @@ joined_part f z a n total sizes few =
     ∙ (ap (take (n * z)) (joined_both g n rest)
     ∙ take_front (n * z) (joined g n) (joined (λ j. g (n + j)) rest) middle)))
 
--- ---- sectors decrypted in turn
+-- ---- sectors decrypted one after the other
 
--- a piece of a list that is there whole
+-- piece j of a list has its full length z, if it is within the list
 piece_len : (z j : ℕ) (l : List ℕ) → j * z + z ≤ length l → length (take z (drop (j * z) l)) ≡ z
 piece_len z j l there = length-take-le z (drop (j * z) l) (omega (arith, length-drop (j * z) l))
 
@@ -70,7 +70,7 @@ module _ (s : Segment) (cipher : Cipher) (first : ℕ) (stored : List ℕ) where
       no_sectors : (n : ℕ) → 0 ≡ 0 * n
       no_sectors n = omega arith
 
-  -- one sector more is decrypted
+  -- one more sector is decrypted
   pub one_decrypted : (now new : List ℕ) (size j : ℕ)
       → size ≡ sector_len s
       → j * size + size ≤ length stored
@@ -100,7 +100,7 @@ module _ (s : Segment) (cipher : Cipher) (first : ℕ) (stored : List ℕ) where
       next_start : (i size : ℕ) → i * size + size ≡ (i + 1) * size
       next_start i size = omega arith
 
-  -- all are
+  -- all sectors are decrypted
   pub all_decrypted : (now : List ℕ) (size count j : ℕ)
       → size ≡ sector_len s → count ≡ length stored / size → length stored % size ≡ 0 → j ≡ count
       → now ≡ joined (sector_in s cipher first stored) j ++ drop (j * size) stored
@@ -118,7 +118,7 @@ module _ (s : Segment) (cipher : Cipher) (first : ℕ) (stored : List ℕ) where
 -- ---- sectors of an image
 
 module _ (s : Segment) (cipher : Cipher) (image : List ℕ) where
-  -- a sector of the payload has its length
+  -- a sector of the payload has its full length
   len_of : (j : ℕ) → j < sectors_of s image → length (sector_plaintext s cipher image j) ≡ sector_len s
   len_of j low =
       let all = one_more_fits j (payload_bytes s.size (payload_len s image)) (sector_len s) low in
@@ -135,7 +135,7 @@ module _ (s : Segment) (cipher : Cipher) (image : List ℕ) where
       there : (o p z w len d : ℕ) → 512 ≤ z → p + z ≤ w → w ≤ len - o → d ≡ len - (o + p) → z ≤ d
       there o p z w len d some all within is = omega arith
 
-  -- sector j of those that are stored
+  -- sector j of the stored ones is sector `first + j` of the payload
   same_sector : (first : ℕ) (stored : List ℕ) (n j : ℕ) → length stored ≡ n * sector_len s
       → stored ≡ take (length stored) (drop (sector_start s first) image) → j < n
       → sector_plaintext s cipher image (first + j) ≡ sector_in s cipher first stored j
@@ -163,7 +163,7 @@ module _ (s : Segment) (cipher : Cipher) (image : List ℕ) where
       place : (o first j z : ℕ) → o + first * z + j * z ≡ o + (first + j) * z
       place o first j z = omega arith
 
-  -- what was stored in the image becomes that part of its plain text
+  -- decrypting what is stored in the image gives that part of its plaintext
   pub part_of_plain : (first : ℕ) (stored : List ℕ) → length stored % sector_len s ≡ 0 → AreStored s image first stored
       → plain_in s cipher first stored ≡ plain_at s cipher image (first * sector_len s) (length stored)
   part_of_plain first stored whole are =

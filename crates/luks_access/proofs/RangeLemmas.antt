@@ -18,9 +18,9 @@ use Rattle.luks_access.specs.Range.{IsRangeOf, ReadsRange, text_len}
 use Rattle.luks_access.specs.declared.fault.RangeFault.{RangeFault}
 use Rattle.luks_access.specs.declared.fault.RangeFault.TheVariants.{PastEnd, Read, Shorter}
 
--- ---- numbers of sectors, at each of their lengths
+-- ---- the sector of a byte, for each sector size
 
--- the sector that a byte is in, of a text of `len` bytes, which is whole sectors
+-- the byte at `offset` is in a whole sector of z bytes of a text of `len` bytes
 pub record IsSector (z offset len : ℕ) : Type 0 where
   pub start : (offset - offset % z) % z ≡ 0
   pub within : offset - offset % z + z ≤ len
@@ -47,7 +47,7 @@ range_in text unit offset skip z n is before inside =
     ∙ (take-take n (z - skip) (drop skip (drop (offset - skip) text)) (omega arith)
     ∙ ap (take n) (drop-drop skip (offset - skip) text ∙ ap (λ k. drop k text) (omega arith)))))
 
--- two ranges, one right behind the other, are one
+-- two adjacent ranges are one range
 pub range_joined : (text a b : List ℕ) (offset : ℕ) → IsRangeOf text offset a → IsRangeOf text (offset + length a) b
     → IsRangeOf text offset (a ++ b)
 range_joined text a b offset first second =
@@ -60,7 +60,7 @@ range_joined text a b offset first second =
 
 -- ---- parts that were read
 
--- the first part of a range was read, and then the rest, or that failed
+-- the first part of a range was read, and then the rest was read, or reading it failed
 pub joins : (s : Segment) (cipher : Cipher) (len : ℕ) (image : Option (List ℕ)) (fails : Bool) (offset : ℕ)
     (a b : List ℕ)
     (result : Result (Unit {0}) RangeFault) → ReadsRange s cipher len image fails offset (Ok tt) a
@@ -73,7 +73,7 @@ joins s cipher len image fails offset a b (Err PastEnd) first second = second
 joins s cipher len image fails offset a b (Err Read) first second = second
 joins s cipher len image fails offset a b (Err Shorter) first second = second
 
--- a list whose first n elements are these, with others in place of those behind them
+-- a list whose first n elements are `a`, with `b` in place of the rest
 two_parts : (a rest b : List ℕ) (n : ℕ) → length a ≡ n
     → take n (a ++ rest) ++ (b ++ drop (length (a ++ rest) - n) (drop n (a ++ rest))) ≡ a ++ b
 two_parts a rest b n long =
@@ -82,7 +82,7 @@ two_parts a rest b n long =
     ap (λ l. l ++ (b ++ drop (length (a ++ rest) - n) (drop n (a ++ rest)))) (take_front n a rest long)
     ∙ ap (λ l. a ++ l) (ap (λ l. b ++ l) none ∙ append-nil b)
 
--- the first n bytes of a buffer were read, and then the rest of it, or that failed
+-- the first n bytes of a buffer were read, and then the rest was read, or reading it failed
 pub reads_rest : (s : Segment) (cipher : Cipher) (len : ℕ) (image : Option (List ℕ)) (fails : Bool) (offset n : ℕ)
     (a rest b : List ℕ)
     (result : Result (Unit {0}) RangeFault) → length a ≡ n → ReadsRange s cipher len image fails offset (Ok tt) a
@@ -93,7 +93,7 @@ reads_rest s cipher len image fails offset n a rest b result long first second =
     let behind : ReadsRange s cipher len image fails (offset + length a) result b = rw long second in
     rw (two_parts a rest b n long) (joins s cipher len image fails offset a b result first behind)
 
--- a part of a sector that was read whole
+-- a part of a sector that was read whole is a range of the text
 pub part_read : (text unit bytes : List ℕ) (offset skip n : ℕ) → IsRangeOf text (offset - skip) unit → skip ≤ offset
     → skip + n ≤ length unit → length bytes ≡ n → bytes ≡ take (skip + n - skip) (drop skip unit)
     → IsRangeOf text offset bytes
@@ -102,7 +102,7 @@ part_read text unit bytes offset skip n whole before inside long are =
     are ∙ (ap (λ k. take k (drop skip unit)) count
     ∙ range_in text unit offset skip (length unit) (length bytes) whole before (omega arith))
 
--- a plain text is as long as its whole sectors
+-- a plaintext is as long as all whole sectors of the payload
 pub text_is_long : (s : Segment) (cipher : Cipher) (image : List ℕ) (image_len len : ℕ) → length image ≡ image_len
     → len ≡ payload_bytes s.size (image_len - s.offset) / sector_len s * sector_len s
     → len ≡ length (plain_of s cipher image)
@@ -110,7 +110,7 @@ text_is_long s cipher image image_len len long is =
     is ∙ (ap (λ n. payload_bytes s.size (n - s.offset) / sector_len s * sector_len s) (sym long)
     ∙ sym (plain_len s image cipher))
 
--- what was read of a range, if the length is that of the text
+-- reading a range, if `len` is the length of the image's plaintext
 module _ (s : Segment) (cipher : Cipher) (len : ℕ) (image : Option (List ℕ)) (fails : Bool) (offset : ℕ)
     (bytes : List ℕ) (long : (known : List ℕ) → image ≡ Some known → len ≡ length (plain_of s cipher known)) where
   all_of : (known : List ℕ) → image ≡ Some known → text_len s known ≡ len

@@ -22,7 +22,7 @@ gives_part (Some known) place count buf rest long bytes =
     ∙ ap (λ l. take count (drop place known) ++ l) (sym later)
     ∙ take-append-drop count (drop place known))
 
--- if there were none, none are left
+-- if a read of at least one byte gave none, the image is at its end
 pub none_left : (image : Option (List ℕ)) (place count asked len : ℕ)
     → IfKnown image (λ known. len ≡ length known) → count ≡ min (len - place) asked → count ≡ 0 → 0 < asked
     → IsAtEnd (remaining_from (place + count) image)
@@ -30,11 +30,11 @@ none_left None place count asked len is fits none some = tt
 none_left (Some known) place count asked len is fits none some =
     drop_all (place + count) known (omega (arith, is known refl))
 
--- an image that is read from its start gives all its bytes
+-- before any byte is read, all bytes of the image remain
 pub behind_none : (image : Option (List ℕ)) (known : List ℕ) → image ≡ Some known → remaining_from 0 image ≡ Some known
 behind_none image known is = rw is refl
 
--- what holds if the source knows its bytes holds if the image does
+-- a property that holds if the source knows its bytes also holds if the image knows them
 pub known_ok : {V M : Type 0} (r : Result V M) (Holds : V → List ℕ → Type 0) (image come : Option (List ℕ))
     → come ≡ remaining_from 0 image → IfOk r (λ v. IfKnown come (Holds v)) → IfOk r (λ v. IfKnown image (Holds v))
 known_ok (Ok v) Holds image come is holds = λ known there. holds known (is ∙ behind_none image known there)

@@ -1,4 +1,4 @@
--- Which volume is opened, in the words of `luksCat`.
+-- Which volume is opened, compared with `luksCat`.
 use Rattle.std.specs.Prelude.{ℕ, ◌≡◌, List, Ok, false, option_map}
 use Rattle.luks_cipher.specs.Sector.{Cipher}
 use Rattle.luks_report.specs.Faults.{message_at_end}
@@ -23,16 +23,16 @@ use Rattle.luks_access.specs.declared.options.Options.{Options}
 abbrev pub cipher_of : UnlockedVolume → Cipher
 cipher_of v = (v.segment.mode, v.key)
 
--- its plaintext in this image of its payload
+-- the plaintext of an open volume, if this is its payload's image
 abbrev pub plaintext_of : UnlockedVolume → List ℕ → List ℕ
 plaintext_of v image = plain_of v.segment (cipher_of v) image
 
--- a request of `luksCat` with these options, whatever its files are called
+-- the request has these options; the names of its files do not matter
 abbrev pub HasOptions : VolumeRequest → Options → Type 0
 HasOptions o options = (o.key_slot ≡ option_map (λ slot. slot.number) options.key_slot)
     × (o.max_iterations ≡ option_map (λ limit. limit.iterations) options.max_iterations)
 
--- each command that opens a volume opens this one, with these options and this passphrase, from this image or detached
+-- every command with these options that opens a volume opens this one by this passphrase, from this image or detached
 -- header
 pub record Opens (options : Options) (header pass : List ℕ) (v : UnlockedVolume) : Type 0 where
   pub loaded : ℕ
@@ -40,7 +40,7 @@ pub record Opens (options : Options) (header pass : List ℕ) (v : UnlockedVolum
       → volume_outcome_by (reader_for options.location) on_opened o header pass
       ≡ on_opened v.segment (opened_of v) loaded
 
--- each such command ends with this message and no output
+-- every such command ends with this message and no output
 pub record Refuses (options : Options) (header pass : List ℕ) (message : Message) : Type 0 where
   pub header_consumed : ℕ
   pub secret_consumed : ℕ
@@ -53,7 +53,7 @@ abbrev pub payload_image_of : HeaderLocation → List ℕ → List ℕ → List 
 payload_image_of Attached header image = header
 payload_image_of Detached header image = image
 
--- the outcome of `luksCat`, with an attached header, or with a detached one beside this image
+-- the outcome of `luksCat`, with an attached header, or with a detached one and this image
 abbrev pub cat_outcome_of : HeaderLocation → VolumeRequest → List ℕ → List ℕ → List ℕ → Outcome
 cat_outcome_of Attached o header image pass = volume_outcome (payload_outcome header pass) o header pass
 cat_outcome_of Detached o header image pass =
@@ -68,13 +68,13 @@ IsCatOf options header pass v =
     × ((cat_outcome_of options.location o header image pass).message
     ≡ message_at_end (ending_of v.segment (payload_image_of options.location header image)))
 
--- the plaintext of an honestly sealed volume is the one that was sealed, and it is whole
+-- the plaintext of an honestly sealed volume with an attached header is the one that was sealed, and it is whole
 abbrev pub IsPlainOf : Options → List ℕ → List ℕ → UnlockedVolume → Type 0
 IsPlainOf options image pass v =
     (o : VolumeRequest) (plain : List ℕ) → options.location ≡ Attached → HasOptions o options
     → IsHonest o image pass plain → (plaintext_of v image ≡ plain) × (ending_of v.segment image ≡ Ok End)
 
--- and such a volume is refused only if memory or a read failed
+-- such a volume is refused only if memory ran out, or a read or a write failed
 abbrev pub IsOnlyAborted : Options → List ℕ → List ℕ → Message → Type 0
 IsOnlyAborted options image pass message =
     (o : VolumeRequest) (plain : List ℕ) → options.location ≡ Attached → HasOptions o options

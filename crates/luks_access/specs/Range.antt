@@ -9,7 +9,7 @@ use Rattle.luks_access.specs.declared.fault.RangeFault.TheVariants.{PastEnd, Rea
 use Rattle.luks_access.specs.declared.image.ReadAtFault.{ReadAtFault}
 use Rattle.luks_access.specs.declared.image.ReadAtFault.TheVariants.{Failed, Ended}
 
--- the fault of a range, after this fault of a read
+-- the fault of reading a range, for this fault of a read
 abbrev pub range_fault : ReadAtFault → RangeFault
 range_fault Failed = Read
 range_fault Ended = Shorter
@@ -22,8 +22,8 @@ IsRangeOf text offset bytes = bytes ≡ take (length bytes) (drop offset text)
 abbrev pub text_len : Segment → List ℕ → ℕ
 text_len s image = sectors_of s image * sector_len s
 
--- a range within a plaintext of `len` bytes was read: it is that of the text, or a read failed that may fail. An image
--- that knows its bytes, and has a plaintext of that length, does not end before the range does
+-- how reading a range within a plaintext of `len` bytes ends: a read failed, if reads may fail; otherwise an image that
+-- knows its bytes, and has a plaintext of that length, gives that range and does not end before it
 abbrev pub ReadsRange : Segment → Cipher → ℕ → Option (List ℕ) → Bool → ℕ → Result (Unit {0}) RangeFault → List ℕ
     → Type 0
 ReadsRange s cipher len image fails offset (Ok _) bytes =

@@ -14,7 +14,7 @@ pub struct FileImage {
 }
 
 impl FileImage {
-    /// The image in this file. A file that cannot be sought, such as a pipe, is refused.
+    /// The image in this file. A file that does not support seeking, such as a pipe, is refused.
     pub fn new(mut file: File) -> io::Result<FileImage> {
         let len = file.seek(SeekFrom::End(0))?;
         Ok(FileImage { file, len })

@@ -8,7 +8,7 @@ ghost use Rattle.luks_access.specs.Image.{IsAt};
 use crate::image::{ReadAt, ReadAtFault};
 use std::marker::Model;
 
-/// An image in memory. It knows its bytes, and no read of it fails. A clause sees them.
+/// An image in memory. It knows its bytes, and no read of it fails. Its view is its bytes.
 #[derive(Drop)]
 pub struct MemImage<'a> {
     bytes: &'a [u8],
@@ -31,7 +31,7 @@ impl<'a> MemImage<'a> {
     }
 }
 
-// The bounds of `count` bytes from this offset on, if there are so many.
+// The bounds of `count` bytes from this offset on, or `None` if there are not so many.
 fn bounds(len: usize, offset: u64, count: usize) -> Option<(usize, usize)>
     ensures { MatchOption result (len < offset + count)
         (λ place. (place.0 ≡ offset) × (place.1 ≡ offset + count) × (offset + count ≤ len)) }

@@ -8,7 +8,7 @@ use luks_request::command::VolumeArgs;
 use luks_request::number::{IterationLimit, SlotNumber};
 use luks_runs::location::HeaderLocation;
 
-/// How a volume is opened: what `luksCat` has from its command line.
+/// How a volume is opened: the options that `luksCat` gets from its arguments.
 #[derive(Clone, Copy)]
 pub struct Options {
     /// Whether the header is attached to the payload's image or detached.

@@ -13,8 +13,8 @@ use luks_header::segment::Segment;
 /// The length of the longest sector in bytes.
 const MAX_SECTOR_LEN: usize = 4096;
 
-/// Reads whole sectors into the buffer and decrypts them there. `len` is the length of the
-/// plaintext in the image, and `offset` that of the range in it.
+/// Reads whole sectors into the buffer and decrypts them there. `len` is the length of the image's
+/// plaintext, and `offset` is the offset of the range in it.
 fn read_sectors<I: ReadAt>(
     segment: &Segment,
     cipher: &SectorCipher,
@@ -123,7 +123,7 @@ fn read_aligned<I: ReadAt>(
     )
 }
 
-/// The length of a range before the first sector that begins in it.
+/// The length of the part of a range before the first sector that starts in it.
 fn head_len(segment: &Segment, offset: u64, count: usize) -> usize
     ensures most { result ≤ count }
     ensures part { offset % sector_len segment.now + result ≤ sector_len segment.now }
@@ -141,7 +141,7 @@ fn head_len(segment: &Segment, offset: u64, count: usize) -> usize
 /// the image.
 ///
 /// Only the sectors that overlap the range are read. Whole ones are decrypted in the buffer. After
-/// a fault it may hold any bytes.
+/// a fault the buffer may hold any bytes.
 pub(crate) fn read_range<I: ReadAt>(
     segment: &Segment,
     cipher: &SectorCipher,

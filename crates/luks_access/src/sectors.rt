@@ -1,4 +1,4 @@
-//! Whole sectors of a payload, from any of them on.
+//! Whole sectors of a payload, starting with any of them.
 
 ghost use Rattle.std.specs.Prelude.{◌≡◌, ◌+◌, ◌*◌, ◌-◌, ◌/◌, ◌%◌, ◌<◌, ◌≤◌, ◌^◌, List, ℕ, Err};
 ghost use Rattle.std.specs.Prelude.{if◌then◌else◌, length, nat_lt};
@@ -20,8 +20,8 @@ fn unit_number(segment: &Segment, sector: u64) -> u64
     segment.iv_tweak.wrapping_add(sector.wrapping_mul(units))
 }
 
-/// The length in bytes of the plaintext of a payload from `offset` on, whose size may be fixed, in
-/// an image of this length: all whole sectors.
+/// The length in bytes of a payload's plaintext: all its whole sectors. The payload is in an image
+/// of `image_len` bytes, from `offset` on, and its size may be fixed.
 pub fn text_len(offset: u64, size: Option<u64>, sector_size: SectorSize, image_len: u64) -> u64
     ensures value { result ≡ payload_bytes size (image_len - offset) / bytes_of sector_size
         * bytes_of sector_size }
@@ -37,7 +37,7 @@ pub fn text_len(offset: u64, size: Option<u64>, sector_size: SectorSize, image_l
     within - within % sector_size.bytes() as u64
 }
 
-/// How that payload ends in that image, as `luksCat` reports it.
+/// How such a payload ends in such an image, as `luksCat` reports it.
 ///
 /// # Errors
 ///
@@ -64,7 +64,7 @@ pub fn payload_ending(
     }
 }
 
-/// Decrypts whole sectors one after the other, the first of which has this number.
+/// Decrypts whole sectors one after the other, the first of which is sector `first`.
 fn decrypt_all(segment: &Segment, cipher: &SectorCipher, first: u64, bytes: &mut [u8])
     requires whole { length bytes.old % sector_len segment.now ≡ 0 }
     requires numbers { first + length bytes.old / sector_len segment.now < 2 ^ 64 }
@@ -78,8 +78,8 @@ fn decrypt_all(segment: &Segment, cipher: &SectorCipher, first: u64, bytes: &mut
     }
 }
 
-/// Decrypts whole sectors in place, the first of which is sector `first` of the payload. Stored
-/// sectors of an image become that part of its plaintext.
+/// Decrypts whole sectors in place, the first of which is sector `first` of the payload. If an
+/// image stores them, they become that part of its plaintext.
 pub fn decrypt_sectors(segment: &Segment, cipher: &SectorCipher, first: u64, bytes: &mut [u8])
     requires whole { length bytes.old % sector_len segment.now ≡ 0 }
     requires numbers { first + length bytes.old / sector_len segment.now < 2 ^ 64 }

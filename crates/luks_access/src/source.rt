@@ -9,8 +9,8 @@ use luks_io::DeviceFault;
 use luks_io::counts::ReadCounts;
 use luks_io::source::Source;
 
-/// A source over an image: it gives the image's bytes from the first one on. It knows the bytes
-/// that the image knows.
+/// A source over an image: it gives the image's bytes from the first one on. It knows its bytes if
+/// the image does.
 #[derive(Drop)]
 pub struct ImageSource<'a, I> {
     image: &'a I,
@@ -41,8 +41,8 @@ impl<'a, I: ReadAt> Source for ImageSource<'a, I> {
 
     ghost counts = { λ s. s.counts };
 
-    /// Fills the buffer with the remaining bytes, as many as there are. An image that has become
-    /// shorter fails.
+    /// Fills the buffer with the remaining bytes, as far as there are any. It fails if the image
+    /// has become shorter.
     fn read(&mut self, buf: &mut [u8]) -> Result<usize, DeviceFault> {
         let left = self.image.len().saturating_sub(self.at);
         let count = left.min(buf.len() as u64) as usize;

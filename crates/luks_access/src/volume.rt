@@ -38,8 +38,8 @@ use std::marker::Model;
 /// The length of the longest passphrase in bytes, which is also that of the longest key file.
 pub const MAX_PASSPHRASE_LEN: usize = 8_388_608;
 
-/// A volume that is open. A clause sees its segment, the key slot that opened, and the volume key,
-/// whose length fits the segment's mode.
+/// An open volume. Its view is its segment, the key slot that opened, and the volume key, whose
+/// length fits the segment's mode.
 #[derive(Drop)]
 pub struct Volume {
     unlocked: UnlockedVolume,
@@ -58,7 +58,7 @@ impl Model for Volume {
 }
 
 /// Tries the key slots of a volume that was found, unless the passphrase is too long. The volume is
-/// taken, so that it is not tried again.
+/// moved in, so that it is not tried again.
 fn unlock<S: Source>(
     opening: &VolumeArgs<'_>,
     found: FoundVolume,
@@ -88,8 +88,8 @@ impl Volume {
     /// Opens a volume by a passphrase. The source gives the bytes of its image, or of its detached
     /// header.
     ///
-    /// The volume is the one that `luksCat` opens with these options, and a refusal is its message.
-    /// A passphrase longer than [`MAX_PASSPHRASE_LEN`] is refused, as a key file is.
+    /// The volume is the one that `luksCat` opens with these options, and a refusal is the message
+    /// of `luksCat`. A passphrase longer than [`MAX_PASSPHRASE_LEN`] is refused, as a key file is.
     pub fn open_from<S: Source>(
         alloc: Global,
         options: &Options,
@@ -229,7 +229,7 @@ impl Volume {
     }
 }
 
-/// Whether so many bytes from this offset on end within a text of this length.
+/// Whether `count` bytes from this offset on are within a text of `len` bytes.
 fn is_within(len: u64, offset: u64, count: usize) -> bool
     ensures { result ≡ nat_le (offset + count) len }
 {

@@ -1,6 +1,6 @@
 //! Tests of `luks_access`: ranges of plaintexts, through its public calls.
 //!
-//! A crate of their own: what they stand on is not proved once more with them.
+//! They are in a crate of their own, so that the crates below are not proved again with them.
 #![tactic(auto)]
 
 #[cfg(test)]

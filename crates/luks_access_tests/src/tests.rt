@@ -1,5 +1,5 @@
-//! What no clause says: ranges of volumes that were sealed here from a known text, which sectors
-//! are read for a range, and images that fail a read or are shorter than they report.
+//! What no clause says: ranges of volumes that the tests seal from a known text, which sectors are
+//! read for a range, and images of which a read fails or that are shorter than they report.
 
 mod endings;
 mod failing;

@@ -1,4 +1,4 @@
--- What consists of bytes: field elements, states, words and key schedules.
+-- Field elements, states, words and key schedules consist of bytes.
 use Rattle.std.proofs.Common.{◌≡◌, ℕ, zero, suc, ◌+◌, ◌-◌, ◌*◌, ◌%◌, ◌/◌, ◌<◌, Bool, true, false, cond, eqb, ltb, List}
 use Rattle.std.proofs.Common.{[], ◌∷◌, ◌++◌, length, take, drop, arith, refl}
 use Rattle.std.specs.Prelude.{slice_index}
@@ -184,6 +184,6 @@ pub encrypted_state : (key block : List ℕ) → IsBytes key → IsState block �
 unfolding encrypted
 encrypted_state key block keys is = cipher_state block _ (key_expansion key) is (expansion_bytes key keys)
 
--- a key is the beginning of its schedule
+-- a key consists of bytes, since it is a prefix of its schedule
 pub key_bytes : (words : ℕ) (schedule key : List ℕ) → IsBytes schedule → take (4 * words) schedule ≡ key → IsBytes key
 key_bytes words schedule key all view = rw (← view) (bytes_take (4 * words) schedule all)

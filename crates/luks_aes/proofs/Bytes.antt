@@ -1,4 +1,4 @@
--- Facts that hold of every number below a bound, since they were computed at each.
+-- Facts about every number below a bound that are computed at each of them.
 use Rattle.std.proofs.Common.{◌≡◌, ℕ, zero, suc, ◌+◌, ◌<◌, ◌≤◌, Bool, true, eqb, ltb, List, [], ◌∷◌, slice_index, Some}
 use Rattle.std.proofs.Common.{inl, inr, arith, sym, ◌∙◌, ap}
 use Rattle.std.specs.List.{find, list_all, range_with_len}
@@ -7,12 +7,12 @@ use Rattle.std.proofs.lemmas.Bool.{agree_below, agree_below_at, eqb-true, ltb-tr
 use Rattle.std.proofs.lemmas.Bool.{false≢true}
 use Rattle.luks_aes.specs.Field.{the_element}
 
--- two functions agree below n, which is computed at a written-out n
+-- two functions agree below n; if n is a literal, computation shows it
 pub same_below : (f g : ℕ → ℕ) (n : ℕ) → agree_below (λ b. eqb (f b) (g b)) (λ b. true) n ≡ true
     → (b : ℕ) → b < n → f b ≡ g b
 same_below f g n all b low = eqb-true (f b) (g b) (agree_below_at (λ b. eqb (f b) (g b)) (λ b. true) n b all low)
 
--- a search finds the only number that passes
+-- a search finds the only number that passes the test
 find_only : (p : ℕ → Bool) (x a n : ℕ) → a ≤ x → x < a + n → p x ≡ true
     → ((k : ℕ) → k < a + n → p k ≡ true → k ≡ x) → find p (range_with_len a n) ≡ Some x
 find_only p x a zero from below passes only = absurd (omega arith)
@@ -30,13 +30,13 @@ find_only p x a (suc n) from below passes only =
           rw other rest
     ]
 
--- the element that alone passes a test
+-- the only element that passes a test is the one that `the_element` gives
 pub the_element_is : (p : ℕ → Bool) (x : ℕ) → x < 256 → p x ≡ true
     → ((k : ℕ) → k < 256 → p k ≡ true → k ≡ x) → the_element p ≡ x
 the_element_is p x below passes only =
     ap (λ o. unwrap_or o 0) (find_only p x 0 256 (omega arith) (omega arith) passes (λ k low. only k (omega arith)))
 
--- the elements of a list are bytes, also the 0 past its end
+-- the elements of a list are bytes, and so is the 0 that is read past its end
 pub below_256 : (xs : List ℕ) → list_all (λ x. ltb x 256) xs ≡ true → (i : ℕ) → slice_index xs i < 256
 below_256 [] all i = omega arith
 below_256 (x ∷ xs) all zero = ltb-true x 256 (and_parts (ltb x 256) (list_all (λ x. ltb x 256) xs) all).0

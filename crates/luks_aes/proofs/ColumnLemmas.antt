@@ -1,4 +1,4 @@
--- The rounds on states that are bytes_of_words by four columns.
+-- The rounds on states that are the bytes of four columns.
 use Rattle.std.proofs.Common.{◌≡◌, ℕ, ◌+◌, ◌*◌, List, [], ◌∷◌, ◌++◌, arith, refl, ap, ◌∙◌}
 use Rattle.std.specs.Prelude.{slice_index}
 use Rattle.std.specs.Int.{w32, to_le_bytes}
@@ -60,7 +60,7 @@ columns_inv_mixed s a b c d p q r t at_a at_b at_c at_d first second third fourt
     let h = rw (at_a, at_b, at_c, at_d) at fourth in
     λ i. e i ++ (f i ++ (g i ++ h i))
 
--- the round key's column k, as it is read from the schedule, and as it is added
+-- column k of the state after AddRoundKey, with the word of the round key read from the schedule
 pub key_column : (s w : List ℕ) (round k at p q : ℕ) → at ≡ 4 * (4 * round + k)
     → to_le_bytes w32 q ≡ word_of (λ r. slice_index w (r + at))
     → to_le_bytes w32 p ≡ word_xor (to_le_bytes w32 (slice_index s k)) (to_le_bytes w32 q)
@@ -84,7 +84,7 @@ pub round_key_added : (s w : List ℕ) (round p q r t : ℕ)
 unfolding bytes_of_words add_round_key
 round_key_added s w round p q r t first second third fourth = λ i. first i ++ (second i ++ (third i ++ fourth i))
 
--- what columns spell is a state
+-- the bytes of columns are a state
 pub spelt_state : (words : List ℕ) → IsState (bytes_of_words words)
 unfolding bytes_of_words
 spelt_state words = record {

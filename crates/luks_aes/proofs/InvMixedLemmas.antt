@@ -15,7 +15,7 @@ use Rattle.luks_aes.specs.Columns.{column_product, IsMultiplied}
 use Rattle.luks_aes.proofs.ByteLists.{IsState}
 use Rattle.luks_aes.proofs.MixingLemmas.{product_sum, inv_mixed}
 
--- ---- a word written behind the words before it
+-- ---- a word that is written after the words before it
 
 word_put : (xs ys : List ℕ) (at k j : ℕ) → at ≤ length xs → length ys ≡ 4 → j < 4
     → slice_index (put_mid at k xs ys) (at + j) ≡ slice_index ys j
@@ -57,7 +57,7 @@ products_more a words old word i k before room is = record {
       ];
 }
 
--- ---- InvMixColumns of a state with a round key added
+-- ---- InvMixColumns of a state XORed with a round key
 
 sums_apart : (p q r s k l m n : ℕ) → (p ⊕ k) ⊕ (q ⊕ l) ⊕ (r ⊕ m) ⊕ (s ⊕ n) ≡ (p ⊕ q ⊕ r ⊕ s) ⊕ (k ⊕ l ⊕ m ⊕ n)
 sums_apart p q r s k l m n = same_from_bits _ _ (λ i. simp bit_at_xor (omega arith))
@@ -68,7 +68,7 @@ row_sum a b c d k l m n p q r s t u v w =
     rw (product_sum 14 a k p t, product_sum 11 b l q u, product_sum 13 c m r v, product_sum 9 d n s w)
     (sums_apart (14 • a) (11 • b) (13 • c) (9 • d) (14 • k) (11 • l) (13 • m) (9 • n))
 
--- row r of word i
+-- row r of word i after InvMixColumns
 pub product_at : (w u : List ℕ) (n i r : ℕ) → IsMultiplied (14 ∷ 11 ∷ 13 ∷ 9 ∷ []) w u n → i < n → r < 4
     → slice_index u (r + 4 * i)
     ≡ inv_mixed (slice_index w (r + 4 * i)) (slice_index w ((r + 1) % 4 + 4 * i)) (slice_index w ((r + 2) % 4 + 4 * i))
@@ -91,7 +91,7 @@ product_at w u n i (suc (suc (suc zero))) is low row =
     sym (e u 3) ∙ ap (λ l. slice_index l 3) (is.at i low) ∙ (λ t. inv_mixed (e w 3 t) (e w 0 t) (e w 1 t) (e w 2 t))
 product_at w u n i (suc (suc (suc (suc r)))) is low row = absurd (omega arith)
 
--- states that agree in their 16 cells
+-- states are equal if they agree in their 16 cells
 pub same_cells : (f g : ℕ → ℕ → ℕ) → ((r c : ℕ) → r < 4 → c < 4 → f r c ≡ g r c) → state_of f ≡ state_of g
 same_cells f g same =
     let a : 0 < 4 = omega arith in
@@ -124,7 +124,7 @@ round_key_inv_mixed s w u n round is bytes products inside =
     ∙ ap (bit_xor (inv_mixed (cell s r c) (cell s ((r + 1) % 4) c) (cell s ((r + 2) % 4) c) (cell s ((r + 3) % 4) c)))
     (sym (product_at w u n (4 * round + c) r products (omega arith) row)))
 
--- the cells of a state that was made of them
+-- a state has the cells that it was made from
 pub cell_of : (f : ℕ → ℕ → ℕ) (r c : ℕ) → r < 4 → c < 4 → cell (state_of f) r c ≡ f r c
 cell_of f zero zero low small = refl
 cell_of f zero (suc zero) low small = refl

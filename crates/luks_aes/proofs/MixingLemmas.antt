@@ -1,4 +1,4 @@
--- The two matrices of the columns undo each other.
+-- The matrix of InvMixColumns undoes that of MixColumns.
 use Rattle.std.proofs.Common.{◌≡◌, ℕ, zero, suc, ◌+◌, ◌*◌, ◌%◌, ◌/◌, ◌<◌, Bool, true, false, cond, eqb, arith, refl}
 use Rattle.std.proofs.Common.{◌∙◌}
 use Rattle.std.specs.Int.Bits.{xor_zero_r}
@@ -8,7 +8,7 @@ use Rattle.luks_aes.specs.Field.{◌⊕◌, ◌•◌, times_x, product_of_bits}
 use Rattle.luks_aes.proofs.Bytes.{same_below}
 use Rattle.luks_aes.proofs.ByteLists.{xor_byte, times_x_byte, product_byte}
 
--- times x of a sum, computed at each pair of bytes
+-- the product of x and the XOR of two bytes, computed at each pair of bytes
 times_x_pair : (n : ℕ) → n < 65536 → times_x ((n / 256) ⊕ (n % 256)) ≡ times_x (n / 256) ⊕ times_x (n % 256)
 unfolding times_x
 times_x_pair = same_below (λ n. times_x ((n / 256) ⊕ (n % 256))) (λ n. times_x (n / 256) ⊕ times_x (n % 256)) 65536 refl
@@ -20,7 +20,7 @@ times_x_sum a b p q =
     let low : n % 256 ≡ b = mod-mul-add a 256 b q in
     rw (high, low) at (times_x_pair n (omega arith))
 
--- four terms of which the first two and the last two change places
+-- the second and the third of four terms can change places
 exchanged : (p q r s : ℕ) → (p ⊕ q) ⊕ (r ⊕ s) ≡ (p ⊕ r) ⊕ (q ⊕ s)
 exchanged p q r s = same_from_bits _ _ (λ i. simp bit_at_xor (omega arith))
 
@@ -39,7 +39,7 @@ bits_sum (suc n) c a b p q =
     (exchanged (cond (eqb (c % 2) 1) a 0) (cond (eqb (c % 2) 1) b 0) (product_of_bits n (c / 2) (times_x a))
     (product_of_bits n (c / 2) (times_x b)))
 
--- a product of a sum
+-- the product with the XOR of two bytes is the XOR of both products
 pub product_sum : (c a b : ℕ) → a < 256 → b < 256 → c • (a ⊕ b) ≡ c • a ⊕ c • b
 unfolding ◌•◌
 product_sum c a b p q = bits_sum 8 c a b p q
@@ -51,7 +51,8 @@ product_sum4 k a b c d p q r s =
     rw (product_sum k (a ⊕ b ⊕ c) d (xor_byte (a ⊕ b) c ab r) s, product_sum k (a ⊕ b) c ab r, product_sum k a b p q)
     refl
 
--- what becomes of one byte of a column: in its own row it comes back, and from the three others it falls away
+-- one byte of a column after MixColumns and InvMixColumns: it comes back in its own row and cancels out in the other
+-- three
 own_row : (x : ℕ) → x < 256 → 14 • (2 • x) ⊕ 11 • (1 • x) ⊕ 13 • (1 • x) ⊕ 9 • (3 • x) ≡ x
 unfolding ◌•◌ product_of_bits times_x
 own_row = same_below (λ x. 14 • (2 • x) ⊕ 11 • (1 • x) ⊕ 13 • (1 • x) ⊕ 9 • (3 • x)) (λ x. x) 256 refl
@@ -68,13 +69,13 @@ third_row : (x : ℕ) → x < 256 → 14 • (1 • x) ⊕ 11 • (1 • x) ⊕ 
 unfolding ◌•◌ product_of_bits times_x
 third_row = same_below (λ x. 14 • (1 • x) ⊕ 11 • (1 • x) ⊕ 13 • (3 • x) ⊕ 9 • (2 • x)) (λ x. 0) 256 refl
 
--- sixteen terms, gathered by their letters
+-- sixteen terms, grouped by their letters
 pub gathered : (a1 a2 a3 a4 b1 b2 b3 b4 c1 c2 c3 c4 d1 d2 d3 d4 : ℕ)
     → (a1 ⊕ b1 ⊕ c1 ⊕ d1) ⊕ (b2 ⊕ c2 ⊕ d2 ⊕ a2) ⊕ (c3 ⊕ d3 ⊕ a3 ⊕ b3) ⊕ (d4 ⊕ a4 ⊕ b4 ⊕ c4)
     ≡ (a1 ⊕ a2 ⊕ a3 ⊕ a4) ⊕ (b1 ⊕ b2 ⊕ b3 ⊕ b4) ⊕ (c1 ⊕ c2 ⊕ c3 ⊕ c4) ⊕ (d1 ⊕ d2 ⊕ d3 ⊕ d4)
 gathered a1 a2 a3 a4 b1 b2 b3 b4 c1 c2 c3 c4 d1 d2 d3 d4 = same_from_bits _ _ (λ i. simp bit_at_xor (omega arith))
 
--- a row of MixColumns, and the row of InvMixColumns over it
+-- a row of MixColumns, and a row of InvMixColumns
 abbrev pub mixed : ℕ → ℕ → ℕ → ℕ → ℕ
 mixed a b c d = 2 • a ⊕ 3 • b ⊕ 1 • c ⊕ 1 • d
 

@@ -62,7 +62,8 @@ inv_shift_rows_undone : (s : List ℕ) → length s ≡ 16 → shift_rows (inv_s
 unfolding shift_rows inv_shift_rows
 inv_shift_rows_undone s len = sym (whole_state s len)
 
--- what becomes of one byte of a column: in its own row it comes back, and from the three others it falls away
+-- one byte of a column after InvMixColumns and MixColumns: it comes back in its own row and cancels out in the other
+-- three
 own_row : (x : ℕ) → x < 256 → 2 • (14 • x) ⊕ 3 • (9 • x) ⊕ 1 • (13 • x) ⊕ 1 • (11 • x) ≡ x
 unfolding ◌•◌ product_of_bits times_x
 own_row = same_below (λ x. 2 • (14 • x) ⊕ 3 • (9 • x) ⊕ 1 • (13 • x) ⊕ 1 • (11 • x)) (λ x. x) 256 refl
@@ -122,7 +123,7 @@ half_round_undone : (s : List ℕ) → IsState s → shift_rows (sub_bytes (inv_
 half_round_undone s is =
     ap shift_rows (inv_sub_bytes_undone (inv_shift_rows s) (inv_shift_rows_state s is)) ∙ inv_shift_rows_undone s is.len
 
--- an inverse round without its substitution and its shift comes back
+-- MixColumns and AddRoundKey undo the last two steps of an inverse round, which leaves InvShiftRows and InvSubBytes
 round_undone : (block w : List ℕ) (nr m : ℕ) → IsState (inv_sub_bytes (inv_shift_rows (inv_state_after block nr w m)))
     → IsBytes w
     → add_round_key (mix_columns (inv_state_after block nr w (suc m))) w (nr - suc m)
@@ -139,7 +140,8 @@ start_undone : (block w : List ℕ) (nr : ℕ) → length block ≡ 16
 unfolding inv_state_after
 start_undone block w nr len = add_round_key_undone block w nr len
 
--- n rounds lead back to where nr - 1 - n inverse rounds had led
+-- n rounds after the inverse cipher lead back to the state after nr - 1 - n inverse rounds, InvShiftRows and
+-- InvSubBytes
 rounds_undone : (block w : List ℕ) (nr n : ℕ) → IsState block → IsBytes w → n < nr
     → state_after (inv_cipher block nr w) w n ≡ inv_sub_bytes (inv_shift_rows (inv_state_after block nr w (nr - 1 - n)))
 unfolding state_after inv_cipher

@@ -22,7 +22,7 @@ back_and_there = same_below (λ a. slice_index INV_SBOX (slice_index SBOX a)) (�
 inv_entry_below : (b : ℕ) → slice_index INV_SBOX b < 256
 inv_entry_below = below_256 INV_SBOX refl
 
--- each entry of the inverse S-box is the byte that the S-box takes to its place
+-- entry b of the inverse S-box is the byte that the S-box maps to b
 pub inv_sbox_entry : (b : ℕ) → b < 256 → slice_index INV_SBOX b ≡ inv_sbox b
 unfolding inv_sbox
 inv_sbox_entry b low =
@@ -33,7 +33,7 @@ inv_sbox_entry b low =
     let e : slice_index SBOX k ≡ b = sbox_entry k fits ∙ eqb-true (sbox k) b same in
     sym (back_and_there k fits) ∙ ap (slice_index INV_SBOX) e))
 
--- the inverse S-box by its table
+-- the inverse S-box, read from its table
 abbrev pub inv_sbox_in_table : ℕ → ℕ
 inv_sbox_in_table b = slice_index INV_SBOX b
 

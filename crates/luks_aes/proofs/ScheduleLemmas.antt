@@ -10,7 +10,7 @@ use Rattle.luks_aes.specs.Bytes.{IsBytes}
 use Rattle.luks_aes.specs.Schedule.{IsSchedule}
 use Rattle.luks_aes.specs.Columns.{IsMultiplied}
 
--- the lengths of keys
+-- a key has 16, 24 or 32 bytes
 aes_lengths : (n : ℕ) → IsTrue (is_aes_key_length n) → (n ≡ 16) ⊎ ((n ≡ 24) ⊎ (n ≡ 32))
 aes_lengths n is =
     elim (or_cases ((n == 16) || (n == 24)) (n == 32) is) [
@@ -45,7 +45,7 @@ key_length n is =
           ]
     ]
 
--- one more word
+-- the schedule with one more word
 pub words_more : (nk : ℕ) (key w : List ℕ) (i : ℕ) → nk ≤ i → w ≡ words_after nk key (i - nk)
     → with_next_word nk w ≡ words_after nk key (i + 1 - nk)
 unfolding words_after
@@ -53,7 +53,7 @@ words_more nk key w i from at =
     let more : i + 1 - nk ≡ suc (i - nk) = omega arith in
     rw (more, at) refl
 
--- the schedule begins with the key
+-- a schedule starts with its key
 words_length : (nk : ℕ) (key : List ℕ) (n : ℕ) → length key ≤ length (words_after nk key n)
 unfolding words_after with_next_word
 words_length nk key zero = omega arith
@@ -93,7 +93,7 @@ expanded_is key schedule inv_mixed is bytes products expanded =
       products = products;
     }
 
--- the words of the key that a schedule begins with
+-- the number of words of the key that a schedule starts with
 words_of_schedule : (words : ℕ) (schedule inv_mixed : List ℕ) → length schedule ≡ 240
     → IsSchedule words schedule inv_mixed
     → words_of (take (4 * words) schedule) ≡ words
@@ -110,7 +110,7 @@ rounds_are words schedule inv_mixed key len is view =
     let nk = words_of_schedule words schedule inv_mixed len is in
     rw (← view, nk) refl
 
--- a key's round keys are among the 15 that a schedule has room for
+-- the round keys of a key are among the 15 that fit into a schedule
 pub round_in_schedule : (words n : ℕ) (schedule inv_mixed key : List ℕ) → length schedule ≡ 240
     → IsSchedule words schedule inv_mixed → take (4 * words) schedule ≡ key → n ≤ rounds_of key → n < 15
 round_in_schedule words n schedule inv_mixed key len is view low =
@@ -118,7 +118,7 @@ round_in_schedule words n schedule inv_mixed key len is view low =
     let rounds = rounds_are words schedule inv_mixed key len is view in
     omega arith
 
--- their bytes in the schedule are those of the key's expansion
+-- the bytes of a round key in the schedule are those in the key's expansion
 pub round_byte : (words n r c : ℕ) (schedule inv_mixed key : List ℕ) → length schedule ≡ 240
     → IsSchedule words schedule inv_mixed → take (4 * words) schedule ≡ key → n ≤ rounds_of key → r < 4 → c < 4
     → slice_index schedule (r + 4 * (4 * n + c)) ≡ slice_index (key_expansion key) (r + 4 * (4 * n + c))
@@ -128,7 +128,7 @@ round_byte words n r c schedule inv_mixed key len is view low row column =
     sym (get_or-take (16 * (words + 7)) schedule i 0 (omega arith)) ∙ ap (λ l. slice_index l i)
     (is.expanded ∙ ap key_expansion view)
 
--- the cipher over the schedule is that of the key
+-- the cipher over the schedule encrypts under the key
 pub encrypted_is : (words : ℕ) (schedule inv_mixed key block : List ℕ) → length schedule ≡ 240
     → IsSchedule words schedule inv_mixed
     → take (4 * words) schedule ≡ key

@@ -35,7 +35,7 @@ filled_all f t n is all = fill_by_all (λ k. f (k % 4) (k / 4)) t 16 0 is.len (�
 pub cell_at : (s : List ℕ) (i : ℕ) → slice_index s i ≡ cell s (i % 4) (i / 4)
 cell_at s i = ap (slice_index s) (omega arith)
 
--- and it meets byte i of round key `round`
+-- byte i of round key `round` is in the same row and column
 pub round_key_at : (w : List ℕ) (round i : ℕ)
     → slice_index w (16 * round + i) ≡ slice_index w (i % 4 + 4 * (4 * round + i / 4))
 round_key_at w round i = ap (slice_index w) (omega arith)

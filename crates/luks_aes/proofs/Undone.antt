@@ -15,11 +15,11 @@ use Rattle.luks_aes.proofs.MixingLemmas.{mixed, inv_mixed, inv_mixed_is}
 
 -- ---- the steps
 
--- a state is that of its own cells
+-- a state is the one made from its cells
 pub whole_state : (s : List ℕ) → length s ≡ 16 → s ≡ state_of (cell s)
 whole_state s len = filled_all (cell s) s 16 (record { len = len; filled = λ k low. cell_at s k }) (omega arith)
 
--- two states whose cells are equal
+-- states are equal if all their cells are
 pub same_states : (f g : ℕ → ℕ → ℕ) → ((r c : ℕ) → f r c ≡ g r c) → state_of f ≡ state_of g
 same_states f g same = λ i. state_of (λ r c. same r c i)
 
@@ -68,12 +68,12 @@ add_round_key_undone s w round len =
 
 -- ---- the rounds
 
--- a state that was substituted and shifted comes back
+-- InvShiftRows and InvSubBytes undo SubBytes and ShiftRows
 half_round_undone : (s : List ℕ) → IsState s → inv_sub_bytes (inv_shift_rows (shift_rows (sub_bytes s))) ≡ s
 half_round_undone s is =
     ap inv_sub_bytes (shift_rows_undone (sub_bytes s) (sub_bytes_state s is).len) ∙ sub_bytes_undone s is
 
--- a round without its substitution and its shift comes back
+-- AddRoundKey and InvMixColumns undo the last two steps of a round, which leaves SubBytes and ShiftRows
 round_undone : (block w : List ℕ) (m : ℕ) → IsState (shift_rows (sub_bytes (state_after block w m)))
     → inv_mix_columns (add_round_key (state_after block w (suc m)) w (suc m))
     ≡ shift_rows (sub_bytes (state_after block w m))
@@ -83,12 +83,12 @@ round_undone block w m is =
     ap inv_mix_columns (add_round_key_undone (mix_columns shifted) w (suc m) (columns_state _ shifted is).len)
     ∙ mix_columns_undone shifted is
 
--- and so does the first round key
+-- AddRoundKey undoes the XOR with the first round key
 start_undone : (block w : List ℕ) → length block ≡ 16 → add_round_key (state_after block w 0) w 0 ≡ block
 unfolding state_after
 start_undone block w len = add_round_key_undone block w 0 len
 
--- n inverse rounds lead back to where nr - 1 - n rounds had led
+-- n inverse rounds after the cipher lead back to the state after nr - 1 - n rounds, SubBytes and ShiftRows
 rounds_undone : (block w : List ℕ) (nr n : ℕ) → IsState block → IsBytes w → n < nr
     → inv_state_after (cipher block nr w) nr w n ≡ shift_rows (sub_bytes (state_after block w (nr - 1 - n)))
 unfolding inv_state_after cipher
@@ -112,7 +112,7 @@ rounds_undone block w nr (suc n) is keys low =
     )
     (round_undone block w m shifted)
 
--- the cipher's result leads back to its block
+-- the inverse cipher leads from the cipher's result back to its block
 pub cipher_undone : (block w : List ℕ) (nr : ℕ) → IsState block → IsBytes w → 0 < nr
     → inv_cipher (cipher block nr w) nr w ≡ block
 unfolding inv_cipher

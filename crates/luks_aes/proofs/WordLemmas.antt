@@ -1,4 +1,4 @@
--- Words of 32 bits by the bytes that they spell.
+-- Words of 32 bits, by their bytes.
 use Rattle.std.proofs.Common.{◌≡◌, ℕ, ◌+◌, ◌*◌, ◌%◌, ◌/◌, ◌^◌, ◌<◌, List, [], ◌∷◌, slice_index, arith, ap, ◌∙◌}
 use Rattle.std.specs.Int.{w32, to_le_bytes, rotate_left}
 use Rattle.std.specs.Int.Bits.{bit_xor, or_shifted, xor_shr, xor_mod}
@@ -7,7 +7,7 @@ use Rattle.luks_aes.specs.Field.{◌⊕◌, ◌•◌}
 use Rattle.luks_aes.specs.Aes.{word_xor}
 use Rattle.luks_aes.specs.Columns.{matrix_column, column_product}
 
--- the bytes of a sum
+-- the bytes of an XOR
 byte_sum : (a b k : ℕ) → bit_xor a b / 2 ^ k % 2 ^ 8 ≡ bit_xor (a / 2 ^ k % 2 ^ 8) (b / 2 ^ k % 2 ^ 8)
 byte_sum a b k = ap (λ n. n % 2 ^ 8) (xor_shr a b k) ∙ xor_mod (a / 2 ^ k) (b / 2 ^ k) 8
 
@@ -15,7 +15,7 @@ pub bytes_of_sum : (a b : ℕ) → to_le_bytes w32 (bit_xor a b) ≡ word_xor (t
 unfolding word_xor
 bytes_of_sum a b = λ i. xor_mod a b 8 i ∷ byte_sum a b 8 i ∷ byte_sum a b 16 i ∷ byte_sum a b 24 i ∷ []
 
--- turning left by whole bytes
+-- rotation to the left by whole bytes
 turned_8 : (n : ℕ) → n < 2 ^ 32 → rotate_left w32 n 8 ≡ n % 2 ^ 24 * 2 ^ 8 + n / 2 ^ 24
 turned_8 n fits =
     let front : n * 2 ^ 8 % 2 ^ 32 ≡ n % 2 ^ 24 * 2 ^ 8 = omega arith in
@@ -31,7 +31,7 @@ turned_24 n fits =
     let front : n * 2 ^ 24 % 2 ^ 32 ≡ n % 2 ^ 8 * 2 ^ 24 = omega arith in
     rw front (or_shifted (n % 2 ^ 8) 24 (n / 2 ^ 8) (omega arith))
 
--- so a column of the matrix becomes its second, third or fourth
+-- the bytes of a word after that rotation: the first column of the matrix becomes the second, third or fourth
 first_turned : (m n : ℕ) → n < 2 ^ 32 → m ≡ n % 2 ^ 24 * 2 ^ 8 + n / 2 ^ 24
     → to_le_bytes w32 m ≡ n / 256 ^ 3 % 256 ∷ n % 256 ∷ n / 256 % 256 ∷ n / 256 ^ 2 % 256 ∷ []
 first_turned m n fits is =
@@ -77,7 +77,7 @@ column_3 a n x fits is =
     third_turned (rotate_left w32 n 24) n fits (turned_24 n fits)
     ∙ (λ i. slice_index (is i) 1 ∷ slice_index (is i) 2 ∷ slice_index (is i) 3 ∷ slice_index (is i) 0 ∷ [])
 
--- ---- the four columns added up
+-- ---- the XOR of the four columns
 
 from_second : (p q r s : ℕ) → ((p ⊕ q) ⊕ r) ⊕ s ≡ ((q ⊕ r) ⊕ s) ⊕ p
 from_second p q r s = same_from_bits _ _ (λ i. simp bit_at_xor (omega arith))

@@ -153,14 +153,14 @@ inv_cipher block nr w = add_round_key (inv_sub_bytes (inv_shift_rows (inv_state_
 
 -- ---- AES-128, AES-192 and AES-256
 
--- the lengths that a key may have
+-- the lengths that a key can have
 abbrev pub is_aes_key_length : ℕ → Bool
 is_aes_key_length n = (n == 16) || (n == 24) || (n == 32)
 
--- the block that the cipher makes of this one under the key
+-- the block that the cipher makes from this one under the key
 unfoldable pub encrypted : List ℕ → List ℕ → List ℕ
 encrypted key block = cipher block (rounds_of key) (key_expansion key)
 
--- the block that the inverse cipher makes of this one under the key
+-- the block that the inverse cipher makes from this one under the key
 unfoldable pub decrypted : List ℕ → List ℕ → List ℕ
 decrypted key block = inv_cipher block (rounds_of key) (key_expansion key)

@@ -1,6 +1,6 @@
 -- Lists of bytes.
 use Rattle.std.specs.Prelude.{ℕ, ◌<◌, List, slice_index}
 
--- the elements are bytes (past the end of a list, 0 is read)
+-- the elements are bytes (a read past the end of a list gives 0)
 pub record IsBytes (xs : List ℕ) : Type 0 where
   pub each : (i : ℕ) → slice_index xs i < 256

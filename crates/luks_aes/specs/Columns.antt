@@ -1,5 +1,4 @@
--- Columns of a state as words of 32 bits, and what a table of such words holds. The lowest byte of a word is in
--- row 0.
+-- Columns of a state as words of 32 bits, and tables of such words. The lowest byte of a word is in row 0.
 use Rattle.std.specs.Prelude.{◌≡◌, ℕ, ◌+◌, ◌-◌, ◌*◌, ◌%◌, ◌<◌, List, ◌++◌, slice_index}
 use Rattle.std.specs.Int.{w32, to_le_bytes}
 use Rattle.luks_aes.specs.Field.{◌⊕◌, ◌•◌}
@@ -23,7 +22,7 @@ column_product a column = word_of (λ r. matrix_cell a column r 0)
 pub record IsColumnTable (a : List ℕ) (f : ℕ → ℕ) (entries : List ℕ) : Type 0 where
   pub at : (b : ℕ) → b < 256 → to_le_bytes w32 (slice_index entries b) ≡ matrix_column a 0 (f b)
 
--- each of the first n words of a list is the product of the matrix and the word of another in its place
+-- each of the first n words of `products` is the product of the matrix and the word of `words` at its index
 pub record IsMultiplied (a words products : List ℕ) (n : ℕ) : Type 0 where
   pub at : (i : ℕ) → i < n → word_at products i ≡ column_product a (word_at words i)
 
@@ -31,7 +30,7 @@ pub record IsMultiplied (a words products : List ℕ) (n : ℕ) : Type 0 where
 abbrev pub key_byte : List ℕ → ℕ → ℕ → ℕ → ℕ
 key_byte w n r c = slice_index w (r + 4 * (4 * n + c))
 
--- and of that round key after InvMixColumns
+-- the byte in row r and column c of round key n after InvMixColumns
 abbrev pub inv_mixed_key_byte : List ℕ → ℕ → ℕ → ℕ → ℕ
 inv_mixed_key_byte w n r c =
     14 • key_byte w n r c ⊕ 11 • key_byte w n ((r + 1) % 4) c ⊕ 13 • key_byte w n ((r + 2) % 4) c ⊕ 9 • key_byte w n

@@ -1,6 +1,6 @@
 -- The field of 256 elements in which AES computes (FIPS 197, update of 2023, section 4). A byte represents the
--- polynomial whose coefficients are its bits, the lowest for the constant. Polynomials are taken modulo m(x) = x^8 +
--- x^4 + x^3 + x + 1, which is 0x11b.
+-- polynomial whose coefficients are its bits; the lowest bit is the constant term. Polynomials are reduced modulo
+-- m(x) = x^8 + x^4 + x^3 + x + 1, which is 0x11b.
 use Rattle.std.specs.Prelude.{ℕ, zero, suc, ◌*◌, ◌/◌, ◌%◌, Bool, nat_lt, ◌==◌, bit_xor, unwrap_or, if◌then◌else◌, List}
 use Rattle.std.specs.List.{find, range_with_len}
 
@@ -13,12 +13,12 @@ a ⊕ b = bit_xor a b
 unfoldable pub times_x : ℕ → ℕ
 times_x b = if nat_lt b 128 then 2 * b else (2 * b) ⊕ 0x11b
 
--- the sum of b times x^i over the n lowest bits i that a has
+-- the sum of b times x^i over those of the n lowest bits i that are set in a
 unfoldable pub product_of_bits : ℕ → ℕ → ℕ → ℕ
 product_of_bits zero a b = 0
 product_of_bits (suc n) a b = (if a % 2 == 1 then b else 0) ⊕ product_of_bits n (a / 2) (times_x b)
 
--- the product of two elements, of which the first has 8 bits (4.2)
+-- the product of two elements; the first has 8 bits (4.2)
 infixl 70 ◌•◌
 unfoldable pub ◌•◌ : ℕ → ℕ → ℕ
 a • b = product_of_bits 8 a b

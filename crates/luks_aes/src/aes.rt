@@ -18,7 +18,7 @@ use std::marker::Model;
 pub struct AesKey {
     // The key's length in words of 4 bytes.
     words: usize,
-    // The key schedule, which begins with the key, and zeros.
+    // The key schedule, which starts with the key, followed by zeros.
     schedule: [u8; MAX_SCHEDULE_LEN],
     // Its words after InvMixColumns, for the inverse cipher.
     inv_mixed: [u8; MAX_SCHEDULE_LEN],
@@ -33,7 +33,7 @@ impl Model for AesKey {
 }
 
 impl AesKey {
-    /// The key of these bytes. There are 16, 24 or 32 of them; at any other number it is `None`.
+    /// The key with these 16, 24 or 32 bytes; `None` for any other number of bytes.
     pub fn new(key: &[u8]) -> Option<AesKey>
         ensures { result ≡ (if is_aes_key_length (length key.now) then Some key.now else None) }
     {

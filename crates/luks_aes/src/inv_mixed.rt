@@ -8,7 +8,7 @@ use crate::mixing::inv_mixed;
 use crate::sbox::sbox;
 use crate::schedule::MAX_SCHEDULE_LEN;
 
-// Word `i` of the schedule after InvMixColumns: the S-box undoes the inverse one of the table.
+// Word `i` of the schedule after InvMixColumns: the S-box undoes the inverse S-box of the table.
 fn inv_mixed_word(schedule: &[u8; MAX_SCHEDULE_LEN], i: usize) -> [u8; 4]
     requires { 4 * i + 4 ≤ MAX_SCHEDULE_LEN }
     ensures { result ≡ column_product (14 ∷ 11 ∷ 13 ∷ 9 ∷ []) (word_at schedule.now i) }

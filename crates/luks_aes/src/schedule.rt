@@ -1,4 +1,4 @@
-//! The key schedule (FIPS 197, 5.2): a list of words of 4 bytes, of which the first are the key's.
+//! The key schedule (FIPS 197, 5.2): a list of words of 4 bytes that starts with the key.
 
 ghost use Rattle.std.specs.Prelude.{◌≡◌, ◌+◌, ◌*◌, ◌/◌, ◌<◌, ◌≤◌, take, length, IsTrue};
 ghost use Rattle.luks_aes.specs.Aes.{word_at, word_xor, rot_word, sub_word, round_constant};
@@ -11,8 +11,7 @@ use crate::sbox::sbox;
 /// The length in bytes of the longest schedule, that of a key of 32 bytes.
 pub const MAX_SCHEDULE_LEN: usize = 240;
 
-// Under a key of more words than this, a word in the middle between two turned ones is substituted
-// too.
+// For a key of more words than this, the word halfway between two rotated ones is substituted too.
 const PLAIN_WORDS: usize = 6;
 
 // Word `i` of the schedule.
@@ -79,7 +78,7 @@ fn next_word(key_words: usize, schedule: &[u8], i: usize) -> [u8; 4]
     word_xor(word_at(schedule, i - key_words), change)
 }
 
-// Writes word `i` behind the words before it.
+// Writes word `i` after the words before it.
 fn write_word(key_words: usize, schedule: &mut [u8], i: usize)
     requires some { 0 < key_words }
     requires after_key { key_words ≤ i }
@@ -91,7 +90,7 @@ fn write_word(key_words: usize, schedule: &mut [u8], i: usize)
     schedule[at..at + 4].copy_from_slice(&word);
 }
 
-// Fills `schedule` from the key on.
+// Fills `schedule` with the words of the key and those that follow from them.
 fn expand(key: &[u8], schedule: &mut [u8])
     requires key_length { IsTrue (is_aes_key_length (length key.now)) }
     requires room { length schedule.old ≡ MAX_SCHEDULE_LEN }

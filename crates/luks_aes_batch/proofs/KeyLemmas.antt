@@ -1,4 +1,4 @@
--- The round keys that are kept.
+-- The bitsliced round keys.
 use Rattle.std.proofs.Common.{◌≡◌, ℕ, ◌+◌, ◌*◌, ◌/◌, ◌%◌, ◌<◌, ◌≤◌, List, Some, length, drop, length-drop, inl, inr}
 use Rattle.std.proofs.Common.{arith, sym, ap, subst, ◌∙◌}
 use Rattle.std.specs.Prelude.{slice_index}
@@ -20,7 +20,7 @@ use Rattle.luks_aes_batch.specs.declared.rows.BitslicedState.{BitslicedState}
 use Rattle.luks_aes_batch.proofs.StateLemmas.{all_also, all_as}
 use Rattle.luks_aes_batch.proofs.WayLemmas.{ordered_below, in_block}
 
--- the rows of a block to whose bytes k was added
+-- the rows of a block with k XORed into each of its bytes
 pub block_stands : (block sum : List ℕ) (k : ℕ) (f : ℕ → ℕ → ℕ) (rows kept : List (List (List ℕ)))
     → sum ≡ state_of (λ r c. cell block r c ⊕ k) → ((r c : ℕ) → r < 4 → c < 4 → cell block r c ≡ f r c)
     → RepresentRows (λ r q. cell sum r (column_index q)) rows → kept ≡ rows
@@ -63,7 +63,7 @@ block_state s n size low all = record {
   bytes = bytes_take 16 (drop (16 * n) s) (bytes_drop (16 * n) s all);
 }
 
--- a block whose bytes are a state's
+-- a block of a batch is the state whose bytes it has
 pub block_is : (s t : List ℕ) (n : ℕ) → IsState (block_in s n) → length t ≡ 16
     → ((i : ℕ) → i < 16 → slice_index s (16 * n + i) ≡ slice_index t i) → block_in s n ≡ t
 block_is s t n is len same =

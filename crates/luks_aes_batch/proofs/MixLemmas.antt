@@ -1,4 +1,4 @@
--- Inverse column mixing by doublings and sums.
+-- InvMixColumns by doublings and XORs.
 use Rattle.std.proofs.Common.{◌≡◌, ℕ, ◌<◌, arith, refl, sym, ap, ◌∙◌}
 use Rattle.std.proofs.lemmas.Nat.Bits.{same_from_bits, bit_at_xor}
 use Rattle.luks_aes.specs.Field.{◌⊕◌, ◌•◌, times_x, product_of_bits}
@@ -7,7 +7,7 @@ use Rattle.luks_aes.proofs.ByteLists.{times_x_byte, product_byte, xor_byte}
 use Rattle.luks_aes.proofs.MixingLemmas.{inv_mixed, times_x_sum}
 use Rattle.luks_aes_batch.specs.Mixing.{sum_of, even_of, next_of}
 
--- products by doublings
+-- products as XORs of doublings
 times_14 : (x : ℕ) → x < 256 → 14 • x ≡ times_x x ⊕ times_x (times_x x) ⊕ times_x (times_x (times_x x))
 unfolding ◌•◌ product_of_bits times_x
 times_14 = same_below (λ x. 14 • x) (λ x. times_x x ⊕ times_x (times_x x) ⊕ times_x (times_x (times_x x))) 256 refl
@@ -24,7 +24,7 @@ times_9 : (x : ℕ) → x < 256 → 9 • x ≡ x ⊕ times_x (times_x (times_x 
 unfolding ◌•◌ product_of_bits times_x
 times_9 = same_below (λ x. 9 • x) (λ x. x ⊕ times_x (times_x (times_x x))) 256 refl
 
--- a row of InvMixColumns in the doublings of the bytes of a column
+-- a row of InvMixColumns as an XOR of doublings of the bytes of a column
 in_doublings : (a b c d : ℕ) → a < 256 → b < 256 → c < 256 → d < 256
     → inv_mixed a b c d
     ≡ (times_x a ⊕ times_x (times_x a) ⊕ times_x (times_x (times_x a))) ⊕
@@ -32,9 +32,9 @@ in_doublings : (a b c d : ℕ) → a < 256 → b < 256 → c < 256 → d < 256
     ⊕ (c ⊕ times_x (times_x c) ⊕ times_x (times_x (times_x c))) ⊕ (d ⊕ times_x (times_x (times_x d)))
 in_doublings a b c d p q r s = λ i. times_14 a p i ⊕ times_11 b q i ⊕ times_13 c r i ⊕ times_9 d s i
 
--- ---- the sums
+-- ---- the values that the rows share
 
--- sums and their doublings
+-- doubling the XOR of four bytes gives the XOR of the doubled bytes
 sum_doubled : (a b c d : ℕ) → a < 256 → b < 256 → c < 256 → d < 256
     → times_x (sum_of a b c d) ≡ sum_of (times_x a) (times_x b) (times_x c) (times_x d)
 sum_doubled a b c d p q r s =
@@ -47,7 +47,7 @@ sum_doubled a b c d p q r s =
 sum_byte : (a b c d : ℕ) → a < 256 → b < 256 → c < 256 → d < 256 → sum_of a b c d < 256
 sum_byte a b c d p q r s = xor_byte _ d (xor_byte _ b (xor_byte a c p r) q) s
 
--- even_of in doublings, and doubled
+-- `even_of` as an XOR of doubled bytes, and its doubling
 abbrev even_in : ℕ → ℕ → ℕ → ℕ → ℕ
 even_in a b c d = sum_of (times_x a) (times_x b) (times_x c) (times_x d) ⊕ (a ⊕ c)
 
@@ -65,7 +65,7 @@ even_doubled a b c d p q r s =
     (sum_byte (times_x a) (times_x b) (times_x c) (times_x d) ta tb tc td) (xor_byte a c p r)
     ∙ (λ i. sum_doubled (times_x a) (times_x b) (times_x c) (times_x d) ta tb tc td i ⊕ times_x_sum a c p r i)
 
--- next_of in doublings, and doubled
+-- `next_of` as an XOR of doubled bytes, and its doubling
 abbrev next_in : ℕ → ℕ → ℕ → ℕ → ℕ
 next_in a b c d = (even_in (times_x a) (times_x b) (times_x c) (times_x d) ⊕ a) ⊕ b
 
@@ -91,7 +91,7 @@ next_doubled a b c d p q r s =
     ∙ (λ i. times_x_sum (even_in (times_x a) (times_x b) (times_x c) (times_x d)) a e p i ⊕ times_x b)
     ∙ (λ i. (even_doubled (times_x a) (times_x b) (times_x c) (times_x d) ta tb tc td i ⊕ times_x a) ⊕ times_x b)
 
--- ---- sums over the doublings of four bytes, a0 to a3 and so on
+-- ---- XORs of doublings of four bytes: a0 is a byte, a1 its doubling, and so on up to a3, and likewise for b, c and d
 
 first_terms : (a0 a1 a2 a3 b0 b1 b2 b3 c0 c1 c2 c3 d0 d1 d2 d3 : ℕ)
     → ((((((((a3 ⊕ c3) ⊕ b3) ⊕ d3) ⊕ (a2 ⊕ c2)) ⊕ a1) ⊕ b1) ⊕ (((a0 ⊕ c0) ⊕ b0) ⊕ d0)) ⊕ a0)

@@ -1,4 +1,4 @@
--- BitslicedState of planes as blocks.
+-- Rows of bit planes as blocks.
 use Rattle.std.proofs.Common.{◌≡◌, ℕ, ◌+◌, ◌*◌, ◌/◌, ◌%◌, ◌<◌, List, [], ◌∷◌, arith, refl, sym, ap, ◌∙◌}
 use Rattle.std.specs.Prelude.{slice_index, slice_index_or}
 use Rattle.std.specs.Int.{bit_at}
@@ -10,7 +10,7 @@ use Rattle.luks_aes_batch.specs.States.{state_byte}
 use Rattle.luks_bitslice.proofs.LaneLemmas.{each_below_4}
 use Rattle.luks_aes_batch.proofs.WayLemmas.{ordered_below}
 
--- a byte is the sum of its bits
+-- a byte is the sum of its bits, each times its power of two
 sum_of_bits : (x : ℕ) → x < 256
     → bit_at x 0 + 2 * bit_at x 1 + 4 * bit_at x 2 + 8 * bit_at x 3 + 16 * bit_at x 4 + 32 * bit_at x 5 + 64 * bit_at x
     6 + 128 * bit_at x 7 ≡ x
@@ -19,7 +19,7 @@ sum_of_bits = same_below
     bit_at x 6 + 128 * bit_at x 7)
     (λ x. x) 256 refl
 
--- bytes whose bits are the same
+-- two bytes are equal if their bits are
 pub same_bits : (x y : ℕ) → x < 256 → y < 256 → ((k : ℕ) → k < 8 → bit_at x k ≡ bit_at y k) → x ≡ y
 same_bits x y low small same =
     let b0 : bit_at x 0 ≡ bit_at y 0 = same 0 (omega arith) in
@@ -34,7 +34,7 @@ same_bits x y low small same =
     ∙ (λ i. b0 i + 2 * b1 i + 4 * b2 i + 8 * b3 i + 16 * b4 i + 32 * b5 i + 64 * b6 i + 128 * b7 i)
     ∙ sum_of_bits y small
 
--- the planes of a row, bit by bit
+-- the bit planes of a row, bit by bit
 pub stands_shown : (y : ℕ → ℕ) (x : List (List ℕ)) → Represents y x
     → (j : ℕ) → j < 8 → HasBits (λ p k. bit_at (y (8 * p + k)) j) (slice_index_or x j [])
 stands_shown y x is j low =
@@ -50,7 +50,7 @@ stands_shown y x is j low =
 twice_ordered : (i : ℕ) → i < 4 → column_order (column_order i) ≡ i
 twice_ordered = same_below (λ i. column_order (column_order i)) (λ i. i) 4 refl
 
--- what stands at each place of four blocks' rows
+-- the byte of row i % 4 at the bit index of block n and column i / 4 is byte i of that block
 pub at_place : (s : ℕ → List ℕ) (n i : ℕ) → n < 32 → i < 16
     → state_byte s 0 (i % 4) (8 * (4 * (n % 4) + column_order (i / 4)) + n / 4) ≡ slice_index (s n) i
 at_place s n i low inside =
@@ -63,7 +63,7 @@ at_place s n i low inside =
     ∙ (λ t. slice_index (s (block t)) (i % 4 + 4 * column t))
     ∙ ap (slice_index (s n)) (omega arith)
 
--- byte i of block m of the four whose rows stand at g
+-- byte i of block m of the four blocks in group g, read from their rows
 abbrev pub placed : List (List ℕ) → List (List ℕ) → List (List ℕ) → List (List ℕ) → ℕ → ℕ → ℕ → ℕ
 placed a b c d g m i =
     slice_index

@@ -1,4 +1,4 @@
--- The planes of rows that are kept, and of their sums.
+-- The bit planes of rows, and those of the values that the rows share.
 use Rattle.std.proofs.Common.{◌≡◌, ℕ, ◌+◌, ◌%◌, ◌<◌, List, arith, refl, sym, ◌∙◌}
 use Rattle.std.specs.Int.{bit_at}
 use Rattle.std.specs.Int.Bits.{bit_xor}
@@ -50,7 +50,7 @@ bit_7 : (b : ℕ) → b < 256 → bit_at (times_x b) 7 ≡ bit_at b 6
 unfolding times_x
 bit_7 = same_below (λ b. bit_at (times_x b) 7) (λ b. bit_at b 6) 256 refl
 
--- ---- a plane that is a plane of the doubled bytes, and one to which plane 7 is added
+-- ---- planes of the doubled bytes: a plane as it is, or XORed with plane 7
 
 pub moved : (f : ℕ → ℕ) (j k : ℕ) {v : List ℕ} → ((b : ℕ) → b < 256 → bit_at (times_x b) k ≡ bit_at b j)
     → ((q : ℕ) → f q < 256) → IsBitPlane f j v → IsBitPlane (λ q. times_x (f q)) k v
@@ -67,7 +67,7 @@ reduced f j k {v} {w} {r} law bytes first second is = record {
       ∙ sym (law (f q) (bytes q));
 }
 
--- ---- the sums' bytes
+-- ---- the shared values as bytes
 
 sum_bytes : (y : ℕ → ℕ → ℕ) → AreBytes y → (q : ℕ) → sum_of (y 0 q) (y 1 q) (y 2 q) (y 3 q) < 256
 sum_bytes y all q =
@@ -85,7 +85,7 @@ step_bytes y all q =
     xor_byte _ (y 1 q) (xor_byte _ (y 0 q) (times_x_byte _ (even_bytes y all q)) (all.at 0 q (omega arith)))
     (all.at 1 q (omega arith))
 
--- ---- the sums of a plane as doubled sums of another
+-- ---- the shared values in one plane as doubled values in another
 
 doubled_from : (y : ℕ → ℕ → ℕ) (j k : ℕ) (x : Sums) → ((b : ℕ) → b < 256 → bit_at (times_x b) k ≡ bit_at b j)
     → AreBytes y → HasSums y j x → HasDoubled y k x
@@ -110,7 +110,7 @@ doubled_6 y x = doubled_from y 5 6 x bit_6
 pub doubled_7 : (y : ℕ → ℕ → ℕ) (x : Sums) → AreBytes y → HasSums y 6 x → HasDoubled y 7 x
 doubled_7 y x = doubled_from y 6 7 x bit_7
 
--- the doubled sums of the planes 6 and 7, of which not all are known
+-- the doubled values in planes 6 and 7, not all of which are known
 pub all_6 : (y : ℕ → ℕ → ℕ) {v : List ℕ} → AreBytes y → IsBitPlane (λ q. sum_of (y 0 q) (y 1 q) (y 2 q) (y 3 q)) 5 v
     → IsBitPlane (λ q. times_x (sum_of (y 0 q) (y 1 q) (y 2 q) (y 3 q))) 6 v
 all_6 y all = moved _ 5 6 bit_6 (sum_bytes y all)
@@ -123,7 +123,8 @@ pub even_7 : (y : ℕ → ℕ → ℕ) {v : List ℕ} → AreBytes y → IsBitPl
     → IsBitPlane (λ q. times_x (even_of (y 0 q) (y 1 q) (y 2 q) (y 3 q))) 7 v
 even_7 y all = moved _ 6 7 bit_7 (even_bytes y all)
 
--- the sums of a plane and of plane 7
+-- the doubled values in plane k are the values in plane j XORed with those in plane 7, if bit k of each doubled byte is
+-- the XOR of the byte's bits j and 7
 doubled_with : (y : ℕ → ℕ → ℕ) (j k : ℕ) (x top r : Sums)
     → ((b : ℕ) → b < 256 → bit_at (times_x b) k ≡ (bit_at b j + bit_at b 7) % 2)
     → AreBytes y → HasSums y j x → HasSums y 7 top → r.all ≡ zip2 bit_xor x.all top.all
@@ -154,7 +155,7 @@ doubled_4 y x top r = doubled_with y 3 4 x top r bit_4
 pub all_bytes : (y : ℕ → ℕ → ℕ) (rows : List (List (List ℕ))) → RepresentRows y rows → AreBytes y
 all_bytes y rows is = record { at = λ r q low. (is.at r low).bytes q }
 
--- the bytes of a row after InvMixColumns and a round key
+-- after InvMixColumns and the XOR with a round key, a row still consists of bytes
 pub row_byte : (y z : ℕ → ℕ → ℕ) → AreBytes y → AreBytes z → (r q : ℕ) → r < 4 → inv_mixed_row y r q ⊕ z r q < 256
 row_byte y z all keys r q low =
     xor_byte _ _

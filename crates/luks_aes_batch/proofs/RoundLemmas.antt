@@ -19,7 +19,7 @@ use Rattle.luks_bitslice.proofs.LaneLemmas.{each_below_4}
 use Rattle.luks_aes_batch.proofs.StateLemmas.{all_also}
 use Rattle.luks_aes_batch.proofs.WayLemmas.{ordered_below}
 
--- ---- places
+-- ---- bit indices after the rotation of a row
 
 turned_block : (r q : ℕ) → r < 4 → q < 128 → block_index (rotated_index r q) ≡ block_index q
 turned_block r q low inside =
@@ -76,7 +76,7 @@ added_cell : (s w : List ℕ) (n r c : ℕ) → r < 4 → c < 4 → cell (add_ro
 unfolding add_round_key
 added_cell s w n r c low small = cell_of (λ r c. cell s r c ⊕ key_byte w n r c) r c low small
 
--- a column with a round key added, after InvMixColumns
+-- a cell of a state after AddRoundKey and InvMixColumns
 inv_mixed_cell : (s w : List ℕ) (n r c : ℕ) → IsBytes s → IsBytes w → r < 4 → c < 4
     → cell (inv_mix_columns (add_round_key s w n)) r c
     ≡ inv_mixed (cell s r c) (cell s ((r + 1) % 4) c) (cell s ((r + 2) % 4) c) (cell s ((r + 3) % 4) c) ⊕
@@ -97,7 +97,7 @@ inv_mixed_cell s w n r c all keys low small =
 
 -- ---- rows
 
--- the cells of the states t, where they stand
+-- the cell of row r at bit q, from the state of its block
 abbrev pub cells : (ℕ → List ℕ) → ℕ → ℕ → ℕ
 cells t r q = cell (t (block_index q)) r (column_index q)
 
@@ -112,7 +112,7 @@ rows_substituted t rows all is =
     ∙ (λ i. inv_sbox (cell (t (turned_block r q low inside i)) r (turned_column r q low inside i)))
     ∙ sym (substituted_cell (t (block_index q)) r (column_index q) low (ordered_below (q / 8 % 4))))
 
--- a byte of a row with a round key, after InvMixColumns
+-- a byte of a row after InvMixColumns, XORed with the round key after InvMixColumns
 laid_inv_mixed : (t : ℕ → List ℕ) (w : List ℕ) (n r q : ℕ) → ((m : ℕ) → IsBytes (t m)) → IsBytes w → r < 4
     → inv_mixed (cells t r q) (cells t ((r + 1) % 4) q) (cells t ((r + 2) % 4) q) (cells t ((r + 3) % 4) q)
     ⊕ (inv_mixed_key_byte w n r (column_index q) ⊕ 0x63)
@@ -156,7 +156,7 @@ rows_keyed t w n k rows small all keys is = record {
       ∙ ap (λ x. x ⊕ k) (sym (added_cell (t (block_index q)) w n r (column_index q) low (ordered_below (q / 8 % 4)))));
 }
 
--- states to which nothing was added
+-- rows that represent states with 0 XORed into each byte represent the cells of those states
 pub rows_plain : (t : ℕ → List ℕ) (rows : List (List (List ℕ))) → RepresentStates t 0 rows → ((m : ℕ) → IsBytes (t m))
     → RepresentRows (cells t) rows
 rows_plain t rows hold all =

@@ -1,4 +1,4 @@
--- Four rows, of which each stands for bytes.
+-- Four rows, each of which represents bytes.
 use Rattle.std.proofs.Common.{◌≡◌, ℕ, zero, suc, ◌<◌, List, [], ◌∷◌, arith, length, sym, ap, subst, ◌∙◌}
 use Rattle.std.specs.Prelude.{slice_index_or}
 use Rattle.std.specs.Int.{bit_at}
@@ -6,7 +6,7 @@ use Rattle.luks_bitslice.specs.BitPlanes.{IsBitPlane, Represents}
 use Rattle.luks_bitslice.proofs.Tables.{eight}
 use Rattle.luks_aes_batch.specs.States.{RepresentRows}
 
--- what stands for bytes stands for equal ones
+-- planes and rows that represent some bytes also represent equal ones
 pub plane_also : (y z : ℕ → ℕ) (j : ℕ) (v : List ℕ) → IsBitPlane y j v → ((q : ℕ) → q < 128 → y q ≡ z q)
     → IsBitPlane z j v
 plane_also y z j v is same = record { len = is.len; at = λ q low. is.at q low ∙ ap (λ b. bit_at b j) (same q low) }
@@ -42,7 +42,7 @@ stands_as {y} same is = subst (λ (x : List (List ℕ)). Represents y x) (sym sa
 pub all_as : {y : ℕ → ℕ → ℕ} {a b : List (List (List ℕ))} → a ≡ b → RepresentRows y b → RepresentRows y a
 all_as {y} same is = subst (λ (x : List (List (List ℕ))). RepresentRows y x) (sym same) is
 
--- eight planes that are taken from a row stand as the row does
+-- the eight planes of a row, listed one by one, represent the bytes that the row represents
 pub taken : {y : ℕ → ℕ} {x : List (List ℕ)} → Represents y x
     → Represents y (slice_index_or x 0 [] ∷ slice_index_or x 1 [] ∷ slice_index_or x 2 [] ∷ slice_index_or x 3 []
     ∷ slice_index_or x 4 [] ∷ slice_index_or x 5 [] ∷ slice_index_or x 6 [] ∷ slice_index_or x 7 [] ∷ [])
@@ -53,7 +53,7 @@ taken {y} is = record {
       (is.at 7 (omega arith));
 }
 
--- a list of four, and one of eight, by its elements
+-- a list of four elements, or of eight, is the list of its elements
 pub four_same : {X : Type 0} (x : List X) (d : X) {a b c e : X} → length x ≡ 4
     → a ≡ slice_index_or x 0 d → b ≡ slice_index_or x 1 d → c ≡ slice_index_or x 2 d → e ≡ slice_index_or x 3 d
     → a ∷ b ∷ c ∷ e ∷ [] ≡ x

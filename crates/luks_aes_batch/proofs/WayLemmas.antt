@@ -1,4 +1,4 @@
--- Blocks as rows of planes.
+-- Blocks as rows of bit planes.
 use Rattle.std.proofs.Common.{◌≡◌, ℕ, zero, suc, ◌+◌, ◌*◌, ◌/◌, ◌%◌, ◌<◌, List, [], ◌∷◌, drop, arith, refl, sym, ap}
 use Rattle.std.proofs.Common.{◌∙◌}
 use Rattle.std.specs.Prelude.{slice_index, slice_index_or}
@@ -23,7 +23,7 @@ pub shows_same : (f g : ℕ → ℕ → ℕ) (v : List ℕ) → HasBits f v → 
     → HasBits g v
 shows_same f g v is same = record { len = is.len; at = λ p k low small. is.at p k low small ∙ same p k low small }
 
--- eight planes that show the bits of the bytes e k p
+-- eight planes with the bits of the bytes e k p represent those bytes
 pub planes_stand : (e : ℕ → ℕ → ℕ) (x : List (List ℕ)) → ((g p : ℕ) → e g p < 256)
     → ((j : ℕ) → j < 8 → HasBits (λ p k. bit_at (e k p) j) (slice_index_or x j []))
     → Represents (λ q. e (q % 8) (q / 8)) x
@@ -35,7 +35,7 @@ planes_stand e x bytes shown = record {
   };
 }
 
--- a byte of a group's blocks
+-- a bit of a byte of the four blocks in group g
 pub of_group : (s : List ℕ) (g r p k : ℕ) (a b c d : List ℕ) → a ≡ chunk (16 * (4 * g)) 16 s → b
     ≡ chunk (16 * (4 * g + 1)) 16 s
     → c ≡ chunk (16 * (4 * g + 2)) 16 s → d ≡ chunk (16 * (4 * g + 3)) 16 s → r < 4 → p < 16
@@ -54,11 +54,11 @@ of_group s g r p k a b c d at_a at_b at_c at_d low inside =
     (ap (λ l. slice_index l i) at_d ∙ get_or-chunk (16 * (4 * g + 3)) 16 s i 0 small)
     (p / 4) (omega arith))
 
--- where a byte of a block stands in the batch
+-- byte i of block n is byte 16 * n + i of the batch
 pub in_block : (s : List ℕ) (n i : ℕ) → i < 16 → slice_index (block_in s n) i ≡ slice_index s (16 * n + i)
 in_block s n i low = get_or-take 16 (drop (16 * n) s) i 0 low ∙ get_or-drop (16 * n) s i 0
 
--- the bytes of a row by groups and lanes are those of the blocks' states
+-- the bytes of a row, by groups and lanes, are those of the states of the blocks
 pub laid_row : (s : List ℕ) (r q : ℕ) → r < 4 → q < 128
     → slice_index s (16 * (4 * (q % 8) + q / 8 / 4) + (r + 4 * column_order (q / 8 % 4)))
     ≡ state_byte (block_in s) 0 r q
@@ -74,7 +74,7 @@ laid_byte s r q low =
     xor_byte _ 0 ((bytes_take 16 (drop (16 * block_index q) s) (bytes_drop (16 * block_index q) s
     (record { each = low }))).each (r + 4 * column_index q)) (omega arith)
 
--- a byte of four blocks that are the same
+-- the bits of four equal blocks are those of one of them
 pub of_one : (s : List ℕ) (r : ℕ) (v : List ℕ)
     → HasBits (λ p k. bit_at (slice_index (slice_index_or (s ∷ s ∷ s ∷ s ∷ []) (p / 4) []) (r + 4 * column_order
     (p % 4))) k) v

@@ -1,6 +1,7 @@
--- InvMixColumns (FIPS 197, 5.3.3) by doublings and XORs, plane by plane. The four products of a column a, b, c, d share
--- three values: all = a + b + c + d, even = 2 * all + (a + c) and step = 2 * even + a + b. Row 0, 14a + 11b + 13c + 9d,
--- is 2 * step + all + a; the other rows follow from it by the bytes and by even and step.
+-- InvMixColumns (FIPS 197, 5.3.3) by doublings and XORs, plane by plane. Sums and products are those of the field, so
+-- `+` is XOR. The four rows of the result for a column a, b, c, d share three values: `all` is a + b + c + d, `even` is
+-- 2 * all + a + c, and `step` is 2 * even + a + b. Row 0 is 14a + 11b + 13c + 9d, which is 2 * step + all + a.
+-- Row 1 is row 0 + step. Row 2 is row 0 + even. Row 3 is row 1 + even + all.
 use Rattle.std.specs.Prelude.{ℕ, ◌+◌, ◌%◌, ◌<◌}
 use Rattle.luks_aes.specs.Field.{◌⊕◌, ◌•◌, times_x}
 use Rattle.luks_bitslice.specs.BitPlanes.{IsBitPlane}
@@ -18,7 +19,7 @@ even_of a b c d = times_x (sum_of a b c d) ⊕ (a ⊕ c)
 abbrev pub next_of : ℕ → ℕ → ℕ → ℕ → ℕ
 next_of a b c d = (times_x (even_of a b c d) ⊕ a) ⊕ b
 
--- row r after InvMixColumns, at bit q, of the bytes y r q of the four rows
+-- the byte of row r at bit q after InvMixColumns, if y r q are the bytes of the four rows before
 abbrev pub inv_mixed_row : (ℕ → ℕ → ℕ) → ℕ → ℕ → ℕ
 inv_mixed_row y r q = 14 • y r q ⊕ 11 • y ((r + 1) % 4) q ⊕ 13 • y ((r + 2) % 4) q ⊕ 9 • y ((r + 3) % 4) q
 
@@ -40,7 +41,7 @@ pub record HasSums (y : ℕ → ℕ → ℕ) (j : ℕ) (x : Sums) : Type 0 where
   pub even : IsBitPlane (λ q. even_of (y 0 q) (y 1 q) (y 2 q) (y 3 q)) j x.even
   pub step : IsBitPlane (λ q. next_of (y 0 q) (y 1 q) (y 2 q) (y 3 q)) j x.step
 
--- `x` holds bit j of the shared values doubled
+-- `x` holds bit j of the doubled shared values
 pub record HasDoubled (y : ℕ → ℕ → ℕ) (j : ℕ) (x : Sums) : Type 0 where
   pub all : IsBitPlane (λ q. times_x (sum_of (y 0 q) (y 1 q) (y 2 q) (y 3 q))) j x.all
   pub even : IsBitPlane (λ q. times_x (even_of (y 0 q) (y 1 q) (y 2 q) (y 3 q))) j x.even

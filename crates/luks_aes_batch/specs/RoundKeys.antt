@@ -31,20 +31,20 @@ row_3_of x =
 unfoldable pub rows_of : BitslicedState → List (List (List ℕ))
 rows_of x = row_0_of x ∷ row_1_of x ∷ row_2_of x ∷ row_3_of x ∷ []
 
--- the rows hold round key n of the schedule w for every block, k XORed to each byte
+-- the rows represent round key n of the schedule w for every block, with k XORed into each byte
 pub record HasRoundKey (w : List ℕ) (n k : ℕ) (rows : List (List (List ℕ))) : Type 0 where
   pub stand : RepresentRows (λ r q. key_byte w n r (column_index q) ⊕ k) rows
 
--- the rows hold round key n after InvMixColumns, k XORed to each byte
+-- the rows represent round key n after InvMixColumns, with k XORed into each byte
 pub record HasInvMixedKey (w : List ℕ) (n k : ℕ) (rows : List (List (List ℕ))) : Type 0 where
   pub stand : RepresentRows (λ r q. inv_mixed_key_byte w n r (column_index q) ⊕ k) rows
 
--- entry n holds round key n + 1 after InvMixColumns, up to the last but one
+-- if n + 1 is less than `end`, entry n is round key n + 1 after InvMixColumns, with 0x63 XORed into each byte
 pub record HasInvMixedKeys (w : List ℕ) (all : List BitslicedState) (end : ℕ) : Type 0 where
   pub at : (n : ℕ) → n + 1 < end → (key : BitslicedState) → slice_get all n ≡ Some key
       → HasInvMixedKey w (n + 1) 0x63 (rows_of key)
 
--- these are the round keys of the key
+-- `first`, `between` and `last` are the round keys of the key for decryption
 pub record IsBatchKey (key : List ℕ) (first : BitslicedState) (between : List BitslicedState)
     (last : BitslicedState) : Type 0 where
   pub first_key : HasRoundKey (key_expansion key) (rounds_of key) 0x63 (rows_of first)

@@ -21,11 +21,11 @@ use std::simd::prelude::*;
 // The largest number of round keys between the first and the last.
 const MAX_INNER_KEYS: usize = 13;
 
-// The S-box's circuit expects each byte with this constant XORed to it.
+// The circuit of the inverse S-box expects bytes with this constant XORed into them.
 const CONSTANT: u8 = 0x63;
 
 // The round keys of the equivalent inverse cipher (FIPS 197, 5.3.5): the first, those between, with
-// round key n at index n - 1, and the last. All but the last have 0x63 XORed to each byte.
+// round key n at index n - 1, and the last. All but the last have 0x63 XORed into each byte.
 #[derive(Drop)]
 struct RoundKeys {
     first: BitslicedState,
@@ -49,7 +49,7 @@ impl Model for BatchKey {
         IsBatchKey k.key k.round_keys.first k.round_keys.between k.round_keys.last };
 }
 
-// The block with a number XORed to each byte.
+// The block with a number XORed into each byte.
 fn block_plus(block: [u8; 16], number: u8) -> [u8; 16]
     ensures { result ≡ state_of (λ r c. cell block r c ⊕ number) }
 {
@@ -60,7 +60,7 @@ fn block_plus(block: [u8; 16], number: u8) -> [u8; 16]
     sum
 }
 
-// Round key `n`, with a number XORed to each byte.
+// Round key `n`, with a number XORed into each byte.
 fn plain_round_key(key: &AesKey, n: usize, number: u8) -> BitslicedState
     requires { n ≤ rounds_of key.now }
     ensures { HasRoundKey (key_expansion key.now) n number (rows_of result) }
@@ -68,7 +68,7 @@ fn plain_round_key(key: &AesKey, n: usize, number: u8) -> BitslicedState
     BitslicedState::new(broadcast(block_plus(key.round_key(n), number)))
 }
 
-// Round key `n` after InvMixColumns, with 0x63 XORed to each byte.
+// Round key `n` after InvMixColumns, with 0x63 XORed into each byte.
 fn inv_mixed_round_key(key: &AesKey, n: usize) -> BitslicedState
     requires { n ≤ rounds_of key.now }
     ensures { HasInvMixedKey (key_expansion key.now) n 0x63 (rows_of result) }

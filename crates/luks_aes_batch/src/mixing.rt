@@ -13,8 +13,8 @@ use luks_bitslice::{Columns, plane_rotated, xor};
 use std::simd::prelude::*;
 
 /// One plane of the values that the rows after InvMixColumns share: `all` is the XOR of a column's
-/// four bytes, `even` is `all` doubled plus the bytes of the even rows, and `step` is `even`
-/// doubled plus the first two bytes.
+/// four bytes, `even` is the doubled `all` XORed with the bytes of rows 0 and 2, and `step` is the
+/// doubled `even` XORed with the bytes of rows 0 and 1.
 #[derive(Clone, Copy, Drop)]
 struct Sums {
     all: u8x16,
@@ -23,8 +23,8 @@ struct Sums {
 }
 
 impl Sums {
-    // The values in the plane below, with those in plane 7 XORed in if x^8 reduces to this plane
-    // (FIPS 197, 4.2).
+    // The doubled values in the next plane, if x^8 reduces to that plane (FIPS 197, 4.2): the
+    // values in this plane XORed with those in plane 7.
     #[inline(always)]
     fn reduced(&self, top: &Sums) -> Sums
         ensures to_1 { (y : ℕ → ℕ → ℕ) → AreBytes y → HasSums y 0 self.now → HasSums y 7 top.now
@@ -43,7 +43,7 @@ impl Sums {
 }
 
 impl FourPlanes {
-    // The shared values in this plane, from the doubled ones in this plane.
+    // The shared values in this plane, from the doubled values in it.
     #[inline(always)]
     fn sums(&self, all_doubled: u8x16, even_doubled: u8x16) -> Sums
         ensures all { (y : ℕ → ℕ → ℕ) (j : ℕ) → IsOfPlane y j self.now
@@ -64,8 +64,8 @@ impl FourPlanes {
         Sums { all, even, step }
     }
 
-    // This plane after InvMixColumns, AddRoundKey and InvShiftRows, from the doubled values in this
-    // plane; returns the shared values in this plane.
+    // Applies InvMixColumns, AddRoundKey and InvShiftRows to this plane, with the doubled values in
+    // it, and returns the shared values in it.
     #[inline(always)]
     fn inv_mix_columns_batch(&mut self, key: &FourPlanes, doubled: Sums) -> Sums
         ensures plane { (y z : ℕ → ℕ → ℕ) (j : ℕ) → AreBytes y → IsOfPlane y j self.old
@@ -101,7 +101,8 @@ fn top_sums(rows: &BitslicedState) -> Sums
     rows.plane_7.sums(middle.all, middle.even)
 }
 
-/// InvMixColumns (FIPS 197, 5.3.3), AddRoundKey with a round key after InvMixColumns, InvShiftRows.
+/// InvMixColumns (FIPS 197, 5.3.3), AddRoundKey with a round key that is itself after
+/// InvMixColumns, and InvShiftRows.
 #[inline(never)]
 pub fn inv_mix_columns_batch(rows: &mut BitslicedState, key: &BitslicedState)
     ensures { (y z : ℕ → ℕ → ℕ) → RepresentRows y (rows_of rows.old)

@@ -105,7 +105,7 @@ fn store(batch: &mut [u8], n: usize, block: u8x16)
     batch[16 * n..16 * n + 16].copy_from_slice(&block.to_array());
 }
 
-// Writes the four blocks from block 4 * `g` on, of which these are the rows.
+// Writes the four blocks from block 4 * `g` on, from their rows.
 #[inline(always)]
 fn put_group(batch: &mut [u8], g: usize, a: u8x16, b: u8x16, c: u8x16, d: u8x16)
     requires { 64 * g + 64 ≤ length batch.old }

@@ -19,7 +19,7 @@ pub struct FourPlanes {
     pub row_3: u8x16,
 }
 
-/// Four rows of eight bit planes, stored plane by plane, the order in which InvMixColumns goes.
+/// Four rows of eight bit planes, stored plane by plane, in the order in which InvMixColumns works.
 #[derive(Clone, Copy, Drop)]
 pub struct BitslicedState {
     pub plane_0: FourPlanes,
@@ -32,7 +32,7 @@ pub struct BitslicedState {
     pub plane_7: FourPlanes,
 }
 
-// Plane `j` of a row. (The length of an array is known of a parameter.)
+// Plane `j` of a row. (The prover knows the length of an array if it is a parameter.)
 #[inline(always)]
 fn plane_in(row: &[u8x16; 8], j: usize) -> u8x16
     requires { j < 8 }
@@ -159,7 +159,7 @@ impl BitslicedState {
         ]
     }
 
-    // InvSubBytes (FIPS 197, 5.3.2) in row 0, of bytes to which 0x63 was XORed.
+    // InvSubBytes (FIPS 197, 5.3.2) of row 0, on bytes with 0x63 XORed into them.
     #[inline(never)]
     fn inv_sub_bytes_row_0(&mut self)
         ensures here { (y : ℕ → ℕ) → Represents y (row_0_of self.old)
@@ -179,7 +179,7 @@ impl BitslicedState {
         self.plane_7.row_0 = row[7];
     }
 
-    // InvSubBytes (FIPS 197, 5.3.2) in row 1, of bytes to which 0x63 was XORed.
+    // InvSubBytes (FIPS 197, 5.3.2) of row 1, on bytes with 0x63 XORed into them.
     #[inline(never)]
     fn inv_sub_bytes_row_1(&mut self)
         ensures here { (y : ℕ → ℕ) → Represents y (row_1_of self.old)
@@ -199,7 +199,7 @@ impl BitslicedState {
         self.plane_7.row_1 = row[7];
     }
 
-    // InvSubBytes (FIPS 197, 5.3.2) in row 2, of bytes to which 0x63 was XORed.
+    // InvSubBytes (FIPS 197, 5.3.2) of row 2, on bytes with 0x63 XORed into them.
     #[inline(never)]
     fn inv_sub_bytes_row_2(&mut self)
         ensures here { (y : ℕ → ℕ) → Represents y (row_2_of self.old)
@@ -219,7 +219,7 @@ impl BitslicedState {
         self.plane_7.row_2 = row[7];
     }
 
-    // InvSubBytes (FIPS 197, 5.3.2) in row 3, of bytes to which 0x63 was XORed.
+    // InvSubBytes (FIPS 197, 5.3.2) of row 3, on bytes with 0x63 XORed into them.
     #[inline(never)]
     fn inv_sub_bytes_row_3(&mut self)
         ensures here { (y : ℕ → ℕ) → Represents y (row_3_of self.old)
@@ -239,7 +239,7 @@ impl BitslicedState {
         self.plane_7.row_3 = row[7];
     }
 
-    /// InvSubBytes (FIPS 197, 5.3.2) of bytes to which 0x63 was XORed.
+    /// InvSubBytes (FIPS 197, 5.3.2) on bytes with 0x63 XORed into them.
     #[inline(always)]
     pub fn inv_sub_bytes_batch(&mut self)
         ensures { (y : ℕ → ℕ → ℕ) → RepresentRows y (rows_of self.old)

@@ -43,9 +43,9 @@ pub fn add_round_key_batch(s: [[u8x16; 8]; 4], key: [[u8x16; 8]; 4]) -> [[u8x16;
     ]
 }
 
-/// One of the equal rounds of the equivalent inverse cipher (5.3.5), on bytes with 0x63 XORed to
-/// them, as to those of the round key. InvShiftRows of this round is done before, that of the next
-/// in this call.
+/// One of the equal rounds of the equivalent inverse cipher (5.3.5). The bytes of the state and
+/// those of the round key have 0x63 XORed into them. InvShiftRows of this round is done before the
+/// call, and InvShiftRows of the next round in the call.
 #[inline(always)]
 pub fn inv_round_batch(state: &mut BitslicedState, key: &BitslicedState)
     ensures { (t : ℕ → List ℕ) (w : List ℕ) (n : ℕ) → ((m : ℕ) → IsBytes (t m)) → IsBytes w
@@ -59,7 +59,7 @@ pub fn inv_round_batch(state: &mut BitslicedState, key: &BitslicedState)
     inv_mix_columns_batch(state, key);
 }
 
-/// The last round, without InvMixColumns; its InvShiftRows is done before.
+/// The last round, without InvMixColumns. Its InvShiftRows is done before the call.
 #[inline(always)]
 pub fn last_inv_round_batch(state: &mut BitslicedState, key: &BitslicedState) -> [[u8x16; 8]; 4]
     ensures { (t : ℕ → List ℕ) (w : List ℕ) (n : ℕ) → ((m : ℕ) → IsBytes (t m)) → IsBytes w

@@ -1,4 +1,4 @@
--- An area that takes further bytes: room is made behind those that it holds, and a source fills its front.
+-- An area that loads further bytes: zeros are appended to its bytes, and a source overwrites the first of these zeros.
 use Rattle.std.proofs.Common.{◌≡◌, ℕ, ◌+◌, ◌-◌, ◌≤◌, List, ◌++◌, Option, ◌∙◌, ap, subst, take, drop, length, min, arith}
 use Rattle.std.proofs.Common.{length-append, length-drop, take_all}
 use Rattle.std.proofs.lemmas.List.{take-append-le, take-take, length-replicate}
@@ -9,7 +9,7 @@ use Rattle.luks_area.specs.Area.{ConsumedOnto}
 
 module _ (old whole buf : List ℕ) (held n : ℕ) (is-whole : whole ≡ old ++ replicate n 0) (is-held : held ≡ length old)
     (kept : length buf ≡ length (take (length whole - held) (drop held whole))) where
-  -- the buffer that a source fills is the room that was made
+  -- the buffer that a source fills is as long as the appended zeros
   pub length-room : length buf ≡ n
   length-room =
       kept ∙ ap length (take_all (length whole - held) (drop held whole) (omega (arith, length-drop held whole)))
@@ -17,7 +17,7 @@ module _ (old whole buf : List ℕ) (held n : ℕ) (is-whole : whole ≡ old ++ 
       ∙ ap (λ k. length old + k) (length-replicate n 0) in
       omega (arith, length-drop held whole))
 
-  -- the front of a list whose room was filled: the bytes that were held, and those that were given
+  -- after a source has filled the buffer, the list starts with the bytes loaded before and then those that were read
   pub front_filled : (rest more new : List ℕ) (len count : ℕ) → len ≡ length whole → count ≤ length buf
       → new ≡ take (held + count) (take len (take held whole ++ (buf ++ rest) ++ more)) → new ≡ old ++ take count buf
   front_filled rest more new len count is-len few is =
@@ -34,13 +34,13 @@ module _ (old whole buf : List ℕ) (held n : ℕ) (is-whole : whole ≡ old ++ 
       ∙ take-append-add old (buf ++ rest) count
       ∙ ap (λ l. old ++ l) (take-append-le count buf rest few)
 
--- the bytes that a source gave went behind those that were held
+-- the bytes that a source gave were appended to those loaded before
 pub consumed_behind : (old new known buf : List ℕ) (left : Option (List ℕ)) (count : ℕ) → new ≡ old ++ take count buf
     → ConsumedInto known left buf count
     → ConsumedOnto old new known left count
 consumed_behind old new known buf left count is taken = (taken.0, is ∙ ap (λ l. old ++ l) taken.1)
 
--- all that were asked for, or all that there were
+-- all requested bytes were appended, or all that the source had
 pub consumed_all_behind : (old new known buf : List ℕ) (left : Option (List ℕ)) (count asked most : ℕ)
     → new ≡ old ++ take count buf → ConsumedInto known left buf count
     → count ≡ min asked (length known) → asked ≡ most → ConsumedOnto old new known left (min most (length known))

@@ -1,11 +1,11 @@
--- The start of an image: how an area with it loads further bytes.
+-- The start of an image, and how an area loads further bytes of it.
 use Rattle.std.specs.Prelude.{◌≡◌, ℕ, ◌<◌, ◌≤◌, ◌↔◌, ◌⊎◌, ◌++◌, not, Bool, true, false, List, Option, Result, Ok, Err}
 use Rattle.std.specs.Prelude.{IfErr, IfOk, IsTrue, length, max, min, take}
 use Rattle.luks_io.specs.Devices.{ConsumedExactly}
 use Rattle.luks_area.specs.declared.fault.HeaderFault.{HeaderFault}
 use Rattle.luks_area.specs.declared.fault.HeaderFault.TheVariants.{Read, Memory}
 
--- the most bytes that an area holds: 32 MiB
+-- the largest number of bytes in an area: 32 MiB
 abbrev pub max_area_len : ℕ
 max_area_len = 33554432
 
@@ -14,12 +14,12 @@ pub record HeaderAreaModel : Type 0 where
   pub bytes : List ℕ
   pub ended : Bool
 
--- the first `count` of a source's remaining bytes were consumed, and went behind those that were loaded
+-- the first `count` of a source's remaining bytes were consumed, and appended to those already loaded
 abbrev pub ConsumedOnto : List ℕ → List ℕ → List ℕ → Option (List ℕ) → ℕ → Type 0
 ConsumedOnto held held' known left count = ConsumedExactly known left count × (held' ≡ held ++ take count known)
 
--- consuming up to `most` bytes was aborted: by a failed read before the last of them, or at the start since memory ran
--- out
+-- consuming up to `most` bytes was aborted: by a failed read before the last of them, or at the start because memory
+-- ran out
 abbrev pub AbortsConsuming : ℕ → List ℕ → List ℕ → List ℕ → Option (List ℕ) → HeaderFault → Type 0
 AbortsConsuming most held held' known left Read = (count : ℕ) × (count < most)
     × ConsumedOnto held held' known left count
@@ -31,7 +31,7 @@ abbrev pub ConsumesUpTo : ℕ → List ℕ → List ℕ → List ℕ → Option 
 ConsumesUpTo most held held' known left (Ok whole) = ConsumedOnto held held' known left (min most (length known))
 ConsumesUpTo most held held' known left (Err fault) = AbortsConsuming most held held' known left fault
 
--- bytes were loaded behind those that were there, up to `end` in all, and it is answered whether there are so many
+-- bytes were appended to those already loaded, up to `end` in all, and the answer says whether there are so many
 pub record Loads (end : ℕ) (held held' : List ℕ) (answer : Result Bool HeaderFault) : Type 0 where
   pub whole : IfOk answer (λ whole. IsTrue whole ↔ (end ≤ length held'))
   pub within : length held' ≤ max (length held) end
@@ -43,7 +43,7 @@ abbrev pub is_read : {T : Type 0} → Result T HeaderFault → Bool
 is_read (Err Read) = true
 is_read _ = false
 
--- an image is reported to end before all requested bytes were there
+-- an image is reported to end before all requested bytes
 abbrev pub is_truncated : Result Bool HeaderFault → Bool
 is_truncated (Ok whole) = not whole
 is_truncated (Err _) = false

@@ -32,10 +32,10 @@ impl Model for HeaderArea {
 }
 
 impl HeaderArea {
-    /// How many bytes an area can hold: 32 MiB.
+    /// The largest number of bytes in an area: 32 MiB.
     pub const MAX_LEN: usize = 33_554_432;
 
-    /// An area that holds no bytes yet.
+    /// An area without any bytes yet.
     pub fn new(alloc: Global) -> HeaderArea
         ensures { result ≡ record { bytes = []; ended = false } }
     {
@@ -45,7 +45,7 @@ impl HeaderArea {
         }
     }
 
-    /// The bytes that are held.
+    /// The loaded bytes.
     pub fn as_slice(&self) -> &[u8]
         ensures value { result.now ≡ self.now.bytes }
         ensures within { length self.now.bytes ≤ max_area_len }
@@ -60,14 +60,14 @@ impl HeaderArea {
         self.ended
     }
 
-    /// Loads further bytes of the image from the source until there are `end`, and answers whether
-    /// there are: `Ok(false)` says that the image ended first, and all of it is loaded. If as many
-    /// are loaded already, nothing is read.
+    /// Loads further bytes of the image from the source until there are `end`, and returns whether
+    /// there are: `Ok(false)` means that the image ended first, and all of it is loaded. Nothing is
+    /// read if so many are loaded already.
     ///
     /// # Errors
     ///
-    /// After [`HeaderFault::Read`] the area has what was consumed before a read failed; after
-    /// [`HeaderFault::Memory`] nothing was consumed. There are no other faults.
+    /// After [`HeaderFault::Read`] the area has the bytes that were consumed before the read
+    /// failed; after [`HeaderFault::Memory`] nothing was consumed. There are no other faults.
     pub fn extend_to<S: Source>(&mut self, source: &mut S, end: usize) -> Result<bool, HeaderFault>
         requires { end ≤ max_area_len }
         ensures taken { IfKnown (S.to_come source.old) (λ known.
@@ -92,7 +92,7 @@ impl HeaderArea {
     }
 }
 
-// Gives the bytes capacity for `end` of them in all, and no more.
+// Gives the vector capacity for `end` bytes in all, and no more.
 fn reserve(bytes: &mut Vec<u8>, end: usize) -> Result<(), AllocError>
     requires { vec_len bytes.old ≤ end }
     ensures items { bytes.new.items ≡ bytes.old.items }
@@ -102,7 +102,7 @@ fn reserve(bytes: &mut Vec<u8>, end: usize) -> Result<(), AllocError>
     bytes.reserve_exact(end - bytes.len())
 }
 
-// Puts so many zeros behind the bytes that there are `end` of them.
+// Appends zeros until there are `end` bytes.
 fn make_room(bytes: &mut Vec<u8>, end: usize) -> Result<(), AllocError>
     requires { vec_len bytes.old ≤ end }
     ensures ok { OnOk result (bytes.new.items
@@ -113,7 +113,7 @@ fn make_room(bytes: &mut Vec<u8>, end: usize) -> Result<(), AllocError>
     bytes.resize(end, 0)
 }
 
-// Puts the next bytes of the source behind these, up to `end` in all.
+// Appends the next bytes of the source, up to `end` in all.
 fn extend<S: Source>(bytes: &mut Vec<u8>, source: &mut S, end: usize) -> Result<bool, HeaderFault>
     requires { vec_len bytes.old < end }
     ensures taken { IfKnown (S.to_come source.old) (λ known.

@@ -1,4 +1,4 @@
--- What `clap` says of luksrd's command line.
+-- How `clap` parses the arguments of luksrd.
 use Rattle.std.proofs.Common.{◌≡◌, ◌∙◌, ◌||◌, Err, IfOk, IsErrAnd, List, None, Ok, Option, Result, [], ◌∷◌, ◌++◌}
 use Rattle.std.proofs.Common.{ap, inl, inr, refl, subst, sym, true}
 use Rattle.clap.specs.Words.{App, HasKind, HasMatchesOf, Kinds, Text, fault_of, is_simple, is_simple_and_free, kind_of}
@@ -35,7 +35,7 @@ module _ {A : Type 0} where
   faulty [] found error (inr among) usage = absurd among
   faulty (k ∷ ks) found error kind usage = refl
 
--- where no fault is named, the parse gives the subcommand of the words
+-- if the arguments have no fault, the parse gives their subcommand
 pub subcommand-ok : (app : App) (words : List Text) (m : ArgMatches) → app ≡ luksrd → fault_of app words ≡ []
     → HasMatchesOf app words m → subcommand_in words ≡ subcommand_rows_of m
 unfolding subcommand_in
@@ -44,7 +44,7 @@ subcommand-ok app words m e none has =
     ∙ ap (λ (a : App). subcommand_of a words) (sym e)
     ∙ sym (has (ap is_simple e ∙ luksrd-simple)).1
 
--- and an error that is no want of memory names a fault
+-- if `clap` gives an error other than running out of memory, no subcommand is found in the arguments
 pub subcommand-usage : (app : App) (words : List Text) (error : Error) → app ≡ luksrd
     → HasKind (fault_of app words) error → fault_for (kind_of error) ≡ Usage → subcommand_in words ≡ None
 unfolding subcommand_in
@@ -53,13 +53,13 @@ subcommand-usage app words error e kind usage =
     (subst (λ (a : App). HasKind (fault_of a words) error) e kind) usage
 
 module _ {T : Type 0} where
-  -- the fault that an error became
+  -- the fault that an error was converted to is the one in the result
   pub fault_given : (r : Result T PlanFault) (fault : PlanFault) → IsErrAnd r (λ given. given ≡ fault) → r ≡ Err Usage
       → fault ≡ Usage
   fault_given (Ok x) fault given usage = cc
   fault_given (Err x) fault given usage = cc
 
--- a command more behind those that are read
+-- a command appended to those that are read
 pub read_more : (commands : List Command) (shapes : List Shape) (command : Command) (shape : Shape)
     → AreReadAs commands shapes → IsReadAs command (alone shape)
     → AreReadAs (commands ++ command ∷ []) (shapes ++ shape ∷ [])
@@ -73,7 +73,7 @@ abbrev pub with_subcommands : App → List Shape → App
 with_subcommands app [] = app
 with_subcommands app (shape ∷ shapes) = with_subcommands (with_subcommand app shape) shapes
 
--- subcommands that are added in turn stand behind those before
+-- subcommands that are added one by one are appended to those before
 pub added_shapes : (old new : Command) (commands : List Command) (app : App) (shapes : List Shape) → app_of old ≡ app
     → AddsInTurn AddsSubcommand old commands new → AreReadAs commands shapes
     → app_of new ≡ with_subcommands app shapes

@@ -1,4 +1,4 @@
--- What the arguments ask for.
+-- The request that the arguments make.
 use Rattle.std.specs.Prelude.{◌∷◌, [], ℕ, List, Option, Some, None, bytes_eq, codes}
 use Rattle.std.specs.Prelude.{if◌then◌else◌, option_and_then, option_map}
 use Rattle.clap.specs.Words.{Kinds, Row, Text, fault_of, first_of, subcommand_of}
@@ -22,7 +22,7 @@ o >>= f = option_and_then f o
 unfoldable pub text_in : Text → List Row → Option Text
 text_in name rows = first_of name rows
 
--- the name of the input that belongs to no option
+-- the name of the input, which belongs to no option
 abbrev pub input_in : List Row → Option Text
 input_in rows = text_in (codes "input") rows
 
@@ -120,14 +120,14 @@ unless_faulty (fault ∷ faults) found = None
 unfoldable pub subcommand_in : List Text → Option (Text × List Row)
 subcommand_in words = unless_faulty (fault_of luksrd words) (subcommand_of luksrd words)
 
--- what the arguments after the program's name ask for, if they are a luksrd command
+-- the request of the arguments after the program's name, if they are a luksrd command
 abbrev pub command_of : List Text → Option Request
 command_of words = do
   found ← subcommand_in words
   request ← request_in found
   with_distinct_inputs request
 
--- running out of memory is the one error of `clap` that is no fault of the arguments
+-- every error of `clap` is a fault of the arguments, except running out of memory
 abbrev pub fault_for : ErrorKind → PlanFault
 fault_for OutOfMemory = Memory
 fault_for _ = Usage

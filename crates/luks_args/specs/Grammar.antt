@@ -26,7 +26,7 @@ input = record (new_rule (codes "input")) { required = true }
 abbrev pub command : Text → List Rule → Shape
 command name options = record (new_shape name) { rules = options ++ input ∷ [] }
 
--- `--header FILE`, for a header in a file of its own
+-- `--header FILE`, for a detached header
 abbrev pub header_option : Rule
 header_option = optional (codes "header")
 
@@ -67,8 +67,8 @@ abbrev pub af_merge_shape : Shape
 af_merge_shape = command (codes "afMerge")
     (required (codes "hash") ∷ required (codes "stripes") ∷ required (codes "key-bytes") ∷ [])
 
--- luksrd with no command yet: the arguments are those after the program's name, and an argument that asks for help is
--- one like others
+-- luksrd with no command yet: the arguments are those after the program's name, and `clap` adds no help flag and no
+-- help subcommand
 abbrev pub program : Shape
 program = record (new_shape (codes "luksrd")) {
   no_binary_name = true;
@@ -76,7 +76,7 @@ program = record (new_shape (codes "luksrd")) {
   disable_help_subcommand = true;
 }
 
--- the commands that are not on headers alone
+-- the commands on volumes and on stripes
 abbrev pub other_shapes : List Shape
 other_shapes = test_passphrase_shape ∷ luks_cat_shape ∷ af_split_shape ∷ af_merge_shape ∷ []
 
@@ -92,12 +92,12 @@ luksrd = record { top = record program { is_leaf = false }; subs = luksrd_shapes
 abbrev pub alone : Shape → App
 alone shape = record { top = shape; subs = [] }
 
--- what `clap` reads of the command, of whose arguments none goes on to another command
+-- `clap` reads the command as this one, and no argument of it is global
 pub record IsReadAs (command : Command) (as_read : App) : Type 0 where
   pub app : app_of command ≡ as_read
   pub local : (out-Command command).has_globals ≡ false
 
--- a command being built is read so, if memory did not run out
+-- a command being built is read as this one, if memory did not run out
 abbrev pub BuildsApp : {E : Type 0} → Result Command E → App → Type 0
 BuildsApp making as_read = IfOk making (λ command. IsReadAs command as_read)
 

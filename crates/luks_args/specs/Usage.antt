@@ -1,8 +1,8 @@
--- How luksrd is called.
+-- The usage text.
 use Prim.Native.String.{String}
 use Rattle.std.specs.Prelude.{ℕ, List, [], ◌∷◌, ◌++◌, codes}
 
--- a line that ends
+-- a line with its newline
 abbrev line : String → List ℕ
 line text = codes text ++ 10 ∷ []
 

@@ -10,8 +10,8 @@ ghost use Rattle.luks_args.specs.Grammar.{volume_command};
 use clap::{Arg, Command};
 use std::alloc::{AllocError, Global};
 
-// A command being built, which ran out of memory or did not: each call below adds one thing to it,
-// and returns what ran out of memory as it is.
+// A command being built, or the error if memory ran out: each call below adds one thing to it, or
+// returns the error unchanged.
 type Making<'a> = Result<Command<'a>, AllocError>;
 
 // luksrd with all its commands.
@@ -23,7 +23,7 @@ pub(super) fn grammar<'a>(alloc: Global) -> Making<'a>
     program(alloc).subcommands(commands)
 }
 
-// luksrd with no command yet, and with no argument that asks for help.
+// luksrd with no command yet, without a help flag and a help subcommand.
 fn program<'a>(alloc: Global) -> Command<'a>
     ensures { IsReadAs result (alone program) }
 {
@@ -54,7 +54,7 @@ fn push_commands<'a>(alloc: Global, commands: &mut Vec<Command<'a>>) -> Result<(
     push_other_commands(alloc, commands)
 }
 
-// Adds the commands that are not on headers alone.
+// Adds the commands on volumes and on stripes.
 fn push_other_commands<'a>(alloc: Global, commands: &mut Vec<Command<'a>>) -> Result<(), AllocError>
     ensures { (before : List Shape) → AreReadAs commands.old.items before
         → OnOk result (AreReadAs commands.new.items (before ++ other_shapes)) }
@@ -103,7 +103,7 @@ fn volume_command<'a>(alloc: Global, name: &'a str) -> Making<'a>
     with_image(alloc, command)
 }
 
-// The command with `[--header FILE] IMAGE` behind its options.
+// The command with `[--header FILE] IMAGE` after its options.
 fn with_image<'a>(alloc: Global, command: Making<'a>) -> Making<'a>
     ensures { (as_read : App) → BuildsApp command.entry as_read
         → BuildsApp result (with_rule (with_rule as_read header_option) input) }

@@ -1,4 +1,4 @@
-//! The command line of luksrd: words, and the command that they name.
+//! The arguments of luksrd, and the command that they name.
 #![tactic(auto)]
 
 mod grammar;

@@ -1,4 +1,4 @@
-//! How the words of a command line name a command.
+//! How the arguments name a command.
 
 ghost use Rattle.std.specs.Prelude.{◌≡◌, IfOk, None, Some, map, option_map, option_and_then};
 ghost use Rattle.clap.specs.Words.{found_of, kind_of, rows_of, subcommand_rows_of};
@@ -16,10 +16,10 @@ use luks_request::command::{Command, HeaderArgs, MergeArgs, SplitArgs, VolumeArg
 use std::alloc::{AllocError, Global};
 use std::convert::AsStr;
 
-/// Why words give no command.
+/// Why the arguments give no command.
 #[derive(Clone, Copy, PartialEq, Eq, Debug)]
 pub enum PlanFault {
-    /// The words are no command line of luksrd.
+    /// The arguments are not a luksrd command.
     Usage,
     /// Memory ran out.
     Memory,

@@ -15,7 +15,8 @@ usage: luksrd isLuks [--header FILE] IMAGE
        luksrd afMerge --hash HASH --stripes N --key-bytes N STRIPES
 ";
 
-/// How luksrd is called, one line a command. It is what a command line that is none of these gets.
+/// The usage text: one line for each command. It is printed if the arguments are not a luksrd
+/// command.
 #[tactic(auto, unfolding(crate::specs::Usage::usage_text))]
 pub fn usage() -> &'static str
     ensures value { result.now ≡ usage_text }

@@ -9,7 +9,7 @@ use Rattle.std.proofs.lemmas.Simd.{get_or_wider, get_or_narrower, get_or-chunk, 
 use Rattle.luks_bitslice.specs.Lanes.{low_halves, high_halves}
 use Rattle.luks_bitslice.proofs.LaneLemmas.{each_below_16, first_of, second_of}
 
--- a byte of the number that bytes spell
+-- byte i of the number that a list of bytes represents is byte i of the list
 byte_of : (xs : List ℕ) (i : ℕ) → Each1 (λ x. x < 256) xs → number_l 256 xs / 256 ^ i % 256 ≡ slice_index xs i
 byte_of [] i all = ap (λ n. n % 256) (zero-div (256 ^ i))
 byte_of (x ∷ xs) zero all =

@@ -9,7 +9,7 @@ use Rattle.std.proofs.lemmas.List.{get_or_append_left, get_or-append_right}
 use Rattle.luks_bitslice.specs.BitPlanes.{HasBits, column_order}
 use Rattle.luks_bitslice.specs.Lanes.{low_words, high_words, low_halves, high_halves, by_rows, by_columns}
 
--- what the type of a vector says
+-- the elements of a vector are bytes, by its type
 pub lane_fits : (v : List ℕ) (p : ℕ) → Each1 (Fits w8) v → length v ≡ 16 → p < 16 → slice_index v p < 256
 lane_fits v p all long low = (Each1-get_or (Fits w8) v p 0 (omega arith) all).fits
 
@@ -47,7 +47,7 @@ each_below_16 f g p0 p1 p2 p3 p4 p5 p6 p7 p8 p9 p10 p11 p12 p13 p14 p15
     (suc (suc (suc (suc (suc (suc (suc (suc (suc (suc (suc (suc (suc (suc (suc (suc k)))))))))))))))) low = absurd
     (omega arith)
 
--- a vector shows the bits of its bytes
+-- a vector has the bits of its bytes
 pub shown : (v : List ℕ) (f : ℕ → ℕ) → length v ≡ 16 → ((p : ℕ) → p < 16 → slice_index v p ≡ f p)
     → HasBits (λ p k. bit_at (f p) k) v
 shown v f long same = record { len = long; at = λ p k low small. ap (λ b. bit_at b k) (same p low) }

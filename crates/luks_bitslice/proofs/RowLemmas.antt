@@ -42,7 +42,7 @@ shuffled_plane a ks y t j is long inside place bit = record {
       ∙ is.at (t q) here;
 }
 
--- where each byte of a vector comes from
+-- for each byte of a rotated plane, the index that it comes from
 abbrev pub sources : Columns → List ℕ
 sources One = 2 ∷ 0 ∷ 3 ∷ 1 ∷ 6 ∷ 4 ∷ 7 ∷ 5 ∷ 10 ∷ 8 ∷ 11 ∷ 9 ∷ 14 ∷ 12 ∷ 15 ∷ 13 ∷ []
 sources Two = 3 ∷ 2 ∷ 1 ∷ 0 ∷ 7 ∷ 6 ∷ 5 ∷ 4 ∷ 11 ∷ 10 ∷ 9 ∷ 8 ∷ 15 ∷ 14 ∷ 13 ∷ 12 ∷ []

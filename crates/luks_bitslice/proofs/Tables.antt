@@ -1,4 +1,4 @@
--- What gates do to tables of truth.
+-- The effect of gates on truth tables.
 use Rattle.std.proofs.Common.{◌≡◌, ℕ, ◌+◌, ◌%◌, ◌<◌, List, [], ◌∷◌, min, max, arith, refl, sym, ap, ◌∙◌, suc, zero}
 use Rattle.std.specs.Prelude.{slice_index_or}
 use Rattle.std.specs.Int.{bit_at}
@@ -45,7 +45,7 @@ pub other_carried : {y : ℕ → ℕ} {v w r : List ℕ} {f g : ℕ} → HasTrut
     → HasTruthTable y r (bit_xor (bit_and f g) g)
 other_carried first second is = sum_carried (both_carried first second refl) second is
 
--- ---- the planes of bytes
+-- ---- the bit planes of bytes
 
 plane_0 : (b : ℕ) → b < 256 → bit_at b 0 ≡ bit_at 0xaaaaaaaaaaaaaaaaaaaaaaaaaaaaaaaaaaaaaaaaaaaaaaaaaaaaaaaaaaaaaaaa b
 plane_0 = same_below (λ b. bit_at b 0) (bit_at 0xaaaaaaaaaaaaaaaaaaaaaaaaaaaaaaaaaaaaaaaaaaaaaaaaaaaaaaaaaaaaaaaa) 256
@@ -145,7 +145,7 @@ value_7 : (b : ℕ) → b < 256 → bit_at 0x2ddcef345fc8a434f54168a608a0aebcf4b
 value_7 = same_below (bit_at 0x2ddcef345fc8a434f54168a608a0aebcf4b5fb2162526ac2f0f03da62e89ccee)
     (λ b. bit_at (inv_sbox_in_table (b ⊕ 0x63)) 7) 256 refl
 
--- bit j of a function of bytes by its table of truth
+-- bit plane j of a function of bytes, from the truth table of its bit j
 pub value_plane : (y g : ℕ → ℕ) (v : List ℕ) (j f : ℕ) → ((q : ℕ) → y q < 256) → HasTruthTable y v f
     → ((b : ℕ) → b < 256 → bit_at f b ≡ bit_at (g b) j) → IsBitPlane (λ q. g (y q)) j v
 value_plane y g v j f bytes carried same = record {

@@ -16,7 +16,7 @@ use Rattle.luks_bitslice.specs.Runs.{run_bits, low_mask, high_mask}
 use Rattle.luks_bitslice.specs.declared.transpose.Run.{Run}
 use Rattle.luks_bitslice.specs.declared.transpose.Run.TheVariants.{Bit, Pair, Nibble}
 
--- what was computed at each bit of each byte
+-- an equation holds for each bit of each byte if it is computed at all 2048 of them
 at_bits : (f g : ℕ → ℕ → ℕ) → ((n : ℕ) → n < 2048 → f (n / 8) (n % 8) ≡ g (n / 8) (n % 8)) → (x k : ℕ) → x < 256
     → k < 8 → f x k ≡ g x k
 at_bits f g all x k p q =
@@ -25,12 +25,12 @@ at_bits f g all x k p q =
     let low : n % 8 ≡ k = mod-mul-add x 8 k q in
     rw (high, low) at (all n (omega arith))
 
--- one of two choices is 0
+-- if one of two bits is replaced by 0, their sum modulo 2 is the other one
 chosen : (t : Bool) (u w : ℕ) → u < 2 → w < 2 → (cond t u 0 + cond t 0 w) % 2 ≡ cond t u w
 chosen true u w p q = omega arith
 chosen false u w p q = omega arith
 
--- a sum of two vectors, of which a function of bytes was taken each
+-- a byte of the XOR of two vectors, after a function of bytes on each vector
 at_sum : (f g : ℕ → ℕ) (v w r : List ℕ) (p : ℕ) → length v ≡ 16 → length w ≡ 16 → p < 16 → r
     ≡ zip2 bit_xor (map f v) (map g w)
     → slice_index r p ≡ bit_xor (f (slice_index v p)) (g (slice_index w p))
@@ -45,7 +45,7 @@ sum_len f g v w r long also is =
     ap length is ∙ length-zip2 bit_xor (map f v) (map g w) (length-map v f ∙ long ∙ sym (length-map w g ∙ also))
     ∙ length-map v f ∙ long
 
--- a sum of two vectors by the sums of their bits
+-- the bits of the XOR of two vectors, from the sums of their bits modulo 2
 shows_sum : (lower upper : ℕ → ℕ) (h : ℕ → ℕ → ℕ) (v w r : List ℕ) → length v ≡ 16 → length w ≡ 16
     → r ≡ zip2 bit_xor (map lower v) (map upper w)
     → ((p k : ℕ) → p < 16 → k < 8
@@ -58,7 +58,7 @@ shows_sum lower upper h v w r long also is bits = record {
       ∙ bits p k low small;
 }
 
--- the sum of the runs of n bits that one vector keeps and those that the other's were moved up to
+-- the XOR of one vector, which keeps its lower runs of n bits, and the other, whose lower runs are moved up
 shows_low : (n : ℕ) (lower upper : ℕ → ℕ)
     → ((x k : ℕ) → x < 256 → k < 8 → bit_at (lower x) k ≡ cond (eqb (k / n % 2) 0) (bit_at x k) 0)
     → ((x k : ℕ) → x < 256 → k < 8 → bit_at (upper x) k ≡ cond (eqb (k / n % 2) 0) 0 (bit_at x (k - n)))
@@ -75,7 +75,7 @@ shows_low n lower upper kept risen f g v w r first second v_fits w_fits is =
     ∙ chosen t (bit_at a k) (bit_at b (k - n)) (bit_at-lt a k) (bit_at-lt b (k - n))
     ∙ (λ i. cond t (first.at p k low small i) (second.at p (k - n) low (omega arith) i)))
 
--- the sum of those that one vector's were moved down to and those that the other keeps
+-- the XOR of one vector, whose upper runs of n bits are moved down, and the other, which keeps its upper runs
 shows_high : (n : ℕ) (lower upper : ℕ → ℕ) → ((k : ℕ) → k < 8 → k / n % 2 ≡ 0 → k + n < 8)
     → ((x k : ℕ) → x < 256 → k < 8 → bit_at (lower x) k ≡ cond (eqb (k / n % 2) 0) (bit_at x (k + n)) 0)
     → ((x k : ℕ) → x < 256 → k < 8 → bit_at (upper x) k ≡ cond (eqb (k / n % 2) 0) 0 (bit_at x k))
@@ -95,7 +95,7 @@ shows_high n lower upper room fallen kept f g v w r first second v_fits w_fits i
       | inr odd ↦ rw odd (second.at p k low small)
     ])
 
--- ---- runs: what a mask keeps and a shift moves, computed at each byte and each bit
+-- ---- runs: the bits that a mask keeps and a shift moves, computed at each byte and each bit
 
 keeps : (r : Run) → agree_below (λ n. eqb (bit_at (bit_and (n / 8) (low_mask r)) (n % 8))
     (cond (eqb (n % 8 / run_bits r % 2) 0) (bit_at (n / 8) (n % 8)) 0)) (λ n. true) 2048 ≡ true
@@ -147,7 +147,7 @@ stay r = at_bits (λ x k. bit_at (bit_and x (high_mask r)) k) (λ x k. cond (eqb
     (same_below (λ n. bit_at (bit_and (n / 8) (high_mask r)) (n % 8))
     (λ n. cond (eqb (n % 8 / run_bits r % 2) 0) 0 (bit_at (n / 8) (n % 8))) 2048 (stays r))
 
--- a lower run has as many bits above it
+-- in each byte, there is an upper run of the same length above each lower run
 above : (r : Run) (k : ℕ) → k < 8 → k / run_bits r % 2 ≡ 0 → k + run_bits r < 8
 above Bit k small even = omega arith
 above Pair k small even = omega arith

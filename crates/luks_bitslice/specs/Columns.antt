@@ -3,7 +3,7 @@ use Rattle.std.specs.Prelude.{ℕ}
 use Rattle.luks_bitslice.specs.declared.rows.Columns.{Columns}
 use Rattle.luks_bitslice.specs.declared.rows.Columns.TheVariants.{One, Two, Three}
 
--- the number
+-- the number of columns
 abbrev pub column_count : Columns → ℕ
 column_count One = 1
 column_count Two = 2

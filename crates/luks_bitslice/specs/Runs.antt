@@ -3,7 +3,7 @@ use Rattle.std.specs.Prelude.{ℕ}
 use Rattle.luks_bitslice.specs.declared.transpose.Run.{Run}
 use Rattle.luks_bitslice.specs.declared.transpose.Run.TheVariants.{Bit, Pair, Nibble}
 
--- how many bits a run has
+-- the number of bits in a run
 abbrev pub run_bits : Run → ℕ
 run_bits Bit = 1
 run_bits Pair = 2
@@ -15,7 +15,7 @@ low_mask Bit = 0x55
 low_mask Pair = 0x33
 low_mask Nibble = 0x0f
 
--- the mask of the upper runs, between those
+-- the mask of the upper runs, which are between the lower ones
 abbrev pub high_mask : Run → ℕ
 high_mask Bit = 0xaa
 high_mask Pair = 0xcc

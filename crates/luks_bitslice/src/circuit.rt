@@ -8,8 +8,8 @@ ghost use Rattle.luks_bitslice.specs.BitPlanes.{Represents};
 use crate::gates::{and, andn, or, xor};
 use std::simd::prelude::*;
 
-/// The inverse S-box (FIPS 197, 5.3.2) of bytes to which 0x63 was XORed. Boyar and Peralta's form:
-/// a linear layer, an inversion in the field of 16 elements, a linear layer.
+/// The inverse S-box (FIPS 197, 5.3.2) on bytes with 0x63 XORed into them, in the form of Boyar and
+/// Peralta: a linear layer, an inversion in the field of 16 elements, and a linear layer.
 #[inline(always)]
 pub fn inv_sbox_circuit(x: [u8x16; 8]) -> [u8x16; 8]
     ensures { (y : ℕ → ℕ) → Represents y x → Represents (λ q. inv_sbox (y q ⊕ 0x63)) result }

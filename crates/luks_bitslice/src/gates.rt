@@ -29,7 +29,7 @@ pub fn or(a: u8x16, b: u8x16) -> u8x16
     a | b
 }
 
-/// The bits of `b` that `a` does not have.
+/// The bits of `b` that are not set in `a`.
 #[inline(always)]
 pub fn andn(a: u8x16, b: u8x16) -> u8x16
     ensures { result ≡ zip2 bit_xor (zip2 bit_and a b) b }

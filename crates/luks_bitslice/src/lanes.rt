@@ -90,7 +90,7 @@ pub fn blocks_to_rows(a: u8x16, b: u8x16, c: u8x16, d: u8x16) -> [u8x16; 4]
     ]
 }
 
-/// The four blocks of which these are the rows.
+/// The four blocks that have these rows.
 #[inline(always)]
 pub fn rows_to_blocks(a: u8x16, b: u8x16, c: u8x16, d: u8x16) -> [u8x16; 4]
     ensures { (m i : ℕ) → m < 4 → i < 16

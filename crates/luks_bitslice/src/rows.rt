@@ -34,7 +34,7 @@ pub enum Columns {
     Three,
 }
 
-/// Rotates one bit plane of a row right by so many columns.
+/// Rotates one bit plane of a row right by this number of columns.
 #[inline(always)]
 pub fn plane_rotated(a: u8x16, by: Columns) -> u8x16
     ensures { (y : ℕ → ℕ) (j : ℕ) → IsBitPlane y j a
@@ -47,7 +47,7 @@ pub fn plane_rotated(a: u8x16, by: Columns) -> u8x16
     }
 }
 
-/// Rotates a row right by so many columns, as InvShiftRows does (FIPS 197, 5.3.1).
+/// Rotates a row right by this number of columns, as InvShiftRows does (FIPS 197, 5.3.1).
 #[inline(always)]
 pub fn row_rotated(a: [u8x16; 8], by: Columns) -> [u8x16; 8]
     ensures { (y : ℕ → ℕ) → Represents y a

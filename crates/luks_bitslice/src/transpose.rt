@@ -42,7 +42,7 @@ impl Run {
         }
     }
 
-    /// The mask of the upper runs, between those.
+    /// The mask of the upper runs, which are between the lower ones.
     #[inline(always)]
     fn high_mask(self) -> u8
         ensures { result ≡ high_mask self }
@@ -55,7 +55,7 @@ impl Run {
     }
 }
 
-/// The lower runs of both vectors: those of `a` stay, those of `b` move up between them.
+/// The lower runs of both vectors: those of `a` stay, and those of `b` move up between them.
 #[inline(always)]
 fn swap_low(run: Run, a: u8x16, b: u8x16) -> u8x16
     ensures { (f g : ℕ → ℕ → ℕ) → HasBits f a → HasBits g b
@@ -67,7 +67,7 @@ fn swap_low(run: Run, a: u8x16, b: u8x16) -> u8x16
     )
 }
 
-/// The upper runs of both vectors: those of `a` move down, those of `b` stay between them.
+/// The upper runs of both vectors: those of `a` move down, and those of `b` stay between them.
 #[inline(always)]
 fn swap_high(run: Run, a: u8x16, b: u8x16) -> u8x16
     ensures { (f g : ℕ → ℕ → ℕ) → HasBits f a → HasBits g b

@@ -1,4 +1,4 @@
--- Opening from C: the first bytes of an image decide.
+-- Opening from C, which depends only on the first bytes of an image.
 use Rattle.std.proofs.Common.{◌≡◌, ◌≢◌, ◌∙◌, ℕ, ◌<◌, List, false, arith}
 use Rattle.luks_access.specs.Opens.{Opens, Refuses}
 use Rattle.luks_unlock.specs.declared.unlocked.UnlockedVolume.{UnlockedVolume}
@@ -56,7 +56,7 @@ module _ (c : LuksrdOptions) (header pass : List ℕ) (message : LuksrdMessage) 
     };
   }
 
--- no read of bytes in memory fails
+-- no read of a source over memory fails
 pub no_read : (m : Message) → 0 ≡ counted (is_run_read_failure m) 0 → m ≢ ReadFailed
 no_read ReadFailed count = absurd (omega (arith, count))
 no_read _ count = λ is. cc

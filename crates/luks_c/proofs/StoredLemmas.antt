@@ -1,4 +1,4 @@
--- What is read of a volume that C keeps is what was stored.
+-- What is read from the struct of a volume is what was stored in it.
 use Rattle.std.proofs.Common.{◌≡◌, ◌∙◌, ℕ, ◌+◌, ◌-◌, ◌*◌, ◌/◌, ◌%◌, ◌^◌, ◌≤◌, Bool, true, false, List, length}
 use Rattle.std.proofs.Common.{Option, None, Some, sym, ap, refl, drop, take}
 use Rattle.std.proofs.lemmas.Bool.{false≢true}
@@ -38,7 +38,7 @@ mode_again CbcEssivSha256 = refl
 mode_again CbcPlain64 = refl
 
 module _ (offset : ℕ) (size : Option ℕ) (iv : ℕ) (z : SectorSize) (mode : Mode) (s : Segment) where
-  -- the fields of a segment that was made of these
+  -- the segment has these fields
   pub record IsOf : Type 0 where
     pub offset_is : s.offset ≡ offset
     pub size_is : s.size ≡ size
@@ -79,13 +79,13 @@ module _ (offset : ℕ) (size : Option ℕ) (iv : ℕ) (z : SectorSize) (mode : 
   lost (Some is) none = absurd (none-some _ (sym none))
   lost None none = refl
 
-  -- of such a length a segment is made
+  -- if the length passes the test, a segment is made
   some_made : are_sectors size z ≡ true
       → segment_of_all (Some offset) (Some size) (Some iv) (Some z) (Some mode) ≡ None → ⊥
   some_made are none =
       false≢true (sym (no_evidence (are_sectors size z) (lost (evidence_if (are_sectors size z)) none)) ∙ are)
 
--- the segment of a struct's fields, in this sector size and mode
+-- the segment of a struct's fields, with this sector size and mode
 abbrev made_in : LuksrdVolume → Option SectorSize → Option Mode → Option Segment
 made_in c z mode = segment_of_all (Some c.offset) (Some (size_stored_in c)) (Some c.iv_tweak) z mode
 
@@ -113,7 +113,7 @@ module _ (c : LuksrdVolume) (v : UnlockedVolume) (stored : Stores c v) where
   stored_segment s is =
       made_of c.offset (size_stored_in c) c.iv_tweak v.segment.sector_size v.segment.mode s (sym made_again ∙ is)
 
-  -- a segment can be made of them
+  -- a segment can be made of the stored fields
   pub some_segment : None ≡ segment_in c → ⊥
   some_segment none =
       some_made c.offset (size_stored_in c) c.iv_tweak v.segment.sector_size v.segment.mode
@@ -121,7 +121,7 @@ module _ (c : LuksrdVolume) (v : UnlockedVolume) (stored : Stores c v) where
       ∙ whole_are v.segment.size v.segment.sector_size v.segment.whole_sectors)
       (sym made_again ∙ sym none)
 
-  -- and the code of decrypting is that of the range
+  -- if the mode has keys of this length, the code of decrypting is that of the range
   pub stored_code : (first len : ℕ) → is_mode_key_length v.segment.mode c.key_size ≡ true
       → decrypt_code c first len ≡ range_code v.segment.sector_size first len
   stored_code first len key = by (segment_in c) refl
@@ -136,20 +136,20 @@ module _ (c : LuksrdVolume) (v : UnlockedVolume) (stored : Stores c v) where
           ap (λ b. if b then range_code s.sector_size first len else 16) right
           ∙ ap (λ z. range_code z first len) its.sector_is
 
--- the sectors from number `first` on, by the first data unit number and the length of a sector
+-- the plaintext of the sectors from number `first` on, by the first data unit number and the length of a sector
 abbrev plain_by : ℕ → ℕ → Cipher → ℕ → List ℕ → List ℕ
 plain_by iv z cipher first bytes =
     joined (λ j. unit_plain cipher ((iv + (first + j) * (z / 512)) % 2 ^ 64) (take z (drop (j * z) bytes)))
     (length bytes / z)
 
--- sectors are decrypted alike by the same numbers
+-- two segments with the same first data unit number and sector size decrypt sectors alike
 pub same_plain : (s t : Segment) (cipher : Cipher) (first : ℕ) (bytes : List ℕ) → s.iv_tweak ≡ t.iv_tweak
     → s.sector_size ≡ t.sector_size → plain_in s cipher first bytes ≡ plain_in t cipher first bytes
 same_plain s t cipher first bytes iv size =
     ap (λ n. plain_by n (bytes_of s.sector_size) cipher first bytes) iv
     ∙ ap (λ (z : SectorSize). plain_by t.iv_tweak (bytes_of z) cipher first bytes) size
 
--- ---- what is computed of a volume that C keeps
+-- ---- results for a volume that C keeps
 
 module _ (c : LuksrdVolume) (v : UnlockedVolume) (stored : Stores c v) (z : SectorSize) (size : Option ℕ)
     (sector : Some z ≡ sector_size_in c.sector_size) (fixed : size ≡ size_stored_in c) (image : List ℕ) (image_len : ℕ)
@@ -165,7 +165,7 @@ module _ (c : LuksrdVolume) (v : UnlockedVolume) (stored : Stores c v) (z : Sect
   len_for len is =
       text_is_long v.segment (cipher_of v) image image_len len long (rw (z_is, size_is_its, stored.offset) at is)
 
--- stored sectors became that part of the plain text
+-- stored sectors are decrypted to that part of the plaintext
 pub decrypted_for : (c : LuksrdVolume) (v : UnlockedVolume) (image : List ℕ) → Stores c v → (s : Segment)
     (cipher : Cipher) (first : ℕ) (old new : List ℕ) → Some s ≡ segment_in c → cipher ≡ cipher_in c s.mode
     → length old % bytes_of s.sector_size ≡ 0 → new ≡ plain_in s cipher first old

@@ -1,4 +1,4 @@
--- What the functions for C answer.
+-- The results of the functions for C.
 use Rattle.std.specs.Prelude.{ℕ, ◌≡◌, ◌≢◌, ◌+◌, ◌/◌, ◌%◌, ◌^◌, ◌==◌, Bool, false, if◌then◌else◌, nat_lt}
 use Rattle.std.specs.Prelude.{List, take, Option, None, Some, Result, Ok, Err}
 use Rattle.luks_access.specs.Opens.{Opens, Refuses}
@@ -25,12 +25,13 @@ use Rattle.luks_c.specs.declared.message.LuksrdMessage.{LuksrdMessage}
 use Rattle.luks_c.specs.declared.options.LuksrdOptions.{LuksrdOptions}
 use Rattle.luks_c.specs.declared.volume.LuksrdVolume.{LuksrdVolume}
 
--- the image begins with these bytes as far as a header area can reach: with the same 33,554,432 bytes, or, if there
--- are fewer, with these and no others
+-- the image starts with these bytes, as far as a header area can reach: both have the same first 33,554,432 bytes, or
+-- are the same if there are fewer
 abbrev pub BeginsAs : List ℕ → List ℕ → Type 0
 BeginsAs image header = take max_area_len image ≡ take max_area_len header
 
--- a volume was opened: the struct holds it, and it is the one that `luksCat` opens of each image that begins so
+-- a volume was opened: the struct holds it, and `luksCat` opens the same one for each image that starts with these
+-- bytes
 pub record Opened (c : LuksrdOptions) (header pass : List ℕ) (volume : LuksrdVolume) (message : LuksrdMessage) : Type 0
   where
     pub options : Options
@@ -40,8 +41,8 @@ pub record Opened (c : LuksrdOptions) (header pass : List ℕ) (volume : LuksrdV
     pub opens : (image : List ℕ) → BeginsAs image header → Opens options image pass opened
     pub says : StoresMessage message Done
 
--- a volume was refused: the message is the one with which `luksCat` ends of each image that begins so, or memory ran
--- out
+-- a volume was refused: the message is the one that `luksCat` ends with for each image that starts with these bytes, or
+-- memory ran out
 pub record Refused (c : LuksrdOptions) (header pass : List ℕ) (code : ℕ) (message : LuksrdMessage) : Type 0 where
   pub options : Options
   pub are : AreOptions c options
@@ -61,27 +62,27 @@ fault_bytes (Short bytes) = bytes
 fault_bytes Read = 0
 fault_bytes Write = 0
 
--- the answer is this ending: its code, its number of bytes and its message
+-- the result is this ending: its code, its number of bytes and its message
 abbrev pub EndsAs : Result Step VolumeFault → ℕ → ℕ → LuksrdMessage → Type 0
 EndsAs (Ok _) code bytes message = (code ≡ 0) × (bytes ≡ 0) × StoresMessage message Done
 EndsAs (Err fault) code bytes message =
     (code ≡ code_for (message_for_payload fault)) × (bytes ≡ fault_bytes fault)
     × StoresMessage message (message_for_payload fault)
 
--- so many bytes are whole sectors of this size, and the number after that of the last is below 2^64
+-- `len` bytes are whole sectors of this size, and the number after that of the last one is below 2^64
 abbrev pub is_range : SectorSize → ℕ → ℕ → Bool
 is_range size first len = if len % bytes_of size == 0 then nat_lt (first + len / bytes_of size) (2 ^ 64) else false
 
--- the code of so many bytes from sector `first` on, in sectors of this size
+-- the code of decrypting `len` bytes from sector `first` on, in sectors of this size
 abbrev pub range_code : SectorSize → ℕ → ℕ → ℕ
 range_code size first len = if is_range size first len then 0 else 17
 
--- the same in this segment, under a key of this length, if there is one and the key has a length of its mode
+-- the same for this segment, if there is one, and its mode has keys of this length
 abbrev pub segment_code : Option Segment → ℕ → ℕ → ℕ → ℕ
 segment_code None key_size first len = 16
 segment_code (Some s) key_size first len =
     if is_mode_key_length s.mode key_size then range_code s.sector_size first len else 16
 
--- the code with which decrypting so many bytes from sector `first` on ends, whatever the struct holds
+-- the code of decrypting `len` bytes from sector `first` on, whatever the struct holds
 abbrev pub decrypt_code : LuksrdVolume → ℕ → ℕ → ℕ
 decrypt_code c first len = segment_code (segment_in c) c.key_size first len

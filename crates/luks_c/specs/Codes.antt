@@ -1,4 +1,4 @@
--- The numbers of `enum luksrd_code`: which of them a message has, and the exit status and the sentence of each.
+-- The numbers of `enum luksrd_code`: the number of each message, and the exit status and the sentence of each number.
 use Rattle.std.specs.Prelude.{ℕ, ◌==◌, if◌then◌else◌, List, [], codes}
 use Rattle.luks_report.specs.declared.message.Message.{Message}
 use Rattle.luks_report.specs.declared.message.Message.TheVariants.{Done, NotLuks, Cut, Json, SegmentRefused, NoSuchSlot}

@@ -1,4 +1,4 @@
--- What is stored of a message for C.
+-- A message as C keeps it.
 use Rattle.std.specs.Prelude.{ℕ, ◌≡◌, ◌-◌, List, drop, length, min, replicate, take}
 use Rattle.luks_report.specs.Texts.{line_of, status_of}
 use Rattle.luks_report.specs.declared.message.Message.{Message}

@@ -10,15 +10,15 @@ use Rattle.luks_c.specs.declared.options.LuksrdOptions.{LuksrdOptions}
 abbrev pub IsNamed : LuksrdOptions → Option SlotNumber → Type 0
 IsNamed c slot = option_map (λ number. number.number) slot ≡ (if c.has_key_slot == 0 then None else Some c.key_slot)
 
--- a key slot is named, by a number that no key slot has
+-- the options name a key slot by a number above 31
 abbrev pub names_no_slot : LuksrdOptions → Bool
 names_no_slot c = if c.has_key_slot == 0 then false else nat_lt 31 c.key_slot
 
--- where the header is
+-- the location of the header
 abbrev pub location_for : LuksrdOptions → HeaderLocation
 location_for c = if c.detached == 0 then Attached else Detached
 
--- these are the options: the limit 0 is none
+-- the struct has these options; the limit 0 means no limit
 pub record AreOptions (c : LuksrdOptions) (options : Options) : Type 0 where
   pub location : options.location ≡ location_for c
   pub key_slot : IsNamed c options.key_slot

@@ -1,4 +1,4 @@
--- A volume as C keeps it, field by field, and what is read of it again.
+-- A volume as C keeps it, field by field, and how it is read back.
 use Rattle.std.specs.Prelude.{ℕ, ◌≡◌, ◌-◌, ◌==◌, if◌then◌else◌, drop, length, replicate, take, Option, None, Some}
 use Rattle.luks_unlock.specs.declared.unlocked.UnlockedVolume.{UnlockedVolume}
 use Rattle.luks_cipher.specs.Sector.{Cipher}
@@ -38,7 +38,7 @@ pub record Stores (c : LuksrdVolume) (v : UnlockedVolume) : Type 0 where
   pub key_slot : c.key_slot ≡ v.slot
   pub key : take c.key_size c.key ≡ v.key
 
--- the same, and zeros in what no field of the volume needs
+-- the same, with zeros in all bytes that the volume does not need
 pub record Filled (c : LuksrdVolume) (v : UnlockedVolume) : Type 0 where
   pub stores : Stores c v
   pub key_size : c.key_size ≡ length v.key
@@ -58,7 +58,7 @@ pub record IsCleared (c : LuksrdVolume) : Type 0 where
   pub reserved : c.reserved ≡ 0
   pub key : c.key ≡ replicate 64 0
 
--- ---- read again
+-- ---- reading it back
 
 abbrev pub sector_size_in : ℕ → Option SectorSize
 sector_size_in n =
@@ -73,7 +73,7 @@ mode_in n =
 abbrev pub size_stored_in : LuksrdVolume → Option ℕ
 size_stored_in c = if c.has_size == 1 then Some c.size else None
 
--- where the payload lies
+-- the segment of the payload
 abbrev pub segment_in : LuksrdVolume → Option Segment
 segment_in c = segment_from record {
   offset = Some c.offset;

@@ -1,4 +1,4 @@
-//! What a function answers: the numbers of `enum luksrd_code`.
+//! The results of the functions: the numbers of `enum luksrd_code`.
 
 ghost use Rattle.std.specs.Prelude.{◌≡◌};
 ghost use Rattle.luks_c.specs.Codes.{code_for, sentence_for};

@@ -1,7 +1,7 @@
 //! Any part of a volume's plaintext, for C: what `c/luksrd.h` declares.
 //!
-//! The structs are plain numbers that C keeps. A contract here speaks of the bytes behind the
-//! pointers that C passes; that these are as the header asks is C's to keep.
+//! The structs are plain numbers that C keeps. A contract here is about the bytes behind the
+//! pointers that C passes; the C caller must pass pointers as the header requires.
 #![tactic(auto)]
 
 ghost use Rattle.std.specs.Prelude.{◌≡◌, ◌≢◌, ◌+◌, ◌*◌, ◌/◌, ◌%◌, ◌^◌, ◌<◌, List, ℕ, None};
@@ -87,8 +87,8 @@ fn answer_code(code: u32, message: &mut LuksrdMessage) -> u32
     code
 }
 
-/// The length in bytes of the volume's plaintext, if its payload's image has this length. A struct
-/// without a sector size has none.
+/// The length in bytes of the volume's plaintext, if its payload's image has this length. It is 0
+/// for a struct without a sector size.
 #[unsafe(no_mangle)]
 pub extern "C" fn luksrd_len(volume: &LuksrdVolume, image_len: u64) -> u64
     ensures value { (v : UnlockedVolume) (image : List ℕ) → Stores volume.now v
@@ -147,7 +147,7 @@ fn bytes_of(fault: VolumeFault) -> u64
     }
 }
 
-/// Whether so many bytes are whole sectors of this size, with numbers below 2^64 from this one on.
+/// Whether `len` bytes are whole sectors of this size, with numbers below 2^64 from `first` on.
 fn is_range(sector_size: SectorSize, first: u64, len: usize) -> bool
     ensures value { result ≡ is_range sector_size first len }
     ensures whole { result ≡ true → len % bytes_of sector_size ≡ 0 }
@@ -157,8 +157,8 @@ fn is_range(sector_size: SectorSize, first: u64, len: usize) -> bool
     len % size == 0 && (len / size) as u64 <= u64::MAX - first
 }
 
-/// Decrypts whole sectors in place, the first of which has this number. After any other code than 0
-/// the bytes are as they were.
+/// Decrypts whole sectors in place, the first of which has this number. If the code is not 0, the
+/// bytes are as they were.
 #[unsafe(no_mangle)]
 pub extern "C" fn luksrd_decrypt(volume: &LuksrdVolume, first_sector: u64, bytes: &mut [u8]) -> u32
     ensures plain { result ≡ 0 → (v : UnlockedVolume) (image : List ℕ) → Stores volume.now v

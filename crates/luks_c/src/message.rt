@@ -13,13 +13,13 @@ const ROOM: usize = 1016;
 pub struct LuksrdMessage {
     /// The exit status.
     pub status: u32,
-    /// How many bytes the text has.
+    /// The length of the text in bytes.
     pub len: u32,
     /// The text, and zeros after it.
     pub text: [u8; 1016],
 }
 
-// Writes as much of a text as fits, and zeros after it. Returns the length of what it wrote of it.
+// Writes as much of a text as fits, and zeros after it. Returns how many bytes of it were written.
 fn write_text(room: &mut [u8], text: &[u8]) -> u32
     requires { length room.old ≡ ROOM }
     ensures count { result ≡ min ROOM (length text.now) }

@@ -17,7 +17,7 @@ const ROOM: usize = 64;
 /// A volume that is open. All of it is plain numbers.
 #[repr(C)]
 pub struct LuksrdVolume {
-    /// The first byte of the payload in its image.
+    /// The offset of the payload in its image, in bytes.
     pub offset: u64,
     /// The payload's length in bytes, if it is fixed, and else 0.
     pub size: u64,
@@ -33,7 +33,7 @@ pub struct LuksrdVolume {
     pub key_size: u32,
     /// The number of the key slot that opened.
     pub key_slot: u32,
-    /// 0.
+    /// Always 0.
     pub reserved: u32,
     /// The volume key, and zeros after it.
     pub key: [u8; 64],
@@ -51,7 +51,7 @@ fn number_of_mode(mode: Mode) -> u32
     }
 }
 
-/// The mode of a number.
+/// The mode with this number.
 fn mode_of_number(number: u32) -> Option<Mode>
     ensures { result ≡ mode_in number }
 {
@@ -146,7 +146,7 @@ impl LuksrdVolume {
         self.reserved = 0;
     }
 
-    /// Fills it with zeros.
+    /// Fills the struct with zeros.
     pub(crate) fn clear(&mut self)
         ensures { IsCleared self.new }
     {

@@ -1,4 +1,4 @@
--- What is wrong with a header: a finding a line, in a fixed order.
+-- The findings in a header, one a line, in a fixed order.
 use Rattle.std.specs.Prelude.{ℕ, ◌∷◌, ◌++◌, [], Bool, false, true, List, None, Result, Ok, Err, codes, flat_map}
 use Rattle.std.specs.Prelude.{if◌then◌else◌, max, min, nat_lt}
 use Rattle.std.specs.Fmt.{decimal}
@@ -21,26 +21,26 @@ use Rattle.luks_verdict.specs.declared.slot.Verdict.TheVariants.{Usable, Disable
 use Rattle.luks_check.specs.Findings2.{header_finding}
 use Rattle.luks_dump.specs.DumpLine.{field}
 
--- the findings about the two headers of LUKS2 together. LUKS1 has one header
+-- the finding about the two headers of LUKS2, compared with each other. LUKS1 has one header
 abbrev pub place_finding : Header → List ℕ
 place_finding (V1 header) = []
 place_finding (V2 header tree) = header_finding header.finding
 
--- what is found in the names of key slots: one is out of range
+-- the finding about the names of key slots: one is out of range
 abbrev pub name_finding : Header → List ℕ
 name_finding header =
     if has_name_out_of_range header then field (codes "keyslots") (codes "name out of range") else []
 
--- what is found in the header itself
+-- the findings in the header itself
 unfoldable pub header_findings : Header → List ℕ
 header_findings header = place_finding header ++ name_finding header
 
--- what is found in the segment: its fault
+-- the finding about the segment: its fault
 abbrev pub segment_finding : Result Segment SegmentFault → List ℕ
 segment_finding (Ok segment) = []
 segment_finding (Err fault) = field (codes "segment") (fault_text fault)
 
--- a skipped key slot is a finding. One whose key is derived by Argon2 is in order: it is only not opened here
+-- whether a skipped key slot is a finding. A slot that uses Argon2 is not: it is in order, but luksrd cannot open it
 abbrev pub is_finding : SkipReason → Bool
 is_finding State = true
 is_finding Kind = true
@@ -56,7 +56,7 @@ is_finding Iterations = true
 is_finding Area = true
 is_finding Digest = true
 
--- what is found in the key slot of a number
+-- the finding about the skipped key slot with this number
 abbrev pub skip_finding : ℕ → SkipReason → List ℕ
 skip_finding number reason =
     if is_finding reason then field (codes "slot " ++ decimal number) (reason_text reason) else []
@@ -66,7 +66,7 @@ slot_finding (number, Usable slot) = []
 slot_finding (number, Disabled) = []
 slot_finding (number, Skipped reason) = skip_finding number reason
 
--- what is found in key slots
+-- the findings about these key slots
 abbrev pub slot_findings : List (ℕ × Verdict) → List ℕ
 slot_findings verdicts = flat_map slot_finding verdicts
 
@@ -74,23 +74,23 @@ slot_findings verdicts = flat_map slot_finding verdicts
 unfoldable pub do_overlap : Slot → Slot → Bool
 do_overlap a b = nat_lt (max a.parts.area_offset b.parts.area_offset) (min (material_end a) (material_end b))
 
--- what is found in two key slots
+-- the finding about two key slots: both can be tried, and their areas overlap
 abbrev pub overlap : ℕ × Verdict → ℕ × Verdict → List ℕ
 overlap (i, Usable a) (j, Usable b) =
     if do_overlap a b then field (codes "slots " ++ decimal i ++ codes " and " ++ decimal j) (codes "areas overlap")
     else []
 overlap _ _ = []
 
--- what is found in a key slot beside each of others
+-- the findings about a key slot and each of the others
 abbrev pub overlaps_with : ℕ × Verdict → List (ℕ × Verdict) → List ℕ
 overlaps_with first rest = flat_map (overlap first) rest
 
--- what is found in each two of these key slots, by the first and then by the second
+-- the findings about each two of these key slots, ordered by the first slot and then by the second
 unfoldable pub overlaps : List (ℕ × Verdict) → List ℕ
 overlaps [] = []
 overlaps (first ∷ rest) = overlaps_with first rest ++ overlaps rest
 
--- what is found in a header. Iterations have no limit here
+-- all findings in a header. The number of iterations has no limit here
 unfoldable pub findings_of : Header → List ℕ
 findings_of header = header_findings header ++ segment_finding (segment_of header)
     ++ slot_findings (verdicts_of header None)

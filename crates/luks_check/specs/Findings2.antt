@@ -1,10 +1,10 @@
--- What is wrong with the two headers of LUKS2.
+-- The finding about the two headers of LUKS2.
 use Rattle.std.specs.Prelude.{ℕ, [], List, Option, Some, None, codes}
 use Rattle.luks2_binary.specs.declared.header.Finding.{Finding}
 use Rattle.luks2_binary.specs.declared.header.Finding.TheVariants.{PrimaryNotValid, SecondaryNotValid, SequencesDiffer}
 use Rattle.luks_dump.specs.DumpLine.{field}
 
--- what is found in the two headers beside one another
+-- the line of the finding about the two headers
 abbrev pub header_finding : Option Finding → List ℕ
 header_finding None = []
 header_finding (Some PrimaryNotValid) = field (codes "primary header") (codes "not valid")

@@ -1,4 +1,4 @@
-//! What is wrong with a header.
+//! The findings in a header.
 
 ghost use Rattle.std.specs.Prelude.{◌≡◌, ◌++◌, IfOk, OnOk, string_bytes};
 ghost use Rattle.luks_header.specs.HeaderSegment.{segment_of};
@@ -16,7 +16,7 @@ use std::alloc::{AllocError, Global};
 
 pub(crate) mod luks2;
 
-/// The findings, each on a line of its own. No iterations are too many here.
+/// The findings, each on a line of its own. The number of iterations has no limit here.
 #[tactic(auto, unfolding(crate::specs::Findings::findings_of))]
 pub fn findings(alloc: Global, header: &Header) -> Result<String, AllocError>
     ensures { IfOk result (λ lines. string_bytes lines ≡ findings_of header.now) }
@@ -30,7 +30,7 @@ pub fn findings(alloc: Global, header: &Header) -> Result<String, AllocError>
     Ok(lines)
 }
 
-// Adds what is found in the header itself.
+// Adds the findings in the header itself.
 #[tactic(auto, unfolding(crate::specs::Findings::header_findings))]
 fn push_header(lines: &mut String, header: &Header) -> Result<(), AllocError>
     ensures { OnOk result
@@ -40,7 +40,7 @@ fn push_header(lines: &mut String, header: &Header) -> Result<(), AllocError>
     push_names(lines, header)
 }
 
-// Adds what is found in the two headers of LUKS2 beside one another.
+// Adds the finding about the two headers of LUKS2.
 fn push_place(lines: &mut String, header: &Header) -> Result<(), AllocError>
     ensures { OnOk result
         (string_bytes lines.new ≡ string_bytes lines.old ++ place_finding header.now) }
@@ -51,7 +51,7 @@ fn push_place(lines: &mut String, header: &Header) -> Result<(), AllocError>
     }
 }
 
-// Adds what is found in the names of key slots.
+// Adds the finding about the names of key slots.
 fn push_names(lines: &mut String, header: &Header) -> Result<(), AllocError>
     ensures { OnOk result
         (string_bytes lines.new ≡ string_bytes lines.old ++ name_finding header.now) }
@@ -63,7 +63,7 @@ fn push_names(lines: &mut String, header: &Header) -> Result<(), AllocError>
     }
 }
 
-// Adds what is found in the segment.
+// Adds the finding about the segment.
 fn push_segment(lines: &mut String, header: &Header) -> Result<(), AllocError>
     ensures { OnOk result (string_bytes lines.new
         ≡ string_bytes lines.old ++ segment_finding (segment_of header.now)) }
@@ -74,7 +74,7 @@ fn push_segment(lines: &mut String, header: &Header) -> Result<(), AllocError>
     }
 }
 
-// Adds what is found in key slots.
+// Adds the findings about key slots.
 fn push_slots(
     alloc: Global,
     lines: &mut String,
@@ -89,7 +89,7 @@ fn push_slots(
     Ok(())
 }
 
-// Adds what is found in a key slot.
+// Adds the finding about a key slot.
 fn push_slot(alloc: Global, lines: &mut String, verdict: &(u8, Verdict)) -> Result<(), AllocError>
     ensures { OnOk result
         (string_bytes lines.new ≡ string_bytes lines.old ++ slot_finding verdict.now) }
@@ -100,7 +100,7 @@ fn push_slot(alloc: Global, lines: &mut String, verdict: &(u8, Verdict)) -> Resu
     }
 }
 
-// Adds what is found in a key slot that is skipped.
+// Adds the finding about a key slot that is skipped.
 fn push_skip(
     alloc: Global,
     lines: &mut String,
@@ -117,14 +117,14 @@ fn push_skip(
     push_field(lines, name.as_str(), reason.text())
 }
 
-// A key slot that is skipped for this reason is a finding.
+// Whether a key slot that is skipped for this reason is a finding.
 fn is_finding(reason: SkipReason) -> bool
     ensures { result ≡ is_finding reason }
 {
     !matches!(reason, SkipReason::Argon2i | SkipReason::Argon2id)
 }
 
-// Adds what is found in each two of these key slots.
+// Adds the findings about each two of these key slots.
 #[tactic(auto, unfolding(crate::specs::Findings::overlaps))]
 fn push_overlaps(
     alloc: Global,
@@ -140,7 +140,7 @@ fn push_overlaps(
     Ok(())
 }
 
-// Adds what is found in a key slot beside each of others.
+// Adds the findings about a key slot and each of the others.
 fn push_overlaps_with(
     alloc: Global,
     lines: &mut String,
@@ -156,7 +156,7 @@ fn push_overlaps_with(
     Ok(())
 }
 
-// Adds what is found in two key slots.
+// Adds the finding about two key slots.
 fn push_overlap(
     alloc: Global,
     lines: &mut String,
@@ -175,7 +175,7 @@ fn push_overlap(
     }
 }
 
-// The areas of two key slots share a byte. Areas that only touch do not.
+// Whether the areas of two key slots share a byte. Areas that only touch do not.
 #[tactic(auto, unfolding(crate::specs::Findings::do_overlap))]
 fn do_overlap(a: &Slot, b: &Slot) -> bool
     ensures { result ≡ do_overlap a.now b.now }

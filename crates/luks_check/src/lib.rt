@@ -1,4 +1,4 @@
-//! What is wrong with a header: the findings that `luksCheck` prints.
+//! The findings in a header, which `luksCheck` prints.
 #![tactic(auto)]
 
 pub mod check;

@@ -1,4 +1,4 @@
--- Slices of a unit, of 32 blocks each.
+-- Batches of 32 blocks of a unit.
 use Rattle.std.proofs.Common.{◌≡◌, ℕ, zero, suc, ◌+◌, ◌-◌, ◌*◌, ◌<◌, ◌≤◌, List, ◌++◌, length, take, drop}
 use Rattle.std.proofs.Common.{append_assoc, arith, refl, sym, ap, subst, ◌∙◌}
 use Rattle.std.specs.Int.Bits.{bit_xor}
@@ -17,7 +17,7 @@ use Rattle.luks_cipher.specs.Cbc.{block_before}
 use Rattle.luks_cipher.proofs.TweakLemmas.{IsDoneBefore}
 use Rattle.luks_cipher.proofs.UnitsUndone.{joined_at, joined_same}
 
--- ---- sums of blocks
+-- ---- XORs of blocks
 
 pub piece_sum : (piece vector : List ℕ) → length piece ≡ 16 → length vector ≡ 16
     → put_chunk 0 piece (zip2 bit_xor (take 16 piece) vector) ≡ block_xor piece vector
@@ -36,7 +36,7 @@ pub sum_len : (a b : List ℕ) → length (block_xor a b) ≡ 16
 unfolding block_xor
 sum_len a b = refl
 
--- ---- blocks joined
+-- ---- joined blocks
 
 joined_more : (f : ℕ → List ℕ) (a b : ℕ) → joined f (a + b) ≡ joined f a ++ joined (λ n. f (a + n)) b
 unfolding joined
@@ -48,7 +48,7 @@ joined_more f a (suc b) =
     rw next (ap (λ x. x ++ f (a + b)) (joined_more f a b) ∙ append_assoc (joined f a) (joined (λ n. f (a + n)) b)
     (f (a + b)))
 
--- a unit of which n more blocks are done together
+-- a unit with n more blocks done at once
 done_many : (f : ℕ → List ℕ) (old new piece : List ℕ) (at k j n : ℕ) → at ≡ 16 * j → k ≡ 16 * n
     → IsDoneBefore f old new j → 16 * j + 16 * n ≤ length new → length piece ≡ 16 * n
     → piece ≡ joined (λ m. f (j + m)) n → IsDoneBefore f old (put_mid at k new piece) (j + n)
@@ -64,12 +64,12 @@ done_many f old new piece at k j n place size before room long is =
       left = drop-put_mid at k new piece next (omega arith) (omega arith) (omega arith) ∙ rest;
     }
 
--- the same count of blocks
+-- the same relation with an equal count of blocks
 pub done_moved : (f : ℕ → List ℕ) (old new : List ℕ) (j k : ℕ) → j ≡ k → IsDoneBefore f old new j
     → IsDoneBefore f old new k
 done_moved f old new j k same is = subst (λ (n : ℕ). IsDoneBefore f old new n) same is
 
--- a unit of which batch i is done too
+-- a unit with batch i done too
 pub batch_done : (f : ℕ → List ℕ) (old new piece : List ℕ) (i : ℕ) → IsDoneBefore f old new (32 * i)
     → 512 * i + 512 ≤ length new → length piece ≡ 512 → piece ≡ joined (λ m. f (32 * i + m)) 32
     → IsDoneBefore f old (put_mid (512 * i) (512 * i + 512 - 512 * i) new piece) (32 * (i + 1))
@@ -78,7 +78,7 @@ batch_done f old new piece i before room long is =
     (done_many f old new piece (512 * i) (512 * i + 512 - 512 * i) (32 * i) 32 (omega arith) (omega arith) before
     (omega arith) (omega arith) is)
 
--- block m of batch i, which the code takes
+-- block m of batch i, as the code reads it
 pub batch_block : (old new : List ℕ) (i : ℕ) → drop (16 * (32 * i)) new ≡ drop (16 * (32 * i)) old
     → (m : ℕ) → m < 32 → block_at (take (512 * i + 512 - 512 * i) (drop (512 * i) new)) m ≡ block_at old (32 * i + m)
 batch_block old new i left m low =
@@ -123,7 +123,7 @@ unfolding tweak_after
 tweak_len tweak zero long = long
 tweak_len tweak (suc n) long = doubled_len (tweak_after tweak n)
 
--- the sums with tweaks that are kept
+-- if the kept blocks are the tweaks, the blocks XORed with them are the batch with its tweaks
 pub tweaks_added : (tweak kept old new : List ℕ) → ((n : ℕ) → n < 32 → block_at kept n ≡ tweak_after tweak n)
     → new ≡ joined (λ n. block_xor (block_at old n) (block_at kept n)) 32 → new ≡ with_tweaks tweak old
 tweaks_added tweak kept old new same is =
@@ -150,7 +150,7 @@ xts_batch key tweak old s t new masked back unmasked =
     (ap (λ x. block_at x n) masked ∙ joined_at mask 32 n (λ j below. sum_len (block_at old j) (tweak_after tweak j))
     low)))
 
--- a batch of a unit whose blocks from block j on it has
+-- a decrypted batch that has the blocks of a unit from block j on
 pub xts_unit_batch : (key : List ℕ) (number j : ℕ) (tweak old batch new : List ℕ) → tweak ≡ tweak_of key number j
     → ((m : ℕ) → m < 32 → block_at batch m ≡ block_at old (j + m))
     → new ≡ joined (λ n. block_decrypted key (tweak_after tweak n) (block_at batch n)) 32

@@ -26,7 +26,7 @@ chained_len : (key vector unit : List ℕ) (n j : ℕ) → IsBytes key → IsSta
 chained_len key vector unit n j keys first size all low =
     (chained_state key vector unit n (suc j) keys first size all (omega arith)).len
 
--- before block j of the encrypted unit stands what it was chained with
+-- the block before block j of the encrypted unit is the one that it was chained with
 before_encrypted : (key vector unit : List ℕ) (n j : ℕ) → IsBytes key → IsState vector → length unit ≡ 16 * n
     → IsBytes unit → j < n
     → block_before vector (joined (λ j. chained key vector unit (suc j)) n) j ≡ chained key vector unit j
@@ -71,7 +71,7 @@ decrypted_len : (a b : List ℕ) → length (block_xor a b) ≡ 16
 unfolding block_xor
 decrypted_len a b = refl
 
--- what block j of the decrypted unit is chained with stands before it in the encrypted one
+-- block j of the decrypted unit is chained with the block before block j of the encrypted unit
 chained_decrypted : (key vector unit : List ℕ) (n j : ℕ) → IsBytes key → IsState vector → length unit ≡ 16 * n
     → IsBytes unit → j ≤ n
     → chained key vector (joined (λ j. block_xor (decrypted key (block_at unit j)) (block_before vector unit j)) n) j
@@ -112,7 +112,7 @@ cbc_encrypted-cbc_decrypted key vector unit keys first all whole =
     (λ j low. block_after key vector unit n j keys first size all low)
     ∙ joined_blocks unit n ∙ take_all (16 * n) unit (omega arith))
 
--- the same chain from an equal vector
+-- the same chain from an equal IV
 pub to_vector : (f : List ℕ → List ℕ → List ℕ → List ℕ) (key v w unit new : List ℕ) → v ≡ w → new ≡ f key v unit
     → new ≡ f key w unit
 to_vector f key v w unit new same is = is ∙ ap (λ x. f key x unit) same

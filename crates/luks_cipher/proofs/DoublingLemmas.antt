@@ -1,4 +1,4 @@
--- A tweak doubled by its halves.
+-- Doubling a tweak by its halves.
 use Rattle.std.proofs.Common.{◌≡◌, ℕ, ◌+◌, ◌-◌, ◌*◌, ◌/◌, ◌%◌, ◌^◌, ◌<◌, ◌≤◌, inl, inr, true, false, ltb, List, []}
 use Rattle.std.proofs.Common.{◌∷◌, length, arith, refl, sym, ap, ◌∙◌}
 use Rattle.std.specs.Int.{w128, to_le_bytes, from_le_bytes}
@@ -10,7 +10,7 @@ use Rattle.std.proofs.lemmas.Bool.{lt-ltb, le-ltb, cases_lt}
 use Rattle.luks_aes.proofs.Undone.{whole_state}
 use Rattle.luks_cipher.specs.Xts.{doubled_number, doubled}
 
--- ---- a number's bytes, as lanes and as a number has them
+-- ---- the bytes of a number, as lanes and as a number
 
 deeper : (a n p : ℕ) → a ≡ n / p → a / 256 ≡ n / (p * 256)
 deeper a n p is = ap (λ m. m / 256) is ∙ div-div-eq-div-mul n p 256
@@ -55,9 +55,9 @@ lanes_fit (b ∷ bs) all =
     let rest = lanes_fit bs all.1 in
     rw (pow-succ' 256 (length bs)) (omega (arith, all.0, rest))
 
--- ---- the halves of a number, doubled
+-- ---- the doubled halves of a number
 
--- what the bit that leaves the low half does in the high one
+-- the bit that leaves the low half becomes the lowest bit of the doubled high half
 carried_up : (low high : ℕ) → low < 2 ^ 64 → bit_xor (high * 2 % 2 ^ 64) (low / 2 ^ 63 * 1 % 2 ^ 64)
     ≡ high % 2 ^ 63 * 2 + low / 2 ^ 63
 carried_up low high fits =
@@ -114,7 +114,7 @@ doubled_halves low high fits also =
       | inr above ↦ halves_above low high fits above also
     ]
 
--- the tweak whose bytes these are
+-- the bytes that the code computes from both halves are those of the doubled tweak
 pub doubled_lanes : (tweak : List ℕ) → length tweak ≡ 16 → Each1 (λ x. x < 256) tweak
     → (low high : ℕ) → low ≡ number_l 256 tweak % 2 ^ 64 → high ≡ number_l 256 tweak / 2 ^ 64 % 2 ^ 64
     → digits_l 256 16 (number_l (2 ^ 64)

@@ -8,20 +8,20 @@ use Rattle.luks_cipher.specs.declared.mode.Mode.{Mode}
 use Rattle.luks_cipher.specs.declared.mode.Mode.TheVariants.{XtsPlain64, XtsPlain, CbcEssivSha256, CbcPlain64}
 use Rattle.luks_cipher.proofs.UnitsUndone.{joined_length}
 
--- a length of a mode is a length of keys
+-- if a key of a mode can have a length, it is a key length
 pub key_length_of_mode : (mode : Mode) (n : ℕ) → is_mode_key_length mode n ≡ true → is_key_length n ≡ true
 key_length_of_mode XtsPlain64 n is = grind (arith, nat_tests)
 key_length_of_mode XtsPlain n is = grind (arith, nat_tests)
 key_length_of_mode CbcEssivSha256 n is = grind (arith, nat_tests)
 key_length_of_mode CbcPlain64 n is = grind (arith, nat_tests)
 
--- none is longer than 64 bytes
+-- no key of a mode is longer than 64 bytes
 pub longest_mode_key : (mode : Mode) (n : ℕ) → is_mode_key_length mode n ≡ true → n ≤ 64
 longest_mode_key mode n is =
     let known = key_length_of_mode mode n is in
     grind (arith, nat_tests)
 
--- a unit of whole blocks is as long as before
+-- a unit of whole blocks keeps its length if each of its blocks is replaced by one of 16 bytes
 pub blocks_length : (f : ℕ → List ℕ) (unit : List ℕ) → ((j : ℕ) → length (f j) ≡ 16) → length unit % 16 ≡ 0
     → length (joined f (length unit / 16)) ≡ length unit
 blocks_length f unit sizes whole = joined_length f (length unit / 16) (λ j low. sizes j) ∙ omega arith

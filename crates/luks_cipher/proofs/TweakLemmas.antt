@@ -1,4 +1,4 @@
--- A tweak doubled, and the blocks of a data unit.
+-- The halves of a key, doubled tweaks, and the blocks of a data unit.
 use Rattle.std.proofs.Common.{◌≡◌, ℕ, ◌-◌, ◌*◌, ◌/◌, ◌≤◌, List, ◌+◌, ◌++◌, length}
 use Rattle.std.proofs.Common.{take, drop, length-append, add-one, arith, refl, sym, ap, ◌∙◌}
 use Rattle.std.specs.Int.{w128, to_le_bytes}
@@ -30,9 +30,9 @@ pub piece_decrypted : (a b key tweak piece : List ℕ) → length a ≡ length b
 unfolding block_decrypted
 piece_decrypted a b key tweak piece same whole = rw ((halves a b key same whole).0) refl
 
--- ---- a data unit that is worked on block by block
+-- ---- data units that are transformed block by block
 
--- the first j blocks are done, and the others as they were
+-- the first j blocks are done, and the others are unchanged
 pub record IsDoneBefore (f : ℕ → List ℕ) (old new : List ℕ) (j : ℕ) : Type 0 where
   pub done : take (16 * j) new ≡ joined f j
   pub left : drop (16 * j) new ≡ drop (16 * j) old
@@ -62,14 +62,14 @@ pub done_all : (f : ℕ → List ℕ) (old new : List ℕ) (j n : ℕ) → IsDon
 done_all f old new j n before size at_end =
     sym (take_all (16 * j) new (omega arith)) ∙ before.done ∙ ap (joined f) at_end
 
--- the block that the code takes
+-- the slice that the code reads is block j
 pub block_is : (old new : List ℕ) (j : ℕ) → drop (16 * j) new ≡ drop (16 * j) old
     → take (16 * j + 16 - 16 * j) (drop (16 * j) new) ≡ block_at old j
 block_is old new j left =
     let size : 16 * j + 16 - 16 * j ≡ 16 = omega arith in
     rw (size, left) refl
 
--- one more block is done, by the one that the code takes and what is its own, as its tweak
+-- one more block is done, from the block that the code reads and a value of its own, such as its tweak
 pub done_next : (g : List ℕ → List ℕ → List ℕ) (t : ℕ → List ℕ) (old new piece own : List ℕ) (j : ℕ)
     → IsDoneBefore (λ j. g (t j) (block_at old j)) old new j → 16 * j + 16 ≤ length new → length piece ≡ 16
     → own ≡ t j → piece ≡ g own (take (16 * j + 16 - 16 * j) (drop (16 * j) new))

@@ -15,7 +15,7 @@ use Rattle.luks_aes.proofs.ByteLists.{encrypted_state}
 use Rattle.luks_aes.proofs.Undone.{whole_state, same_states, xor_twice, decrypted-encrypted}
 use Rattle.luks_aes.proofs.Redone.{decrypted_state, encrypted-decrypted}
 
--- ---- a block
+-- ---- one block
 
 pub sum_state : (a b : List ℕ) → IsState a → IsState b → IsState (block_xor a b)
 unfolding block_xor
@@ -49,7 +49,7 @@ block_redone key tweak block keys masks is =
     (decrypted_state _ _ k1 masked).len in
     rw (inside, encrypted-decrypted (data_key key) (block_xor block tweak) k1 masked) (sum_twice block tweak is.len)
 
--- ---- the tweaks
+-- ---- tweaks
 
 pub le_state : (n : ℕ) → IsState (to_le_bytes w128 n)
 le_state n = record {
@@ -67,7 +67,7 @@ unfolding tweak_of doubled
 tweak_state key number zero keys = encrypted_state _ _ (bytes_drop (length key / 2) key keys) (le_state number)
 tweak_state key number (suc j) keys = le_state (doubled_number (from_le_bytes w128 (tweak_of key number j)))
 
--- ---- blocks joined
+-- ---- joined blocks
 
 pub joined_length : (f : ℕ → List ℕ) (n : ℕ) → ((j : ℕ) → j < n → length (f j) ≡ 16) → length (joined f n) ≡ 16 * n
 unfolding joined
@@ -116,13 +116,13 @@ block_state unit n j size low all = record {
   bytes = bytes_take 16 (drop (16 * j) unit) (bytes_drop (16 * j) unit all);
 }
 
--- ---- a data unit
+-- ---- data units
 
 block_encrypted_len : (key tweak block : List ℕ) → length (block_encrypted key tweak block) ≡ 16
 unfolding block_encrypted block_xor
 block_encrypted_len key tweak block = refl
 
--- two ways of work on blocks that undo each other block by block do so on units
+-- if g undoes f on each block, it undoes f on a unit
 both_ways : (f g : ℕ → List ℕ → List ℕ) (unit : List ℕ) (n : ℕ) → length unit ≡ 16 * n → IsBytes unit
     → ((j : ℕ) (block : List ℕ) → length (f j block) ≡ 16)
     → ((j : ℕ) (block : List ℕ) → IsState block → g j (f j block) ≡ block)

@@ -7,6 +7,6 @@ unfoldable pub tweak_after : List ℕ → ℕ → List ℕ
 tweak_after tweak zero = tweak
 tweak_after tweak (suc n) = doubled (tweak_after tweak n)
 
--- 32 blocks, each XOR its tweak
+-- the 32 blocks of a batch, each XORed with its tweak
 abbrev pub with_tweaks : List ℕ → List ℕ → List ℕ
 with_tweaks tweak batch = joined (λ n. block_xor (block_at batch n) (tweak_after tweak n)) 32

@@ -1,5 +1,5 @@
--- How sectors are encrypted under AES, in the modes that dm-crypt's documentation calls by these names. A sector is a
--- data unit of whole blocks with a number.
+-- Encryption of sectors under AES, in the modes that dm-crypt's documentation calls by these names. A sector is a data
+-- unit of whole blocks with a number.
 use Rattle.std.specs.Prelude.{ℕ, ◌%◌, ◌^◌, Bool, ◌||◌, ◌==◌, if◌then◌else◌, bytes_eq, codes, List, Option, Some, None}
 use Rattle.std.specs.Int.{w128, to_le_bytes}
 use Rattle.sha2.specs.Sha256.{sha256}
@@ -9,7 +9,7 @@ use Rattle.luks_cipher.specs.Cbc.{cbc_encrypted, cbc_decrypted}
 use Rattle.luks_cipher.specs.declared.mode.Mode.{Mode}
 use Rattle.luks_cipher.specs.declared.mode.Mode.TheVariants.{XtsPlain64, XtsPlain, CbcEssivSha256, CbcPlain64}
 
--- the name
+-- the name of the mode
 abbrev pub mode_name : Mode → List ℕ
 mode_name XtsPlain64 = codes "xts-plain64"
 mode_name XtsPlain = codes "xts-plain"
@@ -25,14 +25,14 @@ mode_named name =
     else if bytes_eq name (codes "cbc-plain64") then Some CbcPlain64
     else None
 
--- the lengths that a key of the mode may have: two keys of AES for XTS, one for CBC
+-- the lengths that a key of the mode can have: two keys of AES for XTS, one for CBC
 abbrev pub is_mode_key_length : Mode → ℕ → Bool
 is_mode_key_length XtsPlain64 n = is_xts_key_length n
 is_mode_key_length XtsPlain n = is_xts_key_length n
 is_mode_key_length CbcEssivSha256 n = (n == 16) || (n == 32)
 is_mode_key_length CbcPlain64 n = (n == 16) || (n == 32)
 
--- the lengths that a key of some mode may have
+-- the lengths that a key of any of the modes can have
 abbrev pub is_key_length : ℕ → Bool
 is_key_length n = n == 16 || n == 32 || n == 64
 
@@ -40,22 +40,22 @@ is_key_length n = n == 16 || n == 32 || n == 64
 abbrev pub plain64_iv : ℕ → List ℕ
 plain64_iv number = to_le_bytes w128 number
 
--- the IV of essiv:sha256: that block encrypted under the SHA-256 digest of the key
+-- the IV of essiv:sha256: the IV of plain64 encrypted under the SHA-256 digest of the key
 abbrev pub essiv_iv : List ℕ → ℕ → List ℕ
 essiv_iv key number = encrypted (sha256 key) (to_le_bytes w128 number)
 
--- a mode, and a key of it
+-- a mode, and a key of that mode
 abbrev pub Cipher : Type 0
 Cipher = Mode × List ℕ
 
--- the sector of this number encrypted. plain: the number is cut to its 32 low bits
+-- the sector with this number, encrypted; xts-plain cuts the number to its 32 low bits
 abbrev pub sector_encrypted : Mode → List ℕ → ℕ → List ℕ → List ℕ
 sector_encrypted XtsPlain64 key number sector = xts_encrypted key number sector
 sector_encrypted XtsPlain key number sector = xts_encrypted key (number % 2 ^ 32) sector
 sector_encrypted CbcEssivSha256 key number sector = cbc_encrypted key (essiv_iv key number) sector
 sector_encrypted CbcPlain64 key number sector = cbc_encrypted key (plain64_iv number) sector
 
--- and decrypted
+-- the sector with this number, decrypted
 abbrev pub sector_decrypted : Mode → List ℕ → ℕ → List ℕ → List ℕ
 sector_decrypted XtsPlain64 key number sector = xts_decrypted key number sector
 sector_decrypted XtsPlain key number sector = xts_decrypted key (number % 2 ^ 32) sector

@@ -1,4 +1,4 @@
--- What the keys of a sector cipher hold.
+-- The keys of a sector cipher.
 use Rattle.std.specs.Prelude.{◌≡◌, ⊤, ℕ, List}
 use Rattle.sha2.specs.Sha256.{sha256}
 use Rattle.luks_aes.specs.Bytes.{IsBytes}
@@ -14,7 +14,7 @@ keys_mode (XtsPlain key) = M.XtsPlain
 keys_mode (CbcEssivSha256 key iv_key) = M.CbcEssivSha256
 keys_mode (CbcPlain64 key) = M.CbcPlain64
 
--- the bytes of the key that they were expanded from
+-- the bytes of the key from which they were expanded
 abbrev pub key_bytes_of : Keys → List ℕ
 key_bytes_of (XtsPlain64 key) = key
 key_bytes_of (XtsPlain key) = key

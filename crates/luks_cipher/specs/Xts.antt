@@ -12,7 +12,7 @@ data_key key = take (length key / 2) key
 abbrev pub tweak_key : List ℕ → List ℕ
 tweak_key key = drop (length key / 2) key
 
--- the lengths that a key may have
+-- the lengths that a key can have
 abbrev pub is_xts_key_length : ℕ → Bool
 is_xts_key_length n = (n == 32) || (n == 64)
 
@@ -20,7 +20,7 @@ is_xts_key_length n = (n == 32) || (n == 64)
 unfoldable pub doubled_number : ℕ → ℕ
 doubled_number n = if nat_lt n (2 ^ 127) then 2 * n else (2 * n - 2 ^ 128) ⊕ 0x87
 
--- a tweak times the primitive element, as the little-endian number that it is
+-- a tweak, as a little-endian number, times the primitive element
 unfoldable pub doubled : List ℕ → List ℕ
 doubled tweak = to_le_bytes w128 (doubled_number (from_le_bytes w128 tweak))
 

@@ -28,7 +28,7 @@ pub fn block_of(piece: &[u8]) -> [u8; 16]
     block
 }
 
-/// XORs the vector to the 16 bytes of the slice.
+/// XORs the vector into the 16 bytes of the slice.
 #[inline(always)]
 pub fn xor_vector(vector: u8x16, piece: &mut [u8])
     requires { length piece.old ≡ 16 }

@@ -11,7 +11,7 @@ use luks_aes::AesKey;
 use luks_aes_batch::BatchKey;
 use std::simd::prelude::*;
 
-// The elements of a key are bytes: `AesKey::rounds` promises it.
+// The elements of a key are bytes, as `AesKey::rounds` ensures.
 #[inline(always)]
 fn holds_bytes(key: &AesKey)
     ensures { IsBytes key.now }
@@ -44,7 +44,8 @@ fn decrypt_link(key: &AesKey, before: [u8; 16], piece: &mut [u8]) -> [u8; 16]
     block
 }
 
-// XORs to each of the 32 blocks of a batch the cipher block before it, and returns the last one.
+// XORs the cipher block before each of the 32 blocks of a batch into that block, and returns the
+// last cipher block.
 fn xor_blocks_before(before: [u8; 16], cipher: &[u8], batch: &mut [u8]) -> [u8; 16]
     requires cipher { length cipher.now ≡ 512 }
     requires batch { length batch.old ≡ 512 }
@@ -97,7 +98,7 @@ pub fn decrypt_chain(key: &BatchKey, vector: [u8; 16], unit: &mut [u8])
     requires { length unit.old % 16 ≡ 0 }
     ensures value { unit.new ≡ cbc_decrypted key.now vector unit.old }
 
-    // The encryption of a plain data unit becomes that data unit.
+    // Decrypting an encrypted data unit gives the plain one.
     ensures undoes { (plain : List ℕ) → IsBytes plain → length plain ≡ length unit.old
         → unit.old ≡ cbc_encrypted key.now vector plain → unit.new ≡ plain }
     ensures undone { cbc_encrypted key.now vector unit.new ≡ unit.old }

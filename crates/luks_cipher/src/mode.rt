@@ -11,9 +11,9 @@ pub enum Mode {
     XtsPlain64,
     /// XTS under the number's 32 low bits.
     XtsPlain,
-    /// CBC whose vector is the number encrypted under the SHA-256 digest of the key.
+    /// CBC with the number encrypted under the SHA-256 digest of the key as IV.
     CbcEssivSha256,
-    /// CBC whose vector is the number.
+    /// CBC with the number as IV.
     CbcPlain64,
 }
 

@@ -150,7 +150,7 @@ impl SectorCipher {
         requires longest { length unit.old ≤ 4096 }
         ensures value { unit.new ≡ sector_decrypted self.now.0 self.now.1 number unit.old }
 
-        // The encryption of a plain sector becomes that sector.
+        // Decrypting an encrypted sector gives the plain one.
         ensures undoes { (plain : List ℕ) → IsBytes plain → length plain ≡ length unit.old
             → unit.old ≡ sector_encrypted self.now.0 self.now.1 number plain
             → unit.new ≡ plain }

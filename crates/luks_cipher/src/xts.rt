@@ -41,7 +41,7 @@ fn put_tweaks(tweak: u8x16, tweaks: &mut [u8]) -> u8x16
     last
 }
 
-// XORs to each of the 32 blocks of a batch its tweak.
+// XORs its tweak into each of the 32 blocks of a batch.
 fn xor_tweaks(tweaks: &[u8], batch: &mut [u8])
     requires tweaks { length tweaks.now ≡ 512 }
     requires batch { length batch.old ≡ 512 }
@@ -54,8 +54,8 @@ fn xor_tweaks(tweaks: &[u8], batch: &mut [u8])
     }
 }
 
-/// A key of XTS-AES-128 or XTS-AES-256 (IEEE 1619). Contracts see it as its bytes, of which the
-/// first half is the key for the data and the second the key for the tweaks.
+/// A key of XTS-AES-128 or XTS-AES-256 (IEEE 1619). Contracts see it as its bytes: the first half
+/// is the key for the data, and the second half is the key for the tweaks.
 #[derive(Drop)]
 pub struct XtsKey {
     data_key: BatchKey,
@@ -121,7 +121,8 @@ impl XtsKey {
         xor_vector(tweak, piece);
     }
 
-    // Decrypts 32 blocks, the first under `tweak`, and returns the tweak of the block after them.
+    // Decrypts 32 blocks, the first of them under `tweak`, and returns the tweak of the block after
+    // them.
     fn decrypt_batch(&self, tweak: u8x16, batch: &mut [u8]) -> u8x16
         requires { length batch.old ≡ 512 }
         ensures value { batch.new
@@ -162,7 +163,7 @@ impl XtsKey {
         requires longest { length unit.old ≤ 4096 }
         ensures value { unit.new ≡ xts_decrypted self.now number unit.old }
 
-        // The encryption of a plain data unit becomes that data unit.
+        // Decrypting an encrypted data unit gives the plain one.
         ensures undoes { (plain : List ℕ) → IsBytes plain → length plain ≡ length unit.old
             → unit.old ≡ xts_encrypted self.now number plain → unit.new ≡ plain }
         ensures undone { xts_encrypted self.now number unit.new ≡ unit.old }

@@ -1,4 +1,4 @@
--- What the parts of a run count, put together.
+-- The counts of a run, combined from those of its parts.
 use Rattle.std.proofs.Common.{◌≡◌, ◌⊎◌, ◌≤◌, ◌&&◌, ℕ, inl, inr, Bool, true, false, Result, Ok, Err, Option, List, max}
 use Rattle.std.proofs.Common.{arith, length, refl, sym}
 use Rattle.std.specs.Prelude.{IfErr, IfOk}
@@ -73,7 +73,7 @@ pub reads_of_secret : (message : Message) (ended : Bool) (image secret secret' :
 reads_of_secret message ended image secret secret' reads =
     record { in_image = false; image_reads = (false, no_reads image); secret_reads = (ended, reads) }
 
--- the start of the image was read before, and its end may have been hit, behind which it is not read again
+-- the start of the image was read before; if that hit the image's end, the image was not read again
 pub reads_before : (message : Message) (ended : Bool) (image image' image'' secret secret' : ReadCounts)
     → Reads false ended image image' → (ended ≡ true → image'' ≡ image')
     → CountsReads message image' image'' secret secret' → CountsReads message image image'' secret secret'
@@ -83,7 +83,7 @@ reads_before message ended image image' image'' secret secret' first kept then =
   secret_reads = then.secret_reads;
 }
 
--- the key areas were read, or failed; if a key slot opened, the image did not end within them
+-- the key areas were read, or a read of them failed; if a key slot opened, the image did not end within them
 pub within_areas : {T : Type 0} (result : Result T Message) (Same : Type 0) (ended : Bool) (image image' : ReadCounts)
     → IfOk result (λ _. Same) → Reads (is_run_read_failure (result_message result)) ended image image'
     → HitsEndOfAreas (result_message result) ended → IfOk result (λ _. Same × Reads false false image image')
@@ -101,7 +101,7 @@ calls_unopened message image image' secret secret' out only counts = record {
   out_writes = rw (unwritten message only) (no_writes out);
 }
 
--- no read failed, of either input
+-- no read of either input failed
 pub none_failed : (in_it : Bool) (before after : ReadCounts) → ReadsOnce (in_it && false) before after
     → ReadsOnce false before after
 none_failed true before after reads = reads
@@ -109,13 +109,13 @@ none_failed false before after reads = reads
 
 -- ---- `luksCat`
 
--- no more is allowed to be read ahead
+-- no more read-ahead is allowed than before
 pub no_more_ahead : (o : VolumeRequest) (image secret : Option (List ℕ)) (failed : Bool) (before after : ReadCounts)
     → ReadsOnce failed before after → ReadsPayload (CatAllows o image secret) failed before after
 no_more_ahead o image secret failed before after reads =
     (before.ahead, (λ known is passphrase has. inl refl), (reads.0, reads.1))
 
--- the start of a payload's image was read before it was allowed to read it ahead
+-- the start of a payload's image was read before read-ahead of it was allowed
 ahead_anyway : (failed ended : Bool) (more most : ℕ) (a b : ReadCounts) → Reads failed ended a b → most ≤ more
     → Reads failed ended (with_ahead more a) (with_ahead most b)
 ahead_anyway failed ended more most a b reads fewer = record {
@@ -125,7 +125,7 @@ ahead_anyway failed ended more most a b reads fewer = record {
   ahead = fewer;
 }
 
--- it was read on for the payload
+-- then the image was read further for the payload
 pub payload_after : (failed ended : Bool) (segment : Segment) (loaded : ℕ) (a b c : ReadCounts) → Reads false false a b
     → Reads failed ended (with_payload_ahead segment loaded b) c
     → Reads failed ended (with_payload_ahead segment loaded a) c
@@ -144,9 +144,9 @@ calls_without_payload o known known_secret message image image' secret secret' o
   out_writes = calls.out_writes;
 }
 
--- ---- with a header in a file of its own
+-- ---- with a detached header
 
--- nothing of the payload's image was read, whatever may be
+-- nothing of the payload's image was read
 pub calls_apart : (ReadsIt : Bool → ReadCounts → ReadCounts → Type 0) (message : Message)
     (header header' image secret secret' : ReadCounts) (out out' : WriteCounts) → ReadsIt false image image
     → CountsCalls ReadsOnce message header header' secret secret' out out'

@@ -1,4 +1,4 @@
--- How the commands end whose header stands in a file of its own.
+-- How the commands end that have a detached header.
 use Rattle.std.proofs.Common.{◌≡◌, ◌≢◌, ℕ, ◌+◌, ◌*◌, ◌≤◌, inl, inr, List, Option, Result, Ok, Err, Bool, true, false}
 use Rattle.std.proofs.Common.{ap, sym, refl, subst, length, max, arith}
 use Rattle.std.proofs.Math.Nat.{mul-le-mul_right}
@@ -39,9 +39,9 @@ use Rattle.luks_runs.specs.Payload.{ForwardsPayload}
 use Rattle.luks_cli.specs.VolumeParts.{ConsumesLoaded, PromptDetachedCat}
 use Rattle.luks_runs.specs.declared.location.HeaderLocation.TheVariants.{Detached}
 
--- ---- what is taken of the payload's image
+-- ---- what is consumed of the payload's image
 
--- what holds of each run that ends without a key, and of each with one, holds of all
+-- if Q holds for every outcome without output and for every outcome of an opened volume, it holds for all of them
 module _ (Q : Outcome → Type 0) (on_opened : OnOpened) (named : Option ℕ) (file pass : List ℕ)
     (none : (message : Message) (a b : ℕ) → Q (no_output message a b))
     (some : (segment : Segment) (opened : Opened) (loaded : ℕ) → Q (on_opened segment opened loaded)) where
@@ -84,7 +84,7 @@ no_payload_for_slot read o file pass =
     of_volume (λ (out : Outcome). out.payload_consumed ≡ 0) (slot_outcome pass) o.key_slot file pass
     (λ message a b. refl) (λ segment opened loaded. refl) (volume_by read o file)
 
--- at the end of a payload nothing is reported that opening may end with
+-- the end of a payload has no message that opening may end with, unless the run was aborted
 at_end : (e : Result Step VolumeFault) → OpeningMessage (message_at_end e) → aborts (message_at_end e) ≡ false → ⊥
 at_end (Ok step) opening well = opening
 at_end (Err IsCutBefore) opening well = opening
@@ -93,7 +93,7 @@ at_end (Err (IsShort n)) opening well = opening
 at_end (Err Read) opening well = cc
 at_end (Err Write) opening well = opening
 
--- where opening ends the run, nothing is taken of the payload's image
+-- if opening ends the run, nothing of the payload's image is consumed
 no_payload_without_key : (o : VolumeRequest) (file image pass : List ℕ) (message : Message) → OpeningMessage message
     → aborts message ≡ false
     → message ≡ (volume_outcome_by detached_header_of (detached_payload_outcome image pass) o file pass).message
@@ -106,12 +106,12 @@ no_payload_without_key o file image pass message opening well =
     (λ segment opened loaded same. absurd (at_end (ending_of segment image) (rw same at opening) (rw same at well)))
     (volume_by detached_header_of o file)
 
--- what is done with a volume that is opened takes no less than is loaded, and the whole key file
+-- the payload's outcome consumes at least the loaded bytes of the file with the header, and the whole key file
 pub takes_detached_payload : (image pass : List ℕ) → ConsumesLoaded pass (detached_payload_outcome image pass)
 takes_detached_payload image pass =
     record { loaded = λ segment opened loaded. omega arith; whole = λ segment opened loaded. refl }
 
--- ---- runs that take nothing of it
+-- ---- runs that consume nothing of it
 
 pub runs_apart : (is_prompt : Promptness) (out : Outcome) (message : Message)
     (ConsumedHeader ConsumedSecret : ℕ → Type 0)
@@ -125,13 +125,13 @@ runs_apart is_prompt out message ConsumedHeader ConsumedSecret Wrote none run =
     by true = omega arith
     by false = sym none
 
--- before anything is written or taken, a run is prompt
+-- a run is prompt if it has written nothing and consumed nothing of the payload's image
 prompt_at_first : (file : List ℕ) (message : Message) (a b : ℕ) → PromptDetachedCat file 0 message a b 0
 prompt_at_first file ReadFailed a b segment has = λ passes. no_sectors_before segment 0 (omega arith)
 prompt_at_first file WriteFailed a b segment has = omega arith
 prompt_at_first file _ a b segment has = tt
 
--- a run that ended without a key, of whose outcome nothing is taken of the payload's image
+-- a run that ended without a key, if its outcome consumes nothing of the payload's image
 unopened : (file : List ℕ) (out : Outcome) (message : Message)
     (ConsumedHeader ConsumedPayload ConsumedSecret : ℕ → Type 0)
     (Wrote : List ℕ → Type 0) → (aborts message ≡ false → message ≡ out.message → out.payload_consumed ≡ 0)
@@ -177,7 +177,7 @@ module _ (o : VolumeRequest) (file image pass : List ℕ) (segment : Segment) (o
       ≡ detached_payload_outcome image pass segment opened (length loaded)
   stated = u.outcome (detached_payload_outcome image pass)
 
-  -- the payload was passed on, to its end or not
+  -- the payload was forwarded, to its end or not
   pub runs_passed_apart : (message : Message) → message ≢ OutOfMemory
       → ForwardsPayload segment (segment.mode, opened.key) image 0 i' w w' message
       → DetachedRunMatches (PromptDetachedCat file)
@@ -247,7 +247,7 @@ module _ (o : VolumeRequest) (file image pass : List ℕ) (segment : Segment) (o
         };
       })
 
--- a payload that is passed on ends with no message that tells of opening
+-- forwarding a payload ends with no message that a run without a key may have
 pub with_key : (message : Message) → PayloadMessage message → EndsWithoutKey message → ⊥
 with_key Done passed without = absurd without.0
 with_key CutBeforePayload passed without = absurd without.0

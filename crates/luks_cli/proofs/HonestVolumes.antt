@@ -1,4 +1,4 @@
--- `luksCat` of an honestly sealed volume writes its plain text.
+-- `luksCat` of an honestly sealed volume writes its plaintext.
 use Rattle.std.proofs.Common.{◌∙◌, List, ℕ, Option, subst}
 use Rattle.luks_io.specs.Devices.{Appended}
 use Rattle.luks_request.specs.Request.{Request, luks_cat}
@@ -7,7 +7,7 @@ use Rattle.luks_unlock.proofs.HonestVolumes.{unsealed}
 use Rattle.luks_cli.specs.Honest.{WritesPlain}
 use Rattle.luks_cli.specs.CommandRun.{RunsAsStated}
 
--- a run of `luksCat` with the stated outcome that is not broken off writes the plain text of an honestly sealed volume
+-- a run of `luksCat` that matches its outcome and is not aborted writes the plaintext of an honestly sealed volume
 pub writes_plain : (request : Request) (message : Message)
     (image image' secret secret' written written' : Option (List ℕ))
     → RunsAsStated request message image image' secret secret' written written'

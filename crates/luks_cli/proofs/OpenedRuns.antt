@@ -1,4 +1,4 @@
--- How the commands on volumes end once their volume is opened.
+-- How the commands on volumes end after their volume was opened.
 use Rattle.std.proofs.Common.{◌≡◌, ◌≢◌, ℕ, ◌+◌, ◌*◌, ◌/◌, ◌<◌, ◌≤◌, List, Option, Some, ◌⊎◌, inl, inr, Bool, true}
 use Rattle.std.proofs.Common.{false, ap, refl, subst, sym, take, length, max, [], drop, length-drop, arith}
 use Rattle.std.proofs.lemmas.List.{drop_all}
@@ -32,7 +32,7 @@ use Rattle.luks_report.specs.declared.message.Message.TheVariants.{Done, OutOfMe
 pub takes_slot : (secret : List ℕ) → ConsumesLoaded secret (slot_outcome secret)
 takes_slot secret = record { loaded = λ segment opened loaded. omega arith; whole = λ segment opened loaded. refl }
 
--- a run that is prompt in one way is so in another that follows from it
+-- a run that is prompt in one sense is also prompt in every sense that follows from it
 pub runs_at : (is_prompt is_prompt' : Promptness) (out : Outcome) (message : Message)
     (ConsumedImage ConsumedSecret : ℕ → Type 0) (Wrote : List ℕ → Type 0)
     → ((image secret output : ℕ) → is_prompt message image secret output → is_prompt' message image secret output)
@@ -64,7 +64,7 @@ runs_at is_prompt is_prompt' out message ConsumedImage ConsumedSecret Wrote foll
 
 module _ (location : HeaderLocation) (o : VolumeRequest) (image pass : List ℕ) (segment : Segment) (opened : Opened)
     (loaded : List ℕ) (i s : Option (List ℕ)) (u : Unlocks location o image pass segment opened loaded i s) where
-  -- the key slot was reported, or not all of its line
+  -- the key slot was reported, or its line was not all written
   pub runs_slot : (w w' : Option (List ℕ)) (message : Message) → ReportsSlot opened.slot w w' message
       → RunMatches AnyPace (volume_outcome_by (reader_for location) (slot_outcome pass) o image pass) message
       (ConsumedExactly image i) (ConsumedExactly pass s)
@@ -104,7 +104,7 @@ pub reported_in_part : (slot : ℕ) (w w' : Option (List ℕ)) (line : List ℕ)
     → (n : ℕ) → n < length line → Appended w w' (take n line) → ReportsSlot slot w w' WriteFailed
 reported_in_part slot w w' line is n within added = rw (← is) (n, within, added)
 
--- telling the key slot ends with one of these messages
+-- reporting the key slot ends with one of these messages
 pub slot_message : (slot : ℕ) (w w' : Option (List ℕ)) (message : Message) → ReportsSlot slot w w' message
     → OpeningMessage message ⊎ (message ≡ Done ⊎ message ≡ WriteFailed)
 slot_message slot w w' Done reported = inr (inl refl)
@@ -112,7 +112,7 @@ slot_message slot w w' WriteFailed reported = inr (inr refl)
 slot_message slot w w' OutOfMemory reported = inl tt
 slot_message slot w w' _ reported = absurd reported
 
--- and reads nothing
+-- reporting the key slot reads nothing
 pub slot_reads_nothing : (slot : ℕ) (w w' : Option (List ℕ)) (message : Message)
     → ReportsSlot slot w w' message → is_run_read_failure message ≡ false
 slot_reads_nothing slot w w' Done reported = refl
@@ -122,7 +122,7 @@ slot_reads_nothing slot w w' _ reported = absurd reported
 
 -- ---- `luksCat`
 
--- a write failed within a sector of the payload: what was written ends before the plain text does, and in that sector
+-- a write failed within sector `count` of the payload: the output ends before the plaintext does, and in that sector
 pub record PositionedWithin (segment : Segment) (image : List ℕ) (count written : ℕ) : Type 0 where
   pub span : count * sector_len segment + written < sectors_of segment image * sector_len segment
   pub row : (count * sector_len segment + written) / sector_len segment ≡ count
@@ -164,7 +164,7 @@ forwarded_all segment cipher image loaded left w w' message all unread passed =
 module _ (o : VolumeRequest) (image pass : List ℕ) (segment : Segment) (opened : Opened) (loaded : List ℕ)
     (i s : Option (List ℕ)) (u : Unlocks Attached o image pass segment opened loaded i s) where
   module _ (i' w w' : Option (List ℕ)) where
-    -- the payload was passed on, to its end or not
+    -- the payload was forwarded, to its end or not
     pub runs_passed : (message : Message) → message ≢ OutOfMemory
         → ForwardsPayload segment (segment.mode, opened.key) image (length loaded) i' w w' message
         → RunMatches (PromptCat image) (volume_outcome (payload_outcome image pass) o image pass) message
@@ -236,7 +236,7 @@ module _ (o : VolumeRequest) (image pass : List ℕ) (segment : Segment) (opened
       (forwarded_all segment (segment.mode, opened.key) image (length loaded) left w w' message all unread
       (forwards consumed)))
 
--- forwarding a payload never ends with a refused allocation
+-- forwarding a payload never runs out of memory
 pub never_memory : (message : Message) → PayloadMessage message → message ≢ OutOfMemory
 never_memory message only same = absurd (rw same at only)
 

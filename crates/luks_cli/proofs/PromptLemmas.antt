@@ -1,4 +1,4 @@
--- How much of the image is taken for what is promised of a run on a volume that is broken off.
+-- How promptly a run on a volume was aborted, by how much of the image it had consumed.
 use Rattle.std.proofs.Common.{◌≡◌, ℕ, ◌-◌, ◌*◌, ◌/◌, ◌≤◌, inl, inr, List, Option, Ok, refl, arith, max}
 use Rattle.std.proofs.lemmas.Bool.{cases_lt}
 use Rattle.std.proofs.Math.Nat.{zero-div}
@@ -29,13 +29,13 @@ same_segment_by read image s t one other =
     let fourth : segment_of other.0 ≡ Ok t = other.2 in
     cc
 
--- no sector stands before the payload's start
+-- there are no sectors before the payload's start
 pub no_sectors_before : (segment : Segment) (a : ℕ) → a ≤ segment.offset
     → 0 ≡ (a - segment.offset) / sector_len segment * sector_len segment
 no_sectors_before segment a few =
     let none : a - segment.offset ≡ 0 = omega arith in rw (none, zero-div (sector_len segment)) (omega arith)
 
--- nothing past the header was taken
+-- nothing past the header was consumed
 cat_in_header : (image : List ℕ) (message : Message) (a b : ℕ) → a ≤ header_read_len image
     → PromptCat image message a b 0
 cat_in_header image ReadFailed a b few segment has = λ passes.
@@ -52,12 +52,12 @@ pub prompt_in_header : (location : HeaderLocation) (image : List ℕ) (message :
 prompt_in_header Attached image message a b few = cat_in_header image message a b few
 prompt_in_header Detached image message a b few = refl
 
--- neither a read nor a write failed
+-- the image was truncated; no read or write failed
 pub prompt_refused : (location : HeaderLocation) (image : List ℕ) (a b : ℕ) → PromptOpening location image Cut a b 0
 prompt_refused Attached image a b = λ segment has. tt
 prompt_refused Detached image a b = refl
 
--- nothing past the payload's start was taken
+-- nothing past the payload's start was consumed
 prompt_to_payload : (image : List ℕ) (message : Message) (a b : ℕ) (segment : Segment) → HasSegment image segment
     → a ≤ segment.offset → PromptCat image message a b 0
 prompt_to_payload image ReadFailed a b segment has few other is = λ passes.
@@ -69,7 +69,7 @@ prompt_to_payload image WriteFailed a b segment has few other is =
     omega arith
 prompt_to_payload image _ a b segment has few other is = tt
 
--- nothing past the header and the payload's start was taken
+-- nothing was consumed past the header's end or the payload's start, whichever comes later
 pub prompt_before_payload : (location : HeaderLocation) (image : List ℕ) (message : Message) (a b : ℕ)
     (segment : Segment)
     → HasSegmentBy (reader_for location) image segment
@@ -83,7 +83,7 @@ prompt_before_payload Attached image message a b segment has early =
     ]
 prompt_before_payload Detached image message a b segment has early = refl
 
--- of a header in the payload's image no key material that is tried stands in the payload
+-- with an attached header, the key material of the slots to be tried ends before the payload starts
 pub held_early : (location : HeaderLocation) (image : List ℕ) (header : Header) (segment : Segment)
     (named limit : Option ℕ)
     (order : OrderModel) → reader_for location image ≡ Ok header → segment_of header ≡ Ok segment

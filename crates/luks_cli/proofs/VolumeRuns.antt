@@ -1,4 +1,4 @@
--- How the commands on volumes end before their volume is opened.
+-- How the commands on volumes end if their volume is not opened, and what holds if it is.
 use Rattle.std.proofs.Common.{◌≡◌, ℕ, ◌+◌, ◌-◌, ◌<◌, ◌≤◌, inl, inr, List, Option, Some, Result, Ok, Err, ◌∙◌, ap}
 use Rattle.std.proofs.Common.{sym, refl, take, drop, length, max, min, arith}
 use Rattle.std.proofs.lemmas.Bool.{cases_lt}
@@ -44,7 +44,7 @@ use Rattle.luks_report.specs.declared.message.Message.TheVariants.{WriteFailed}
 
 -- ---- runs without output
 
--- a run that was broken off before any output
+-- a run that was aborted before it wrote anything
 early : (location : HeaderLocation) (out : Outcome) (image pass : List ℕ) (message : Message) (i s w : Option (List ℕ))
     (a b : ℕ)
     → IsSilent message 0 → IsPrefixLen message 0 (length out.output)
@@ -66,7 +66,7 @@ early location out image pass message i s w a b silent begins prompt few little 
   output = adds-none w;
 }
 
--- a run whose outcome has no output, whatever it tells but for a failed write
+-- a run whose outcome has no output, for every message except that of a failed write
 ends_unwritten : (location : HeaderLocation) (image pass : List ℕ) (message : Message) (i s w : Option (List ℕ))
     (a b : ℕ)
     → message ≢ WriteFailed
@@ -82,7 +82,7 @@ ends_unwritten location image pass WriteFailed i s w a b other prompt ti ts = ab
 ends_unwritten location image pass _ i s w a b other prompt ti ts =
     record { as_stated = refl; image = ti; secret = ts; output = adds-none w }
 
--- of key slots no failed write is reported
+-- no fault of opening has the message of a failed write
 no_write_told : (named : Option ℕ) (fault : OpenFault) → message_for_opening named fault ≢ WriteFailed
 no_write_told named NotThere h = cc
 no_write_told named Disabled h = cc
@@ -91,11 +91,11 @@ no_write_told named (NoneTried skipped) h = cc
 no_write_told named (NoneOpens skipped) h = cc
 no_write_told named Memory h = cc
 
--- nor of opening a volume
+-- no message of opening is that of a failed write
 never_written : (message : Message) → OpeningMessage message → message ≢ WriteFailed
 never_written message only same = absurd (rw same at only)
 
--- ---- how much is taken of a volume that was found
+-- ---- how much is consumed of a volume that was found
 
 module _ (on_opened : OnOpened) (named : Option ℕ) (v : Volume) (image secret : List ℕ)
     (takes : ConsumesLoaded secret on_opened) where
@@ -108,7 +108,7 @@ module _ (on_opened : OnOpened) (named : Option ℕ) (v : Volume) (image secret 
   )
   opened_within (Err fault) = (omega arith, omega arith)
 
-  -- a key file that is not too long is taken whole, and the image as far as it is loaded
+  -- a key file that is not too long is consumed whole, and of the image at least the bytes that were loaded
   area_within : length secret ≤ max_key_file_len
       → (min (length image) (loaded_for image v) ≤ (found_outcome on_opened named v image secret).image_consumed)
       × (length secret ≤ (found_outcome on_opened named v image secret).secret_consumed)
@@ -119,7 +119,7 @@ module _ (on_opened : OnOpened) (named : Option ℕ) (v : Volume) (image secret 
         rw (found_whole on_opened named v image secret short enough) (omega (arith, all.0), all.1)
   ]
 
-  -- the header is taken, and of the key file as much as is read at most
+  -- at least the header is consumed, and at least as much of the key file as is ever read of it
   found_within : (header_read_len image ≤ (found_outcome on_opened named v image secret).image_consumed)
       × (min (length secret) (max_key_file_len + 1) ≤ (found_outcome on_opened named v image secret).secret_consumed)
   found_within = elim (cases_lt max_key_file_len (length secret)) [
@@ -129,10 +129,10 @@ module _ (on_opened : OnOpened) (named : Option ℕ) (v : Volume) (image secret 
         (omega (arith, all.0, cost_there image), omega (arith, all.1))
   ]
 
--- ---- runs that open no volume
+-- ---- runs on a volume
 
 module _ (location : HeaderLocation) (o : VolumeRequest) (image pass : List ℕ) (i s w : Option (List ℕ)) where
-  -- a run that writes nothing matches the outcome of what is done with a volume that is opened
+  -- a run that wrote nothing matches the outcome of what is done with an opened volume
   abbrev Matches : OnOpened → Message → Type 0
   Matches on_opened message =
       RunMatches (PromptOpening location image) (volume_outcome_by (reader_for location) on_opened o image pass) message
@@ -149,7 +149,7 @@ module _ (location : HeaderLocation) (o : VolumeRequest) (image pass : List ℕ)
         after (Ok v) = (found_within on_opened o.key_slot v image pass takes).0
         after (Err message) = omega arith
 
-    -- there was no volume, or its header was not read
+    -- no volume was found, or reading the header failed
     pub runs_without_volume : (message : Message) → OpeningMessage message
         → AbortsFinding (reader_for location) o image i message
         → s ≡ Some pass
@@ -220,7 +220,7 @@ module _ (location : HeaderLocation) (o : VolumeRequest) (image pass : List ℕ)
     module _ (short : length pass ≤ max_key_file_len) (gone : ConsumedExactly pass s (length pass))
         (area area' : List ℕ)
         (front : area ≡ take (header_read_len image) image) where
-      -- the key areas were not taken
+      -- the key areas could not be read
       runs_without_area : (on_opened : OnOpened) (takes : ConsumesLoaded pass on_opened) (fault : HeaderFault)
           → AbortsConsuming (key_areas_end order.slots - length area) area area' (drop
           (header_read_len image) image) i fault

@@ -1,4 +1,4 @@
--- With which messages each command may end, whatever its devices do.
+-- The messages that each command may end with, whatever its devices do.
 use Rattle.std.specs.Prelude.{◌≡◌, ◌⊎◌}
 use Rattle.luks_request.specs.Request.{Request, is_luks, luks_uuid, luks_dump, luks_check, test_passphrase, luks_cat}
 use Rattle.luks_request.specs.Request.{af_split, af_merge}

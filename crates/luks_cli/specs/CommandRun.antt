@@ -17,7 +17,7 @@ use Rattle.luks_unlock.specs.Volume.{slot_outcome, volume_of, volume_outcome}
 use Rattle.luks_verdict.specs.declared.segment.Segment.{Segment}
 use Rattle.luks_report.specs.declared.message.Message.{Message}
 
--- how prompt a command is with this image
+-- how promptly a command ends if it is aborted, with this image
 abbrev pub promptness_of : Request → List ℕ → Promptness
 promptness_of (luks_cat o) image = PromptCat image
 promptness_of (af_split s) image = PromptSplit (length image)
@@ -30,7 +30,7 @@ KnowsSecret (luks_cat o) device secret = device ≡ Some secret
 KnowsSecret (af_split s) device secret = device ≡ Some secret
 KnowsSecret _ device secret = Unit {0}
 
--- what was consumed of it
+-- what was consumed of the second input
 abbrev pub ConsumedOfSecret : Request → List ℕ → Option (List ℕ) → ℕ → Type 0
 ConsumedOfSecret (test_passphrase o) secret left = ConsumedExactly secret left
 ConsumedOfSecret (luks_cat o) secret left = ConsumedExactly secret left
@@ -42,8 +42,8 @@ abbrev pub IsCounted : Request → List ℕ → Type 0
 IsCounted (luks_cat o) image = length image < 2 ^ 64
 IsCounted _ image = Unit {0}
 
--- if the inputs of a command know their bytes, and are not too long to be counted, its run has the outcome that is
--- specified for these
+-- if the inputs of a command know their bytes and are not too long to be counted, the run has the outcome that is
+-- specified for those bytes
 abbrev pub RunsAsStated : Request → Message → Option (List ℕ) → Option (List ℕ) → Option (List ℕ) → Option (List ℕ)
     → Option (List ℕ) → Option (List ℕ) → Type 0
 RunsAsStated request message image image' secret secret' written written' =
@@ -58,7 +58,7 @@ ReadsFirst (luks_cat o) = ⊥
 ReadsFirst (af_split s) = ⊥
 ReadsFirst _ = Unit {0}
 
--- a source knows its bytes, and this holds of them
+-- a source knows its bytes, and they have this property
 abbrev pub Knows : Option (List ℕ) → (List ℕ → Type 0) → Type 0
 Knows device Holds = (known : List ℕ) × (device ≡ Some known) × Holds known
 
@@ -70,23 +70,23 @@ NeedsNoSecret (luks_cat o) image = Knows image (λ known. is_err (volume_of o kn
 NeedsNoSecret (af_split s) image = Knows image (λ known. (length known ≡ 0) ⊎ (max_key_len < length known))
 NeedsNoSecret _ image = Unit {0}
 
--- what a run adds to the counts of a source of which a read failed, or none did: an end if a read hit it, once at most,
--- and nothing needless. No more is allowed to be read ahead than before
+-- what a run adds to the counts of a source: a failure if a read of it failed, at most one end, and no needless read.
+-- No more read-ahead is allowed than before
 abbrev pub ReadsOnce : Bool → ReadCounts → ReadCounts → Type 0
 ReadsOnce failed before after = (ended : Bool) × Reads failed ended before after
 
--- the same of the image of a payload, of which more may be allowed to be read ahead
+-- the same for the image of a payload, for which more read-ahead may be allowed
 abbrev pub ReadsPayload : (ℕ → ℕ → Type 0) → Bool → ReadCounts → ReadCounts → Type 0
 ReadsPayload Allows failed before after =
     (most : ℕ) × Allows before.ahead most × ReadsOnce failed (with_ahead most before) after
 
--- no more is allowed to be read ahead than before, or as much as is needed up to the end of the payload, if so many
--- bytes of its image were consumed to open the volume
+-- read-ahead stays as it was, or is raised to what is needed up to the payload's end, if `consumed` bytes of the image
+-- were consumed to open the volume
 abbrev pub AllowsPayload : (Segment → Type 0) → ℕ → ℕ → ℕ → Type 0
 AllowsPayload IsOf consumed ahead most = (most ≡ ahead)
     ⊎ ((s : Segment) × IsOf s × (most ≡ max (max_needed s.size s.offset consumed) ahead))
 
--- how much `luksCat` allows to be read ahead: `testPassphrase` consumes as much of the image to open the volume
+-- how much read-ahead `luksCat` allows: to open the volume, it consumes as much of the image as `testPassphrase` does
 abbrev pub CatAllows : VolumeRequest → Option (List ℕ) → Option (List ℕ) → ℕ → ℕ → Type 0
 CatAllows o image secret ahead most =
     IfKnown image
@@ -94,7 +94,7 @@ CatAllows o image secret ahead most =
     AllowsPayload (HasSegment known) (volume_outcome (slot_outcome passphrase) o known passphrase).image_consumed
     ahead most))
 
--- what a command adds to the counts of these inputs' image: `luksCat` alone reads a payload
+-- what a command adds to the counts of its image: only `luksCat` reads a payload
 abbrev pub ReadsImage : Request → Option (List ℕ) → Option (List ℕ) → Bool → ReadCounts → ReadCounts → Type 0
 ReadsImage (luks_cat o) image secret = ReadsPayload (CatAllows o image secret)
 ReadsImage _ image secret = ReadsOnce

@@ -1,5 +1,5 @@
--- The headline for a header in a file of its own: header and key areas come from that file, and the payload from the
--- image, at the segment's own place.
+-- The specification of a run with a detached header: header and key areas come from the header's file, and the payload
+-- from the image, at the segment's own offset.
 use Rattle.std.specs.Prelude.{◌≡◌, ℕ, List, Option, Some, is_err, true, false, Bool, ◌&&◌, not}
 use Rattle.luks_io.specs.Counts.{Writes}
 use Rattle.luks_io.specs.declared.counts.ReadCounts.{ReadCounts}
@@ -36,7 +36,7 @@ detached_outcome_of (luks_cat o) file image secret =
 -- the commands on stripes have no header
 detached_outcome_of request file image secret = outcome_of request image secret
 
--- how prompt a command is that consumed so many bytes of the image
+-- how promptly a command ends if it is aborted after it consumed `payload_consumed` bytes of the image
 abbrev pub detached_promptness_of : Request → List ℕ → ℕ → Promptness
 detached_promptness_of (luks_cat o) file payload_consumed = PromptDetachedCat file payload_consumed
 detached_promptness_of request file payload_consumed = AnyPace
@@ -46,12 +46,12 @@ abbrev pub KnowsPayload : Request → Option (List ℕ) → List ℕ → Type 0
 KnowsPayload (luks_cat o) device image = device ≡ Some image
 KnowsPayload request device image = Unit {0}
 
--- what was consumed of it
+-- what was consumed of the image
 abbrev pub ConsumedOfPayload : Request → List ℕ → Option (List ℕ) → ℕ → Type 0
 ConsumedOfPayload (luks_cat o) image left = ConsumedExactly image left
 ConsumedOfPayload request image left = ConsumedNothing
 
--- if the inputs of a command know their bytes, its run has the outcome that is specified for these
+-- if the inputs of a command know their bytes, the run has the outcome that is specified for those bytes
 abbrev pub RunsDetached : Request → Message → Option (List ℕ) → Option (List ℕ) → Option (List ℕ) → Option (List ℕ)
     → Option (List ℕ) → Option (List ℕ) → Option (List ℕ) → Option (List ℕ) → Type 0
 RunsDetached request message header header' image image' secret secret' written written' =
@@ -73,22 +73,22 @@ NeedsNoSecretDetached (luks_cat o) header =
     Knows header (λ file. is_err (volume_by detached_header_of o file) ≡ true)
 NeedsNoSecretDetached request header = Unit {0}
 
--- the run ended before a key was found: as opening a volume may end, but for a failed read, which may be the payload's
+-- the run ended before a key was found, with a message of opening, but not a failed read, which may be the payload's
 abbrev pub EndsWithoutKey : Message → Type 0
 EndsWithoutKey message = OpeningMessage message × (is_run_read_failure message ≡ false)
 
--- nothing of the image is read: only `luksCat` reads it, after a key was found
+-- the image is not read: only `luksCat` reads it, and only after a key was found
 abbrev pub NeedsNoPayload : Request → Message → Type 0
 NeedsNoPayload (luks_cat o) message = EndsWithoutKey message
 NeedsNoPayload request message = Unit {0}
 
--- how much `luksCat` allows its payload's image to be read ahead, of which nothing is consumed to open the volume
+-- how much read-ahead `luksCat` allows for its payload's image, of which nothing is consumed to open the volume
 abbrev pub DetachedCatAllows : Option (List ℕ) → Option (List ℕ) → ℕ → ℕ → Type 0
 DetachedCatAllows header secret ahead most =
     IfKnown header
     (λ file. IfKnown secret (λ passphrase. AllowsPayload (HasSegmentBy detached_header_of file) 0 ahead most))
 
--- what a command adds to the counts of its payload's image, beside these inputs: `luksCat` alone reads one
+-- what a command adds to the counts of its payload's image: only `luksCat` reads one
 abbrev pub ReadsDetachedImage : Request → Option (List ℕ) → Option (List ℕ) → Bool → ReadCounts → ReadCounts → Type 0
 ReadsDetachedImage (luks_cat o) header secret = ReadsPayload (DetachedCatAllows header secret)
 ReadsDetachedImage request header secret = ReadsOnce

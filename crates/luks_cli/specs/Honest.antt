@@ -7,7 +7,7 @@ use Rattle.luks_report.specs.declared.message.Message.TheVariants.{Done}
 use Rattle.luks_runs.specs.Run.{aborts}
 use Rattle.luks_unlock.specs.Honest.{IsHonest}
 
--- `luksCat` of such a volume: a run that is not aborted writes the plaintext and succeeds
+-- a run of `luksCat` on such a volume that is not aborted writes the plaintext and succeeds
 abbrev pub WritesPlain : Request → Message → Option (List ℕ) → Option (List ℕ) → Option (List ℕ) → Option (List ℕ)
     → Type 0
 WritesPlain (luks_cat o) message image secret written written' =

@@ -9,7 +9,7 @@ use Rattle.luks_runs.specs.HeaderOutcome.{is_luks_outcome, print_outcome, always
 use Rattle.luks_runs.specs.Stripe.{merge_outcome, split_outcome}
 use Rattle.luks_unlock.specs.Volume.{payload_outcome, slot_outcome, volume_outcome}
 
--- what a command does with the bytes that its inputs give
+-- the outcome of a command for the bytes of its inputs
 abbrev pub outcome_of : Request → List ℕ → List ℕ → Outcome
 outcome_of (is_luks _) image secret = is_luks_outcome image
 outcome_of (luks_uuid _) image secret = print_outcome uuid_of always_done image

@@ -23,14 +23,14 @@ use Rattle.luks_cli.specs.VolumeParts.{ConsumesLoaded, PromptCat}
 use Rattle.luks_runs.specs.declared.location.HeaderLocation.{HeaderLocation}
 use Rattle.luks_runs.specs.declared.location.HeaderLocation.TheVariants.{Attached, Detached}
 
--- opening is aborted: with an attached header it is as prompt as `luksCat`, and otherwise it writes nothing
+-- opening was aborted: with an attached header it was as prompt as `luksCat`, and with a detached one it wrote nothing
 abbrev pub PromptOpening : HeaderLocation → List ℕ → Message → ℕ → ℕ → ℕ → Type 0
 PromptOpening Attached image message image_consumed secret_consumed output =
     PromptCat image message image_consumed secret_consumed output
 PromptOpening Detached image message image_consumed secret_consumed output = output ≡ 0
 
--- the volume was not opened, for this reason: whatever is done with a volume that is opened, the outcome of that is
--- matched, and nothing is written
+-- the volume was not opened, for this reason: nothing was written, and the run matches the outcome of whatever is done
+-- with an opened volume
 abbrev pub EndsUnopened : HeaderLocation → VolumeRequest → List ℕ → List ℕ → Message → Option (List ℕ)
     → Option (List ℕ) → Type 0
 EndsUnopened location o image secret message image' secret' =
@@ -51,8 +51,8 @@ pub record Unlocks (location : HeaderLocation) (o : VolumeRequest) (image secret
   pub image_consumed : ConsumedExactly image image' (length loaded)
   pub secret_consumed : ConsumedExactly secret secret' (length secret)
 
--- a volume that was found was opened by the passphrase in the key file, or was not. The key file is read whole before
--- the key slots are tried; if it cannot be, nothing more of the image is consumed
+-- whether a volume that was found was opened by the passphrase in the key file. The key file is read whole before the
+-- key slots are tried; if it cannot be, nothing more of the image is consumed
 abbrev pub OpensVolume : Option ℕ → Segment → OrderModel → List ℕ → List ℕ → List ℕ → List ℕ → Option (List ℕ)
     → Option (List ℕ) → Result UnlockedVolume Message → Type 0
 OpensVolume named segment order pass area area' rest left secret' result =

@@ -1,4 +1,4 @@
--- What the parts of the commands on volumes leave in their devices.
+-- The effects of the parts of the commands on volumes on their devices.
 use Rattle.std.specs.Prelude.{◌≡◌, ◌⊎◌, ℕ, ◌+◌, ◌-◌, ◌*◌, ◌/◌, ◌<◌, ◌≤◌, List, length, max}
 use Rattle.luks_header.specs.Header.{header_read_len}
 use Rattle.luks_verdict.specs.declared.segment.Segment.{Segment}
@@ -21,8 +21,8 @@ pub record ConsumesLoaded (secret : List ℕ) (on_opened : OnOpened) : Type 0 wh
 
 -- ---- the payload
 
--- the header ends before the payload starts, or more than the header was consumed. Neither need hold only if the size
--- in a damaged primary header reaches into the payload
+-- the header ends before the payload starts, or more than the header was consumed. Both can fail only if the size in a
+-- damaged primary header reaches into the payload
 abbrev pub PassesHeader : Segment → ℕ → ℕ → Type 0
 PassesHeader s header_len consumed = (header_len ≤ s.offset) ⊎ (header_len < consumed)
 
@@ -35,14 +35,14 @@ PromptForwarding s header_len ReadFailed consumed output = PassesHeader s header
     → output ≡ (consumed - s.offset) / sector_len s * sector_len s
 PromptForwarding s header_len _ consumed output = Unit {0}
 
--- `luksCat` is aborted: this holds of the image's payload
+-- `luksCat` was aborted, and forwarding the image's payload was prompt
 abbrev pub PromptCat : List ℕ → Message → ℕ → ℕ → ℕ → Type 0
 PromptCat image message image_consumed secret_consumed output =
     (segment : Segment) → HasSegment image segment → PromptForwarding segment
     (header_read_len image) message image_consumed output
 
--- `luksCat` with a detached header is aborted: the same holds of the payload's image, of which nothing is consumed for
--- a header
+-- `luksCat` with a detached header was aborted, and forwarding the payload's image was prompt; of that image nothing is
+-- consumed for a header
 abbrev pub PromptDetachedCat : List ℕ → ℕ → Message → ℕ → ℕ → ℕ → Type 0
 PromptDetachedCat file payload_consumed message header_consumed secret_consumed output =
     (segment : Segment) → HasSegmentBy detached_header_of file segment

@@ -1,4 +1,4 @@
-//! What the commands do.
+//! Runs of commands.
 
 ghost use Rattle.std.specs.Prelude.{◌≡◌, false};
 ghost use Rattle.luks_request.specs.Request.{has_header_file, request_of};
@@ -30,13 +30,13 @@ mod volumes;
 /// bytes that the inputs give. If an allocation, a read or a write fails, what was written is a
 /// prefix of that output, and no input was consumed further than specified; a failed read or write
 /// is reported exactly if one failed. If a write failed, not all of the output is written. A
-/// command that has no second input leaves that source as it is. So does one whose run is ended by
-/// the header, the segment, the order of the key slots or the length of a key, if the image knows
-/// its bytes. Except for `luksCat` and `afSplit`, nothing is written if a read fails.
+/// command that has no second input leaves that source as it is. So does a command whose run is
+/// ended by the header, the segment, the order of the key slots or the length of a key, if the
+/// image knows its bytes. Except for `luksCat` and `afSplit`, nothing is written if a read fails.
 ///
 /// No device is called needlessly: no read goes into an empty buffer or follows one that failed or
-/// hit the end, and no write brings nothing or follows one that failed. The end of each input is
-/// hit at most once. No command but `luksCat` allows read-ahead, and `luksCat` allows it up to the
+/// hit the end, and no write is empty or follows one that failed. The end of each input is hit at
+/// most once. No command but `luksCat` allows read-ahead, and `luksCat` allows it up to the
 /// payload's end and no further, if both inputs know their bytes.
 ///
 /// `luksCat` writes the plaintext of an honestly sealed volume if the passphrase has at most
@@ -45,10 +45,10 @@ mod volumes;
 /// or write fails.
 ///
 /// `luksCat` allows read-ahead for the bytes of the image that it will request, and writes each
-/// sector as it comes: if a write fails, nothing past the current sector was consumed, except for
-/// the header, and if a read fails, all whole sectors that were consumed are written, unless a
-/// damaged primary header reaches into the payload. All this is said of images shorter than 2^64
-/// bytes. Every other command consumes just what it requests, also of a pipe.
+/// sector as it comes. If a write fails, nothing past the current sector was consumed, except for
+/// the header. If a read fails, all whole sectors that were consumed are written, unless a damaged
+/// primary header reaches into the payload. All this holds for images shorter than 2^64 bytes.
+/// Every other command consumes just what it requests, also from a pipe.
 pub fn execute<I: Source, K: Source, O: Sink>(
     alloc: Global,
     command: &Command<'_>,

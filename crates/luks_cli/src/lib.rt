@@ -1,6 +1,7 @@
-//! What the commands of luksrd do, over sources and a sink.
+//! The commands of luksrd, run over sources and a sink.
 //!
-//! With what the program needs of the layers beneath: the command line and the report of a run.
+//! Also re-exports what the program needs from the layers below: the command line and the report of
+//! a run.
 #![tactic(auto)]
 
 pub use luks_args::planning::{PlanFault, plan};

@@ -1,5 +1,5 @@
 //! Whole runs of commands: over memory, over devices that move a few bytes a call or fail, and with
-//! memory refused. Each test is a table of rows; what the tables share is in `same`, `runs`,
+//! failing allocations. Each test is a table of rows; what the tables share is in `same`, `runs`,
 //! `rows`, `devices`, `scarce` and `volume`.
 
 mod ahead;

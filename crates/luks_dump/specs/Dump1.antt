@@ -1,4 +1,4 @@
--- What is printed of a LUKS1 header.
+-- The texts of a LUKS1 header.
 use Rattle.std.specs.Prelude.{ℕ, ◌∷◌, ◌++◌, [], List, codes, suc}
 use Rattle.std.specs.Fmt.{decimal}
 use Rattle.std.specs.Int.{to_be_bytes, w32}
@@ -10,24 +10,24 @@ use Rattle.luks1_header.specs.declared.header.SlotState.TheVariants.{Enabled, Di
 use Rattle.luks_dump.specs.Escaping.{escaped}
 use Rattle.luks_dump.specs.DumpLine.{field}
 
--- what is said of a key slot that is in use: its iterations, its salt in digits, its area's offset in sectors of 512
--- bytes, and its stripes
+-- the text of a key slot that is in use: its iterations, its salt in hexadecimal digits, its area's offset in sectors
+-- of 512 bytes, and its stripes
 abbrev pub enabled_text : ℕ → List ℕ → ℕ → ℕ → List ℕ
 enabled_text iterations salt offset stripes =
     codes "ENABLED iterations=" ++ decimal iterations ++ codes " salt=" ++ salt
     ++ codes " offset=" ++ decimal offset ++ codes " stripes=" ++ decimal stripes
 
--- what is said of a key slot that is in this state
+-- the text of a key slot in this state
 unfoldable pub state_text : KeySlot → SlotState → List ℕ
 state_text slot Enabled = enabled_text slot.iterations (encode_lower slot.salt) slot.offset slot.stripes
 state_text slot Disabled = codes "DISABLED"
 state_text slot (Damaged number) = codes "DAMAGED state=" ++ encode_lower (to_be_bytes w32 number)
 
--- what is said of a key slot
+-- the text of a key slot
 abbrev pub slot_text : KeySlot → List ℕ
 slot_text slot = state_text slot slot.state
 
--- the line of the key slot of this number
+-- the line of the key slot with this number
 unfoldable pub slot1_line : ℕ → KeySlot → List ℕ
 slot1_line number slot = field (codes "Slot " ++ decimal number) (slot_text slot)
 

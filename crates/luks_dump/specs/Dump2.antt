@@ -1,4 +1,4 @@
--- What is printed of a LUKS2 header: the fields of its binary header, its key slots, its segment and its digests.
+-- The texts of a LUKS2 header: the fields of its binary header, its key slots, its segment and its digests.
 use Rattle.std.specs.Prelude.{ℕ, ◌∷◌, ◌++◌, [], zero, suc, List, Option, Some, None, Result, Ok, Err, codes, flat_map}
 use Rattle.std.specs.Prelude.{length}
 use Rattle.std.specs.Fmt.{decimal}
@@ -52,36 +52,36 @@ text2_lines h =
 
 -- ---- key slots
 
--- the name of a hash function. (That of a LUKS2 key slot or digest that can be used is always known.)
+-- the name of a hash function, or nothing if it is not known. (That of a usable LUKS2 key slot or digest always is.)
 abbrev pub hash_text : Option Hash → List ℕ
 hash_text None = []
 hash_text (Some hash) = hash_name hash
 
--- what is said of a key slot that can be tried: the hash function and the iterations of its key, and where its area is
--- in bytes
+-- the text of a key slot that can be tried: its priority, the hash function and the iterations of its key, and the
+-- offset and the size of its area in bytes
 unfoldable pub usable_text : SlotParts → List ℕ
 usable_text parts =
     codes "USABLE priority=" ++ decimal parts.priority ++ codes " kdf=pbkdf2 hash=" ++ hash_text parts.kdf_hash
     ++ codes " iterations=" ++ decimal parts.iterations ++ codes " offset=" ++ decimal parts.area_offset
     ++ codes " size=" ++ decimal parts.area_size
 
--- what is said of a key slot. (None of LUKS2 is disabled.)
+-- the text of a key slot. (No LUKS2 key slot is disabled.)
 abbrev pub verdict_text : Verdict → List ℕ
 verdict_text (Usable slot) = usable_text slot.parts
 verdict_text Disabled = codes "DISABLED"
 verdict_text (Skipped reason) = codes "SKIPPED " ++ reason_text reason
 
--- the line of the key slot of a number, if there is one
+-- the line of the key slot with this number, if there is one
 abbrev pub slot2_line : ℕ → Option Verdict → List ℕ
 slot2_line number None = []
 slot2_line number (Some verdict) = field (codes "Slot " ++ decimal number) (verdict_text verdict)
 
--- what is said of the numbers below n, by rising number
+-- the lines of the numbers below n, in ascending order
 unfoldable pub lines_below : (ℕ → List ℕ) → ℕ → List ℕ
 lines_below line zero = []
 lines_below line (suc n) = lines_below line n ++ line n
 
--- the line of the key slot of a number, in a header with these bounds. Iterations have no limit here
+-- the line of the key slot with this number, in a header with these bounds. The number of iterations has no limit here
 abbrev pub slot_line_at : Data → Bounds → ℕ → List ℕ
 slot_line_at tree bounds number = slot2_line number (verdict2_at tree bounds None number)
 
@@ -91,12 +91,12 @@ slot2_lines tree bounds = lines_below (slot_line_at tree bounds) max_slots
 
 -- ---- the segment
 
--- its length in bytes, if it has one
+-- the size of a segment: its length in bytes, or `dynamic` if it has no fixed length
 abbrev pub size_text : Option ℕ → List ℕ
 size_text None = codes "dynamic"
 size_text (Some bytes) = decimal bytes
 
--- what is said of a segment
+-- the text of a segment
 unfoldable pub segment_text : Segment → List ℕ
 segment_text segment =
     codes "offset=" ++ decimal segment.offset ++ codes " size=" ++ size_text segment.size
@@ -110,7 +110,7 @@ segment_line (Err fault) = field (codes "Segment") (codes "REFUSED " ++ fault_te
 
 -- ---- digests
 
--- names behind another
+-- further names, after the first one
 abbrev pub more_names : List (List ℕ) → List ℕ
 more_names names = flat_map (λ name. codes "," ++ escaped name) names
 
@@ -119,14 +119,14 @@ abbrev pub names_text : List (List ℕ) → List ℕ
 names_text [] = []
 names_text (name ∷ names) = escaped name ++ more_names names
 
--- what is said of a digest that can be used: how many bytes it has, and the names that it lists
+-- the text of a usable digest: its hash function, iterations and length in bytes, and the names that it lists
 unfoldable pub digest_text : Digest → List ℕ
 digest_text digest =
     codes "USABLE hash=" ++ hash_text digest.key.hash ++ codes " iterations=" ++ decimal digest.key.iterations
     ++ codes " bytes=" ++ decimal (length digest.key.value) ++ codes " keyslots=" ++ names_text digest.keyslots
     ++ codes " segments=" ++ names_text digest.segments
 
--- what is said of a digest
+-- the text of a digest, or that it is refused
 abbrev pub listed_text : Option Digest → List ℕ
 listed_text None = codes "REFUSED"
 listed_text (Some digest) = digest_text digest

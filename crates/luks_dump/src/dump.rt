@@ -1,4 +1,4 @@
-//! What is printed of a header.
+//! The texts of a header.
 
 ghost use Rattle.std.specs.Prelude.{◌≡◌, IfOk, string_bytes};
 ghost use Rattle.luks_dump.specs.Dump.{dump_of, uuid_of};
@@ -9,7 +9,7 @@ use std::alloc::{AllocError, Global};
 mod luks1;
 pub(crate) mod luks2;
 
-/// What `luksUUID` prints.
+/// The text that `luksUUID` prints.
 pub fn uuid_text(alloc: Global, header: &Header) -> Result<String, AllocError>
     ensures { IfOk result (λ lines. string_bytes lines ≡ uuid_of header.now) }
 {
@@ -19,7 +19,7 @@ pub fn uuid_text(alloc: Global, header: &Header) -> Result<String, AllocError>
     }
 }
 
-/// What `luksDump` prints.
+/// The text that `luksDump` prints.
 pub fn dump_text(alloc: Global, header: &Header) -> Result<String, AllocError>
     ensures { IfOk result (λ lines. string_bytes lines ≡ dump_of header.now) }
 {

@@ -1,4 +1,4 @@
-//! Texts of a header, which come from outside, as they can be printed on a terminal.
+//! Texts of a header, escaped for a terminal, since they come from outside.
 
 ghost use Rattle.std.specs.Prelude.{◌≡◌, ◌++◌, ◌∷◌, [], IfOk, OnOk, string_bytes, ◌≤◌};
 ghost use Rattle.hex.specs.Hex.{encode_lower};
@@ -6,8 +6,8 @@ ghost use Rattle.luks_dump.specs.Escaping.{escaped, escaped_byte};
 
 use std::alloc::{AllocError, Global};
 
-/// A text of a header as it is printed: bytes that are no visible ASCII, and the backslash, as
-/// `\xHH`.
+/// A text of a header as it is printed: all bytes but visible ASCII and spaces are printed as
+/// `\xHH`, and so is the backslash.
 pub(crate) fn escape(alloc: Global, text: &[u8]) -> Result<String, AllocError>
     ensures { IfOk result (λ printed. string_bytes printed ≡ escaped text.now) }
 {
@@ -45,7 +45,7 @@ fn push_escaped(alloc: Global, printed: &mut String, byte: u8) -> Result<(), All
     }
 }
 
-/// Adds a byte as a backslash, an x and two digits.
+/// Adds a byte as a backslash, an x and two hexadecimal digits.
 fn push_digits(alloc: Global, printed: &mut String, byte: u8) -> Result<(), AllocError>
     ensures { OnOk result (string_bytes printed.new
         ≡ string_bytes printed.old ++ 0x5c ∷ 0x78 ∷ encode_lower (byte ∷ [])) }

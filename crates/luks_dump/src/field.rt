@@ -1,4 +1,4 @@
-//! Lines of what is printed of a header.
+//! Lines of a header's text.
 
 ghost use Rattle.std.specs.Fmt.{decimal};
 ghost use Rattle.std.specs.Prelude.{◌≡◌, ◌++◌, OnOk, string_bytes};
@@ -9,7 +9,7 @@ ghost use Rattle.luks_dump.specs.DumpLine.{field};
 use crate::escaping::escape;
 use std::alloc::{AllocError, Global};
 
-/// Adds one line: a name, and what is said under it.
+/// Adds one line: a name and a value.
 #[tactic(auto, unfolding(crate::specs::DumpLine::field))]
 pub fn push_field(lines: &mut String, name: &str, value: &str) -> Result<(), AllocError>
     ensures { OnOk result

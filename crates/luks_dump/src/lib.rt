@@ -1,4 +1,4 @@
-//! What is printed of a header: its UUID, and its dump.
+//! The texts of a header: its UUID and its dump.
 #![tactic(auto)]
 
 pub mod dump;

@@ -22,7 +22,7 @@ use Rattle.luks_header.specs.declared.header.Header.{Header}
 use Rattle.luks_header.specs.declared.header.Header.TheVariants.{V1}
 use Rattle.luks_header.proofs.HeldLemmas.{cost_other, header_missing, reach_other}
 
--- an image costs as many bytes as there are of 592, or more
+-- reading the header consumes at least 592 bytes of an image, or all of a shorter one
 pub some_cost : (image : List ℕ) → min 592 (length image) ≤ header_read_len image
 unfolding header_read_len
 some_cost image = by (is_luks1 image) refl where
@@ -30,7 +30,7 @@ some_cost image = by (is_luks1 image) refl where
   by true is = rw is (omega arith)
   by false is = rw is (omega (arith, cost_least image))
 
--- and is looked at as far
+-- the search for the header goes at least 592 bytes into an image
 pub some_reach : (image : List ℕ) → 592 ≤ probe_len image
 unfolding probe_len
 some_reach image = by (is_luks1 image) refl where
@@ -38,16 +38,16 @@ some_reach image = by (is_luks1 image) refl where
   by true is = rw is (omega arith)
   by false is = rw is (omega (arith, reach_some image))
 
--- one that is shorter than that falls short
+-- an image of fewer than 592 bytes falls short
 pub short_falls : (image : List ℕ) → length image < 592 → falls_short image ≡ true
 short_falls image few = lt-ltb (length image) (probe_len image) (omega (arith, few, some_reach image))
 
--- the first 592 bytes tell whether an image begins as LUKS1
+-- the first 592 bytes decide whether an image starts as LUKS1
 pub begins_taken : (image : List ℕ) → is_luks1 (take 592 image) ≡ is_luks1 image
 unfolding is_luks1
 begins_taken image = rw (take-take 8 592 image (lit≤ tt)) refl
 
--- the area that took what there was, up to 592 bytes, holds the first bytes of the image
+-- an empty area onto which up to 592 bytes were consumed has the first bytes of the image
 pub area_is : (area area' image : List ℕ) (left : Option (List ℕ)) → area ≡ []
     → ConsumedOnto area area' image left (min (592 - length area) (length image))
     → (area' ≡ take 592 image) × ConsumedExactly image left (min 592 (length image))
@@ -56,7 +56,7 @@ area_is area area' image left none took =
     subst (λ l. ConsumedOnto l area' image left (min (592 - length l) (length image))) none took in
     (at_first.1 ∙ take_min 592 image, at_first.0)
 
--- an area that begins as one of LUKS1 and is whole has this header
+-- an area of 592 bytes that starts as LUKS1 has this header
 pub header_of-whole : (area : List ℕ) (header : Header1) → is_luks1 area ≡ true → length area ≡ 592
     → header ≡ header1_of area → header_of area ≡ Ok (V1 header)
 unfolding header_of
@@ -65,14 +65,14 @@ header_of-whole area header is whole read =
     let all : length area ≤ 592 = omega arith in
     rw (is, no, take_all 592 area all, read) refl
 
--- one that does and is shorter is cut
+-- a shorter area that starts as LUKS1 has a truncated header
 pub header_of-cut : (area : List ℕ) → is_luks1 area ≡ true → length area < 592 → header_of area ≡ Err Cut
 unfolding header_of
 header_of-cut area is short =
     let yes : nat_lt (length area) 592 ≡ true = lt-ltb (length area) 592 short in
     rw (is, yes) refl
 
--- what stops an empty area from taking bytes stops the reading of a header
+-- if consuming bytes onto an empty area was aborted, reading the header was aborted
 pub aborts_reading : (area area' image : List ℕ) (left : Option (List ℕ)) (ends ends' : ℕ) (fault : HeaderFault)
     → area ≡ [] → AbortsConsuming (592 - length area) area area' image left fault → ends' ≡ ends
     → AbortsReading image left ends ends' fault
@@ -84,12 +84,12 @@ aborts_reading area area' image left ends ends' NotLuks none h same = absurd h
 aborts_reading area area' image left ends ends' Cut none h same = absurd h
 aborts_reading area area' image left ends ends' Json none h same = absurd h
 
--- an area that is not whole is short
+-- an area that was not loaded up to `end` is shorter than that
 pub short_from_not_whole : (whole : Bool) (end len : ℕ) → (IsTrue whole ↔ (end ≤ len)) → whole ≡ false → len < end
 short_from_not_whole whole end len iff is =
     elim (cases_lt len end) [ inl short ↦ short | inr all ↦ (let yes : whole ≡ true = iff.1 all in cc) ]
 
--- an image whose first bytes are fewer than 592 ended there
+-- if the area has fewer than 592 bytes, the image falls short, and its end was hit
 ended_within : (area image : List ℕ) (left : Option (List ℕ))
     → (area ≡ take 592 image) × ConsumedExactly image left (min 592 (length image)) → length area < 592
     → (ends ends' : ℕ) → ends' ≡ saturating_inc ends → ends' ≡ counted (falls_short image) ends
@@ -99,12 +99,12 @@ ended_within area image left taken few ends ends' found =
 
 -- ---- LUKS1
 
--- of an area that begins so and is no longer than the header, nothing costs more
+-- an area of at most 592 bytes that starts as LUKS1 is read whole for its header
 pub all_cost : (area : List ℕ) → is_luks1 area ≡ true → length area ≤ 592 → length area ≡ header_read_len area
 unfolding header_read_len
 all_cost area is few = rw is (omega arith)
 
--- one that is as long does not fall short
+-- an area of at least 592 bytes that starts as LUKS1 does not fall short
 pub whole_falls : (area : List ℕ) → is_luks1 area ≡ true → 592 ≤ length area → falls_short area ≡ false
 unfolding probe_len
 whole_falls area is all = rw is (le-ltb (length area) 592 all)
@@ -130,7 +130,7 @@ module _ (area image : List ℕ) (left : Option (List ℕ))
       ] in
       rw (taken.0, begins_taken image, image_begins, few, take-take 592 592 image (lit≤ tt)) refl
 
-  -- an image whose first bytes have no header has none, and ended among them
+  -- if the area has no header and fewer than 592 bytes, the image has no header, and its end was hit
   pub none_read : (fault : HeaderFault) → header_of area ≡ Err fault → length area < 592
       → (ends ends' : ℕ) → ends' ≡ saturating_inc ends
       → (header_of image ≡ Err fault) × ConsumedHeaderLen image left ends ends'
@@ -139,7 +139,7 @@ module _ (area image : List ℕ) (left : Option (List ℕ))
     (subst (ConsumedExactly image left) (sym cost_is) taken.1, ended_within area image left taken few ends ends' found),
   )
 
-  -- an image whose first bytes have a header has it
+  -- if the area has a header, the image has it
   pub one_read : (header : Header) → header_of area ≡ Ok header
       → (header_of image ≡ Ok header) × (area ≡ take (header_read_len image) image)
       × ConsumedExactly image left (header_read_len image)
@@ -157,7 +157,7 @@ module _ (area image : List ℕ) (left : Option (List ℕ))
   pub image_other : is_luks1 image ≡ false
   image_other = sym (begins_taken image) ∙ (ap is_luks1 (sym taken.0) ∙ other)
 
-  -- an image that is too short has no header
+  -- an image of fewer than 592 bytes that does not start as LUKS1 has no header
   pub short_read : length area < 592 → (ends ends' : ℕ) → ends' ≡ saturating_inc ends
       → (header_of image ≡ Err NotLuks) × ConsumedHeaderLen image left ends ends'
   short_read few ends ends' found =
@@ -173,7 +173,7 @@ module _ (area image : List ℕ) (left : Option (List ℕ))
         ),
       )
 
-  -- what is left of it behind its first bytes
+  -- the image's bytes behind its first 592 remain
   pub left_is : length area ≡ 592 → left ≡ Some (drop 592 image)
   left_is long =
       let count : min 592 (length image) ≡ 592 = omega (arith, ap length taken.0, length-take 592 image, long) in
@@ -206,7 +206,7 @@ module _ (area image : List ℕ) (left : Option (List ℕ))
           consumed_behind image left left' 592 count first took.0,
         )
 
-    -- what was read of it behind its first bytes
+    -- a header that was read with the bytes behind the first ones is the image's
     pub rest_read : (header : Header) → (header_of (area ++ drop 592 image) ≡ Ok header)
         × ConsumedReadLen (area ++ drop 592 image) area area' (drop 592 image) left'
         → (header_of image ≡ Ok header) × (area' ≡ take (header_read_len image) image)
@@ -227,7 +227,7 @@ module _ (area image : List ℕ) (left : Option (List ℕ))
       consumed_behind image left left' 592 count consumed_first took.0,
     )
 
-    -- that was broken off
+    -- if reading the bytes behind the first ones was aborted, reading the header was aborted
     pub rest_broken : (ends before ends' : ℕ) (fault : HeaderFault) → before ≡ ends
         → AbortsHeld (area ++ drop 592 image) area area' (drop 592 image) left' before ends' fault
         → AbortsReading image left' ends ends' fault
@@ -246,14 +246,14 @@ module _ (area image : List ℕ) (left : Option (List ℕ))
         by Cut (none, took) = (none, (consumed_read_len took.0.1.0, took.1))
         by Json (none, took) = (none, (consumed_read_len took.0.1.0, took.1))
 
--- ---- what a header costs
+-- ---- the number of bytes that are read for a header
 
 below_cost2 : (image : List ℕ) (count : ℕ) → count < reach2_of image → count ≤ length image
     → count ≤ header2_read_len image
 unfolding header2_read_len
 below_cost2 image count few within = omega (arith, few, within)
 
--- no more than that is taken before memory is refused
+-- if memory ran out, no more bytes were consumed than are read for the header
 pub memory_below : (image : List ℕ) (left : Option (List ℕ)) (ends ends' : ℕ)
     → AbortsReading image left ends ends' Memory → ConsumedAtMost image left (header_read_len image)
 unfolding header_read_len probe_len

@@ -1,4 +1,4 @@
--- Reading the header of LUKS2 of an image whose first bytes are held.
+-- Reading the LUKS2 header of an image whose first bytes are loaded.
 use Rattle.std.proofs.Common.{◌≡◌, ◌∙◌, ℕ, ◌≤◌, ◌⊎◌, inl, inr, List, ◌++◌, Option, Some, None, Ok, Err, false, ap, sym}
 use Rattle.std.proofs.Common.{refl, take, length}
 use Rattle.std.proofs.lemmas.List.{take-append-le, take-take}
@@ -20,7 +20,7 @@ use Rattle.luks_header.specs.Header.{AbortsHeld, ConsumedHeaderLenBehind, header
 use Rattle.luks_header.specs.Header.{probe_len}
 use Rattle.luks_header.specs.declared.header.Header.TheVariants.{V2}
 
--- the first bytes tell whether an image begins as LUKS1
+-- the first bytes decide whether an image starts as LUKS1
 pub begins_behind : (held rest : List ℕ) → 8 ≤ length held → is_luks1 (held ++ rest) ≡ is_luks1 held
 unfolding is_luks1
 begins_behind held rest long = rw (take-append-le 8 held rest long) refl
@@ -32,39 +32,39 @@ begins_longer held held' long kept =
     rw (sym (take-take 8 (length held) held' long) ∙ ap (take 8) kept) refl
 
 module _ (image : List ℕ) (other : is_luks1 image ≡ false) where
-  -- where it does not, it costs what a header of LUKS2 does
+  -- if the image does not start as LUKS1, as many bytes are read as for a LUKS2 header
   pub cost_other : header_read_len image ≡ header2_read_len image
   unfolding header_read_len
   cost_other = rw other refl
 
-  -- and is looked at as far as one
+  -- the search for its header goes as far as for a LUKS2 header
   pub reach_other : probe_len image ≡ reach2_of image
   unfolding probe_len
   reach_other = rw other refl
 
-  -- it has the header of LUKS2 whose text can be read
+  -- it has this LUKS2 header if the JSON text can be read
   pub header_read : (header : Header2) (tree : Data) → header2_of image ≡ Ok header
       → tree_of (json_text_of image header) ≡ Some tree → header_of image ≡ Ok (V2 header tree)
   unfolding header_of
   header_read header tree found read = rw (other, found, read) refl
 
-  -- the fault of one whose text cannot be read
+  -- the fault if the JSON text of the LUKS2 header cannot be read
   pub header_unreadable : (header : Header2) → header2_of image ≡ Ok header
       → tree_of (json_text_of image header) ≡ None → header_of image ≡ Err Json
   unfolding header_of
   header_unreadable header found read = rw (other, found, read) refl
 
-  -- and where there is none, that
+  -- the fault if there is no LUKS2 header
   pub header_missing : header2_of image ≡ Err NotLuks → header_of image ≡ Err NotLuks
   unfolding header_of
   header_missing none = rw (other, none) refl
 
--- the text that was read is the image's
+-- the JSON text in the loaded bytes is the image's
 pub text_held : (image held : List ℕ) (header : Header2) → header2_of image ≡ Ok header
     → held ≡ take (header2_read_len image) image → json_text_of held header ≡ json_text_of image header
 text_held image held header found is = ap (λ bytes. json_text_of bytes header) is ∙ json_beginning image header found
 
--- the bytes that were held in the end say whether the image fell short
+-- the bytes that were loaded decide whether the image falls short
 pub short_held : (image held : List ℕ) → is_luks1 image ≡ false → held ≡ take (header2_read_len image) image
     → nat_lt (length held) (reach2_of held) ≡ falls_short image
 short_held image held other is =
@@ -74,12 +74,12 @@ short_held image held other is =
 
 module _ (image held held' rest : List ℕ) (left : Option (List ℕ)) (ends ends' : ℕ) (other : is_luks1 image ≡ false)
   where
-    -- as much was taken as the header costs
+    -- as many bytes were consumed as are read for the header
     costs : ConsumedReadLen image held held' rest left → ends' ≡ counted (nat_lt (length held') (reach2_of held')) ends
         → ConsumedHeaderLenBehind image held held' rest left ends ends'
     costs took found = (took, found ∙ ap (λ b. counted b ends) (short_held image held' other took.0))
 
-    -- seeking the header was broken off
+    -- searching for the header was aborted
     pub seeking_broken : (fault : HeaderFault) → AbortsSeeking image held held' rest left fault
         → ends' ≡ counted (hits_eof {T = Header2} (Err fault) held') ends
         → AbortsHeld image held held' rest left ends ends' fault
@@ -89,7 +89,7 @@ module _ (image held held' rest : List ℕ) (left : Option (List ℕ)) (ends end
     seeking_broken Read took found = (took, found)
     seeking_broken Memory took found = inl (took, found)
 
-    -- reading the text was
+    -- reading the JSON text was aborted
     pub reading_broken : (header : Header2) (fault : HeaderFault) → header2_of image ≡ Ok header
         → ConsumedReadLen image held held' rest left → ends' ≡ counted (nat_lt (length held') (reach2_of held')) ends
         → (fault ≡ Json → tree_of (json_text_of held' header) ≡ None) → (fault ≡ Json) ⊎ (fault ≡ Memory)

@@ -1,4 +1,4 @@
--- What is known of the key slots and digests of a header, whatever its format.
+-- Properties of the key slots and digests of a header, whatever its format.
 use Rattle.std.proofs.lemmas.Bool.{ltb-false}
 use Rattle.std.proofs.Common.{◌≡◌, ◌∙◌, ℕ, ◌≤◌, refl, sym, subst, Bool, true, false, List, length, Option, Some, None}
 use Rattle.std.proofs.Common.{Result, Ok, Err}
@@ -37,9 +37,8 @@ use Rattle.luks_header.specs.SlotVerdicts.{slot_at, verdict_at}
 use Rattle.luks_header.specs.declared.header.Header.{Header}
 use Rattle.luks_header.specs.declared.header.Header.TheVariants.{V1, V2}
 
--- the hash functions and the mode of a key slot are known ones, its key material's key has a length of its mode, and
--- the
--- volume key one of the payload's
+-- the hash functions and the mode of a key slot are known, the key of its key material has a length that its mode
+-- allows, and the volume key has one that the payload's mode allows
 pub record IsKnown (segment : Segment) (slot : Slot) : Type 0 where
   pub kdf : (hash : Hash) × (slot.parts.kdf_hash ≡ Some hash)
   pub af : (hash : Hash) × (slot.parts.af_hash ≡ Some hash)
@@ -61,7 +60,7 @@ ends_before : (start : Option ℕ) (offset end : ℕ) → start ≡ Some offset 
 ends_before start offset end is within =
     ltb-false offset end (subst (λ s. exceeds s end ≡ false) is within)
 
--- of a key slot that can be tried there is what it takes to open it
+-- if a key slot can be tried, there is what is needed to open it
 pub slot_of_usable : (header : Header) (limit : Option ℕ) (number : ℕ) (slot : Slot)
     → verdict_at header limit number ≡ Some (Usable slot)
     → slot_at header number ≡ Some slot
@@ -69,7 +68,7 @@ unfolding verdict_at slot_at
 slot_of_usable (V1 header) limit number slot is = (slot_usable_at header limit number slot is).1
 slot_of_usable (V2 header tree) limit number slot is = (usable2_at tree (bounds2_of header) limit number slot is).1
 
--- and a digest
+-- if a key slot can be tried, it has a digest
 pub digest_of_usable : (header : Header) (limit : Option ℕ) (number : ℕ) (slot : Slot)
     → verdict_at header limit number ≡ Some (Usable slot)
     → (digest : KeyDigest) × (digest_for header number ≡ Some digest)
@@ -78,7 +77,7 @@ digest_of_usable (V1 header) limit number slot is = (slot_usable_at header limit
 digest_of_usable (V2 header tree) limit number slot is =
     (usable2_at tree (bounds2_of header) limit number slot is).0.digest
 
--- where the segment is not refused, its hash functions and key lengths are known ones
+-- if the segment is valid, the hash functions and key lengths of a key slot that can be tried are known
 pub known_usable : (header : Header) (segment : Segment) (limit : Option ℕ) (number : ℕ) (slot : Slot)
     → segment_of header ≡ Ok segment
     → verdict_at header limit number ≡ Some (Usable slot) → IsKnown segment slot
@@ -109,7 +108,7 @@ known_usable (V2 header tree) segment limit number slot is_segment is =
       area = of_header.area;
     }
 
--- the header of an image is read as one that stands in the payload's image
+-- the header of an image is read as an attached one
 pub is_attached : (image : List ℕ) (header : Header) → header_of image ≡ Ok header → is_detached header ≡ false
 unfolding header_of is_detached header1_of
 is_attached image header is = by (is_luks1 image) refl
@@ -137,7 +136,7 @@ is_attached image header is = by (is_luks1 image) refl
     by true e = of_first (nat_lt (length image) header1_len) (rw e at is)
     by false e = of_second (header2_of image) refl (rw e at is)
 
--- its key material ends at or before the payload's start, if that is in the header's image
+-- with an attached header, the key material of a key slot that can be tried ends at or before the payload's start
 pub before_payload : (header : Header) (segment : Segment) (limit : Option ℕ) (number : ℕ) (slot : Slot)
     → is_detached header ≡ false
     → segment_of header ≡ Ok segment

@@ -28,16 +28,16 @@ unfoldable pub detached_of : Header → Header
 detached_of (V1 header) = V1 (record header { detached = true })
 detached_of (V2 header tree) = V2 (record header { detached = true }) tree
 
--- the bounds that a header of LUKS2 sets to key material and to the payload
+-- the bounds that a LUKS2 header sets for key material and for the payload
 unfoldable pub bounds2_of : Header2 → Bounds
 bounds2_of header = record { end = end2_of header; detached = header.detached }
 
--- a binary header of LUKS2 with what its JSON text says, if that can be read
+-- the LUKS2 header with this binary header and the metadata of its JSON text, if that could be read
 abbrev pub with_metadata : Header2 → Option Data → Result Header HeaderFault
 with_metadata header None = Err Json
 with_metadata header (Some tree) = Ok (V2 header tree)
 
--- the header of LUKS2 of these bytes, if they have a binary one
+-- the LUKS2 header of these bytes, if they have a binary header
 abbrev pub with_text : List ℕ → Result Header2 HeaderFault → Result Header HeaderFault
 with_text image (Ok header) = with_metadata header (tree_of (json_text_of image header))
 with_text image (Err fault) = Err fault
@@ -49,46 +49,46 @@ header_of image =
     (V1 (header1_of (at 0 header1_len image))))
     else with_text image (header2_of image)
 
--- how many bytes of the image are read to learn which header it has
+-- the number of bytes of the image that are read to learn which header it has
 unfoldable pub header_read_len : List ℕ → ℕ
 header_read_len image = if is_luks1 image then min header1_len (length image) else header2_read_len image
 
--- how far an image is looked at to learn which header it has
+-- how far into an image the search for its header goes; the image may end before
 unfoldable pub probe_len : List ℕ → ℕ
 probe_len image = if is_luks1 image then header1_len else reach2_of image
 
--- the image ends before that
+-- the image ends before the search for its header does
 abbrev pub falls_short : List ℕ → Bool
 falls_short image = nat_lt (length image) (probe_len image)
 
--- as many of its bytes were consumed as are read for the header, and its end was hit if it falls short
+-- the bytes that are read for the header were consumed, and the image's end was hit if the image falls short
 abbrev pub ConsumedHeaderLen : List ℕ → Option (List ℕ) → ℕ → ℕ → Type 0
 ConsumedHeaderLen image left ends ends' = ConsumedExactly image left (header_read_len image)
     × (ends' ≡ counted (falls_short image) ends)
 
--- some of its bytes were consumed, of LUKS1 none, and its end was not hit: more was yet to be looked at
+-- some of the image's bytes were consumed, none if it is LUKS1, and its end was not hit: the search was not finished
 abbrev pub ConsumedBeforeProbe : List ℕ → Option (List ℕ) → ℕ → ℕ → Type 0
 ConsumedBeforeProbe image left ends ends' = ConsumedFewer image left (probe_len image) × (ends' ≡ ends)
     × (is_luks1 image ≡ true → ConsumedExactly image left 0)
 
--- the image has a header of LUKS2
+-- the image has a binary LUKS2 header
 abbrev pub HasHeader2 : List ℕ → Type 0
 HasHeader2 image = (header : Header2) × (is_luks1 image ≡ false) × (header2_of image ≡ Ok header)
 
--- reading the header ended without one. A failed read ended it somewhere; memory ran out while more was yet to be
--- looked at, or behind a header of LUKS2, for the tree of its text; any other fault is the image's
+-- reading the header was aborted: by a failed read at any point, or for lack of memory, either during the search or,
+-- with a binary LUKS2 header, for the tree of its JSON text; any other fault is the image's
 abbrev pub AbortsReading : List ℕ → Option (List ℕ) → ℕ → ℕ → HeaderFault → Type 0
 AbortsReading image left ends ends' Read = ConsumedAtMost image left (header_read_len image) × (ends' ≡ ends)
 AbortsReading image left ends ends' Memory =
     ConsumedBeforeProbe image left ends ends' ⊎ (HasHeader2 image × ConsumedHeaderLen image left ends ends')
 AbortsReading image left ends ends' fault = (header_of image ≡ Err fault) × ConsumedHeaderLen image left ends ends'
 
--- as `ConsumedHeaderLen`, for an image of which some bytes were loaded before, and more went behind them
+-- like `ConsumedHeaderLen`, for an image of which some bytes were loaded before and further ones were appended to them
 abbrev pub ConsumedHeaderLenBehind : List ℕ → List ℕ → List ℕ → List ℕ → Option (List ℕ) → ℕ → ℕ → Type 0
 ConsumedHeaderLenBehind image held held' rest left ends ends' = ConsumedReadLen image held held' rest left
     × (ends' ≡ counted (falls_short image) ends)
 
--- as `AbortsReading`, for such an image
+-- like `AbortsReading`, for such an image
 abbrev pub AbortsHeld : List ℕ → List ℕ → List ℕ → List ℕ → Option (List ℕ) → ℕ → ℕ → HeaderFault → Type 0
 AbortsHeld image held held' rest left ends ends' Read = ConsumedUpToReadLen image held held' rest left × (ends' ≡ ends)
 AbortsHeld image held held' rest left ends ends' Memory =

@@ -12,7 +12,7 @@ unfoldable pub digest_for : Header → ℕ → Option KeyDigest
 digest_for (V1 header) number = digest1_of header
 digest_for (V2 header tree) number = digest2_for tree number
 
--- the digests by rising number, each with the names that it lists, if it is usable. LUKS1 numbers no digest
+-- the digests by ascending number, each with the names that it lists, if it is usable. LUKS1 does not number its digest
 unfoldable pub digests_of : Header → List (ℕ × Option Digest)
 digests_of (V1 header) = []
 digests_of (V2 header tree) = digests2_of tree

@@ -22,13 +22,14 @@ abbrev pub can_be_tried : Option Verdict → Bool
 can_be_tried (Some (Usable slot)) = true
 can_be_tried verdict = false
 
--- what is needed to open the key slot of this number: in LUKS1 if it is there and its numbers are in range, whatever
--- its state and its digest; in LUKS2 if it is there and there is no reason to skip it but a limit on iterations
+-- what is needed to open the key slot of this number. A LUKS1 slot that exists has it if its numbers are in range,
+-- whatever its state and its digest; a LUKS2 slot that exists has it if there is no reason to skip it except a limit on
+-- iterations
 unfoldable pub slot_at : Header → ℕ → Option Slot
 slot_at (V1 header) number = slot1_at header number
 slot_at (V2 header tree) number = slot2_at tree (bounds2_of header) number
 
--- a key slot beside its number
+-- the verdict on the key slot of this number, with the number, if the header has the slot
 abbrev pub numbered_verdict : Header → Option ℕ → ℕ → Option (ℕ × Verdict)
 numbered_verdict header limit number = option_map (λ verdict. (number, verdict)) (verdict_at header limit number)
 
@@ -36,7 +37,7 @@ numbered_verdict header limit number = option_map (λ verdict. (number, verdict)
 unfoldable pub verdicts_of : Header → Option ℕ → List (ℕ × Verdict)
 verdicts_of header limit = ascending (numbered_verdict header limit) max_slots
 
--- a member of the object of key slots is passed over. The key slots of LUKS1 have no names
+-- a member of the object of key slots has a name that is out of range. The key slots of LUKS1 have no names
 unfoldable pub has_name_out_of_range : Header → Bool
 has_name_out_of_range (V1 header) = false
 has_name_out_of_range (V2 header tree) = has_key_out_of_range tree

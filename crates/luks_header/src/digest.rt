@@ -33,7 +33,7 @@ pub fn digest_for(
 
 /// The digests of a header by ascending number, at most 32: each with the names that it lists, or
 /// `None` if it is not usable (LUKS2 On-Disk Format Specification 1.1, section 3, the digests
-/// object). LUKS1 numbers no digest: it has none here.
+/// object). LUKS1 does not number its digest: it has none here.
 ///
 /// # Errors
 ///

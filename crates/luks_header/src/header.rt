@@ -26,13 +26,13 @@ use std::alloc::Global;
 pub enum Header {
     /// LUKS1.
     V1(Header1),
-    /// LUKS2: the binary header, and what its JSON area says.
+    /// LUKS2: the binary header, and the metadata of its JSON area.
     V2(Header2, Metadata),
 }
 
 impl Header {
     /// Marks a header as detached: it is in another file than the payload. The payload may start at
-    /// any multiple of 512 bytes in its own image, and the key areas may reach past that offset.
+    /// any multiple of 512 bytes in its own image, and the key areas may extend past that offset.
     /// Nothing else changes, and this allocates nothing.
     #[tactic(auto, unfolding(crate::specs::Header::detached_of))]
     pub fn detach(self) -> Header
@@ -46,7 +46,7 @@ impl Header {
     }
 }
 
-/// The bounds that a header of LUKS2 sets to key material and to the payload: where both headers
+/// The bounds that a LUKS2 header sets for key material and for the payload: where both headers
 /// end, and whether it is detached. This allocates nothing.
 #[tactic(auto, unfolding(crate::specs::Header::bounds2_of))]
 pub fn bounds(header: &Header2) -> Bounds
@@ -58,17 +58,17 @@ pub fn bounds(header: &Header2) -> Bounds
     }
 }
 
-/// Reads the header at the start of an image, and answers it with the bytes that were read. It
+/// Reads the header at the start of an image, and returns it with the bytes that were read. It
 /// reads no more than it has to: 592 bytes for LUKS1, or all of a shorter image; for LUKS2 both
 /// headers, or, if the first is not valid, as much as finding the second requires (LUKS1 On-Disk
 /// Format Specification 1.2.3; LUKS2 On-Disk Format Specification 1.1, section 2).
 ///
 /// # Errors
 ///
-/// [`HeaderFault::NotLuks`] for an image that has neither a header of LUKS1 nor a valid one of
-/// LUKS2, [`HeaderFault::Cut`] for one that starts as LUKS1 and is shorter than the header,
-/// [`HeaderFault::Json`] for a header of LUKS2 whose JSON area cannot be read,
-/// [`HeaderFault::Read`] if a read failed, and [`HeaderFault::Memory`] if memory ran out.
+/// [`HeaderFault::NotLuks`] for an image that has neither a LUKS1 header nor a valid LUKS2 header,
+/// [`HeaderFault::Cut`] for one that starts as LUKS1 and is shorter than the header,
+/// [`HeaderFault::Json`] for a LUKS2 header whose JSON area cannot be read, [`HeaderFault::Read`]
+/// if a read failed, and [`HeaderFault::Memory`] if memory ran out.
 pub fn read_header<S: Source>(
     alloc: Global,
     source: &mut S,
@@ -108,8 +108,7 @@ pub fn read_header<S: Source>(
     Ok((header, area))
 }
 
-// Reads the header of LUKS2 of an image whose first bytes are loaded, and do not start as LUKS1
-// does.
+// Reads the LUKS2 header of an image whose first bytes are loaded and do not start as LUKS1.
 fn read2<S: Source>(
     alloc: Global,
     area: &mut HeaderArea,

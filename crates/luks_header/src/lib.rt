@@ -1,11 +1,11 @@
-//! LUKS headers: what they say of a volume's cipher, key slots and payload.
+//! LUKS headers, which describe a volume's cipher, key slots and payload.
 //!
 //! [`read_header`](header::read_header) reads the header at the start of an image,
-//! [`slots`](slot::slots) says which of its key slots can be tried,
-//! [`digest_for`](digest::digest_for) against which digest, [`digests`](digest::digests) which
-//! digests it has, and [`segment`](payload::segment) where the payload is.
+//! [`slots`](slot::slots) returns the verdicts on its key slots, [`digest_for`](digest::digest_for)
+//! the digest of a key slot, [`digests`](digest::digests) all digests, and
+//! [`segment`](payload::segment) the location of the payload.
 //!
-//! What belongs to one format is in a crate of its own below this one, and so is what both share.
+//! The crates below this one have what belongs to one format, and what both formats share.
 #![tactic(auto)]
 
 pub mod digest;

@@ -12,7 +12,7 @@ use luks_verdict::segment::Segment;
 ///
 /// # Errors
 ///
-/// The first [`SegmentFault`] that holds, if luksrd does not read the payload.
+/// The first [`SegmentFault`] that applies, if luksrd cannot read the payload.
 #[tactic(auto, unfolding(crate::specs::HeaderSegment::segment_of))]
 pub fn segment(header: &Header) -> Result<Segment, SegmentFault>
     ensures { result ≡ segment_of header.now }

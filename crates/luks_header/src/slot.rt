@@ -27,9 +27,10 @@ pub fn verdict_kind(header: &Header, limit: Option<u32>, number: u8) -> Option<V
     }
 }
 
-/// What is needed to open the key slot of this number. In LUKS1 it is given if the header has the
-/// slot and its numbers are in range, whatever its state and its digest. In LUKS2 it is given if
-/// the header has the slot and there is no reason to skip it but a limit on iterations.
+/// What is needed to open the key slot of this number. For LUKS1 it is returned if the header has
+/// the slot and its numbers are in range, whatever its state and its digest. For LUKS2 it is
+/// returned if the header has the slot and there is no reason to skip it except a limit on
+/// iterations.
 ///
 /// # Errors
 ///

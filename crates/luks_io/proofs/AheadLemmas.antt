@@ -1,4 +1,4 @@
--- What is handed on of the bytes that are held, and what is taken of a source at most.
+-- Which of the buffered bytes are forwarded, and how many bytes of a source are consumed at most.
 use Rattle.std.proofs.Common.{◌≡◌, ℕ, ◌+◌, ◌-◌, ◌≤◌, List, ◌++◌, Option, Some, None, Result, Ok, Err, ap, sym, ◌∙◌}
 use Rattle.std.proofs.Common.{arith, drop, length, take, length-take, length-drop, ◌<◌, OnOk, IfErr, append_assoc}
 use Rattle.std.proofs.lemmas.List.{drop-drop}
@@ -11,7 +11,7 @@ use Rattle.luks_io.specs.declared.sink.WriteFault.{WriteFault}
 use Rattle.luks_io.proofs.Moves.{took-front}
 use Rattle.luks_io.proofs.Consuming.{took-none}
 
--- the first bytes that are held go to the front of a buffer, and the others stay
+-- the first buffered bytes are copied to the start of a buffer, and the others stay buffered
 pub hands_on : (held buf piece : List ℕ) (start end count : ℕ) → length piece ≡ count → count ≤ end - start
     → piece ≡ take count (drop start held)
     → take (end - start) (drop start held)
@@ -29,7 +29,7 @@ kept_known None b kept known is = absurd cc
 kept_known (Some xs) None kept known is = absurd kept
 kept_known (Some xs) (Some ys) kept known is = cc
 
--- a read took no more than it had room for
+-- a read consumed no more bytes than its buffer has capacity for
 pub takes_at_most : {E : Type 0} (a b : Option (List ℕ)) (r : Result ℕ E) (buf : List ℕ) (most : ℕ) → length buf ≤ most
     → ReadsAtMost r buf → ReadConsumes a b r buf
     → IfKnown a (λ known. ConsumedAtMost known b most)
@@ -38,13 +38,13 @@ takes_at_most a b (Ok n) buf most fits bound took known is =
 takes_at_most a b (Err e) buf most fits bound kept known is =
     (0, omega arith, took-none known b (kept_known a b kept known is))
 
--- the first bytes that are held are the next ones
+-- the first buffered bytes are the next ones of the source
 consumes_first : (piece rest : List ℕ) (behind : Option (List ℕ))
     → Consumes (prepend_known (piece ++ rest) behind) (prepend_known rest behind) piece
 consumes_first piece rest None = tt
 consumes_first piece rest (Some more) = append_assoc piece rest more
 
--- what is held is the piece that is passed on, and what stays
+-- the buffered bytes are the piece that is forwarded, and those that stay
 piece_first : (items after : List ℕ) (start end count : ℕ) → count ≤ end - start
     → drop (start + count) after ≡ drop (start + count) items
     → take (end - start) (drop start items)
@@ -55,7 +55,7 @@ piece_first items after start end count few behind =
     ∙ ap (λ l. take count (drop start items) ++ take (end - (start + count)) l)
     (drop-drop count start items ∙ sym behind)
 
--- a piece that was taken and changed is written, or the write is broken off
+-- a piece that was consumed and transformed was written, or the write was aborted
 forwards : (piece : List ℕ) (count : ℕ) (left left' before after : Option (List ℕ)) (transformed : List ℕ → List ℕ)
     (answer : Result (Unit {0}) WriteFault) (untouched : Type 0) → length piece ≡ count → Consumes left left' piece
     → OnOk answer (Appended before after (transformed piece))
@@ -66,7 +66,7 @@ forwards piece count left left' before after transformed (Ok done) untouched siz
 forwards piece count left left' before after transformed (Err fault) untouched sized taken ok err =
     (err.0, (piece, sized, taken, err.1))
 
--- the buffer after its piece was changed is all of the bytes that a vector shows
+-- the vector has exactly the bytes of the buffer whose piece was transformed
 all_of : (items buf : List ℕ) (len : ℕ) → length buf ≡ len → take len (buf ++ drop (length buf) items) ≡ buf
 all_of items buf len long =
     ap (λ n. take n (buf ++ drop (length buf) items)) (sym long) ∙ take-append_seam buf (drop (length buf) items)
@@ -76,7 +76,7 @@ piece_length : (items : List ℕ) (len start end count : ℕ) → count ≤ end 
 piece_length items len start end count few inside long =
     omega (arith, length-take count (drop start items), length-drop start items)
 
--- what is behind a piece that was passed on stays held
+-- the bytes behind a forwarded piece stay buffered
 pub stays_held : (items buf : List ℕ) (len start end count : ℕ) → count ≤ end - start → end ≤ len → length items ≡ len
     → length buf ≡ len → drop (start + count) buf ≡ drop (start + count) items
     → take (end - (start + count)) (drop (start + count) (take len (buf ++ drop (length buf) items)))
@@ -91,7 +91,7 @@ stays_held items buf len start end count few inside long long' behind =
     ap (λ l. take (end - (start + count)) (drop (start + count) l)) (all_of items buf len long')
     ∙ sym (ap (λ l. drop count l) held ∙ skipped)
 
--- a piece of a buffer was passed on: what is behind it stays held
+-- a piece of a buffer was forwarded, and the bytes behind it stay buffered
 pub forwards_buffered : (items buf : List ℕ) (len start end count : ℕ) (below before after : Option (List ℕ))
     (transformed : List ℕ → List ℕ) (answer : Result (Unit {0}) WriteFault) (untouched : Type 0)
     → count ≤ end - start → end ≤ len → length items ≡ len → length buf ≡ len

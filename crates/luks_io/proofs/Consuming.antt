@@ -1,11 +1,11 @@
--- Bytes that are taken from a source, call after call.
+-- Bytes that are consumed from a source, call after call.
 use Rattle.std.proofs.Common.{◌≡◌, ℕ, ◌+◌, ◌<◌, ◌≤◌, List, [], ◌++◌, Option, Some, ◌∙◌, ap, sym, subst, min, drop}
 use Rattle.std.proofs.Common.{length, length-drop, append-nil, append_assoc, arith}
 use Rattle.std.proofs.lemmas.List.{drop-drop, drop_all}
 use Rattle.luks_io.specs.Devices.{Appended, ConsumedExactly, IfKnown}
 
 module _ (known : List ℕ) (r r' : Option (List ℕ)) where
-  -- m bytes were taken, and then n more of those behind them
+  -- m bytes were consumed, and then n more of those behind them
   pub consumed_behind : (m n : ℕ) → ConsumedExactly known r m → ConsumedExactly (drop m known) r' n
       → ConsumedExactly known r' (m + n)
   consumed_behind m n before then = record {
@@ -13,18 +13,18 @@ module _ (known : List ℕ) (r r' : Option (List ℕ)) where
     left = then.left ∙ ap Some (drop-drop n m known);
   }
 
-  -- m bytes were taken, and then n more
+  -- m bytes were consumed, and then n more
   pub consumed_more : (m n : ℕ) → ConsumedExactly known r m → IfKnown r (λ rest. ConsumedExactly rest r' n)
       → ConsumedExactly known r' (m + n)
   consumed_more m n before next = consumed_behind m n before (next (drop m known) before.left)
 
-  -- the same, of a sum that is given
+  -- the same, for a given sum of m and n
   pub consumed_sum : (m n sum : ℕ) → m + n ≡ sum → ConsumedExactly known r m
       → IfKnown r (λ rest. ConsumedExactly rest r' n)
       → ConsumedExactly known r' sum
   consumed_sum m n sum is before next = subst (ConsumedExactly known r') is (consumed_more m n before next)
 
-  -- m bytes were taken, and then fewer than were asked for
+  -- m bytes were consumed, and then fewer than were requested: these were all
   pub consumed_all : (m asked n : ℕ) → ConsumedExactly known r m → IfKnown r (λ rest. ConsumedExactly rest r' n)
       → IfKnown r (λ rest. n ≡ min asked (length rest)) → n < asked
       → (m + n ≡ length known) × ConsumedExactly known r' (length known)
@@ -33,11 +33,11 @@ module _ (known : List ℕ) (r r' : Option (List ℕ)) where
       ≡ length known = omega (arith, all (drop m known) before.left, length-drop m known, before.within) in
       (whole, consumed_sum m n (length known) whole before next)
 
--- before any byte is taken
+-- before any byte is consumed
 pub took-none : (known : List ℕ) (left : Option (List ℕ)) → left ≡ Some known → ConsumedExactly known left 0
 took-none known left is = record { within = omega arith; left = is }
 
--- all bytes were taken
+-- all bytes were consumed
 pub took-all : (known : List ℕ) (left : Option (List ℕ)) (count : ℕ) → length known ≤ count
     → left ≡ Some (drop count known) → ConsumedExactly known left (length known)
 took-all known left count all is =
@@ -47,7 +47,7 @@ took-all known left count all is =
           ∙ ap Some (drop_all count known all ∙ sym (drop_all (length known) known (omega arith)));
     }
 
--- where nothing is written, the sink is as before
+-- if nothing is written, the sink does not change
 pub adds-none : (before : Option (List ℕ)) → Appended before before []
 adds-none before known is = is ∙ ap Some (sym (append-nil known))
 

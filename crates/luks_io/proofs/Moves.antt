@@ -14,7 +14,7 @@ use borrow.Rule.Slice.PartMut.{post_of, put_mid}
 rest_of : (xs : List ℕ) (at : ℕ) → take (length xs - at) (drop at xs) ≡ drop at xs
 rest_of xs at = take_all (length xs - at) (drop at xs) (omega (arith, length-drop at xs))
 
--- the first bytes of a list went out, and then the next n
+-- the first bytes of a list were written, and then the next n
 pub Appends-next : (a b c : Option (List ℕ)) (xs : List ℕ) (at n : ℕ) → Appends a b (take at xs)
     → Appends b c (take n (take (length xs - at) (drop at xs)))
     → Appends a c (take (at + n) xs)
@@ -22,7 +22,7 @@ Appends-next a b c xs at n p q =
     subst (Appends a c) (sym (take-add at n xs))
     (Appends-trans a b c (take at xs) (take n (drop at xs)) p (subst (λ l. Appends b c (take n l)) (rest_of xs at) q))
 
--- the first at bytes of a buffer stay, and its rest becomes ys
+-- the first `at` bytes of a buffer stay, and its rest becomes `ys`
 front_of : (xs ys rest : List ℕ) (at n : ℕ) → at ≤ length xs → n ≤ length ys
     → take (at + n) (take at xs ++ (ys ++ rest)) ≡ take at xs ++ take n ys
 front_of xs ys rest at n within few =
@@ -30,7 +30,7 @@ front_of xs ys rest at n within few =
     ∙ take-append-add (take at xs) (ys ++ rest) n
     ∙ ap (λ l. take at xs ++ l) (take-append-le n ys rest few)
 
--- the first at bytes of a buffer stay, whatever comes behind them
+-- the first `at` bytes of a buffer stay, whatever comes behind them
 front_stays : (xs rest : List ℕ) (at : ℕ) → at ≤ length xs → take at (take at xs ++ rest) ≡ take at xs
 front_stays xs rest at within =
     let cut : length (take at xs) ≡ at = length-take-le at xs within in
@@ -43,7 +43,7 @@ pub Consumes-next : (a b c : Option (List ℕ)) (xs ys : List ℕ) (at n : ℕ) 
 Consumes-next a b c xs ys at n within few p q =
     subst (Consumes a c) (sym (front_of xs ys _ at n within few)) (Consumes-trans a b c (take at xs) (take n ys) p q)
 
--- the first bytes of a buffer were consumed, so they are those that were known to come
+-- if the first bytes of a buffer were consumed, they are the next bytes that the source knew
 pub took-front : (a b : Option (List ℕ)) (buf : List ℕ) (at : ℕ) → at ≤ length buf → Consumes a b (take at buf)
     → IfKnown a (λ known. ConsumedInto known b buf at)
 took-front None b buf at within p known is = absurd cc
@@ -59,7 +59,7 @@ took-front (Some xs) (Some ys) buf at within p known is =
       sym (ap (take at) whole ∙ front_stays buf ys at within),
     )
 
--- a whole buffer of them
+-- if a buffer was filled whole, the source knew at least as many bytes
 pub took-whole : (a b : Option (List ℕ)) (buf : List ℕ) (at : ℕ) → at ≤ length buf → length buf ≤ at
     → Consumes a b (take at buf)
     → IfKnown a (λ known. at ≡ min (length buf) (length known))
@@ -79,7 +79,7 @@ module _ (a b c : Option (List ℕ)) (xs ys : List ℕ) (at : ℕ) where
       → IfKnown a (λ known. ConsumedInto known c (put_mid at (length xs - at) xs ys) at)
   took-kept within p q = consumed_same within (Consumes-kept a b c (take at xs) p q)
 
-  -- or it gave nothing
+  -- the first bytes of a buffer were consumed, and then a read behind them gave nothing
   pub took-nothing : (n : ℕ) → n ≡ 0 → at ≤ length xs → Consumes a b (take at xs) → Consumes b c (take n ys)
       → IfKnown a (λ known. ConsumedInto known c (put_mid at (length xs - at) xs ys) at)
   took-nothing n none within p q =
@@ -87,7 +87,7 @@ module _ (a b c : Option (List ℕ)) (xs ys : List ℕ) (at : ℕ) where
       consumed_same within
       (subst (Consumes a c) (append-nil (take at xs)) (Consumes-trans a b c (take at xs) [] p nothing))
 
--- all bytes of a list went out
+-- all bytes of a list were written
 pub adds-all : (a b : Option (List ℕ)) (xs : List ℕ) (at : ℕ) → length xs ≤ at → Appends a b (take at xs)
     → Appended a b xs
 adds-all None b xs at all p known is = absurd cc

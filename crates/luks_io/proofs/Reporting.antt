@@ -1,4 +1,4 @@
--- What is reported of a device's answers, one answer after the other.
+-- The result that is reported from a device's answers, one answer after the other.
 use Rattle.std.proofs.Common.{◌≡◌, ℕ, zero, suc, ◌-◌, ◌<◌, List, [], ◌∷◌, Option, Result, Err, refl, subst, arith}
 use Rattle.luks_io.specs.CallOutcomes.{GivesNext, IsNextOf, ReportsFirst, ReportsFirstOf}
 use Rattle.luks_io.specs.declared.DeviceFault.{DeviceFault}
@@ -41,7 +41,7 @@ module _ (result_for : ℕ → Result ℕ DeviceFault) (after : Option (List Cal
       → ReportsFirst result_for before tries (Err record {}) after
   reports_last before tries none next known is = rw none (last_first known (next known is))
 
--- a call was interrupted, and is made again
+-- a call was interrupted, and is repeated
 module _ (result_for : ℕ → Result ℕ DeviceFault) (before now : Option (List CallOutcome)) (told : Result ℕ DeviceFault)
     (after : Option (List CallOutcome)) where
   again_first : (tries : ℕ) (known : List CallOutcome) → IsNextOf known Interrupted now

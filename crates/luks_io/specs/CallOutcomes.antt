@@ -1,4 +1,4 @@
--- The result of a device's answers: an interrupted call is made again, a few times at most.
+-- The result of a device's answers: an interrupted call is repeated a limited number of times.
 use Rattle.std.specs.Prelude.{◌≡◌, ◌==◌, ℕ, zero, suc, ◌≤◌, List, [], ◌∷◌, length, take, Option, Some, Result, Ok, Err}
 use Rattle.std.specs.Prelude.{if◌then◌else◌, ◌<◌}
 use Rattle.std.specs.Io.KnownBytes.{Appends, Consumes, IsAtEnd, Keeps}
@@ -19,15 +19,16 @@ GivesNext before answer after = (known : List CallOutcome) → before ≡ Some k
 abbrev pub max_retries : ℕ
 max_retries = 100
 
--- the result of a call that moved so many bytes: of a read
+-- the result of a read that moved so many bytes
 abbrev pub read_result : ℕ → Result ℕ DeviceFault
 read_result count = Ok count
 
--- and of a write of a buffer that is not empty
+-- the result of a write that moved so many bytes, of a buffer that is not empty
 abbrev pub write_result : ℕ → Result ℕ DeviceFault
 write_result count = if count == 0 then Err record {} else Ok count
 
--- the first answer that is no interruption is the result, with so many retries, and no further call is made
+-- the result is that of the first answer that is not an interruption, or a failure after `tries` retries; no further
+-- call is made
 abbrev pub ReportsFirstOf : (ℕ → Result ℕ DeviceFault) → ℕ → List CallOutcome → Result ℕ DeviceFault
     → Option (List CallOutcome)
     → Type 0
@@ -37,21 +38,21 @@ ReportsFirstOf result_for tries (Failed ∷ rest) told after = (told ≡ Err rec
 ReportsFirstOf result_for zero (Interrupted ∷ rest) told after = (told ≡ Err record {}) × (after ≡ Some rest)
 ReportsFirstOf result_for (suc tries) (Interrupted ∷ rest) told after = ReportsFirstOf result_for tries rest told after
 
--- a device whose answers are known reports the first that is no interruption, as above
+-- a device whose answers are known reports the first that is not an interruption, as above
 abbrev pub ReportsFirst : (ℕ → Result ℕ DeviceFault) → Option (List CallOutcome) → ℕ → Result ℕ DeviceFault
     → Option (List CallOutcome)
     → Type 0
 ReportsFirst result_for before tries told after = (known : List CallOutcome) → before ≡ Some known
     → ReportsFirstOf result_for tries known told after
 
--- `read(buf)`: std's word for what its answer says of the bytes
+-- `read(buf)`: the effect of its answer on the bytes, in the terms of std
 abbrev pub OutcomeConsumes : Option (List ℕ) → Option (List ℕ) → CallOutcome → List ℕ → Type 0
 OutcomeConsumes before after (Moved n) buf = (n ≤ length buf) × Consumes before after (take n buf)
     × (n ≡ 0 → 0 < length buf → IsAtEnd after)
 OutcomeConsumes before after Interrupted buf = Keeps before after
 OutcomeConsumes before after Failed buf = Keeps before after
 
--- `write(buf)`: the same
+-- `write(buf)`: the effect of its answer on the bytes, in the terms of std
 abbrev pub OutcomeAppends : Option (List ℕ) → Option (List ℕ) → CallOutcome → List ℕ → Type 0
 OutcomeAppends before after (Moved n) buf = (n ≤ length buf) × Appends before after (take n buf)
 OutcomeAppends before after Interrupted buf = Keeps before after

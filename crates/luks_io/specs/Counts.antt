@@ -1,4 +1,4 @@
--- What devices count of their calls, and what the calls of a part of a run add to it.
+-- The counts that devices keep of their calls, and what the calls in a part of a run add to them.
 use Rattle.std.specs.Prelude.{◌≡◌, ℕ, ◌-◌, ◌≤◌, ◌==◌, ◌||◌, nat_lt, is_err, Bool, Result, Ok, Err, Option, Some, None}
 use Rattle.luks_io.specs.Devices.{counted, is_end}
 use Rattle.luks_io.specs.declared.counts.ReadCounts.{ReadCounts}
@@ -8,16 +8,16 @@ use Rattle.luks_io.specs.declared.counts.WriteCounts.{WriteCounts}
 abbrev pub is_needless_read : ReadCounts → ℕ → Bool
 is_needless_read counts room = room == 0 || (nat_lt 0 counts.failures || nat_lt 0 counts.ends)
 
--- how many bytes a read gave
+-- the number of bytes that a read gave
 abbrev pub given : {E : Type 0} → Result ℕ E → ℕ
 given (Ok count) = count
 given (Err _) = 0
 
--- the counts of a source that was not read yet, and is not allowed to read ahead
+-- the counts of a source that has not been read yet, and is not allowed to read ahead
 abbrev pub unread : ReadCounts
 unread = record { failures = 0; ends = 0; needless = 0; ahead = 0 }
 
--- what is counted after one more read into a buffer with capacity for so many bytes
+-- the counts after one more read into a buffer with capacity for `room` bytes
 abbrev pub after_read : {E : Type 0} → Result ℕ E → ℕ → ReadCounts → ReadCounts
 after_read answer room counts = record {
   failures = counted (is_err answer) counts.failures;
@@ -26,7 +26,7 @@ after_read answer room counts = record {
   ahead = counts.ahead - given answer;
 }
 
--- the same source, which is allowed to read so many bytes ahead
+-- the counts of the same source, if it is allowed to read `count` bytes ahead
 abbrev pub with_ahead : ℕ → ReadCounts → ReadCounts
 with_ahead count counts = record {
   failures = counts.failures;
@@ -35,7 +35,7 @@ with_ahead count counts = record {
   ahead = count;
 }
 
--- how many bytes are allowed to be read ahead after so many buffered ones were forwarded, or none
+-- the number of bytes that are allowed to be read ahead after `count` buffered ones were forwarded, or none
 abbrev pub left_ahead : {A : Type 0} → Option A → ℕ → ℕ → ℕ
 left_ahead (Some _) count ahead = ahead - count
 left_ahead None count ahead = ahead
@@ -53,7 +53,7 @@ ReadsAsNeeded before after = IsLive before → after.needless ≡ before.needles
 abbrev pub is_needless_write : WriteCounts → ℕ → Bool
 is_needless_write counts len = len == 0 || nat_lt 0 counts.failures
 
--- what is counted after one more write of so many bytes
+-- the counts after one more write of `len` bytes
 abbrev pub after_write : {E : Type 0} → Result ℕ E → ℕ → WriteCounts → WriteCounts
 after_write answer len counts = record {
   failures = counted (is_err answer) counts.failures;

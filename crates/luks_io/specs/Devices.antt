@@ -1,10 +1,10 @@
 -- The effects of calls on one device: which bytes a source gave, which bytes a sink accepted, and what is counted. A
--- device may know its bytes: `Some` of a list, or `None` if it does not. std's words `Consumes`, `Appends` and
--- `IsAtEnd` say what one call does to them, and claim nothing at `None`.
+-- device may know its bytes: `Some` of a list, or `None` if it does not. std's relations `Consumes`, `Appends` and
+-- `IsAtEnd` state what one call does to them, and claim nothing for `None`.
 use Rattle.std.specs.Prelude.{◌≡◌, ℕ, ◌+◌, ◌-◌, ◌^◌, ◌<◌, ◌≤◌, ◌++◌, ◌==◌, ◌&&◌, min, nat_lt, Bool, true, false, List}
 use Rattle.std.specs.Prelude.{drop, length, take, MatchResult, Result, Ok, Err, Option, Some}
 
--- if a device knows its bytes, this holds of them
+-- if a device knows its bytes, this holds for them
 abbrev pub IfKnown : Option (List ℕ) → (List ℕ → Type 0) → Type 0
 IfKnown device Holds = (known : List ℕ) → device ≡ Some known → Holds known
 
@@ -13,15 +13,15 @@ pub record ConsumedExactly (known : List ℕ) (left' : Option (List ℕ)) (count
   pub within : count ≤ length known
   pub left : left' ≡ Some (drop count known)
 
--- some first ones of those bytes were consumed: at most so many
+-- the first ones of those bytes were consumed: at most `most`
 abbrev pub ConsumedAtMost : List ℕ → Option (List ℕ) → ℕ → Type 0
 ConsumedAtMost known left most = (count : ℕ) × (count ≤ most) × ConsumedExactly known left count
 
--- some first ones of those bytes were consumed: fewer than so many
+-- the first ones of those bytes were consumed: fewer than `all`
 abbrev pub ConsumedFewer : List ℕ → Option (List ℕ) → ℕ → Type 0
 ConsumedFewer known left all = (count : ℕ) × (count < all) × ConsumedExactly known left count
 
--- some first ones of those bytes were consumed: at least `least`, and fewer than `all`
+-- the first ones of those bytes were consumed: at least `least`, and fewer than `all`
 abbrev pub ConsumedBetween : List ℕ → Option (List ℕ) → ℕ → ℕ → Type 0
 ConsumedBetween known left least all = (count : ℕ) × (least ≤ count) × (count < all) × ConsumedExactly known left count
 
@@ -29,7 +29,7 @@ ConsumedBetween known left least all = (count : ℕ) × (least ≤ count) × (co
 abbrev pub ConsumedInto : List ℕ → Option (List ℕ) → List ℕ → ℕ → Type 0
 ConsumedInto known left buf count = ConsumedExactly known left count × (take count buf ≡ take count known)
 
--- the bytes are behind those that a sink had accepted, as far as it knows them
+-- the bytes were appended to those that a sink had accepted, if it knows them
 abbrev pub Appended : Option (List ℕ) → Option (List ℕ) → List ℕ → Type 0
 Appended before after bytes = (known : List ℕ) → before ≡ Some known → after ≡ Some (known ++ bytes)
 
@@ -46,12 +46,12 @@ abbrev pub counted : Bool → ℕ → ℕ
 counted true count = saturating_inc count
 counted false count = count
 
--- a read hit the end: it gave nothing to a buffer with capacity for so many bytes
+-- a read hit the end: it gave nothing to a buffer with capacity for `room` bytes
 abbrev pub is_end : {E : Type 0} → Result ℕ E → ℕ → Bool
 is_end (Ok count) room = count == 0 && nat_lt 0 room
 is_end (Err _) room = false
 
--- fewer bytes came than were requested, and no read failed: the end came first
+-- fewer bytes were read than were requested, and no read failed: the end was hit
 abbrev pub is_short_read : {E : Type 0} → Result ℕ E → ℕ → Bool
 is_short_read (Ok count) asked = nat_lt count asked
 is_short_read (Err _) asked = false

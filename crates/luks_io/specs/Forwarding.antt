@@ -1,16 +1,16 @@
--- What goes from a source to a sink without a buffer between them.
+-- Forwarding bytes from a source to a sink without a buffer between them.
 use Rattle.std.specs.Prelude.{◌≡◌, ℕ, ◌<◌, Bool, true, false, List, drop, length, take, Option, None, Some, Result, Ok, Err}
 use Rattle.std.specs.Io.KnownBytes.{Consumes}
 use Rattle.luks_io.specs.Devices.{Appended}
 use Rattle.luks_io.specs.declared.sink.WriteFault.{WriteFault}
 
--- the next `count` bytes of a source were consumed, and some part of what they become was written
+-- the next `count` bytes of a source were consumed, and the bytes that `written_of` makes of them were written
 abbrev pub Forwarded : ℕ → (List ℕ → List ℕ) → Option (List ℕ) → Option (List ℕ) → Option (List ℕ) → Option (List ℕ)
     → Type 0
 Forwarded count written_of left left' before after =
     (bytes : List ℕ) × (length bytes ≡ count) × Consumes left left' bytes × Appended before after (written_of bytes)
 
--- the effect of forwarding `count` bytes of a source: nothing, all of it, or as far as a write that failed
+-- the effect of forwarding `count` bytes of a source: nothing, all of them, or those before a write that failed
 abbrev pub ForwardEffect : Option (Result (Unit {0}) WriteFault) → Type 0 → ℕ → (List ℕ → List ℕ) → Option (List ℕ)
     → Option (List ℕ) → Option (List ℕ) → Option (List ℕ) → Type 0
 ForwardEffect None untouched count transformed left left' before after = untouched
@@ -25,7 +25,7 @@ is_aborted None = false
 is_aborted (Some (Ok _)) = false
 is_aborted (Some (Err _)) = true
 
--- which bytes stay buffered
+-- the bytes that stay buffered
 abbrev pub held_after : Option (Result (Unit {0}) WriteFault) → ℕ → List ℕ → List ℕ
 held_after None count held = held
 held_after (Some _) count held = drop count held

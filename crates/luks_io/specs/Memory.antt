@@ -10,11 +10,11 @@ pub record MemSourceModel : Type 0 where
   pub ends : ℕ
   pub needless : ℕ
 
--- what it counts
+-- the counts of a source over memory
 abbrev pub counts_of_memory : MemSourceModel → ReadCounts
 counts_of_memory source = record { failures = 0; ends = source.ends; needless = source.needless; ahead = 0 }
 
--- a sink over memory: the bytes written, how many more fit, and what it counts of its writes
+-- a sink over memory: the bytes written, how many more fit, and the counts of its writes
 pub record MemSinkModel : Type 0 where
   pub written : List ℕ
   pub room : ℕ

@@ -23,8 +23,8 @@ use std::marker::Model;
 /// allowed to be read ahead and fit into its buffer, and copies them out as they are requested. It
 /// reads no others before they are requested, so what is not needed stays in the source below.
 ///
-/// A clause sees the source below, which of its bytes are buffered, the buffer's capacity, and what
-/// is counted. The buffered bytes are some of those that are allowed to be read ahead.
+/// A clause sees the source below, which of its bytes are buffered, the buffer's capacity, and the
+/// counts. The buffered bytes are some of those that are allowed to be read ahead.
 #[derive(Drop)]
 pub struct AheadSource<S> {
     source: S,
@@ -52,7 +52,7 @@ impl<S> Model for AheadSource<S> {
         × (a.end - a.start ≤ a.counts.ahead) };
 }
 
-/// Reads at most `count` bytes into the front of a buffer.
+/// Reads at most `count` bytes into the start of a buffer.
 fn read_front<S: Source>(
     source: &mut S,
     buffer: &mut [u8],
@@ -116,7 +116,7 @@ impl<S: Source> AheadSource<S> {
         self.source.read(buf)
     }
 
-    /// Reads at most `count` bytes into the empty buffer, and answers how many came.
+    /// Reads at most `count` bytes into the empty buffer, and returns how many it read.
     fn refill(&mut self, count: usize) -> Result<usize, DeviceFault>
         requires room { count ≤ self.old.room }
         requires allowed { count ≤ self.old.counts.ahead }
@@ -141,7 +141,7 @@ impl<S: Source> AheadSource<S> {
         Ok(got)
     }
 
-    /// Copies out as many of the buffered bytes as fit, and answers how many.
+    /// Copies out as many of the buffered bytes as fit, and returns how many.
     fn copy_out(&mut self, buf: &mut [u8]) -> usize
         ensures count { result ≡ min (length buf.old) (length self.old.held) }
         ensures len { length buf.new ≡ length buf.old }
@@ -158,7 +158,7 @@ impl<S: Source> AheadSource<S> {
 }
 
 impl<S> AheadSource<S> {
-    /// Counts a read of this source, and gives its answer back.
+    /// Counts a read of this source, and returns its answer.
     fn counted(
         &mut self,
         answer: Result<usize, DeviceFault>,

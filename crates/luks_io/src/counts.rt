@@ -1,4 +1,4 @@
-//! What devices count of their calls. A count of calls stays at its greatest value.
+//! The counts that devices keep of their calls. A count of calls stays at its greatest value.
 
 ghost use Rattle.std.specs.Prelude.{◌≡◌, ◌==◌, ◌&&◌};
 ghost use Rattle.luks_io.specs.Devices.{counted, is_end};
@@ -6,7 +6,7 @@ ghost use Rattle.luks_io.specs.Counts.{after_read, after_write, given, unread};
 
 use crate::DeviceFault;
 
-/// What a source counts of its reads.
+/// The counts of a source's reads.
 #[derive(Clone, Copy, Debug, PartialEq, Eq)]
 pub struct ReadCounts {
     /// Reads that failed.
@@ -21,7 +21,7 @@ pub struct ReadCounts {
 }
 
 impl ReadCounts {
-    /// The counts of a source that was not read yet.
+    /// The counts of a source that has not been read yet.
     pub fn new() -> ReadCounts
         ensures { result ≡ unread }
     {
@@ -33,7 +33,7 @@ impl ReadCounts {
         }
     }
 
-    /// Counts a read into a buffer with capacity for `room` bytes, and gives its answer back. For a
+    /// Counts a read into a buffer with capacity for `room` bytes, and returns its answer. For a
     /// source's own `read`.
     pub fn count(
         &mut self,
@@ -52,7 +52,7 @@ impl ReadCounts {
     }
 }
 
-/// What a sink counts of its writes.
+/// The counts of a sink's writes.
 #[derive(Clone, Copy, Debug, PartialEq, Eq)]
 pub struct WriteCounts {
     /// Writes that failed.
@@ -62,7 +62,7 @@ pub struct WriteCounts {
 }
 
 impl WriteCounts {
-    /// The counts of a sink that was not written to yet.
+    /// The counts of a sink that has not been written to yet.
     pub fn new() -> WriteCounts
         ensures { result ≡ record { failures = 0; needless = 0 } }
     {
@@ -72,7 +72,7 @@ impl WriteCounts {
         }
     }
 
-    /// Counts a write of `len` bytes, and gives its answer back. For a sink's own `write`.
+    /// Counts a write of `len` bytes, and returns its answer. For a sink's own `write`.
     pub fn count(
         &mut self,
         answer: Result<usize, DeviceFault>,
@@ -88,7 +88,7 @@ impl WriteCounts {
     }
 }
 
-/// How many bytes a read gave.
+/// The number of bytes that a read gave.
 fn given(answer: &Result<usize, DeviceFault>) -> u64
     ensures { result ≡ given answer.now }
 {
@@ -98,7 +98,7 @@ fn given(answer: &Result<usize, DeviceFault>) -> u64
     }
 }
 
-/// Counts a call, if it is one of those counted.
+/// Raises the count by one if `is` holds.
 fn count_if(count: &mut u64, is: bool)
     ensures { count.new ≡ counted is count.old }
 {

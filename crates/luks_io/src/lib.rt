@@ -14,6 +14,6 @@ pub mod sink;
 pub mod source;
 pub mod transform;
 
-/// A device did not do what it was asked. The call that answers it is counted as a failure.
+/// A device did not do what was requested. The call that returns this is counted as a failure.
 #[derive(Clone, Copy, Debug, PartialEq, Eq)]
 pub struct DeviceFault;

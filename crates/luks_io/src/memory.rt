@@ -15,8 +15,8 @@ use crate::source::Source;
 use std::alloc::{AllocError, Global};
 use std::marker::Model;
 
-/// Reads from bytes in memory. No read of it fails. A clause sees the remaining bytes, how often
-/// the end was hit, and how many reads were needless.
+/// Reads from bytes in memory. No read fails. A clause sees the remaining bytes, how often the end
+/// was hit, and how many reads were needless.
 #[derive(Drop)]
 pub struct MemSource<'a> {
     left: &'a [u8],
@@ -61,8 +61,8 @@ impl<'a> Source for MemSource<'a> {
 
     ghost counts = { λ s. counts_of_memory s };
 
-    /// Gives as many of the remaining bytes as fit into the buffer. The buffer stays as it was
-    /// behind them.
+    /// Copies as many of the remaining bytes as fit into the buffer. The rest of the buffer does
+    /// not change.
     fn read(&mut self, buf: &mut [u8]) -> Result<usize, DeviceFault>
         ensures bound { ReadsAtMost result buf.new }
         ensures bytes { ReadConsumes (Some self.old.left) (Some self.new.left) result buf.new }
@@ -80,7 +80,7 @@ impl<'a> Source for MemSource<'a> {
 }
 
 /// Writes into memory that was allocated beforehand. It accepts what still fits; a write to a full
-/// one fails.
+/// sink fails.
 #[derive(Drop)]
 pub struct MemSink {
     bytes: Vec<u8>,

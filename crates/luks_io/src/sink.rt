@@ -8,15 +8,15 @@ ghost use Rattle.luks_io.specs.declared.counts.WriteCounts.{WriteCounts};
 
 use crate::DeviceFault;
 
-/// Appends bytes, each call's behind those of the calls before.
+/// Appends bytes: those of each call follow those of the calls before.
 pub trait Sink {
     /// The bytes that were written, if the sink knows them.
     ghost written: { Self → Option (List ℕ) };
 
-    /// How many writes have failed, and were needless.
+    /// How many writes have failed, and how many were needless.
     ghost counts: { Self → WriteCounts };
 
-    /// Writes a prefix of the buffer, and answers its length: at least one byte if there are any. A
+    /// Writes a prefix of the buffer, and returns its length: at least one byte if there are any. A
     /// failure writes nothing.
     fn write(&mut self, buf: &[u8]) -> Result<usize, DeviceFault>
         ensures bound { AcceptsSome result buf.now }

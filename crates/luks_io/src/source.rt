@@ -1,4 +1,4 @@
-//! What gives bytes.
+//! Sources of bytes.
 
 ghost use Rattle.std.specs.Prelude.{◌≡◌, ◌<◌, ◌≤◌, ℕ, List, Option, length, max, min};
 ghost use Rattle.std.specs.Prelude.{is_err, IfOk, MatchResult};
@@ -19,11 +19,11 @@ pub trait Source {
     /// The remaining bytes, if the source knows them.
     ghost to_come: { Self → Option (List ℕ) };
 
-    /// How many reads have failed, have hit the end, and were needless; and how many of the next
-    /// bytes are allowed to be read ahead.
+    /// How many reads have failed, how many have hit the end, and how many were needless; and how
+    /// many of the next bytes are allowed to be read ahead.
     ghost counts: { Self → ReadCounts };
 
-    /// Reads the next bytes into the start of the buffer, and answers how many. `Ok(0)` for a
+    /// Reads the next bytes into the start of the buffer, and returns how many. `Ok(0)` for a
     /// buffer with capacity means that none remain. A failure consumes nothing.
     fn read(&mut self, buf: &mut [u8]) -> Result<usize, DeviceFault>
         ensures bound { ReadsAtMost result buf.new }
@@ -41,8 +41,8 @@ pub trait Source {
     {}
 
     /// Forwards the next `count` bytes, transformed, to the sink, if the source has so many
-    /// buffered. They are consumed, whether the write fails or not. At `None` nothing was done, and
-    /// the caller reads them.
+    /// buffered. They are consumed, whether or not the write fails. `None` means that nothing was
+    /// done; the caller then reads the bytes.
     fn forward_buffered<C: Transform, O: Sink>(
         &mut self,
         count: usize,
@@ -68,7 +68,7 @@ pub struct ReadFault {
     pub got: usize,
 }
 
-/// Fills the buffer with the next bytes of the source, and answers how many there were: fewer than
+/// Fills the buffer with the next bytes of the source, and returns how many there were: fewer than
 /// the buffer has only if the source is at its end. One read, the last, hits that end.
 ///
 /// # Errors

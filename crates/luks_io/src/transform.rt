@@ -1,4 +1,4 @@
-//! What bytes become on their way from a source to a sink.
+//! Transformations of bytes on their way from a source to a sink.
 
 ghost use Rattle.std.specs.Prelude.{◌≡◌, ◌<◌, ◌≤◌, ◌+◌, ℕ, List, length, take, drop, is_err, OnOk, IfErr};
 ghost use Rattle.luks_io.specs.Devices.{Appended};
@@ -11,16 +11,17 @@ pub trait Transform {
     /// Which numbers of bytes it transforms at once.
     ghost accepts: { Self → ℕ → Type 0 };
 
-    /// What they become.
+    /// The transformed bytes.
     ghost transformed: { Self → List ℕ → List ℕ };
 
-    /// Changes these bytes.
+    /// Transforms these bytes.
     fn apply(&self, bytes: &mut [u8])
         requires { accepts self.now (length bytes.old) }
         ensures { bytes.new ≡ transformed self.now bytes.old };
 }
 
-/// Transforms some bytes of a buffer in place, and writes the result. The bytes behind them stay.
+/// Transforms some bytes of a buffer in place, and writes them. The bytes behind them do not
+/// change.
 pub(crate) fn put_transformed<C: Transform, O: Sink>(
     buffer: &mut [u8],
     start: usize,

@@ -1,4 +1,4 @@
-//! Tests of `luks_io` and `luks_test_support`: devices, and the failing ones of tests, through
+//! Tests of `luks_io` and `luks_test_support`: devices, and the failing devices for tests, through
 //! their public calls.
 //!
 //! They are a crate of their own, so that the crates below are not proved once more with them.

@@ -1,4 +1,4 @@
--- What stripes are made of, and that merging what was split gives the key.
+-- The lengths and contents of stripes. The stripes of a split key merge to the key.
 use Rattle.std.proofs.Common.{◌≡◌, ◌∙◌, ℕ, zero, suc, ◌+◌, ◌-◌, ◌*◌, ◌/◌, ◌<◌, ◌≤◌, List, [], ◌++◌, length, take, drop}
 use Rattle.std.proofs.Common.{min, replicate, refl, sym, ap, arith, add-one, length-append, length-drop}
 use Rattle.std.proofs.lemmas.List.{append-nil, drop-append-le, take-append-le, length-replicate, length-take}
@@ -15,7 +15,7 @@ use Rattle.luks_kdf.specs.Stripes.{diffused_piece, extended, merged, piece_of, s
 use Rattle.luks_kdf.proofs.BytesLemmas.{cut_part, drop_front, joined_more, length-xor, xor-undone}
 use Rattle.luks_kdf.proofs.HashLemmas.{length-hash_of, digest_sizes}
 
--- a piece that is diffused keeps its length
+-- the length of a diffused piece is that of the piece
 pub length-diffused_piece : (h : Hash) (block : List ℕ) (j : ℕ)
     → length (diffused_piece h block j) ≡ min (digest_len h) (length block - j * digest_len h)
 unfolding diffused_piece piece_of
@@ -26,7 +26,7 @@ length-diffused_piece h block j =
     let short = length-take (digest_len h) (drop (j * digest_len h) block) in
     omega (arith, digest, cut, short, length-drop (j * digest_len h) block)
 
--- the first j pieces diffused
+-- the length of the first j diffused pieces
 pub length_pieces : (h : Hash) (block : List ℕ) (j : ℕ)
     → length (joined (diffused_piece h block) j) ≡ min (j * digest_len h) (length block)
 unfolding joined
@@ -40,7 +40,7 @@ length_pieces h block (suc j) =
       length-append (joined (diffused_piece h block) j) (diffused_piece h block j),
     )
 
--- a block that is diffused keeps its length
+-- the length of a diffused block is that of the block
 pub length-diffused : (h : Hash) (block : List ℕ) → length (diffused h block) ≡ length block
 unfolding diffused
 length-diffused h block =
@@ -49,7 +49,7 @@ length-diffused h block =
     let pieces = length_pieces h block (div_ceil (length block) (digest_len h)) in
     omega (arith, bounds.0, pieces)
 
--- before its first piece is diffused, the block is what it was
+-- before the first piece is diffused, the block is unchanged
 pub diffuse_start : (h : Hash) (block : List ℕ) (size : ℕ)
     → block ≡ joined (diffused_piece h block) 0 ++ drop (0 * size) block
 unfolding joined
@@ -58,7 +58,7 @@ diffuse_start h block size = ap (λ n. drop n block) (no_pieces size)
     no_pieces : (size : ℕ) → 0 ≡ 0 * size
     no_pieces size = omega arith
 
--- one piece more is diffused, where the block before was `before` and is `now`
+-- one more piece is diffused; the block was `before` at first and is `now` with j pieces diffused
 pub diffuse_step : (h : Hash) (before now new : List ℕ) (size j end : ℕ)
     → size ≡ digest_len h
     → j * size < length before
@@ -94,7 +94,7 @@ diffuse_end h before now size count j is_size is_count is_last is_now =
     let nothing : drop (count * size) before ≡ [] = drop_of_length-le before (omega (arith, bounds.0, all)) in
     is_now ∙ rw (is_last, nothing, append-nil, is_count, is_size) refl
 
--- a stripe that is there whole has its length
+-- a stripe has `len` bytes if the list has them all
 pub length-stripe_at : (len : ℕ) (stripes : List ℕ) (i : ℕ) → suc i * len ≤ length stripes
     → length (stripe_at len stripes i) ≡ len
 unfolding stripe_at
@@ -131,14 +131,14 @@ chain_of-append h len xs ys (suc i) there =
     ap (λ d. diffused h (xor d (stripe_at len (xs ++ ys) i))) before
     ∙ ap (λ s. diffused h (xor (chain_of h len xs i) s)) next
 
--- the last stripe
+-- the stripe after i stripes is the last one
 pub stripe_at-last : (len : ℕ) (xs last : List ℕ) (i : ℕ) → length xs ≡ i * len → length last ≡ len
     → stripe_at len (xs ++ last) i ≡ last
 unfolding stripe_at
 stripe_at-last len xs last i before whole =
     ap (take len) (drop_front (i * len) xs last before) ∙ take_all len last (omega arith)
 
--- the key that n stripes hold, by their number
+-- the key that n stripes merge to, from their number n
 pub merged_by_number : (h : Hash) (len : ℕ) (stripes : List ℕ) (n : ℕ) → 0 < len
     → length stripes ≡ n * len
     → merged h len stripes ≡ xor (chain_of h len stripes (n - 1)) (stripe_at len stripes (n - 1))
@@ -147,7 +147,7 @@ merged_by_number h len stripes n some whole =
     let number : length stripes / len ≡ n = ap (λ m. m / len) whole ∙ mul-div_cancel n some in
     ap (λ m. xor (chain_of h len stripes (m - 1)) (stripe_at len stripes (m - 1))) number
 
--- the key that stripes hold, by those before the last and the last
+-- the key that stripes merge to, from the last stripe and those before it
 pub merged_push : (h : Hash) (len : ℕ) (before last : List ℕ) (i : ℕ) → 0 < len
     → length before ≡ i * len → length last ≡ len
     → merged h len (before ++ last) ≡ xor (chain_of h len before i) last
@@ -159,7 +159,7 @@ merged_push h len before last i some whole one =
     ∙ (ap (λ d. xor d (stripe_at len (before ++ last) i)) (chain_of-append h len before last i (omega arith))
     ∙ ap (xor (chain_of h len before i)) (stripe_at-last len before last i whole one)))
 
--- the stripe that comes last makes them merge to the key
+-- with the last stripe of a split, all stripes merge to the key
 merged_last : (h : Hash) (len : ℕ) (random key : List ℕ) (before : ℕ) → 0 < len → length key ≡ len
     → length random ≡ before * len
     → merged h len (random ++ xor (chain_of h len random before) key) ≡ key
@@ -170,13 +170,13 @@ merged_last h len random key before some is_len whole =
     merged_push h len random (xor d key) before some whole length_last
     ∙ xor-undone d key (length_d ∙ sym is_len)
 
--- what is split merges to the key
+-- the stripes of a split key merge to the key
 pub merged_split : (h : Hash) (random key stripes : List ℕ) → 0 < length key
     → IsSplit h random key stripes → merged h (length key) stripes ≡ key
 merged_split h random key stripes some split =
     ap (merged h (length key)) split.2 ∙ merged_last h (length key) random key split.0 some refl split.1
 
--- the chain after one stripe more
+-- the chain after one more stripe
 pub chain_more : (h : Hash) (len : ℕ) (stripes : List ℕ) (i : ℕ) (chain : AfSplitterModel) (stripe : List ℕ)
     → chain ≡ chain_after h len stripes i → stripe ≡ stripe_at len stripes i
     → extended chain stripe ≡ chain_after h len stripes (i + 1)
@@ -192,7 +192,7 @@ pub chain_start : (h : Hash) (len : ℕ) (stripes : List ℕ) (chain : AfSplitte
 unfolding chain_of
 chain_start h len stripes chain start = start
 
--- the chain where one stripe more comes at the end of those before
+-- the chain after a stripe that is appended to those before it
 pub chain_push : (h : Hash) (len : ℕ) (before stripe : List ℕ) (i : ℕ) (chain : AfSplitterModel)
     → length before ≡ i * len → length stripe ≡ len → chain ≡ chain_after h len before i
     → extended chain stripe ≡ chain_after h len (before ++ stripe) (i + 1)
@@ -202,7 +202,7 @@ chain_push h len before stripe i chain whole one is_chain =
     chain_more h len (before ++ stripe) i chain stripe (is_chain ∙ longer)
     (sym (stripe_at-last len before stripe i whole one))
 
--- bytes that with one stripe more are n stripes are a whole number of stripes
+-- if some bytes and one more stripe are n stripes, those bytes are a whole number of stripes
 pub whole_stripes : (len bytes n : ℕ) → 0 < len → 1 ≤ n → bytes + len ≡ n * len
     → bytes ≡ bytes / len * len
 whole_stripes len bytes zero some one all = absurd (omega arith)
@@ -210,7 +210,7 @@ whole_stripes len bytes (suc m) some one all =
     let before : bytes ≡ m * len = omega arith in
     before ∙ sym (ap (λ k. k * len) (ap (λ b. b / len) before ∙ mul-div_cancel m some))
 
--- after all but one of n stripes, one stripe is left
+-- one stripe remains after all but one of n stripes
 pub one_left : (len bytes n : ℕ) → 0 < len → 1 ≤ n → bytes ≡ n * len
     → bytes - (bytes / len - 1) * len ≡ len
 one_left len bytes zero some one all = absurd (omega arith)
@@ -222,7 +222,7 @@ one_left len bytes (suc m) some one all =
     one_less : (m : ℕ) → suc m - 1 ≡ m
     one_less m = omega arith
 
--- a key and its random stripes have one split
+-- a key and its random stripes have only one split
 pub IsSplit-unique : (h : Hash) (random key stripes other : List ℕ) → 0 < length key
     → IsSplit h random key stripes → IsSplit h random key other → stripes ≡ other
 IsSplit-unique h random key stripes other some one two =

@@ -18,21 +18,22 @@ use luks_sha_lanes::{chains1, chains256};
 use sha1::Sha1;
 use sha2::Sha256;
 
-// The bytes of all digests that go side by side, at most.
+// The greatest length in bytes of all the digests that are computed side by side.
 const MAX_GROUP: usize = 80;
 
-/// A hash function by which several chains of digests go side by side.
+/// A hash function that computes several chains of digests side by side.
 pub(crate) trait Lanes: Engine {
-    // How many chains go side by side.
+    // The number of chains side by side.
     const WIDTH: usize;
 
     ghost WIDTH: { ℕ };
 
-    // Whether one chain that is alone goes faster by `add_chains` than by the hasher.
+    // Whether `add_chains` is faster than the hasher on a single chain.
     const LONE: bool;
 
-    /// XORs the next `count` digests of the first `used` chains into their sums. `last` has the
-    /// last digest of each chain, one after the other, and `sums` their sums.
+    /// XORs the next `count` digests of each of the first `used` chains into its bytes in `sums`,
+    /// where the chains follow one another. `last` has the last digest of each chain, in the same
+    /// order.
     fn add_chains(inner: &[u8], outer: &[u8], used: usize, count: u32, last: &[u8], sums: &mut [u8])
         requires inner { length inner.now ≡ 64 }
         requires outer { length outer.now ≡ 64 }
@@ -129,8 +130,8 @@ pub(crate) fn derive_in_lanes<E: Lanes>(
     }
 }
 
-// Fills `out` with the first bytes of the blocks T from this number on, one in each lane. A lone
-// block uses the hasher if that is faster.
+// Fills `out` with the first bytes of the blocks T from this number on, one in each lane. The
+// hasher computes a single block if it is faster.
 fn derive_group<E: Lanes>(
     keyed: &Keyed<E>,
     blocks: &KeyBlocks,
@@ -166,7 +167,7 @@ fn derive_group<E: Lanes>(
     }
 }
 
-// Writes so many of the blocks T from this number on.
+// Writes `count` of the blocks T, from this number on.
 fn sum_group<E: Lanes>(
     keyed: &Keyed<E>,
     blocks: &KeyBlocks,
@@ -194,7 +195,7 @@ fn sum_group<E: Lanes>(
     E::add_chains(&blocks.inner, &blocks.outer, count, iterations - 1, u, t);
 }
 
-// Writes the first U of so many blocks from this number on.
+// Writes the first U of `count` blocks, from this number on.
 fn first_turns<E: Lanes>(keyed: &Keyed<E>, salt: &[u8], number: u32, count: usize, u: &mut [u8])
     requires number { number + count < 2 ^ 32 }
     requires count { count ≤ E.WIDTH }
@@ -211,7 +212,7 @@ fn first_turns<E: Lanes>(keyed: &Keyed<E>, salt: &[u8], number: u32, count: usiz
     }
 }
 
-// Writes the first U of the block of this number.
+// Writes the first U of the block with this number.
 fn first_turn<E: Engine>(keyed: &Keyed<E>, salt: &[u8], number: u32, u: &mut [u8])
     requires { length u.old ≡ digest_len E.function }
     ensures { (pass : List ℕ) → E.holds keyed.now.inner (inner_block E.function pass)

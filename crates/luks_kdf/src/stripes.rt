@@ -50,7 +50,7 @@ impl AfSplitter {
         }
     }
 
-    /// Takes in the next stripe, which is not the last.
+    /// Absorbs the next stripe, which is not the last.
     pub fn stripe(&mut self, stripe: &[u8])
         requires { length stripe.now ≡ length self.old.block }
         ensures next { self.new ≡ extended self.old stripe.now }
@@ -74,7 +74,7 @@ impl AfSplitter {
     }
 }
 
-// Diffuse.
+// Applies Diffuse to the block.
 fn diffuse(hash: Hash, block: &mut [u8])
     requires { length block.old ≤ 512 }
     ensures { block.new ≡ diffused hash block.old }
@@ -88,7 +88,7 @@ fn diffuse(hash: Hash, block: &mut [u8])
     }
 }
 
-// What becomes of the piece of this number.
+// Diffuses the piece with this number.
 fn diffuse_piece(hash: Hash, number: u32, piece: &mut [u8])
     requires { length piece.old ≤ digest_len hash }
     ensures { piece.new
@@ -132,7 +132,7 @@ pub fn af_split(hash: Hash, key: &[u8], random: &[u8], out: &mut [u8])
     splitter.last(key, last);
 }
 
-/// Writes the key that the stripes hold. They are as long as `out`.
+/// Writes the key that the stripes merge to. Each stripe is as long as `out`.
 pub fn af_merge(hash: Hash, stripes: &[u8], out: &mut [u8])
     requires some { 1 ≤ length out.old }
     requires room { length out.old ≤ 512 }

@@ -1,4 +1,4 @@
--- What callers know of the key material that is tried, and of what opens.
+-- Facts for callers about the key slots to be tried and their key material.
 use Rattle.std.proofs.Common.{◌≡◌, ◌∙◌, ℕ, false, ◌+◌, ◌-◌, ◌*◌, ◌/◌, ◌<◌, ◌≤◌, List, [], ◌∷◌, ◌++◌, take}
 use Rattle.std.proofs.Common.{Option, Some, None, Ok, refl, ap, arith}
 use Rattle.std.specs.List.{AllByRecursion}
@@ -23,8 +23,7 @@ use Rattle.luks_open.specs.declared.entry.Entry.{Entry}
 use Rattle.luks_open.specs.declared.opening.Opened.{Opened}
 use Rattle.luks_open.proofs.OrderLemmas.{All-key_areas_end, All-order, IsOf, key_areas_end-le}
 
--- the key material of all key slots that are tried ends at or before the payload's start, if that is in the header's
--- image
+-- with an attached header, the key material of all key slots to be tried ends at or before the payload's start
 pub held_before_payload : (header : Header) (segment : Segment) (named limit : Option ℕ) (order : OrderModel)
     → is_detached header ≡ false
     → segment_of header ≡ Ok segment
@@ -40,7 +39,7 @@ held_before_payload header segment named limit order attached is_segment is_orde
       of_entries entries all.1,
     )
 
--- key material that stands before place n stands in the first n bytes
+-- key material that ends at or before offset n gives the same key from the first n bytes alone
 unlocked_beginning : (af : Hash) (cipher : Cipher) (image : List ℕ) (offset key_bytes stripes n : ℕ)
     → offset + need_of key_bytes stripes ≤ n
     → unlocked af cipher (take n image) offset key_bytes stripes
@@ -53,7 +52,7 @@ unlocked_beginning af cipher image offset key_bytes stripes n before =
     ap (λ material. merged af key_bytes (take (key_bytes * stripes) material))
     (joined_same _ _ (need_of key_bytes stripes / 512) sectors)
 
--- and so do the candidate and the volume key that it gives
+-- a key slot whose key material ends at or before offset n gives the same volume key from the first n bytes alone
 key_beginning : (entry : Entry) (n : ℕ) (image pass : List ℕ) → material_end entry.slot ≤ n
     → slot_key entry (take n image) pass ≡ slot_key entry image pass
 unfolding slot_key candidate_of
@@ -73,7 +72,7 @@ key_beginning entry n image pass before =
     of_read (Some kdf) None mode = refl
     of_read None af mode = refl
 
--- what a passphrase opens depends on no byte of the image behind the key material
+-- the bytes of the image behind the key material do not change what a passphrase opens
 pub opening_beginning : (order : OrderModel) (n : ℕ) (image pass : List ℕ) → key_areas_end order.slots ≤ n
     → opening_of order (take n image) pass ≡ opening_of order image pass
 unfolding opening_of first_opening

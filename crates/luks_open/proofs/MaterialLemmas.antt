@@ -14,16 +14,17 @@ use Rattle.luks_kdf.proofs.StripesLemmas.{chain_push, chain_start, merged_push}
 use Rattle.luks_verdict.specs.Rule.{need_of}
 use Rattle.luks_open.specs.Candidate.{decrypted_material, material_sector, unlocked}
 
--- a length of keys is one of three
+-- a key is 16, 32 or 64 bytes long
 one_of_three : (len : ℕ) → is_key_length len ≡ true → (len ≡ 16) ⊎ (len ≡ 32) ⊎ (len ≡ 64)
 one_of_three len is = grind (arith, nat_tests)
 
--- how stripes stand in sectors: those before the last fill so many whole sectors, and the rest stand in the next one
+-- how stripes lie in sectors: the stripes before the last one fill `whole` sectors, and `rest` more of them are in the
+-- next sector, which also has the last one
 pub record AreInSectors (len stripes whole rest : ℕ) : Type 0 where
-  -- a sector has whole stripes
+  -- whole stripes fill a sector
   pub fits : 512 / len * len ≡ 512
   pub some : 1 ≤ len
-  -- the next sector is there, and has the last stripe
+  -- the next sector is within the key material, and has the last stripe
   pub there : 512 * whole + 512 ≤ need_of len stripes
   pub within : rest * len + len ≤ 512
   pub before : (whole * (512 / len) + rest) * len ≡ whole * 512 + rest * len
@@ -76,7 +77,7 @@ in_sectors len stripes whole rest is some is_whole is_rest = of_len (one_of_thre
     of_len (inr (inl h)) = same 32 h (of_32 (rw h at is_whole) (rw h at is_rest))
     of_len (inr (inr h)) = same 64 h (of_64 (rw h at is_whole) (rw h at is_rest))
 
--- the chain one stripe further
+-- the chain after one more stripe
 pub taken_more : (h : Hash) (len : ℕ) (before stripes stripe : List ℕ) (number i : ℕ) (chain : AfSplitterModel)
     → (i + 1) * len ≤ length stripes
     → length before ≡ number * len → stripe ≡ take len (drop (i * len) stripes)
@@ -101,7 +102,7 @@ taken_more h len before stripes stripe number i chain there whole is_stripe is =
     next : (i len : ℕ) → i * len + len ≡ (i + 1) * len
     next i len = omega arith
 
--- the first of some pieces
+-- joining further pieces only appends bytes to those of the first q pieces
 joined_front : (f : ℕ → List ℕ) (q m : ℕ) → (tail : List ℕ) × (joined f (q + m) ≡ joined f q ++ tail)
 unfolding joined
 joined_front f q zero = let same : q + 0 ≡ q = omega arith in ([], ap (joined f) same ∙ sym (append-nil (joined f q)))
@@ -127,7 +128,7 @@ front_of_joined f q n part below whole short =
     ∙ (take-append-add (joined f q) (f q ++ further.0) part
     ∙ ap (λ s. joined f q ++ s) (take-append-le part (f q) further.0 short)))
 
--- the length of one sector more
+-- the length with one more sector
 pub length-joined_more : (f : ℕ → List ℕ) (i : ℕ) (sector : List ℕ) → length (joined f i) ≡ i * 512 → sector ≡ f i
     → length sector ≡ 512
     → length (joined f (i + 1)) ≡ (i + 1) * 512
@@ -139,7 +140,7 @@ pub length-joined_none : (f : ℕ → List ℕ) → length (joined f 0) ≡ 0
 unfolding joined
 length-joined_none f = refl
 
--- whole sectors have whole stripes
+-- whole sectors consist of whole stripes
 pub whole_sectors : (number in_sector len : ℕ) → in_sector * len ≡ 512 → number * 512 ≡ number * in_sector * len
 whole_sectors number in_sector len fits = ap (λ n. number * n) (sym fits) ∙ sym (mul_assoc number in_sector len)
 
@@ -151,7 +152,7 @@ sectors_none h len in_sector f chain start =
     let nothing : 0 * in_sector ≡ 0 = omega arith in
     rw nothing (chain_start h len (joined f 0) chain start)
 
--- the chain one sector further
+-- the chain after one more sector
 pub sector_more : (h : Hash) (len in_sector : ℕ) (f : ℕ → List ℕ) (i : ℕ) (sector : List ℕ) (chain : AfSplitterModel)
     → in_sector * len ≡ 512 → sector ≡ f i → length sector ≡ 512
     → chain ≡ chain_after h len (joined f i ++ take (in_sector * len) sector) (i * in_sector + in_sector)
@@ -165,7 +166,7 @@ sector_more h len in_sector f i sector chain fits is whole h_is =
     ∙ (ap (λ s. chain_after h len (joined f i ++ s) (i * in_sector + in_sector)) all
     ∙ ap (λ n. chain_after h len (joined f i ++ f i) n) count))
 
--- the key that key material holds, by the chain before the last stripe
+-- the key that key material holds, computed from the chain before the last stripe
 pub unlocked_by_last : (h : Hash) (key : Cipher) (image : List ℕ) (offset len stripes whole rest : ℕ) (sector last :
     List ℕ)
     (chain : AfSplitterModel)

@@ -1,4 +1,4 @@
--- Key entries that are tried one after the other.
+-- Entries that are tried one after the other.
 use Rattle.std.proofs.Common.{◌≡◌, ◌∙◌, ℕ, ◌+◌, ◌^◌, ◌<◌, ◌≤◌, List, [], ◌∷◌, length, drop, get_or, Option, Some, None}
 use Rattle.std.proofs.Common.{sym, ap, arith}
 use Rattle.std.specs.Prelude.{if◌then◌else◌, is_some, sum_by}
@@ -8,11 +8,11 @@ use Rattle.luks_kdf.specs.Pbkdf2.{capped}
 use Rattle.luks_open.specs.Opening.{evaluations_of, first_opening, slot_key, opened_or, tried_of}
 use Rattle.luks_open.specs.declared.entry.Entry.{Entry}
 
--- the evaluations that these key entries take, up to the first that opens
+-- the evaluations of HMAC for trying these entries, up to the first that opens
 abbrev pub work_on : List Entry → List ℕ → List ℕ → ℕ
 work_on entries image pass = sum_by evaluations_of (tried_of entries image pass)
 
--- the first of some key entries did not open
+-- if the first entry does not open, the others decide what opens, and its evaluations are added to theirs
 tried_past : (entries : List Entry) (image pass : List ℕ) (entry : Entry) → slot_key entry image pass ≡ None
     → (first_opening (entry ∷ entries) image pass ≡ first_opening entries image pass)
     × (work_on (entry ∷ entries) image pass ≡ evaluations_of entry + work_on entries image pass)
@@ -24,7 +24,7 @@ tried_past entries image pass entry none =
           ∙ sum_by-cons evaluations_of entry rest,
     )
 
--- or it did
+-- if the first entry opens, it is the one that opens, and only its evaluations count
 tried_last : (entries : List Entry) (image pass : List ℕ) (entry : Entry) (key : List ℕ)
     → slot_key entry image pass ≡ Some key
     → (first_opening (entry ∷ entries) image pass ≡ Some record { slot = entry.number; key = key })
@@ -37,13 +37,13 @@ tried_last entries image pass entry key some =
           ∙ (sum_by-cons evaluations_of entry [] ∙ omega arith),
     )
 
--- none of the first i key entries opened, and the count of work went from `start` to `now`
+-- none of the first i entries opened, and the count of work went from `start` to `now`
 pub record GoesOn (entries : List Entry) (image pass : List ℕ) (i start now : ℕ) : Type 0 where
   pub value : first_opening (drop i entries) image pass ≡ first_opening entries image pass
   pub work : capped (now + work_on (drop i entries) image pass) ≡ capped (start + work_on entries image pass)
   pub count : now ≡ capped now
 
--- what is left of the key entries, from number i on
+-- the entries from number i on: this entry, and then the remaining ones
 from_entry : (entries : List Entry) (i : ℕ) (entry : Entry) → i < length entries → entry ≡ get_or entries i entry
     → drop i entries ≡ entry ∷ drop (i + 1) entries
 from_entry entries i entry there is = drop_more entries i entry there

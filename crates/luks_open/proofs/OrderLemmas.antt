@@ -1,4 +1,4 @@
--- What holds of the key slots that are tried, and where the last of their key material ends.
+-- Properties of the key slots to be tried, and where the last of their key material ends.
 use Rattle.std.proofs.Common.{◌≡◌, ◌∙◌, ℕ, ◌+◌, ◌==◌, ◌<◌, ◌≤◌, max, Bool, true, false, List, [], ◌∷◌, length, drop}
 use Rattle.std.proofs.Common.{get_or, Option, Some, None, Ok, IsOk, IsSome, refl, sym, ap, subst, arith}
 use Rattle.std.specs.Prelude.{if◌then◌else◌, option_map}
@@ -26,12 +26,12 @@ use Rattle.luks_open.specs.Order.{OrderModel, entries_of, entry_at, entry_of, ke
 use Rattle.luks_open.specs.Order.{order_of_all, order_of_named, unless_none, usable_at, where_usable}
 use Rattle.luks_open.specs.declared.entry.Entry.{Entry}
 
--- what is tried of a key slot is of this header: it can be tried, and this is its digest
+-- an entry is one of this header: its key slot can be tried, and this is its digest
 pub record IsOf (header : Header) (limit : Option ℕ) (entry : Entry) : Type 0 where
   pub usable : verdict_at header limit entry.number ≡ Some (Usable entry.slot)
   pub digest : digest_for header entry.number ≡ Some entry.digest
 
--- an entry is made of a verdict and a digest
+-- an entry has the number, the slot and the digest that it is made from
 entry_of-some : (number : ℕ) (verdict : Option Verdict) (digest : Option KeyDigest) (entry : Entry)
     → entry_of number verdict digest ≡ Some entry
     → (entry.number ≡ number) × (verdict ≡ Some (Usable entry.slot)) × (digest ≡ Some entry.digest)
@@ -46,7 +46,7 @@ entry_of-some number (Some Disabled) digest entry is = absurd cc
 entry_of-some number (Some (Skipped reason)) digest entry is = absurd cc
 entry_of-some number None digest entry is = absurd cc
 
--- those of the header
+-- an entry that was found in a header is one of this header
 entry_at-some : (header : Header) (limit : Option ℕ) (number : ℕ) (entry : Entry)
     → entry_at header limit number ≡ Some entry → IsOf header limit entry
 unfolding entry_at
@@ -66,7 +66,7 @@ entry_there header limit number slot usable =
     let its_digest = digest_of_usable header limit number slot usable in
     (record { number = number; slot = slot; digest = its_digest.0 }, rw (usable, its_digest.1) refl)
 
--- of one that can be tried and has a priority
+-- an entry that was found by its priority is one of this header too
 usable_at-some : (header : Header) (limit : Option ℕ) (priority number : ℕ) (entry : Entry)
     → usable_at header limit priority number ≡ Some entry → IsOf header limit entry
 usable_at-some header limit priority number entry is = of_verdict (verdict_at header limit number) is
@@ -83,7 +83,7 @@ usable_at-some header limit priority number entry is = of_verdict (verdict_at he
     of_verdict (Some (Skipped reason)) h = absurd cc
     of_verdict (Some (Usable slot)) h = of_test (slot.parts.priority == priority) h
 
--- what is tried where no key slot is named
+-- if an order is made from entries, it has exactly these
 order-unless_none : (entries : List Entry) (skipped : List (ℕ × SkipReason)) (order : OrderModel)
     → unless_none entries skipped ≡ Ok order → entries ≡ order.slots
 order-unless_none [] skipped order is = absurd cc
@@ -91,7 +91,7 @@ order-unless_none (entry ∷ entries) skipped order is =
     let same : record { slots = entry ∷ entries; skipped = skipped }
     ≡ order = cc in ap (λ (t : OrderModel). t.slots) same
 
--- all that is tried is of the header
+-- all entries of an order are ones of the header
 pub All-order : (header : Header) (named limit : Option ℕ) (order : OrderModel) → order_of header named limit ≡ Ok order
     → AllByRecursion (IsOf header limit) order.slots
 unfolding order_of order_of_all
@@ -119,15 +119,15 @@ All-order header (Some number) limit order is = of_verdict (verdict_at header li
         subst (λ (t : OrderModel). AllByRecursion (IsOf header limit) t.slots) same
         (of_entry (entry_at header limit number) refl)
 
--- ---- where there is something to try
+-- ---- headers with a key slot to try
 
--- where some key slots can be tried, they are
+-- if there are entries, an order is made from them
 pub some_tried : (entries : List Entry) (skipped : List (ℕ × SkipReason)) → 1 ≤ length entries
     → IsOk (unless_none entries skipped)
 some_tried [] skipped some = absurd (omega arith)
 some_tried (entry ∷ entries) skipped some = refl
 
--- of a key slot that is judged one of this priority
+-- a key slot whose verdict is that it can be tried with this priority has an entry of this priority
 pub usable_there : (header : Header) (limit : Option ℕ) (priority number : ℕ)
     → option_map verdict_kind_of (verdict_at header limit number) ≡ Some (Open priority)
     → IsSome (usable_at header limit priority number)
@@ -136,9 +136,9 @@ usable_there header limit priority number is =
     let there = entry_there header limit number usable.0 usable.1 in
     rw (usable.1, eq-eqb usable.0.parts.priority priority usable.2, there.1) refl
 
--- ---- where the last of the key material ends
+-- ---- the end of the last key material
 
--- what ends there one by one ends there together, and the other way round
+-- all key material ends at or before an offset if and only if that of each key slot does
 pub key_areas_end-le : (most : ℕ) (entries : List Entry)
     → AllByRecursion (λ (entry : Entry). material_end entry.slot ≤ most) entries → key_areas_end entries ≤ most
 unfolding key_areas_end
@@ -151,13 +151,13 @@ unfolding key_areas_end
 All-key_areas_end most [] all = tt
 All-key_areas_end most (entry ∷ entries) all = (omega arith, All-key_areas_end most entries (omega arith))
 
--- key material that can be used ends within what can be loaded of an image
+-- key material that can be used ends within the bytes that can be loaded of an image
 pub key_areas_end-within : (entries : List Entry) → key_areas_end entries ≤ max_area_len
 unfolding key_areas_end
 key_areas_end-within [] = omega arith
 key_areas_end-within (entry ∷ entries) = omega (arith, key_areas_end-within entries, entry.slot.in_range.held)
 
--- one key slot after the other
+-- the remaining key material ends where that of the next key slot or of those after it ends, whichever is later
 pub key_areas_end-drop : (entries : List Entry) (i : ℕ) (entry : Entry) → i < length entries
     → entry ≡ get_or entries i entry
     → key_areas_end (drop i entries) ≡ max (material_end entry.slot) (key_areas_end (drop (i + 1) entries))

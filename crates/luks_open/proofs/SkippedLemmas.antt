@@ -1,4 +1,4 @@
--- One more of the places that hold skipped key slots is taken.
+-- One more element of the array of skipped key slots is used.
 use Rattle.std.proofs.Common.{◌≡◌, ◌∙◌, ℕ, suc, ◌+◌, ◌-◌, ◌<◌, List, [], ◌∷◌, ◌++◌, length, take, replicate, set, ap}
 use Rattle.std.proofs.Common.{sym, append_assoc, arith, length-append}
 use Rattle.std.proofs.Math.Seq.{set-append_seam}

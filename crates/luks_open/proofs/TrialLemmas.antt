@@ -1,4 +1,4 @@
--- The key slots that are tried of a header whose segment is not refused.
+-- The key slots to be tried of a header whose segment is valid.
 use Rattle.std.proofs.Common.{◌≡◌, ℕ, ◌≤◌, true, List, [], ◌∷◌, Option, Ok}
 use Rattle.std.specs.List.{All, AllByRecursion}
 use Rattle.std.proofs.lemmas.List.Elements.{All-from_recursion}
@@ -14,7 +14,7 @@ use Rattle.luks_open.specs.Trial.{IsTriable}
 use Rattle.luks_open.specs.declared.entry.Entry.{Entry}
 use Rattle.luks_open.proofs.OrderLemmas.{All-key_areas_end, All-order, IsOf}
 
--- the key slots that are tried can be, where their key material is loaded
+-- the key slots to be tried are triable if their key material is loaded
 pub All-IsTriable : (header : Header) (segment : Segment) (named limit : Option ℕ) (order : OrderModel) (loaded : ℕ)
     → segment_of header ≡ Ok segment
     → order_of header named limit ≡ Ok order → key_areas_end order.slots ≤ loaded
@@ -41,7 +41,7 @@ All-IsTriable header segment named limit order loaded is_segment is_order there 
     of_entries [] all ends = tt
     of_entries (entry ∷ entries) all ends = (of_entry entry all.0 ends.0, of_entries entries all.1 ends.1)
 
--- and their volume keys have lengths of the segment's mode
+-- the volume keys of the key slots to be tried have lengths that the segment's mode allows
 pub All-volume_key : (header : Header) (segment : Segment) (named limit : Option ℕ) (order : OrderModel)
     → segment_of header ≡ Ok segment → order_of header named limit ≡ Ok order
     → All (λ (entry : Entry). is_mode_key_length segment.mode entry.slot.parts.key_bytes ≡ true) order.slots

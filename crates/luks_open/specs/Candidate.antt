@@ -1,5 +1,5 @@
--- What key a passphrase gives by a key slot, and whether it is the volume's (LUKS1 On-Disk Format Specification 1.2.3,
--- "Master key recovery"). Stripes are those of the same standard and PBKDF2 is that of RFC 8018.
+-- The key that a passphrase gives with a key slot, and whether it is the volume key (LUKS1 On-Disk Format Specification
+-- 1.2.3, "Master key recovery"). Stripes are those of the same standard, and PBKDF2 is that of RFC 8018.
 use Rattle.std.specs.Prelude.{ℕ, ◌+◌, ◌*◌, ◌/◌, Bool, false, bytes_eq, List, Option, Some, None, length, take}
 use Rattle.luks_cipher.specs.Sector.{Cipher, sector_decrypted}
 use Rattle.luks_cipher.specs.Xts.{joined}
@@ -28,7 +28,7 @@ unlocked af cipher image offset key_bytes stripes =
     merged af key_bytes (take (key_bytes * stripes) (decrypted_material cipher image offset
     (need_of key_bytes stripes)))
 
--- the key that a key slot's material holds under a passphrase, by these hash functions and in this mode
+-- the key that a key slot's material holds under a passphrase, with these hash functions and this mode
 abbrev pub candidate_by : Option Hash → Option Hash → Option Mode → SlotParts → List ℕ → List ℕ → Option (List ℕ)
 candidate_by (Some kdf) (Some af) (Some mode) parts image pass =
     Some (unlocked af (mode, derived_key kdf pass parts.salt parts.iterations parts.area_key_bytes) image
@@ -41,12 +41,12 @@ unfoldable pub candidate_of : Slot → List ℕ → List ℕ → Option (List �
 candidate_of slot image pass =
     candidate_by slot.parts.kdf_hash slot.parts.af_hash slot.parts.area_mode slot.parts image pass
 
--- by this hash function PBKDF2 of the key gives the whole value
+-- PBKDF2 of the key with this hash function gives the whole value of the digest
 abbrev pub meets_by : Option Hash → KeyDigest → List ℕ → Bool
 meets_by (Some hash) digest key =
     bytes_eq (derived_key hash key digest.salt digest.iterations (length digest.value)) digest.value
 meets_by None digest key = false
 
--- the key matches_digest the digest
+-- the key matches the digest
 unfoldable pub matches_digest : KeyDigest → List ℕ → Bool
 matches_digest digest key = meets_by digest.hash digest key

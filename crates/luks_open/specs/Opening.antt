@@ -13,7 +13,7 @@ use Rattle.luks_open.specs.declared.fault.OpenFault.{OpenFault}
 use Rattle.luks_open.specs.declared.fault.OpenFault.TheVariants.{NoKey}
 use Rattle.luks_open.specs.declared.opening.Opened.{Opened}
 
--- a candidate that matches_digest the digest is the volume key
+-- a candidate that matches the digest is the volume key
 abbrev pub if_meets : KeyDigest → Option (List ℕ) → Option (List ℕ)
 if_meets digest None = None
 if_meets digest (Some key) = if matches_digest digest key then Some key else None
@@ -22,7 +22,7 @@ if_meets digest (Some key) = if matches_digest digest key then Some key else Non
 unfoldable pub slot_key : Entry → List ℕ → List ℕ → Option (List ℕ)
 slot_key entry image pass = if_meets entry.digest (candidate_of entry.slot image pass)
 
--- a key slot that opens, or else what is found further on
+-- this key slot if it opens, or else the further one that opens
 abbrev pub opened_or : ℕ → Option (List ℕ) → Option Opened → Option Opened
 opened_or number (Some key) further = Some record { slot = number; key = key }
 opened_or number None further = further
@@ -33,21 +33,21 @@ first_opening [] image pass = None
 first_opening (entry ∷ entries) image pass =
     opened_or entry.number (slot_key entry image pass) (first_opening entries image pass)
 
--- what is opened, if anything is
+-- the key slot that opens, or the fault if none does
 abbrev pub answer_of : Option Opened → List (ℕ × SkipReason) → Result Opened OpenFault
 answer_of (Some opened) skipped = Ok opened
 answer_of None skipped = Err (NoKey skipped)
 
--- what a passphrase opens: the first of the key slots that are tried
+-- the first of the key slots to be tried that a passphrase opens, or the fault if it opens none
 unfoldable pub opening_of : OrderModel → List ℕ → List ℕ → Result Opened OpenFault
 opening_of order image pass = answer_of (first_opening order.slots image pass) order.skipped
 
--- the evaluations of HMAC by which PBKDF2 gives so many bytes
+-- the number of HMAC evaluations with which PBKDF2 derives so many bytes
 abbrev pub evaluations : Option Hash → ℕ → ℕ → ℕ
 evaluations (Some hash) iterations bytes = iterations * div_ceil bytes (digest_len hash)
 evaluations None iterations bytes = 0
 
--- those that trying a key slot costs: for the key of its key material, and for the digest of the candidate
+-- the evaluations that trying a key slot costs: for the key of its key material, and for the digest of the candidate
 unfoldable pub evaluations_of : Entry → ℕ
 evaluations_of entry =
     evaluations entry.slot.parts.kdf_hash entry.slot.parts.iterations entry.slot.parts.area_key_bytes

@@ -1,4 +1,4 @@
--- Which key slots are tried, and in which order.
+-- The key slots to be tried, and their order.
 use Rattle.std.specs.Prelude.{◌≡◌, ℕ, ◌==◌, ◌⊎◌, max, MatchResult, if◌then◌else◌, List, [], ◌∷◌, ◌++◌, Option, Some}
 use Rattle.std.specs.Prelude.{None, Result, Ok, Err}
 use Rattle.luks_verdict.specs.Rule.{max_slots}
@@ -16,7 +16,7 @@ use Rattle.luks_open.specs.declared.fault.OpenFault.{OpenFault}
 use Rattle.luks_open.specs.declared.fault.OpenFault.TheVariants.{NoSuchSlot, Disabled, NamedSkipped, NothingTried}
 use Rattle.luks_open.specs.declared.fault.OpenFault.TheVariants.{Memory}
 
--- what is tried
+-- the key slots to be tried, and those that are skipped
 pub record OrderModel : Type 0 where
   -- the key slots with their numbers and digests, in the order in which they are tried
   pub slots : List Entry
@@ -32,7 +32,7 @@ entry_of number verdict digest = None
 unfoldable pub entry_at : Header → Option ℕ → ℕ → Option Entry
 entry_at header limit number = entry_of number (verdict_at header limit number) (digest_for header number)
 
--- that entry, if the key slot has this priority
+-- this entry, if the key slot has this priority
 abbrev pub where_usable : ℕ → Option Entry → Option Verdict → Option Entry
 where_usable priority entry (Some (Usable slot)) = if slot.parts.priority == priority then entry else None
 where_usable priority entry (Some Unused) = None
@@ -44,7 +44,7 @@ usable_at header limit priority number =
     where_usable priority (entry_at header limit number)
     (verdict_at header limit number)
 
--- a key slot that is skipped, and why
+-- the number of a key slot and the reason why it is skipped, if it is
 abbrev pub where_skipped : ℕ → Option Verdict → Option (ℕ × SkipReason)
 where_skipped number (Some (Usable slot)) = None
 where_skipped number (Some Unused) = None
@@ -54,12 +54,12 @@ where_skipped number None = None
 abbrev pub skipped_at : Header → Option ℕ → ℕ → Option (ℕ × SkipReason)
 skipped_at header limit number = where_skipped number (verdict_at header limit number)
 
--- these key slots are tried, if there are any
+-- the order that tries these key slots, or the fault if there are none
 abbrev pub unless_none : List Entry → List (ℕ × SkipReason) → Result OrderModel OpenFault
 unless_none [] skipped = Err (NothingTried skipped)
 unless_none (entry ∷ entries) skipped = Ok record { slots = entry ∷ entries; skipped = skipped }
 
--- no key slot is named: those of priority 2 are tried, then those of priority 1, each by ascending number
+-- the order if no key slot is named: those of priority 2, then those of priority 1, each by ascending number
 unfoldable pub order_of_all : Header → Option ℕ → Result OrderModel OpenFault
 order_of_all header limit =
     unless_none (ascending (usable_at header limit 2) max_slots ++ ascending (usable_at header limit 1) max_slots)
@@ -70,14 +70,14 @@ abbrev pub entries_of : Option Entry → List Entry
 entries_of (Some entry) = entry ∷ []
 entries_of None = []
 
--- a key slot is named, of which this became: it alone is tried, whatever its priority
+-- the order if a key slot with this verdict is named: it alone is tried, whatever its priority
 abbrev pub order_of_named : Option Entry → Option Verdict → Result OrderModel OpenFault
 order_of_named entry None = Err NoSuchSlot
 order_of_named entry (Some (Usable slot)) = Ok record { slots = entries_of entry; skipped = [] }
 order_of_named entry (Some Unused) = Err Disabled
 order_of_named entry (Some (Skipped reason)) = Err (NamedSkipped reason)
 
--- what is tried of a header's key slots, by the key slot that is named and the limit on iterations, or why nothing is
+-- the key slots of a header to be tried, by the named key slot and the limit on iterations, or why there are none
 unfoldable pub order_of : Header → Option ℕ → Option ℕ → Result OrderModel OpenFault
 order_of header None limit = order_of_all header limit
 order_of header (Some named) limit = order_of_named (entry_at header limit named) (verdict_at header limit named)
@@ -87,7 +87,7 @@ abbrev pub IsOrMemory : {T : Type 0} → Result T OpenFault → Result T OpenFau
 IsOrMemory stated answer =
     MatchResult answer (λ value. stated ≡ Ok value) (λ fault. (fault ≡ Memory) ⊎ (stated ≡ Err fault))
 
--- the end of the key material of all these key slots: that of the last
+-- the end of the last key material of these key slots
 unfoldable pub key_areas_end : List Entry → ℕ
 key_areas_end [] = 0
 key_areas_end (entry ∷ entries) = max (material_end entry.slot) (key_areas_end entries)

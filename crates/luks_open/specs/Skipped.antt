@@ -4,15 +4,15 @@ use Rattle.std.proofs.Common.{◌∙◌, ap, sym}
 use Rattle.luks_verdict.specs.declared.refusal.SkipReason.{SkipReason}
 use Rattle.luks_verdict.specs.declared.refusal.SkipReason.TheVariants.{State}
 
--- what the unused elements of the array are
+-- the value of the unused elements of the array
 abbrev pub nothing : ℕ × SkipReason
 nothing = (0, State)
 
--- the places that hold a list
+-- the array that stores a list
 abbrev pub padded_to_32 : List (ℕ × SkipReason) → List (ℕ × SkipReason)
 padded_to_32 slots = slots ++ replicate (32 - length slots) nothing
 
--- so many of the 32 elements are used, and the others are unused
+-- the first `taken` of the 32 elements are used, and the others have the unused value
 pub record IsPadded (places : List (ℕ × SkipReason)) (taken : ℕ) : Type 0 where
   pub room : taken ≤ 32
   pub there : length (take taken places) ≡ taken

@@ -1,4 +1,4 @@
--- What is known of key slots that are tried.
+-- Properties of the key slots to be tried.
 use Rattle.std.specs.Prelude.{◌≡◌, ℕ, ◌≤◌, true, Some}
 use Rattle.luks_cipher.specs.Sector.{is_key_length, is_mode_key_length}
 use Rattle.luks_cipher.specs.declared.mode.Mode.{Mode}
@@ -6,8 +6,8 @@ use Rattle.luks_kdf.specs.declared.hash.Hash.{Hash}
 use Rattle.luks_verdict.specs.Slot.{material_end}
 use Rattle.luks_verdict.specs.declared.slot.Slot.{Slot}
 
--- the hash functions and the mode of a key slot are known ones, its keys have lengths that there are, that of the key
--- material one of its mode, and the material ends within the first `loaded` bytes
+-- the hash functions and the mode of a key slot are known, its volume key has a length that keys can have, the key of
+-- its key material has a length that the mode allows, and the material ends within the first `loaded` bytes
 pub record IsTriable (loaded : ℕ) (slot : Slot) : Type 0 where
   pub kdf : (hash : Hash) × (slot.parts.kdf_hash ≡ Some hash)
   pub af : (hash : Hash) × (slot.parts.af_hash ≡ Some hash)

@@ -1,4 +1,4 @@
-//! Digests, by which a volume key is known.
+//! Digests, which identify a volume key.
 
 ghost use Rattle.std.specs.Prelude.{◌≡◌, ◌+◌, length};
 ghost use Rattle.luks_kdf.specs.Pbkdf2.{capped};
@@ -16,7 +16,7 @@ pub(crate) fn is_met(digest: &KeyDigest, key: &[u8], work: &mut Work) -> bool
     ensures work { work.new ≡ capped (work.old
         + evaluations digest.now.hash digest.now.iterations (length digest.now.value)) }
 {
-    // Without a hash function the count stays as it is: within its range.
+    // Without a hash function the count does not change, and it is within its range.
     let _before = work.count();
     let Some(hash) = digest.hash else {
         return false;

@@ -1,4 +1,4 @@
-//! What is tried of a key slot.
+//! A key slot to be tried, with its digest.
 
 ghost use Rattle.std.specs.Prelude.{◌≡◌, IfOk};
 ghost use Rattle.luks_open.specs.Order.{entry_at};
@@ -8,7 +8,7 @@ use luks_header::header::Header;
 use luks_header::slot::{Slot, Verdict, verdict};
 use std::alloc::{AllocError, Global};
 
-/// A key slot that is tried, and the digest that it is opened against.
+/// A key slot to be tried, and the digest that its key must match.
 #[derive(Drop, Debug)]
 pub struct Entry {
     /// The number of the key slot.

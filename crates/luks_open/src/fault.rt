@@ -1,4 +1,4 @@
-//! Why a volume is not opened.
+//! The reasons why a volume is not opened.
 
 ghost use Rattle.std.specs.Prelude.{◌≡◌};
 ghost use Rattle.luks_open.specs.declared.fault.OpenFault.TheVariants.{Memory};
@@ -10,18 +10,18 @@ use std::alloc::AllocError;
 /// Why no key slot opens a volume.
 #[derive(Clone, Copy, PartialEq, Eq, Debug)]
 pub enum OpenFault {
-    /// The header has no key slot of the number that was named.
+    /// The header has no key slot with the named number.
     NoSuchSlot,
-    /// The key slot that was named is not in use.
+    /// The named key slot is not in use.
     Disabled,
-    /// The key slot that was named cannot be tried.
+    /// The named key slot cannot be tried.
     NamedSkipped(SkipReason),
     /// There is no key slot to try. These were skipped.
     NothingTried(SkippedSlots),
     /// No key slot that was tried opens the volume. These were skipped, or none if a key slot was
     /// named.
     NoKey(SkippedSlots),
-    /// Memory was refused.
+    /// Out of memory.
     Memory,
 }
 

@@ -13,7 +13,7 @@ use luks_cipher::SectorCipher;
 use luks_kdf::{Hash, Work, pbkdf2};
 use std::marker::Model;
 
-/// The longest key in bytes.
+/// The length of the longest key, in bytes.
 const MAX_KEY_LEN: usize = 64;
 
 /// A key of at most 64 bytes. A clause sees its bytes.
@@ -32,7 +32,7 @@ impl Model for Key {
 }
 
 impl Key {
-    // A key of so many bytes, which are yet to be written.
+    // A key of `len` bytes, which are yet to be written.
     fn blank(len: usize) -> Key
         requires { len ≤ 64 }
         ensures { length result ≡ len }

@@ -25,7 +25,7 @@ fn decrypt_sector(key: &SectorCipher, image: &[u8], offset: usize, number: usize
     key.decrypt_unit(number as u64, sector);
 }
 
-// Absorbs so many stripes of `len` bytes, none of them the last.
+// Absorbs `count` stripes of `len` bytes, none of which is the last.
 fn take_in(splitter: &mut AfSplitter, stripes: &[u8], len: usize, count: usize)
     requires len { length splitter.old.block ≡ len }
     requires there { count * len ≤ length stripes.now }
@@ -40,8 +40,8 @@ fn take_in(splitter: &mut AfSplitter, stripes: &[u8], len: usize, count: usize)
     }
 }
 
-// Merges the key of the stripes that the key material holds, as `unlock` below does. It decrypts
-// one sector at a time into this buffer.
+// Merges the stripes in the key material into the key that they hold, as `unlock` below does. It
+// decrypts one sector at a time into `sector`.
 fn unlock_by(
     af: Hash,
     key: &SectorCipher,
@@ -73,8 +73,8 @@ fn unlock_by(
     splitter.last(&sector[rest * len..rest * len + len], out);
 }
 
-/// Decrypts the key material from `offset` on, and writes the key that its stripes hold. They are
-/// as long as `out`.
+/// Decrypts the key material from `offset` on, and writes the key that its stripes hold. Each
+/// stripe is as long as `out`.
 pub(crate) fn unlock(
     af: Hash,
     key: &SectorCipher,

@@ -91,8 +91,8 @@ fn first_opening(entries: &[Entry], image: &[u8], pass: &[u8], work: &mut Work) 
         → All (λ entry. is_mode_key_length mode entry.slot.parts.key_bytes ≡ true) entries.now
         → IfSome result (λ opened. is_mode_key_length mode (length opened.key) ≡ true) }
 {
-    // The clause of `count` says that the count is within its range: so it is capped as it stands,
-    // if there are no key slots.
+    // The clause of `count` says that the count is within its range. It is thus capped already if
+    // there are no key slots.
     let _before = work.count();
     'entries: for entry in entries {
         if let Some(key) = key(entry, image, pass, work) {
@@ -105,11 +105,11 @@ fn first_opening(entries: &[Entry], image: &[u8], pass: &[u8], work: &mut Work) 
     None
 }
 
-/// Tries the key slots of an order under a passphrase, and answers the first that opens with its
+/// Tries the key slots of an order under a passphrase, and returns the first that opens, with its
 /// volume key (LUKS1 On-Disk Format Specification 1.2.3, "Master key recovery").
 ///
-/// A key slot opens if PBKDF2 of the key that its material holds equals the whole digest that it is
-/// opened against. If none does, the fault is [`OpenFault::NoKey`]; there is no other fault. This
+/// A key slot opens if PBKDF2 of the key that its material holds equals the whole value of its
+/// digest. If none opens, the fault is [`OpenFault::NoKey`]; there is no other fault. This
 /// allocates nothing. The count of work is raised by the evaluations of HMAC for the key slots that
 /// are tried: up to the first that opens, or all.
 #[tactic(auto, unfolding(crate::specs::Opening::opening_of, crate::specs::Opening::work_of))]
@@ -120,7 +120,7 @@ pub fn open(
     pass: &[u8],
     work: &mut Work,
 ) -> Result<Opened, OpenFault>
-    // The order is that of the header, whose segment is not refused, and the area holds the key
+    // The order is one of this header, whose segment is valid, and the area contains the key
     // material.
     requires order { (named limit : Option ℕ) × (order_of header.now named limit ≡ Ok order.now) }
     requires segment { (segment : Segment) × (segment_of header.now ≡ Ok segment) }

@@ -1,4 +1,4 @@
-//! In which order key slots are tried.
+//! The order in which key slots are tried.
 
 ghost use Rattle.std.specs.Prelude.{◌≡◌, ◌++◌, Err, IfOk, IsOk, IsSome, OnOk, OnErr, option_map};
 ghost use Rattle.std.specs.Prelude.{[], ◌∷◌, ◌≤◌, length};
@@ -37,7 +37,7 @@ fn usable(
     }
 }
 
-// Puts the key slots of this priority behind the others, by rising number.
+// Appends the key slots of this priority, by ascending number.
 fn push_usable(
     alloc: Global,
     entries: &mut Vec<Entry>,
@@ -81,7 +81,7 @@ fn skipped(header: &Header, limit: Option<u32>) -> SkippedSlots
     skipped
 }
 
-// No key slot is named.
+// The order if no key slot is named.
 #[tactic(auto, unfolding(crate::specs::Order::order_of_all))]
 fn order_all(alloc: Global, header: &Header, limit: Option<u32>) -> Result<Order, OpenFault>
     ensures answer { IsOrMemory (order_of_all header.now limit) result }
@@ -97,7 +97,7 @@ fn order_all(alloc: Global, header: &Header, limit: Option<u32>) -> Result<Order
     Ok(Order::new(entries, skipped))
 }
 
-// One key slot alone.
+// The order with this entry alone.
 fn order_alone(alloc: Global, entry: Option<Entry>) -> Result<Order, AllocError>
     ensures { IfOk result (λ order. order
         ≡ record { slots = entries_of entry; skipped = [] }) }
@@ -109,7 +109,7 @@ fn order_alone(alloc: Global, entry: Option<Entry>) -> Result<Order, AllocError>
     Ok(Order::new(entries, SkippedSlots::new()))
 }
 
-// A key slot that can be tried is named.
+// The order if a key slot that can be tried is named.
 fn order_usable(
     alloc: Global,
     header: &Header,
@@ -123,7 +123,7 @@ fn order_usable(
     order_alone(alloc, entry)
 }
 
-// A key slot is named.
+// The order if a key slot is named.
 fn order_named(
     alloc: Global,
     header: &Header,
@@ -145,16 +145,16 @@ fn order_named(
     }
 }
 
-/// The key slots of a header that are tried, in their order: those of priority 2, then those of
-/// priority 1, each by ascending number. If a key slot is named, only that one is tried, whatever
-/// its priority. Key slots with more iterations than the limit, or with a digest that has more, are
-/// skipped.
+/// The key slots of a header to be tried, in order: those of priority 2, then those of priority 1,
+/// each by ascending number. If a key slot is named, only that one is tried, whatever its priority.
+/// Key slots with more iterations than the limit, or with a digest that has more, are skipped.
 ///
 /// # Errors
 ///
-/// [`OpenFault::NoSuchSlot`], [`OpenFault::Disabled`] and [`OpenFault::NamedSkipped`] are for a key
-/// slot that is named, [`OpenFault::NothingTried`] is for a header of which no key slot is tried
-/// although none is named. [`OpenFault::Memory`] comes only if there is something to try.
+/// [`OpenFault::NoSuchSlot`], [`OpenFault::Disabled`] or [`OpenFault::NamedSkipped`] if a key slot
+/// is named that cannot be tried; [`OpenFault::NothingTried`] if no key slot is named and the
+/// header has none to try; [`OpenFault::Memory`] if memory runs out, which happens only if there is
+/// something to try.
 #[tactic(auto, unfolding(crate::specs::Order::order_of))]
 pub fn order(
     alloc: Global,

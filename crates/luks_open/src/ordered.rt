@@ -1,4 +1,4 @@
-//! The key slots that are tried, in their order.
+//! The key slots to be tried, in order.
 
 ghost use Rattle.std.specs.Prelude.{◌≡◌, ◌≤◌};
 ghost use Rattle.luks_area.specs.Area.{max_area_len};
@@ -8,7 +8,7 @@ pub use crate::entry::Entry;
 use crate::skipped::SkippedSlots;
 use std::marker::Model;
 
-/// The key slots that are tried, in their order, and those that were skipped.
+/// The key slots to be tried, in order, and those that were skipped.
 ///
 /// A clause sees both lists.
 #[derive(Drop, Debug)]
@@ -48,8 +48,8 @@ impl Order {
     }
 }
 
-/// How many of the image's first bytes must be loaded to try these key slots: up to the end of the
-/// last key material. At most 33,554,432.
+/// The number of the image's first bytes that must be loaded to try these key slots: up to the end
+/// of the last key material. At most 33,554,432.
 pub fn held_end(order: &Order) -> usize
     ensures value { result ≡ key_areas_end order.now.slots }
     ensures within { result ≤ max_area_len }

@@ -5,13 +5,13 @@ ghost use Rattle.std.specs.Prelude.{◌≡◌, ◌+◌, ◌<◌, ◌≤◌, List
 use luks_header::refusal::SkipReason;
 use std::marker::Model;
 
-/// The most key slots that a header has.
+/// The largest number of key slots in a header.
 const MAX_SKIPPED: usize = 32;
 
-/// What the unused elements are.
+/// The value of the unused elements.
 const NOTHING: (u8, SkipReason) = (0, SkipReason::State);
 
-/// Key slots that were skipped, by rising number, and why: at most 32. A clause sees them as a
+/// Key slots that were skipped, by ascending number, and why: at most 32. A clause sees them as a
 /// list.
 #[derive(Clone, Copy, PartialEq, Eq, Debug)]
 pub struct SkippedSlots {
@@ -48,7 +48,7 @@ impl SkippedSlots {
         }
     }
 
-    /// Puts a key slot behind the others.
+    /// Appends a key slot.
     pub(crate) fn push(&mut self, number: u8, reason: SkipReason)
         requires { length self.old < 32 }
         ensures { self.new ≡ self.old ++ (number, reason) ∷ [] }

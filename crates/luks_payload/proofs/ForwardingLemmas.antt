@@ -1,4 +1,4 @@
--- The sector that fills a buffer.
+-- Filling a buffer with a sector.
 use Rattle.std.proofs.Common.{◌≡◌, ℕ, ◌+◌, ◌-◌, ◌<◌, ◌≤◌, inl, inr, List, [], ◌∷◌, ◌++◌, Option, Some, ◌∙◌, ap, sym}
 use Rattle.std.proofs.Common.{drop, length, length-append, length-drop, length-take-le, append-nil, min, take_all}
 use Rattle.std.proofs.Common.{arith, subst, take, nat_lt, true, false}
@@ -17,23 +17,23 @@ use Rattle.luks_payload.specs.Plain.{unit_plain}
 use Rattle.luks_payload.specs.declared.fault.VolumeFault.TheVariants.{Write}
 use borrow.Rule.Slice.PartMut.{put_mid}
 
--- if all came that was asked for, no end was hit
+-- if all requested bytes were read, no end was hit
 pub whole_reads : (got asked : ℕ) (a b : ReadCounts) → asked ≤ got → Reads false (nat_lt got asked) a b
     → Reads false false a b
 whole_reads got asked a b all reads = rw (le-ltb got asked all) at reads
 
--- if less came, it was
+-- if fewer bytes were read, the end was hit
 pub short_reads : (got asked : ℕ) (a b : ReadCounts) → got < asked → Reads false (nat_lt got asked) a b
     → Reads false true a b
 short_reads got asked a b few reads = rw (lt-ltb got asked few) at reads
 
--- what a buffer decrypts to, in the payload's words
+-- a buffer decrypts to the plaintext of a unit, as the payload defines it
 pub unit_is : (cipher : Cipher) (number : ℕ) (buf unit : List ℕ) → unit ≡ sector_decrypted cipher.0 cipher.1 number buf
     → unit ≡ unit_plain cipher number buf
 unfolding unit_plain
 unit_is cipher number buf unit is = is
 
--- what a buffer of len bytes decrypts to that was filled with the next ones
+-- a buffer of `len` bytes that was filled with the next bytes decrypts to the plaintext of those bytes' first `len`
 pub unit_filled : (cipher : Cipher) (number len got : ℕ) (bytes buf unit : List ℕ) → length buf ≡ len → got ≡ len
     → take got buf ≡ take got bytes
     → unit ≡ sector_decrypted cipher.0 cipher.1 number buf → unit ≡ unit_plain cipher number (take len bytes)
@@ -42,7 +42,7 @@ unit_filled cipher number len got bytes buf unit long whole same is =
     let filled : buf ≡ take len bytes = sym (take_all len buf (omega arith)) ∙ (rw whole at same) in
     is ∙ ap (sector_decrypted cipher.0 cipher.1 number) filled
 
--- a beginning of a sector was written, and then a piece behind it
+-- the first bytes of a sector were written, and then a piece behind them
 module _ (held len : ℕ) (front new old piece : List ℕ) (is : held ≡ min (length front) len) (sized : length old ≡ len)
     (written : new ≡ take held front) where
   long : length new ≡ held
@@ -71,7 +71,7 @@ module _ (held len : ℕ) (front new old piece : List ℕ) (is : held ≡ min (l
       ∙ ap (λ l. take held (new ++ drop held old) ++ l) (append-nil piece)
       ∙ ap (λ l. l ++ piece) (first ∙ written ∙ ap (λ n. take n front) is)
 
--- a sector that is filled with the bytes in front, and then with those of a piece
+-- a sector that was filled with bytes of `front`, and then with those of a piece
 module _ (len : ℕ) (front piece sector : List ℕ) (is : sector ≡ take (min (length front) len) front ++ piece)
     (rest : length piece ≡ len - min (length front) len) where
   first_len : length (take (min (length front) len) front) ≡ min (length front) len
@@ -96,7 +96,7 @@ module _ (len : ℕ) (front piece sector : List ℕ) (is : sector ≡ take (min 
       ∙ ap (λ n. take n front) (omega arith) in
       take_all (length front) sector (omega arith) ∙ part ∙ ap (λ n. take n front) (sym size)
 
-  -- it begins with them
+  -- the sector starts with the bytes of `front`
   pub begins : BeginsWith front sector
   begins = elim (cases_lt len (length front)) [ inl many ↦ begins_many many | inr few ↦ begins_few few ]
 
@@ -128,14 +128,14 @@ module _ (len : ℕ) (front piece sector : List ℕ) (is : sector ≡ take (min 
           took = subst (ConsumedExactly known left') none took;
         })
 
-    -- and what is gathered goes on with the bytes of the source
+    -- the sector continues with the bytes of the source
     pub filled_sector : (held : ℕ) → held ≡ min (length front) len
         → FilledSector len front known left' sector (held + n)
     filled_sector held first =
         subst (λ m. FilledSector len front known left' sector (m + n)) (sym first)
         (elim (cases_lt len (length front)) [ inl many ↦ filled_many many | inr few ↦ filled_few few ])
 
--- the next bytes of a source, where it knew them, are those that were passed on
+-- the forwarded bytes are the next bytes of the source, if these are known
 passed_bytes : (known bytes : List ℕ) (left left' : Option (List ℕ)) (len : ℕ) → length bytes ≡ len
     → Consumes left left' bytes → left ≡ Some known → ConsumedExactly known left' len × (take len known ≡ bytes)
 passed_bytes known bytes left left' len sized taken is =
@@ -143,9 +143,9 @@ passed_bytes known bytes left left' len sized taken is =
     let took = took-front left left' bytes len (omega arith) (rw whole taken) known is in
     (took.0, sym took.1 ∙ whole)
 
--- a sector that was passed on, with none of its bytes in front
+-- a sector that was forwarded from the source, with an empty `front`
 module _ (cipher : Cipher) (number len : ℕ) (known : List ℕ) (left left' before after : Option (List ℕ)) where
-  -- the write was broken off
+  -- the write was aborted
   pub stops_passed : (front : List ℕ) (written : ℕ) → length front ≡ 0 → written < len
       → Forwarded len (λ bytes. take written (unit_plain cipher number bytes)) left left' before after
       → left ≡ Some known → AbortsInSector cipher number len front known left' before after Write

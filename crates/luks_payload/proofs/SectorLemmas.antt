@@ -1,4 +1,4 @@
--- Sectors of a payload: which are whole, and how it ends.
+-- Sectors of a payload: which ones are whole, and how the payload ends.
 use Rattle.std.proofs.Common.{◌≡◌, ℕ, ◌+◌, ◌-◌, ◌*◌, ◌/◌, ◌%◌, ◌^◌, ◌<◌, ◌≤◌, Option, None, Some, Result, Ok, Err, Bool}
 use Rattle.std.proofs.Common.{true, false, ap, sym, refl, min, arith}
 use Rattle.std.specs.Prelude.{nat_lt, ◌==◌, if◌then◌else◌}
@@ -14,25 +14,25 @@ use Rattle.luks_payload.specs.declared.fault.VolumeFault.TheVariants.{Tail, Shor
 use Rattle.luks_payload.specs.declared.state.Step.{Step}
 use Rattle.luks_payload.specs.declared.state.Step.TheVariants.{End}
 
--- below so many whole sectors there is one more
+-- if n is below the number of whole sectors, n sectors and one more fit
 pub one_more_fits : (n size z : ℕ) → n < size / z → n * z + z ≤ size
 one_more_fits n size z below =
     let more : n + 1 ≤ size / z = omega arith in
     let all = mul-le-mul_right z more in
     omega (arith, div-mul-le_self size z, all)
 
--- n whole sectors fit
+-- if n sectors fit, there are at least n whole sectors
 pub fit : (n len z : ℕ) → 0 < z → n * z ≤ len → n ≤ len / z
 fit n len z some all = (le-div_iff_mul-le {k = z} {x = n} {y = len} some).1 all
 
--- a size of whole sectors is their length
+-- if the size is a multiple of the sector's length, its whole sectors have that size together
 exact_sectors : (size z n : ℕ) → size % z ≡ 0 → n ≡ size / z → n * z ≡ size
 exact_sectors size z n exact is =
     let product : n * z ≡ size / z * z = ap (λ k. k * z) is in
     omega (arith, mod-eq-sub-div-mul size z, div-mul-le_self size z)
 
 module _ (z : ℕ) (some : 0 < z) where
-  -- sector n is one of the payload's where the limit is above it and its bytes are there
+  -- sector n is one of the payload's if n is below the limit and the image has its bytes
   pub is_whole : (size : Option ℕ) (n len : ℕ) → n < max_sectors_of size z → n * z + z ≤ len
       → n < payload_bytes size len / z
   is_whole None n len below there = omega (arith, fit (n + 1) len z some (omega arith))
@@ -40,7 +40,7 @@ module _ (z : ℕ) (some : 0 < z) where
       let whole = one_more_fits n size z below in
       omega (arith, fit (n + 1) (min size len) z some (omega arith))
 
-  -- its bytes are before the payload's end
+  -- an offset before the end of sector n is not behind the payload's end
   pub is_within : (size : Option ℕ) (n offset len place : ℕ) → n < max_sectors_of size z → place < offset + (n * z + z)
       → place ≤ len → place ≤ payload_end_in size offset len
   is_within None n offset len place below before there = there
@@ -48,7 +48,7 @@ module _ (z : ℕ) (some : 0 < z) where
       let whole = one_more_fits n size z below in
       omega arith
 
-  -- where the next sector is torn, the sectors so far are all
+  -- if the next sector is incomplete, the sectors before it are all of the payload's
   pub all_whole : (size : Option ℕ) (n more : ℕ) → n < max_sectors_of size z → more < z
       → n ≡ payload_bytes size (n * z + more) / z
   all_whole None n more below torn = sym (div-mul-add n z more torn)
@@ -57,7 +57,7 @@ module _ (z : ℕ) (some : 0 < z) where
       let least : min size (n * z + more) ≡ n * z + more = omega arith in
       rw least (sym (div-mul-add n z more torn))
 
-  -- and the payload ends with the image
+  -- if the next sector is incomplete, the payload ends with the image
   pub ends_at_end : (size : Option ℕ) (n more offset : ℕ) → n < max_sectors_of size z → more < z
       → payload_end_in size offset (offset + (n * z + more)) ≡ offset + (n * z + more)
   ends_at_end None n more offset below torn = refl
@@ -65,7 +65,7 @@ module _ (z : ℕ) (some : 0 < z) where
       let whole = one_more_fits n size z below in
       omega arith
 
-  -- at the limit of an image that can be, the payload has its fixed size and ends well
+  -- at the limit, if the image has fewer than 2^64 bytes, the payload has all its sectors and ends without a fault
   pub at_limit : (size : Option ℕ) (n len : ℕ) → 512 ≤ z → ForSome size (λ bytes. bytes % z ≡ 0)
       → n ≡ max_sectors_of size z → n * z ≤ len → len < 2 ^ 64
       → (n ≡ payload_bytes size len / z) × (ending_of_len size z len ≡ Ok End)
@@ -78,7 +78,7 @@ module _ (z : ℕ) (some : 0 < z) where
       let enough : nat_lt len size ≡ false = le-ltb len size (omega arith) in
       (rw smaller is, rw enough refl)
 
-  -- and at its fixed end
+  -- at the limit, if the image has fewer than 2^64 bytes, the payload ends behind its last sector
   pub at_limit_end : (size : Option ℕ) (n offset len : ℕ) → 512 ≤ z → ForSome size (λ bytes. bytes % z ≡ 0)
       → n ≡ max_sectors_of size z → offset + n * z ≤ len
       → len < 2 ^ 64 → payload_end_in size offset len ≡ offset + n * z
@@ -89,7 +89,7 @@ module _ (z : ℕ) (some : 0 < z) where
       let all = exact_sectors size z n (whole size refl) is in
       omega arith
 
--- of an image that ends before its payload, no sector is there and no byte is left
+-- a payload of which the image has no bytes has no sectors
 pub none_whole : (size : Option ℕ) (z : ℕ) → payload_bytes size 0 / z ≡ 0
 none_whole None z = zero-div z
 none_whole (Some size) z =
@@ -100,19 +100,19 @@ pub ends_before : (size : Option ℕ) (offset len : ℕ) → len < offset → pa
 ends_before None offset len before = refl
 ends_before (Some size) offset len before = omega arith
 
--- a place up to the payload's start is not behind its end
+-- an offset up to the payload's start, in the image, is not behind the payload's end
 pub before_end : (size : Option ℕ) (offset len place : ℕ) → place ≤ offset → place ≤ len
     → place ≤ payload_end_in size offset len
 before_end None offset len place first there = there
 before_end (Some size) offset len place first there = omega arith
 
--- what holds of both outcomes of a test
+-- a property of both outcomes of a test holds for its result
 by_test : (P : Result Step VolumeFault → Type 0) (b : Bool) (x y : Result Step VolumeFault) → P x → P y
     → P (if b then x else y)
 by_test P true x y p q = p
 by_test P false x y p q = q
 
--- what holds of each ending of a payload whose image reaches it
+-- a property of every possible ending holds for the ending of a payload whose image reaches its start
 pub by_ending : (P : Result Step VolumeFault → Type 0) → P (Ok End) → ((n : ℕ) → P (Err (Tail n)))
     → ((n : ℕ) → P (Err (Short n))) → (size : Option ℕ) (z len : ℕ) → P (ending_of_len size z len)
 by_ending P end tail short None z len =

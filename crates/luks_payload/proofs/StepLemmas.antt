@@ -1,4 +1,4 @@
--- What a step does, from what its parts do.
+-- The effect of a step, from the effects of its parts.
 use Rattle.std.proofs.Common.{◌≡◌, ℕ, ◌+◌, ◌-◌, ◌*◌, ◌^◌, ◌<◌, ◌≤◌, ◌⊎◌, inl, inr, List, [], ◌++◌, Option, None, Some}
 use Rattle.std.proofs.Common.{Result, Ok, Err, true, false, ◌∙◌, ap, sym, subst, refl, take, drop, length}
 use Rattle.std.proofs.Common.{length-append, length-drop, max, min, arith}
@@ -31,7 +31,7 @@ use Rattle.luks_payload.proofs.SectorLemmas.{all_whole, at_limit, at_limit_end, 
 use Rattle.luks_payload.proofs.SectorLemmas.{ends_at_end, ends_before, is_whole, is_within, none_whole}
 
 module _ (s : Segment) (image : List ℕ) (count : ℕ) where
-  -- a stated end is what a step did
+  -- an end with the specified answer is the effect of a step
   steps_from_end : (cipher : Cipher) (reach : ℕ) (left' before after : Option (List ℕ))
       (answer : Result Step VolumeFault) (len : ℕ) → answer ≡ ending_of_len s.size (sector_len s) len
       → EndEffect image s count reach answer left' → StepEffect s cipher count reach image answer left' before after
@@ -48,14 +48,14 @@ module _ (s : Segment) (image : List ℕ) (count : ℕ) where
         ≡ length image - (sector_start s count + length front)
     long = length-drop (sector_start s count + length front) image
 
-    -- the bytes in front and those that are left are the image's next ones
+    -- the bytes of `front` and the remaining ones are the image's next bytes
     joined : front ++ drop (sector_start s count + length front) image ≡ drop (sector_start s count) image
     joined =
         ap (λ l. front ++ l) (sym (drop-drop (length front) (sector_start s count) image))
         ∙ ap (λ l. l ++ drop (length front) (drop (sector_start s count) image)) stands.next
         ∙ take-append-drop (length front) (drop (sector_start s count) image)
 
-    -- the sector was taken
+    -- the sector was consumed
     pub takes_sector : (left' : Option (List ℕ)) → count < max_sectors s
         → IfKnown left (λ rest. ConsumedExactly rest left' (sector_len s - length front))
         → ConsumesSector image s count (sector_start s count + length front) left'
@@ -98,7 +98,7 @@ module _ (s : Segment) (image : List ℕ) (count : ℕ) where
     steps_broken cipher left' b a (Short _) below stops =
         absurd (stops (drop (sector_start s count + length front) image) stands.took.left)
 
-    -- the sector's plain bytes were written
+    -- the sector's plaintext was written
     pub adds_sector : (cipher : Cipher) (before after : Option (List ℕ))
         → IfKnown left (λ rest. Appended before after (unit_plain cipher (unit_number s count)
         (take (sector_len s) (front ++ rest))))
@@ -157,7 +157,7 @@ module _ (s : Segment) (image : List ℕ) (count : ℕ) where
           took = rw (end, same) stands.took;
         }
 
--- the image ends in a sector: this is one of the answers that a step may give, and with it the end was hit
+-- the image ends in a sector: a step may give this answer, and hit the end if it gives it
 module _ (s : Segment) (count more : ℕ) (answer : Result Step VolumeFault) (below : count < max_sectors s)
     (is : answer ≡ ending_of_len s.size (sector_len s) (count * sector_len s + more)) where
   pub may_be_torn : more < sector_len s → MayAnswer InPayload s count answer
@@ -201,7 +201,7 @@ module _ (s : Segment) (count : ℕ) (fault : VolumeFault) (only : (fault ≡ Re
       → WritesSectors (Err fault) written unwritten
   writes_no_sector written unwritten unread = elim only [ inl is ↦ rw is (unread is) | inr is ↦ rw is tt ]
 
--- what a skip did, from how its bytes were let go
+-- the effect of a skip, from the effect of discarding its bytes
 module _ (p : PumpModel) (image : List ℕ) (r r' : Option (List ℕ)) (early : p.consumed ≤ p.segment.offset)
     (first : p.state ≡ BeforePayload) (bare : p.front ≡ []) (stands : PositionedIn image p r) where
   from : consumed_by p ≡ p.consumed
@@ -236,7 +236,7 @@ module _ (p : PumpModel) (image : List ℕ) (r r' : Option (List ℕ)) (early : 
   skips (Err (Short _)) ok err = absurd (err (drop p.consumed image) took.left)
   skips (Err Write) ok err = absurd (err (drop p.consumed image) took.left)
 
--- a pump of these parts
+-- the pump with these parts
 abbrev pub pumped : Segment → Cipher → ℕ → ℕ → State → List ℕ → PumpModel
 pumped s cipher consumed count state front =
     record { segment = s; cipher = cipher; consumed = consumed; count = count; state = state; front = front }
@@ -284,7 +284,7 @@ module _ (s : Segment) (cipher : Cipher) (consumed count : ℕ) (front image : L
       let not = stands.running in
       cc
 
--- then a running pump was before its payload
+-- if a skip failed, a running pump was before its payload
 pub was_before : (state : State) (fault : VolumeFault) (T : Type 0) → SkipsAgain state (Err fault) T
     → is_running state ≡ true → state ≡ BeforePayload
 was_before BeforePayload fault T again running = refl
@@ -294,7 +294,7 @@ was_before InPayload fault T again running =
 was_before Ended fault T again running = cc
 was_before (Faulted _) fault T again running = cc
 
--- and the skip's reads are the step's, which came to no write
+-- the reads of a failed skip are those of its step, which makes no write
 module _ (s : Segment) (count : ℕ) (fault : VolumeFault) (only : (fault ≡ CutBeforePayload) ⊎ (fault ≡ Read)) where
   pub unskipped_reads : (a b : ReadCounts)
       → Reads (is_pump_read_failure {T = Unit {0}} (Err fault)) (is_cut {T = Unit {0}} (Err fault)) a b
@@ -304,12 +304,12 @@ module _ (s : Segment) (count : ℕ) (fault : VolumeFault) (only : (fault ≡ Cu
   pub unskipped_writes : (a : WriteCounts) → Writes (is_pump_write_failure {T = Step} (Err fault)) a a
   unskipped_writes a = elim only [ inl is ↦ rw is (no_writes a) | inr is ↦ rw is (no_writes a) ]
 
--- an image that reaches a payload's start reaches its end
+-- if an image reaches a payload's start, the payload's end is not before its start
 start_in_end : (size : Option ℕ) (offset len : ℕ) → offset ≤ len → offset ≤ payload_end_in size offset len
 start_in_end None offset len whole = whole
 start_in_end (Some size) offset len whole = omega arith
 
--- a step from a payload's start on is one from an earlier place
+-- the effect of a step from the payload's start on is also the effect of one from an earlier offset
 module _ (s : Segment) (cipher : Cipher) (count reach : ℕ) (image : List ℕ) (l b a : Option (List ℕ))
     (early : reach ≤ s.offset) (there : s.offset ≤ length image) where
   ends_earlier : (answer : Result Step VolumeFault) → EndEffect image s count s.offset answer l
@@ -336,7 +336,7 @@ module _ (s : Segment) (cipher : Cipher) (count reach : ℕ) (image : List ℕ) 
   steps_earlier (Err Write) (takes, adds) =
       (takes_earlier takes, adds)
 
--- a step goes on from where its skip left the source
+-- a step continues where its skip left the source
 module _ (s : Segment) (cipher : Cipher) (consumed count : ℕ) (front image : List ℕ)
     (r r' r'' before after : Option (List ℕ)) (answer : Result Step VolumeFault) where
   pub steps_skipped : (state : State) (T : Type 0)
@@ -365,7 +365,7 @@ module _ (s : Segment) (cipher : Cipher) (consumed count : ℕ) (front image : L
       let not = stands.running in
       absurd (cc)
 
--- where a skip let a pump go on that has not ended, it is in its payload, and was before it or there already
+-- if a skip succeeded and the pump has not ended, it is in its payload, and was before it or in it already
 pub resumed : (state now : State) (T : Type 0) → SkipsAgain state (Ok tt) T
     → now ≡ state_after_skip {T = Unit {0}} state (Ok tt) → (now ≡ Ended → ⊥)
     → (now ≡ InPayload) × ((state ≡ BeforePayload) ⊎ ((state ≡ InPayload) × T))

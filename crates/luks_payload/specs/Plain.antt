@@ -1,4 +1,4 @@
--- The plain text of a payload, over the whole image as one list of bytes.
+-- The plaintext of a payload, over the whole image as one list of bytes.
 use Rattle.std.specs.Prelude.{ℕ, ◌+◌, ◌-◌, ◌*◌, ◌/◌, ◌%◌, ◌^◌, ◌==◌, min, nat_lt, if◌then◌else◌, List, length, take}
 use Rattle.std.specs.Prelude.{drop, Option, None, Some, Result, Ok, Err}
 use Rattle.luks_cipher.specs.Sector.{Cipher, sector_decrypted}
@@ -14,41 +14,41 @@ use Rattle.luks_payload.specs.declared.state.Step.TheVariants.{End}
 abbrev pub sector_len : Segment → ℕ
 sector_len s = bytes_of s.sector_size
 
--- where sector i begins in the image
+-- the offset of sector i in the image
 abbrev pub sector_start : Segment → ℕ → ℕ
 sector_start s i = s.offset + i * sector_len s
 
--- its unit number: those of LUKS count in steps of 512 bytes, whatever the sector's length, and wrap at 2^64
+-- the unit number of sector i: unit numbers count in steps of 512 bytes, whatever the sector's length, and wrap at 2^64
 abbrev pub unit_number : Segment → ℕ → ℕ
 unit_number s i = (s.iv_tweak + i * (sector_len s / 512)) % 2 ^ 64
 
--- the plaintext of a stored unit: the one place where the cipher enters
+-- the plaintext of a stored unit. No other definition here applies the cipher
 unfoldable pub unit_plain : Cipher → ℕ → List ℕ → List ℕ
 unit_plain cipher number unit = sector_decrypted cipher.0 cipher.1 number unit
 
--- the plain bytes of sector i
+-- the plaintext of sector i
 abbrev pub sector_plaintext : Segment → Cipher → List ℕ → ℕ → List ℕ
 sector_plaintext s cipher image i = unit_plain cipher (unit_number s i) (take (sector_len s) (drop
     (sector_start s i) image))
 
--- how many bytes of the image are behind the payload's start
+-- the number of bytes of the image behind the payload's start
 abbrev pub payload_len : Segment → List ℕ → ℕ
 payload_len s image = length image - s.offset
 
--- how many of these bytes are the payload's
+-- the number of these bytes that belong to the payload
 abbrev pub payload_bytes : Option ℕ → ℕ → ℕ
 payload_bytes None len = len
 payload_bytes (Some size) len = min size len
 
--- how many whole sectors the payload has
+-- the number of whole sectors that the payload has
 abbrev pub sectors_of : Segment → List ℕ → ℕ
 sectors_of s image = payload_bytes s.size (payload_len s image) / sector_len s
 
--- the plain text: all whole sectors, joined
+-- the plaintext: all whole sectors, joined
 abbrev pub plain_of : Segment → Cipher → List ℕ → List ℕ
 plain_of s cipher image = joined (sector_plaintext s cipher image) (sectors_of s image)
 
--- how a payload ends whose image has so many bytes behind its start
+-- how a payload ends if the image has `len` bytes behind its start
 abbrev pub ending_of_len : Option ℕ → ℕ → ℕ → Result Step VolumeFault
 ending_of_len None sector len = if len % sector == 0 then Ok End else Err (Tail (len % sector))
 ending_of_len (Some size) sector len = if nat_lt len size then Err (Short (size - len)) else Ok End
@@ -59,11 +59,11 @@ ending_of s image =
     if nat_lt (length image) s.offset then Err CutBeforePayload else ending_of_len s.size (sector_len s)
     (payload_len s image)
 
--- where a payload of this size from this offset on ends in an image of so many bytes
+-- the end of a payload of this size at this offset, in an image of `len` bytes
 abbrev pub payload_end_in : Option ℕ → ℕ → ℕ → ℕ
 payload_end_in None offset len = len
 payload_end_in (Some size) offset len = min len (offset + size)
 
--- where the payload ends in the image
+-- the end of the payload in the image
 abbrev pub payload_end_of : Segment → List ℕ → ℕ
 payload_end_of s image = payload_end_in s.size s.offset (length image)

@@ -1,4 +1,4 @@
--- What a pump is to its caller, and what its calls do.
+-- A pump as its callers see it, and the effects of its calls.
 use Rattle.std.specs.Prelude.{◌≡◌, ℕ, ◌+◌, ◌*◌, ◌<◌, ◌⊎◌, max, min, nat_lt, List, drop, length, take, Option, Result}
 use Rattle.std.specs.Prelude.{Ok, Err, Bool, true, false, IsTrue}
 use Rattle.luks_cipher.specs.Sector.{Cipher}
@@ -14,8 +14,9 @@ use Rattle.luks_payload.specs.declared.state.State.TheVariants.{BeforePayload, I
 use Rattle.luks_payload.specs.declared.state.Step.{Step}
 use Rattle.luks_payload.specs.declared.state.Step.TheVariants.{Sector, End}
 
--- a pump: the payload and its cipher, how many bytes of the image before the payload were consumed when it was made,
--- how many sectors it has forwarded, its state, and which of the payload's next bytes were consumed before it was made
+-- a pump: the payload and its cipher, the number of bytes of the image before the payload that were consumed when it
+-- was made, the number of sectors that it has forwarded, its state, and the next bytes of the payload that were
+-- consumed before it was made
 pub record PumpModel : Type 0 where
   pub segment : Segment
   pub cipher : Cipher
@@ -24,14 +25,14 @@ pub record PumpModel : Type 0 where
   pub state : State
   pub front : List ℕ
 
--- it has neither ended nor failed
+-- a pump in this state has neither ended nor failed
 abbrev pub is_running : State → Bool
 is_running BeforePayload = true
 is_running InPayload = true
 is_running Ended = false
 is_running (Faulted _) = false
 
--- the place in the image of the next byte
+-- the offset of the next byte in the image
 abbrev pub next_offset : State → ℕ → ℕ → ℕ
 next_offset BeforePayload consumed next = consumed
 next_offset InPayload consumed next = next
@@ -41,11 +42,11 @@ next_offset (Faulted _) consumed next = next
 abbrev pub position : PumpModel → ℕ
 position p = next_offset p.state p.consumed (sector_start p.segment p.count)
 
--- how many bytes of the image were consumed
+-- the number of bytes of the image that were consumed
 abbrev pub consumed_by : PumpModel → ℕ
 consumed_by p = position p + length p.front
 
--- a running pump is in an image whose other bytes remain in the source
+-- a pump is running, and is in an image whose other bytes remain in the source
 pub record PositionedIn (image : List ℕ) (pump : PumpModel) (left' : Option (List ℕ)) : Type 0 where
   pub running : IsTrue (is_running pump.state)
   pub stands : PositionedAt image pump.front (position pump) left'
@@ -58,7 +59,7 @@ state_after_skip InPayload _ = InPayload
 state_after_skip Ended _ = Ended
 state_after_skip (Faulted fault) _ = Faulted fault
 
--- a skip of a pump that is not before its payload touches nothing, and answers as before
+-- a skip touches nothing and repeats its answer if the pump is not before its payload
 abbrev pub SkipsAgain : State → Result (Unit {0}) VolumeFault → Type 0 → Type 0
 SkipsAgain BeforePayload answer untouched = Unit {0}
 SkipsAgain InPayload answer untouched = (answer ≡ Ok tt) × untouched
@@ -82,7 +83,7 @@ after_step p (Ok Sector) =
 after_step p (Ok End) = record p { state = Ended }
 after_step p (Err fault) = record p { state = Faulted fault }
 
--- a step touches nothing if the pump has ended or failed, or is full: as many sectors are forwarded as its limit allows
+-- a step touches nothing if the pump has ended or failed, or has forwarded as many sectors as its limit allows (`full`)
 abbrev pub StepsIdle : State → Type 0 → Result Step VolumeFault → Type 0 → Type 0
 StepsIdle BeforePayload full answer untouched = Unit {0}
 StepsIdle InPayload full answer untouched = full → (answer ≡ Ok End) × untouched
@@ -99,8 +100,7 @@ WritesSectors (Err (Short _)) written unwritten = unwritten
 WritesSectors (Err Read) written unwritten = unwritten
 WritesSectors (Err Write) written unwritten = Unit {0}
 
--- how the payload ends if so many sectors were forwarded: at its limit, or if less than one sector remains in the
--- source
+-- how the payload ends after `count` sectors: at its limit, or because less than one sector remains in the source
 abbrev pub EndsAt : Segment → ℕ → Result Step VolumeFault → Type 0
 EndsAt s count answer = ((count ≡ max_sectors s) × (answer ≡ Ok End))
     ⊎ ((count < max_sectors s)
@@ -117,7 +117,7 @@ MayAnswer state s count (Err (Short bytes)) = EndsAt s count (Err (Short bytes))
 MayAnswer state s count (Err Read) = Unit {0}
 MayAnswer state s count (Err Write) = Unit {0}
 
--- whether a step with so many sectors forwarded before hit the end of its source: not if a limit ends the payload
+-- whether a step after `count` sectors hit the end of its source; it did not if a limit ended the payload
 abbrev pub hits_eof_at : Segment → ℕ → Result Step VolumeFault → Bool
 hits_eof_at s count (Ok Sector) = false
 hits_eof_at s count (Ok End) = nat_lt count (max_sectors s)
@@ -127,20 +127,20 @@ hits_eof_at s count (Err (Short _)) = true
 hits_eof_at s count (Err Read) = false
 hits_eof_at s count (Err Write) = false
 
--- sector `count` was consumed from the image, of which `reach` bytes had been, and nothing past it
+-- sector `count` was consumed from the image, of which `reach` bytes had been consumed before, and nothing past it
 pub record ConsumesSector (image : List ℕ) (segment : Segment) (count reach : ℕ) (left : Option (List ℕ)) : Type 0 where
   pub is_one : count < sectors_of segment image
   pub took : ConsumedExactly image left (max reach (sector_start segment (count + 1)))
 
 -- the payload came to its specified end after `count` sectors, and all of it was consumed from an image of which
--- `reach` bytes had been
+-- `reach` bytes had been consumed before
 pub record EndEffect (image : List ℕ) (segment : Segment) (count reach : ℕ) (answer : Result Step VolumeFault)
     (left : Option (List ℕ)) : Type 0 where
   pub all : count ≡ sectors_of segment image
   pub as_stated : answer ≡ ending_of segment image
   pub took : ConsumedExactly image left (max reach (payload_end_of segment image))
 
--- the effect of a step in an image of which so many bytes had been consumed, with so many sectors forwarded before
+-- the effect of a step after `count` sectors, in an image of which `reach` bytes had been consumed before
 abbrev pub StepEffect : Segment → Cipher → ℕ → ℕ → List ℕ → Result Step VolumeFault → Option (List ℕ) → Option (List ℕ)
     → Option (List ℕ) → Type 0
 StepEffect s cipher count reach image (Ok Sector) left before after =

@@ -8,17 +8,17 @@ use Rattle.luks_payload.specs.Plain.{unit_plain, sector_len}
 use Rattle.luks_payload.specs.declared.fault.VolumeFault.{VolumeFault}
 use Rattle.luks_payload.specs.declared.fault.VolumeFault.TheVariants.{CutBeforePayload, Tail, Short, Read, Write}
 
--- whether a call with this answer met a read that failed
+-- whether a read failed in a call with this answer
 abbrev pub is_pump_read_failure : {T : Type 0} → Result T VolumeFault → Bool
 is_pump_read_failure (Err Read) = true
 is_pump_read_failure _ = false
 
--- whether it met a write that failed
+-- whether a write failed in such a call
 abbrev pub is_pump_write_failure : {T : Type 0} → Result T VolumeFault → Bool
 is_pump_write_failure (Err Write) = true
 is_pump_write_failure _ = false
 
--- whether it found the end of the image before the payload
+-- whether such a call hit the end of the image before the payload
 abbrev pub is_cut : {T : Type 0} → Result T VolumeFault → Bool
 is_cut (Err CutBeforePayload) = true
 is_cut _ = false
@@ -31,16 +31,16 @@ AbortsDiscarding count known left (Tail _) = ⊥
 AbortsDiscarding count known left (Short _) = ⊥
 AbortsDiscarding count known left Write = ⊥
 
--- at an offset of an image the next bytes are `front`, and what is behind them remains in the source
+-- the bytes of an image at this offset are `front`, and those behind them remain in the source
 pub record PositionedAt (image front : List ℕ) (place : ℕ) (left' : Option (List ℕ)) : Type 0 where
   pub next : front ≡ take (length front) (drop place image)
   pub took : ConsumedExactly image left' (place + length front)
 
--- the bytes of a unit start with those of `front`
+-- a unit starts with the bytes of `front`, as far as both have bytes
 abbrev pub BeginsWith : List ℕ → List ℕ → Type 0
 BeginsWith front unit = take (length front) unit ≡ take (length unit) front
 
--- the plaintext of some unit of `len` bytes was written that starts with the bytes of `front`
+-- the plaintext was written of some unit of `len` bytes that starts with the bytes of `front`
 abbrev pub AppendsUnit : Cipher → ℕ → ℕ → List ℕ → Option (List ℕ) → Option (List ℕ) → Type 0
 AppendsUnit cipher number len front before after = (unit : List ℕ) × (length unit ≡ len) × BeginsWith front unit
     × Appended before after (unit_plain cipher number unit)
@@ -64,8 +64,8 @@ AbortsInSector cipher number len front known left before after CutBeforePayload 
 AbortsInSector cipher number len front known left before after (Tail _) = ⊥
 AbortsInSector cipher number len front known left before after (Short _) = ⊥
 
--- the sector of a unit number, which starts with the bytes of `front`, was consumed, and was written if it is whole:
--- there were `got` bytes of it
+-- the sector with this unit number, which starts with the bytes of `front`, was consumed, and was written if it is
+-- whole: it has `got` bytes
 pub record SectorForwarded (cipher : Cipher) (number len : ℕ) (front : List ℕ) (got : ℕ)
     (left left' before after : Option (List ℕ)) (unwritten : Type 0) : Type 0 where
   pub most : got ≤ len
@@ -90,7 +90,7 @@ SectorEffect cipher number len front answer left left' before after unwritten = 
     (λ got. SectorForwarded cipher number len front got left left' before after unwritten)
     (λ fault. SectorAborted cipher number len front fault left left' before after unwritten)
 
--- the most sectors that are forwarded: those of a fixed size, and otherwise the greatest count of 64 bits
+-- the largest number of sectors that are forwarded: those of a payload of fixed size, or otherwise 2^64 - 1
 abbrev pub max_sectors_of : Option ℕ → ℕ → ℕ
 max_sectors_of None sector = 2 ^ 64 - 1
 max_sectors_of (Some size) sector = size / sector

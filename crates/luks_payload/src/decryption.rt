@@ -3,7 +3,7 @@
 use luks_cipher::SectorCipher;
 use luks_io::transform::Transform;
 
-/// What decrypts the sector of a unit number.
+/// The decryption of the sector with this unit number.
 #[derive(Drop)]
 pub(crate) struct Decryption<'a> {
     pub(crate) cipher: &'a SectorCipher,

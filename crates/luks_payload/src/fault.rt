@@ -8,9 +8,9 @@ use luks_io::source::ReadFault;
 pub enum VolumeFault {
     /// The image ends before its payload begins.
     CutBeforePayload,
-    /// The image ends inside a sector, of which it has so many bytes.
+    /// The image ends inside a sector, of which it has this many bytes.
     Tail(u64),
-    /// The image ends so many bytes before the end of a payload of fixed size.
+    /// The image ends this many bytes before the end of a payload of fixed size.
     Short(u64),
     /// A read of the image failed.
     Read,

@@ -1,4 +1,4 @@
-//! Bytes on their way from a source: those before the payload, and those of one sector.
+//! Discarding the bytes before the payload, and forwarding one sector of it.
 
 ghost use Rattle.std.specs.Prelude.{◌≡◌, ◌-◌, ◌%◌, ◌<◌, ◌≤◌, ◌⊎◌, IfOk, IfErr, OnOk, length};
 ghost use Rattle.luks_io.specs.Devices.{ConsumedExactly, ConsumedFewer, IfKnown, is_short_read};
@@ -13,7 +13,7 @@ use luks_cipher::SectorCipher;
 use luks_io::sink::{Sink, put_all};
 use luks_io::source::{Source, fill};
 
-/// Reads so many bytes and discards them. The piece is a buffer for some of them at a time.
+/// Reads `count` bytes and discards them. `piece` is the buffer for some of them at a time.
 pub(crate) fn discard<S: Source>(
     source: &mut S,
     count: u64,
@@ -40,8 +40,8 @@ pub(crate) fn discard<S: Source>(
     Ok(())
 }
 
-/// Fills a sector with the bytes of `front`, and then with the next ones of the source. Answers how
-/// many there were: fewer than the sector has only if the source is at its end.
+/// Fills a sector with the bytes of `front`, and then with the next ones of the source. Returns the
+/// number of bytes, which is less than the sector's only if the source is at its end.
 fn fill_sector<S: Source>(
     front: &[u8],
     sector: &mut [u8],
@@ -65,8 +65,8 @@ fn fill_sector<S: Source>(
     Ok(held + got)
 }
 
-/// Fills `sector` as [`fill_sector`] does, and writes its plaintext if it is whole. Answers how
-/// many bytes there were.
+/// Fills `sector` as [`fill_sector`] does, and writes its plaintext if it is whole. Returns the
+/// number of bytes.
 fn forward_filled<S: Source, O: Sink>(
     cipher: &SectorCipher,
     number: u64,
@@ -95,9 +95,9 @@ fn forward_filled<S: Source, O: Sink>(
     Ok(got)
 }
 
-/// Consumes the sector of this unit number, which starts with the bytes of `front`, and writes its
-/// plaintext if it is whole. If the source has all of it buffered, it is decrypted there, and
-/// otherwise in `sector`. Answers how many bytes there were.
+/// Consumes the sector with this unit number, which starts with the bytes of `front`, and writes
+/// its plaintext if it is whole. The sector is decrypted in the source if `front` is empty and the
+/// source has all of it buffered, and otherwise in `sector`. Returns the number of bytes.
 pub(crate) fn forward_sector<S: Source, O: Sink>(
     cipher: &SectorCipher,
     number: u64,
@@ -117,7 +117,7 @@ pub(crate) fn forward_sector<S: Source, O: Sink>(
     ensures writes { Writes (is_pump_write_failure result)
         (O.counts sink.old) (O.counts sink.new) }
 {
-    // Bytes of `front` are not the source's: a sector that starts with them is filled in the
+    // The bytes of `front` are not in the source: a sector that starts with them is filled in the
     // buffer.
     if front.is_empty() {
         let decryption = Decryption { cipher, number };

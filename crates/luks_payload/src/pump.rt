@@ -1,4 +1,4 @@
-//! The sector stream: an image's payload in, its plain text out, one sector at a time.
+//! The sector stream: reads an image's payload and writes its plaintext, one sector at a time.
 
 ghost use Rattle.std.specs.Prelude.{◌≡◌, ◌+◌, ◌^◌, ◌<◌, ◌≤◌, ◌⊎◌, List, [], ℕ, Ok, IfErr};
 ghost use Rattle.std.specs.Prelude.{true, length};
@@ -22,14 +22,14 @@ use luks_io::source::Source;
 use luks_verdict::segment::Segment;
 use std::marker::Model;
 
-/// Room for the longest sector.
+/// The capacity for the longest sector.
 const ROOM: usize = 4096;
 
-/// Forwards a payload, sector by sector. It holds one sector and allocates nothing.
+/// Forwards a payload, sector by sector. It buffers one sector and allocates nothing.
 ///
-/// A clause sees its segment, its cipher, how many of the image's bytes before the payload were
-/// consumed before it was made, how many sectors it has forwarded, its state, and which of the
-/// payload's next bytes were consumed before it was made.
+/// A clause sees its segment, its cipher, the number of the image's bytes before the payload that
+/// were consumed before it was made, the number of sectors that it has forwarded, its state, and
+/// the next bytes of the payload that were consumed before it was made.
 #[derive(Drop)]
 pub struct Pump<'a> {
     segment: Segment,
@@ -63,8 +63,8 @@ impl<'a> Model for Pump<'a> {
         × (p.state ≡ BeforePayload → (p.count ≡ 0) × (p.front.now ≡ [])) };
 }
 
-/// Forwards the sector of this number, which starts with the bytes of `front`, or says how the
-/// payload ends before it. The buffer is long enough for it.
+/// Forwards the sector of this number, which starts with the bytes of `front`, or reports how the
+/// payload ends before it. The buffer is long enough for the sector.
 fn next_sector<S: Source, O: Sink>(
     segment: &Segment,
     cipher: &SectorCipher,
@@ -110,7 +110,7 @@ fn next_sector<S: Source, O: Sink>(
 }
 
 impl<'a> Pump<'a> {
-    /// A pump of this payload under this cipher, for an image of which `consumed` bytes are
+    /// A pump for this payload and this cipher, and for an image of which `consumed` bytes are
     /// consumed already, none of them the payload's.
     pub fn new(segment: Segment, cipher: SectorCipher, consumed: u64) -> Pump<'a>
         requires { consumed ≤ segment.offset }
@@ -134,8 +134,8 @@ impl<'a> Pump<'a> {
         }
     }
 
-    /// A pump of this payload under this cipher, for an image of which the payload's first bytes
-    /// are consumed already: they come before those that remain in the source.
+    /// A pump for this payload and this cipher, and for an image of which the payload's first
+    /// bytes, `front`, are consumed already. They come before those that remain in the source.
     pub fn with_front(segment: Segment, cipher: SectorCipher, front: &'a [u8]) -> Pump<'a>
         ensures { result ≡ record {
           segment = segment;
@@ -157,7 +157,7 @@ impl<'a> Pump<'a> {
         }
     }
 
-    /// Consumes the image's bytes up to the payload's start and no more. After that it touches
+    /// Consumes the image's bytes up to the payload's start and no more. Further calls touch
     /// nothing.
     ///
     /// # Errors
@@ -194,7 +194,7 @@ impl<'a> Pump<'a> {
         }
     }
 
-    /// Remembers what a step in the payload answered.
+    /// Updates the pump by the answer of a step in the payload.
     fn remember(&mut self, answer: Result<Step, VolumeFault>)
         requires running { self.old.state ≡ State.InPayload }
         requires below { answer ≡ Ok Step.Sector → self.old.count < max_sectors self.old.segment }
@@ -213,7 +213,7 @@ impl<'a> Pump<'a> {
     }
 
     /// Forwards the next sector, or ends. The first step skips to the payload if no skip came
-    /// before.
+    /// before it.
     ///
     /// An incomplete sector is not written. A pump that has ended or failed gives its last answer
     /// again, and touches nothing.

@@ -8,8 +8,8 @@ use crate::fault::VolumeFault;
 use crate::state::Step;
 use luks_verdict::segment::Segment;
 
-/// The most sectors that are forwarded: those of a fixed size, and otherwise the greatest count of
-/// 64 bits.
+/// The largest number of sectors that are forwarded: those of a payload of fixed size, or otherwise
+/// 2^64 - 1.
 pub(crate) fn limit(segment: &Segment) -> u64
     ensures { result ≡ max_sectors segment.now }
 {
@@ -27,7 +27,7 @@ pub(crate) fn number(segment: &Segment, sector: u64) -> u64
     segment.iv_tweak.wrapping_add(sector.wrapping_mul(units))
 }
 
-/// How the payload ends if the image has so many sectors of it and so many bytes more.
+/// How the payload ends if the image has `sectors` sectors of it and `more` bytes behind them.
 pub(crate) fn ending(segment: &Segment, sectors: u64, more: usize) -> Result<Step, VolumeFault>
     requires below { sectors < max_sectors segment.now }
     requires torn { more < sector_len segment.now }

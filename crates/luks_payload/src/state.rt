@@ -1,4 +1,4 @@
-//! How far a pump has come.
+//! What a step did, and the state of a pump.
 
 use crate::fault::VolumeFault;
 
@@ -7,18 +7,18 @@ use crate::fault::VolumeFault;
 pub enum Step {
     /// The next sector was consumed, and its plaintext was written.
     Sector,
-    /// The payload has ended well, and all of it is written.
+    /// The payload has ended without a fault, and all of it is written.
     End,
 }
 
 /// The state of a pump.
 #[derive(Clone, Copy, PartialEq, Eq, Debug)]
 pub enum State {
-    /// Bytes of the image may still come before the payload.
+    /// Bytes of the image before the payload may remain.
     BeforePayload,
     /// The next byte is the payload's.
     InPayload,
-    /// The payload has ended well.
+    /// The payload has ended without a fault.
     Ended,
     /// This fault ended it.
     Faulted(VolumeFault),

@@ -1,4 +1,4 @@
--- How long the texts of reasons and faults are.
+-- Bounds on the lengths of the texts of reasons and faults.
 use Rattle.std.proofs.Common.{◌≤◌, length, arith}
 use Rattle.luks_header.specs.SegmentFault.{fault_text}
 use Rattle.luks_header.specs.SkipReason.{reason_text}

@@ -1,4 +1,4 @@
--- What `luksCheck` prints of the findings of a header, and how it ends.
+-- What `luksCheck` prints of a header, and how it ends.
 use Rattle.std.specs.Prelude.{ℕ, ◌==◌, ◌∷◌, ◌++◌, [], List, codes, if◌then◌else◌, length}
 use Rattle.luks_header.specs.declared.header.Header.{Header}
 pub use Rattle.luks_check.specs.Findings.{findings_of}
@@ -9,7 +9,7 @@ use Rattle.luks_report.specs.declared.message.Message.TheVariants.{Done, Finding
 abbrev pub findings_text : List ℕ → List ℕ
 findings_text findings = if length findings == 0 then codes "clean" ++ 10 ∷ [] else findings
 
--- and how it ends
+-- how `luksCheck` ends with these findings
 abbrev pub check_message : List ℕ → Message
 check_message findings = if length findings == 0 then Done else Findings
 

@@ -13,7 +13,7 @@ use Rattle.luks_report.specs.declared.message.Message.TheVariants.{SlotSkipped, 
 use Rattle.luks_report.specs.declared.message.Message.TheVariants.{CutBeforePayload, Tail, Short, Findings}
 use Rattle.luks_args.specs.Usage.{usage_text}
 
--- a message on a message_line of its own
+-- a message on a line of its own
 abbrev pub message_line : List ℕ → List ℕ
 message_line text = codes "luksrd: " ++ text ++ 10 ∷ []
 
@@ -21,16 +21,16 @@ message_line text = codes "luksrd: " ++ text ++ 10 ∷ []
 abbrev pub skip_text : ℕ × SkipReason → List ℕ
 skip_text (number, reason) = decimal number ++ codes " (" ++ reason_text reason ++ codes ")"
 
--- key slots that were skipped behind another
+-- further key slots that were skipped, after the first one
 abbrev pub more_skips_text : List (ℕ × SkipReason) → List ℕ
 more_skips_text skips = flat_map (λ skip. codes ", " ++ skip_text skip) skips
 
--- what is said of the key slots that were skipped, at the end of a message_line
+-- the text about the skipped key slots, at the end of a line
 abbrev pub skips_text : List (ℕ × SkipReason) → List ℕ
 skips_text [] = []
 skips_text (skip ∷ skips) = codes "; skipped: " ++ skip_text skip ++ more_skips_text skips
 
--- what `testPassphrase` prints of the key slot that opens
+-- what `testPassphrase` prints about the key slot that opens
 unfoldable pub opened_line : ℕ → List ℕ
 opened_line number = codes "Key slot " ++ decimal number ++ codes " opens the volume." ++ 10 ∷ []
 
@@ -38,7 +38,7 @@ opened_line number = codes "Key slot " ++ decimal number ++ codes " opens the vo
 unfoldable pub not_opened_line : List ℕ → List ℕ
 not_opened_line name = message_line (codes "cannot open " ++ name)
 
--- what is printed
+-- the line that is printed for a message, or nothing if it has none
 abbrev pub line_of : Message → List ℕ
 line_of Done = []
 line_of No = []
@@ -65,7 +65,7 @@ line_of OutOfMemory = message_line (codes "out of memory")
 line_of ReadFailed = message_line (codes "read failed")
 line_of WriteFailed = message_line (codes "write failed")
 
--- the exit status
+-- the exit status for a message
 abbrev pub status_of : Message → ℕ
 status_of Done = 0
 status_of No = 1

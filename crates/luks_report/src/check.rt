@@ -9,8 +9,8 @@ use luks_header::header::Header;
 use std::alloc::{AllocError, Global};
 
 /// What `luksCheck` prints, and how it ends: each finding on a line of its own and
-/// [`Message::Findings`], or that there is none and [`Message::Done`]. No iterations are too many
-/// here.
+/// [`Message::Findings`], or that there is none and [`Message::Done`]. The number of iterations has
+/// no limit here.
 #[tactic(auto, unfolding(crate::specs::CheckOutput::check_of, crate::specs::CheckOutput::message_for_check))]
 pub fn check_text(alloc: Global, header: &Header) -> Result<(String, Message), AllocError>
     ensures lines { IfOk result (λ checked. string_bytes checked.0 ≡ check_of header.now) }

@@ -1,4 +1,4 @@
-//! Which message a fault of the layers below has.
+//! The message for each fault of the layers below.
 
 ghost use Rattle.std.specs.Prelude.{◌≡◌};
 ghost use Rattle.luks_report.specs.Faults.{message_for_opening};
@@ -13,7 +13,7 @@ use luks_payload::fault::VolumeFault;
 use std::alloc::AllocError;
 
 impl Message {
-    /// The message if no key slot is tried or none opens, by the key slot that was named.
+    /// The message if no key slot was tried or none opens. `named` is the key slot that was named.
     pub fn of_opening(named: Option<u8>, fault: OpenFault) -> Message
         ensures { result ≡ message_for_opening named fault }
     {

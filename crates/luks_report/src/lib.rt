@@ -1,5 +1,5 @@
-//! Every text that luksrd prints: messages, with the status that goes with each, and what is
-//! printed of a header, which a crate of its own beneath this one says.
+//! Every text that luksrd prints: messages with their statuses, and the texts of a header, which
+//! `luks_dump` makes.
 #![tactic(auto)]
 
 pub mod check;

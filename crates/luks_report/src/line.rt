@@ -8,7 +8,7 @@ use std::marker::Model;
 /// The capacity of a line in bytes: more than any message needs.
 const ROOM: usize = 2048;
 
-/// A line that is put together piece by piece. A clause sees its bytes.
+/// A line that is built piece by piece. Its view is its bytes.
 #[derive(Drop)]
 pub struct Line {
     places: [u8; ROOM],
@@ -26,7 +26,7 @@ impl Model for Line {
 }
 
 impl Line {
-    /// A line with nothing in it.
+    /// An empty line.
     pub(crate) fn new() -> Line
         ensures { result ≡ [] }
     {
@@ -36,7 +36,7 @@ impl Line {
         }
     }
 
-    /// Puts a text behind what is there.
+    /// Appends a text.
     pub(crate) fn push(&mut self, text: &str)
         requires { length self.old + length text.now ≤ 2048 }
         ensures { self.new ≡ self.old ++ text.now }
@@ -46,7 +46,7 @@ impl Line {
         self.taken = end;
     }
 
-    /// Puts a number behind what is there, in decimal digits.
+    /// Appends a number in decimal digits.
     pub(crate) fn push_number(&mut self, number: u64)
         requires { length self.old + 20 ≤ 2048 }
         ensures value { self.new ≡ self.old ++ decimal number }

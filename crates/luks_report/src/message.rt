@@ -1,4 +1,4 @@
-//! What luksrd says on standard error when it ends, and with which status.
+//! What luksrd prints on standard error when it ends, and its exit status.
 
 ghost use Rattle.std.specs.Prelude.{◌≡◌};
 ghost use Rattle.luks_report.specs.Texts.{status_of};
@@ -15,7 +15,7 @@ pub enum Message {
     No,
     /// The arguments are not a luksrd command. The message is the usage text.
     Usage,
-    /// The payload cannot be read.
+    /// The segment is refused, so the payload cannot be read.
     SegmentRefused(SegmentFault),
     /// The key slot that was named is not there.
     NoSuchSlot(u8),
@@ -45,11 +45,11 @@ pub enum Message {
     Findings,
     /// A key to be split is empty or longer than 512 bytes.
     KeyLength,
-    /// The random bytes ended before there was one stripe of them for each stripe but the last.
+    /// The random bytes are fewer than the stripes need; all stripes but the last are random.
     FewRandomBytes,
-    /// The stripes ended before all of them were there.
+    /// The input ended before the last stripe was complete.
     FewStripes,
-    /// Memory was refused.
+    /// Memory ran out.
     OutOfMemory,
     /// A read failed.
     ReadFailed,
@@ -58,7 +58,7 @@ pub enum Message {
 }
 
 impl Message {
-    /// The exit status of a run that ended so.
+    /// The exit status of a run that ended with this message.
     pub fn status(&self) -> u8
         ensures { result ≡ status_of self.now }
     {

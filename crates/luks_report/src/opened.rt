@@ -1,11 +1,11 @@
-//! The line that is printed if a volume was opened.
+//! The line that `testPassphrase` prints if a volume was opened.
 
 ghost use Rattle.std.specs.Prelude.{◌≡◌, IfOk, string_bytes};
 ghost use Rattle.luks_report.specs.Texts.{opened_line};
 
 use std::alloc::{AllocError, Global};
 
-/// The line of the key slot that opens.
+/// The line about the key slot that opens.
 #[tactic(auto, unfolding(crate::specs::Texts::opened_line))]
 pub fn opened_text(alloc: Global, slot: u8) -> Result<String, AllocError>
     ensures { IfOk result (λ line. string_bytes line ≡ opened_line slot) }

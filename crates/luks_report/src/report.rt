@@ -6,8 +6,8 @@ use luks_args::planning::PlanFault;
 /// The exit status of a run and its message.
 #[derive(Clone, Copy, Debug, PartialEq, Eq)]
 pub struct Report {
-    /// 0: all was done; 1: refused; 2: no key opens the volume; 3: no memory; 4: the input is not
-    /// as it has to be; 6: a read or a write failed.
+    /// 0: success; 1: refused; 2: no key opens the volume; 3: out of memory; 4: the input is not
+    /// valid; 6: a read or a write failed.
     pub status: u8,
     /// What is printed on standard error.
     pub message: Message,
@@ -18,7 +18,7 @@ impl Report {
     ghost use Rattle.luks_report.specs.Faults.{message_for_plan};
     ghost use Rattle.luks_report.specs.Report.{report_of};
 
-    /// The report of a run that ended so.
+    /// The report of a run that ended with this message.
     pub fn of(message: Message) -> Report
         ensures { result ≡ report_of message }
     {
@@ -26,7 +26,7 @@ impl Report {
         Report { status, message }
     }
 
-    /// The report of a run that had no command.
+    /// The report if the arguments gave no command.
     pub fn of_fault(fault: PlanFault) -> Report
         ensures { result ≡ report_of (message_for_plan fault) }
     {

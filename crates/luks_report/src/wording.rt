@@ -18,7 +18,8 @@ impl Message {
     ///
     /// # Errors
     ///
-    /// A [`WriteFault`] if a write failed: it says how many bytes of the line were written before.
+    /// A [`WriteFault`] if a write failed: it has the number of bytes of the line that were written
+    /// before.
     pub fn print<O: Sink>(&self, out: &mut O) -> Result<(), WriteFault>
         ensures ok { OnOk result (Appended (O.written out.old) (O.written out.new)
             (line_of self.now)) }
@@ -105,7 +106,7 @@ fn of_bytes(text: &str, bytes: u64, rest: &str) -> Line
     whole
 }
 
-// A line on a key slot.
+// A line about a key slot.
 fn on_slot(slot: u8, text: &str, rest: &str) -> Line
     requires { length text.now + length rest.now ≤ 200 }
     ensures { result ≡ message_line (codes "key slot " ++ decimal slot ++ text.now ++ rest.now) }
@@ -132,7 +133,7 @@ fn with_skipped(text: &str, skipped: &SkippedSlots) -> Line
     whole
 }
 
-// Puts the key slots that were skipped behind a line.
+// Appends the text about the skipped key slots to a line.
 fn push_skipped(whole: &mut Line, skipped: &[(u8, SkipReason)])
     requires short { length whole.old ≤ 200 }
     requires few { length skipped.now ≤ 32 }
@@ -146,7 +147,7 @@ fn push_skipped(whole: &mut Line, skipped: &[(u8, SkipReason)])
     }
 }
 
-// Puts the key slots that were skipped behind another one.
+// Appends further skipped key slots after the first one.
 fn push_more(whole: &mut Line, skipped: &[(u8, SkipReason)])
     requires short { length whole.old ≤ 300 }
     requires few { length skipped.now ≤ 31 }
@@ -159,7 +160,7 @@ fn push_more(whole: &mut Line, skipped: &[(u8, SkipReason)])
     }
 }
 
-// Puts one key slot and its reason behind a line.
+// Appends one key slot and its reason to a line.
 #[tactic(auto, using(crate::proofs::Lengths::reason_len))]
 fn push_skip(whole: &mut Line, skip: (u8, SkipReason))
     requires { length whole.old ≤ 1900 }

@@ -1,4 +1,4 @@
--- What std's `parse` gives for a number of a command line.
+-- The result of std's `parse` for a number in the arguments.
 use Rattle.std.proofs.Common.{◌≡◌, ◌<◌, ◌≤◌, ℕ, List, Some, Result, true, length, arith, rules, ap}
 use Rattle.std.proofs.lemmas.Str.Parse.{IsNumeralModel, digits_value_short, numerals_by_value, parse_gives}
 use Rattle.std.specs.Char.{is_ascii_digit}

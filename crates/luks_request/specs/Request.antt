@@ -1,4 +1,4 @@
--- What luksrd can be asked for: a command with its options, each text by its bytes.
+-- A request to luksrd: a command with its options, each text as its bytes.
 use Rattle.std.specs.Prelude.{◌&&◌, ◌||◌, ℕ, Bool, false, List, Option, Some, None, bytes_eq, codes, is_some}
 use Rattle.std.specs.Prelude.{option_map}
 use Rattle.std.specs.Option.{option_map_or}
@@ -80,7 +80,7 @@ secret_of (luks_cat o) = Some o.key_file
 secret_of (af_split s) = Some s.random
 secret_of _ = None
 
--- the input is there and is standard input
+-- the input is given and is standard input
 abbrev pub is_standard : Option Argument → Bool
 is_standard input = option_map_or (λ name. bytes_eq name (codes "-")) input false
 
@@ -88,15 +88,15 @@ is_standard input = option_map_or (λ name. bytes_eq name (codes "-")) input fal
 abbrev pub two_of : Bool → Bool → Bool → Bool
 two_of a b c = (a && b) || ((a && c) || (b && c))
 
--- at least two of IMAGE, FILE of `--header` and the second input, of those that there are, are standard input, which
--- can be read once
+-- at least two of IMAGE, FILE of `--header` and the second input are given and are standard input, which can be read
+-- only once
 abbrev pub reuses_stdin : Request → Bool
 reuses_stdin request = two_of
     (is_standard (Some (image_of request)))
     (is_standard (header_file_of request))
     (is_standard (secret_of request))
 
--- ---- the request that a `Command` is
+-- ---- the request of a `Command`
 
 abbrev pub header_request : HeaderArgs → HeaderRequest
 header_request r = record { image = r.image.now; header = option_map (λ file. file.now) r.header }

@@ -1,4 +1,4 @@
-//! What luksrd can be asked for.
+//! Requests to luksrd.
 
 ghost use Rattle.std.specs.Prelude.{◌≡◌, option_map};
 ghost use Rattle.luks_request.specs.Request.{header_file_of, image_of, has_header_file, is_standard};
@@ -7,8 +7,7 @@ ghost use Rattle.luks_request.specs.Request.{reuses_stdin, request_of, secret_of
 use crate::number::{IterationLimit, KeyBytes, SlotNumber, StripeCount};
 use luks_kdf::Hash;
 
-/// A request to luksrd. The texts are those of the command line; an input named `-` is standard
-/// input.
+/// A request to luksrd. The texts are those of the arguments; an input named `-` is standard input.
 #[derive(Clone, Copy, PartialEq, Eq, Debug)]
 pub enum Command<'a> {
     /// `isLuks`: reports whether the image has a LUKS header.
@@ -21,11 +20,11 @@ pub enum Command<'a> {
     LuksCheck(HeaderArgs<'a>),
     /// `testPassphrase`: prints the key slot that the passphrase opens.
     TestPassphrase(VolumeArgs<'a>),
-    /// `luksCat`: writes the plain sectors.
+    /// `luksCat`: writes the decrypted sectors.
     LuksCat(VolumeArgs<'a>),
     /// `afSplit`: writes a key as stripes.
     AfSplit(SplitArgs<'a>),
-    /// `afMerge`: writes the key of stripes.
+    /// `afMerge`: writes the key that the stripes merge to.
     AfMerge(MergeArgs<'a>),
 }
 
@@ -47,7 +46,7 @@ pub struct VolumeArgs<'a> {
     pub header: Option<&'a str>,
     /// The name of the input with the passphrase.
     pub key_file: &'a str,
-    /// The one key slot to try. Without it all are tried that can be.
+    /// The one key slot to try. Without it, every key slot that can be tried is.
     pub key_slot: Option<SlotNumber>,
     /// The most iterations that a key slot or a digest may have.
     pub max_iterations: Option<IterationLimit>,
@@ -73,7 +72,7 @@ pub struct MergeArgs<'a> {
     pub hash: Hash,
     /// How many stripes there are.
     pub stripes: StripeCount,
-    /// The length of the key, and so of each stripe.
+    /// The length of the key, and of each stripe.
     pub key_bytes: KeyBytes,
     /// The name of the input with the stripes.
     pub stripes_file: &'a str,
@@ -131,7 +130,7 @@ impl<'a> Command<'a> {
         }
     }
 
-    /// Whether two of the inputs that there are would be standard input, which can be read once.
+    /// Whether at least two of the given inputs are standard input, which can be read only once.
     pub fn reuses_stdin(&self) -> bool
         ensures { result ≡ reuses_stdin (request_of self.now) }
     {
@@ -142,7 +141,7 @@ impl<'a> Command<'a> {
     }
 }
 
-// Whether the input is there and is standard input.
+// Whether the input is given and is standard input.
 fn is_standard(input: Option<&str>) -> bool
     ensures { result ≡ is_standard (option_map (λ name. name.now) input.entry) }
 {

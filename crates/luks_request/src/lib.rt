@@ -1,4 +1,4 @@
-//! What luksrd can be asked for: a command with its options, and the numbers among them.
+//! A request to luksrd: a command with its options, and the numbers among them.
 #![tactic(auto)]
 
 pub mod command;

@@ -1,4 +1,4 @@
-//! The numbers of a command line, each in its range.
+//! The numbers in the arguments, each with its range.
 
 ghost use Rattle.std.specs.Prelude.{◌≡◌, ◌≤◌, option_map};
 ghost use Rattle.std.specs.Char.{is_ascii_digit};
@@ -8,7 +8,7 @@ ghost use Rattle.luks_request.specs.Number.{is_number, number_of, number_within,
 /// A number of stripes: 1 to 4000.
 #[derive(Clone, Copy, PartialEq, Eq, Debug)]
 pub struct StripeCount {
-    /// How many there are.
+    /// The number of stripes.
     pub count: usize,
     ghost in_range: { (1 ≤ count) × (count ≤ 4000) },
 }
@@ -27,14 +27,15 @@ impl StripeCount {
         }
     }
 
-    /// How many there are.
+    /// The number of stripes.
     pub fn get(self) -> usize
         ensures { result ≡ self.count }
     {
         self.count
     }
 
-    /// The number of stripes that the text writes in 1 to 10 digits, or `None` for any other text.
+    /// The number of stripes in a text of 1 to 10 digits, or `None` for any other text and if the
+    /// number is out of range.
     pub fn read(text: &str) -> Option<StripeCount>
         ensures { option_map (λ stripes. stripes.count) result ≡ number_within 1 4000 text.now }
     {
@@ -45,7 +46,7 @@ impl StripeCount {
 /// The length of a key in bytes: 1 to 512.
 #[derive(Clone, Copy, PartialEq, Eq, Debug)]
 pub struct KeyBytes {
-    /// How many there are.
+    /// The number of bytes.
     pub bytes: usize,
     ghost in_range: { (1 ≤ bytes) × (bytes ≤ 512) },
 }
@@ -64,14 +65,15 @@ impl KeyBytes {
         }
     }
 
-    /// How many there are.
+    /// The number of bytes.
     pub fn get(self) -> usize
         ensures { result ≡ self.bytes }
     {
         self.bytes
     }
 
-    /// The number of bytes that the text writes in 1 to 10 digits, or `None` for any other text.
+    /// The number of bytes in a text of 1 to 10 digits, or `None` for any other text and if the
+    /// number is out of range.
     pub fn read(text: &str) -> Option<KeyBytes>
         ensures { option_map (λ key. key.bytes) result ≡ number_within 1 512 text.now }
     {
@@ -108,7 +110,8 @@ impl SlotNumber {
         self.number
     }
 
-    /// The slot that the text numbers in 1 to 10 digits, or `None` for any other text.
+    /// The slot whose number is in a text of 1 to 10 digits, or `None` for any other text and if
+    /// the number is out of range.
     pub fn read(text: &str) -> Option<SlotNumber>
         ensures { option_map (λ slot. slot.number) result ≡ number_within 0 31 text.now }
     {
@@ -145,7 +148,8 @@ impl IterationLimit {
         self.iterations
     }
 
-    /// The limit that the text writes in 1 to 10 digits, or `None` for any other text.
+    /// The limit in a text of 1 to 10 digits, or `None` for any other text and if the limit is out
+    /// of range.
     pub fn read(text: &str) -> Option<IterationLimit>
         ensures { option_map (λ limit. limit.iterations) result
             ≡ number_within 1 4294967295 text.now }
@@ -168,7 +172,7 @@ fn is_number(text: &str) -> bool
     0 < text.len() && text.len() <= 10 && is_all_digits(text)
 }
 
-// The number that the text writes in 1 to 10 ASCII digits, or `None` for any other text.
+// The number in a text of 1 to 10 ASCII digits, or `None` for any other text.
 fn number(text: &str) -> Option<u64>
     ensures { result ≡ number_of text.now }
 {

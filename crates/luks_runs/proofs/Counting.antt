@@ -1,4 +1,4 @@
--- Which messages no write has.
+-- Messages that report no failed write.
 use Rattle.std.proofs.Common.{◌≡◌, false, refl}
 use Rattle.luks_report.specs.declared.message.Message.{Message}
 use Rattle.luks_report.specs.declared.message.Message.TheVariants.{WriteFailed}

@@ -1,4 +1,4 @@
--- What reading a header takes of an image.
+-- How much of an image reading its header consumes.
 use Rattle.std.proofs.Common.{◌≡◌, ℕ, ◌≤◌, List, Option, Some, Err, Bool, true, false, refl, drop, length, arith}
 use Rattle.luks_io.specs.Devices.{ConsumedExactly}
 use Rattle.luks1_header.specs.Header1.{is_luks1}
@@ -22,7 +22,7 @@ pub consumed_header : (image : List ℕ) (left : Option (List ℕ)) → left ≡
     → ConsumedExactly image left (header_read_len image)
 consumed_header image left is = record { within = cost_there image; left = is }
 
--- where no header is read, none is wherever it stands
+-- if no attached header can be read, no detached one can either
 pub reading_fault : (location : HeaderLocation) (image : List ℕ) (fault : HeaderFault) → header_of image ≡ Err fault
     → reader_for location image ≡ Err fault
 reading_fault Attached image fault none = none

@@ -26,7 +26,7 @@ use Rattle.luks_report.specs.CheckOutput.{check_of, findings_of, message_for_che
 use Rattle.luks_runs.specs.Run.{IsPrefixLen, IsSilent, RunMatches, Aborted, ConsumedNothing, AnyPace}
 use Rattle.luks_runs.specs.Run.{is_run_write_failure}
 
--- a run that ended before any output
+-- a run that was aborted before it wrote anything
 early : (o : Outcome) (image : List ℕ) (message : Message) (i w : Option (List ℕ)) (count : ℕ) → IsSilent message 0
     → IsPrefixLen message 0 (length o.output) → count ≤ o.image_consumed
     → ConsumedExactly image i count
@@ -45,7 +45,7 @@ early o image message i w count silent begins few took = record {
   output = adds-none w;
 }
 
--- what is told once a page is printed is one of its messages
+-- the message after a text was printed is one of the messages that the printout may end with
 pub told_may_end : (printout : Printout) (header : Header) → PrintoutMessage printout (printout_message printout header)
 unfolding message_for_check
 told_may_end Uuid header = tt
@@ -55,7 +55,7 @@ told_may_end Check header = by (length (findings_of header) == 0) refl where
   by true is = rw is tt
   by false is = rw is tt
 
--- no write failed
+-- the message after a text was printed is not that of a failed write
 pub told_unfailed : (printout : Printout) (header : Header)
     → is_run_write_failure (printout_message printout header) ≡ false
 unfolding message_for_check
@@ -66,7 +66,7 @@ told_unfailed Check header = by (length (findings_of header) == 0) refl where
   by true is = rw is refl
   by false is = rw is refl
 
--- and its text was written
+-- if the text was written, it was printed, with its message
 pub told_prints : (printout : Printout) (header : Header) (text : List ℕ) (before after : Option (List ℕ))
     → text ≡ printout_text printout header → Appended before after text
     → Prints (printout_text printout header) (printout_message printout header) before after
@@ -96,7 +96,7 @@ module _ (location : HeaderLocation) (text : Header → List ℕ) (told : Header
     unfolding print_outcome_by
     print_found = rw found refl
 
-    -- memory was refused for its text
+    -- memory for the text of the header ran out
     runs_without_text : RunMatches AnyPace (print_outcome_by (reader_for location) text told image) OutOfMemory
         (ConsumedExactly image i) ConsumedNothing
         (Appended w w)
@@ -104,7 +104,7 @@ module _ (location : HeaderLocation) (text : Header → List ℕ) (told : Header
         rw print_found (early _ image OutOfMemory i w (header_read_len image) refl (omega arith) (omega arith)
         (left))
 
-    -- the page was printed, as far as it came
+    -- the text was printed, whole or in part
     pub runs_with_text : (message : Message) (w' : Option (List ℕ)) → Prints (text header) (told header) w w' message
         → RunMatches AnyPace (print_outcome_by (reader_for location) text told image) message
         (ConsumedExactly image i) ConsumedNothing
@@ -137,7 +137,7 @@ module _ (location : HeaderLocation) (text : Header → List ℕ) (told : Header
   unfolding print_outcome_by
   print_none fault found = rw (reading_fault location image fault found) refl
 
-  -- there was no header, or reading it failed
+  -- the image has no readable header, or reading it failed
   pub runs_without_header : (ends ends' : ℕ) (fault : HeaderFault) → AbortsReading image i ends ends' fault
       → RunMatches AnyPace (print_outcome_by (reader_for location) text told image) (message_for_header fault)
       (ConsumedExactly image i) ConsumedNothing (Appended w w)
@@ -175,7 +175,7 @@ module _ (image : List ℕ) (i w : Option (List ℕ)) where
       rw (asked (Ok header) found) (record
       { as_stated = refl; image = left; secret = refl; output = adds-none w })
 
-  -- `isLuks` of one without a header that can be read
+  -- `isLuks` of an image without a readable header, or if reading the header failed
   pub is_luks_refused : (ends ends' : ℕ) (fault : HeaderFault) → AbortsReading image i ends ends' fault
       → RunMatches AnyPace (is_luks_outcome image) (answer_to_is_luks (Err fault))
       (ConsumedExactly image i) ConsumedNothing (Appended w w)

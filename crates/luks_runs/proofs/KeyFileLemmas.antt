@@ -1,4 +1,4 @@
--- Reading a key file by pieces.
+-- Reading a key file in pieces.
 use Rattle.std.proofs.Common.{◌≡◌, ℕ, ◌+◌, ◌<◌, ◌≤◌, ◌⊎◌, inl, inr, List, ◌++◌, Option, ◌∙◌, ap, sym, take, drop}
 use Rattle.std.proofs.Common.{length, take_all, length-drop, min, arith}
 use Rattle.std.proofs.Math.Seq.{take-add}
@@ -9,7 +9,7 @@ use Rattle.luks_report.specs.declared.message.Message.{Message}
 use Rattle.luks_report.specs.declared.message.Message.TheVariants.{OutOfMemory, ReadFailed}
 
 module _ (known : List ℕ) (n : ℕ) (s s' : Option (List ℕ)) (took : ConsumedExactly known s n) where
-  -- the next bytes stand behind those so far
+  -- the next bytes of the key file are appended to those read so far
   pub piece_more : (items items' : List ℕ) (got : ℕ) → items ≡ take n known
       → IfKnown s (λ rest. ConsumedExactly rest s' got)
       → items' ≡ items ++ take got (drop n known) → (items' ≡ take (n + got) known) × ConsumedExactly known s' (n + got)
@@ -18,7 +18,7 @@ module _ (known : List ℕ) (n : ℕ) (s s' : Option (List ℕ)) (took : Consume
     consumed_more known s s' n got took next,
   )
 
-  -- they were fewer than there was room for, so they are the last
+  -- if fewer bytes were read than requested, they are the last ones
   pub piece_last : (items items' : List ℕ) (got size : ℕ) → items ≡ take n known
       → IfKnown s (λ rest. ConsumedExactly rest s' got)
       → items' ≡ items ++ take got (drop n known) → got ≡ min size (length (drop n known)) → got < size
@@ -28,7 +28,7 @@ module _ (known : List ℕ) (n : ℕ) (s s' : Option (List ℕ)) (took : Consume
       let whole : length known ≤ n + got = omega (arith, length-drop n known, all) in
       (more.0 ∙ take_all (n + got) known whole, took-all known s' (n + got) whole more.1.left)
 
-  -- a read failed within them, or memory was refused for them
+  -- a read of the next bytes failed, or memory for them ran out
   pub piece_lost : (size : ℕ) (message : Message) → n + size ≤ max_key_file_len + 1
       → IfKnown s (λ rest. ConsumedAtMost rest s' size) → (message ≡ OutOfMemory) ⊎ (message ≡ ReadFailed)
       → NoKeyFileRead known s' message

@@ -1,4 +1,4 @@
--- Taking stripes one at a time, and how merging them ends.
+-- Reading stripes one at a time, and how merging them ends.
 use Rattle.std.proofs.Common.{◌≡◌, ℕ, ◌+◌, ◌-◌, ◌*◌, ◌<◌, ◌≤◌, List, [], ◌++◌, true, false, suc, length-take-le, Option}
 use Rattle.std.proofs.Common.{Some, ◌∙◌, ap, sym, refl, take, drop, length, length-drop, arith, zero-mul}
 use Rattle.std.proofs.lemmas.List.{take-append-drop}
@@ -18,7 +18,7 @@ use Rattle.luks_runs.specs.Run.{RunMatches, Aborted, Completed, ConsumedNothing,
 use Rattle.luks_runs.specs.StripeParts.{AbortsReadingStripes}
 use Rattle.luks_runs.proofs.StripeLemmas.{is_stripe}
 
--- before any byte is taken
+-- before any byte is consumed
 pub taken_none : (bytes : List ℕ) (s : Option (List ℕ)) (len : ℕ) → s ≡ Some bytes → ConsumedExactly bytes s (0 * len)
 taken_none bytes s len is = rw zero-mul (took-none bytes s is)
 
@@ -32,7 +32,7 @@ module _ (bytes : List ℕ) (i len : ℕ) (s : Option (List ℕ)) (p : ConsumedE
       let more : i * len + len ≡ (i + 1) * len = omega arith in
       (rw more at (consumed_behind bytes s s' (i * len) len p here.1), is_stripe bytes i len stripe here.0)
 
-  -- the next one could not be taken
+  -- the next stripe could not be read
   pub stops_at : (count : ℕ) (message : Message) (s' : Option (List ℕ)) → (i + 1) * len ≤ count * len
       → IfKnown s (λ rest. AbortsReadingStripes 1 len rest s' message)
       → AbortsReadingStripes count len bytes s' message
@@ -72,13 +72,13 @@ module _ (h : Hash) (count len : ℕ) (bytes : List ℕ) where
   stripes_few few = let no_more : nat_le (count * len) (length bytes)
       ≡ false = grind (arith, nat_tests) in rw no_more refl
 
-  -- what was taken of the stripes may be
+  -- merging consumes at least as many bytes as are both needed and there
   taken_within : (taken : ℕ) → taken ≤ count * len → taken ≤ length bytes
       → taken ≤ (merge_outcome h count len bytes).image_consumed
   unfolding merge_outcome
   taken_within taken needed there = grind (arith, nat_tests)
 
--- the stripes were not all there, or a read of them failed
+-- there were too few stripes, or a read of them failed
 pub runs_without_stripes : (h : Hash) (count len : ℕ) (bytes : List ℕ) (message : Message) (s w : Option (List ℕ))
     → AbortsReadingStripes count len bytes s message
     → RunMatches AnyPace (merge_outcome h count len bytes) message (ConsumedExactly bytes s) ConsumedNothing
@@ -110,7 +110,7 @@ module _ (h : Hash) (count len : ℕ) (bytes : List ℕ) (s w w' : Option (List 
   runs_to_end a = rw (stripes_enough h count len bytes p.within, ← key_is)
       (record { as_stated = refl; image = p; secret = refl; output = a })
 
-  -- a write failed within it
+  -- a write failed within the key
   pub runs_without_key : (n : ℕ) → n < length key → Appended w w' (take n key)
       → Aborted AnyPace (merge_outcome h count len bytes) WriteFailed (ConsumedExactly bytes s) ConsumedNothing
       (Appended w w')
@@ -128,7 +128,7 @@ module _ (h : Hash) (count len : ℕ) (bytes : List ℕ) (s w w' : Option (List 
     output = a;
   })
 
--- the key of stripes that were taken one at a time
+-- merging stripes that were read one at a time gives the specified key
 pub key_merged : (h : Hash) (count len : ℕ) (bytes : List ℕ) (splitter : AfSplitterModel) (stripe key : List ℕ)
     → 1 ≤ len
     → 1 ≤ count → count * len ≤ length bytes

@@ -1,4 +1,4 @@
--- Passing on a payload sector by sector.
+-- Forwarding a payload sector by sector.
 use Rattle.std.proofs.Common.{◌≡◌, ℕ, zero, suc, ◌+◌, ◌-◌, ◌*◌, ◌/◌, ◌%◌, ◌^◌, ◌<◌, ◌≤◌, ◌⊎◌, inl, inr, List, [], ◌++◌}
 use Rattle.std.proofs.Common.{Option, None, Some, Result, Ok, Err, ◌∙◌, ap, sym, refl, take, drop, length, take_all}
 use Rattle.std.proofs.Common.{length-take-le, length-drop, length-append, append-nil, add-one, max, arith, false}
@@ -39,7 +39,7 @@ joined_length f z (suc n) sizes =
     let before = joined_length f z n (λ j low. sizes j (omega arith)) in
     rw (length-append (joined f n) (f n), before, sizes n (omega arith)) (omega arith)
 
--- a beginning of what is joined that ends within piece k
+-- a prefix of the joined pieces that ends within piece k
 take_joined : (f : ℕ → List ℕ) (z n k m : ℕ) → ((j : ℕ) → j < n → length (f j) ≡ z) → k < n → m ≤ z
     → take (k * z + m) (joined f n) ≡ joined f k ++ take m (f k)
 unfolding joined
@@ -56,7 +56,7 @@ take_joined f z (suc n) k m sizes below few =
           rw (e, ← long) (take-append-add (joined f n) (f n) m)
     ]
 
--- a beginning of what is joined that ends with a piece
+-- a prefix of the joined pieces that ends with a piece
 take_whole : (f : ℕ → List ℕ) (z n k : ℕ) → ((j : ℕ) → j < n → length (f j) ≡ z) → k ≤ n
     → take (k * z) (joined f n) ≡ joined f k
 take_whole f z n k sizes below = elim (cases_lt k n) [
@@ -76,13 +76,13 @@ pub within_len : (size : Option ℕ) (len : ℕ) → payload_bytes size len ≤ 
 within_len None len = omega arith
 within_len (Some size) len = omega arith
 
--- so many bytes of a payload end with it or before
+-- n bytes of a payload end at the payload's end or before it
 within_end : (size : Option ℕ) (offset len n : ℕ) → 0 < n → n ≤ payload_bytes size (len - offset)
     → offset + n ≤ payload_end_in size offset len
 within_end None offset len n some few = omega arith
 within_end (Some size) offset len n some few = omega arith
 
--- a place within whole sectors of a payload is within the payload
+-- an offset within whole sectors of a payload is within the payload
 place_in_size : (size : Option ℕ) (offset len n place : ℕ) → place ≤ offset + n → n ≤ payload_bytes size (len - offset)
     → place ≤ len → place ≤ payload_end_in size offset len
 place_in_size None offset len n place few there within = within
@@ -103,11 +103,11 @@ module _ (s : Segment) (image : List ℕ) where
       let some : 1 * sector_len s ≤ (i + 1) * sector_len s = mul-le-mul_right (sector_len s) (omega arith) in
       within_end s.size s.offset (length image) ((i + 1) * sector_len s) (omega (arith, z.long)) (omega arith)
 
-  -- and is there
+  -- and so it is in the image
   sector_there : (i : ℕ) → i < sectors_of s image → sector_start s (i + 1) ≤ length image
   sector_there i below = omega (arith, sector_before_end i below, end_there s.size s.offset (length image))
 
-  -- of an image that can be there are fewer sectors than can be counted
+  -- an image of fewer than 2^64 bytes has fewer than 2^64 - 1 sectors
   pub few_sectors : length image < 2 ^ 64 → sectors_of s image < 2 ^ 64 - 1
   few_sectors counted =
       let z = sector_blocks s.sector_size in
@@ -131,9 +131,9 @@ module _ (s : Segment) (image : List ℕ) where
   plain_len cipher = joined_length (sector_plaintext s cipher image) (sector_len s) (sectors_of s image)
       (sector_size cipher)
 
--- ---- a pump on its way
+-- ---- a running pump
 
--- what is left in front of a pump behind one more sector
+-- what remains of the prefix after one more sector is the start of the remaining image
 front_behind : (front image : List ℕ) (start z : ℕ) → front ≡ take (length front) (drop start image)
     → drop z front ≡ take (length (drop z front)) (drop (start + z) image)
 front_behind front image start z next = elim (cases_lt z (length front)) [
@@ -147,14 +147,14 @@ front_behind front image start z next = elim (cases_lt z (length front)) [
   | inr few ↦ let none : drop z front ≡ [] = drop_all z front (omega arith) in rw none refl
 ]
 
--- a place up to a sector's start is not behind it, wherever a pump stands
+-- in every state, a pump that consumed at most `start` bytes is not past offset `start`
 place_le : (state : State) (consumed start : ℕ) → consumed ≤ start → next_offset state consumed start ≤ start
 place_le BeforePayload consumed start few = few
 place_le InPayload consumed start few = omega arith
 place_le Ended consumed start few = omega arith
 place_le (Faulted _) consumed start few = omega arith
 
--- a pump stands in an image of which so many bytes were taken before, and the sectors that it has passed on are written
+-- a pump on an image of which `loaded` bytes were consumed before; the sectors that it forwarded are written
 pub record Forwarding (p : PumpModel) (image : List ℕ) (loaded : ℕ) (left before after : Option (List ℕ)) : Type 0 where
   pub stands : PositionedIn image p left
   pub early : p.consumed ≤ p.segment.offset
@@ -181,7 +181,7 @@ forwarding_start p image loaded left w none early bare reach stands = record {
 module _ (p : PumpModel) (image : List ℕ) (loaded : ℕ) (l b w l' w' : Option (List ℕ))
     (so_far : Forwarding p image loaded l b w)
   where
-    -- a pump does not stand behind its next sector
+    -- the pump's offset is not past the start of its next sector
     place : position p ≤ sector_start p.segment p.count
     place =
         let early = so_far.early in
@@ -190,7 +190,7 @@ module _ (p : PumpModel) (image : List ℕ) (loaded : ℕ) (l b w l' w' : Option
     next_start : sector_start p.segment (p.count + 1) ≡ sector_start p.segment p.count + sector_len p.segment
     next_start = omega arith
 
-    -- as many bytes were taken as before, or more: up to the end of the next sector
+    -- after the next sector, the bytes up to its end are consumed, or the loaded ones if those are more
     reached : max (consumed_by p) (sector_start p.segment (p.count + 1))
         ≡ max loaded (sector_start p.segment (p.count + 1))
     reached = omega (arith, so_far.reach, place, next_start)
@@ -238,7 +238,7 @@ module _ (p : PumpModel) (image : List ℕ) (loaded : ℕ) (l b w l' w' : Option
               (sector_plaintext p.segment p.cipher image p.count) so_far.wrote step.1);
         }
 
-    -- nor behind the payload's end
+    -- the pump's offset is not past the payload's end
     place_in_end : position p ≤ payload_end_of p.segment image
     place_in_end =
         let z = sector_len p.segment in
@@ -248,7 +248,7 @@ module _ (p : PumpModel) (image : List ℕ) (loaded : ℕ) (l b w l' w' : Option
         place_in_size p.segment.size p.segment.offset (length image) (p.count * z) (position p)
         (omega (arith, place)) (omega arith) (omega arith)
 
-    -- the payload came to its stated end
+    -- the payload ended as specified
     ended : (answer : Result Step VolumeFault) → EndEffect image p.segment p.count (consumed_by p) answer l' → w' ≡ w
         → (message_at_end answer ≡ message_at_end (ending_of p.segment image))
         × ConsumedExactly image l' (max loaded (payload_end_of p.segment image))
@@ -288,7 +288,7 @@ module _ (p : PumpModel) (image : List ℕ) (loaded : ℕ) (l b w l' w' : Option
           rw (same, whole) so_far.wrote,
         )
 
-    -- a write failed within it
+    -- a write failed within the next sector
     unwritten : StepEffect p.segment p.cipher p.count (consumed_by p) image (Err Write) l' w w'
         → ForwardsPayload p.segment p.cipher image loaded l' b w' (message_for_payload Write)
     unwritten step =
@@ -308,7 +308,7 @@ module _ (p : PumpModel) (image : List ℕ) (loaded : ℕ) (l b w l' w' : Option
               (take written.0 (sector_plaintext p.segment p.cipher image p.count)) so_far.wrote written.2),
         )
 
-    -- a step was not made
+    -- a step ended with a fault
     pub forwarding_aborts : (fault : VolumeFault) (Wrote Same : Type 0) → (Same → w' ≡ w)
         → WritesSectors (Err fault) Wrote Same
         → StepEffect p.segment p.cipher p.count (consumed_by p) image (Err fault) l' w w'
@@ -319,9 +319,9 @@ module _ (p : PumpModel) (image : List ℕ) (loaded : ℕ) (l b w l' w' : Option
     forwarding_aborts Read _ Same same is step = lost step (same is)
     forwarding_aborts Write _ Same same is step = unwritten step
 
--- ---- a pump behind what is loaded
+-- ---- a pump that starts with loaded bytes
 
--- where that reaches into the payload, its bytes there come first
+-- if the loaded bytes reach into the payload, those in it are its first ones
 module _ (loaded image : List ℕ) (offset : ℕ) (within : offset ≤ length loaded) where
   front_len : length (take (length loaded - offset) (drop offset loaded)) ≡ length loaded - offset
   front_len = length-take-le (length loaded - offset) (drop offset loaded) (omega (arith, length-drop offset loaded))
@@ -341,7 +341,7 @@ module _ (loaded image : List ℕ) (offset : ℕ) (within : offset ≤ length lo
 
 -- ---- read-ahead
 
--- it was allowed for what the payload needs
+-- no more read-ahead was allowed than before or than the payload needs
 pub reads_announced : (s : Segment) (loaded : ℕ) (before after : ReadCounts) → after ≡ with_ahead after.ahead before
     → after.ahead ≤ max (max_needed s.size s.offset loaded) before.ahead
     → Reads false false (with_payload_ahead s loaded before) after

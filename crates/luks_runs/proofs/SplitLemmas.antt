@@ -24,7 +24,7 @@ use Rattle.luks_runs.specs.Run.{IsPrefixLen, IsSilent, RunMatches, Aborted, Comp
 use Rattle.luks_runs.specs.StripeParts.{NoKeyRead, ForwardedBytes, AbortsAtStripe, PromptSplit}
 
 module _ (h : Hash) (count : ℕ) (key random : List ℕ) where
-  -- a key of a length that is allowed
+  -- a key of an allowed length
   key_allowed : 1 ≤ length key → length key ≤ 512
       → split_outcome h count key random ≡ split_key_outcome h count key random
   unfolding split_outcome
@@ -45,7 +45,7 @@ module _ (h : Hash) (count : ℕ) (key random : List ℕ) where
   key_refused bad = let none : (nat_lt 0 (length key) && nat_le (length key) 512)
       ≡ false = grind (arith, nat_tests) in rw none refl
 
-  -- no more of the key is taken than it has
+  -- the outcome allows c bytes of the key to be consumed, if the key has them and c is at most 513
   key_taken : (c : ℕ) → c ≤ min (length key) 513 → c ≤ (split_outcome h count key random).image_consumed
   unfolding split_outcome split_key_outcome
   key_taken c few = grind (arith, nat_tests)
@@ -100,7 +100,7 @@ runs_without_key h count key random ReadFailed k r w failed is = record {
 }
 runs_without_key h count key random _ k r w p is = absurd p
 
--- the stated output begins with the whole random stripes that there are, and they may be taken
+-- `taken` random bytes may be consumed, and the specified output starts with the first `written` ones
 record MayForward (o : Outcome) (random : List ℕ) (taken written : ℕ) : Type 0 where
   within : taken ≤ o.secret_consumed
   fits : written ≤ length o.output
@@ -146,7 +146,7 @@ module _ (h : Hash) (count : ℕ) (key random : List ℕ) (k r b w : Option (Lis
   unfolding split_key_outcome
   key_whole = grind (arith, nat_tests)
 
-  -- the random bytes were taken and written so far
+  -- the run was aborted after these random bytes were consumed and written
   broken : (message : Message) (taken written : ℕ) → IsSilent message written
       → MayForward (split_key_outcome h count key random) random taken written
       → IsPrefixLen message written (length (split_key_outcome h count key random).output)
@@ -168,7 +168,7 @@ module _ (h : Hash) (count : ℕ) (key random : List ℕ) (k r b w : Option (Lis
     output = rw may.begins p.added;
   })
 
-  -- the random stripes could not be passed on
+  -- forwarding the random stripes was aborted
   pub runs_without_stripes : (message : Message) → AbortsAtStripe (count - 1) (length key) random r b w message
       → RunMatches (PromptSplit (length key)) (split_outcome h count key random) message (ConsumedExactly key k)
       (ConsumedExactly random r)
@@ -202,7 +202,7 @@ module _ (h : Hash) (count : ℕ) (key random : List ℕ) (k r b w : Option (Lis
       (rw (div-eq_of_lt-le (length key) stop.3 stop.4) (omega arith)) stop.5
   runs_without_stripes _ stop = absurd stop
 
-  -- all random stripes were passed on, and the last stripe is this one
+  -- all random stripes were forwarded, and the last stripe is this one
   module _ (last : List ℕ) (p : ForwardedBytes random r b w ((count - 1) * length key) ((count - 1) * length key))
       (last_is : last ≡ xor (chain_of h (length key) (take ((count - 1) * length key) random) (count - 1)) key)
       (w' : Option (List ℕ)) where
@@ -219,7 +219,7 @@ module _ (h : Hash) (count : ℕ) (key random : List ℕ) (k r b w : Option (Lis
           output = adds-more b w w' (take ((count - 1) * length key) random) last p.added a;
         })
 
-    -- a write failed within it
+    -- a write failed within the last stripe
     pub runs_without_last : (n : ℕ) → n < length last → length last ≡ length key → Appended w w' (take n last)
         → Aborted (PromptSplit (length key)) (split_outcome h count key random) WriteFailed (ConsumedExactly key k)
         (ConsumedExactly random r) (Appended b w')
@@ -246,7 +246,7 @@ module _ (h : Hash) (count : ℕ) (key random : List ℕ) (k r b w : Option (Lis
           output = rw (← last_is, begin) (adds-more b w w' front (take n last) p.added a);
         })
 
--- the last stripe is made over the random stripes alone
+-- the last stripe depends on the random stripes alone, and not on the bytes after them
 pub last_stripe : (h : Hash) (n : ℕ) (key random : List ℕ) (splitter : AfSplitterModel)
     → splitter ≡ chain_after h (length key) random n → n * length key ≤ length random
     → (last : List ℕ) → last ≡ xor splitter.block key

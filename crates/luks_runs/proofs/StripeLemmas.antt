@@ -1,4 +1,4 @@
--- Passing on random stripes one at a time.
+-- Forwarding random stripes one at a time.
 use Rattle.std.proofs.Common.{◌≡◌, ℕ, ◌+◌, ◌*◌, ◌<◌, List, Option, Some, ◌∙◌, ap, sym, subst, take, drop, length}
 use Rattle.std.proofs.Common.{length-drop, take-take, take_all, arith, zero-mul}
 use Rattle.std.proofs.Math.Seq.{take-add}
@@ -9,24 +9,24 @@ use Rattle.luks_runs.specs.StripeParts.{ForwardedBytes, AbortsAtStripe, AbortsIn
 use Rattle.luks_report.specs.declared.message.Message.{Message}
 use Rattle.luks_report.specs.declared.message.Message.TheVariants.{FewRandomBytes, ReadFailed, WriteFailed}
 
--- before any byte is taken
+-- before any byte is consumed
 pub passed_none : (random : List ℕ) (r w : Option (List ℕ)) (len : ℕ) → r ≡ Some random
     → ForwardedBytes random r w w (0 * len) (0 * len)
 passed_none random r w len is = rw zero-mul (record { took = took-none random r is; added = adds-none w })
 
--- the bytes that stand first among those that are there are the next stripe
+-- the first `len` bytes after i stripes are stripe i
 pub is_stripe : (random : List ℕ) (i len : ℕ) (stripe : List ℕ) → stripe ≡ take len (drop (i * len) random)
     → stripe ≡ stripe_at len random i
 unfolding stripe_at
 is_stripe random i len stripe is = is
 
--- a whole stripe was taken
+-- a whole stripe was read
 module _ (random : List ℕ) (r : Option (List ℕ)) (stripe : List ℕ) (t : ConsumedInto random r stripe
     (length stripe)) where
   pub is_next : stripe ≡ take (length stripe) random
   is_next = sym (take_all (length stripe) stripe (omega arith)) ∙ t.1
 
-  -- but a write of it failed
+  -- a write of the stripe failed
   pub stripe_torn : (w w' : Option (List ℕ)) (n : ℕ) → n < length stripe → Appended w w' (take n stripe)
       → ForwardedBytes random r w w' (length stripe) n
   stripe_torn w w' n few a = record {
@@ -36,7 +36,7 @@ module _ (random : List ℕ) (r : Option (List ℕ)) (stripe : List ℕ) (t : Co
 
 module _ (random : List ℕ) (i len : ℕ) (r b w : Option (List ℕ))
     (p : ForwardedBytes random r b w (i * len) (i * len)) where
-  -- n bytes more were taken, and the first k of them were written
+  -- n more bytes were consumed, and the first k of them were written
   more_passed : (n k : ℕ) (r' w' : Option (List ℕ)) → ForwardedBytes (drop (i * len) random) r' w w' n k
       → ForwardedBytes random r' b w' (i * len + n) (i * len + k)
   more_passed n k r' w' next = record {
@@ -51,7 +51,7 @@ module _ (random : List ℕ) (i len : ℕ) (r b w : Option (List ℕ))
   passed_more r' w' next =
       let more : (i + 1) * len ≡ i * len + len = omega arith in rw more (more_passed len len r' w' next)
 
-  -- the next one could not be passed on
+  -- forwarding the next stripe was aborted
   pub stops_at : (count : ℕ) (message : Message) (r' w' : Option (List ℕ)) → i < count
       → IfKnown r (λ rest. AbortsInStripe len rest r' w w' message)
       → AbortsAtStripe count len random r' b w' message

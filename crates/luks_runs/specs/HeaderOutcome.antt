@@ -26,7 +26,7 @@ printout_text Uuid = uuid_of
 printout_text Dump = dump_of
 printout_text Check = check_of
 
--- the message is only that it was printed
+-- the message says only that the text was printed
 abbrev pub always_done : Header → Message
 always_done header = Done
 
@@ -41,7 +41,7 @@ abbrev pub printed : (Header → List ℕ) → Result Header HeaderFault → Lis
 printed text (Ok header) = text header
 printed text (Err _) = []
 
--- the message of a command that prints a text of the header, which has this message for it
+-- the message of a command that prints a text of the header, if `told` gives the message for a header
 abbrev pub message_printing : (Header → Message) → Result Header HeaderFault → Message
 message_printing told (Ok header) = told header
 message_printing told (Err fault) = message_for_header fault
@@ -50,7 +50,7 @@ message_printing told (Err fault) = message_for_header fault
 unfoldable pub is_luks_outcome : List ℕ → Outcome
 is_luks_outcome image = no_output (answer_to_is_luks (header_of image)) (header_read_len image) 0
 
--- a command that prints a text of a header that is read in this way
+-- the outcome of a command that prints a text of a header read by `read`
 unfoldable pub print_outcome_by : HeaderReader → (Header → List ℕ) → (Header → Message) → List ℕ → Outcome
 print_outcome_by read text told image = record {
   output = printed text (read image);
@@ -60,6 +60,6 @@ print_outcome_by read text told image = record {
   payload_consumed = 0;
 }
 
--- a command that prints a text of the header
+-- the outcome of a command that prints a text of an attached header
 abbrev pub print_outcome : (Header → List ℕ) → (Header → Message) → List ℕ → Outcome
 print_outcome = print_outcome_by header_of

@@ -7,11 +7,11 @@ use Rattle.luks_runs.specs.Run.{is_run_read_failure}
 use Rattle.luks_report.specs.declared.message.Message.{Message}
 use Rattle.luks_report.specs.declared.message.Message.TheVariants.{Done, KeyFileLength, OutOfMemory, ReadFailed}
 
--- the longest key file
+-- the length of the longest key file in bytes
 abbrev pub max_key_file_len : ℕ
 max_key_file_len = 8388608
 
--- how reading a key file failed: if it is too long, one byte more is consumed than the longest one has
+-- how reading a key file failed: if it is too long, one byte more than the longest length is consumed
 abbrev pub NoKeyFileRead : List ℕ → Option (List ℕ) → Message → Type 0
 NoKeyFileRead secret left KeyFileLength = (max_key_file_len < length secret)
     × ConsumedExactly secret left (max_key_file_len + 1)
@@ -19,8 +19,8 @@ NoKeyFileRead secret left OutOfMemory = ConsumedAtMost secret left (min (length 
 NoKeyFileRead secret left ReadFailed = ConsumedAtMost secret left (min (length secret) (max_key_file_len + 1))
 NoKeyFileRead secret left _ = ⊥
 
--- whether reading a key file hit its end: it did if all of it was read, and not if it was too long or a read failed; if
--- memory ran out, the end may be that of the last piece
+-- whether reading a key file hit its end: yes if all of it was read, and no if it was too long or a read failed; if
+-- memory ran out, the last piece may have hit the end
 abbrev pub HitsKeyFileEof : Message → Bool → Type 0
 HitsKeyFileEof Done ended = ended ≡ true
 HitsKeyFileEof OutOfMemory ended = Unit {0}

@@ -1,4 +1,4 @@
--- How a header is read, by its location, and the source that it was read from.
+-- How a header at its location is read, and what is loaded of its source.
 use Rattle.std.specs.Prelude.{◌≡◌, ℕ, true, false, List, [], Option, Some}
 use Rattle.luks_io.specs.Counts.{Reads}
 use Rattle.luks_io.specs.Devices.{IfKnown}
@@ -13,8 +13,8 @@ abbrev pub reader_for : HeaderLocation → HeaderReader
 reader_for Attached = header_of
 reader_for Detached = detached_header_of
 
--- the start of an image was loaded from this source: no read failed, and one hit the image's end exactly if the area
--- says so. Then no bytes remain
+-- the start of an image was loaded from this source: no read failed, and a read hit the image's end exactly if the area
+-- says so; then no bytes remain
 pub record LoadedFrom (area : HeaderAreaModel) (left left' : Option (List ℕ)) (counts counts' : ReadCounts) : Type 0
   where
     pub reads : Reads false area.ended counts counts'

@@ -12,18 +12,18 @@ use Rattle.luks_report.specs.Faults.{message_at_end}
 use Rattle.luks_report.specs.declared.message.Message.{Message}
 use Rattle.luks_report.specs.declared.message.Message.TheVariants.{Done, ReadFailed, WriteFailed}
 
--- how many bytes of an image, however long it is, are requested at most to forward a payload of this size from this
--- offset on, if so many of the first ones are loaded: those behind them, up to the payload's end
+-- the most bytes that are requested of any image to forward a payload of this size from this offset on, if its first
+-- `loaded` bytes are loaded: those after them, up to the payload's end
 abbrev pub max_needed : Option ℕ → ℕ → ℕ → ℕ
 max_needed size offset loaded = payload_end_in size offset max_count - loaded
 
--- the counts of the image, which is allowed to read ahead what forwarding its payload needs, if so many of its first
--- bytes are loaded
+-- the counts of the image, for which read-ahead is allowed as far as forwarding its payload needs it, if its first
+-- `loaded` bytes are loaded
 abbrev pub with_payload_ahead : Segment → ℕ → ReadCounts → ReadCounts
 with_payload_ahead s loaded counts = with_ahead (max (max_needed s.size s.offset loaded) counts.ahead) counts
 
--- forwarding the payload of an image, of which so many bytes were consumed before, ended with this message: all of it
--- was written and consumed, or it was aborted within a sector
+-- forwarding the payload of an image, of which `loaded` bytes were consumed before, ended with this message: the
+-- plaintext was all written and consumed, or forwarding was aborted within a sector
 abbrev pub ForwardsPayload : Segment → Cipher → List ℕ → ℕ → Option (List ℕ) → Option (List ℕ) → Option (List ℕ)
     → Message → Type 0
 ForwardsPayload s cipher image loaded left before after ReadFailed =
@@ -39,7 +39,7 @@ ForwardsPayload s cipher image loaded left before after message =
     (message ≡ message_at_end (ending_of s image)) × ConsumedExactly image left (max loaded (payload_end_of s image))
     × Appended before after (plain_of s cipher image)
 
--- the same for every image that starts with these bytes, which are loaded, and of which the source has the rest
+-- the same for every image shorter than 2^64 bytes that starts with these loaded bytes, if the source has the rest
 abbrev pub ForwardsLoaded : Segment → Cipher → List ℕ → Option (List ℕ) → Option (List ℕ) → Option (List ℕ)
     → Option (List ℕ) → Message → Type 0
 ForwardsLoaded s cipher loaded rest left before after message =
@@ -47,8 +47,8 @@ ForwardsLoaded s cipher loaded rest left before after message =
     → ConsumedExactly image rest (length loaded)
     → ForwardsPayload s cipher image (length loaded) left before after message
 
--- whether forwarding a payload hit the end of the image: it did if the message is that the image ended, and not if a
--- read or a write failed; if the run succeeded, a payload of fixed size may have ended before its image
+-- whether forwarding a payload hit the end of the image: yes if the message is that the image ended, and no if a read
+-- or a write failed; if the run succeeded, either is possible, since a payload of fixed size may end before its image
 abbrev pub HitsPayloadEof : Message → Bool → Type 0
 HitsPayloadEof Done ended = Unit {0}
 HitsPayloadEof ReadFailed ended = ended ≡ false

@@ -1,6 +1,6 @@
 -- The effects of a run on its devices, and what it still satisfies if it is aborted. Each device is treated by itself:
--- a run consumes so many bytes of the image and of the second input, and writes these; what that means for a device is
--- a separate fact.
+-- a run consumes this many bytes of the image and of the second input, and writes this output; what that means for a
+-- device is a separate fact.
 use Rattle.std.specs.Prelude.{◌≡◌, ℕ, ◌<◌, ◌≤◌, List, length, take, Bool, true, false, MatchBool, Result, Ok, Err}
 use Rattle.luks_runs.specs.RunOutcome.{Outcome}
 use Rattle.luks_report.specs.declared.message.Message.{Message}
@@ -13,12 +13,12 @@ aborts ReadFailed = true
 aborts WriteFailed = true
 aborts _ = false
 
--- how prompt an aborted run is: a fact about its message, the bytes of the image and of the second input that it
+-- how promptly a run was aborted: a fact about its message, the bytes of the image and of the second input that it
 -- consumed, and the length of its output
 abbrev pub Promptness : Type 1
 Promptness = Message → ℕ → ℕ → ℕ → Type 0
 
--- nothing is said of it
+-- no promptness is specified
 abbrev pub AnyPace : Promptness
 AnyPace _ _ _ _ = Unit {0}
 
@@ -27,7 +27,7 @@ abbrev pub IsSilent : Message → ℕ → Type 0
 IsSilent OutOfMemory output = output ≡ 0
 IsSilent _ output = Unit {0}
 
--- so many bytes of the specified output were written: at most all of them, and fewer if a write failed
+-- the output has a valid length: at most that of the specified output, and less if a write failed
 abbrev pub IsPrefixLen : Message → ℕ → ℕ → Type 0
 IsPrefixLen WriteFailed output stated = output < stated
 IsPrefixLen _ output stated = output ≤ stated
@@ -56,14 +56,14 @@ pub record Completed (o : Outcome) (message : Message) (ConsumedImage ConsumedSe
   pub secret : ConsumedSecret o.secret_consumed
   pub output : Wrote o.output
 
--- a run with the stated outcome, as far as it came
+-- the run has this outcome, or was aborted on the way to it
 abbrev pub RunMatches : Promptness → Outcome → Message → (ℕ → Type 0) → (ℕ → Type 0) → (List ℕ → Type 0) → Type 0
 RunMatches is_prompt o message ConsumedImage ConsumedSecret Wrote =
     MatchBool (aborts message) (Aborted is_prompt o message ConsumedImage ConsumedSecret Wrote)
     (Completed o message ConsumedImage ConsumedSecret Wrote)
 
--- a run whose payload is in another image than the header: as one over the header, and as many bytes of the payload's
--- image are consumed as specified, or no more if it is aborted
+-- the run has this outcome, with the payload in another image than the header: it consumes as many bytes of the
+-- payload's image as specified, or no more than that if it is aborted
 pub record DetachedRunMatches (is_prompt' : ℕ → Promptness) (o : Outcome) (message : Message)
     (ConsumedImage ConsumedPayload ConsumedSecret : ℕ → Type 0) (Wrote : List ℕ → Type 0) : Type 0 where
   pub payload_consumed : ℕ

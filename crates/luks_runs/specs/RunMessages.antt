@@ -1,4 +1,4 @@
--- With which messages the parts of runs may end, whatever their devices do.
+-- The messages that the parts of runs may end with, whatever their devices do.
 use Rattle.luks_runs.specs.declared.headers.Printout.{Printout}
 use Rattle.luks_runs.specs.declared.headers.Printout.TheVariants.{Uuid, Dump, Check}
 use Rattle.luks_report.specs.declared.message.Message.{Message}
@@ -6,7 +6,7 @@ use Rattle.luks_report.specs.declared.message.Message.TheVariants.{Done, No, Fin
 use Rattle.luks_report.specs.declared.message.Message.TheVariants.{ReadFailed, WriteFailed, CutBeforePayload, Tail}
 use Rattle.luks_report.specs.declared.message.Message.TheVariants.{Short, KeyLength, FewRandomBytes, FewStripes}
 
--- which messages `isLuks` may end with
+-- the messages of `isLuks`
 abbrev pub IsLuksMessage : Message → Type 0
 IsLuksMessage Done = Unit {0}
 IsLuksMessage No = Unit {0}
@@ -16,7 +16,7 @@ IsLuksMessage OutOfMemory = Unit {0}
 IsLuksMessage ReadFailed = Unit {0}
 IsLuksMessage _ = ⊥
 
--- a command that prints a text of the header
+-- the messages of a command that prints a text of the header
 abbrev pub PrintMessage : Message → Type 0
 PrintMessage Done = Unit {0}
 PrintMessage NotLuks = Unit {0}
@@ -27,18 +27,18 @@ PrintMessage ReadFailed = Unit {0}
 PrintMessage WriteFailed = Unit {0}
 PrintMessage _ = ⊥
 
--- a check, which may have findings
+-- the messages of a check, which may have findings
 abbrev pub CheckMessage : Message → Type 0
 CheckMessage Findings = Unit {0}
 CheckMessage message = PrintMessage message
 
--- printing a text
+-- the messages of printing this text
 abbrev pub PrintoutMessage : Printout → Message → Type 0
 PrintoutMessage Uuid = PrintMessage
 PrintoutMessage Dump = PrintMessage
 PrintoutMessage Check = CheckMessage
 
--- forwarding a payload
+-- the messages of forwarding a payload
 abbrev pub PayloadMessage : Message → Type 0
 PayloadMessage Done = Unit {0}
 PayloadMessage CutBeforePayload = Unit {0}
@@ -48,7 +48,7 @@ PayloadMessage ReadFailed = Unit {0}
 PayloadMessage WriteFailed = Unit {0}
 PayloadMessage _ = ⊥
 
--- `afSplit`
+-- the messages of `afSplit`
 abbrev pub SplitMessage : Message → Type 0
 SplitMessage Done = Unit {0}
 SplitMessage KeyLength = Unit {0}
@@ -57,7 +57,7 @@ SplitMessage ReadFailed = Unit {0}
 SplitMessage WriteFailed = Unit {0}
 SplitMessage _ = ⊥
 
--- `afMerge`
+-- the messages of `afMerge`
 abbrev pub MergeMessage : Message → Type 0
 MergeMessage Done = Unit {0}
 MergeMessage FewStripes = Unit {0}

@@ -11,7 +11,7 @@ pub record Outcome : Type 0 where
   pub secret_consumed : ℕ
   pub payload_consumed : ℕ
 
--- nothing is written
+-- an outcome without output
 abbrev pub no_output : Message → ℕ → ℕ → Outcome
 no_output message image_consumed secret_consumed = record {
   output = [];

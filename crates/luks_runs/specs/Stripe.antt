@@ -7,19 +7,19 @@ use Rattle.luks_kdf.specs.declared.hash.Hash.{Hash}
 use Rattle.luks_report.specs.declared.message.Message.TheVariants.{Done, KeyLength, FewRandomBytes, FewStripes}
 use Rattle.luks_runs.specs.RunOutcome.{Outcome, no_output}
 
--- the longest key
+-- the length of the longest key in bytes
 abbrev pub max_key_len : ℕ
 max_key_len = 512
 
--- a key may be so long
+-- the length is one that a key may have
 abbrev pub IsKeyLen : ℕ → Type 0
 IsKeyLen len = (1 ≤ len) × (len ≤ max_key_len)
 
--- the stripes of a key: the random ones, and the one that makes them merge to the key
+-- the stripes of a key: the random ones, and the last one, which makes them all merge to the key
 abbrev pub split_stripes : Hash → ℕ → List ℕ → List ℕ → List ℕ
 split_stripes hash count key random = random ++ xor (chain_of hash (length key) random (count - 1)) key
 
--- splitting a key of a length that is allowed
+-- the outcome of splitting a key of an allowed length
 unfoldable pub split_key_outcome : Hash → ℕ → List ℕ → List ℕ → Outcome
 split_key_outcome hash count key random =
     let needed = (count - 1) * length key in

@@ -1,4 +1,4 @@
--- What the parts of the stripe commands leave in their devices.
+-- The effects of the parts of the stripe commands on their devices.
 use Rattle.std.specs.Prelude.{◌≡◌, ℕ, ◌+◌, ◌*◌, ◌/◌, ◌<◌, ◌≤◌, ◌⊎◌, ◌&&◌, not, Bool, true, false, List, length, take}
 use Rattle.std.specs.Prelude.{min, Option}
 use Rattle.luks_io.specs.Counts.{Reads}
@@ -10,7 +10,7 @@ use Rattle.luks_report.specs.declared.message.Message.TheVariants.{WriteFailed}
 use Rattle.luks_runs.specs.Run.{is_run_read_failure}
 use Rattle.luks_runs.specs.Stripe.{max_key_len}
 
--- how reading a key failed: if it is too long, one byte more is consumed than the longest one has
+-- how reading a key failed: if it is too long, one byte more than the longest length is consumed
 abbrev pub NoKeyRead : List ℕ → Option (List ℕ) → Message → Type 0
 NoKeyRead key left KeyLength =
     (min (length key) (max_key_len + 1) ≡ 0 ⊎ max_key_len < length key)
@@ -18,7 +18,7 @@ NoKeyRead key left KeyLength =
 NoKeyRead key left ReadFailed = ConsumedAtMost key left (min (length key) (max_key_len + 1))
 NoKeyRead key left _ = ⊥
 
--- so many random bytes were consumed, and so many of them written
+-- `taken` random bytes were consumed, and the first `written` of them were written
 pub record ForwardedBytes (random : List ℕ) (left before after : Option (List ℕ)) (taken written : ℕ) : Type 0 where
   pub took : ConsumedExactly random left taken
   pub added : Appended before after (take written random)
@@ -62,14 +62,14 @@ PromptSplit len WriteFailed image secret output = secret ≤ (output / len + 1) 
 PromptSplit len ReadFailed image secret output = output ≡ secret / len * len
 PromptSplit len _ image secret output = Unit {0}
 
--- there were too few bytes, and so the end of the stripes or of the random bytes was found
+-- there were too few bytes: the end of the stripes or of the random bytes was hit
 abbrev pub is_few : Message → Bool
 is_few FewRandomBytes = true
 is_few FewStripes = true
 is_few _ = false
 
--- what a split adds to the counts of its sources: a failed read is one of the key, which may hit its end, or one of the
--- random bytes
+-- what a split adds to the counts of its sources: a failure of the key or of the random bytes if a read failed, and an
+-- end of each that was hit
 pub record ReadsForSplit (message : Message) (before before' next next' : ReadCounts) : Type 0 where
   pub in_key : Bool
   pub ended : Bool

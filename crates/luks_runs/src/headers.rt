@@ -47,14 +47,14 @@ fn refusal_of(fault: HeaderFault) -> Message
     }
 }
 
-/// What is printed of a header.
+/// A text that is printed of a header.
 #[derive(Clone, Copy)]
 pub enum Printout {
-    /// `luksUUID`: its UUID.
+    /// `luksUUID`: the header's UUID.
     Uuid,
-    /// `luksDump`: all of it.
+    /// `luksDump`: the whole header.
     Dump,
-    /// `luksCheck`: its findings.
+    /// `luksCheck`: the findings in the header.
     Check,
 }
 

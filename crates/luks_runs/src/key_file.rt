@@ -17,8 +17,8 @@ const MAX_KEY_FILE_LEN: usize = 8_388_608;
 /// How many bytes are read at once.
 const PIECE: usize = 4096;
 
-/// Reads the key file, which is all that the source gives, including a newline at its end. If it is
-/// too long, one byte more is consumed than the longest one has.
+/// Reads the key file: all bytes of the source, including a newline at its end. If it is too long,
+/// one byte more than the longest length is consumed.
 ///
 /// # Errors
 ///
@@ -47,7 +47,7 @@ pub fn read_key_file<S: Source>(alloc: Global, source: &mut S) -> Result<Vec<u8>
     Err(Message::KeyFileLength)
 }
 
-/// Puts the next piece of the key file behind the bytes so far. Answers its length, which is less
+/// Appends the next piece of the key file to the bytes so far. Returns its length, which is less
 /// than that of the buffer only at the end.
 fn read_piece<S: Source>(
     piece: &mut [u8],

@@ -1,5 +1,5 @@
 //! The parts of runs that need no key: what a run is, the commands on headers and stripes, the key
-//! file, and the payload on its way.
+//! file, and forwarding the payload.
 #![tactic(auto)]
 
 pub mod headers;

@@ -1,4 +1,4 @@
-//! Where a header is, and reading it there.
+//! The location of a header, and reading it there.
 
 ghost use Rattle.std.specs.Prelude.{◌≡◌, Bool, Ok, IfOk, IfErr, length, take};
 ghost use Rattle.luks_io.specs.Counts.{Reads};
@@ -13,17 +13,16 @@ use luks_header::header::{Header, read_header};
 use luks_io::source::Source;
 use std::alloc::Global;
 
-/// Where a header is.
+/// The location of a header.
 #[derive(Clone, Copy)]
 pub enum HeaderLocation {
-    /// At the front of the payload's image.
+    /// At the start of the payload's image.
     Attached,
-    /// In a file of its own.
+    /// Detached, in a file of its own.
     Detached,
 }
 
-/// Reads the header at the front of an image, or of a file of its own, with the bytes that were
-/// read.
+/// Reads the header at the start of an image, or a detached header, with all bytes that were read.
 pub fn read_header_at<S: Source>(
     alloc: Global,
     location: HeaderLocation,

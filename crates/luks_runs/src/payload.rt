@@ -1,4 +1,4 @@
-//! The payload on its way from the image to the output.
+//! Forwarding the payload from the image to the output.
 
 ghost use Rattle.std.specs.Prelude.{◌≡◌, ◌≤◌, ◌⊎◌, Bool, List, [], ℕ, Option, length, take};
 ghost use Rattle.luks_runs.specs.Payload.{HitsPayloadEof, ForwardsLoaded, max_needed};
@@ -17,8 +17,8 @@ use luks_payload::pump::Pump;
 use luks_payload::state::{State, Step};
 use luks_report::message::Message;
 
-/// A pump of the payload of an image whose first bytes are loaded: those of the payload among them
-/// are forwarded first.
+/// A pump for the payload of an image whose first bytes are loaded: those of them that are in the
+/// payload are forwarded first.
 fn pump_behind<'a>(segment: Segment, cipher: SectorCipher, loaded: &'a [u8]) -> Pump<'a>
     ensures segment { result.segment ≡ segment }
     ensures cipher { result.cipher ≡ cipher }
@@ -79,6 +79,6 @@ pub fn write_payload<I: Source, O: Sink>(
             Step::End => return Ok(()),
         }
     }
-    // No payload has so many sectors.
+    // No payload has 2^64 - 1 sectors.
     Ok(())
 }

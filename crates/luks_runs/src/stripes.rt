@@ -1,4 +1,4 @@
-//! `afSplit` and `afMerge`: keys and the stripes that hold them.
+//! `afSplit` and `afMerge`: keys, and the stripes that they are split into.
 
 ghost use Rattle.std.specs.Prelude.{◌≡◌, ◌*◌, ◌<◌, ◌⊎◌, ◌+◌, Bool, List, ℕ, IfOk, IfErr, OnOk};
 ghost use Rattle.std.specs.Prelude.{Option, length, take};
@@ -22,8 +22,8 @@ use luks_request::command::{MergeArgs, SplitArgs};
 /// The length of the longest key.
 const MAX_KEY_LEN: usize = 512;
 
-/// Reads a key, which is all that the source gives, into the start of the buffer. Answers its
-/// length. The buffer has one byte more than the longest key.
+/// Reads a key, which is all bytes of the source, into the start of the buffer. Returns its length.
+/// The buffer has one byte more than the longest key.
 fn read_key<S: Source>(source: &mut S, buf: &mut [u8]) -> Result<usize, Message>
     requires { length buf.old ≡ max_key_len + 1 }
     ensures length { IfOk result IsKeyLen }
@@ -46,8 +46,8 @@ fn read_key<S: Source>(source: &mut S, buf: &mut [u8]) -> Result<usize, Message>
     Ok(len)
 }
 
-/// Writes so many random stripes, each once it is whole, and answers the splitter that has absorbed
-/// them.
+/// Writes `count` random stripes, each as soon as it is whole, and returns the splitter that has
+/// absorbed them.
 fn forward_stripes<R: Source, O: Sink>(
     hash: Hash,
     count: usize,
@@ -78,7 +78,7 @@ fn forward_stripes<R: Source, O: Sink>(
     Ok(splitter)
 }
 
-/// Writes the next random stripe, once it is whole.
+/// Writes the next random stripe, as soon as it is whole.
 fn forward_stripe<R: Source, O: Sink>(
     stripe: &mut [u8],
     random: &mut R,
@@ -104,7 +104,7 @@ fn forward_stripe<R: Source, O: Sink>(
     Ok(())
 }
 
-/// `afSplit`: the key that the first source gives in stripes, the random ones first.
+/// `afSplit`: writes the stripes of the key in the first source, the random ones first.
 pub fn split<K: Source, R: Source, O: Sink>(
     splitting: &SplitArgs<'_>,
     key: &mut K,
@@ -166,7 +166,7 @@ fn split_key<R: Source, O: Sink>(
     Ok(())
 }
 
-/// Reads so many stripes, one at a time, and answers the splitter that has absorbed them.
+/// Reads `count` stripes, one at a time, and returns the splitter that has absorbed them.
 fn read_stripes<S: Source>(
     hash: Hash,
     count: usize,
@@ -194,7 +194,7 @@ fn read_stripes<S: Source>(
     Ok(splitter)
 }
 
-/// Reads the next stripe, a whole one.
+/// Reads the next whole stripe.
 fn read_stripe<S: Source>(stripe: &mut [u8], stripes: &mut S) -> Result<(), Message>
     ensures ok { OnOk result (IfKnown (S.to_come stripes.old)
         (λ known. (stripe.new ≡ take (length stripe.new) known)
@@ -213,7 +213,8 @@ fn read_stripe<S: Source>(stripe: &mut [u8], stripes: &mut S) -> Result<(), Mess
     Ok(())
 }
 
-/// Puts the key of the stripes that the source gives first into the buffer, which is as long.
+/// Fills the buffer with the key of the first stripes of the source. The buffer is as long as the
+/// key.
 fn read_merged_key<S: Source>(
     merging: &MergeArgs<'_>,
     key: &mut [u8],
@@ -240,7 +241,7 @@ fn read_merged_key<S: Source>(
     Ok(())
 }
 
-/// `afMerge`: the key of the stripes that the source gives first.
+/// `afMerge`: writes the key of the first stripes of the source.
 pub fn merge<S: Source, O: Sink>(
     merging: &MergeArgs<'_>,
     stripes: &mut S,

@@ -1,4 +1,4 @@
--- What consists of bytes: digests, stripes and what is put behind them.
+-- Lists that consist of bytes: digests, stripes and fields padded with zeros.
 use Rattle.std.proofs.Common.{ℕ, zero, suc, ◌-◌, List, [], ◌∷◌, ◌++◌, length, replicate, slice_index, arith}
 use Rattle.std.specs.Int.{div_ceil, to_be_bytes, w32, w64}
 use Rattle.std.specs.Int.Bits.{xor_lt}
@@ -28,7 +28,7 @@ long_bytes n =
     (bytes_cons (omega arith) (bytes_cons (omega arith) (bytes_cons (omega arith) (bytes_cons (omega arith)
     bytes_nil)))))))
 
--- the words of a hash value
+-- the words of a hash value consist of bytes
 words1_bytes : (h : List ℕ) (n : ℕ) → IsBytes (digest1_bytes h n)
 unfolding digest1_bytes
 words1_bytes h zero = bytes_nil
@@ -44,7 +44,7 @@ unfolding digest512_bytes
 words512_bytes h zero = bytes_nil
 words512_bytes h (suc n) = bytes_append _ _ (words512_bytes h n) (long_bytes (slice_index h n))
 
--- a digest
+-- a digest consists of bytes
 pub hash_bytes : (h : Hash) (message : List ℕ) → IsBytes (hash_of h message)
 unfolding sha1 sha224 sha256 sha384 sha512
 hash_bytes Sha1 message = words1_bytes _ 5
@@ -53,13 +53,13 @@ hash_bytes Sha256 message = words256_bytes _ 8
 hash_bytes Sha384 message = bytes_take 48 _ (words512_bytes _ 8)
 hash_bytes Sha512 message = words512_bytes _ 8
 
--- pieces joined
+-- joined pieces consist of bytes, if each piece does
 pub joined_bytes : (piece : ℕ → List ℕ) (n : ℕ) → ((i : ℕ) → IsBytes (piece i)) → IsBytes (joined piece n)
 unfolding joined
 joined_bytes piece zero each = bytes_nil
 joined_bytes piece (suc n) each = bytes_append _ _ (joined_bytes piece n each) (each n)
 
--- a block that is diffused, whatever it was
+-- a diffused block consists of bytes, whatever the block was
 diffused_bytes : (h : Hash) (block : List ℕ) → IsBytes (diffused h block)
 unfolding diffused diffused_piece
 diffused_bytes h block =
@@ -82,7 +82,7 @@ xor_bytes (x ∷ xs) (y ∷ ys) first second =
     bytes_cons (xor_lt 8 x y (first.each 0) (second.each 0))
     (xor_bytes xs ys (tail_bytes x xs first) (tail_bytes y ys second))
 
--- the stripes of a key
+-- the stripes of a key consist of bytes, if the key and the random stripes do
 pub stripes_bytes : (hash : Hash) (key : List ℕ) (count : ℕ) (random : List ℕ) → IsBytes key → IsBytes random
     → IsBytes (stripes_of hash key count random)
 unfolding stripes_of
@@ -91,7 +91,7 @@ stripes_bytes hash key count random keys drawn =
     (xor_bytes (chain_of hash (length key) random (count - 1)) key
     (chain_bytes hash (length key) random (count - 1)) keys)
 
--- bytes with zeros behind them
+-- bytes padded with zeros are bytes
 pub padded_bytes : (room : ℕ) (xs : List ℕ) → IsBytes xs → IsBytes (padded room xs)
 unfolding padded
 padded_bytes room xs all = bytes_append xs _ all (zeros_bytes (room - length xs))

@@ -1,4 +1,4 @@
--- Key material: the stripes of a key in whole sectors, which are encrypted.
+-- Key material: the stripes of a key in whole sectors, encrypted.
 use Rattle.std.proofs.Common.{◌≡◌, ◌∙◌, ℕ, ◌+◌, ◌-◌, ◌*◌, ◌/◌, ◌<◌, ◌≤◌, List, length, take, refl, sym, ap, arith}
 use Rattle.std.proofs.Common.{length-append, Some}
 use Rattle.std.specs.Int.{div_ceil}
@@ -23,13 +23,13 @@ use Rattle.luks_seal.proofs.SlicingLemmas.{at_padded, length-padded}
 
 -- ---- whole sectors
 
--- whole sectors of some bytes are as many as they need
+-- bytes padded to whole sectors are as many sectors as the bytes need
 pub length-whole_sectors : (bytes : List ℕ) → length (sector_padded bytes) ≡ (length bytes + 511) / 512 * 512
 unfolding sector_padded
 length-whole_sectors bytes =
     length-padded (div_ceil (length bytes) 512 * 512) bytes (omega arith) ∙ omega arith
 
--- and begin with them
+-- bytes padded to whole sectors begin with those bytes
 whole_sectors_begin : (n : ℕ) (bytes : List ℕ) → n ≡ length bytes → take n (sector_padded bytes) ≡ bytes
 unfolding sector_padded
 whole_sectors_begin n bytes is =
@@ -39,7 +39,7 @@ whole_sectors_bytes : (bytes : List ℕ) → IsBytes bytes → IsBytes (sector_p
 unfolding sector_padded
 whole_sectors_bytes bytes all = padded_bytes (div_ceil (length bytes) 512 * 512) bytes all
 
--- as long as the key material is that is encrypted
+-- encrypted key material is as long as its stripes padded to whole sectors
 pub length-encrypted_material : (mode : Mode) (area_key stripes : List ℕ)
     → length (encrypted_material (mode, area_key) stripes) ≡ (length stripes + 511) / 512 * 512
 unfolding encrypted_material
@@ -49,7 +49,7 @@ length-encrypted_material mode area_key stripes =
 
 -- ---- stripes
 
--- how many random bytes a key with so many stripes takes
+-- a key of at most 64 bytes, 1 to 4000 stripes, and as many random bytes as they need
 pub record AreDrawn (key : List ℕ) (count : ℕ) (random : List ℕ) : Type 0 where
   pub some : 1 ≤ count
   pub few : count ≤ 4000
@@ -57,7 +57,7 @@ pub record AreDrawn (key : List ℕ) (count : ℕ) (random : List ℕ) : Type 0 
   pub len : length random ≡ (count - 1) * length key
 
 module _ (af : Hash) (key : List ℕ) (count : ℕ) (random : List ℕ) (drawn : AreDrawn key count random) where
-  -- the stripes are as many bytes as they should
+  -- the stripes of a key have the length of the key times their number
   pub length-stripes_of : length (stripes_of af key count random) ≡ length key * count
   unfolding stripes_of
   length-stripes_of =
@@ -68,13 +68,13 @@ module _ (af : Hash) (key : List ℕ) (count : ℕ) (random : List ℕ) (drawn :
       ap (λ n. length key * n) one_more ∙ omega arith in
       omega (arith, all, drawn.len, last, length-append random (xor chain key), length-xor chain key last)
 
-  -- they are not many
+  -- the stripes have at most 256,000 bytes
   pub few_stripes : length key * count ≤ 256000
   few_stripes =
       let few : length key * count ≤ 64 * count = mul-le-mul_right {m = length key} {n = 64} count drawn.key_most in
       omega (arith, few, drawn.few)
 
-  -- in whole sectors they are key material of the key
+  -- the stripes in whole sectors are key material of the key
   made_material : (parts : SlotParts) → parts.stripes ≡ count
       → IsMaterial af parts key (sector_padded (stripes_of af key count random))
   unfolding stripes_of need_of
@@ -90,9 +90,9 @@ module _ (af : Hash) (key : List ℕ) (count : ℕ) (random : List ℕ) (drawn :
         ∙ ap (λ n. (n + 511) / 512 * 512) (length-stripes_of ∙ ap (λ n. length key * n) (sym is));
   }
 
--- ---- in an image
+-- ---- key material in an image
 
--- key material that an image has from this place on stands in it
+-- encrypted key material that an image has at this offset is stored encrypted there
 material_stands : (mode : Mode) (area_key stripes : List ℕ) (place : ℕ) (image : List ℕ) → IsBytes stripes
     → length stripes ≤ 256000
     → place + length (sector_padded stripes) ≤ length image
@@ -107,7 +107,7 @@ material_stands mode area_key stripes place image bytes few there is =
     (sectors_stand (mode, area_key) 0 1 512 (sector_padded stripes) refl (omega (arith, len)) place image
     (whole_sectors_bytes stripes bytes) there is)
 
--- what a key slot with these parts is made of
+-- what a key slot with these parts is made from
 pub record IsMade (parts : SlotParts) (kdf af : Hash) (mode : Mode) (key random : List ℕ) : Type 0 where
   pub is_kdf : parts.kdf_hash ≡ Some kdf
   pub is_af : parts.af_hash ≡ Some af
@@ -117,7 +117,7 @@ pub record IsMade (parts : SlotParts) (kdf af : Hash) (mode : Mode) (key random 
   pub bytes : IsBytes key
   pub random_bytes : IsBytes random
 
--- one whose area has the encrypted stripes of the key gives the key
+-- a key slot whose area has the encrypted stripes of the key gives the key
 pub gives_key : (parts : SlotParts) (kdf af : Hash) (mode : Mode) (passphrase key random image : List ℕ)
     → IsMade parts kdf af mode key random
     → parts.area_offset + need_of (length key) parts.stripes ≤ length image

@@ -1,4 +1,4 @@
--- Sectors that are each encrypted by themselves stand in an image as `Sealed` says it.
+-- Sectors that are each encrypted by themselves are stored in an image as `Sealed` states.
 use Rattle.std.proofs.Common.{◌≡◌, ◌∙◌, ℕ, zero, suc, ◌+◌, ◌*◌, ◌/◌, ◌%◌, ◌<◌, ◌≤◌, List, length, inl, inr, refl, sym}
 use Rattle.std.proofs.Common.{ap, arith, length-append}
 use Rattle.std.proofs.lemmas.Bool.{cases_lt}
@@ -50,7 +50,7 @@ module _ (f : ℕ → List ℕ) (size : ℕ) where
 
 -- ---- encrypted sectors
 
--- each sector that is there whole ends within the bytes
+-- each whole sector ends within the bytes
 sector_within : (len size i : ℕ) → len % size ≡ 0 → i < len / size → i * size + size ≤ len
 sector_within len size i whole low =
     let room : (i + 1) * size ≤ len / size * size = mul-le-mul_right {m = i + 1} {n = len / size} size (omega arith) in
@@ -65,7 +65,7 @@ module _ (cipher : Cipher) (first step size : ℕ) (plain : List ℕ) (blocks : 
       length-at (i * size) size plain (sector_within (length plain) size i whole low) in
       length-sector_encrypted cipher (wrapping_number first step i) (sector_at size plain i) (rw is blocks) ∙ is
 
-  -- whole sectors are as long encrypted as they were
+  -- encryption keeps the length of whole sectors
   pub length-sectors_encrypted : length (sectors_encrypted cipher first step size plain) ≡ length plain
   unfolding sectors_encrypted
   length-sectors_encrypted =
@@ -79,7 +79,7 @@ module _ (cipher : Cipher) (first step size : ℕ) (plain : List ℕ) (blocks : 
   sector_is i low =
       piece_at (encrypted_sector cipher first step size plain) size (length plain / size) i sector_length low
 
-  -- where an image has them, they stand in it
+  -- if an image has the encrypted sectors at this offset, the sectors are stored encrypted there
   pub sectors_stand : (place : ℕ) (image : List ℕ) → IsBytes plain → place + length plain ≤ length image
       → at place (length plain) image ≡ sectors_encrypted cipher first step size plain
       → IsStoredEncrypted cipher (wrapping_number first step) size place plain image
@@ -92,7 +92,7 @@ module _ (cipher : Cipher) (first step size : ℕ) (plain : List ℕ) (blocks : 
         ∙ (ap (at (i * size) size) is ∙ sector_is i low);
   }
 
--- they stand there under numbers that are the same
+-- sectors that are stored under some numbers are stored under any numbers equal to them
 pub stand_under : (cipher : Cipher) (number other : ℕ → ℕ) (size place : ℕ) (plain image : List ℕ)
     → ((i : ℕ) → i < length plain / size → number i ≡ other i)
     → IsStoredEncrypted cipher number size place plain image → IsStoredEncrypted cipher other size place plain image

@@ -1,4 +1,4 @@
--- Parts of images: bytes at a place of what was put together, and fields with zeros behind them.
+-- Parts of images: bytes at an offset of concatenated lists, and fields padded with zeros.
 use Rattle.std.proofs.Common.{◌≡◌, ◌∙◌, ℕ, ◌+◌, ◌-◌, ◌≤◌, List, ◌++◌, length, take, drop, replicate, refl, sym, ap}
 use Rattle.std.proofs.Common.{arith, length-append, length-drop}
 use Rattle.std.proofs.lemmas.List.{drop-append-le, drop-drop, drop-take, drop_at, length-replicate, length-take-le}
@@ -6,20 +6,20 @@ use Rattle.std.proofs.lemmas.List.{take-append-le, take-take, take_all}
 use Rattle.luks_area.specs.Fields.{at}
 use Rattle.luks_seal.specs.Pieces.{padded}
 
--- a part that lies in the first of two lists
+-- a part that is within the first of two lists
 pub at_first : (place len : ℕ) (xs ys : List ℕ) → place + len ≤ length xs → at place len (xs ++ ys) ≡ at place len xs
 at_first place len xs ys there =
     ap (take len) (drop-append-le place xs ys (omega arith))
     ∙ take-append-le len (drop place xs) ys (omega (arith, length-drop place xs))
 
--- one that lies in the second
+-- a part that starts within the second of two lists
 pub at_behind : (place k len : ℕ) (xs ys : List ℕ) → place ≡ length xs + k → at place len (xs ++ ys) ≡ at k len ys
 at_behind place k len xs ys is =
     ap (take len)
     (ap (λ n. drop n (xs ++ ys)) is ∙ sym (drop-drop k (length xs) (xs ++ ys))
     ∙ ap (drop k) (drop_at xs ys (length xs) refl))
 
--- the second of two lists
+-- a part that is the second of two lists
 pub at_second : (place len : ℕ) (xs ys : List ℕ) → place ≡ length xs → length ys ≡ len → at place len (xs ++ ys) ≡ ys
 at_second place len xs ys is all =
     at_behind place 0 len xs ys (omega arith) ∙ take_all len ys (omega arith)
@@ -34,17 +34,17 @@ at_at place len start size xs inside =
     ∙ take-take len (size - place) (drop place (drop start xs)) (omega arith)
     ∙ ap (take len) (drop-drop place start xs)
 
--- a part that is there has its length
+-- a part that ends within a list has its full length
 pub length-at : (place len : ℕ) (xs : List ℕ) → place + len ≤ length xs → length (at place len xs) ≡ len
 length-at place len xs there = length-take-le len (drop place xs) (omega (arith, length-drop place xs))
 
--- some bytes with zeros behind them have the length that they are given, where it is enough
+-- padded bytes have the stated length, if that is not too short
 pub length-padded : (room : ℕ) (xs : List ℕ) → length xs ≤ room → length (padded room xs) ≡ room
 unfolding padded
 length-padded room xs fits =
     omega (arith, length-append xs (replicate (room - length xs) 0), length-replicate {A = ℕ} (room - length xs) 0)
 
--- and begin with those bytes
+-- padded bytes begin with the bytes themselves
 pub at_padded : (place len room : ℕ) (xs : List ℕ) → place + len ≤ length xs
     → at place len (padded room xs) ≡ at place len xs
 unfolding padded

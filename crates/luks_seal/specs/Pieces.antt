@@ -1,4 +1,4 @@
--- What volumes of both formats are put together from.
+-- The pieces that volumes of both formats are put together from.
 use Rattle.std.specs.Prelude.{ℕ, ◌+◌, ◌-◌, ◌*◌, ◌/◌, ◌%◌, ◌^◌, List, ◌++◌, length, replicate, take, drop}
 use Rattle.std.specs.Int.{div_ceil}
 use Rattle.luks_cipher.specs.Sector.{Cipher, sector_encrypted}
@@ -7,7 +7,7 @@ use Rattle.luks_kdf.specs.Bytes.{xor}
 use Rattle.luks_kdf.specs.Stripes.{chain_of}
 use Rattle.luks_kdf.specs.declared.hash.Hash.{Hash}
 
--- some bytes, and zeros behind them up to this length
+-- bytes padded with zeros to this length
 unfoldable pub padded : ℕ → List ℕ → List ℕ
 padded room bytes = bytes ++ replicate (room - length bytes) 0
 
@@ -20,7 +20,7 @@ wrapping_number first step i = (first + i * step) % 2 ^ 64
 abbrev pub sector_at : ℕ → List ℕ → ℕ → List ℕ
 sector_at size bytes i = take size (drop (i * size) bytes)
 
--- the sector i of some bytes, encrypted under its number
+-- sector i of some bytes, encrypted under its unit number
 unfoldable pub encrypted_sector : Cipher → ℕ → ℕ → ℕ → List ℕ → ℕ → List ℕ
 encrypted_sector cipher first step size bytes i =
     sector_encrypted cipher.0 cipher.1 (wrapping_number first step i) (sector_at size bytes i)
@@ -35,10 +35,10 @@ sectors_encrypted cipher first step size bytes =
 unfoldable pub stripes_of : Hash → List ℕ → ℕ → List ℕ → List ℕ
 stripes_of hash key count random = random ++ xor (chain_of hash (length key) random (count - 1)) key
 
--- some bytes and zeros up to whole sectors of 512 bytes
+-- bytes padded with zeros to whole sectors of 512 bytes
 unfoldable pub sector_padded : List ℕ → List ℕ
 sector_padded bytes = padded (div_ceil (length bytes) 512 * 512) bytes
 
--- key material: stripes in whole sectors of 512 bytes, which are encrypted and numbered from 0
+-- key material: stripes padded to whole sectors of 512 bytes, which are encrypted and numbered from 0
 unfoldable pub encrypted_material : Cipher → List ℕ → List ℕ
 encrypted_material cipher stripes = sectors_encrypted cipher 0 1 512 (sector_padded stripes)

@@ -1,29 +1,29 @@
--- Ranges that volumes of both formats share, and what a seal answers.
+-- Ranges that volumes of both formats share, and the results of sealing.
 use Rattle.std.specs.Prelude.{◌≡◌, ◌≢◌, ℕ, ◌<◌, ◌≤◌, true, List, length, slice_index, Result, Ok, Err}
 use Rattle.luks_cipher.specs.Sector.{is_mode_key_length}
 use Rattle.luks_cipher.specs.declared.mode.Mode.{Mode}
 use Rattle.luks_seal.specs.declared.parameters.SealFault.{SealFault}
 use Rattle.luks_seal.specs.declared.parameters.SealFault.TheVariants.{Parameters, Memory}
 
--- the key has a length of the mode
+-- a key of this length in bytes fits the mode
 abbrev pub FitsKey : Mode → ℕ → Type 0
 FitsKey mode len = is_mode_key_length mode len ≡ true
 
--- a text of at most so many bytes, none of them zero
+-- a text of at most this many bytes, none of them zero
 abbrev pub FitsText : ℕ → List ℕ → Type 0
 FitsText most text = (length text ≤ most) × ((i : ℕ) → i < length text → slice_index text i ≢ 0)
 
--- the longest plain text that is sealed
+-- the length in bytes of the longest plain text that is sealed
 abbrev pub max_plain_len : ℕ
 max_plain_len = 8388608
 
--- a volume, or why there is none: wrong parameters exactly if they are wrong, and otherwise only running out of memory
+-- the result of sealing: Parameters exactly if the parameters do not fit, and otherwise a volume or Memory
 abbrev pub SealAnswer : {T : Type 0} → Type 0 → Result T SealFault → Type 0
 SealAnswer fits (Ok _) = fits
 SealAnswer fits (Err Parameters) = ¬ fits
 SealAnswer fits (Err Memory) = fits
 
--- the same if one of the ranges is known late: memory can run out before it is
+-- the same if one of the ranges is only known late: memory can run out before it is known
 abbrev pub SealsOrSaysLate : {T : Type 0} → Type 0 → Type 0 → Result T SealFault → Type 0
 SealsOrSaysLate fits late (Ok _) = fits × late
 SealsOrSaysLate fits late (Err Parameters) = ¬ (fits × late)

@@ -1,6 +1,6 @@
--- What it means that an image is an honestly sealed volume: of the keys, the passphrases and the plain text that went
--- into it, in the words of both formats (LUKS1 On-Disk Format Specification 1.2.3, sections 2 to 4; LUKS2 On-Disk
--- Format Specification 1.1, sections 2 to 4). Nothing is said here of how an image is made, or of how it is opened.
+-- What it means for an image to be an honestly sealed volume of the keys, the passphrases and the plain text that went
+-- into it, in the terms of both formats (LUKS1 On-Disk Format Specification 1.2.3, sections 2 to 4; LUKS2 On-Disk
+-- Format Specification 1.1, sections 2 to 4). These definitions do not state how an image is made or how it is opened.
 use Rattle.std.specs.Prelude.{◌≡◌, ℕ, ◌+◌, ◌*◌, ◌/◌, ◌%◌, ◌^◌, ◌<◌, ◌≤◌, All, List, length, take, Option, None, Some}
 use Rattle.std.specs.Prelude.{Ok}
 use Rattle.luks_aes.specs.Bytes.{IsBytes}
@@ -33,15 +33,15 @@ pub record IsStoredEncrypted (cipher : Cipher) (number : ℕ → ℕ) (size plac
       → at (place + i * size) size image
       ≡ sector_encrypted cipher.0 cipher.1 (number i) (at (i * size) size plain)
 
--- these bytes are the key material of a key slot that has these parts: the stripes of the key, which are made with
--- some random bytes, and bytes behind them up to whole sectors of 512
+-- these bytes are the key material of a key slot that has these parts: the stripes of the key, which are made with some
+-- random bytes, and further bytes up to whole sectors of 512
 pub record IsMaterial (af : Hash) (parts : SlotParts) (key material : List ℕ) : Type 0 where
   pub random : List ℕ
   pub split : IsSplit af random key (take (length key * parts.stripes) material)
   pub len : length material ≡ need_of (length key) parts.stripes
 
--- the key slot with these parts gives the key under this passphrase: its area has key material of the key, which is
--- encrypted under what PBKDF2 derives from the passphrase, its sectors numbered from 0
+-- the key slot with these parts gives the key under this passphrase: its area has key material of the key, encrypted
+-- under the key that PBKDF2 derives from the passphrase, with sectors numbered from 0
 pub record GivesKey (parts : SlotParts) (passphrase key image : List ℕ) : Type 0 where
   pub kdf : Hash
   pub af : Hash
@@ -56,13 +56,13 @@ pub record GivesKey (parts : SlotParts) (passphrase key image : List ℕ) : Type
       (mode, derived_key kdf passphrase parts.salt parts.iterations parts.area_key_bytes)
       (λ i. i) 512 parts.area_offset material image
 
--- the digest is that of the key: PBKDF2 of it
+-- the digest is that of the key: PBKDF2 of the key
 pub record IsDigestOf (digest : KeyDigest) (key : List ℕ) : Type 0 where
   pub hash : Hash
   pub is_hash : digest.hash ≡ Some hash
   pub value : digest.value ≡ derived_key hash key digest.salt digest.iterations (length digest.value)
 
--- the key slot of this number can be tried, whatever its iterations, gives the key under this passphrase, and its
+-- the key slot of this number is usable without a limit on iterations, it gives the key under this passphrase, and its
 -- digest is that of the key
 pub record SealsKey (header : Header) (image key : List ℕ) (number : ℕ) (passphrase : List ℕ) : Type 0 where
   pub slot : Slot
@@ -72,12 +72,12 @@ pub record SealsKey (header : Header) (image key : List ℕ) (number : ℕ) (pas
   pub is_digest : digest_for header number ≡ Some digest
   pub digest_of_key : IsDigestOf digest key
 
--- the unit number of sector i: they count in steps of 512 bytes, whatever the sector's length, and wrap at 2^64
+-- the unit number of sector i: unit numbers count in steps of 512 bytes, whatever the sector size, and wrap at 2^64
 abbrev pub unit_number : Segment → ℕ → ℕ
 unit_number segment i = (segment.iv_tweak + i * (bytes_of segment.sector_size / 512)) % 2 ^ 64
 
--- the payload ends with the plaintext, `end` bytes behind the image's start: if its size is not fixed, the image ends
--- there
+-- the payload ends with the plaintext, `end` bytes after the start of the image: if its size is not fixed, the image
+-- ends there
 abbrev pub EndsWith : Option ℕ → List ℕ → ℕ → List ℕ → Type 0
 EndsWith None plain end image = length image ≡ end
 EndsWith (Some size) plain end image = size ≡ length plain

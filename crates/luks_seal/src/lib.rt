@@ -1,9 +1,8 @@
-//! What volumes of both formats are made from, for tests and for what is proved of honest volumes:
-//! their parameters, the ranges that both share, and the pieces that their images are put together
-//! from.
+//! What volumes of both formats are made from, for tests and for proofs about honest volumes: their
+//! parameters, the ranges that both share, and the pieces that their images are put together from.
 //!
 //! `seal1` of the crate `luks1_seal` makes a volume of LUKS1, `seal2` of `luks2_seal` one of LUKS2.
-//! Nothing is drawn: each salt and each random stripe comes from the caller.
+//! Nothing is generated: the caller passes in each salt and each random stripe.
 #![tactic(auto)]
 
 pub mod parameters;

@@ -1,4 +1,4 @@
-//! What a volume is made from. Parameters are not `Debug`: they hold keys and passphrases.
+//! What a volume is made from. Parameters are not `Debug`, since they hold keys and passphrases.
 
 use luks_cipher::Mode;
 use luks_kdf::Hash;
@@ -12,11 +12,11 @@ pub struct Seal1<'a> {
     pub hash: Hash,
     /// The mode in which the payload and the key material are encrypted.
     pub mode: Mode,
-    /// The volume key, of a length of the mode.
+    /// The volume key, of a length that the mode has.
     pub key: &'a [u8],
     /// How many stripes hold the key, from 1 to 4000.
     pub stripes: u32,
-    /// Where the payload starts, in sectors of 512 bytes: behind the areas of eight slots, and at
+    /// Where the payload starts, in sectors of 512 bytes: after the areas of eight slots, and at
     /// most 65,536.
     pub payload_sectors: u32,
     /// The UUID, of at most 40 bytes, none of them zero.
@@ -36,13 +36,14 @@ pub struct Seal1<'a> {
 pub struct Slot1<'a> {
     /// Its number, from 0 to 7.
     pub number: u32,
-    /// The iterations by which its key comes of the passphrase, at least 1.
+    /// The PBKDF2 iterations that derive its key from the passphrase, at least 1.
     pub iterations: u32,
-    /// The salt by which its key comes of the passphrase.
+    /// The PBKDF2 salt that its key is derived with.
     pub salt: [u8; 32],
     /// The passphrase.
     pub passphrase: &'a [u8],
-    /// The random stripes: the key's length times one less than the count of stripes.
+    /// The random stripes: their length is the key's length times one less than the number of
+    /// stripes.
     pub random: &'a [u8],
 }
 
@@ -51,7 +52,7 @@ pub struct Slot1<'a> {
 pub struct Seal2<'a> {
     /// The length of a header and its JSON area in bytes, one of the nine that the format has.
     pub hdr_size: u64,
-    /// The number of the last change, which both headers have.
+    /// The sequence number of the last change, which both headers have.
     pub seqid: u64,
     /// The UUID, of at most 40 bytes, none of them zero.
     pub uuid: &'a [u8],
@@ -65,20 +66,20 @@ pub struct Seal2<'a> {
     pub secondary_salt: [u8; 64],
     /// The mode in which the payload is encrypted.
     pub mode: Mode,
-    /// The volume key, of a length of the mode.
+    /// The volume key, of a length that the mode has.
     pub key: &'a [u8],
     /// The length of a sector of the payload.
     pub sector_size: SectorSize,
     /// The unit number of the payload's first sector.
     pub iv_tweak: u64,
-    /// Where the payload starts, in bytes: a multiple of 4096 behind all areas, and at most
+    /// Where the payload starts, in bytes: a multiple of 4096 after all areas, and at most
     /// 33,554,432.
     pub offset: u64,
-    /// Whether the header has the payload's length. Else the payload ends with the image.
+    /// Whether the header states the payload's length. If not, the payload ends with the image.
     pub fixed: bool,
     /// The mode in which the key material is encrypted.
     pub area_mode: Mode,
-    /// The length of the keys that encrypt the key material, one of `area_mode`.
+    /// The length in bytes of the keys that encrypt the key material, one that `area_mode` has.
     pub area_key_size: usize,
     /// The hash of the key's digest.
     pub digest_hash: Hash,
@@ -99,11 +100,11 @@ pub struct Slot2<'a> {
     pub number: u32,
     /// Its priority: 2 is tried first, then 1, and 0 only by its number.
     pub priority: u32,
-    /// The hash by which its key comes of the passphrase.
+    /// The hash of PBKDF2, which derives its key from the passphrase.
     pub hash: Hash,
-    /// The iterations by which its key comes of the passphrase, at least 1.
+    /// The PBKDF2 iterations that derive its key from the passphrase, at least 1.
     pub iterations: u32,
-    /// The salt by which its key comes of the passphrase.
+    /// The PBKDF2 salt that its key is derived with.
     pub salt: [u8; 32],
     /// The hash of its stripes.
     pub af_hash: Hash,
@@ -111,7 +112,8 @@ pub struct Slot2<'a> {
     pub stripes: u32,
     /// The passphrase.
     pub passphrase: &'a [u8],
-    /// The random stripes: the key's length times one less than the count of stripes.
+    /// The random stripes: their length is the key's length times one less than the number of
+    /// stripes.
     pub random: &'a [u8],
 }
 

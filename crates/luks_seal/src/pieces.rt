@@ -1,5 +1,5 @@
-//! What volumes of both formats are put together from: fields with zeros behind them, encrypted
-//! sectors, key material.
+//! The pieces that volumes of both formats are put together from: fields padded with zeros,
+//! encrypted sectors, key material.
 
 ghost use Rattle.std.specs.Prelude.{◌≡◌, ◌-◌, ◌*◌, ◌%◌, ◌≤◌, ◌++◌, IfOk, OnOk, length};
 ghost use Rattle.luks_cipher.specs.Sector.{sector_encrypted};
@@ -14,7 +14,7 @@ use luks_kdf::{Hash, Work, af_split, pbkdf2};
 use luks_verdict::sector_size::SectorSize;
 use std::alloc::{AllocError, Global};
 
-/// Some bytes, and zeros behind them up to this length.
+/// Bytes padded with zeros to this length.
 #[tactic(auto, unfolding(crate::specs::Pieces::padded))]
 pub fn padded(alloc: Global, bytes: &[u8], room: usize) -> Result<Vec<u8>, AllocError>
     ensures { IfOk result (λ all. all.items ≡ padded room bytes.now) }
@@ -24,7 +24,7 @@ pub fn padded(alloc: Global, bytes: &[u8], room: usize) -> Result<Vec<u8>, Alloc
     Ok(all)
 }
 
-/// Adds some bytes, and zeros behind them up to this length.
+/// Adds bytes padded with zeros to this length.
 pub fn push_padded(
     alloc: Global,
     image: &mut Vec<u8>,
@@ -102,8 +102,8 @@ fn push_sector(
     image.extend_from_slice(&sector)
 }
 
-/// Whole sectors of this size, each encrypted. The first has the number `first`, and each `step`
-/// more than the one before.
+/// Whole sectors of this size, each encrypted. The first has the number `first`, and each further
+/// one `step` more than the one before it.
 pub fn encrypted(
     alloc: Global,
     cipher: &SectorCipher,
@@ -152,7 +152,7 @@ pub fn stripes_of(
     Ok(stripes)
 }
 
-/// Key material: these stripes in whole sectors of 512 bytes, encrypted and numbered from 0.
+/// Key material: these stripes padded to whole sectors of 512 bytes, encrypted and numbered from 0.
 #[tactic(auto, unfolding(crate::specs::Pieces::encrypted_material, crate::specs::Pieces::sector_padded))]
 pub fn encrypted_material(
     alloc: Global,

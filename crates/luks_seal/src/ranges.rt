@@ -3,7 +3,7 @@
 ghost use Rattle.std.specs.Prelude.{◌≡◌, ◌≢◌, ◌<◌, ◌≤◌, ◌↔◌, ℕ, length, IsTrue};
 ghost use Rattle.luks_seal.specs.Ranges.{FitsText};
 
-/// A text of at most so many bytes, none of them zero.
+/// The text has at most this many bytes, none of them zero.
 pub fn fits_text(most: usize, text: &[u8]) -> bool
     ensures { IsTrue result ↔ FitsText most text.now }
 {

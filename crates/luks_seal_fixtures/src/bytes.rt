@@ -4,7 +4,7 @@ ghost use Rattle.std.specs.Prelude.{◌≡◌, IfOk, drop, length, take};
 
 use std::alloc::{AllocError, Global};
 
-/// So many bytes, each one more than the one before, and zero behind 250.
+/// This many bytes, each one more than the one before, and 0 after 250.
 pub fn counted(alloc: Global, len: usize) -> Result<Vec<u8>, AllocError>
     ensures { IfOk result (λ bytes. length bytes.items ≡ len) }
 {
@@ -15,7 +15,7 @@ pub fn counted(alloc: Global, len: usize) -> Result<Vec<u8>, AllocError>
     Ok(bytes)
 }
 
-/// So many bytes from this place on, or those that there are.
+/// This many bytes from this offset on, or as many as there are.
 pub fn at(image: &[u8], place: usize, len: usize) -> &[u8]
     ensures { result.now ≡ take len (drop place image.now) }
 {

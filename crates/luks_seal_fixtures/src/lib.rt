@@ -1,4 +1,4 @@
-//! What the tests of several crates share of sealed volumes: parameters that are in their ranges.
+//! What the tests of several crates share for sealed volumes: parameters that are in their ranges.
 //!
 //! Nothing but tests uses it.
 #![tactic(auto)]

@@ -1,12 +1,12 @@
--- The turns of chains of digests are turns on their words.
+-- The iterations of chains of digests, computed on the words of the digests.
 use Rattle.std.proofs.Common.{◌≡◌, ℕ, zero, suc, List, ◌++◌, length, bit_xor, refl, sym, ap, ap₂, ◌∙◌}
 use Rattle.std.specs.Simd.Lanes.{zip2}
 use Rattle.sha2.specs.Sha256.{digest_bytes}
 use Rattle.luks_sha_lanes.specs.Chains.{chain, chain_sum, hmac_by, sums, turn, turns}
 use Rattle.luks_sha_lanes.proofs.WordLemmas.{xor_of_words}
 
--- What the turns need of a hash function with digests of m words, where `after b` is its hash value after a block b: a
--- digest behind one block fills the next one.
+-- what the iterations need from a hash function with digests of m words: the hash of a block b followed by a digest has
+-- the words that `behind` gives from the hash value `after b` and the words of that digest
 pub record IsChained (hash after : List ℕ → List ℕ) (behind : List ℕ → List ℕ → List ℕ) (m : ℕ) : Type 0 where
   pub follows : (b w : List ℕ) → length b ≡ 64 → hash (b ++ digest_bytes w m) ≡ digest_bytes (behind (after b) w) m
 
@@ -37,7 +37,7 @@ sums_turns hash after behind m is inner outer w t li lo (suc n) =
     (chain_turns hash after behind m is inner outer w li lo (suc n))
     ∙ xor_of_words m _ _
 
--- what a lane comes to, on bytes
+-- the words in a lane after n iterations have the bytes of `chain_sum`
 pub sum_of_lane : (hash after : List ℕ → List ℕ) (behind : List ℕ → List ℕ → List ℕ) (m : ℕ)
     → IsChained hash after behind m → (inner outer u t i o w s r : List ℕ) (n : ℕ)
     → length inner ≡ 64 → length outer ≡ 64 → i ≡ after inner → o ≡ after outer

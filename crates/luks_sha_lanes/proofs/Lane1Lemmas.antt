@@ -17,6 +17,6 @@ of_three f j v x is = rw (word_of_lane j v 1, word_of_lane j v 2, word_of_lane j
 pub window_of_block : (j : ℕ) (w : List (List ℕ)) (b : List ℕ) → IsBlock j w b → IsWindow (lane j w) (schedule b 64) 16
 window_of_block j w b block = IsWindow_first b (lane j w) (length-map w (word j) ∙ block.long) block.words
 
--- the same place, spelled another way
+-- the same number of rounds, written in another way
 pub rounds_at : (b h v : List ℕ) (n k : ℕ) → n ≡ k → v ≡ rounds h (schedule b 64) n → v ≡ rounds h (schedule b 64) k
 rounds_at b h v n k e held = rw (← e) held

@@ -12,7 +12,7 @@ use Rattle.luks_sha_lanes.proofs.LaneLemmas.{word_of_lane, word_splat, words_fit
 use Rattle.luks_sha_lanes.proofs.PaddedLemmas.{IsTwoBlocks, two_blocks, word_back}
 use Rattle.luks_sha_lanes.proofs.WordLemmas.{below_sixteen, length-digest_bytes}
 
--- the words of a digest and of its padding behind one block
+-- the words of a digest after one block, and of its padding
 abbrev padded_words : List ℕ → List ℕ
 padded_words h =
     slice_index h 0 ∷ slice_index h 1 ∷ slice_index h 2 ∷ slice_index h 3 ∷ slice_index h 4
@@ -26,7 +26,7 @@ digest_word h fits =
     below_sixteen (λ k. slice_index (padded_words h) k ≡ word_at (digest_bytes h 5 ++ padding 84) (4 * k))
     (word 0) (word 1) (word 2) (word 3) (word 4) refl refl refl refl refl refl refl refl refl refl refl
 
--- the vectors of all lanes
+-- the vectors that have those words in all lanes
 abbrev padded_vectors : ℕ → List (List ℕ) → List (List ℕ)
 padded_vectors n d =
     slice_index_or d 0 [] ∷ slice_index_or d 1 [] ∷ slice_index_or d 2 [] ∷ slice_index_or d 3 []
@@ -51,9 +51,9 @@ pub padded_words_of : (n j : ℕ) → j < n → (d : List (List ℕ)) (k : ℕ) 
 padded_words_of n j in_lane d k below =
     ap (λ (l : List ℕ). slice_index l k) (lane_padded n j in_lane d) ∙ digest_word (lane j d) (words_fit j d) k below
 
--- ---- the digest behind one block is the hash of both
+-- ---- the hash of one block and a digest
 
--- both hash functions write their words in the same way
+-- SHA-1 and SHA-256 write their words as bytes in the same way
 same_bytes : (h : List ℕ) (n : ℕ) → Sha1.digest_bytes h n ≡ digest_bytes h n
 unfolding digest_bytes Sha1.digest_bytes
 same_bytes h zero = refl

@@ -12,7 +12,7 @@ use Rattle.luks_sha_lanes.proofs.LaneLemmas.{word_of_lane, word_splat, words_fit
 use Rattle.luks_sha_lanes.proofs.PaddedLemmas.{IsTwoBlocks, two_blocks, word_back}
 use Rattle.luks_sha_lanes.proofs.WordLemmas.{below_sixteen, below_two, length-digest_bytes}
 
--- the words of a digest and of its padding behind one block
+-- the words of a digest after one block, and of its padding
 abbrev padded_words : List ℕ → List ℕ
 padded_words h =
     slice_index h 0 ∷ slice_index h 1 ∷ slice_index h 2 ∷ slice_index h 3 ∷ slice_index h 4 ∷ slice_index h 5
@@ -27,7 +27,7 @@ digest_word h fits =
     below_sixteen (λ k. slice_index (padded_words h) k ≡ word_at (digest_bytes h 8 ++ padding 96) (4 * k))
     (word 0) (word 1) (word 2) (word 3) (word 4) (word 5) (word 6) (word 7) refl refl refl refl refl refl refl refl
 
--- the vectors of both lanes, where a number twice is the number times 2 ^ 32 + 1
+-- a vector with a number stored twice in both lanes: the number times 2 ^ 32 + 1
 abbrev both : ℕ → List ℕ
 both k = replicate 2 (k * 4294967297)
 
@@ -71,7 +71,7 @@ pub padded_words_of : (j : ℕ) → j < 2 → (d : List (List ℕ)) → (k : ℕ
 padded_words_of j in_lane d k below =
     ap (λ (l : List ℕ). slice_index l k) (lane_padded j in_lane d) ∙ digest_word (lane j d) (words_fit j d) k below
 
--- ---- the digest behind one block is the hash of both
+-- ---- the hash of one block and a digest
 
 hash_of_two : (h p b c : List ℕ) → IsTwoBlocks p b c → hash_after h p (length p / 64) ≡ compress (compress h b) c
 unfolding hash_after

@@ -1,4 +1,4 @@
--- A digest behind one block, and the padding that ends its block.
+-- A digest after one block, and the padding that fills its block.
 use Rattle.std.proofs.Common.{◌≡◌, ℕ, ◌+◌, ◌/◌, ◌^◌, ◌<◌, List, ◌++◌, length, drop, take, arith, refl, sym}
 use Rattle.std.proofs.Common.{append_assoc, length-append}
 use Rattle.std.specs.Prelude.{slice_index}
@@ -14,7 +14,7 @@ pub record IsTwoBlocks (p b c : List ℕ) : Type 0 where
   pub first : take 64 p ≡ b
   pub second : take 64 (drop 64 p) ≡ c
 
--- a block and a digest of n bytes behind it, padded
+-- a block and a digest of n bytes after it are two blocks when they are padded
 pub two_blocks : (b d : List ℕ) (n : ℕ) → length b ≡ 64 → length d ≡ n → length (d ++ padding (64 + n)) ≡ 64
     → IsTwoBlocks (padded_message (b ++ d)) b (d ++ padding (64 + n))
 two_blocks b d n whole size rest =
@@ -29,7 +29,7 @@ two_blocks b d n whole size rest =
       second = rw (drop_front 64 b tail whole) (take_all 64 tail (omega arith));
     })
 
--- a word is that of its bytes
+-- a word is read back from its bytes
 pub word_back : (h : List ℕ) → ((k : ℕ) → slice_index h k < 2 ^ 32) → (k : ℕ)
     → slice_index h k ≡ from_be_bytes w32 (to_be_bytes w32 (slice_index h k))
 word_back h fits k = sym (from_be_bytes-to_be_bytes_4 (slice_index h k) (fits k))

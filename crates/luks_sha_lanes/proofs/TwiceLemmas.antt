@@ -1,4 +1,4 @@
--- A word that stands twice in 64 bits, shifted to the right, has in its low half the word rotated.
+-- If a word is stored twice in 64 bits and shifted to the right, the low half is the word rotated.
 use Rattle.std.proofs.Common.{◌≡◌, ℕ, ◌+◌, ◌-◌, ◌*◌, ◌/◌, ◌%◌, ◌^◌, ◌<◌, List, [], ◌∷◌, length, bit_and}
 use Rattle.std.proofs.Common.{bit_or, bit_xor, ap, sym, ◌∙◌, arith, refl, pow-add, add_comm, mod-lt, pow_pos}
 use Rattle.std.specs.Int.Bits.{or_shifted_r}
@@ -9,7 +9,7 @@ use Rattle.luks_sha_lanes.proofs.WordLemmas.{below_two}
 use Rattle.luks_sha_lanes.specs.Lanes.{word}
 use Rattle.luks_sha_lanes.specs.Lanes256.{IsTwice}
 
--- what holds of each list of two elements
+-- a property of the list of any two elements holds for every list of length 2
 pub two_lanes : (P : List ℕ → Type 0) → ((a b : ℕ) → P (a ∷ b ∷ [])) → (xs : List ℕ) → length xs ≡ 2 → P xs
 two_lanes P p (a ∷ b ∷ []) h = p a b
 two_lanes P p [] h = absurd (omega arith)
@@ -22,7 +22,7 @@ cleared x j = ap (λ (n : ℕ). n % 2 ^ j) (omega arith) ∙ mod_low x j 0 (pow_
 shl_low : (x k j : ℕ) → x * 2 ^ j % 2 ^ (k + j) ≡ x % 2 ^ k * 2 ^ j
 shl_low x k j = mod-pow-add (x * 2 ^ j) k j ∙ rw (shl-shr x j, cleared x j) (omega arith)
 
--- the word x twice, shifted by k
+-- the low half of the word x stored twice and shifted by k bits is x rotated
 pub twice_rotated : (x k j : ℕ) → k + j ≡ 32 → x < 2 ^ 32
     → (x * 2 ^ 32 + x) / 2 ^ k % 2 ^ 32 ≡ bit_or (x / 2 ^ k) (x * 2 ^ j % 2 ^ 32)
 twice_rotated x k j whole fits =
@@ -41,7 +41,7 @@ twice_rotated x k j whole fits =
     ap (λ (n : ℕ). y % 2 ^ n) (sym whole) ∙ shl_low x k j in
     rw (shifted, kept, high) (sym (or_shifted_r (x % 2 ^ k) j q small))
 
--- the same of a lane
+-- the same for a lane
 lane_rotated : (a k j : ℕ) → k + j ≡ 32 → a ≡ a % 2 ^ 32 * 2 ^ 32 + a % 2 ^ 32
     → a / 2 ^ k % 2 ^ 32 ≡ bit_or (a % 2 ^ 32 / 2 ^ k) (a % 2 ^ 32 * 2 ^ j % 2 ^ 32)
 lane_rotated a k j whole is = ap (λ (n : ℕ). n / 2 ^ k % 2 ^ 32) is ∙ twice_rotated (a % 2 ^ 32) k j whole (half_lt a)
@@ -49,7 +49,7 @@ lane_rotated a k j whole is = ap (λ (n : ℕ). n / 2 ^ k % 2 ^ 32) is ∙ twice
 abbrev rotated : ℕ → ℕ → ℕ → ℕ
 rotated x k j = bit_or (x / 2 ^ k) (x * 2 ^ j % 2 ^ 32)
 
--- a sum of three shifts, in the low half
+-- the low half of the XOR of three numbers is the XOR of their low halves
 low_sum : (a b c : ℕ) → bit_xor (bit_xor a b) c % 2 ^ 32 ≡ bit_xor (bit_xor (a % 2 ^ 32) (b % 2 ^ 32)) (c % 2 ^ 32)
 low_sum a b c = xor_mod (bit_xor a b) c 32 ∙ ap (λ (n : ℕ). bit_xor n (c % 2 ^ 32)) (xor_mod a b 32)
 
@@ -61,7 +61,7 @@ three_rotated k1 j1 k2 j2 k3 j3 w1 w2 w3 a is =
     low_sum (a / 2 ^ k1) (a / 2 ^ k2) (a / 2 ^ k3)
     ∙ rw (lane_rotated a k1 j1 w1 is, lane_rotated a k2 j2 w2 is, lane_rotated a k3 j3 w3 is) refl
 
--- two rotations and a shift by n bits, which takes the upper copy
+-- the XOR of two rotations and of a shift by n bits, which reads the upper copy
 pub two_rotated : (k1 j1 k2 j2 n : ℕ) → k1 + j1 ≡ 32 → k2 + j2 ≡ 32
     → (a : ℕ) → a ≡ a % 2 ^ 32 * 2 ^ 32 + a % 2 ^ 32 → a / 2 ^ n % 2 ^ 32 ≡ a % 2 ^ 32 / 2 ^ (n - 32)
     → bit_xor (bit_xor (a / 2 ^ k1) (a / 2 ^ k2)) (a / 2 ^ n) % 2 ^ 32
@@ -70,7 +70,7 @@ two_rotated k1 j1 k2 j2 n w1 w2 a is shifted =
     low_sum (a / 2 ^ k1) (a / 2 ^ k2) (a / 2 ^ n)
     ∙ rw (lane_rotated a k1 j1 w1 is, lane_rotated a k2 j2 w2 is, shifted) refl
 
--- three shifts of vectors under xor
+-- both lanes of a vector shifted to the right by k bits
 abbrev shifted : List ℕ → ℕ → List ℕ
 shifted x k = zip2 (λ (a n : ℕ). a / 2 ^ n) x (k ∷ k ∷ [])
 

@@ -14,7 +14,7 @@ use Rattle.std.proofs.lemmas.Nat.{be_bytes_4, xor_mod, xor_shr}
 use Rattle.sha2.specs.Sha256.{digest_bytes, word_at}
 use Rattle.luks_sha_lanes.specs.Chains.{digest_at, xor_words}
 
--- what holds of each number below two, four, eight and sixteen
+-- properties of each number below two, four, eight and sixteen
 pub below_two : (P : ℕ → Type 0) → P 0 → P 1 → (j : ℕ) → j < 2 → P j
 below_two P p0 p1 zero h = p0
 below_two P p0 p1 (suc zero) h = p1
@@ -56,9 +56,9 @@ take_front n xs ys h = rw (← h) (take-append_seam xs ys)
 pub drop_front : (n : ℕ) (xs ys : List ℕ) → length xs ≡ n → drop n (xs ++ ys) ≡ ys
 drop_front n xs ys h = rw (← h) (drop-append_seam xs ys)
 
--- ---- xor
+-- ---- XOR
 
--- a byte of two words xored
+-- a byte of the XOR of two words is the XOR of their bytes
 xor_byte : (x y k : ℕ) → bit_xor (x / 2 ^ k % 2 ^ 8) (y / 2 ^ k % 2 ^ 8) ≡ bit_xor x y / 2 ^ k % 2 ^ 8
 xor_byte x y k = sym (ap (λ (n : ℕ). n % 2 ^ 8) (xor_shr x y k) ∙ xor_mod (x / 2 ^ k) (y / 2 ^ k) 8)
 
@@ -104,14 +104,14 @@ slice_index-xor_words x y (suc n) k h =
           rw e (get_or_push (xor_words n x y) last 0 n long)
     ]
 
--- the bytes of words xored
+-- the bytes of the XOR of words are the XOR of their bytes
 pub xor_of_words : (n : ℕ) (a b : List ℕ)
     → zip2 bit_xor (digest_bytes a n) (digest_bytes b n) ≡ digest_bytes (xor_words n a b) n
 xor_of_words n a b = xor_digests a b (xor_words n a b) n (slice_index-xor_words a b n)
 
 -- ---- words that are read from bytes
 
--- four bytes more
+-- the first i bytes and four more
 take_four : (bs : List ℕ) (i : ℕ) → i + 4 ≤ length bs
     → take (i + 4) bs
     ≡ take i bs ++ slice_index bs i ∷ slice_index bs (i + 1) ∷ slice_index bs (i + 2) ∷ slice_index bs (i + 3) ∷ []
@@ -149,7 +149,7 @@ words_of_bytes h bs fits (suc n) long each =
     ap₂ ◌++◌ (words_of_bytes h bs fits n (omega arith) (λ k below. each k (omega arith))) word
     ∙ sym (ap (λ m. take m bs) next ∙ take_four bs i (omega arith))
 
--- a byte and a word of what stands from byte `at` on
+-- a byte and a word of the bytes from index `at` on
 read_at : (bs : List ℕ) (at i k : ℕ) → k ≡ at + i → slice_index (drop at bs) i ≡ slice_index bs k
 read_at bs at i k e = get_or-drop at bs i 0 ∙ ap (slice_index bs) (sym e)
 
@@ -162,7 +162,7 @@ word_from bs at i =
       read_at bs at (i + 3) (at + i + 3) (omega arith),
     ) refl
 
--- the words of digest j of some
+-- the words that are read from digest j of several have the bytes of that digest
 pub words_of_digest : (h bs : List ℕ) → ((i : ℕ) → slice_index bs i < 256) → (n j : ℕ)
     → 4 * n * j + 4 * n ≤ length bs
     → ((k : ℕ) → k < n → slice_index h k ≡ word_at bs (4 * n * j + 4 * k)) → digest_bytes h n ≡ digest_at (4 * n) j bs
@@ -190,14 +190,14 @@ front_alone zero n front x y inside =
 front_alone (suc a) n [] x y inside = absurd (omega arith)
 front_alone (suc a) n (b ∷ front) x y inside = front_alone a n front x y (omega arith)
 
--- digest k, which was written last
+-- digest k is the one that was written last
 written_at : (size k : ℕ) (now digest rest : List ℕ) → size * k ≤ length now → length digest ≡ size
     → digest_at size k (take (size * k) now ++ (digest ++ rest)) ≡ digest
 written_at size k now digest rest inside whole =
     let front : length (take (size * k) now) ≡ size * k = omega (arith, length-take (size * k) now) in
     rw (drop_front (size * k) (take (size * k) now) (digest ++ rest) front) (take_front size digest rest whole)
 
--- a digest before it
+-- a digest before it is unchanged
 written_before : (size k j : ℕ) (now rest : List ℕ) → size * k ≤ length now → j < k
     → digest_at size j (take (size * k) now ++ rest) ≡ digest_at size j now
 written_before size k j now rest inside before =
@@ -207,7 +207,7 @@ written_before size k j now rest inside before =
     front_alone (size * j) size (take (size * k) now) rest (drop (size * k) now) (omega arith)
     ∙ ap (λ (l : List ℕ). digest_at size j l) (take-append-drop (size * k) now)
 
--- digest k is written too, where those before it were what they should be
+-- if the digests before number k are those of f and digest k is written, those before number k + 1 are
 pub written_next : (size k j : ℕ) (now digest rest : List ℕ) (f : ℕ → List ℕ)
     → size * k ≤ length now → length digest ≡ size
     → ((i : ℕ) → i < k → digest_at size i now ≡ f i) → digest ≡ f k → j < k + 1

@@ -11,34 +11,34 @@ unfoldable pub chain : (List ℕ → List ℕ) → List ℕ → List ℕ → Lis
 chain hash inner outer u zero = u
 chain hash inner outer u (suc n) = hmac_by hash inner outer (chain hash inner outer u n)
 
--- the sum t with the next n digests after u xored into it
+-- t with the next n digests after u XORed into it
 unfoldable pub chain_sum : (List ℕ → List ℕ) → List ℕ → List ℕ → List ℕ → List ℕ → ℕ → List ℕ
 chain_sum hash inner outer u t zero = t
 chain_sum hash inner outer u t (suc n) =
     zip2 bit_xor (chain_sum hash inner outer u t n) (chain hash inner outer u (suc n))
 
--- digest j of some digests of `size` bytes, which follow one another
+-- digest j of digests of `size` bytes each that follow one another
 abbrev pub digest_at : ℕ → ℕ → List ℕ → List ℕ
 digest_at size j bytes = take size (drop (size * j) bytes)
 
--- ---- the same on the words of digests: `behind h d` is the hash value of a digest, whose words are d, behind one
--- ---- block, after which it was h
+-- ---- the same on the words of digests: `behind h d` is the hash value after one block and the digest whose words are
+-- ---- d, if it was h after the block
 
 -- the words of HMAC of the digest whose words are d, by the hash values inner and outer of the key's two blocks
 unfoldable pub turn : (List ℕ → List ℕ → List ℕ) → List ℕ → List ℕ → List ℕ → List ℕ
 turn behind inner outer d = behind outer (behind inner d)
 
--- the words of the digest n steps further
+-- the words of the digest after n more iterations
 unfoldable pub turns : (List ℕ → List ℕ → List ℕ) → List ℕ → List ℕ → List ℕ → ℕ → List ℕ
 turns behind inner outer d zero = d
 turns behind inner outer d (suc n) = turn behind inner outer (turns behind inner outer d n)
 
--- the first n words of two digests xored
+-- the XOR of the first n words of two digests
 unfoldable pub xor_words : ℕ → List ℕ → List ℕ → List ℕ
 xor_words zero x y = []
 xor_words (suc n) x y = xor_words n x y ++ bit_xor (slice_index x n) (slice_index y n) ∷ []
 
--- the sum t, of m words, with the words of the next n digests XORed into it
+-- the m words t with the words of the next n digests XORed into them
 unfoldable pub sums : ℕ → (List ℕ → List ℕ → List ℕ) → List ℕ → List ℕ → List ℕ → List ℕ → ℕ → List ℕ
 sums m behind inner outer d t zero = t
 sums m behind inner outer d t (suc n) =

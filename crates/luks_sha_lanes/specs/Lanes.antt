@@ -10,11 +10,12 @@ word j v = slice_index v j % 2 ^ 32
 abbrev pub lane : ℕ → List (List ℕ) → List ℕ
 lane j x = map (word j) x
 
--- in lane j the words are those of block b
+-- the words in lane j are those of block b
 pub record IsBlock (j : ℕ) (w : List (List ℕ)) (b : List ℕ) : Type 0 where
   pub long : length w ≡ 16
   pub words : (k : ℕ) → k < 16 → slice_index (lane j w) k ≡ word_at b (4 * k)
 
--- the hash value of a digest, whose m words are d, behind one block, after which it was h: the padding ends the block
+-- the hash value after one block and the digest whose m words are d, if it was h after the block: the digest and its
+-- padding fill the second block
 unfoldable pub behind : (List ℕ → List ℕ → List ℕ) → ℕ → List ℕ → List ℕ → List ℕ
 behind compress m h d = compress h (digest_bytes d m ++ padding (64 + 4 * m))

@@ -11,9 +11,9 @@ use crate::turns1::add_turns;
 use crate::words::{five, load_be, sixteen};
 use std::simd::prelude::*;
 
-/// Xors the next `count` digests of `N` chains into their sums. `last` holds the last digest of
-/// each chain, one after the other, and `sums` their sums; `inner` and `outer` are the key's two
-/// blocks. One chain and four are fast: `N` is a number of lanes.
+/// XORs the next `count` digests of each of `N` chains into its bytes in `sums`, where the chains
+/// follow one another. `last` has the last digest of each chain, in the same order; `inner` and
+/// `outer` are the key's two blocks. `N` is a number of lanes: one chain and four are fast.
 pub fn add_chains<const N: usize>(
     inner: &[u8],
     outer: &[u8],

@@ -11,9 +11,9 @@ use crate::turns256::add_turns;
 use crate::words::load_be;
 use std::simd::prelude::*;
 
-/// Xors the next `count` digests of two chains into their sums. `last` holds the last digest of
-/// each chain, one after the other, and `sums` their sums; `inner` and `outer` are the key's two
-/// blocks.
+/// XORs the next `count` digests of each of two chains into its bytes in `sums`, where the chains
+/// follow one another. `last` has the last digest of each chain, in the same order; `inner` and
+/// `outer` are the key's two blocks.
 pub fn add_chains(inner: &[u8], outer: &[u8], count: u32, last: &[u8], sums: &mut [u8])
     requires inner { length inner.now ≡ 64 }
     requires outer { length outer.now ≡ 64 }
@@ -33,7 +33,7 @@ pub fn add_chains(inner: &[u8], outer: &[u8], count: u32, last: &[u8], sums: &mu
     store(&after, 1, second);
 }
 
-// A word twice.
+// A word, stored twice.
 fn doubled(x: u32) -> u64
     ensures { result ≡ x * 2 ^ 32 + x }
 {

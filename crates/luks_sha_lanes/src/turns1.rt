@@ -1,4 +1,4 @@
-//! The steps of chains of SHA-1 digests, on their words, a chain in each of `N` lanes.
+//! The iterations of chains of SHA-1 digests, on their words, with a chain in each of `N` lanes.
 
 ghost use Rattle.std.specs.Prelude.{◌≡◌, ℕ, ◌<◌, ◌≤◌, ◌++◌};
 ghost use Rattle.sha1.specs.Sha1.{compress};
@@ -10,8 +10,8 @@ use crate::block1::{compress, xor};
 use crate::words::{five, sixteen};
 use std::simd::prelude::*;
 
-// The words of a digest and of its padding behind one block: a bit 1, zeros, and the length of both
-// in bits.
+// The words of a digest after one block, and of its padding: a bit 1, zeros, and the length of the
+// block and the digest in bits.
 #[inline(always)]
 fn digest_block<const N: usize>(d: &[Simd<u32, N>; 5]) -> [Simd<u32, N>; 16]
     ensures { (j : ℕ) → j < N → IsBlock j result (digest_bytes (lane j d.now) 5 ++ padding 84) }
@@ -37,7 +37,7 @@ fn digest_block<const N: usize>(d: &[Simd<u32, N>; 5]) -> [Simd<u32, N>; 16]
     )
 }
 
-// The hash value of a digest behind one block.
+// The hash value after one block and a digest.
 fn behind<const N: usize>(state: &[Simd<u32, N>; 5], d: &[Simd<u32, N>; 5]) -> [Simd<u32, N>; 5]
     requires { N ≤ 64 }
     ensures { (j : ℕ) → j < N
@@ -59,8 +59,8 @@ fn xor_words<const N: usize>(x: &[Simd<u32, N>; 5], y: &[Simd<u32, N>; 5]) -> [S
     )
 }
 
-/// The sums with the words of the next `count` digests XORed into them, where `last` is the digest
-/// before those.
+/// `sum` with the words of the next `count` digests XORed into it, in each lane. `last` is the
+/// digest before those.
 pub(crate) fn add_turns<const N: usize>(
     inner: &[Simd<u32, N>; 5],
     outer: &[Simd<u32, N>; 5],

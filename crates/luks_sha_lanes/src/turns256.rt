@@ -1,4 +1,4 @@
-//! The steps of two chains of SHA-256 digests, on their words.
+//! The iterations of two chains of SHA-256 digests, on their words.
 
 ghost use Rattle.std.specs.Prelude.{◌≡◌, ℕ, ◌<◌, ◌++◌, List, bit_xor};
 ghost use Rattle.sha2.specs.Sha256.{compress, digest_bytes, padding};
@@ -9,8 +9,8 @@ ghost use Rattle.luks_sha_lanes.specs.Lanes256.{AllTwice};
 use crate::block256::compress;
 use std::simd::prelude::*;
 
-// The words of a digest and of its padding behind one block: a bit 1, zeros, and the length of both
-// in bits.
+// The words of a digest after one block, and of its padding: a bit 1, zeros, and the length of the
+// block and the digest in bits.
 #[inline(always)]
 fn digest_block(d: &[u64x2; 8]) -> [u64x2; 16]
     ensures twice { (j : ℕ) → j < 2 → AllTwice j d.now → AllTwice j result }
@@ -38,7 +38,7 @@ fn digest_block(d: &[u64x2; 8]) -> [u64x2; 16]
     ]
 }
 
-// The hash value of a digest behind one block.
+// The hash value after one block and a digest.
 fn behind(state: &[u64x2; 8], d: &[u64x2; 8]) -> [u64x2; 8]
     ensures { (j : ℕ) → j < 2 → AllTwice j state.now → AllTwice j d.now
         → AllTwice j result
@@ -70,8 +70,8 @@ fn xor(a: u64x2, b: u64x2) -> u64x2
     a ^ b
 }
 
-/// The sums with the words of the next `count` digests XORed into them, where `last` is the digest
-/// before those.
+/// `sum` with the words of the next `count` digests XORed into it, in each lane. `last` is the
+/// digest before those.
 pub(crate) fn add_turns(
     inner: &[u64x2; 8],
     outer: &[u64x2; 8],

@@ -3,7 +3,7 @@
 ghost use Rattle.std.specs.Prelude.{◌≡◌, ◌+◌, ◌≤◌, [], ◌∷◌, length};
 ghost use Rattle.sha2.specs.Sha256.{word_at};
 
-/// The word at byte `i`, whose first byte is its highest.
+/// The word at byte `i`, with its most significant byte first.
 pub(crate) fn load_be(bytes: &[u8], i: usize) -> u32
     requires { i + 4 ≤ length bytes.now }
     ensures { result ≡ word_at bytes.now i }
@@ -11,8 +11,8 @@ pub(crate) fn load_be(bytes: &[u8], i: usize) -> u32
     u32::from_be_bytes([bytes[i], bytes[i + 1], bytes[i + 2], bytes[i + 3]])
 }
 
-/// The array of these. An array of vectors of `N` lanes is made here, at any type: the prover does
-/// not cover one that is written out while the number of lanes is generic.
+/// The array of these values, at any type. Arrays of vectors of `N` lanes are made here: the prover
+/// does not cover an array literal of such vectors while the number of lanes is generic.
 #[inline(always)]
 pub(crate) fn five<T: Copy>(a: T, b: T, c: T, d: T, e: T) -> [T; 5]
     ensures { result ≡ a ∷ b ∷ c ∷ d ∷ e ∷ [] }
@@ -20,7 +20,7 @@ pub(crate) fn five<T: Copy>(a: T, b: T, c: T, d: T, e: T) -> [T; 5]
     [a, b, c, d, e]
 }
 
-/// The array of these, as `five`.
+/// The array of these values, made here for the same reason as in `five`.
 #[inline(always)]
 pub(crate) fn sixteen<T: Copy>(
     a: T,

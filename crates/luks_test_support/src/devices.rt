@@ -1,4 +1,4 @@
-//! Devices over memory that move a few bytes a call, and of which one call fails.
+//! Devices over memory that move a few bytes a call, and that fail at one call.
 
 ghost use Rattle.std.specs.Prelude.{◌≡◌, ◌<◌, ℕ, List, [], Some, IfOk, length};
 ghost use Rattle.luks_io.specs.Counts.{unread};
@@ -11,7 +11,7 @@ use luks_io::source::Source;
 use std::alloc::{AllocError, Global};
 
 /// A source that gives at most `piece` bytes a call, or all that are requested if `piece` is 0.
-/// Call number `failing`, from 0, fails, and later ones succeed.
+/// Call number `failing`, counted from 0, fails, and later ones succeed.
 #[derive(Drop)]
 pub struct Flaky<'a> {
     left: &'a [u8],
@@ -38,7 +38,7 @@ impl<'a> Flaky<'a> {
         }
     }
 
-    /// How many bytes are left.
+    /// How many bytes remain.
     pub fn left(&self) -> usize
         ensures { (known : List ℕ) → ⟦<Flaky<'a> as Source>⟧.to_come self.now ≡ Some known
             → result ≡ length known }
@@ -76,8 +76,8 @@ impl<'a> Source for Flaky<'a> {
     }
 }
 
-/// A sink that accepts at most `piece` bytes a call, and at least one. Call number `failing`, from
-/// 0, fails, and later ones succeed.
+/// A sink that accepts at most `piece` bytes a call, and at least one. Call number `failing`,
+/// counted from 0, fails, and later ones succeed.
 #[derive(Drop)]
 pub struct Leaky {
     sink: MemSink,
@@ -90,7 +90,7 @@ pub struct Leaky {
 }
 
 impl Leaky {
-    /// A sink with capacity for so many bytes.
+    /// A sink with capacity for this many bytes.
     pub fn new(alloc: Global, room: usize, piece: usize, failing: u64) -> Result<Leaky, AllocError>
         ensures bytes { IfOk result (λ sink. ⟦<Leaky as Sink>⟧.written sink ≡ Some []) }
         ensures counts { IfOk result (λ sink. ⟦<Leaky as Sink>⟧.counts sink
@@ -117,7 +117,7 @@ impl Leaky {
         self.calls
     }
 
-    /// How many of them failed.
+    /// How many calls failed.
     pub fn failures(&self) -> u64
         ensures { result ≡ (⟦<Leaky as Sink>⟧.counts self.now).failures }
     {
@@ -144,7 +144,7 @@ impl Sink for Leaky {
     }
 }
 
-/// A source that gives so many bytes, and whose further reads fail.
+/// A source that gives this many bytes, and whose further reads fail.
 #[derive(Drop)]
 pub struct Broken<'a> {
     left: &'a [u8],
@@ -154,7 +154,7 @@ pub struct Broken<'a> {
 }
 
 impl<'a> Broken<'a> {
-    /// A source of these bytes, of which so many are given.
+    /// A source of these bytes, of which it gives the first `given`.
     pub fn new(bytes: &'a [u8], given: usize) -> Broken<'a>
         ensures bytes { ⟦<Broken<'a> as Source>⟧.to_come result ≡ Some bytes.entry.now }
         ensures counts { ⟦<Broken<'a> as Source>⟧.counts result
@@ -167,7 +167,7 @@ impl<'a> Broken<'a> {
         }
     }
 
-    /// How many bytes are left.
+    /// How many bytes remain.
     pub fn left(&self) -> usize
         ensures { (known : List ℕ) → ⟦<Broken<'a> as Source>⟧.to_come self.now ≡ Some known
             → result ≡ length known }

@@ -3,11 +3,11 @@
 use luks_kdf::{Hash, digest};
 use std::alloc::{AllocError, Global};
 
-/// The length of each header with its JSON area, in bytes. The secondary header is right behind the
+/// The length of each header with its JSON area, in bytes. The secondary header is right after the
 /// primary one.
 pub const SIZE: usize = 16_384;
 
-// Puts bytes into others, from a place on, as far as they go.
+// Overwrites bytes from an offset on, up to their end.
 fn put(bytes: &mut [u8], place: usize, with: &[u8]) {
     for (i, byte) in with.iter().enumerate() {
         let at = place.saturating_add(i);
@@ -17,7 +17,7 @@ fn put(bytes: &mut [u8], place: usize, with: &[u8]) {
     }
 }
 
-// The bytes of the header at a place, or as many of them as there are.
+// The bytes of the header at an offset, or as many of them as there are.
 fn header_at(image: &mut [u8], place: usize) -> &mut [u8] {
     let start = place.min(image.len());
     let rest = &mut image[start..];
@@ -25,8 +25,8 @@ fn header_at(image: &mut [u8], place: usize) -> &mut [u8] {
     &mut rest[..len]
 }
 
-/// Writes a header with this sequence number and JSON text at a place of an image. Its checksum is
-/// by SHA-256, and written last.
+/// Writes a header with this sequence number and JSON text at an offset of an image. Its checksum
+/// is by SHA-256, and written last.
 pub fn write_header(image: &mut [u8], place: usize, sequence: u64, json: &str) {
     let header = header_at(image, place);
     let magic = if place == 0 { b"LUKS" } else { b"SKUL" };
@@ -44,7 +44,7 @@ pub fn write_header(image: &mut [u8], place: usize, sequence: u64, json: &str) {
     put(header, 448, &sum);
 }
 
-/// An image with space for both headers, and nothing in it.
+/// An image of zeros with space for both headers.
 pub fn empty_image(alloc: Global) -> Result<Vec<u8>, AllocError> {
     vec![in alloc; 0; 2 * SIZE]
 }

@@ -1,5 +1,5 @@
-//! What the tests of several crates share: comparisons, devices of which one call fails, memory
-//! that is used up, and headers of LUKS2.
+//! What the tests of several crates share: comparisons, devices that fail at one call, memory that
+//! is used up, and headers of LUKS2.
 //!
 //! Only tests use it.
 #![tactic(auto)]

@@ -17,7 +17,7 @@ pub struct InCase<'a, C, W> {
     wrong: W,
 }
 
-/// What does not hold.
+/// The error of a condition that does not hold.
 #[derive(Debug, Drop)]
 pub struct NotSo;
 

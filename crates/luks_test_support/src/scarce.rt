@@ -1,22 +1,21 @@
-//! Scarce memory, for tests of the answers if memory runs out.
+//! Scarce memory, for tests of what is reported when memory runs out.
 //!
-//! The allocator is the system's and cannot be made to fail. A test therefore takes the whole
-//! address space away and gives it back in small pieces: with each piece a run gets a little
-//! further, until one does not run out of memory. Nothing else can be allocated meanwhile: make
-//! what a test needs before, and assert after. Under `rt try`, whose allocator is another, memory
-//! does not run out.
+//! The allocator is the system's and cannot be made to fail. A test therefore allocates the whole
+//! address space and frees it in small pieces: with each piece a run gets a little further, until
+//! one does not run out of memory. Nothing else can be allocated meanwhile: make what a test needs
+//! before, and assert after. Under `rt try`, which has another allocator, memory does not run out.
 
 use std::alloc::{AllocError, Global};
 
-// From more than the address space has down to the smallest block.
+// Block sizes go from more than the address space has down to the smallest block.
 const LARGEST: usize = 1 << 47;
 
 const HALVINGS: u32 = 44;
 
-// Enough places for the blocks that fill the address space.
+// Enough entries for the blocks that fill the address space.
 const BLOCKS: usize = 1 << 18;
 
-/// Memory that is used up, so that there is none for others.
+/// Memory that is used up, so that no other allocation succeeds.
 #[derive(Drop)]
 pub struct Scarcity {
     pieces: Vec<Vec<u8>>,
@@ -24,9 +23,9 @@ pub struct Scarcity {
 }
 
 impl Scarcity {
-    /// Takes all memory, `count` pieces of `size` bytes of it to be given back one by one. Pieces
-    /// of less than 129 bytes serve only requests of their own size, and so do the first seven of
-    /// less than 1,033.
+    /// Allocates all memory, with `count` pieces of `size` bytes in it that can be freed one by
+    /// one. Pieces of less than 129 bytes serve only requests of their own size, and so do the
+    /// first seven of less than 1,033.
     pub fn new(alloc: Global, count: usize, size: usize) -> Result<Scarcity, AllocError> {
         let mut pieces = Vec::with_capacity(alloc, count)?;
         let mut blocks = Vec::with_capacity(alloc, BLOCKS)?;
@@ -41,13 +40,13 @@ impl Scarcity {
         Ok(Scarcity { pieces, blocks })
     }
 
-    /// Gives a piece back.
+    /// Frees a piece.
     pub fn relent(&mut self) {
         self.pieces.pop();
     }
 }
 
-// Takes blocks of this size until one is refused.
+// Allocates blocks of this size until one allocation fails.
 fn take(alloc: Global, blocks: &mut Vec<Vec<u8>>, size: usize) {
     for _ in 0..BLOCKS {
         if blocks.len() == blocks.capacity() {

@@ -1,4 +1,4 @@
--- The first bytes of an image decide how it is opened: its first 33,554,432 bytes, the most that a header area holds.
+-- The first 33,554,432 bytes of an image decide how it is opened. A header area never has more.
 use Rattle.std.proofs.Common.{◌≡◌, ◌∙◌, ℕ, ◌≤◌, List, [], ◌∷◌, Result, Ok, Err, Bool}
 use Rattle.std.proofs.Common.{true, false, inl, inr, ap, sym, refl, take, take_all, length, length-take-le, max, arith}
 use Rattle.std.specs.List.{AllByRecursion}
@@ -40,7 +40,7 @@ use Rattle.luks_runs.specs.declared.location.HeaderLocation.TheVariants.{Attache
 use Rattle.luks_unlock.specs.Volume.{OnOpened, Volume, found_outcome, opened_outcome, outcome_after, volume_by}
 use Rattle.luks_unlock.specs.Volume.{volume_in_header, volume_outcome_by}
 
--- ---- how far an image is looked at
+-- ---- the end of the search for a LUKS2 header
 
 module _ (image : List ℕ) where
   reach_by : (place : ℕ) (b : Bool) → fits image place ≡ b → place ≤ 4194304 → probe_end image place ≤ 8388608
@@ -93,7 +93,7 @@ search_within image =
       ),
     )
 
--- a header of LUKS2 is sought in the first 8 MiB
+-- the search for a LUKS2 header stays within the first 8 MiB
 reach2_within : (image : List ℕ) → reach2_of image ≤ 8388608
 reach2_within image = by (is_valid image 0) refl where
   by : (b : Bool) → is_valid image 0 ≡ b → reach2_of image ≤ 8388608
@@ -156,7 +156,7 @@ module _ (image : List ℕ) (n : ℕ) (far : 8388608 ≤ n) where
         rw (begins, is) same.1,
       )
 
-  -- the first bytes of an image have its header, at its cost
+  -- the first bytes of an image have the header of the whole image, and reading it consumes as many bytes
   pub header_front : (header_of (take n image) ≡ header_of image)
       × (header_read_len (take n image) ≡ header_read_len image)
   header_front = elim (cases_lt n (length image)) [
@@ -203,7 +203,7 @@ module _ (location : HeaderLocation) (o : VolumeRequest) (image pass : List ℕ)
     by Attached = (header_front image n (omega arith)).0
     by Detached = ap as_detached (header_front image n (omega arith)).0
 
-  -- a command comes to the same by the first bytes of an image as by all of it
+  -- a command has the same outcome on the first bytes of an image as on all of it
   pub outcome_front : volume_outcome_by (reader_for location) on_opened o (take n image) pass
       ≡ volume_outcome_by (reader_for location) on_opened o image pass
   unfolding volume_outcome_by volume_by
@@ -214,7 +214,7 @@ module _ (location : HeaderLocation) (o : VolumeRequest) (image pass : List ℕ)
     | inr all ↦ ap (λ bytes. volume_outcome_by (reader_for location) on_opened o bytes pass) (take_all n image all)
   ]
 
--- images with the same first bytes are opened alike
+-- a command has the same outcome on images with the same first bytes
 pub outcome_decided : (location : HeaderLocation) (o : VolumeRequest) (a b pass : List ℕ) (on_opened : OnOpened)
     → take max_area_len a ≡ take max_area_len b
     → volume_outcome_by (reader_for location) on_opened o a pass

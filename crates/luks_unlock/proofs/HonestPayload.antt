@@ -14,13 +14,13 @@ use Rattle.luks_cipher.specs.Xts.{joined}
 use Rattle.luks_unlock.proofs.SealedUnits.{units_undone}
 
 module _ (offset : ℕ) (plain image : List ℕ) (there : offset + length plain ≤ length image) where
-  -- as many bytes as the plain text has are the payload's
+  -- the payload is as long as the plaintext
   all_plain : (size : Option ℕ) → EndsWith size plain (offset + length plain) image
       → payload_bytes size (length image - offset) ≡ length plain
   all_plain None ends = omega arith
   all_plain (Some size) ends = omega arith
 
-  -- they are whole sectors, so it ends well
+  -- the payload ends without a fault if the plaintext is whole sectors
   ends_well : (size : Option ℕ) (sector : ℕ) → EndsWith size plain (offset + length plain) image
       → length plain % sector ≡ 0
       → ending_of_len size sector (length image - offset) ≡ Ok End

@@ -24,14 +24,14 @@ use Rattle.luks_seal.specs.Sealed.{GivesKey, IsDigestOf, SealsKey}
 use Rattle.luks_unlock.proofs.SealedUnits.{unlocked_again}
 use Rattle.luks_unlock.specs.Honest.{GivesNoOther}
 
--- keys of a mode are not empty
+-- a key whose length a mode allows is not empty
 some_key : (mode : Mode) (n : ℕ) → is_mode_key_length mode n ≡ true → 0 < n
 some_key mode n is = let known = key_length_of_mode mode n is in grind (arith, nat_tests)
 
 -- ---- one key slot
 
 module _ (passphrase key image : List ℕ) where
-  -- its key material holds the key
+  -- the key slot's candidate is the key that its material was made of
   candidate_again : (slot : Slot) → 0 < length key → GivesKey slot.parts passphrase key image
       → candidate_of slot image passphrase ≡ Some key
   unfolding candidate_of
@@ -44,7 +44,7 @@ module _ (passphrase key image : List ℕ) where
       (derived_bytes gives.kdf passphrase parts.salt parts.iterations parts.area_key_bytes)
       gives.is_material gives.stands))
 
-  -- the key matches_digest its digest
+  -- the key matches its digest
   meets_again : (digest : KeyDigest) → IsDigestOf digest key → matches_digest digest key ≡ true
   unfolding matches_digest
   meets_again digest is =
@@ -52,7 +52,7 @@ module _ (passphrase key image : List ℕ) where
       ((bytes_eq-Decides (derived_key is.hash key digest.salt digest.iterations (length digest.value))
       digest.value).1 (sym is.value))
 
-  -- what is tried of it gives the key
+  -- a sealed key slot opens under its passphrase and gives the key
   pub key_again : (header : Header) (segment : Segment) (limit : Option ℕ) (entry : Entry)
       → segment_of header ≡ Ok segment → IsOf header limit entry
       → SealsKey header image key entry.number passphrase → slot_key entry image passphrase ≡ Some key
@@ -72,9 +72,9 @@ module _ (passphrase key image : List ℕ) where
       (some_key segment.mode entry.slot.parts.key_bytes known.volume_key) in
       rw (candidate_again entry.slot some gives, meets_again entry.digest digest) refl
 
--- ---- the first that opens
+-- ---- the first key slot that opens
 
--- if no key slot before one that gives the key gives another, the first that opens gives the key
+-- if no key slot before one that gives the key gives another key, the first key slot that opens gives that key
 pub first_again : (before : List Entry) (entry : Entry) (after : List Entry) (image passphrase key : List ℕ)
     → AllByRecursion (GivesNoOther image passphrase key) before → slot_key entry image passphrase ≡ Some key
     → (number : ℕ) × (first_opening (before ++ entry ∷ after) image passphrase

@@ -1,4 +1,4 @@
--- `luksCat` of an honestly sealed volume writes its plain text.
+-- `luksCat` of an honestly sealed volume writes its plaintext.
 use Rattle.std.proofs.Common.{◌≡◌, ◌∙◌, ℕ, ◌≤◌, List, [], ◌∷◌, ◌++◌, length, Option, None, Some, Ok, refl, sym, ap}
 use Rattle.std.proofs.Common.{subst, arith}
 use Rattle.std.specs.List.{AllByRecursion, Contains}
@@ -23,7 +23,7 @@ use Rattle.luks_unlock.proofs.HonestPayload.{ending_again, plain_again}
 use Rattle.luks_unlock.proofs.HonestSlots.{first_again, key_again}
 use Rattle.luks_unlock.proofs.OutcomeLemmas.{found_whole}
 
--- a key slot with a passphrase of a sealed volume is sealed with it
+-- a key slot with a passphrase of a sealed volume is sealed with that passphrase
 sealed_with : (image key plain passphrase : List ℕ) (passphrases : List (ℕ × List ℕ)) (number : ℕ)
     (sealed : Sealed image passphrases key plain) → Contains passphrases (number, passphrase)
     → SealsKey sealed.header image key number passphrase
@@ -31,7 +31,7 @@ sealed_with image key plain passphrase passphrases number sealed is =
     subst (λ (slot : ℕ × List ℕ). SealsKey sealed.header image key slot.0 slot.1) is.2
     (sealed.slots is.0 (number, passphrase) is.1)
 
--- what holds of all elements of a list holds of one in its middle
+-- a property of all elements of a list holds for one in its middle
 in_the_middle : {X : Type 0} (P : X → Type 0) (before : List X) (x : X) (after : List X)
     → AllByRecursion P (before ++ x ∷ after) → P x
 in_the_middle P [] x after all = all.0
@@ -41,7 +41,7 @@ module _ (o : VolumeRequest) (image passphrase plain : List ℕ) (honest : IsHon
   abbrev volume : Volume
   volume = record { header = honest.sealed.header; segment = honest.sealed.segment; order = honest.order }
 
-  -- its key slot gives the key
+  -- the key slot of the passphrase gives the volume key
   gives_key : slot_key honest.first.entry image passphrase ≡ Some honest.key
   gives_key =
       let sealed = honest.sealed in
@@ -54,7 +54,7 @@ module _ (o : VolumeRequest) (image passphrase plain : List ℕ) (honest : IsHon
       key_again passphrase honest.key image sealed.header sealed.segment o.max_iterations first.entry sealed.is_segment
       is (subst (λ (n : ℕ). SealsKey sealed.header image honest.key n passphrase) (sym first.is_number) seals)
 
-  -- so it is opened with it
+  -- the passphrase opens the volume with that key
   opens : (number : ℕ) × (opening_of honest.order image passphrase ≡ Ok (record { slot = number; key = honest.key }))
   unfolding opening_of
   opens =
@@ -67,7 +67,7 @@ module _ (o : VolumeRequest) (image passphrase plain : List ℕ) (honest : IsHon
             ∙ ap (λ (opened : Option Opened). answer_of opened honest.order.skipped) found.1,
       )
 
-  -- the key material that is tried is all there
+  -- the image contains the key material of all key slots to be tried
   held_there : key_areas_end honest.order.slots ≤ length image
   held_there =
       let sealed = honest.sealed in
@@ -75,7 +75,7 @@ module _ (o : VolumeRequest) (image passphrase plain : List ℕ) (honest : IsHon
       (is_attached image sealed.header sealed.is_header) sealed.is_segment honest.is_order in
       omega (arith, before, sealed.payload.stands.there)
 
-  -- it is a volume
+  -- the volume is found
   found : volume_outcome (payload_outcome image passphrase) o image passphrase
       ≡ found_outcome (payload_outcome image passphrase) o.key_slot volume image passphrase
   unfolding volume_outcome_by volume_by
@@ -91,7 +91,7 @@ module _ (o : VolumeRequest) (image passphrase plain : List ℕ) (honest : IsHon
         ∙ ap (opened_outcome (payload_outcome image passphrase) o.key_slot volume image passphrase) opens.1,
   )
 
-  -- the outcome of `luksCat` is the plain text, and that it ended well
+  -- `luksCat` writes the plaintext and succeeds
   pub unsealed : ((volume_outcome (payload_outcome image passphrase) o image passphrase).output ≡ plain)
       × ((volume_outcome (payload_outcome image passphrase) o image passphrase).message ≡ Done)
   unsealed =
@@ -102,7 +102,8 @@ module _ (o : VolumeRequest) (image passphrase plain : List ℕ) (honest : IsHon
             ∙ ap message_at_end (ending_again sealed.segment image honest.key plain sealed.payload),
       )
 
--- a key slot that is named, and no limit, leave nothing to ask for of what is tried
+-- a sealed volume is honest for a passphrase of the named key slot, which is no longer than a key file may be, if there
+-- is no limit on iterations
 pub named_is_honest : (o : VolumeRequest) (image passphrase plain key : List ℕ) (passphrases : List (ℕ × List ℕ))
     (number : ℕ) → Sealed image passphrases key plain → Contains passphrases (number, passphrase)
     → length passphrase ≤ max_key_file_len → o.key_slot ≡ Some number → o.max_iterations ≡ None

@@ -1,4 +1,4 @@
--- What a command that opens a volume comes to, once the volume is found.
+-- The outcome of a command that opens a volume, after the volume was found.
 use Rattle.std.proofs.Common.{◌≡◌, ℕ, ◌+◌, ◌-◌, ◌<◌, ◌≤◌, List, ◌++◌, Option, None, Some, Result, Ok, ◌∙◌, ap}
 use Rattle.std.proofs.Common.{sym, refl, take, drop, length, length-drop, length-take-le, max, min, arith, true, false}
 use Rattle.std.proofs.lemmas.Bool.Decides.{nat_tests}
@@ -54,14 +54,14 @@ module _ (on_opened : OnOpened) (named : Option ℕ) (v : Volume) (image secret 
       let none : nat_lt (length image) (key_areas_end v.order.slots) ≡ false = grind (arith, nat_tests) in
       rw (no, none) refl
 
--- ---- the area that is loaded
+-- ---- the loaded area
 
 module _ (image area area' : List ℕ) (i : Option (List ℕ)) (loaded : ℕ)
     (front : area ≡ take (header_read_len image) image) where
   pub front_len : length area ≡ header_read_len image
   front_len = cost_held image area front
 
-  -- so many bytes more are loaded
+  -- if `n` more bytes were appended to the area, it has that many more of the image's first bytes
   pub area_more : (n : ℕ) → ConsumedOnto area area' (drop (header_read_len image) image) i n
       → (area' ≡ take (header_read_len image + n) image) × ConsumedExactly image i (header_read_len image + n)
   area_more n grows = (
@@ -87,7 +87,7 @@ module _ (image area area' : List ℕ) (i : Option (List ℕ)) (loaded : ℕ)
           omega (arith, front_len, length-drop (header_read_len image) image, cost_there image),
         )
 
-    -- the image ended before the area was loaded
+    -- if the area has fewer bytes than were to be loaded, the image ended first, and all of it was consumed
     pub area_cut : length area' < loaded → (length image < loaded) × ConsumedExactly image i (length image)
     unfolding reached
     area_cut short =
@@ -95,7 +95,7 @@ module _ (image area area' : List ℕ) (i : Option (List ℕ)) (loaded : ℕ)
         let all : reached ≡ length image = omega (arith, grown.0, grown.1, cost_there image) in
         (omega (arith, grown.0, grown.1, cost_there image), rw all at more.1)
 
-    -- the area is loaded
+    -- if the area has all bytes that were to be loaded, they are the image's first bytes, and no more were consumed
     pub area_held : loaded ≤ length area'
         → (loaded ≤ length image) × (length area' ≡ max (header_read_len image) loaded)
         × (area' ≡ take (max (header_read_len image) loaded) image)
@@ -107,9 +107,9 @@ module _ (image area area' : List ℕ) (i : Option (List ℕ)) (loaded : ℕ)
         let all : reached ≡ max (header_read_len image) loaded = omega (arith, grown.1) in
         (there, grown.0 ∙ all, rw all at more.0, rw all at more.1)
 
--- ---- the outcome of an image
+-- ---- the outcome on an image
 
--- the volume of these
+-- the volume with this header, this segment and this order
 abbrev pub volume_with : Header → Segment → OrderModel → Volume
 volume_with header segment order = record { header = header; segment = segment; order = order }
 
@@ -119,7 +119,7 @@ module _ (location : HeaderLocation) (o : VolumeRequest) (image pass : List ℕ)
   unfolding volume_outcome_by
   outcome_is on_opened r is = rw is refl
 
-  -- the header names this segment and these key slots to be tried
+  -- the header has this segment and these key slots to be tried
   module _ (header : Header) (segment : Segment) (order : OrderModel) (found : reader_for location image ≡ Ok header)
       (is_segment : segment_of header ≡ Ok segment)
       (ordered : order_of header o.key_slot o.max_iterations ≡ Ok order) where
@@ -130,7 +130,7 @@ module _ (location : HeaderLocation) (o : VolumeRequest) (image pass : List ℕ)
         outcome_is on_opened (Ok (volume_with header segment order))
         (volume_is location o image None header found segment is_segment order ordered)
 
-    -- the key areas are loaded, and the key slots answer so
+    -- if the key areas were loaded and trying the key slots has this result, the outcome is that of the result
     pub tried_is : (short : length pass ≤ max_key_file_len) (area area' : List ℕ) (i : Option (List ℕ))
         (front : area ≡ take (header_read_len image) image)
         (grows : ConsumedOnto area area' (drop (header_read_len image) image) i

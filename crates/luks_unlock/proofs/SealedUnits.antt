@@ -1,4 +1,4 @@
--- Bytes that stand encrypted in an image are what its units decrypt to.
+-- Bytes that are stored encrypted in an image are what its data units decrypt to.
 use Rattle.std.proofs.Common.{◌≡◌, ◌∙◌, ℕ, zero, suc, ◌+◌, ◌*◌, ◌/◌, ◌%◌, ◌<◌, ◌≤◌, List, length, take, drop, refl, sym}
 use Rattle.std.proofs.Common.{ap, arith, length-drop}
 use Rattle.std.proofs.Math.Nat.{div-mul-le_self, mod-eq-sub-div-mul, mul-le-mul_right}
@@ -19,7 +19,7 @@ use Rattle.luks_open.specs.Candidate.{decrypted_material, material_sector, unloc
 use Rattle.luks_seal.specs.Sealed.{IsMaterial, IsStoredEncrypted}
 use Rattle.luks_verdict.specs.declared.slot.SlotParts.{SlotParts}
 
--- the first n units of a list, joined
+-- joining the first n units of a list gives its first `n * size` bytes
 joined_units : (bytes : List ℕ) (size n : ℕ) → joined (λ i. at (i * size) size bytes) n ≡ take (n * size) bytes
 unfolding joined
 joined_units bytes size zero = let none : 0 * size ≡ 0 = omega arith in rw none refl
@@ -27,11 +27,11 @@ joined_units bytes size (suc n) =
     let more : suc n * size ≡ n * size + size = omega arith in
     rw (more, joined_units bytes size n) (sym (take-add (n * size) size bytes))
 
--- a list of whole units is as long as they are
+-- if `len` is a multiple of `size`, its whole units have `len` bytes together
 whole_units : (len size : ℕ) → len % size ≡ 0 → len / size * size ≡ len
 whole_units len size whole = omega (arith, mod-eq-sub-div-mul len size, div-mul-le_self len size)
 
--- a unit of it is whole
+-- each of the whole units ends within the `len` bytes
 unit_within : (len size i : ℕ) → i < len / size → i * size + size ≤ len
 unit_within len size i below =
     let more : suc i * size ≡ i * size + size = omega arith in
@@ -55,7 +55,7 @@ module _ (cipher : Cipher) (number : ℕ → ℕ) (size place : ℕ) (plain imag
         (bytes_take size (drop (i * size) plain) (bytes_drop (i * size) plain stands.bytes))
         (ap (λ n. n % 16) (unit_len i below) ∙ blocks)
 
-    -- all units decrypt to all of them
+    -- all units of the image decrypt to the plain bytes
     pub units_undone : (unit : ℕ → List ℕ)
         → ((i : ℕ) → unit i ≡ sector_decrypted cipher.0 cipher.1 (number i) (at (place + i * size) size image))
         → joined unit (length plain / size) ≡ plain
@@ -65,7 +65,7 @@ module _ (cipher : Cipher) (number : ℕ → ℕ) (size place : ℕ) (plain imag
         ∙ joined_units plain size (length plain / size)
         ∙ take_all (length plain / size * size) plain (omega (arith, whole_units (length plain) size stands.whole))
 
--- the key material of a key merges to it
+-- key material that was made of a key merges to that key
 pub unlocked_again : (af : Hash) (cipher : Cipher) (parts : SlotParts) (key material image : List ℕ)
     → 0 < length key → IsBytes cipher.1 → IsMaterial af parts key material
     → IsStoredEncrypted cipher (λ i. i) 512 parts.area_offset material image

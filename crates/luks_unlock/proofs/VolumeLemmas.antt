@@ -33,11 +33,11 @@ use Rattle.luks_runs.specs.declared.location.HeaderLocation.{HeaderLocation}
 use Rattle.luks_report.specs.declared.message.Message.{Message}
 use Rattle.luks_report.specs.declared.message.Message.TheVariants.{OutOfMemory, ReadFailed, SegmentRefused}
 
--- as much is loaded of the header as it costs
+-- the loaded area is as long as what reading the header consumes
 pub cost_held : (image area : List ℕ) → area ≡ take (header_read_len image) image → length area ≡ header_read_len image
 cost_held image area front = ap length front ∙ length-take-le (header_read_len image) image (cost_there image)
 
--- an image of which no bytes remain gives none
+-- nothing is consumed from an image of which no bytes remain
 pub none_behind : (area rest : List ℕ) (left : Option (List ℕ)) (most : ℕ) → left ≡ Some rest → rest ≡ []
     → ConsumedOnto area area rest left (min most (length rest))
 none_behind area [] left most there none =
@@ -45,16 +45,16 @@ none_behind area [] left most there none =
     rw zero (record { within = omega arith; left = there }, sym (append-nil area))
 none_behind area (b ∷ bytes) left most there none = absurd (cc)
 
--- an image whose end was hit has no bytes left
+-- no bytes remain of an image whose end was hit
 pub nothing_left : (area : HeaderAreaModel) (left left' : Option (List ℕ)) (counts counts' : ReadCounts)
     (known rest : List ℕ) → LoadedFrom area left left' counts counts' → left ≡ Some known → left' ≡ Some rest
     → area.ended ≡ true → rest ≡ []
 nothing_left area left left' counts counts' known rest loaded knows there ended =
     let same : Some rest ≡ Some [] = sym there ∙ loaded.emptied ended known knows in cc
 
--- ---- what is counted
+-- ---- counts of reads
 
--- nothing was read behind the end of an image
+-- if the first reads hit the end and the others changed no count, all of them together hit the end
 ends_for_good : (failed ended : Bool) (a b c : ReadCounts) → Reads false true a b → c ≡ b → Reads failed ended b c
     → Reads failed true a c
 ends_for_good failed ended a b c first kept then = record {
@@ -64,14 +64,14 @@ ends_for_good failed ended a b c first kept then = record {
   ahead = omega (arith, first.ahead, then.ahead);
 }
 
--- reads of which none failed, and then further ones, unless the first hit the end
+-- reads without a failure and further reads count as one run of reads, if none was made after the end
 pub reads_on : (failed ended ended' : Bool) (a b c : ReadCounts) → Reads false ended a b → (ended ≡ true → c ≡ b)
     → Reads failed ended' b c → (last : Bool) × Reads failed last a c
 reads_on failed true ended' a b c first kept then =
     (true, ends_for_good failed ended' a b c first (kept refl) then)
 reads_on failed false ended' a b c first kept then = (ended', reads_more failed ended' a b c first then)
 
--- the same if the further ones did not hit the end
+-- if the further reads did not hit the end, the run hit it if and only if the first reads did
 pub reads_within : (failed ended : Bool) (a b c : ReadCounts) → Reads false ended a b → (ended ≡ true → c ≡ b)
     → Reads failed false b c → Reads failed ended a c
 reads_within failed true a b c first kept then = ends_for_good failed false a b c first (kept refl) then
@@ -105,7 +105,7 @@ module _ (location : HeaderLocation) (o : VolumeRequest) (image : List ℕ) (lef
   aborts_without_header ends ends' NoMemory stop = memory_below image left ends ends' stop
 
   module _ (header : Header) (found : reader_for location image ≡ Ok header) where
-    -- there is no volume with this header, or memory was refused for the order of its key slots
+    -- if there is no volume with this header, or memory for the order of its key slots ran out, finding it was aborted
     pub aborts_without_slots : ConsumedExactly image left (header_read_len image) → (message : Message)
         → (message ≡ OutOfMemory) ⊎ (volume_in_header o (Ok header) ≡ Err message)
         → AbortsFinding (reader_for location) o image left message

@@ -1,4 +1,4 @@
--- What a header says of its volume, and what finding that leaves in its device.
+-- The volume that a header describes, and what finding it leaves in the device.
 use Rattle.std.specs.Prelude.{◌≡◌, List, ℕ, length, take, Option, Ok, Err}
 use Rattle.luks_io.specs.Devices.{ConsumedExactly, ConsumedAtMost, IfKnown}
 use Rattle.luks_io.specs.declared.counts.ReadCounts.{ReadCounts}
@@ -16,7 +16,7 @@ use Rattle.luks_runs.specs.declared.location.HeaderLocation.{HeaderLocation}
 use Rattle.luks_unlock.specs.Volume.{volume_by}
 use Rattle.luks_unlock.specs.declared.finding.FoundVolume.{FoundVolume}
 
--- a header is read, and it has this segment
+-- the header that is read in this way has this segment
 abbrev pub HasSegmentBy : HeaderReader → List ℕ → Segment → Type 0
 HasSegmentBy read image segment = (header : Header) × (read image ≡ Ok header) × (segment_of header ≡ Ok segment)
 
@@ -31,12 +31,12 @@ AbortsFinding read o image left OutOfMemory = ConsumedAtMost image left (header_
 AbortsFinding read o image left message =
     (volume_by read o image ≡ Err message) × ConsumedExactly image left (header_read_len image)
 
--- a volume has the segment of its header, and the key slots of its header that are tried
+-- a volume has the segment of its header, and the order of its header's key slots
 pub record HasSlots (o : VolumeRequest) (volume : FoundVolume) : Type 0 where
   pub segment : segment_of volume.header ≡ Ok volume.segment
   pub order : order_of volume.header o.key_slot o.max_iterations ≡ Ok volume.order
 
--- a volume was found: it has the header that its bytes have, which are those that were consumed, and no more
+-- a volume was found: its area has the bytes that were consumed and no more, and its header is the one read from them
 pub record FindsVolume (location : HeaderLocation) (o : VolumeRequest) (volume : FoundVolume)
     (before after : Option (List ℕ)) (counts counts' : ReadCounts) : Type 0 where
   pub slots : HasSlots o volume

@@ -20,8 +20,8 @@ pub record ComesFirst (number : ℕ) (entries : List Entry) (image passphrase ke
   pub is_number : entry.number ≡ number
   pub no_other : All (GivesNoOther image passphrase key) before
 
--- the image is an honestly sealed volume of this plaintext, and this passphrase, which is no longer than a key file may
--- be, is that of a key slot which is tried
+-- the image is an honestly sealed volume of this plaintext; this passphrase is no longer than a key file may be, and is
+-- that of a key slot to be tried, before which no key slot gives another key under it
 pub record IsHonest (o : VolumeRequest) (image passphrase plain : List ℕ) : Type 0 where
   pub passphrases : List (ℕ × List ℕ)
   pub key : List ℕ

@@ -1,10 +1,10 @@
--- With which messages opening a volume may end, whatever its devices do.
+-- The messages with which opening a volume may end, whatever its devices do.
 use Rattle.luks_report.specs.declared.message.Message.{Message}
 use Rattle.luks_report.specs.declared.message.Message.TheVariants.{NotLuks, Cut, Json, OutOfMemory, ReadFailed}
 use Rattle.luks_report.specs.declared.message.Message.TheVariants.{SegmentRefused, NoSuchSlot, SlotDisabled}
 use Rattle.luks_report.specs.declared.message.Message.TheVariants.{SlotSkipped, NothingTried, KeyFileLength, NoKey}
 
--- opening a volume
+-- opening a volume may end with this message
 abbrev pub OpeningMessage : Message → Type 0
 OpeningMessage NotLuks = Unit {0}
 OpeningMessage Cut = Unit {0}

@@ -22,9 +22,9 @@ abbrev pub ConsumedAreas : OrderModel → List ℕ → List ℕ → List ℕ →
 ConsumedAreas order area area' rest left =
     ConsumedOnto area area' rest left (min (key_areas_end order.slots - length area) (length rest))
 
--- the key slots of a volume whose header was read were tried: the key areas were consumed, and this is the volume of
--- this segment that those slots open under this passphrase, or their fault. Otherwise a read of the key areas failed,
--- or memory for them ran out, or the image ended within them
+-- the key slots of a volume whose header was read were tried: the key areas were consumed, and the result is the volume
+-- with this segment that those key slots open under this passphrase, or their fault. Otherwise a read of the key areas
+-- failed, or memory for them ran out, or the image ended within them
 abbrev pub TriesSlots : Option ℕ → Segment → OrderModel → List ℕ → List ℕ → List ℕ → List ℕ → Option (List ℕ)
     → Result UnlockedVolume Message → Type 0
 TriesSlots named segment order pass area area' rest left (Ok volume) = ConsumedAreas order area area' rest left
@@ -37,11 +37,11 @@ TriesSlots named segment order pass area area' rest left (Err message) =
     ⊎ ((fault : OpenFault) × (message ≡ message_for_opening named fault) × (key_areas_end order.slots ≤ length area')
     × (opening_of order area' pass ≡ Err fault))))
 
--- the count of work was raised by the evaluations of HMAC that opening costs, once, or not at all
+-- the count of work was raised once by the evaluations of HMAC that opening costs, or not at all
 abbrev pub CountsTrials : OrderModel → List ℕ → List ℕ → ℕ → ℕ → Type 0
 CountsTrials order area pass work work' = (work' ≡ work) ⊎ (work' ≡ capped (work + work_of order area pass))
 
--- whether trying the key slots hit the image's end: only if the message is that the image ended
+-- trying the key slots hit the image's end only if the message is that the image ended
 abbrev pub HitsEndOfAreas : Message → Bool → Type 0
 HitsEndOfAreas Cut ended = Unit {0}
 HitsEndOfAreas _ ended = ended ≡ false

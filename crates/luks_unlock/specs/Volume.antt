@@ -1,5 +1,5 @@
--- The outcomes of the commands on volumes.
--- First what an image's header says of its volume, before any key slot is tried; then the outcome of a run.
+-- The outcomes of the commands that open volumes: first the volume that an image's header describes, before any key
+-- slot is tried, then the outcome of a run.
 use Rattle.std.specs.Prelude.{ℕ, ◌+◌, List, length, max, nat_lt, if◌then◌else◌, Option, Result, Ok, Err}
 use Rattle.luks_header.specs.Header.{header_read_len, header_of}
 use Rattle.luks_header.specs.HeaderSegment.{segment_of}
@@ -21,7 +21,7 @@ use Rattle.luks_runs.specs.RunOutcome.{Outcome, no_output}
 use Rattle.luks_runs.specs.HeaderReading.{HeaderReader}
 use Rattle.luks_report.specs.declared.message.Message.{Message}
 
--- a volume: its header, its segment, and which key slots are tried
+-- a volume: its header, its segment, and the key slots to be tried
 pub record Volume : Type 0 where
   pub header : Header
   pub segment : Segment
@@ -52,12 +52,13 @@ volume_by read o image = volume_in_header o (read image)
 abbrev pub volume_of : VolumeRequest → List ℕ → Result Volume Message
 volume_of = volume_by header_of
 
--- how many bytes of the image are consumed to open the volume: the header and the key areas of the slots that are tried
+-- the number of bytes of the image that are consumed to open the volume: those of the header and of the key areas of
+-- the slots to be tried
 abbrev pub loaded_for : List ℕ → Volume → ℕ
 loaded_for image volume = max (header_read_len image) (key_areas_end volume.order.slots)
 
--- what a command does with a volume that is opened: with its segment, its key, and the bytes of its image that were
--- consumed so far
+-- what a command does with an opened volume, by its segment, the key slot and key that opened it, and the number of
+-- bytes of its image that were consumed so far
 abbrev pub OnOpened : Type 0
 OnOpened = Segment → Opened → ℕ → Outcome
 
@@ -91,15 +92,15 @@ detached_payload_outcome image secret segment opened loaded = record {
   payload_consumed = payload_end_of segment image;
 }
 
--- the key slots were tried
+-- the outcome after the key slots were tried
 abbrev pub opened_outcome : OnOpened → Option ℕ → Volume → List ℕ → List ℕ → Result Opened OpenFault → Outcome
 opened_outcome on_opened named volume image secret (Ok opened) =
     on_opened volume.segment opened (loaded_for image volume)
 opened_outcome on_opened named volume image secret (Err fault) =
     no_output (message_for_opening named fault) (loaded_for image volume) (length secret)
 
--- a volume was found: the key file is read whole, then the image up to the end of the key areas, and the key slots are
--- tried
+-- the outcome if a volume was found: the key file is read whole, then the image up to the end of the key areas, and the
+-- key slots are tried
 unfoldable pub found_outcome : OnOpened → Option ℕ → Volume → List ℕ → List ℕ → Outcome
 found_outcome on_opened named volume image secret =
     if nat_lt max_key_file_len (length secret) then no_output KeyFileLength (header_read_len image)
@@ -107,16 +108,16 @@ found_outcome on_opened named volume image secret =
     else (if nat_lt (length image) (key_areas_end volume.order.slots) then no_output Cut (length image) (length secret)
     else opened_outcome on_opened named volume image secret (opening_of volume.order image secret))
 
--- there is a volume or not
+-- the outcome, whether or not a volume was found
 abbrev pub outcome_after : OnOpened → Option ℕ → List ℕ → List ℕ → Result Volume Message → Outcome
 outcome_after on_opened named image secret (Ok volume) = found_outcome on_opened named volume image secret
 outcome_after on_opened named image secret (Err message) = no_output message (header_read_len image) 0
 
--- a command that opens a volume whose header is read in this way
+-- the outcome of a command that opens a volume whose header is read in this way
 unfoldable pub volume_outcome_by : HeaderReader → OnOpened → VolumeRequest → List ℕ → List ℕ → Outcome
 volume_outcome_by read on_opened o image secret =
     outcome_after on_opened o.key_slot image secret (volume_by read o image)
 
--- a command that opens a volume
+-- the outcome of a command that opens a volume
 abbrev pub volume_outcome : OnOpened → VolumeRequest → List ℕ → List ℕ → Outcome
 volume_outcome = volume_outcome_by header_of

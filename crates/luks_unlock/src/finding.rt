@@ -1,4 +1,4 @@
-//! Finding a volume: its header, its segment, and which key slots are tried.
+//! Finding a volume: its header, its segment, and the key slots to be tried.
 
 ghost use Rattle.std.specs.Prelude.{◌≡◌, ◌≢◌, ◌⊎◌, Bool, Ok, IfOk, IfErr};
 ghost use Rattle.luks_io.specs.Counts.{Reads};
@@ -24,20 +24,21 @@ use luks_request::command::VolumeArgs;
 use luks_runs::location::{HeaderLocation, read_header_at};
 use std::alloc::Global;
 
-/// A volume whose header was read: its segment, and which key slots are tried.
+/// A volume whose header was read, with its segment and the key slots to be tried.
 #[derive(Drop)]
 pub struct FoundVolume {
     /// Its header.
     pub header: Header,
-    /// The first bytes of the image, or of the file with the detached header: all that were read.
+    /// All bytes that were read: the first ones of the image, or of the file with the detached
+    /// header.
     pub area: HeaderArea,
     /// Where its payload is.
     pub segment: Segment,
-    /// The key slots that are tried, in their order, and those that are skipped.
+    /// The key slots to be tried, in order, and those that are skipped.
     pub order: Order,
 }
 
-/// The number of the key slot that is named.
+/// The number of the named key slot, if one is named.
 pub(crate) fn named_slot(opening: &VolumeArgs<'_>) -> Option<u8>
     ensures { result ≡ (volume_request opening.now).key_slot }
 {
@@ -47,7 +48,7 @@ pub(crate) fn named_slot(opening: &VolumeArgs<'_>) -> Option<u8>
     }
 }
 
-/// The limit on iterations.
+/// The limit on iterations, if there is one.
 fn max_iterations(opening: &VolumeArgs<'_>) -> Option<u32>
     ensures { result ≡ (volume_request opening.now).max_iterations }
 {
@@ -57,7 +58,7 @@ fn max_iterations(opening: &VolumeArgs<'_>) -> Option<u32>
     }
 }
 
-/// Finds the segment of a header, and the key slots that are tried.
+/// Finds the segment of a header and its key slots to be tried.
 fn find_slots(
     alloc: Global,
     opening: &VolumeArgs<'_>,
@@ -79,7 +80,7 @@ fn find_slots(
     }
 }
 
-/// Reads an attached or a detached header, and finds its segment and the key slots that are tried.
+/// Reads an attached or a detached header, and finds its segment and its key slots to be tried.
 pub fn find_volume<I: Source>(
     alloc: Global,
     location: HeaderLocation,

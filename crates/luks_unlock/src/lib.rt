@@ -1,7 +1,7 @@
-//! Opening a volume by a passphrase, as `luksCat` and `testPassphrase` do: its header is found,
-//! then its segment and the order of its key slots, and then these are tried.
+//! Opening a volume by a passphrase, as `luksCat` and `testPassphrase` do: find its header, then
+//! its segment and the order of its key slots, then try those key slots.
 //!
-//! The outcome of a command that opens a volume is defined here too.
+//! This crate also defines the outcome of a command that opens a volume.
 #![tactic(auto)]
 
 pub mod finding;

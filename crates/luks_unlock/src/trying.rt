@@ -19,8 +19,8 @@ use luks_report::message::Message;
 use luks_request::command::VolumeArgs;
 
 /// Tries the key slots of a volume under a passphrase, after reading the key areas behind its
-/// header. If the image's end was hit before, nothing is read. The count of work is raised as by
-/// one [`open`], or not at all.
+/// header. Nothing is read if the end of the image was hit before. The count of work is raised once
+/// by the cost of [`open`], or not at all.
 pub fn try_slots<I: Source>(
     opening: &VolumeArgs<'_>,
     volume: &mut FoundVolume,

@@ -8,7 +8,7 @@ use luks_header::segment::Segment;
 use luks_open::key::Key;
 use luks_open::opening::Opened;
 
-/// A volume that a passphrase opened. Its key has a length of its segment's mode.
+/// A volume that a passphrase opened. The length of its key is one that its segment's mode allows.
 #[derive(Drop)]
 pub struct UnlockedVolume {
     /// Where its payload is.
@@ -21,7 +21,7 @@ pub struct UnlockedVolume {
 }
 
 impl UnlockedVolume {
-    /// The volume of this segment that was opened.
+    /// The opened volume with this segment.
     pub(crate) fn new(segment: Segment, opened: Opened) -> UnlockedVolume
         requires { is_mode_key_length segment.mode (length opened.key) ≡ true }
         ensures segment { result.segment ≡ segment }
@@ -32,7 +32,7 @@ impl UnlockedVolume {
         UnlockedVolume { segment, slot, key }
     }
 
-    /// The cipher of its payload: its key, in its segment's mode.
+    /// The cipher of its payload: the volume key in the segment's mode.
     pub fn cipher(&self) -> SectorCipher
         ensures { result ≡ (self.now.segment.mode, self.now.key) }
     {

@@ -1,4 +1,4 @@
--- What is made of what was read, where it is in range.
+-- Values made from parts that were read and are in range.
 use Rattle.std.proofs.Common.{◌≡◌, ◌≢◌, ◌∙◌, ℕ, Bool, true, false, Option, Some, None, Ok, Err, ap, sym, refl, length}
 use Rattle.std.specs.Prelude.{option_map}
 use Rattle.std.specs.Coded.{le_prop}
@@ -19,7 +19,7 @@ use Rattle.luks_verdict.specs.declared.sector_size.SectorSize.{SectorSize}
 use Rattle.luks_verdict.specs.declared.segment.Segment.{Segment}
 use Rattle.luks_verdict.specs.declared.slot.SlotParts.{SlotParts}
 
--- where a test holds there is evidence, and there is but one
+-- if a test holds, there is evidence of it, and any evidence of it is the same
 pub evidence_if-yes : (test : Bool) (is : test ≡ true) → evidence_if test ≡ Some is
 evidence_if-yes true is = let all : IsProp (true ≡ true) = hlevel (Bool-set) in ap Some (all refl is)
 evidence_if-yes false is = absurd cc
@@ -91,27 +91,27 @@ segment_made offset size iv_tweak sector_size mode whole is =
     (all whole (are_whole size sector_size is))
     ∙ sym (segment_of_all-yes offset size iv_tweak sector_size mode is)
 
--- a segment with a fault is refused for it
+-- a segment with a fault is refused with that fault
 pub refused_or-fault : (found : Option SegmentFault) (segment : Option Segment) (made : found ≡ None → segment ≢ None)
     (fault : SegmentFault) → found ≡ Some fault → refused_or found segment made ≡ Err fault
 refused_or-fault (Some found) segment made fault is = ap Err (same_Some found fault is)
 refused_or-fault None segment made fault is = absurd (none-some fault is)
 
--- one without a fault is the one that was made
+-- a segment without a fault is the one that was made
 pub refused_or-none : (found : Option SegmentFault) (there : Option Segment) (made : found ≡ None → there ≢ None)
     (segment : Segment) → found ≡ None → there ≡ Some segment → refused_or found there made ≡ Ok segment
 refused_or-none (Some found) there made segment none is = absurd (none-some found (sym none))
 refused_or-none None (Some there) made segment none is = ap Ok (same_Some there segment is)
 refused_or-none None None made segment none is = absurd (none-some segment is)
 
--- and a segment that is not refused has no fault and was made
+-- a segment that is not refused has no fault and was made
 pub refused_or-ok : (found : Option SegmentFault) (there : Option Segment) (made : found ≡ None → there ≢ None)
     (segment : Segment) → refused_or found there made ≡ Ok segment → (found ≡ None) × (there ≡ Some segment)
 refused_or-ok (Some found) there made segment is = absurd cc
 refused_or-ok None (Some there) made segment is = (refl, cc)
 refused_or-ok None None made segment is = absurd (made refl refl)
 
--- whether a slot is tried against the digest of which this was read
+-- if the parts of a digest are in range, it is unusable only if its iterations are out of range under the limit
 pub no_usable_digest-yes : (limit : Option ℕ) (parts : DigestParts) → is_usable parts ≡ true
     → has_no_usable_digest limit (digest_from parts) ≡ iterations_out_of_range limit parts.iterations
 unfolding has_no_usable_digest digest_of

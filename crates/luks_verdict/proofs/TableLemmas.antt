@@ -1,4 +1,4 @@
--- Tables of which the first line that holds counts, and lists by ascending number.
+-- Tables in which the first line that holds decides, and lists by ascending number.
 use Rattle.std.proofs.Common.{◌≡◌, ◌∙◌, ℕ, zero, suc, ◌+◌, ◌<◌, ◌≤◌, ap, sym, refl, Bool, true, false, List, [], ◌∷◌}
 use Rattle.std.proofs.Common.{◌++◌, Option, Some, None, IsSome, ◌⊎◌, inl, inr, subst, length, length-append, add-one}
 use Rattle.std.proofs.Common.{arith}
@@ -8,13 +8,13 @@ use Rattle.std.proofs.lemmas.List.{append-nil}
 use Rattle.std.proofs.lemmas.Option.{none-some}
 use Rattle.luks_verdict.specs.Table.{first_match, ascending}
 
--- the first line does not hold where none does
+-- if a table has no match, its first line does not hold, and the other lines have no match
 pub first_not : {T : Type 0} (b : Bool) (name : T) (lines : List (Bool × T)) → first_match ((b, name) ∷ lines) ≡ None
     → (b ≡ false) × (first_match lines ≡ None)
 first_not true name lines h = absurd (none-some name (sym h))
 first_not false name lines h = (refl, h)
 
--- of a table of which no line holds, none does
+-- if a table has no match, none of its lines holds
 pub none_holds : {T : Type 0} (lines : List (Bool × T)) → first_match lines ≡ None
     → AllByRecursion (λ (line : Bool × T). line.0 ≡ false) lines
 none_holds [] none = tt
@@ -22,28 +22,28 @@ none_holds ((holds, name) ∷ lines) none =
     let first = first_not holds name lines none in
     (first.0, none_holds lines first.1)
 
--- nothing is made of no number
+-- the list for no numbers is empty
 pub ascending_none : {T : Type 0} (f : ℕ → Option T) → ascending f 0 ≡ []
 unfolding ascending
 ascending_none f = refl
 
--- one number more
+-- the list with one more number
 pub ascending_more : {T : Type 0} (f : ℕ → Option T) (n : ℕ)
     → ascending f (n + 1) ≡ ascending f n ++ cons_option (f n) []
 unfolding ascending
 ascending_more f n = rw add-one refl
 
--- of which nothing is made
+-- a number without a value adds nothing to the list
 pub ascending_not : {T : Type 0} (f : ℕ → Option T) (n : ℕ) → f n ≡ None → ascending f (n + 1) ≡ ascending f n
 ascending_not f n none = ascending_more f n
     ∙ (ap (λ o. ascending f n ++ cons_option o []) none ∙ append-nil (ascending f n))
 
--- of which something is made
+-- a number with a value adds this value to the list
 pub ascending_one : {T : Type 0} (f : ℕ → Option T) (n : ℕ) (x : T) → f n ≡ Some x
     → ascending f (n + 1) ≡ ascending f n ++ x ∷ []
 ascending_one f n x one = ascending_more f n ∙ ap (λ o. ascending f n ++ cons_option o []) one
 
--- no more than there are numbers
+-- the list is no longer than the count of numbers
 pub length-ascending : {T : Type 0} (f : ℕ → Option T) (n : ℕ) → length (ascending f n) ≤ n
 unfolding ascending
 length-ascending f zero = omega arith
@@ -53,13 +53,13 @@ length-ascending {T = T} f (suc n) = of_one (f n) (length-ascending f n)
     of_one None few = omega (arith, length-append (ascending f n) [])
     of_one (Some x) few = omega (arith, length-append (ascending f n) (x ∷ []))
 
--- what holds of each of two lists holds of both together
+-- a property of all elements of two lists holds for all elements of both together
 pub AllByRecursion-append : {X : Type 0} (P : X → Type 0) (xs ys : List X) → AllByRecursion P xs → AllByRecursion P ys
     → AllByRecursion P (xs ++ ys)
 AllByRecursion-append P [] ys all others = others
 AllByRecursion-append P (x ∷ xs) ys all others = (all.0, AllByRecursion-append P xs ys all.1 others)
 
--- what holds of whatever is made holds of all that is made
+-- a property of each value holds for all elements of the list
 pub All-ascending : {X : Type 0} (P : X → Type 0) (f : ℕ → Option X) (n : ℕ) → ((i : ℕ) (x : X) → f i ≡ Some x → P x)
     → AllByRecursion P (ascending f n)
 unfolding ascending
@@ -71,7 +71,7 @@ All-ascending {X = X} P f (suc n) each =
     of_one None is = tt
     of_one (Some x) is = (each n x is, tt)
 
--- where something is made of a number, something is made
+-- the list is not empty if one of the numbers has a value
 pub some_rising : {X : Type 0} (f : ℕ → Option X) (i n : ℕ) → IsSome (f i) → i < n → 1 ≤ length (ascending f n)
 unfolding ascending
 some_rising f i zero some below = absurd (omega arith)

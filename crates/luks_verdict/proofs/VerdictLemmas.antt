@@ -1,4 +1,4 @@
--- What becomes of a key slot, with and without what it takes to open it.
+-- The verdict on a key slot, with and without what is needed to open it.
 use Rattle.std.proofs.Common.{◌≡◌, ℕ, Bool, true, false, Option, Some, None, refl}
 use Rattle.std.specs.Prelude.{is_none, not, option_map}
 use Rattle.luks_verdict.specs.Digest.{has_no_usable_digest}
@@ -11,7 +11,7 @@ use Rattle.luks_verdict.specs.declared.slot.VerdictKind.TheVariants.{Usable as O
 use Rattle.luks_verdict.specs.declared.slot.VerdictKind.TheVariants.{Skipped as Shut}
 use Rattle.luks_verdict.specs.declared.refusal.SkipReason.{SkipReason}
 
--- of a slot that is judged one that can be tried, there is what it takes to open it
+-- if the kind of a verdict is that the slot can be tried, the verdict has what is needed to open it
 pub usable_from_open : (verdict : Option Verdict) (priority : ℕ)
     → option_map verdict_kind_of verdict ≡ Some (Open priority)
     → (slot : Slot) × (verdict ≡ Some (Usable slot)) × (slot.parts.priority ≡ priority)
@@ -20,7 +20,7 @@ usable_from_open (Some Disabled) priority is = absurd cc
 usable_from_open (Some (Skipped reason)) priority is = absurd cc
 usable_from_open None priority is = absurd cc
 
--- of one that is not in use
+-- if its kind is that the slot is not in use, the verdict is that too
 pub unused_from_unused : (verdict : Option Verdict) → option_map verdict_kind_of verdict ≡ Some Unused
     → verdict ≡ Some Disabled
 unused_from_unused (Some (Usable slot)) is = absurd cc
@@ -28,7 +28,7 @@ unused_from_unused (Some Disabled) is = refl
 unused_from_unused (Some (Skipped reason)) is = absurd cc
 unused_from_unused None is = absurd cc
 
--- of one that is skipped
+-- if its kind is that the slot is skipped, the verdict is that too
 pub skipped_from_shut : (verdict : Option Verdict) (reason : SkipReason)
     → option_map verdict_kind_of verdict ≡ Some (Shut reason) → verdict ≡ Some (Skipped reason)
 skipped_from_shut (Some (Usable slot)) reason is = absurd cc
@@ -36,12 +36,12 @@ skipped_from_shut (Some Disabled) reason is = absurd cc
 skipped_from_shut (Some (Skipped other)) reason is = cc
 skipped_from_shut None reason is = absurd cc
 
--- and of one that is not there
+-- if there is no kind of verdict, there is no verdict
 pub none_from_none : (verdict : Option Verdict) → option_map verdict_kind_of verdict ≡ None → verdict ≡ None
 none_from_none (Some verdict) is = absurd cc
 none_from_none None is = refl
 
--- ---- what there is if a reason to skip a slot does not hold
+-- ---- consequences of a reason to skip a slot that does not hold
 
 pub true_from_not : (b : Bool) → not b ≡ false → b ≡ true
 true_from_not true is = refl

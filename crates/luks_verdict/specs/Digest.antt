@@ -1,15 +1,15 @@
--- Digests, made of what was read of them.
+-- Digests, made from the parts that were read.
 use Rattle.std.specs.Prelude.{◌≡◌, ℕ, Bool, true, Option, Some, None, length, option_map}
 use Rattle.luks_verdict.specs.Evidence.{evidence_if}
 use Rattle.luks_verdict.specs.Rule.{iterations_out_of_range, is_digest, usable_digest}
 use Rattle.luks_verdict.specs.declared.digest.DigestParts.{DigestParts}
 use Rattle.luks_verdict.specs.declared.digest.KeyDigest.{KeyDigest}
 
--- what was read of a digest is in range
+-- the parts of a digest are in range
 abbrev pub is_usable : DigestParts → Bool
 is_usable parts = is_digest parts.iterations (length parts.value)
 
--- the digest of which this was read: its numbers are in range
+-- the digest with these parts, whose numbers are in range
 unfoldable pub digest_of : (parts : DigestParts) → is_usable parts ≡ true → KeyDigest
 digest_of parts is = record {
   hash = parts.hash;
@@ -19,11 +19,11 @@ digest_of parts is = record {
   usable = usable_digest parts.iterations (length parts.value) is;
 }
 
--- the digest of which this was read, if its numbers are in range
+-- the digest with these parts, if their numbers are in range
 unfoldable pub digest_from : DigestParts → Option KeyDigest
 digest_from parts = option_map (digest_of parts) (evidence_if (is_usable parts))
 
--- there is no digest to try a key slot against, or its iterations are not made
+-- there is no usable digest for a key slot, or its iterations are out of range
 unfoldable pub has_no_usable_digest : Option ℕ → Option KeyDigest → Bool
 has_no_usable_digest limit None = true
 has_no_usable_digest limit (Some digest) = iterations_out_of_range limit digest.iterations

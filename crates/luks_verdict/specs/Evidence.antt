@@ -1,4 +1,4 @@
--- Evidence that a test holds, for what is made only if it does.
+-- Evidence that a test holds, for values that are made only if it does.
 use Rattle.std.specs.Prelude.{◌≡◌, Bool, true, false, Option, Some, None, refl}
 
 -- the evidence, if the test holds

@@ -1,24 +1,24 @@
--- Rules that hold for both formats. They speak of numbers: of a limit and a start of the payload that may be missing,
--- and of an area's own size.
+-- Rules for both formats. They are about numbers: a limit and a payload's start, which may be missing, and the size of
+-- an area.
 use Rattle.std.specs.Prelude.{◌≡◌, ℕ, ◌+◌, ◌*◌, ◌/◌, ◌≤◌, ◌==◌, ◌&&◌, ◌||◌, not, nat_lt, Bool, true, false, Option}
 use Rattle.std.specs.Prelude.{Some, None}
 use Rattle.std.proofs.Common.{arith}
 use Rattle.std.proofs.lemmas.Bool.Decides.{nat_tests}
 use Rattle.luks_area.specs.Area.{max_area_len}
 
--- the most slots that a header has, numbered from 0
+-- the largest number of slots in a header; they are numbered from 0
 abbrev pub max_slots : ℕ
 max_slots = 32
 
--- the most stripes of a slot's key material
+-- the largest number of stripes in a slot's key material
 abbrev pub max_stripes : ℕ
 max_stripes = 4000
 
--- the most iterations of PBKDF2: as many as four bytes can say
+-- the largest number of PBKDF2 iterations: the largest that fits into four bytes
 abbrev pub max_iteration_count : ℕ
 max_iteration_count = 4294967295
 
--- the lengths in bytes of a digest
+-- the smallest and the largest length of a digest in bytes
 abbrev pub min_digest_len : ℕ
 min_digest_len = 20
 
@@ -30,21 +30,21 @@ abbrev pub exceeds : Option ℕ → ℕ → Bool
 exceeds None n = false
 exceeds (Some limit) n = nat_lt limit n
 
--- so many iterations are refused: none, more than four bytes can say, or more than the limit
+-- this number of iterations is refused: 0, more than fits into four bytes, or above the limit
 unfoldable pub iterations_out_of_range : Option ℕ → ℕ → Bool
 iterations_out_of_range limit iterations = iterations == 0 || nat_lt max_iteration_count iterations
     || exceeds limit iterations
 
--- the stripes are not 1 to 4000
+-- the number of stripes is not 1 to 4000
 unfoldable pub stripes_out_of_range : ℕ → Bool
 stripes_out_of_range stripes = stripes == 0 || nat_lt max_stripes stripes
 
--- how many bytes of key material a slot has: one key for each stripe, in whole sectors of 512 bytes
+-- the number of bytes of a slot's key material: one key for each stripe, rounded up to whole sectors of 512 bytes
 unfoldable pub need_of : ℕ → ℕ → ℕ
 need_of key_bytes stripes = (key_bytes * stripes + 511) / 512 * 512
 
 -- key material from `offset` on does not fit: it starts below `start`, its area has fewer bytes than it needs, or it
--- ends past the payload's start, if that is known, or past the most bytes of an image that are loaded
+-- ends past the payload's start, if that is known, or past the largest number of bytes that are loaded of an image
 unfoldable pub area_out_of_range : ℕ → Option ℕ → ℕ → ℕ → ℕ → Bool
 area_out_of_range start payload offset size need =
     nat_lt offset start || nat_lt size need || exceeds payload (offset + need) || nat_lt max_area_len (offset + need)
@@ -54,12 +54,12 @@ unfoldable pub is_in_range : ℕ → ℕ → ℕ → Bool
 is_in_range iterations stripes end = not (iterations_out_of_range None iterations) && not (stripes_out_of_range stripes)
     && not (nat_lt max_area_len end)
 
--- a digest of so many iterations and bytes can be used
+-- a digest with this number of iterations and this length can be used
 unfoldable pub is_digest : ℕ → ℕ → Bool
 is_digest iterations len = not (iterations_out_of_range None iterations) && not (nat_lt len min_digest_len)
     && not (nat_lt max_digest_len len)
 
--- what it says that the numbers of a slot are in range
+-- the bounds of a slot's numbers that are in range
 pub record InRange (iterations stripes end : ℕ) : Type 0 where
   pub some_iterations : 1 ≤ iterations
   pub few_iterations : iterations ≤ max_iteration_count
@@ -77,7 +77,7 @@ in_range iterations stripes end is = record {
   held = grind (arith, nat_tests);
 }
 
--- and that a digest can be used
+-- the bounds of the numbers of a digest that can be used
 pub record IsDigest (iterations len : ℕ) : Type 0 where
   pub some_iterations : 1 ≤ iterations
   pub few_iterations : iterations ≤ max_iteration_count

@@ -7,19 +7,19 @@ use Rattle.std.specs.Option.{ForSome}
 use Rattle.luks_verdict.specs.declared.sector_size.SectorSize.{SectorSize}
 use Rattle.luks_verdict.specs.declared.sector_size.SectorSize.TheVariants.{B512, B1024, B2048, B4096}
 
--- in bytes
+-- the length of a sector in bytes
 abbrev pub bytes_of : SectorSize → ℕ
 bytes_of B512 = 512
 bytes_of B1024 = 1024
 bytes_of B2048 = 2048
 bytes_of B4096 = 4096
 
--- a payload of this length is cut into whole sectors, as far as its length is fixed
+-- the length of a payload is a multiple of the sectors' length, if it is fixed
 abbrev pub are_sectors : Option ℕ → SectorSize → Bool
 are_sectors None sector_size = true
 are_sectors (Some bytes) sector_size = bytes % bytes_of sector_size == 0
 
--- what that says
+-- what `are_sectors` tests, as a type
 abbrev pub AreWhole : Option ℕ → SectorSize → Type 0
 AreWhole size sector_size = ForSome size (λ bytes. bytes % bytes_of sector_size ≡ 0)
 

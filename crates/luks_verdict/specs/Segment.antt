@@ -1,4 +1,4 @@
--- Segments, made of what was read of them.
+-- Segments, made from the parts that were read.
 use Rattle.std.specs.Prelude.{◌≡◌, ◌≢◌, ℕ, true, Option, Some, None, Result, Ok, Err, option_map, refl}
 use Rattle.luks_cipher.specs.declared.mode.Mode.{Mode}
 use Rattle.luks_verdict.specs.Evidence.{evidence_if}
@@ -8,7 +8,7 @@ use Rattle.luks_verdict.specs.declared.sector_size.SectorSize.{SectorSize}
 use Rattle.luks_verdict.specs.declared.segment.Segment.{Segment}
 use Rattle.luks_verdict.specs.declared.segment.SegmentParts.{SegmentParts}
 
--- the segment of these numbers, whose length is one of whole sectors
+-- the segment with these numbers. Its length is a multiple of the sectors' length, if it is fixed
 abbrev pub segment_with : (offset : ℕ) (size : Option ℕ) (iv_tweak : ℕ) (sector_size : SectorSize) (mode : Mode)
     → AreWhole size sector_size → Segment
 segment_with offset size iv_tweak sector_size mode whole = record {
@@ -20,23 +20,23 @@ segment_with offset size iv_tweak sector_size mode whole = record {
   whole_sectors = whole;
 }
 
--- the same, if a test found that the length is one of whole sectors
+-- the same segment, from a test of its length
 unfoldable pub segment_by : (offset : ℕ) (size : Option ℕ) (iv_tweak : ℕ) (sector_size : SectorSize) (mode : Mode)
     → are_sectors size sector_size ≡ true → Segment
 segment_by offset size iv_tweak sector_size mode is =
     segment_with offset size iv_tweak sector_size mode (are_whole size sector_size is)
 
--- the segment of these parts, if each is there and in range
+-- the segment with these parts, if each is present and in range
 abbrev pub segment_of_all : Option ℕ → Option (Option ℕ) → Option ℕ → Option SectorSize → Option Mode → Option Segment
 segment_of_all (Some offset) (Some size) (Some iv_tweak) (Some sector_size) (Some mode) =
     option_map (segment_by offset size iv_tweak sector_size mode) (evidence_if (are_sectors size sector_size))
 segment_of_all _ _ _ _ _ = None
 
--- the segment of which this was read, if each part is there and in range
+-- the segment with the parts that were read, if each is present and in range
 unfoldable pub segment_from : SegmentParts → Option Segment
 segment_from parts = segment_of_all parts.offset parts.size parts.iv_tweak parts.sector_size parts.mode
 
--- the payload's segment, or its fault. If it has no fault, its parts are there and in range: a segment was made of them
+-- the payload's segment, or its fault. Without a fault its parts are present and in range: a segment was made from them
 abbrev pub refused_or : (fault : Option SegmentFault) (segment : Option Segment) → (fault ≡ None → segment ≢ None)
     → Result Segment SegmentFault
 refused_or (Some fault) segment made = Err fault

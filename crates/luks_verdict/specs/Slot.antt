@@ -1,4 +1,4 @@
--- Key slots, made of what was read of them, and the verdicts on them.
+-- Key slots, made from the parts that were read, and the verdicts on them.
 use Rattle.std.specs.Prelude.{◌≡◌, ℕ, ◌+◌, Bool, true, Option, Some, None, option_map}
 use Rattle.luks_verdict.specs.Evidence.{evidence_if}
 use Rattle.luks_verdict.specs.Rule.{InRange, in_range, is_in_range, need_of}
@@ -12,15 +12,15 @@ use Rattle.luks_verdict.specs.declared.slot.VerdictKind.{VerdictKind}
 use Rattle.luks_verdict.specs.declared.slot.VerdictKind.TheVariants.{Usable as Open, Disabled as Unused}
 use Rattle.luks_verdict.specs.declared.slot.VerdictKind.TheVariants.{Skipped as Shut}
 
--- where key material ends in the image
+-- the end of the key material in the image, by the parts of its key slot
 abbrev pub parts_end : SlotParts → ℕ
 parts_end parts = parts.area_offset + need_of parts.key_bytes parts.stripes
 
--- where the key material of a key slot ends in the image
+-- the end of a key slot's key material in the image
 abbrev pub material_end : Slot → ℕ
 material_end slot = parts_end slot.parts
 
--- what was read of a key slot is in range
+-- the parts of a key slot are in range
 abbrev pub are_in_range : SlotParts → Bool
 are_in_range parts = is_in_range parts.iterations parts.stripes (parts_end parts)
 
@@ -28,15 +28,15 @@ are_in_range parts = is_in_range parts.iterations parts.stripes (parts_end parts
 abbrev pub slot_with : (parts : SlotParts) → InRange parts.iterations parts.stripes (parts_end parts) → Slot
 slot_with parts range = record { parts = parts; in_range = range }
 
--- the key slot of which this was read, if a test found its numbers in range
+-- the key slot with these parts, from a test that found their numbers in range
 unfoldable pub slot_of : (parts : SlotParts) → are_in_range parts ≡ true → Slot
 slot_of parts is = slot_with parts (in_range parts.iterations parts.stripes (parts_end parts) is)
 
--- the key slot of which this was read, if its numbers are in range
+-- the key slot with these parts, if their numbers are in range
 unfoldable pub slot_from : SlotParts → Option Slot
 slot_from parts = option_map (slot_of parts) (evidence_if (are_in_range parts))
 
--- a key slot that there is no reason to skip can be tried. (If there is no reason, the parts are there and in range.)
+-- a key slot can be tried if there is no reason to skip it. (Its parts are then present and in range.)
 abbrev pub verdict_by : Option SkipReason → Option Slot → Verdict
 verdict_by (Some reason) slot = Skipped reason
 verdict_by None (Some slot) = Usable slot

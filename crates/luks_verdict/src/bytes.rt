@@ -5,8 +5,8 @@ ghost use Rattle.std.specs.Prelude.{◌≡◌, List, ℕ, IfOk};
 use std::alloc::{AllocError, Global};
 use std::marker::Model;
 
-/// Bytes of a header, as many as the header says: a salt or the value of a digest. A clause sees
-/// them.
+/// Bytes of a header, of a length that the header determines: a salt or the value of a digest. A
+/// clause sees them.
 #[derive(Drop, Debug)]
 pub struct HeaderBytes {
     bytes: Vec<u8>,
@@ -19,7 +19,7 @@ impl Model for HeaderBytes {
 }
 
 impl HeaderBytes {
-    /// These bytes.
+    /// A copy of these bytes.
     pub fn new(alloc: Global, bytes: &[u8]) -> Result<HeaderBytes, AllocError>
         ensures { IfOk result (λ made. made ≡ bytes.now) }
     {

@@ -1,4 +1,4 @@
-//! Digests, by which a volume key is known.
+//! Digests, which identify a volume key.
 
 ghost use Rattle.std.specs.Prelude.{◌≡◌, length};
 ghost use Rattle.luks_verdict.specs.Rule.{IsDigest};
@@ -7,32 +7,32 @@ use crate::bytes::HeaderBytes;
 use crate::rule::{iterations_out_of_range, usable_digest};
 use luks_kdf::Hash;
 
-/// What is read of a digest, before it is judged.
+/// The parts of a digest that are read, before they are checked.
 #[derive(Drop, Debug)]
 pub struct DigestParts {
-    /// The hash function of PBKDF2. `None` comes for LUKS1 alone, if the name of the hash function
-    /// is not known.
+    /// The hash function of PBKDF2. `None` only for LUKS1, if the name of the hash function is not
+    /// known.
     pub hash: Option<Hash>,
     /// The iterations of PBKDF2.
     pub iterations: u32,
     /// The salt of PBKDF2.
     pub salt: HeaderBytes,
-    /// What PBKDF2 gives.
+    /// The output of PBKDF2.
     pub value: HeaderBytes,
 }
 
-/// By what a volume key is known: PBKDF2 of it gives this value. It has at least one iteration, and
-/// a value of 20 to 64 bytes.
+/// A digest that identifies a volume key: PBKDF2 of the key gives this value. It has at least one
+/// iteration, and a value of 20 to 64 bytes.
 #[derive(Drop, Debug)]
 pub struct KeyDigest {
-    /// The hash function of PBKDF2. `None` comes for LUKS1 alone, if the name of the hash function
-    /// is not known.
+    /// The hash function of PBKDF2. `None` only for LUKS1, if the name of the hash function is not
+    /// known.
     pub hash: Option<Hash>,
     /// The iterations of PBKDF2.
     pub iterations: u32,
     /// The salt of PBKDF2.
     pub salt: HeaderBytes,
-    /// What PBKDF2 gives.
+    /// The output of PBKDF2.
     pub value: HeaderBytes,
     ghost usable: { IsDigest iterations (length value) },
 }
@@ -42,7 +42,7 @@ impl DigestParts {
     ghost use Rattle.luks_verdict.specs.Digest.{digest_from, has_no_usable_digest};
     ghost use Rattle.luks_verdict.specs.declared.digest.DigestParts.{DigestParts};
 
-    /// Whether a key slot is not tried against a digest of so many iterations and bytes: its
+    /// Whether a digest with this number of iterations and bytes is not usable for a key slot: its
     /// numbers are out of range, or it has more iterations than the limit.
     pub fn no_usable_digest(limit: Option<u32>, iterations: u32, len: usize) -> bool
         ensures { (parts : DigestParts) → parts.iterations ≡ iterations → length parts.value ≡ len
@@ -57,7 +57,7 @@ impl KeyDigest {
     ghost use Rattle.std.specs.Prelude.{◌≡◌};
     ghost use Rattle.luks_verdict.specs.Digest.{digest_from};
 
-    /// The digest of which this was read, if its numbers are in range.
+    /// The digest with these parts, if their numbers are in range.
     #[tactic(auto, unfolding(crate::specs::Digest::digest_from))]
     pub fn from_parts(parts: DigestParts) -> Option<KeyDigest>
         ensures { result ≡ digest_from parts }

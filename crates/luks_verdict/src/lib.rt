@@ -1,5 +1,5 @@
-//! Verdicts on key slots, digests and segments, whatever the format of their header: the rules over
-//! numbers, what is known of those that can be used, and why others cannot.
+//! Verdicts on key slots, digests and segments, whatever the format of their header: the rules for
+//! numbers, the properties of those that can be used, and the reasons why others cannot.
 #![tactic(auto)]
 
 pub mod bytes;

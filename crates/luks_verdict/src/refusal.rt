@@ -7,7 +7,7 @@ ghost use Rattle.luks_verdict.specs.SkipReason.{reason_text};
 /// Why a key slot cannot be tried. If there are several reasons, it is the first in this order.
 #[derive(Clone, Copy, PartialEq, Eq, Debug)]
 pub enum SkipReason {
-    /// LUKS1: the state is neither that of a slot in use nor that of one that is not.
+    /// LUKS1: the state is neither that of a used slot nor that of an unused one.
     State,
     /// LUKS2: no object of type `luks2`.
     Kind,
@@ -23,8 +23,9 @@ pub enum SkipReason {
     Hash,
     /// LUKS2: the encryption of the key material is not `aes-` and the name of a mode.
     Encryption,
-    /// LUKS2: the key material's key has no length of its mode, or the volume key has no length of
-    /// the payload's mode; if the segment is refused, the volume key may have a length of any mode.
+    /// LUKS2: the length of the key material's key is not one of its mode, or that of the volume
+    /// key is not one of the payload's mode; if the segment is refused, the volume key may have a
+    /// length of any mode.
     KeySize,
     /// The number of stripes is not 1 to 4000.
     Stripes,
@@ -79,13 +80,14 @@ pub enum SegmentFault {
     Encryption,
     /// LUKS1: the hash function's name is not known.
     Hash,
-    /// LUKS1: the volume key has no length of the mode: 32 or 64 bytes for XTS, 16 or 32 for CBC.
+    /// LUKS1: the length of the volume key is not one of the mode: 32 or 64 bytes for XTS, 16 or 32
+    /// for CBC.
     KeyBytes,
     /// LUKS2: the length of a sector is not 512, 1024, 2048 or 4096 bytes.
     SectorSize,
     /// The payload starts within a sector of 512 bytes, or inside an attached header.
     Offset,
-    /// LUKS2: the length of the payload is fixed and no multiple of the sectors' length.
+    /// LUKS2: the length of the payload is fixed and not a multiple of the sectors' length.
     Size,
 }
 

@@ -1,4 +1,4 @@
-//! Rules over numbers, which hold for both formats.
+//! Rules for numbers, which hold for both formats.
 
 ghost use Rattle.std.specs.Prelude.{◌≡◌, ◌+◌, ◌<◌, ◌^◌};
 ghost use Rattle.luks_verdict.specs.Rule.{iterations_out_of_range, is_digest, is_in_range};
@@ -6,19 +6,19 @@ ghost use Rattle.luks_verdict.specs.Rule.{area_out_of_range, stripes_out_of_rang
 
 use luks_area::area::HeaderArea;
 
-/// The most key slots that a header has, numbered from 0.
+/// The largest number of key slots in a header; they are numbered from 0.
 pub const MAX_SLOTS: u8 = 32;
 
-/// The most stripes that a key slot may have.
+/// The largest number of stripes that a key slot may have.
 pub const MAX_STRIPES: u64 = 4000;
 
-/// The most iterations that are made.
+/// The largest number of PBKDF2 iterations.
 pub const MAX_ITERATIONS: u64 = 4_294_967_295;
 
-/// The first byte behind the longest area.
+/// The end of the longest area.
 const MAX_AREA_LEN: u64 = HeaderArea::MAX_LEN as u64;
 
-/// Whether so many iterations are refused: none, more than four bytes can say, or more than the
+/// Whether this number of iterations is refused: 0, more than fits into four bytes, or above the
 /// limit.
 #[tactic(auto, unfolding(crate::specs::Rule::iterations_out_of_range))]
 pub fn iterations_out_of_range(limit: Option<u32>, iterations: u64) -> bool
@@ -29,7 +29,7 @@ pub fn iterations_out_of_range(limit: Option<u32>, iterations: u64) -> bool
         || limit.is_some_and(|limit| u64::from(limit) < iterations)
 }
 
-/// Whether the stripes are not 1 to 4000.
+/// Whether the number of stripes is not 1 to 4000.
 #[tactic(auto, unfolding(crate::specs::Rule::stripes_out_of_range))]
 pub fn stripes_out_of_range(stripes: u64) -> bool
     ensures { result ≡ stripes_out_of_range stripes }
@@ -37,8 +37,8 @@ pub fn stripes_out_of_range(stripes: u64) -> bool
     stripes == 0 || MAX_STRIPES < stripes
 }
 
-/// How many bytes of key material a slot has: one key for each stripe, in whole sectors of 512
-/// bytes.
+/// The number of bytes of a slot's key material: one key for each stripe, rounded up to whole
+/// sectors of 512 bytes.
 #[tactic(auto, unfolding(crate::specs::Rule::need_of))]
 pub fn need(key_bytes: u32, stripes: u32) -> u64
     ensures { result ≡ need_of key_bytes stripes }
@@ -82,7 +82,8 @@ pub fn in_range(iterations: u64, stripes: u64, offset: u64, need: u64) -> bool
         && end <= MAX_AREA_LEN
 }
 
-/// Whether a digest of so many iterations and bytes can be used: it has 20 to 64 bytes.
+/// Whether a digest with this number of iterations and bytes can be used: the iterations are in
+/// range, and it has 20 to 64 bytes.
 #[tactic(auto, unfolding(crate::specs::Rule::is_digest))]
 pub fn usable_digest(iterations: u64, len: usize) -> bool
     ensures { result ≡ is_digest iterations len }

@@ -1,4 +1,4 @@
-//! Where the payload lies and how it is cut into sectors.
+//! Where the payload is, and how it is divided into sectors.
 
 ghost use Rattle.std.specs.Prelude.{◌≡◌, ◌%◌};
 ghost use Rattle.std.specs.Option.{ForSome};
@@ -7,7 +7,7 @@ ghost use Rattle.luks_verdict.specs.SectorSize.{are_sectors, bytes_of};
 use crate::sector_size::SectorSize;
 use luks_cipher::Mode;
 
-/// Where the payload lies in the image, and how its sectors are numbered.
+/// Where the payload is in the image, and how its sectors are numbered.
 #[derive(Clone, Copy, Debug)]
 pub struct Segment {
     /// The first byte of the payload.
@@ -23,7 +23,7 @@ pub struct Segment {
     ghost whole_sectors: { ForSome size (λ bytes. bytes % bytes_of sector_size ≡ 0) },
 }
 
-/// What is read of a segment, before it is checked: each part if it could be read.
+/// The parts of a segment that are read, before they are checked: each one if it could be read.
 #[derive(Clone, Copy, Debug)]
 pub struct SegmentParts {
     /// The first byte of the payload.
@@ -52,7 +52,7 @@ impl Segment {
     ghost use Rattle.std.specs.Prelude.{◌≡◌};
     ghost use Rattle.luks_verdict.specs.Segment.{segment_from};
 
-    /// The segment of which this was read, if each part is there and in range.
+    /// The segment with these parts, if each is present and in range.
     #[tactic(auto, unfolding(crate::specs::Segment::segment_from))]
     pub fn from_parts(parts: SegmentParts) -> Option<Segment>
         ensures { result ≡ segment_from parts }

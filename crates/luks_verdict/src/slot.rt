@@ -9,32 +9,32 @@ use crate::rule::{in_range, need};
 use luks_cipher::Mode;
 use luks_kdf::Hash;
 
-/// What is read of a key slot, before it is judged.
+/// The parts of a key slot that are read, before they are checked.
 #[derive(Drop, Debug)]
 pub struct SlotParts {
-    /// Its priority: 2 is tried before 1, and 0 only if it is named.
+    /// Its priority: 2 is tried before 1, and 0 only if the slot is named.
     pub priority: u8,
-    /// The hash function by which PBKDF2 derives the key material's key. `None` comes for LUKS1
-    /// alone, if its name is not known.
+    /// The hash function with which PBKDF2 derives the key of the key material. `None` only for
+    /// LUKS1, if its name is not known.
     pub kdf_hash: Option<Hash>,
-    /// The iterations by which it does.
+    /// The iterations of this PBKDF2.
     pub iterations: u32,
-    /// The salt by which it does.
+    /// The salt of this PBKDF2.
     pub salt: HeaderBytes,
-    /// The hash function of the stripes. `None` comes for LUKS1 alone, if its name is not known.
+    /// The hash function of the stripes. `None` only for LUKS1, if its name is not known.
     pub af_hash: Option<Hash>,
-    /// How many stripes the key material has.
+    /// The number of stripes in the key material.
     pub stripes: u32,
     /// The length of the volume key in bytes.
     pub key_bytes: u32,
-    /// The length in bytes of the key by which the key material is encrypted.
+    /// The length in bytes of the key that encrypts the key material.
     pub area_key_bytes: u32,
     /// The first byte of the key material.
     pub area_offset: u64,
-    /// How many bytes are set aside for the key material.
+    /// The number of bytes that are reserved for the key material.
     pub area_size: u64,
-    /// The mode in which the key material is encrypted. `None` comes for LUKS1 alone, if its name
-    /// is not known.
+    /// The mode in which the key material is encrypted. `None` only for LUKS1, if its name is not
+    /// known.
     pub area_mode: Option<Mode>,
 }
 
@@ -42,7 +42,7 @@ pub struct SlotParts {
 /// iteration, and key material that ends within 33,554,432 bytes.
 #[derive(Drop, Debug)]
 pub struct Slot {
-    /// What was read of it.
+    /// Its parts, as they were read.
     pub parts: SlotParts,
     ghost in_range: { InRange parts.iterations parts.stripes
         (parts.area_offset + need_of parts.key_bytes parts.stripes) },
@@ -53,7 +53,7 @@ impl Slot {
     ghost use Rattle.luks_verdict.specs.Rule.{need_of};
     ghost use Rattle.luks_verdict.specs.Slot.{slot_from};
 
-    /// The key slot of which this was read, if its numbers are in range.
+    /// The key slot with these parts, if their numbers are in range.
     #[tactic(auto, unfolding(crate::specs::Slot::slot_from))]
     pub fn from_parts(parts: SlotParts) -> Option<Slot>
         ensures { result ≡ slot_from parts }
@@ -70,8 +70,8 @@ impl Slot {
         Some(Slot { parts })
     }
 
-    /// How many bytes of key material there are: one key for each stripe, in whole sectors of 512
-    /// bytes.
+    /// The number of bytes of the key material: one key for each stripe, rounded up to whole
+    /// sectors of 512 bytes.
     pub fn need(&self) -> u64
         ensures { result ≡ need_of self.now.parts.key_bytes self.now.parts.stripes }
     {

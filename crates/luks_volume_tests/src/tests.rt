@@ -1,4 +1,4 @@
-//! Tests, by the crate that they are of.
+//! Tests, by the crate that they test.
 
 mod open;
 mod payload;

@@ -6,7 +6,7 @@ use std::fs::{self, File};
 use std::io::{self, BufReader, ErrorKind, Read, Stdin};
 
 /// An open input. A regular file is read ahead. A pipe, a device and standard input are read only
-/// as far as requested, so that the next program finds what a run leaves of them.
+/// as far as requested, so that the next program can read what a run leaves.
 #[derive(Drop)]
 pub enum Input {
     File(BufReader<File>),
@@ -23,8 +23,8 @@ pub enum InputFault {
 }
 
 impl Input {
-    /// Opens the file of this name, or standard input for `-`. A folder cannot be opened, nor can
-    /// what standard output writes to.
+    /// Opens the named file, or standard input for `-`. It refuses a folder and the target of
+    /// standard output.
     pub fn open(rt: &HostRuntime, name: &str) -> Result<Input, InputFault> {
         if name == "-" {
             return match fs::metadata(rt, "/dev/stdin") {
@@ -45,7 +45,7 @@ impl Input {
     }
 }
 
-/// The fault that an error of opening a file is reported as.
+/// The fault for an error of opening a file.
 fn fault_of(e: io::Error) -> InputFault {
     if e.kind() == ErrorKind::OutOfMemory {
         InputFault::Memory

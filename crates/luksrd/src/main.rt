@@ -68,7 +68,8 @@ fn run(rt: &HostRuntime, command: &Command<'_>) -> Result<ExitCode, ExitCode> {
     } else {
         execute(alloc, command, &mut image, &mut secret, &mut out)
     };
-    // What the buffer still held is lost, so that counts, whatever the command reported.
+    // If this flush fails, output is lost: the run ends with a failed write, whatever the command
+    // reported.
     if out.into_inner().flush().is_err() {
         return Err(end(rt, Message::WriteFailed));
     }

@@ -1,4 +1,4 @@
-//! Standard output, and the descriptors that a program may be started without.
+//! Standard output, and the descriptors that may be closed when the program starts.
 
 use luks_io::adapters::MAX_RETRIES;
 use std::fs::{self, File};
@@ -23,7 +23,7 @@ impl<W: Write> RetryingWriter<W> {
         }
     }
 
-    // The error of each call from now on.
+    // Marks the writer as failed. Returns the error of this call, and of each call from now on.
     fn fail(&mut self) -> io::Error {
         self.failed = true;
         io::Error::from(ErrorKind::Other)
@@ -50,10 +50,10 @@ impl<W: Write> Write for RetryingWriter<W> {
     }
 }
 
-/// Opens `/dev/null` in place of one of the descriptors 0 to 2, if one is closed: else the first
-/// input would become standard input, or the output would go into it. It holds that descriptor
-/// until it is dropped. It is open for reading alone, so that a write to a closed output fails and
-/// is reported.
+/// Opens `/dev/null` in place of one of the descriptors 0 to 2, if one is closed. Otherwise the
+/// first input would become standard input, or the output would be written into it. The file
+/// occupies that descriptor until it is dropped. It is open for reading only, so that a write to a
+/// closed output fails and is reported.
 pub fn stand_in(rt: &HostRuntime) -> Option<File> {
     let file = fs::open(rt, "/dev/null").ok()?;
     if file.as_raw_fd() > 2 {

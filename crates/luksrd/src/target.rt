@@ -1,20 +1,21 @@
-//! The target of standard output. No input may be that: a run would read what it writes, without
+//! The target of standard output. It cannot be an input: a run would read what it writes, without
 //! end, or overwrite what it reads.
 
 use std::fs::{self, Metadata};
 use std::os::unix::fs::{FileTypeExt, MetadataExt};
 
-/// A place that gives back the bytes that are written to it.
+/// Storage: bytes that are written to it can be read back.
 #[derive(Clone, Copy, PartialEq, Eq)]
 enum Storage {
     /// A regular file, by its file system and its inode.
     File { device: u64, inode: u64 },
-    /// A block device, by its number: it may have several nodes.
+    /// A block device, by its number, since it may have several nodes.
     Device { number: u64 },
 }
 
-/// Whether standard output writes to this input, by whatever name. Either of them may be a loop
-/// device over the other, or both over one file. Without `/dev` or `/sys` fewer cases are found.
+/// Whether standard output writes to this input, under any name. Either of them may be a loop
+/// device over the other, or both may be loop devices over one file. Without `/dev` or `/sys`,
+/// fewer cases are found.
 pub fn is_output(rt: &HostRuntime, input: &Metadata) -> bool {
     let (Some(input), Ok(output)) = (storage_of(input), fs::metadata(rt, "/dev/stdout")) else {
         return false;
@@ -30,8 +31,8 @@ pub fn is_output(rt: &HostRuntime, input: &Metadata) -> bool {
         || (input_below.is_some() && input_below == output_below)
 }
 
-/// The storage that a file's metadata names, if it gives back what is written to it. A terminal, a
-/// pipe and `/dev/null` do not.
+/// The storage with this metadata, if bytes that are written to it can be read back. Those written
+/// to a terminal, a pipe or `/dev/null` cannot.
 fn storage_of(file: &Metadata) -> Option<Storage> {
     if file.is_file() {
         let (device, inode) = (file.dev(), file.ino());
@@ -56,12 +57,12 @@ fn backing_of(rt: &HostRuntime, storage: Storage) -> Option<Storage> {
     storage_of(&file)
 }
 
-/// The major part of a device's number, as Linux puts it together.
+/// The major part of a device's number, as Linux encodes it.
 fn major_of(number: u64) -> u64 {
     ((number >> 8) & 0xfff) | ((number >> 32) & 0xffff_f000)
 }
 
-/// The minor part.
+/// The minor part of a device's number.
 fn minor_of(number: u64) -> u64 {
     (number & 0xff) | ((number >> 12) & 0xffff_ff00)
 }

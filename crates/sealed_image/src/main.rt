@@ -1,7 +1,7 @@
 //! Writes a sealed volume to standard output: `sealed_image FORMAT MODE SECTOR`, where FORMAT is
 //! `luks1` or `luks2`, MODE the name of a mode and SECTOR the length of a sector in bytes (LUKS1
-//! has 512 alone). It holds 32,768 plain bytes that count modulo 251, and has two key slots, 0 with
-//! the passphrase `one` and 1 with the passphrase `two`. With no arguments it does nothing.
+//! has only 512). The volume holds 32,768 plain bytes that count modulo 251, and has two key slots,
+//! 0 with the passphrase `one` and 1 with the passphrase `two`. With no arguments it does nothing.
 //! `interop/sealed.sh` shows its volumes to other programs.
 #![tactic(auto)]
 
@@ -20,12 +20,12 @@ const UUID: &[u8] = b"0a1b2c3d-4e5f-4a6b-8c7d-9e0f1a2b3c4d";
 /// The volume key; a mode uses as many bytes as it needs.
 const KEY: [u8; 64] = *b"a volume key of AES-256 has two halves, thirty-two bytes in each";
 
-/// As many stripes as cryptsetup's own volumes have; it opens no others of LUKS2.
+/// As many stripes as cryptsetup's own volumes have; cryptsetup opens no LUKS2 volumes with others.
 const STRIPES: u32 = 4000;
 
 const ITERATIONS: u32 = 1000;
 
-// So many bytes that count from `first` on.
+// This many bytes that count from `first` on, modulo 251.
 fn counting(alloc: Global, first: usize, len: usize) -> Result<Vec<u8>, AllocError> {
     let mut bytes = Vec::with_capacity(alloc, len)?;
     for i in 0..len {
@@ -133,7 +133,7 @@ fn second(
     )
 }
 
-// The volume that the arguments ask for, if they name one.
+// The volume that the arguments request, if they name one.
 fn volume(alloc: Global, format: &str, mode: &str, sector: &str) -> Result<Vec<u8>, SealFault> {
     let mode = Mode::from_name(mode).ok_or(SealFault::Parameters)?;
     let sector_size = sector_size_of(sector).ok_or(SealFault::Parameters)?;

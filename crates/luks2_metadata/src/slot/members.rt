@@ -1,4 +1,4 @@
-//! The members of a key slot: whether each is there, in its kind.
+//! The members of a key slot: whether each is present and of the right type.
 
 ghost use Rattle.std.specs.Prelude.{◌≡◌, codes};
 ghost use Rattle.luks2_json.specs.Member.{passes};
@@ -25,7 +25,7 @@ pub(super) fn priority(slot: &Value) -> Option<u8>
     }
 }
 
-// How the key material is split into stripes.
+// The value is an `af` object of type luks1 with all its members.
 #[tactic(auto, unfolding(crate::specs::Slot2::is_af))]
 fn is_af(af: &Value) -> bool
     ensures { result ≡ is_af (data_of af.now) }
@@ -35,7 +35,7 @@ fn is_af(af: &Value) -> bool
         && string_member(af, "hash").is_some()
 }
 
-// Where the key material is, and how it is encrypted.
+// The value is an `area` object of type raw with all its members.
 #[tactic(auto, unfolding(crate::specs::Slot2::is_area))]
 fn is_area(area: &Value) -> bool
     ensures { result ≡ is_area (data_of area.now) }
@@ -47,7 +47,7 @@ fn is_area(area: &Value) -> bool
         && integer_member(area, "key_size").is_some()
 }
 
-// The parameters of PBKDF2.
+// The object has all parameters of PBKDF2.
 #[tactic(auto, unfolding(crate::specs::Slot2::is_pbkdf2))]
 fn is_pbkdf2(kdf: &Value) -> bool
     ensures { result ≡ is_pbkdf2 (data_of kdf.now) }
@@ -57,7 +57,8 @@ fn is_pbkdf2(kdf: &Value) -> bool
         && base64_len(kdf, "salt").is_some()
 }
 
-// How the key material's key comes of a passphrase.
+// The value is a `kdf` object: its type is a string, and it has all parameters if that type is
+// pbkdf2.
 #[tactic(auto, unfolding(crate::specs::Slot2::is_kdf))]
 fn is_kdf(kdf: &Value) -> bool
     ensures { result ≡ is_kdf (data_of kdf.now) }
@@ -65,7 +66,7 @@ fn is_kdf(kdf: &Value) -> bool
     string_member(kdf, "type").is_some() && (!is_type(kdf, "pbkdf2") || is_pbkdf2(kdf))
 }
 
-// The slot's `af` is whole.
+// The slot has a complete `af`.
 fn has_af(slot: &Value) -> bool
     ensures { result ≡ passes (codes "af") is_af (data_of slot.now) }
 {
@@ -75,7 +76,7 @@ fn has_af(slot: &Value) -> bool
     }
 }
 
-// The slot's `area` is whole.
+// The slot has a complete `area`.
 fn has_area(slot: &Value) -> bool
     ensures { result ≡ passes (codes "area") is_area (data_of slot.now) }
 {
@@ -85,7 +86,7 @@ fn has_area(slot: &Value) -> bool
     }
 }
 
-// The slot's `kdf` is whole.
+// The slot has a complete `kdf`.
 fn has_kdf(slot: &Value) -> bool
     ensures { result ≡ passes (codes "kdf") is_kdf (data_of slot.now) }
 {
@@ -95,7 +96,7 @@ fn has_kdf(slot: &Value) -> bool
     }
 }
 
-/// Each member of a key slot is there, in its kind.
+/// Every member of the key slot is present and of the right type.
 #[tactic(auto, unfolding(crate::specs::Slot2::has_members))]
 pub(super) fn has_members(slot: &Value) -> bool
     ensures { result ≡ has_members (data_of slot.now) }

@@ -12,7 +12,7 @@ use std::process::Abort;
 /// How an image ends: its length, that of its plaintext, and how the payload ends.
 type Ending = (u64, u64, Result<Step, VolumeFault>);
 
-/// A payload of two sectors of 1,024 bytes from byte 65,536 on that ends with its image.
+/// A payload of two sectors of 1,024 bytes, from byte 65,536 to the end of its image.
 static OPEN: [Ending; 7] = [
     (0, 0, Err(VolumeFault::CutBeforePayload)),
     (65_535, 0, Err(VolumeFault::CutBeforePayload)),
@@ -23,7 +23,7 @@ static OPEN: [Ending; 7] = [
     (67_584, 2048, Ok(Step::End)),
 ];
 
-/// The same of a fixed size, which is that of the two sectors.
+/// The same with a fixed size, which is that of the two sectors.
 static FIXED: [Ending; 6] = [
     (65_535, 0, Err(VolumeFault::CutBeforePayload)),
     (65_536, 0, Err(VolumeFault::Short(2048))),
@@ -33,7 +33,7 @@ static FIXED: [Ending; 6] = [
     (99_999, 2048, Ok(Step::End)),
 ];
 
-// Whether the image of this length has a plaintext of that length and that ending.
+// Whether an image of this length has a plaintext of this length and this ending.
 fn ends_so(volume: &Volume, (image_len, len, ending): &Ending) -> bool {
     (volume.len(*image_len) == *len) & (volume.ending(*image_len) == *ending)
 }

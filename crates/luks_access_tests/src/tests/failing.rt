@@ -16,19 +16,19 @@ fn is_zero(bytes: &[u8]) -> bool {
     bytes.iter().all(|byte| *byte == 0)
 }
 
-// How reading a range ends.
+// The result of reading the range of 3,000 bytes from byte 1,500 on.
 fn read(volume: &Volume, image: &BadImage<'_>, bytes: &mut [u8; 3000]) -> Result<(), RangeFault> {
     bytes.fill(0xee);
     volume.read_at(image, 1500, bytes)
 }
 
-// Whether the range ends with this fault, and the buffer is all zero.
+// Whether reading the range ends with this fault, and the buffer is all zero.
 fn is_blank(volume: &Volume, image: &BadImage<'_>, fault: RangeFault) -> bool {
     let mut bytes = [0; 3000];
     (read(volume, image, &mut bytes) == Err(fault)) & is_zero(&bytes)
 }
 
-// Whether the range is that of the text, after three reads.
+// Whether reading the range gives the bytes of the text, with three reads.
 fn is_whole(volume: &Volume, image: &[u8], plain: &[u8]) -> bool {
     let whole = BadImage::new(image);
     let mut bytes = [0; 3000];
@@ -87,7 +87,8 @@ fn an_image_is_not_opened_if_a_read_fails(rt: HostRuntime) {
     }
 }
 
-// Any byte of the first device can be read, though it reports no length; the second has none.
+// Any byte of the first device can be read, though its length is reported as 0; the second device
+// has no bytes.
 #[test]
 fn files_are_read_at_offsets(rt: HostRuntime) {
     let zeros = File::open(&rt, "/dev/zero").expect(&rt, "a device");

@@ -1,6 +1,6 @@
 //! Sealed volumes, and images that fail.
 //!
-//! What is made for a test stays to its end, so that no function drops it.
+//! What is made for a test lives to its end, so that no function drops it.
 
 use luks_access::image::{ReadAt, ReadAtFault};
 use luks_access::memory::MemImage;
@@ -26,7 +26,7 @@ pub const OPTIONS: Options = Options {
     max_iterations: None,
 };
 
-/// So many bytes that count up.
+/// `len` bytes that count up.
 pub fn text(rt: &(impl Abort + AllocGlobal), len: usize) -> &'static mut [u8] {
     counted(rt.alloc(), len).expect(rt, "memory").leak()
 }
@@ -57,12 +57,12 @@ pub fn image2(
     seal2(rt.alloc(), &parameters).expect(rt, "a volume").leak()
 }
 
-// A value that stays to the end of the test.
+// A value that lives to the end of the test.
 fn kept<'a, T: Drop + 'a>(rt: &(impl Abort + AllocGlobal), value: T) -> &'a T {
     Box::leak(Box::new(rt.alloc(), value).expect(rt, "memory"))
 }
 
-/// Opens the volume of an image by its passphrase.
+/// Opens the volume of an image with the passphrase of its key slot.
 pub fn opened(rt: &(impl Abort + AllocGlobal), options: &Options, image: &[u8]) -> &'static Volume {
     match Volume::open(rt.alloc(), options, &MemImage::new(image), PASS) {
         Ok(volume) => kept(rt, volume),
@@ -70,7 +70,8 @@ pub fn opened(rt: &(impl Abort + AllocGlobal), options: &Options, image: &[u8]) 
     }
 }
 
-/// Whether the range of a volume from this place on is that of the text, if the image is read.
+/// Whether the range of a volume from this offset on has the bytes of the text, if the image is
+/// read.
 pub fn is_range(
     volume: &Volume,
     image: &[u8],
@@ -83,7 +84,7 @@ pub fn is_range(
     (answer == Ok(())) & (at(plain, place, bytes.len()) == &bytes[..])
 }
 
-/// The message with which a volume is refused, or that it was opened.
+/// The message of the refusal of a volume, or `Done` if it was opened.
 pub fn refusal(
     rt: &(impl Abort + AllocGlobal),
     options: &Options,
@@ -96,25 +97,25 @@ pub fn refusal(
     }
 }
 
-/// An image of which a call fails, or that ends before its length.
+/// An image of which one call fails, or parts cannot be read.
 #[derive(Drop)]
 pub struct BadImage<'a> {
-    /// Its bytes.
+    /// The bytes that can be read.
     pub bytes: &'a [u8],
     /// The length that it reports.
     pub len: u64,
-    /// Which call of `read_at` fails, from 1 on, or 0.
+    /// The number of the call of `read_at` that fails, from 1 on; 0 if none does.
     pub failing: u32,
-    /// How many calls there were.
+    /// The number of calls of `read_at` so far.
     pub calls: Cell<u32>,
-    /// No byte before this one can be read.
+    /// No byte before this offset can be read.
     pub first: u64,
-    /// No byte from this one on can be read.
+    /// No byte from this offset on can be read.
     pub end: u64,
 }
 
 impl<'a> BadImage<'a> {
-    /// An image of these bytes, of which no call fails yet.
+    /// An image of these bytes, of which no call fails.
     pub fn new(bytes: &'a [u8]) -> BadImage<'a> {
         let len = bytes.len() as u64;
         BadImage {

@@ -13,7 +13,7 @@ use luks_verdict::sector_size::SectorSize;
 use std::alloc::Global;
 use std::process::Abort;
 
-// Options with a key slot of this number.
+// Options that name the key slot with this number.
 fn named(slot: u64) -> Options {
     Options {
         key_slot: SlotNumber::new(slot),
@@ -29,7 +29,7 @@ fn limited(iterations: u64) -> Options {
     }
 }
 
-// The message of an image in memory.
+// The message of opening an image in memory.
 fn message(
     rt: &(impl Abort + AllocGlobal),
     options: &Options,
@@ -68,7 +68,7 @@ fn check_refused(rt: &(impl Abort + AllocGlobal), image: &[u8]) {
     }
 }
 
-// The long text is too long for a passphrase, and is no volume.
+// The long text is too long for a passphrase, and is not a volume.
 fn check_others(rt: &(impl Abort + AllocGlobal), image: &[u8], long: &[u8]) {
     let other = message(rt, &OPTIONS, image, long);
     assert_of(rt, "long", other == Message::KeyFileLength);
@@ -86,8 +86,8 @@ fn a_volume_is_opened_or_refused_as_luks_cat_does(rt: HostRuntime) {
     check_others(&rt, image, text(&rt, MAX_PASSPHRASE_LEN + 1));
 }
 
-// Whether a volume is that of slot 2, with a payload from this byte on, of this size if it is
-// fixed, whose sectors are numbered from `iv_tweak` on.
+// Whether a volume was opened by slot 2, and has a payload from this byte on, of this size if it is
+// fixed, with sectors that are numbered from `iv_tweak` on.
 fn is_volume(volume: &Volume, offset: u64, size: Option<u64>, iv_tweak: u64) -> bool {
     let segment = volume.segment();
     (volume.slot() == 2)
@@ -133,7 +133,7 @@ fn a_detached_header_opens_another_image(rt: HostRuntime) {
     assert_of(&rt, "detached", is_so);
 }
 
-// Opens once. The answer is the refusal, or that it was done.
+// Opens the volume once. Returns the message of the refusal, or `Done`.
 fn open_once(alloc: Global, image: &[u8]) -> Message {
     match Volume::open(alloc, &OPTIONS, &MemImage::new(image), PASS) {
         Ok(_) => Message::Done,
@@ -141,7 +141,7 @@ fn open_once(alloc: Global, image: &[u8]) -> Message {
     }
 }
 
-// Opens again and again, with one more piece of memory each time.
+// Opens the volume again and again, with one more piece of memory each time.
 fn open_until_done(alloc: Global, image: &[u8], scarcity: &mut Scarcity) -> (u32, Message) {
     for refused in 0..400 {
         let message = open_once(alloc, image);
@@ -156,7 +156,7 @@ fn open_until_done(alloc: Global, image: &[u8], scarcity: &mut Scarcity) -> (u32
 #[test]
 fn refused_memory_is_reported(rt: HostRuntime) {
     let image = image2(&rt, text(&rt, 1024), SectorSize::B512, 0, false);
-    // The stack grows in a first run, since it cannot once all memory is taken.
+    // The stack grows in this first run, since it cannot when all memory is allocated.
     let first = open_once(rt.alloc(), image);
     assert_of(&rt, "first", first == Message::Done);
     let mut scarcity = Scarcity::new(rt.alloc(), 400, 4096).expect(&rt, "memory");

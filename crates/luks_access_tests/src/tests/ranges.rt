@@ -10,10 +10,10 @@ use luks_seal_fixtures::bytes::at;
 use luks_verdict::sector_size::SectorSize;
 use std::process::Abort;
 
-/// The length of each text here: three sectors of the longest size.
+/// The length of each text here: three of the longest sectors.
 const LEN: usize = 12_288;
 
-/// Ranges of it: the offset of each, and its length.
+/// Ranges of such a text: the offset of each, and its length.
 static RANGES: [(usize, usize); 16] = [
     (0, 0),
     (0, 1),
@@ -43,7 +43,7 @@ static PAST: [(u64, usize); 5] = [
 ];
 
 /// A range of a text in sectors of 1,024 bytes, stored from byte 65,536 on: its offset, its length,
-/// and from where to where its sectors are in the image.
+/// and the offsets in the image at which its sectors start and end.
 type Window = (u64, usize, u64, u64);
 
 static WINDOWS: [Window; 6] = [
@@ -55,7 +55,7 @@ static WINDOWS: [Window; 6] = [
     (2048, 0, 1, 1),
 ];
 
-// Each range of the volume is that of the text.
+// Each range of the volume has the bytes of the text.
 fn check_ranges(
     rt: &(impl Abort + AllocGlobal),
     image: &[u8],
@@ -119,7 +119,7 @@ fn a_range_past_the_end_reads_nothing(rt: HostRuntime) {
     }
 }
 
-// The range is read of this part of the image alone.
+// The range can be read if only this part of the image can.
 fn check_window(
     rt: &(impl Abort + AllocGlobal),
     volume: &Volume,
@@ -144,7 +144,7 @@ fn only_the_sectors_of_a_range_are_read(rt: HostRuntime) {
     }
 }
 
-// Decrypts stored sectors of the payload from its third one on, if they are whole.
+// Decrypts the stored sectors from sector 2 of the payload on, if they are whole.
 fn decrypt(volume: &Volume, bytes: &mut [u8]) {
     let segment = volume.segment();
     let size = segment.sector_size.bytes();

@@ -1,4 +1,4 @@
-//! What is wrong with the two headers of LUKS2.
+//! The finding about the two headers of LUKS2.
 
 ghost use Rattle.std.specs.Prelude.{◌≡◌, ◌++◌, OnOk, string_bytes};
 ghost use Rattle.luks_check.specs.Findings2.{header_finding};
@@ -7,7 +7,7 @@ use luks_dump::field::push_field;
 use luks_header::header::Finding;
 use std::alloc::AllocError;
 
-/// Adds what is found in the two headers beside one another.
+/// Adds the finding about the two headers.
 pub(crate) fn push_finding(lines: &mut String, finding: Option<Finding>) -> Result<(), AllocError>
     ensures { OnOk result
         (string_bytes lines.new ≡ string_bytes lines.old ++ header_finding finding) }

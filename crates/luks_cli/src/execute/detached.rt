@@ -1,4 +1,4 @@
-//! What the commands do over a header in a file of its own.
+//! Runs of commands with a detached header.
 
 ghost use Rattle.std.specs.Prelude.{◌≡◌, true};
 ghost use Rattle.luks_request.specs.Request.{has_header_file, request_of};
@@ -20,11 +20,11 @@ use std::alloc::Global;
 /// Runs a command with a detached header over the header's file, the image with the payload, the
 /// second input and the output.
 ///
-/// As [`execute`](super::execute), but the header and the key areas come from the file, and the
-/// payload from the image, at the segment's own offset. Only `luksCat` reads the image, after a key
-/// was found: if a write fails, no byte of it past the current sector was consumed, and if a read
-/// of it fails, all its whole sectors that were consumed are written. No clause here is about
-/// honestly sealed volumes.
+/// Does the same as [`execute`](super::execute), but the header and the key areas come from the
+/// header's file, and the payload from the image, at the segment's own offset. Only `luksCat` reads
+/// the image, after a key was found: if a write fails, no byte of the image past the current sector
+/// was consumed, and if a read of it fails, all its whole sectors that were consumed are written.
+/// No clause here is about honestly sealed volumes.
 pub fn execute_detached<H: Source, I: Source, K: Source, O: Sink>(
     alloc: Global,
     command: &Command<'_>,

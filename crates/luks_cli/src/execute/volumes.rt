@@ -38,7 +38,7 @@ use luks_unlock::trying::try_slots;
 use luks_unlock::unlocked::UnlockedVolume;
 use std::alloc::Global;
 
-/// A volume that is opened.
+/// An open volume.
 #[derive(Drop)]
 struct Unlocked {
     /// The first bytes of the image, or of the file with the detached header: all that were
@@ -47,7 +47,7 @@ struct Unlocked {
     volume: UnlockedVolume,
 }
 
-/// Opens a volume that was found by the passphrase that the key file has.
+/// Opens a volume that was found, by the passphrase in the key file.
 fn open_volume<I: Source, K: Source>(
     alloc: Global,
     opening: &VolumeArgs<'_>,
@@ -75,15 +75,15 @@ fn open_volume<I: Source, K: Source>(
     try_slots(opening, volume, image, &passphrase, work)
 }
 
-/// The bytes that are loaded of the image of a volume. The rest of the found volume is dropped.
+/// The loaded bytes of a volume's image. The rest of the found volume is dropped.
 fn area_of(volume: FoundVolume) -> HeaderArea
     ensures { result ≡ volume.area }
 {
     volume.area
 }
 
-/// Opens a volume by the passphrase in the key file. Its header is at the start of this image, or
-/// is this file.
+/// Opens a volume by the passphrase in the key file. `image` is the image with an attached header,
+/// or the file of a detached one.
 fn unlock<I: Source, K: Source>(
     alloc: Global,
     location: HeaderLocation,
@@ -110,10 +110,10 @@ fn unlock<I: Source, K: Source>(
         (I.to_come image.new) (I.counts image.old) (I.counts image.new)) }
 {
     let mut volume = find_volume(alloc, location, opening, image)?;
-    // Nobody asks how much work it was.
+    // The amount of work is not reported.
     let work = &mut Work::new(0);
     let opened = open_volume(alloc, opening, &mut volume, image, secret, work);
-    // All but the loaded bytes is dropped here, whether or not a slot opened.
+    // All but the loaded bytes are dropped here, whether or not a slot opened.
     let area = area_of(volume);
     Ok(Unlocked {
         area,
@@ -163,7 +163,7 @@ pub(super) fn test_passphrase<I: Source, K: Source, O: Sink>(
     report_slot(alloc, unlocked.volume.slot, out)
 }
 
-/// Writes the plaintext of an open volume's payload. These first bytes of its image are loaded.
+/// Writes the plaintext of an open volume's payload. `loaded` holds the first bytes of its image.
 ///
 /// It is not inlined: `cat` calls it for two types of sources, and both frames together would take
 /// more stack than the program has if memory is short.
@@ -187,7 +187,7 @@ fn write_plain<I: Source, O: Sink>(
     write_payload(volume.segment, volume.cipher(), loaded, image, out)
 }
 
-/// `luksCat` of an image with its header.
+/// `luksCat` of an image with an attached header.
 pub(super) fn cat<I: Source, K: Source, O: Sink>(
     alloc: Global,
     opening: &VolumeArgs<'_>,

@@ -1,5 +1,5 @@
-//! `luksCat` over an image that is read ahead: it announces what it needs and no more, so what lies
-//! behind the payload is left to the next reader.
+//! `luksCat` over an image that is read ahead: it allows read-ahead for what it needs and no more,
+//! so that what follows the payload remains for the next reader.
 
 use super::runs::{CAT, CAT_DETACHED, DONE, WRITE_FAILED, check_told, report_of, sink, words_of};
 use super::same::{assert_in, assert_same_in};
@@ -14,7 +14,7 @@ use luks_seal_fixtures::bytes::at;
 use luks_test_support::devices::Flaky;
 use std::process::Abort;
 
-// An image that gives all that is requested, of which up to `room` bytes are read ahead.
+// An image that gives all bytes that are requested, and reads up to `room` bytes ahead.
 fn ahead<'a>(
     rt: &(impl Abort + AllocGlobal),
     image: &'a [u8],
@@ -38,28 +38,28 @@ fn report_ahead(
     report_of(rt, &words, &mut header, image, &mut secret, out)
 }
 
-/// A run whose image is taken ahead.
+/// A run whose image is read ahead.
 struct Taken {
     line: &'static str,
-    /// How many bytes are taken ahead, and for how many there is space in the output.
+    /// How many bytes may be read ahead, and the capacity of the output.
     room: usize,
     space: usize,
-    /// How many plain bytes are written.
+    /// How many bytes of the plaintext are written.
     written: usize,
     /// The status and the message.
     told: &'static str,
-    /// How many bytes of the image are left.
+    /// How many bytes of the image remain.
     left: usize,
 }
 
-/// The same image, of which so many bytes are taken ahead.
+/// Runs over the same image, with different capacities for read-ahead.
 struct Rooms {
     none: Taken,
     all: Taken,
     others: &'static [Taken],
 }
 
-// A run with so much room.
+// A run with this capacity for read-ahead.
 macro_rules! taken {
     ($room:literal, $written:expr, $left:expr) => {
         Taken {
@@ -73,7 +73,8 @@ macro_rules! taken {
     };
 }
 
-// So many plain bytes are written, and so many bytes of the image left, in each room.
+// With every capacity for read-ahead, this many bytes of the plaintext are written, and this many
+// bytes of the image remain.
 macro_rules! rooms {
     ($written:expr, $left:expr) => {
         Rooms {
@@ -91,8 +92,9 @@ macro_rules! rooms {
     };
 }
 
-// The run reports this, writes what begins with the plain bytes as far as there is space, and
-// leaves so many bytes of the image; answers how often the image was asked.
+// The run reports the row's message, writes a prefix of the plaintext up to the capacity of the
+// output, and leaves the row's number of bytes of the image. Returns the number of calls of the
+// image.
 fn check_ahead(rt: &(impl Abort + AllocGlobal), header: &[u8], image: &[u8], row: &Taken) -> u64 {
     let case = (row.line, row.room, image.len(), row.left);
     let mut image = ahead(rt, image, row.room);
@@ -105,8 +107,8 @@ fn check_ahead(rt: &(impl Abort + AllocGlobal), header: &[u8], image: &[u8], row
     image.get_ref().calls()
 }
 
-// How many bytes are taken ahead changes nothing but the number of calls; answers how many there
-// are if none are taken ahead, and if all are.
+// The capacity for read-ahead changes only the number of calls. Returns that number for no
+// read-ahead and for the largest capacity.
 fn check_rooms(rt: &(impl Abort + AllocGlobal), image: &[u8], rooms: &Rooms) -> (u64, u64) {
     for row in rooms.others {
         check_ahead(rt, &[], image, row);
@@ -116,13 +118,13 @@ fn check_rooms(rt: &(impl Abort + AllocGlobal), image: &[u8], rooms: &Rooms) -> 
     (most, least)
 }
 
-// The same of a volume with a payload of this size.
+// The same for a volume with a payload of this size.
 fn check_size(rt: &(impl Abort + AllocGlobal), size: &str, rooms: &Rooms) -> (u64, u64) {
     check_rooms(rt, &sealed2(rt, size), rooms)
 }
 
-// The same of one of 80,000 bytes. Its damaged primary header names 65,536 bytes, so as many are
-// read before the payload is.
+// The same for an image of 80,000 bytes. Its damaged primary header names 65,536 bytes, so as many
+// are read before the payload is.
 fn check_searched(rt: &(impl Abort + AllocGlobal), size: &str, rooms: &Rooms) {
     let image = changed(rt, &sealed2(rt, size), 80_000, NAMES_64_KIB);
     check_rooms(rt, &image, rooms);
@@ -139,8 +141,8 @@ static OF_SEARCHED: Rooms = rooms!(1024, 80_000 - 65_536);
 static OF_BEHIND: Rooms = rooms!(PLAIN_LEN, 80_000 - 36_864 - 33_792);
 
 // The payload starts at byte 36,864 of an image of 38,400 bytes, and each sector is a call of its
-// own if nothing is taken ahead. A payload ends within what a search has read, and one of 66
-// sectors ends behind it.
+// own without read-ahead. One payload ends within the bytes that the search for a header has read,
+// and one of 66 sectors ends after them.
 #[test]
 fn no_more_is_taken_than_the_payload(rt: HostRuntime) {
     check_size(&rt, "dynamic", &OF_ALL);
@@ -152,7 +154,7 @@ fn no_more_is_taken_than_the_payload(rt: HostRuntime) {
     check_searched(&rt, "33792", &OF_BEHIND);
 }
 
-// A run beside a detached header with so much room.
+// A run with a detached header and this capacity for read-ahead.
 macro_rules! beside {
     ($room:literal) => {
         Taken {
@@ -166,7 +168,7 @@ macro_rules! beside {
     };
 }
 
-// How often the image is asked.
+// The number of calls of the image.
 static ASKED: [(Taken, u64); 5] = [
     (beside!(0), 2),
     (beside!(1), 2),
@@ -182,15 +184,15 @@ fn check_beside(rt: &(impl Abort + AllocGlobal), header: &[u8], image: &[u8]) {
     }
 }
 
-// Beside a detached header the payload starts at the image's first byte, and is one call if it is
-// taken ahead.
+// With a detached header, the payload starts at the image's first byte, and is read in one call if
+// all of it is read ahead.
 #[test]
 fn no_more_is_taken_beside_a_header(rt: HostRuntime) {
     let image = sealed2(&rt, "dynamic");
     check_beside(&rt, &front2(&rt, "0", "1024"), payload_of(&image))
 }
 
-// A run without space for what is written.
+// A run whose output has no capacity.
 macro_rules! full {
     ($room:literal, $left:literal) => {
         Taken {
@@ -206,7 +208,7 @@ macro_rules! full {
 
 static FULL: [Taken; 3] = [full!(0, 1024), full!(512, 1024), full!(65_536, 512)];
 
-// If a write fails, what was taken ahead is lost, and still nothing behind the payload is.
+// If a write fails, bytes that were read ahead are lost, but none after the payload.
 #[test]
 fn no_more_is_taken_if_a_write_fails(rt: HostRuntime) {
     let image = sealed2(&rt, "1024");
@@ -215,8 +217,8 @@ fn no_more_is_taken_if_a_write_fails(rt: HostRuntime) {
     }
 }
 
-// A run of which this call of the image fails, if there are as many. Whole sectors that were
-// consumed are written, and the image was asked no more.
+// A run whose image fails at this call, if there are so many calls. Whole sectors that were
+// consumed are written, and the image is not called after that.
 fn check_failed_read(rt: &(impl Abort + AllocGlobal), image: &[u8], call: u64) -> Report {
     let below = Flaky::new(image, 700, call);
     let mut source = AheadSource::new(rt.alloc(), 1024, below).expect(rt, "room");
@@ -226,7 +228,7 @@ fn check_failed_read(rt: &(impl Abort + AllocGlobal), image: &[u8], call: u64) -
     report
 }
 
-// So many bytes were in the image.
+// The whole sectors that were consumed are written, and no call of the image was needless.
 fn check_consumed(rt: &impl Abort, call: u64, len: usize, image: &Flaky<'_>, out: &MemSink) {
     let consumed = len - image.left().min(len);
     let sectors = consumed.saturating_sub(36_864) / 512;
@@ -236,7 +238,7 @@ fn check_consumed(rt: &impl Abort, call: u64, len: usize, image: &Flaky<'_>, out
     assert_in(rt, &call, image.calls() <= call.saturating_add(1));
 }
 
-// Runs until one has no failed read. None of the first fifty is such a one.
+// Runs until no read fails. A read fails in each of the first fifty runs.
 fn check_failed_reads(rt: &(impl Abort + AllocGlobal), image: &[u8]) {
     for call in 0..1000 {
         let report = check_failed_read(rt, image, call);

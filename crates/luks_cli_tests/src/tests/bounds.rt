@@ -1,10 +1,10 @@
-//! Numbers of a header from both sides of each bound, and devices that give and take so many bytes.
+//! Numbers in a header on both sides of each bound, and devices that fail after a number of bytes.
 
 use super::rows::{CAT_ROW, Output, Row, check_rows, opened};
 use super::runs::{ALL, NO_KEY, OFFSET, TEST, WRITE_FAILED};
 use super::volume::{Changes, PASSPHRASE, changed, usual};
 
-// Places in a header of LUKS1.
+// Offsets in a LUKS1 header.
 const PAYLOAD_OFFSET: usize = 104;
 
 const KEY_BYTES: usize = 108;
@@ -31,7 +31,7 @@ const DIGEST: &str = "1 luksrd: no key slot can be tried; skipped: 0 (digest)\n"
 
 const KEY_SIZE: &str = "1 luksrd: segment refused: key bytes\n";
 
-// The bytes of a number, the highest first.
+// The bytes of a number, in big-endian order.
 macro_rules! bytes_of {
     ($number:literal) => {
         [
@@ -43,9 +43,9 @@ macro_rules! bytes_of {
     };
 }
 
-// A number at a place, what `testPassphrase` reports, and how many bytes it consumes of the image
-// and leaves of the key file: the key slot or the segment is refused right behind the header, or
-// the key slot is tried.
+// A number at an offset, what `testPassphrase` reports, and how many bytes it consumes of the image
+// and leaves of the key file: the key slot or the segment is refused right after the header was
+// read, or the key slot is tried.
 macro_rules! number {
     ($place:ident, $number:literal, $told:ident, $consumed:literal, $unread:literal) => {
         Row {
@@ -96,7 +96,7 @@ static NUMBERS: [Row<'static>; 30] = [
     number!(KEY_BYTES, 0xffff_ffff, KEY_SIZE, 592, 13),
 ];
 
-// No more than 32 MiB are held, also if the payload starts behind them.
+// At most 32 MiB are loaded, even if the payload starts after them.
 static FAR: [Row<'static>; 2] = [
     number!(SLOT_OFFSET, 65_036, NO_KEY, 33_554_432, 0),
     number!(SLOT_OFFSET, 65_037, AREA, 592, 13),
@@ -114,8 +114,8 @@ fn each_number_has_its_bounds(rt: HostRuntime) {
 
 const READ_FAILED: &str = "6 luksrd: read failed\n";
 
-// A row of `luksCat` of the whole image with these limits: how many plain bytes are written, what
-// is reported, and how many bytes are consumed of the image and left of the key file.
+// A row of `luksCat` of the whole image with these limits: how many bytes of the plaintext are
+// written, what is reported, and how many bytes are consumed of the image and left of the key file.
 macro_rules! limited {
     ($limits:expr, $written:literal, $told:ident, $consumed:literal, $unread:literal) => {
         Row {

@@ -1,5 +1,5 @@
-//! The commands over devices that move a few bytes a call, of which one call fails, and with memory
-//! refused.
+//! The commands over devices that move a few bytes a call and of which one call fails, and with
+//! failing allocations.
 
 use super::devices::{Pieces, Trial, check_failures, check_pieces, check_truncated};
 use super::headers::{self, FIELDS, Page};
@@ -14,18 +14,19 @@ use luks_args::planning::plan;
 use luks_request::command::Command;
 use std::process::Abort;
 
-/// What is done with a run.
+/// How a run is disturbed.
 #[derive(Clone, Copy)]
 pub(super) enum Hardship {
-    /// The devices move in pieces of each length.
+    /// The devices move pieces of each length.
     Pieces,
-    /// The devices move in the pieces that are given.
+    /// The devices move pieces of the given lengths.
     Given,
-    /// The devices move in the pieces that are given, and the image ends before its key areas.
+    /// The devices move pieces of the given lengths, and the image ends before its key areas.
     Truncated,
-    /// Each call of each device fails.
+    /// Each call of each device fails, one a run.
     Failures,
-    /// Memory is refused: so many bytes come back at a time, and so many runs are refused at least.
+    /// Allocations fail: the first number is how many bytes become free again after each run, the
+    /// second one how many runs have to run out of memory at least.
     Refusals(usize, usize),
 }
 
@@ -53,7 +54,7 @@ fn check_all_pieces(rt: &(impl Abort + AllocGlobal), command: &Command<'_>, tria
     }
 }
 
-// If a call is to fail, the devices move in these pieces.
+// The devices move these pieces if they are given, the image is truncated, or calls fail.
 fn check_command(
     rt: &(impl Abort + AllocGlobal),
     hardship: Hardship,
@@ -70,7 +71,7 @@ fn check_command(
     }
 }
 
-/// The same of the trial's line, which is a command.
+/// Checks the command of the trial's line in the same way.
 pub(super) fn check_trial(
     rt: &(impl Abort + AllocGlobal),
     hardship: Hardship,
@@ -82,7 +83,7 @@ pub(super) fn check_trial(
     check_command(rt, hardship, &command, trial, pieces)
 }
 
-// The lines print these pages of an image, of which so many bytes are left.
+// The lines print these texts of an image, and leave `left` bytes of it.
 fn check_pages(
     rt: &(impl Abort + AllocGlobal),
     hardship: Hardship,
@@ -111,25 +112,25 @@ fn check_headers(rt: &(impl Abort + AllocGlobal), hardship: Hardship) {
     check_pages(rt, hardship, (&second, 327, 10), &headers2::PAGES)
 }
 
-// How the devices of a run move of which a call is to fail.
+// The pieces that the devices of a run move if a call fails.
 const ATTACHED: Pieces = (0, 384, 5, 3);
 
 const DETACHED: Pieces = (500, 100, 5, 300);
 
 const STRIPES: Pieces = (0, 5, 5, 3);
 
-/// How both commands that open a volume move: their lines, where the payload starts in the image,
-/// how many bytes of it `testPassphrase` leaves, and in which pieces the devices move.
+/// The runs of both commands that open a volume: their lines, where the payload starts in the
+/// image, how many bytes of it `testPassphrase` leaves, and the pieces that the devices move.
 type Moves = ([&'static str; 2], usize, usize, Pieces);
 
-// Their payload starts at byte 36,864, and their key material ends at byte 4,608 and at 33,280.
+// Both payloads start at byte 36,864; the key material ends at byte 4,608 and at byte 33,280.
 const FIRST: Moves = ([CAT, TEST], 36_864, SMALL_LEN - 4608, ATTACHED);
 
 const SECOND: Moves = ([CAT, TEST], 36_864, SMALL_LEN - 33_280, ATTACHED);
 
 const BESIDE: Moves = ([CAT_DETACHED, TEST_DETACHED], 0, PLAIN_LEN, DETACHED);
 
-// Both commands, over this detached header, if the lines name one, and this image.
+// Both commands, over this image, and this detached header if the lines name one.
 fn check_both(
     rt: &(impl Abort + AllocGlobal),
     hardship: Hardship,

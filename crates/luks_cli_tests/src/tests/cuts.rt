@@ -1,4 +1,4 @@
-//! Volumes that are truncated at each place where it matters.
+//! Volumes that are truncated at every offset where it matters.
 
 use super::rows::{CAT_ROW, Output, Row, check_rows};
 use super::runs::{BEFORE, CAT, CUT, DONE, Inputs, NOT_LUKS, TORN_511, check};
@@ -7,9 +7,9 @@ use super::volume::{PASSPHRASE, PLAIN, PLAIN_LEN, SMALL_LEN, sealed2, small, usu
 use luks_seal_fixtures::bytes::at;
 use std::process::Abort;
 
-// A row of so many bytes of the image, all of which `luksCat` consumes: it writes so many plain
-// bytes and reports this. It reads the key file once it has the header, and leaves so many bytes of
-// it before.
+// A row with the first `len` bytes of the image, all of which `luksCat` consumes: it writes this
+// many bytes of the plaintext and reports this. It reads the key file only after it has the header,
+// and leaves this many bytes of it.
 macro_rules! cut {
     ($len:literal, $written:literal, $told:ident, $unread:literal) => {
         Row {
@@ -39,8 +39,8 @@ static USUAL_CUTS: [Row<'static>; 12] = [
 
 const TORN_1: &str = "4 luksrd: image ends inside a sector: 1 bytes left over\n";
 
-// In the binary header, the JSON text, the secondary header, the key area, before the payload, and
-// in a sector.
+// Truncated in the binary header, the JSON text, the secondary header, the key area, before the
+// payload, and in a sector.
 static CUTS: [Row<'static>; 22] = [
     cut!(0, 0, NOT_LUKS, 13),
     cut!(7, 0, NOT_LUKS, 13),
@@ -74,7 +74,7 @@ const SHORT_512: &str = "4 luksrd: image ends 512 bytes before the segment does\
 
 const SHORT_1: &str = "4 luksrd: image ends 1 bytes before the segment does\n";
 
-// The last one is of the whole image, with 512 bytes behind the payload.
+// The last row is the whole image, with 512 bytes after the payload.
 static FIXED_CUTS: [Row<'static>; 7] = [
     cut!(36_863, 0, BEFORE, 0),
     cut!(36_864, 0, SHORT_1024, 0),
@@ -103,7 +103,7 @@ fn a_truncated_fixed_size_is_reported(rt: HostRuntime) {
     check_rows(&rt, &sealed2(&rt, "1024"), &FIXED_CUTS)
 }
 
-// What is reported of an image that ends so many bytes behind a sector's start.
+// What is reported of an image that ends this many bytes after a sector's start.
 fn torn_line(rt: &(impl Abort + AllocGlobal), torn: usize) -> String {
     if torn == 0 {
         return String::from_str(rt.alloc(), DONE).expect(rt, "room for a line");
@@ -114,7 +114,7 @@ fn torn_line(rt: &(impl Abort + AllocGlobal), torn: usize) -> String {
     )
 }
 
-// A small volume that is truncated to so many bytes of its payload.
+// A small volume, truncated after `len` bytes of its payload.
 fn check_torn(rt: &(impl Abort + AllocGlobal), image: &[u8], len: usize) {
     let torn = len % 512;
     let told = torn_line(rt, torn);

@@ -15,7 +15,7 @@ const CAT_1: &str = "luksCat --key-file f --header h --key-slot 1 i";
 
 const DISABLED: &str = "1 luksrd: key slot 1 is disabled\n";
 
-// Of a header whose payload starts at byte 0. The digest is by Python's hashlib.
+// The dump of a header whose payload starts at byte 0. The digest is by Python's hashlib.
 const DUMP: &str = "\
 Version: 1
 UUID: a-uuid
@@ -36,7 +36,7 @@ Slot 6: DISABLED
 Slot 7: DISABLED
 ";
 
-/// A part of a volume that a run is given.
+/// The part of a volume that a run gets as an input.
 #[derive(Clone, Copy)]
 enum Part {
     Nothing,
@@ -44,11 +44,11 @@ enum Part {
     Header,
     /// The payload, 1,536 bytes.
     Payload,
-    /// The volume as it is, whose payload is not where the header ends.
+    /// The whole volume, whose payload does not start where the key material ends.
     Volume,
 }
 
-/// A volume, and its header for the payload alone.
+/// A volume, and a detached header for its payload.
 #[derive(Clone, Copy)]
 struct Parts<'a> {
     volume: &'a [u8],
@@ -56,7 +56,7 @@ struct Parts<'a> {
 }
 
 impl<'a> Parts<'a> {
-    // So many bytes of this part.
+    // The first `len` bytes of this part.
     fn of(&self, (part, len): (Part, usize)) -> &'a [u8] {
         match part {
             Part::Nothing => &[],
@@ -68,7 +68,7 @@ impl<'a> Parts<'a> {
 }
 
 /// A line, the detached header and the image, the key file, what the run prints and reports, and
-/// how many bytes it leaves.
+/// how many bytes of each input it leaves.
 type Row<'a> = (
     &'a str,
     [(Part, usize); 2],
@@ -148,8 +148,8 @@ static ROWS: [Row<'static>; 15] = [
         (Output::Text(""), DONE),
         (0, 0, 0),
     ),
-    // The image is left as it is until the key is found, and none of it is needed to refuse what is
-    // no header.
+    // The image is not read before the key is found, nor if the detached header is not a LUKS
+    // header.
     (
         CAT_DETACHED,
         WHOLE,
@@ -179,7 +179,7 @@ static ROWS: [Row<'static>; 15] = [
         (Output::Text("segment: offset\nslot 0: area\n"), FINDINGS),
         (0, 259_504, 13),
     ),
-    // The payload is written, as far as there are whole sectors.
+    // The payload is written, up to its last whole sector.
     (
         CAT_DETACHED,
         WHOLE,
@@ -194,7 +194,7 @@ static ROWS: [Row<'static>; 15] = [
         (Output::Plain(1024), TORN_511),
         (0, 0, 0),
     ),
-    // A volume is its own header too.
+    // A volume can also be its own detached header.
     (
         CAT_DETACHED,
         [VOLUME, VOLUME],
@@ -236,9 +236,9 @@ const CLEAN: Ends<'static> = (b"clean\n", DONE);
 
 const AMISS: Ends<'static> = (b"segment: offset\n", FINDINGS);
 
-/// The payload's offset and size as a header of LUKS2 has them, how many bytes the image has before
-/// the payload, how many plain bytes are written, what is reported, how many bytes are left, and
-/// what a check of the header finds.
+/// The payload's offset and size as a LUKS2 header has them, how many bytes the image has before
+/// the payload, how many bytes of the plaintext are written, what is reported, how many bytes
+/// remain, and the findings of a check of the header.
 type Place = (
     (&'static str, &'static str),
     usize,
@@ -256,7 +256,7 @@ static PLACES: [Place; 6] = [
     (("100", "dynamic"), 0, (0, OFFSET), (512, 1536, 13), AMISS),
 ];
 
-// The image has 1,024 bytes before the payload, of which the first may be left out.
+// The image has the last `before` of the 1,024 bytes that precede the payload.
 fn check_place(
     rt: &(impl Abort + AllocGlobal),
     image: &[u8],
@@ -271,7 +271,7 @@ fn check_place(
     check(rt, "luksCheck --header h i", inputs, found, left)
 }
 
-// In place of the 1,024 bytes before the payload, which starts at byte 2,097,152.
+// These bytes replace the 1,024 bytes before the payload, which starts at byte 2,097,152.
 const FILLER: Changes = &[(2_096_128, &[0xee; 1024])];
 
 #[test]

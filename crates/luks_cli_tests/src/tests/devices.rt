@@ -1,4 +1,4 @@
-//! Runs over devices that move a few bytes a call, of which one call may fail.
+//! Runs over devices that move a few bytes a call, one of which may fail at one call.
 
 use super::runs::report_over;
 use super::same::{assert_in, assert_same_in};
@@ -16,12 +16,12 @@ pub(super) struct Trial<'a> {
     pub(super) header: &'a [u8],
     pub(super) image: &'a [u8],
     pub(super) secret: &'a [u8],
-    /// Where the payload starts in the image; of a command that writes none, the greatest number.
+    /// Where the payload starts in the image, or `usize::MAX` if the command writes none.
     pub(super) start: usize,
     pub(super) whole: &'a [u8],
     /// Whether it reports findings.
     pub(super) has_findings: bool,
-    /// How many bytes of the image it leaves. It leaves none of the others.
+    /// How many bytes of the image it leaves. It leaves none of the other inputs.
     pub(super) left: usize,
 }
 
@@ -37,11 +37,11 @@ impl Trial<'_> {
 }
 
 /// How many bytes a call moves of the detached header, the image, the second input and the output.
-/// For an input, 0 means all that are requested.
+/// For an input, 0 means all bytes that are requested.
 pub(super) type Pieces = (usize, usize, usize, usize);
 
-/// How the devices of a run move, and which call fails: which device's (the image is 0, the second
-/// input 1, the output 2, the detached header 3, none 4), and which one of its calls.
+/// How the devices of a run move bytes, and which call of which device fails: the image is device
+/// 0, the second input 1, the output 2 and the detached header 3; with 4, no call fails.
 #[derive(Clone, Copy, Debug)]
 struct Way {
     pieces: Pieces,
@@ -50,7 +50,7 @@ struct Way {
 }
 
 impl Way {
-    // Which call of this device fails.
+    // The number of the call of this device that fails.
     fn call_of(self, device: u32) -> u64 {
         if device == self.device {
             self.call
@@ -99,21 +99,21 @@ fn run<'a>(
     }
 }
 
-// The source was asked for nothing in vain: for no bytes, nor once more after its end, nor again
-// after the call that failed.
+// No read of the source was needless: none was empty or came after the end was hit, and none came
+// after the failed read.
 fn is_asked_rightly(way: Way, source: &Flaky<'_>) -> bool {
     let last = source.counts.failures == 0 || source.calls() == way.call.saturating_add(1);
     last && source.counts.ends <= 1 && source.counts.needless == 0
 }
 
-// The output was brought nothing in vain: no bytes, nor any after the call that failed.
+// No write to the output was needless: none was empty, and none came after the failed write.
 fn is_brought_rightly(way: Way, out: &Leaky) -> bool {
     let last = out.failures() == 0 || out.calls() == way.call.saturating_add(1);
     last && out.counts.needless == 0
 }
 
 impl Ended<'_> {
-    // No device was called in vain.
+    // No call of a device was needless.
     fn is_sparing(&self, way: Way) -> bool {
         is_asked_rightly(way, &self.header)
             && is_asked_rightly(way, &self.image)
@@ -133,9 +133,9 @@ impl Ended<'_> {
 // What was written, and how many bytes of the payload were consumed.
 type Moved<'a> = (&'a [u8], usize);
 
-// The failed call is reported. After a read of the image all whole sectors that were consumed are
-// written, and after another read nothing. After a write, no byte past the current sector was
-// consumed.
+// The failed call is reported. After a failed read of the image, all whole sectors that were
+// consumed are written. After a failed read of another input, nothing is written, and nothing of
+// the payload is consumed. After a failed write, no byte past the current sector was consumed.
 fn check_failed(rt: &impl Abort, way: Way, report: Report, (written, consumed): Moved<'_>) {
     let told = if way.device == 2 {
         Message::WriteFailed
@@ -150,7 +150,7 @@ fn check_failed(rt: &impl Abort, way: Way, report: Report, (written, consumed): 
     }
 }
 
-// The run ends as stated.
+// The run ends as the trial specifies.
 fn check_whole(rt: &impl Abort, way: Way, trial: &Trial<'_>, ended: &Ended<'_>) {
     assert_same_in(rt, &way, ended.report, Report::of(trial.message()));
     assert_same_in(rt, &way, ended.out.as_slice(), trial.whole);
@@ -158,8 +158,8 @@ fn check_whole(rt: &impl Abort, way: Way, trial: &Trial<'_>, ended: &Ended<'_>) 
     assert_same_in(rt, &way, lefts, (0, trial.left, 0));
 }
 
-// The run called no device in vain and wrote a prefix of the whole. It ends as stated unless the
-// call was made and failed; whether it did.
+// The run made no needless call and wrote a prefix of the whole output. It ends as specified if no
+// call failed. Returns whether one did.
 fn check_ended(rt: &impl Abort, way: Way, trial: &Trial<'_>, ended: &Ended<'_>) -> bool {
     let written = ended.out.as_slice();
     assert_in(rt, &way, ended.is_sparing(way));
@@ -174,7 +174,7 @@ fn check_ended(rt: &impl Abort, way: Way, trial: &Trial<'_>, ended: &Ended<'_>) 
     false
 }
 
-// Runs with one failing call of this device each, counted upwards until a run meets none.
+// Makes runs in which one call of this device fails, a later one each time, until none does.
 fn check_device(
     rt: &(impl Abort + AllocGlobal),
     command: &Command<'_>,
@@ -195,8 +195,8 @@ fn check_device(
     assert_in(rt, &device, false);
 }
 
-/// Runs with one failing call each, of each device in turn. Each reports what failed, and what it
-/// wrote is a prefix of the whole.
+/// Runs with one failing call each, for each device in turn. Each run reports the failure, and what
+/// it wrote is a prefix of the whole output.
 pub(super) fn check_failures(
     rt: &(impl Abort + AllocGlobal),
     command: &Command<'_>,
@@ -208,7 +208,7 @@ pub(super) fn check_failures(
     }
 }
 
-/// A run whose devices move in these pieces ends as stated.
+/// A run whose devices move these pieces ends as specified.
 pub(super) fn check_pieces(
     rt: &(impl Abort + AllocGlobal),
     command: &Command<'_>,

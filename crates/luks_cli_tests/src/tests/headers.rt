@@ -1,4 +1,4 @@
-//! The commands on headers, over LUKS1 and over what is no header.
+//! The commands on headers, over LUKS1 and over images without a header.
 
 use super::rows::{CAT_ROW, HEADER_ROW, Output, Row, check_rows};
 use super::runs::{ALL, CUT, DONE, FINDINGS, NOT_LUKS, WRITE_FAILED};
@@ -7,7 +7,7 @@ use super::volume::{Changes, changed};
 // The state of a key slot that is not in use.
 const DISABLED: &[u8] = &[0, 0, 0xde, 0xad];
 
-/// What a header has at its places: the cipher aes-xts-plain64, SHA-256, payload offset 4096, 64
+/// The fields of a header, by offset: the cipher aes-xts-plain64, SHA-256, payload offset 4096, 64
 /// key bytes, the digest 00 to 13, a digest salt of bytes aa, 1000 iterations, a UUID field with no
 /// zero byte, slot 0 in use, slot 2 with state 1 and the others disabled.
 pub(super) static FIELDS: [(usize, &[u8]); 20] = [
@@ -38,7 +38,7 @@ pub(super) static FIELDS: [(usize, &[u8]); 20] = [
     (544, DISABLED),
 ];
 
-// A dump that begins so.
+// A dump that starts with these lines.
 macro_rules! dump {
     ($top:literal) => {
         concat!(
@@ -61,15 +61,15 @@ const DUMP: &str = dump!(
 
 const UUID: &str = "0123456789012345678901234567890123456789\n";
 
-// What is wrong with that header: one of its slots is damaged.
+// The finding in that header: one of its slots is damaged.
 const AMISS: &str = "slot 2: state\n";
 
 const EMPTY: &str = "";
 
-/// A line, the page that it prints, and whether it has findings.
+/// A line, the text that it prints, and whether it has findings.
 pub(super) type Page = (&'static str, &'static str, bool);
 
-/// What each command prints of that header.
+/// What each command prints of the header of `FIELDS`.
 pub(super) static PAGES: [Page; 4] = [
     ("isLuks i", EMPTY, false),
     ("luksUUID i", UUID, false),
@@ -77,7 +77,7 @@ pub(super) static PAGES: [Page; 4] = [
     ("luksCheck i", AMISS, true),
 ];
 
-// Texts that are empty, not in ASCII, or in no line.
+// Texts that are empty, are not ASCII, or contain a newline.
 const ODD: Changes = &[
     (168, b"a\\b\x1f \x7e\x7f\x80\xff\n\x00z"),
     (8, b"\x00"),
@@ -92,7 +92,7 @@ const ODD_DUMP: &str = dump!(
     Payload offset: 4096\n"
 );
 
-/// Lines.
+/// Command lines.
 type Lines = &'static [&'static str];
 
 const IS: Lines = &["isLuks i"];
@@ -107,11 +107,11 @@ const ALL_THREE: Lines = &["isLuks i", "luksUUID i", "luksDump i"];
 
 const BOTH: Lines = &["luksUUID i", "luksDump i"];
 
-// Not LUKS by the status alone.
+// Only the status reports that the image is not LUKS.
 const NO: &str = "1 ";
 
-// Lines, what is changed in the header and how many bytes of it there are, and what each of them
-// prints and reports. A command on a header reads no second input.
+// Lines, changes of the header, its length, and what each line prints and reports. A command on
+// headers reads no second input.
 macro_rules! printed {
     ($lines:ident, $changes:expr, $len:literal, $page:expr, $told:ident) => {
         Row {
@@ -161,7 +161,7 @@ fn headers_are_printed_and_reported(rt: HostRuntime) {
     check_rows(&rt, &changed(&rt, &[], 592, &FIELDS), &ROWS)
 }
 
-// The first ten bytes of a dump are written.
+// Only the first ten bytes of a dump are written.
 static OF_10: [Row<'static>; 1] = [Row {
     lines: DUMPS,
     limits: (ALL, ALL, 10),
@@ -175,7 +175,7 @@ fn a_dump_is_written_as_far_as_there_is_room(rt: HostRuntime) {
     check_rows(&rt, &changed(&rt, &[], 592, &FIELDS), &OF_10)
 }
 
-// A row of so many zeros, of which so many are consumed.
+// A row of `len` zeros, of which `consumed` are consumed.
 macro_rules! sought {
     ($len:literal, $consumed:literal) => {
         Row {
@@ -188,7 +188,7 @@ macro_rules! sought {
     };
 }
 
-// A header of LUKS2 is sought at nine places, and 4,096 bytes are read at the last of them.
+// A LUKS2 header is sought at nine offsets, and 4,096 bytes are read at the last of them.
 static SOUGHT: [Row<'static>; 3] = [
     sought!(1000, 1000),
     sought!(4_198_400, 4_198_400),

@@ -6,7 +6,7 @@ use super::runs::{FINDINGS, NOT_LUKS};
 use luks_test_support::header2::{SIZE, image_of};
 use std::process::Abort;
 
-// One key slot, one digest, and a payload behind both headers and the key material.
+// One key slot, one digest, and a payload that follows both headers and the key material.
 const JSON: &str = "{\"keyslots\":{\"7\":{\"type\":\"luks2\",\"key_size\":64,\
     \"af\":{\"type\":\"luks1\",\"stripes\":4000,\"hash\":\"sha256\"},\
     \"area\":{\"type\":\"raw\",\"offset\":\"32768\",\"size\":\"258048\",\
@@ -29,7 +29,7 @@ const DUMP: &str = "Version: 2\nHeader: primary\nSequence: 258\nHeader size: 163
     Segment 0: offset=16777216 size=dynamic iv=0 encryption=aes-xts-plain64 sector=512\n\
     Digest 0: USABLE hash=sha256 iterations=1500 bytes=32 keyslots=7 segments=0\n";
 
-/// What each command prints of the image below.
+/// What each command prints of the image of `image2`.
 pub(super) static PAGES: [Page; 4] = [
     ("isLuks i", "", false),
     ("luksUUID i", UUID, false),
@@ -37,7 +37,7 @@ pub(super) static PAGES: [Page; 4] = [
     ("luksCheck i", "clean\n", false),
 ];
 
-/// An image with both headers and ten bytes behind them.
+/// An image with both headers and ten bytes after them.
 pub(super) fn image2(rt: &(impl Abort + AllocGlobal)) -> Vec<u8> {
     let mut image = image_of(rt.alloc(), 258, 258, JSON).expect(rt, "room for headers");
     image
@@ -46,7 +46,7 @@ pub(super) fn image2(rt: &(impl Abort + AllocGlobal)) -> Vec<u8> {
     image
 }
 
-// A row of so many bytes of the image, all of which are consumed, and how it ends.
+// A row with the first `len` bytes of the image, all of which are consumed, and how it ends.
 macro_rules! cut {
     ($line:literal, $len:expr, $output:literal, $told:ident) => {
         Row {
@@ -84,7 +84,8 @@ static CUTS: [Row<'static>; 7] = [
     cut!("luksUUID i", SIZE - 1, "", NOT_LUKS),
 ];
 
-// Truncated behind the primary header, the image still has it; within it, it has none.
+// An image that is truncated after its primary header still has that one; an image that is
+// truncated within it has none.
 #[test]
 fn a_truncated_image_has_what_is_whole(rt: HostRuntime) {
     check_rows(&rt, &image2(&rt), &CUTS)

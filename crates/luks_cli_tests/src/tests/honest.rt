@@ -1,5 +1,5 @@
-//! Sealed volumes of two key slots, which are written out under either passphrase: of both formats,
-//! in each mode, with sectors of each length.
+//! Sealed volumes of both formats with two key slots, in each mode and with sectors of each length.
+//! `luksCat` writes their plaintext by either passphrase.
 
 use super::runs::{CAT, DONE, Inputs, check};
 use super::volume::{KEY, plain_of};
@@ -18,7 +18,7 @@ const ONE: &[u8] = b"one";
 
 const OTHER: &[u8] = b"another";
 
-/// A mode, how many bytes of key it is tried with, and the key slots of both formats.
+/// A mode, how many bytes of the key it uses, and the key slots of both formats.
 type InMode = (
     Mode,
     usize,
@@ -26,7 +26,7 @@ type InMode = (
     &'static [Slot2<'static>],
 );
 
-// A key slot of LUKS1 with this number and this passphrase, and random stripes of so many bytes.
+// A LUKS1 key slot with this number and this passphrase, and `random_len` bytes of random stripes.
 macro_rules! slot1 {
     ($number:literal, $passphrase:ident, $random_len:literal) => {
         Slot1 {
@@ -104,7 +104,7 @@ fn second<'a>(
     seal2(rt.alloc(), &volume).expect(rt, "a volume")
 }
 
-// Either passphrase gives the plain bytes.
+// Either passphrase gives the plaintext.
 fn check_written(rt: &(impl Abort + AllocGlobal), image: &[u8], plain: &[u8]) {
     for passphrase in [ONE, OTHER] {
         let inputs: Inputs<'_> = [&[], image, passphrase];
@@ -112,7 +112,7 @@ fn check_written(rt: &(impl Abort + AllocGlobal), image: &[u8], plain: &[u8]) {
     }
 }
 
-// Volumes of LUKS2 with these key slots and sectors of each length are written out.
+// LUKS2 volumes with these key slots and sectors of each length give the plaintext.
 fn check_sectors<'a>(
     rt: &(impl Abort + AllocGlobal),
     (mode, key): (Mode, &'a [u8]),
@@ -125,7 +125,7 @@ fn check_sectors<'a>(
     }
 }
 
-// A volume in this mode is written out; of LUKS2, with sectors of each length.
+// A volume in this mode gives the plaintext; LUKS2 is tried with sectors of each length.
 fn check_mode(
     rt: &(impl Abort + AllocGlobal),
     (mode, key_len, slots1, slots2): InMode,

@@ -1,4 +1,4 @@
-//! Volumes in each mode, with the header in front and detached.
+//! Volumes in each mode, with attached and detached headers.
 
 use super::rows::{CAT_ROW, Output, Row, check_rows, opened, refused, written};
 use super::runs::{CAT_DETACHED, DONE, Inputs, NO_KEY, check};
@@ -9,10 +9,10 @@ use luks_cipher::Mode;
 use luks_seal_fixtures::bytes::at;
 use std::process::Abort;
 
-/// A mode, how many bytes of key there are, where the key material ends, and runs.
+/// A mode, the length of the key in bytes, where the key material ends, and rows.
 type InMode = (Mode, usize, usize, &'static [Row<'static>]);
 
-// The volume opens once so many bytes are consumed, and is written out.
+// The volume opens after `held` bytes are consumed, and its plaintext is written.
 macro_rules! in_mode {
     ($mode:ident, $key_len:literal, $held:literal) => {
         (
@@ -38,8 +38,8 @@ static MODES: [InMode; 7] = [
     in_mode!(CbcPlain64, 32, 132_096),
 ];
 
-// The payload is written out under the first bytes as a detached header, whose payload starts at
-// byte 0.
+// The plaintext is written with a detached header, which is the first `held` bytes of the image
+// with a payload offset of 0.
 fn check_detached(rt: &(impl Abort + AllocGlobal), image: &[u8], held: usize) {
     let header = changed(rt, image, held, AT_START);
     let inputs: Inputs<'_> = [header.as_slice(), payload_of(image), PASSPHRASE];
@@ -66,8 +66,8 @@ const ENCRYPTION: &str = "1 luksrd: segment refused: encryption\n";
 
 const HASH: &str = "1 luksrd: segment refused: hash\n";
 
-// What is at offsets of a header, and what is reported: the cipher's name at 8, its mode at 40, the
-// hash at 72, and the length of the key at 111.
+// Bytes at offsets of a header, and what is reported: the cipher's name is at 8, its mode at 40,
+// the hash at 72, and the last byte of the key's length at 111.
 macro_rules! texts {
     ($changes:expr, $told:ident) => {
         Row {
@@ -77,7 +77,7 @@ macro_rules! texts {
     };
 }
 
-// In place of `cbc-essiv:sha256` and 32 bytes of key.
+// These replace `cbc-essiv:sha256` and a key of 32 bytes.
 static OF_CBC: [Row<'static>; 7] = [
     texts!(&[(111, &[24])], KEY_BYTES),
     texts!(&[(111, &[64])], KEY_BYTES),
@@ -88,7 +88,7 @@ static OF_CBC: [Row<'static>; 7] = [
     texts!(&[(40, b"ecb\0")], ENCRYPTION),
 ];
 
-// In place of `aes`, `xts-plain64`, `sha256` and 64 bytes of key.
+// These replace `aes`, `xts-plain64`, `sha256` and a key of 64 bytes.
 static OF_XTS: [Row<'static>; 2] = [
     texts!(&[(72, b"ripemd160\0")], HASH),
     texts!(&[(8, b"serpent\0"), (72, b"ripemd160\0")], ENCRYPTION),

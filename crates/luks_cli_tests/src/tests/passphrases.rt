@@ -11,7 +11,7 @@ use std::process::Abort;
 
 const NEWLINE: &[u8] = b"correct horse\n";
 
-// What is consumed of a usual volume up to the end of its key material.
+// How many bytes of a usual volume are consumed to open it: up to the end of its key material.
 const HELD: usize = 260_096;
 
 const NOT_8: &str = "1 luksrd: key slot 8 is not there\n";
@@ -26,7 +26,7 @@ const LIMITED: &str = "1 luksrd: no key slot can be tried; skipped: 0 (iteration
 
 const LIMITED_0: &str = "1 luksrd: key slot 0 is skipped: iterations\n";
 
-// All plain bytes.
+// The whole plaintext.
 const WHOLE: Output = Output::Plain(PLAIN_LEN);
 
 static OF_USUAL: [Row<'static>; 14] = [
@@ -37,7 +37,7 @@ static OF_USUAL: [Row<'static>; 14] = [
     written!("--key-slot 0 ", PASSPHRASE, WHOLE, DONE),
     opened!("--max-iterations 1000 ", PASSPHRASE, 0, HELD),
     written!("--max-iterations 1000 ", PASSPHRASE, WHOLE, DONE),
-    // Nothing is read behind the header.
+    // Nothing is read after the header.
     refused!("--key-slot 8 ", PASSPHRASE, NOT_8, 592, 13),
     refused!("--key-slot 31 ", PASSPHRASE, NOT_31, 592, 13),
     refused!("--key-slot 1 ", PASSPHRASE, DISABLED_1, 592, 13),
@@ -77,7 +77,7 @@ const WRONG_SLOTS: Changes = &[
     (588, &[0; 4]),
 ];
 
-// The same, and slot 0 is not in use.
+// The same, with slot 0 disabled.
 const NO_SLOTS: Changes = &[
     (352, &[0, 0, 0, 1]),
     (448, ENABLED),
@@ -95,7 +95,7 @@ const SKIPPED_3: &str = "1 luksrd: key slot 3 is skipped: state\n";
 const NONE_TRIED: &str =
     "1 luksrd: no key slot can be tried; skipped: 3 (state), 5 (stripes), 7 (stripes)\n";
 
-// A row of what is refused if these slots are wrong.
+// A row of a refusal, with these slots changed.
 macro_rules! amiss {
     ($changes:ident, $($refused:tt)*) => {
         Row {
@@ -141,7 +141,7 @@ static LENGTHS: [(usize, Ends<'static>, (usize, usize)); 11] = [
     (LONGEST + 4, TOO_LONG, (592, 3)),
 ];
 
-// Key files of so many of these zeros.
+// Key files of zeros, with each of these lengths.
 fn check_lengths(rt: &(impl Abort + AllocGlobal), image: &[u8], zeros: &[u8]) {
     for (len, ends, (consumed, unread)) in &LENGTHS {
         let inputs: Inputs<'_> = [&[], image, at(zeros, 0, *len)];

@@ -10,12 +10,12 @@ use std::process::Abort;
 pub(super) enum Output {
     /// This text.
     Text(&'static str),
-    /// So many of the plain bytes.
+    /// A prefix of the plaintext, of this length.
     Plain(usize),
 }
 
 impl Output {
-    /// The bytes.
+    /// The bytes that are written.
     pub(super) fn bytes(self) -> &'static [u8] {
         match self {
             Output::Text(text) => text.as_bytes(),
@@ -24,12 +24,12 @@ impl Output {
     }
 }
 
-/// Runs of lines over an image that is changed, and how each of them ends.
+/// Lines that run over a changed image, and how each of them ends.
 pub(super) struct Row<'a> {
     pub(super) lines: &'a [&'a str],
-    /// How many bytes of the image there are, with zeros behind it.
+    /// The length to which the image is truncated or padded with zeros; `ALL` means its own.
     pub(super) len: usize,
-    /// What is changed in the image.
+    /// The changes of the image.
     pub(super) changes: &'a [(usize, &'a [u8])],
     /// The second input.
     pub(super) secret: &'a [u8],
@@ -37,7 +37,7 @@ pub(super) struct Row<'a> {
     pub(super) output: Output,
     /// The status and the message.
     pub(super) told: &'a str,
-    /// How many bytes of the image are consumed: all that there are, or so many.
+    /// How many bytes of the image are consumed; `ALL` means all of them.
     pub(super) consumed: usize,
     /// How many bytes of the second input are left.
     pub(super) unread: usize,
@@ -63,7 +63,7 @@ pub(super) const HEADER_ROW: Row<'static> = Row {
 };
 
 /// With these options and this key file, `testPassphrase` and `luksCat` write nothing and report
-/// this, once so many bytes of the image are consumed, and leave so many bytes of the key file.
+/// this. They consume `consumed` bytes of the image and leave `unread` bytes of the key file.
 macro_rules! refused {
     ($options:literal, $secret:expr, $told:expr, $consumed:expr, $unread:literal) => {
         Row {
@@ -81,7 +81,7 @@ macro_rules! refused {
 }
 
 /// With these options and this key file, `testPassphrase` finds that this key slot opens the
-/// volume, once so many bytes of the image are consumed.
+/// volume, after it consumed `consumed` bytes of the image.
 macro_rules! opened {
     ($options:literal, $secret:expr, $slot:literal, $consumed:expr) => {
         Row {
@@ -94,7 +94,8 @@ macro_rules! opened {
     };
 }
 
-/// With these options and this key file, `luksCat` consumes the image, and ends so.
+/// With these options and this key file, `luksCat` consumes the image, and ends with this output
+/// and message.
 macro_rules! written {
     ($options:literal, $secret:expr, $output:expr, $told:expr) => {
         Row {
@@ -117,7 +118,7 @@ fn check_row(rt: &(impl Abort + AllocGlobal), image: &[u8], row: &Row<'_>) {
     check_lines(rt, &image, row)
 }
 
-// Each line ends so.
+// Each line of the row ends as specified.
 fn check_lines(rt: &(impl Abort + AllocGlobal), image: &[u8], row: &Row<'_>) {
     let inputs: Inputs<'_> = [&[], image, row.secret];
     let left = (0, image.len().saturating_sub(row.consumed), row.unread);
@@ -127,7 +128,7 @@ fn check_lines(rt: &(impl Abort + AllocGlobal), image: &[u8], row: &Row<'_>) {
     }
 }
 
-/// All rows over this image end so.
+/// Each row over this image ends as specified.
 pub(super) fn check_rows(rt: &(impl Abort + AllocGlobal), image: &[u8], rows: &[Row<'static>]) {
     for row in rows {
         check_row(rt, image, row);

@@ -25,7 +25,7 @@ pub(super) const TEST_DETACHED: &str = "testPassphrase --key-file f --header h i
 /// What `testPassphrase` writes if slot 0 opens the volume.
 pub(super) const OPENS: &[u8] = b"Key slot 0 opens the volume.\n";
 
-/// A status, and the message behind it: none here.
+/// A status, and the message after it: none here.
 pub(super) const DONE: &str = "0 ";
 
 pub(super) const NOT_LUKS: &str = "4 luksrd: not a LUKS image\n";
@@ -53,24 +53,24 @@ pub(super) type Ends<'a> = (&'a [u8], &'a str);
 /// How many bytes a run leaves of the detached header, the image and the second input.
 pub(super) type Left = (usize, usize, usize);
 
-/// How many bytes the image and the second input give before a read of them fails, and how many
-/// the output takes before a write fails.
+/// How many bytes the image and the second input give before a read of them fails, and the capacity
+/// of the output, after which a write fails.
 pub(super) type Limits = (usize, usize, usize);
 
 /// As many bytes as there are.
 pub(super) const ALL: usize = usize::MAX;
 
-/// The limits of devices of which no call fails.
+/// Limits with which no call fails.
 pub(super) const NO_FAULT: Limits = (ALL, ALL, 8192);
 
-/// The words of a line, which single spaces part.
+/// The arguments of a line, separated by single spaces.
 pub(super) fn words_of<'a>(rt: &(impl Abort + AllocGlobal), line: &'a str) -> Vec<&'a str> {
     line.split(' ')
         .collect(rt.alloc())
         .expect(rt, "room for words")
 }
 
-/// A sink with so much capacity.
+/// A sink with this capacity.
 pub(super) fn sink(rt: &(impl Abort + AllocGlobal), room: usize) -> MemSink {
     MemSink::new(rt.alloc(), room).expect(rt, "room for an output")
 }
@@ -91,7 +91,7 @@ pub(super) fn report_over<H: Source, I: Source, K: Source, O: Sink>(
     }
 }
 
-/// What a run of these words reports over these devices.
+/// What a run with these arguments reports over these devices.
 pub(super) fn report_of<H: Source, I: Source, K: Source, O: Sink>(
     rt: &(impl Abort + AllocGlobal),
     words: &[&str],
@@ -120,8 +120,8 @@ pub(super) fn check_told(
     assert_same_in(rt, case, line.as_slice(), told.as_bytes());
 }
 
-/// What a run of this line reports, and how many bytes of its inputs it leaves. The image and the
-/// second input fail behind so many bytes.
+/// What a run of this line reports, and how many bytes of its inputs it leaves. Reads of the image
+/// and the second input fail after this many bytes.
 pub(super) fn run_over(
     rt: &(impl Abort + AllocGlobal),
     line: &str,
@@ -137,7 +137,7 @@ pub(super) fn run_over(
     (report, (header.left(), image.left(), secret.left()))
 }
 
-/// A run of this line over devices with these limits ends so, and leaves so many bytes.
+/// A run of this line over devices with these limits ends like this, and leaves this many bytes.
 pub(super) fn check_within(
     rt: &(impl Abort + AllocGlobal),
     (of_image, of_secret, room): Limits,
@@ -154,7 +154,7 @@ pub(super) fn check_within(
     assert_same_in(rt, &case, lefts, left);
 }
 
-/// The same over devices of which no call fails.
+/// The same over devices without a failing call.
 pub(super) fn check(
     rt: &(impl Abort + AllocGlobal),
     line: &str,

@@ -1,6 +1,5 @@
-//! Comparisons that end a test. They are here and not in `luks_test_support`, since no library may
-//! end the process, and what they compare holds references, which an error that is expected may
-//! not.
+//! Comparisons that end a test. They are here and not in `luks_test_support`, since a library may
+//! not end the process. The compared values may hold references, which an expected error may not.
 
 use std::fmt::Debug;
 use std::process::Abort;

@@ -1,4 +1,4 @@
-//! Runs with less and less memory refused, until one meets no refusal.
+//! Runs with more and more memory, until no allocation fails.
 
 use super::devices::Trial;
 use super::runs::{report_over, sink};
@@ -28,14 +28,14 @@ fn run_once(
     (report, image.left().len())
 }
 
-// The run ends as stated.
+// The run ends as the trial specifies.
 fn check_done(rt: &impl Abort, trial: &Trial<'_>, report: Report, out: &MemSink) {
     assert_in(rt, &trial.line, report == Report::of(trial.message()));
     assert_same_in(rt, &trial.line, out.as_slice(), trial.whole);
 }
 
-// If there is a second input, a run with all memory ends as it should. The stack grows in it, since
-// it cannot once all memory is taken.
+// If there is a second input, a run with all memory ends as specified. The stack grows in this run,
+// since it cannot when all memory is allocated.
 fn check_first(rt: &(impl Abort + AllocGlobal), command: &Command<'_>, trial: &Trial<'_>) {
     if trial.secret.is_empty() {
         return;
@@ -45,9 +45,9 @@ fn check_first(rt: &(impl Abort + AllocGlobal), command: &Command<'_>, trial: &T
     check_done(rt, trial, report, &out)
 }
 
-// Runs with one more piece of memory each time, until a run does not report that it is out of
-// memory: what that run reports, how many came before it, and whether each of those wrote nothing
-// and, if the header is detached, left the image as it was.
+// Makes runs, each with one more piece of memory, until a run does not report that it is out of
+// memory. Returns what that run reports, how many runs came before it, and whether each of those
+// wrote nothing and, if the header is detached, left the image as it was.
 fn run_until_done(
     alloc: Global,
     command: &Command<'_>,
@@ -68,7 +68,7 @@ fn run_until_done(
     (Report::of(Message::OutOfMemory), MOST, sound)
 }
 
-// The same while so many bytes come back at a time.
+// The same with pieces of this many bytes.
 fn run_scarce(
     rt: &(impl Abort + AllocGlobal),
     command: &Command<'_>,
@@ -80,10 +80,9 @@ fn run_scarce(
     run_until_done(rt.alloc(), command, trial, &mut scarcity, out)
 }
 
-/// Runs a command with less and less memory refused, until a run meets no refusal. So many bytes
-/// come back at a time, and so many runs are refused at least. Each of them reports that it is out
-/// of memory, writes nothing and leaves the image of a detached header as it was; the last run ends
-/// as stated.
+/// Runs a command with more and more memory, until no allocation fails. Each run has one more piece
+/// of `piece` bytes, and at least `least` runs run out of memory. Each of those reports it, writes
+/// nothing and leaves the image of a detached header as it was; the last run ends as specified.
 pub(super) fn check_refusals(
     rt: &(impl Abort + AllocGlobal),
     command: &Command<'_>,

@@ -1,4 +1,4 @@
-//! `afSplit` and `afMerge`, and lines that are no command.
+//! `afSplit` and `afMerge`, and lines that are not a luksrd command.
 
 use super::runs::{
     ALL, DONE, Inputs, WRITE_FAILED, check, check_told, check_within, run_over, sink,
@@ -18,7 +18,8 @@ const HASHED: &[u8] = &[
     0x08, 0x97, 0x14, 0x85, 0x6e, 0xe2, 0x33, 0xb3, 0x90, 0x2a, 0x59, 0x1d,
 ];
 
-// These bytes, and what a key of 28 bytes 0xff makes of one random stripe of zeros, with SHA-256.
+// These bytes, followed by the last stripe of a key of 28 bytes 0xff, with one random stripe of
+// zeros and SHA-256.
 macro_rules! with_last {
     ($($first:literal)*) => {
         &[
@@ -46,7 +47,7 @@ const UP_TO_63: &[u8] = &[
     0x30, 0x31, 0x32, 0x33, 0x34, 0x35, 0x36, 0x37, 0x38, 0x39, 0x3a, 0x3b, 0x3c, 0x3d, 0x3e, 0x3f,
 ];
 
-// 128 bytes, each 7 more than the one before.
+// 128 bytes, each 7 more than the one before, modulo 256.
 const SEVENTHS: &[u8] = &[
     0x03, 0x0a, 0x11, 0x18, 0x1f, 0x26, 0x2d, 0x34, 0x3b, 0x42, 0x49, 0x50, 0x57, 0x5e, 0x65, 0x6c,
     0x73, 0x7a, 0x81, 0x88, 0x8f, 0x96, 0x9d, 0xa4, 0xab, 0xb2, 0xb9, 0xc0, 0xc7, 0xce, 0xd5, 0xdc,
@@ -58,8 +59,8 @@ const SEVENTHS: &[u8] = &[
     0x13, 0x1a, 0x21, 0x28, 0x2f, 0x36, 0x3d, 0x44, 0x4b, 0x52, 0x59, 0x60, 0x67, 0x6e, 0x75, 0x7c,
 ];
 
-// What a key of the bytes 0 to 63 makes of those two random stripes, with SHA-1. By a script over
-// Python's hashlib.
+// The last stripe of a key of the bytes 0 to 63, with the two random stripes of `SEVENTHS` and
+// SHA-1. By a script over Python's hashlib.
 const LAST_SHA1: &[u8] = &[
     0xcd, 0x64, 0x4a, 0xa6, 0x21, 0xf8, 0x5f, 0x39, 0x37, 0x36, 0x14, 0x8e, 0x26, 0x6a, 0x9c, 0xf0,
     0x6f, 0x90, 0xab, 0x49, 0x02, 0xef, 0x32, 0x00, 0x28, 0xd9, 0x25, 0xa0, 0x89, 0xe0, 0x67, 0x0c,
@@ -106,7 +107,7 @@ const TWO_SECRETS: &str = "afSplit --hash sha256 --stripes 2 --random - -";
 
 const MANY: &str = "afMerge --hash sha256 --stripes 4001 --key-bytes 1 s";
 
-/// Parts of bytes, one behind the other.
+/// Parts of a byte string, to be joined.
 type Parts = &'static [&'static [u8]];
 
 /// A key of 28 bytes.
@@ -120,8 +121,8 @@ const SHORT: Parts = &[SEVENTHS, LAST_SHA1];
 
 const KEY_64: Parts = &[UP_TO_31, UP_TO_63];
 
-/// A line, the image, the second input and what it writes, the status and the message, and how
-/// many bytes it leaves of the image and the second input.
+/// A line, the image, the second input and the output, the status and the message, and how many
+/// bytes of the image and the second input remain.
 type Row = (&'static str, [Parts; 3], &'static str, (usize, usize));
 
 static ROWS: [Row; 17] = [
@@ -154,7 +155,7 @@ static ROWS: [Row; 17] = [
     ("", [&[b"x"], &[b"y"], NONE], USAGE, (1, 1)),
 ];
 
-// These parts of bytes, one behind the other.
+// These parts, joined.
 fn joined(rt: &(impl Abort + AllocGlobal), parts: &[&[u8]]) -> Vec<u8> {
     let mut all = Vec::new(rt.alloc());
     for part in parts {
@@ -190,7 +191,7 @@ static LONGEST: [u8; 512] = [7; 512];
 
 static ENOUGH: [u8; 600] = [0; 600];
 
-// The longest key is split into so many bytes, and so many random bytes are left.
+// The longest key is split into two stripes, and 88 random bytes remain.
 #[test]
 fn the_longest_key_is_split(rt: HostRuntime) {
     let mut out = sink(&rt, 4096);
@@ -201,7 +202,7 @@ fn the_longest_key_is_split(rt: HostRuntime) {
     assert_same_in(&rt, &"512", left, (0, 0, 88));
 }
 
-// So much room, and a random stripe with 72 bytes behind it.
+// An output of this capacity, and a random stripe with 72 bytes after it.
 fn check_room(rt: &(impl Abort + AllocGlobal), room: usize) {
     let inputs: Inputs<'_> = [&[], FF, at(&ENOUGH, 0, 100)];
     let ends = (at(STRIPES, 0, room), WRITE_FAILED);
@@ -214,7 +215,7 @@ fn stripes_are_written_as_far_as_there_is_room(rt: HostRuntime) {
     check_room(&rt, 30)
 }
 
-// If memory is refused, no words are planned.
+// The report if memory runs out while the arguments are parsed.
 #[test]
 fn a_refused_plan_is_reported(rt: HostRuntime) {
     let report = Report::of_fault(PlanFault::Memory);

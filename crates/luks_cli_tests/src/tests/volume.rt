@@ -1,4 +1,4 @@
-//! Volumes for tests, and changes of their headers.
+//! Volumes for tests, and changes to their headers.
 
 use luks_cipher::Mode;
 use luks_kdf::Hash;
@@ -17,10 +17,10 @@ pub(super) const NEWEST: (Mode, &[u8]) = (Mode::XtsPlain64, KEY);
 /// The passphrase of the key slot.
 pub(super) const PASSPHRASE: &[u8] = b"correct horse";
 
-/// How many plain bytes there are: three sectors.
+/// The length of the plaintext: three sectors.
 pub(super) const PLAIN_LEN: usize = 1536;
 
-// These bytes six times, one behind the other, and the first 30 of them once more.
+// These bytes six times, followed by the first 30 of them.
 macro_rules! six_times {
     ($($byte:literal)*) => {
         [
@@ -31,7 +31,7 @@ macro_rules! six_times {
     };
 }
 
-/// The plain bytes, as `plain_of` makes them.
+/// The plaintext, as `plain_of` makes it.
 pub(super) static PLAIN: [u8; PLAIN_LEN] = six_times!(
     0 1 2 3 4 5 6 7 8 9 10 11 12 13 14 15 16 17 18 19 20 21 22 23 24 25 26 27 28 29 30 31 32 33
     34 35 36 37 38 39 40 41 42 43 44 45 46 47 48 49 50 51 52 53 54 55 56 57 58 59 60 61 62 63 64
@@ -55,8 +55,8 @@ pub(super) struct Size {
     digest_iterations: u32,
 }
 
-/// As volumes usually are: the key material ends at byte 260,096, the payload starts at byte
-/// 2,097,152, and the image has 2,098,688 bytes.
+/// The usual size: the key material ends at byte 260,096, the payload starts at byte 2,097,152, and
+/// the image has 2,098,688 bytes.
 pub(super) const USUAL: Size = Size {
     stripes: 4000,
     payload_sectors: 4096,
@@ -67,8 +67,8 @@ pub(super) const USUAL: Size = Size {
 /// How many bytes the image of a usual volume has.
 pub(super) const USUAL_LEN: usize = 2_098_688;
 
-/// As small as a volume can be: the key material ends at byte 4,608, the payload starts at byte
-/// 36,864, and the image has 38,400 bytes.
+/// A small size: the key material ends at byte 4,608, the payload starts at byte 36,864, and the
+/// image has 38,400 bytes.
 pub(super) const SMALL: Size = Size {
     stripes: 4,
     payload_sectors: 72,
@@ -79,17 +79,17 @@ pub(super) const SMALL: Size = Size {
 /// How many bytes the image of a small volume has.
 pub(super) const SMALL_LEN: usize = 38_400;
 
-/// These parts of a text, one behind the other.
+/// These parts of a text, joined.
 pub(super) fn text_of(rt: &(impl Abort + AllocGlobal), parts: &[&str]) -> String {
     parts.concat(rt.alloc()).expect(rt, "room for a text")
 }
 
-/// So many plain bytes, of which no two sectors are alike.
+/// A plaintext of this length, in which no two sectors are alike.
 pub(super) fn plain_of(rt: &(impl Abort + AllocGlobal), len: usize) -> Vec<u8> {
     counted(rt.alloc(), len).expect(rt, "room for plain bytes")
 }
 
-/// A volume in this mode under this key, whose key slot 0 alone is in use.
+/// A volume in this mode with this key. Only its key slot 0 is in use.
 pub(super) fn sealed(
     rt: &(impl Abort + AllocGlobal),
     (mode, key): (Mode, &[u8]),
@@ -121,26 +121,26 @@ pub(super) fn sealed(
     seal1(rt.alloc(), &volume).expect(rt, "a volume")
 }
 
-/// The usual volume, in the newest mode under this passphrase.
+/// The usual volume, in the newest mode, with the usual passphrase.
 pub(super) fn usual(rt: &(impl Abort + AllocGlobal)) -> Vec<u8> {
     sealed(rt, NEWEST, USUAL, PASSPHRASE)
 }
 
-/// A small one.
+/// A small volume, in the newest mode, with the usual passphrase.
 pub(super) fn small(rt: &(impl Abort + AllocGlobal)) -> Vec<u8> {
     sealed(rt, NEWEST, SMALL, PASSPHRASE)
 }
 
-/// Bytes at places of a header.
+/// Bytes at offsets of a header.
 pub(super) type Changes = &'static [(usize, &'static [u8])];
 
-/// In a header of LUKS1, the payload starts at byte 0.
+/// The payload of a LUKS1 header starts at byte 0.
 pub(super) const AT_START: Changes = &[(104, &[0; 4])];
 
-/// A primary header of LUKS2 names a size of 65,536 bytes, so that its checksum no longer agrees.
+/// A primary LUKS2 header names a size of 65,536 bytes, so that its checksum no longer matches.
 pub(super) const NAMES_64_KIB: Changes = &[(8, &[0, 0, 0, 0, 0, 1, 0, 0])];
 
-/// Puts bytes over those of an image from this place on, as far as they go.
+/// Overwrites the bytes of an image from this offset on, up to its end.
 pub(super) fn put(image: &mut [u8], place: usize, bytes: &[u8]) {
     let start = place.min(image.len());
     let rest = &mut image[start..];
@@ -148,15 +148,14 @@ pub(super) fn put(image: &mut [u8], place: usize, bytes: &[u8]) {
     rest[..count].copy_from_slice(&bytes[..count]);
 }
 
-// Puts these bytes over those of an image, each from its place on.
+// Overwrites the bytes of an image at each of these offsets.
 fn put_each(image: &mut [u8], changes: &[(usize, &[u8])]) {
     for (place, bytes) in changes {
         put(image, *place, bytes);
     }
 }
 
-/// The first bytes of an image, so many of them, with zeros behind it, and with other bytes at
-/// these places.
+/// The first `len` bytes of an image, padded with zeros, and with these changes.
 pub(super) fn changed(
     rt: &(impl Abort + AllocGlobal),
     image: &[u8],
@@ -171,7 +170,7 @@ pub(super) fn changed(
     other
 }
 
-/// The image with zeros or without its end, so that it has so many bytes, and then these.
+/// The image, padded with zeros or truncated to `len` bytes, followed by these bytes.
 pub(super) fn followed(
     rt: &(impl Abort + AllocGlobal),
     mut image: Vec<u8>,
@@ -190,9 +189,9 @@ pub(super) fn payload_of(image: &[u8]) -> &[u8] {
     at(image, image.len().saturating_sub(PLAIN_LEN), PLAIN_LEN)
 }
 
-/// A key slot of LUKS2, without its number. Its key material is that of a small volume, and is
-/// right behind both headers. The salts and the digest are those of that volume, as Python's base64
-/// and hashlib modules gave them.
+/// A LUKS2 key slot, without its number. Its key material is that of a small volume, and is right
+/// after both headers. The salts and the digest are those of that volume, from Python's base64 and
+/// hashlib modules.
 pub(super) const SLOT: &str = "{\"type\":\"luks2\",\"key_size\":64,\
     \"af\":{\"type\":\"luks1\",\"stripes\":4,\"hash\":\"sha256\"},\
     \"area\":{\"type\":\"raw\",\"offset\":\"32768\",\"size\":\"512\",\
@@ -204,8 +203,8 @@ const DIGEST: &str = "\"hash\":\"sha256\",\"iterations\":1,\
     \"salt\":\"0dHR0dHR0dHR0dHR0dHR0dHR0dHR0dHR0dHR0dHR0dE=\",\
     \"digest\":\"kh/wb/bbnsoJhTaSaOTgsjtZ5Ng=\"";
 
-// The JSON text with these key slots, these names of theirs, and a payload of this size from this
-// offset on.
+// The JSON text with these key slots, the digest's list of their names, and a payload of this size
+// from this offset on.
 fn json_of(
     rt: &(impl Abort + AllocGlobal),
     (slots, names): (&str, &str),
@@ -228,8 +227,8 @@ fn json_of(
     text_of(rt, &parts)
 }
 
-/// Both headers of LUKS2 with the key material of a small volume, 33,280 bytes: with these key
-/// slots, these names of theirs, and a payload of this size from this offset on.
+/// Both LUKS2 headers and the key material of a small volume, 33,280 bytes, with these key slots,
+/// the digest's list of their names, and a payload of this size from this offset on.
 pub(super) fn front2_of(
     rt: &(impl Abort + AllocGlobal),
     slots: (&str, &str),
@@ -240,7 +239,7 @@ pub(super) fn front2_of(
     followed(rt, headers, 2 * header2::SIZE, at(&small(rt), 4096, 512))
 }
 
-/// The same with slot 0.
+/// The same with slot 0 alone.
 pub(super) fn front2(rt: &(impl Abort + AllocGlobal), offset: &str, size: &str) -> Vec<u8> {
     let slots = text_of(rt, &["\"0\":", SLOT]);
     front2_of(rt, (slots.as_str(), "\"0\""), (offset, size))

@@ -1,5 +1,5 @@
-//! Volumes of LUKS2: which key slots are tried, key slots by Argon2, fixed sizes, and a damaged
-//! primary header whose search goes past the payload's start.
+//! LUKS2 volumes: which key slots are tried, key slots that use Argon2, fixed sizes, and a damaged
+//! primary header, with a search that reads past the payload's start.
 
 use super::calls::{Hardship, check_trial};
 use super::devices::Trial;
@@ -18,8 +18,8 @@ use luks_seal_fixtures::parameters::parameters2;
 use luks2_seal::seal2;
 use std::process::Abort;
 
-/// A key slot with this number, this priority and this passphrase, and random stripes of so many
-/// bytes.
+/// A key slot with this number, this priority and this passphrase, and `random_len` bytes of random
+/// stripes.
 macro_rules! slot {
     ($number:literal, $priority:literal, $passphrase:expr, $random_len:literal) => {
         Slot2 {
@@ -38,8 +38,8 @@ macro_rules! slot {
 
 pub(super) use slot;
 
-// A volume under the key of 64 bytes whose payload starts at this byte, and whose header may have
-// its length.
+// A volume with the key of 64 bytes and a payload from `offset` on, which has a fixed size if
+// `fixed`.
 fn sealed_at<'a>(
     rt: &(impl Abort + AllocGlobal),
     slots: &'a [Slot2<'a>],
@@ -55,10 +55,11 @@ fn sealed_at<'a>(
     seal2(rt.alloc(), &volume).expect(rt, "a volume")
 }
 
-// No payload.
+// An empty output.
 const EMPTY: Output = Output::Text("");
 
-// The key slots that are tried unasked end at byte 49,664, and slot 1 ends at byte 37,376.
+// The key slots that are tried without `--key-slot` end at byte 49,664, and slot 1 ends at byte
+// 37,376.
 static OF_RANKED: [Row<'static>; 9] = [
     opened!("", b"one", 2, 49_664),
     written!("", b"one", EMPTY, DONE),
@@ -85,7 +86,7 @@ fn slots_are_tried_by_priority_and_number(rt: HostRuntime) {
     check_rows(&rt, &image, &OF_RANKED)
 }
 
-// A key slot as cryptsetup makes it if nothing else is asked for, without its number.
+// A key slot as cryptsetup makes it by default, without its number.
 const ARGON2ID: &str = "{\"type\":\"luks2\",\"key_size\":64,\
     \"af\":{\"type\":\"luks1\",\"stripes\":4000,\"hash\":\"sha256\"},\
     \"area\":{\"type\":\"raw\",\"offset\":\"33280\",\"size\":\"258048\",\
@@ -99,7 +100,7 @@ const NAMED: &str = "1 luksrd: key slot 0 is skipped: argon2id\n";
 
 const NONE_TRIED: &str = "1 luksrd: no key slot can be tried; skipped: 0 (argon2id)\n";
 
-// Slot 0 is by Argon2, and slots 2 and 10 are by PBKDF2 over the same key material.
+// Slot 0 uses Argon2, and slots 2 and 10 use PBKDF2 over the same key material.
 const OF_ARGON: &[Row<'static>] = &[
     opened!("", PASSPHRASE, 2, 33_280),
     written!("", PASSPHRASE, EMPTY, BEFORE),
@@ -111,7 +112,7 @@ const OF_ARGON: &[Row<'static>] = &[
 
 const OF_LONE: &[Row<'static>] = &[refused!("", PASSPHRASE, NONE_TRIED, 32_768, 13)];
 
-// Key slots, their names, and runs over a volume with them and without a payload.
+// Key slots, their names, and rows for a volume with them and without a payload.
 type Slots = (
     &'static [&'static str],
     &'static str,
@@ -144,7 +145,7 @@ const SHORT: &str = "4 luksrd: image ends 2560 bytes before the segment does\n";
 
 static BEHIND: [u8; 808] = [0xee; 808];
 
-// A volume with these plain bytes and a fixed size, with 808 bytes behind it.
+// A volume with this plaintext and a fixed size, with 808 bytes after it.
 fn fixed_size(rt: &(impl Abort + AllocGlobal), plain: &[u8]) -> Vec<u8> {
     let sealed = sealed_at(rt, &[slot!(0, 1, b"one", 192)], (65_536, true), plain);
     followed(rt, sealed, 65_536 + 3584, &BEHIND)
@@ -166,9 +167,9 @@ fn a_fixed_size_ends_the_payload(rt: HostRuntime) {
 
 const NAMES_4_MIB: Changes = &[(8, &[0, 0, 0, 0, 0, 0x40, 0, 0])];
 
-// A volume whose key slot has as many stripes as there can be, and whose payload starts at byte
-// 1,048,576. The primary header names 4,194,304 bytes, and its checksum no longer agrees: the
-// search for the other one reads as much, of which 3,145,728 bytes are the payload's.
+// A volume whose key slot has 4000 stripes, the most possible, and whose payload starts at byte
+// 1,048,576. The primary header names 4,194,304 bytes, and its checksum no longer matches: the
+// search for the secondary header reads as many bytes, of which 3,145,728 are the payload's.
 fn searched(rt: &(impl Abort + AllocGlobal), plain: &[u8]) -> Vec<u8> {
     let random = plain_of(rt, 3999 * 64);
     let slots = [Slot2 {
@@ -180,7 +181,7 @@ fn searched(rt: &(impl Abort + AllocGlobal), plain: &[u8]) -> Vec<u8> {
     changed(rt, &image, image.len(), NAMES_4_MIB)
 }
 
-// The volume, and with room for 700 bytes of what is written.
+// The whole volume, and an output with a capacity of 700 bytes.
 fn check_far_search(rt: &(impl Abort + AllocGlobal), image: &[u8], plain: &[u8]) {
     let inputs: Inputs<'_> = [&[], image, b"one"];
     let whole = (plain, DONE);
@@ -197,7 +198,7 @@ fn a_search_past_the_start_loses_nothing(rt: HostRuntime) {
 
 const TORN_412: &str = "4 luksrd: image ends inside a sector: 412 bytes left over\n";
 
-// A row of so much room, all of which is filled with plain bytes.
+// A row for an output of this capacity, which is filled with plaintext.
 macro_rules! room {
     ($room:literal) => {
         Row {
@@ -209,7 +210,7 @@ macro_rules! room {
     };
 }
 
-// What a search has read of the payload is written first, as far as there is room.
+// The bytes of the payload that a search has read are written first, up to the output's capacity.
 static SEARCHED: [Row<'static>; 9] = [
     opened!("", PASSPHRASE, 0, 38_400),
     written!("", PASSPHRASE, Output::Plain(PLAIN_LEN), DONE),
@@ -227,7 +228,7 @@ static SEARCHED: [Row<'static>; 9] = [
     },
 ];
 
-// It is written in pieces, too.
+// The plaintext is also written if the image is read in pieces.
 fn check_searched(rt: &(impl Abort + AllocGlobal), image: &[u8]) {
     let trial = Trial {
         line: CAT,
@@ -252,7 +253,8 @@ fn what_a_search_has_read_is_written(rt: HostRuntime) {
     check_searched(&rt, &image)
 }
 
-// An image that ends within its second header is not read again, for the key areas or the payload.
+// An image that ends within its secondary header is not read again for the key areas or the
+// payload.
 #[test]
 fn a_second_header_that_is_truncated_ends_the_image(rt: HostRuntime) {
     let image = sealed2(&rt, "dynamic");

@@ -1,5 +1,4 @@
-//! What no clause says: that the definitions read command lines as they are meant, and that calls
-//! succeed.
+//! What no clause says: that the definitions read arguments as intended, and that calls succeed.
 
 use luks_args::planning::{PlanFault, plan};
 use luks_args::usage::usage;
@@ -16,12 +15,12 @@ fn assert_of(rt: &impl Abort, line: &str, holds: bool) {
     assert!(rt; holds, "{line}");
 }
 
-// The words of a line, which single spaces part.
+// The arguments of a line, separated by single spaces.
 fn words_of<'a>(rt: &(impl Abort + AllocGlobal), line: &'a str) -> Vec<&'a str> {
     line.split(' ').collect(rt.alloc()).expect(rt, "memory")
 }
 
-// The line of these parts.
+// The line that these parts are joined to.
 fn joined(rt: &(impl Abort + AllocGlobal), parts: &[&str]) -> String {
     let mut line = String::new(rt.alloc());
     for part in parts {
@@ -30,11 +29,11 @@ fn joined(rt: &(impl Abort + AllocGlobal), parts: &[&str]) -> String {
     line
 }
 
-// In place of the name of an input that the command does not have.
+// This replaces the name of an input that the command does not have.
 const NONE: &str = "none at all";
 
-// The line is this command, which names these inputs: the image, the key file or random bytes, and
-// the detached header.
+// The line is this command, which names these inputs: the image, the key file or the random bytes,
+// and the detached header.
 fn check_line(
     rt: &(impl Abort + AllocGlobal),
     line: &str,
@@ -72,7 +71,7 @@ static READINGS: [(&str, &str, Option<&str>); 16] = [
     ("--header=a=b i", "i", Some("a=b")),
 ];
 
-// Each command that reads a header reads these arguments so.
+// Each command on headers reads these arguments like this.
 fn check_reading(rt: &(impl Abort + AllocGlobal), words: &str, reading: HeaderArgs<'_>) {
     let commands = [
         ("isLuks ", Command::IsLuks(reading)),
@@ -112,7 +111,7 @@ static OPENINGS: [(&str, &str, &str, Option<&str>); 11] = [
     ("--key-file i --header i i", "i", "i", Some("i")),
 ];
 
-// Both commands that open a volume read these arguments so.
+// Both commands that open a volume read these arguments like this.
 fn check_opening(rt: &(impl Abort + AllocGlobal), words: &str, opening: VolumeArgs<'_>) {
     let commands = [
         ("testPassphrase ", Command::TestPassphrase(opening)),
@@ -221,7 +220,7 @@ static SPLITS: [&str; 4] = [
     "afSplit --hash sha256 --stripes 2 --random r -- k",
 ];
 
-// Names of inputs that are unusual, and of standard input.
+// Unusual names of inputs, and standard input.
 static INPUTS: [(&str, &str, &str); 9] = [
     ("--random - k", "-", "k"),
     ("--random=- k", "-", "k"),
@@ -234,7 +233,7 @@ static INPUTS: [(&str, &str, &str); 9] = [
     ("--random afMerge é", "afMerge", "é"),
 ];
 
-// Each line is this command.
+// Each of these lines is this command.
 fn check_lines(
     rt: &(impl Abort + AllocGlobal),
     lines: &[&str],
@@ -298,7 +297,8 @@ fn takes_words_as_strings(rt: HostRuntime) {
     );
 }
 
-// A number, and whether it is one of stripes, of bytes of a key, of a slot, of iterations.
+// A number, and whether it is a valid number of stripes, of bytes of a key, of a slot, and of
+// iterations.
 static NUMBERS: [(u64, [bool; 4]); 12] = [
     (0, [false, false, true, false]),
     (1, [true, true, true, true]),

@@ -1,4 +1,4 @@
-//! What no clause says: that calls succeed, and what is printed of headers that are made here.
+//! What no clause says: that calls succeed, and what is printed of headers that the tests make.
 
 mod check;
 mod dump2;

@@ -1,5 +1,5 @@
-//! Published vectors, what other tools made, and AES byte by byte. Bytes are written as hexadecimal
-//! digits.
+//! Published vectors, values from other tools, and AES byte by byte. Bytes are written as
+//! hexadecimal digits.
 
 mod aes_vectors;
 mod bytewise;
@@ -13,18 +13,18 @@ mod xts_vectors;
 
 use std::process::Abort;
 
-// Asserts what holds in this case of a table.
+// Asserts that `holds` is true, and names this case of a table if it is not.
 fn assert_in(rt: &impl Abort, case: &str, holds: bool) {
     assert!(rt; holds, "{case}");
 }
 
-// The bytes that the hexadecimal digits spell.
+// The bytes that the hexadecimal digits represent.
 fn bytes(rt: &(impl Abort + AllocGlobal), digits: &str) -> Vec<u8> {
     hex::decode(rt.alloc(), digits).expect(rt, "hexadecimal digits")
 }
 
-// So many bytes. Each is more than the one before by `step`, and each 256 of them begin with one
-// that is more by `turn`.
+// `length` bytes, modulo 256, from 0 on. Each is greater than the one before it by `step`, and by
+// `turn` more at the start of each 256 bytes.
 fn counted(rt: &(impl Abort + AllocGlobal), length: usize, step: usize, turn: usize) -> Vec<u8> {
     let mut bytes = Vec::new(rt.alloc());
     for i in 0..length {

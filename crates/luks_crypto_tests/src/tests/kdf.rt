@@ -1,4 +1,4 @@
-//! Published vectors, and values that Python's `hashlib` and `hmac` gave.
+//! Published vectors, and values from Python's `hashlib` and `hmac`.
 
 use luks_kdf::Hash;
 use std::process::Abort;
@@ -16,7 +16,7 @@ static HASHES: [Hash; 5] = [
     Hash::Sha512,
 ];
 
-// Asserts what holds in the case of this number.
+// Asserts that `holds` is true, and names the case with this number if it is not.
 fn assert_in(rt: &impl Abort, case: usize, holds: bool) {
     assert!(rt; holds, "{case}");
 }
@@ -27,7 +27,7 @@ fn digits(byte: u8) -> [u8; 2] {
     [digits[(byte / 16) as usize], digits[(byte % 16) as usize]]
 }
 
-// Asserts that the bytes are those that the hexadecimal digits spell.
+// Asserts that the bytes are those that the hexadecimal digits represent.
 fn assert_hex(rt: &impl Abort, bytes: &[u8], hex: &[u8]) {
     assert!(rt; hex.len() / 2 == bytes.len());
     assert!(rt; hex.len() % 2 == 0);

@@ -1,4 +1,4 @@
-//! What is printed of a LUKS1 header.
+//! The texts of a LUKS1 header.
 
 ghost use Rattle.std.specs.Prelude.{◌≡◌, ◌++◌, IfOk, OnOk, length, string_bytes, ◌≤◌};
 ghost use Rattle.luks_dump.specs.Dump1.{cipher_line, dump1_of, enabled_text, number_lines};
@@ -102,7 +102,7 @@ fn push_slot(
     push_field(lines, name.as_str(), text.as_str())
 }
 
-/// What is said of a key slot.
+/// The text of a key slot.
 #[tactic(auto, unfolding(crate::specs::Dump1::state_text))]
 fn describe_slot(alloc: Global, slot: &KeySlot) -> Result<String, AllocError>
     ensures { IfOk result (λ text. string_bytes text ≡ slot_text slot.now) }
@@ -126,7 +126,7 @@ fn describe_slot(alloc: Global, slot: &KeySlot) -> Result<String, AllocError>
     }
 }
 
-/// What is said of a key slot that is in use.
+/// The text of a key slot that is in use.
 fn describe_enabled(
     alloc: Global,
     iterations: u32,

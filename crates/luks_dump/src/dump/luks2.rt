@@ -1,4 +1,4 @@
-//! What is printed of a LUKS2 header.
+//! The texts of a LUKS2 header.
 
 ghost use Rattle.std.specs.Prelude.{◌≡◌, ◌++◌, IfOk, OnOk, string_bytes};
 ghost use Rattle.luks_dump.specs.Dump2.{dump2_of, place_lines, place_text, text2_lines, uuid2_line};
@@ -24,7 +24,7 @@ pub(crate) fn uuid_text(alloc: Global, header: &Header2) -> Result<String, Alloc
     Ok(lines)
 }
 
-/// The dump of a header and what its JSON area says.
+/// The dump of a header and of its JSON area.
 #[tactic(auto, unfolding(crate::specs::Dump2::dump2_of))]
 pub(crate) fn dump_text(
     alloc: Global,

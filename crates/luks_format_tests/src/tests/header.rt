@@ -1,5 +1,5 @@
-//! What no clause says: that the definitions mean what both formats do, bound by bound and text by
-//! text, and that calls succeed.
+//! What no clause says: that the definitions mean what both formats do, bound by bound and string
+//! by string, and that calls succeed.
 
 mod detached;
 mod digests;

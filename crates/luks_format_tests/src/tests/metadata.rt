@@ -16,7 +16,7 @@ fn assert_of(rt: &impl Abort, case: &str, holds: bool) {
     assert!(rt; holds, "{case}");
 }
 
-// Asserts that the answer in this case of a table is the one that is wanted.
+// Asserts that the answer in this case of a table is the expected one.
 fn assert_answer(rt: &impl Abort, case: &str, answer: &str, want: &str) {
     assert!(rt; answer == want, "{case}: {answer}, and not {want}");
 }

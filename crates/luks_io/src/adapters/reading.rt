@@ -15,7 +15,7 @@ use crate::source::Source;
 use std::io::Read;
 
 /// A device that answers one read at a time. If its answers are known, clauses say which of them
-/// are requested and what is reported of them.
+/// are requested and what is reported from them.
 trait RawReader {
     /// The remaining bytes, if they are known.
     ghost bytes: { Self → Option (List ℕ) };
@@ -38,7 +38,7 @@ impl<R: Read> RawReader for R {
     }
 }
 
-/// Reads once, and again while the read is interrupted and a retry is left.
+/// Reads once, and again while the read is interrupted and a retry remains.
 fn read_patiently<D: RawReader>(device: &mut D, buf: &mut [u8]) -> Result<usize, DeviceFault>
     ensures told { ReportsFirst read_result (D.answers device.old) max_retries result
         (D.answers device.new) }
@@ -56,8 +56,8 @@ fn read_patiently<D: RawReader>(device: &mut D, buf: &mut [u8]) -> Result<usize,
     }
 }
 
-/// A source over a reader. It knows the bytes that the reader knows. Once the reader has said that
-/// no bytes remain, it is not asked again: a file that grows, or a terminal, ends once.
+/// A source over a reader. It knows the bytes that the reader knows. After the reader has reported
+/// that no bytes remain, it is not called again: a file that grows, or a terminal, ends once.
 #[derive(Drop)]
 pub struct ReadSource<R> {
     reader: R,

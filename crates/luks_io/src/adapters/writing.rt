@@ -16,7 +16,7 @@ use std::io::Write;
 use std::marker::Model;
 
 /// A device that answers one write at a time. If its answers are known, clauses say which of them
-/// are requested and what is reported of them.
+/// are requested and what is reported from them.
 trait RawWriter {
     /// The bytes that were written, if they are known.
     ghost bytes: { Self → Option (List ℕ) };
@@ -39,7 +39,7 @@ impl<W: Write> RawWriter for W {
     }
 }
 
-/// Writes once, and again while the write is interrupted and a retry is left. A write that accepts
+/// Writes once, and again while the write is interrupted and a retry remains. A write that accepts
 /// nothing has failed. An empty buffer is not written.
 fn write_patiently<D: RawWriter>(device: &mut D, buf: &[u8]) -> Result<usize, DeviceFault>
     ensures told { 0 < length buf.now
@@ -65,7 +65,7 @@ fn write_patiently<D: RawWriter>(device: &mut D, buf: &[u8]) -> Result<usize, De
 }
 
 /// A sink over a writer. It knows the bytes that the writer knows. A clause sees the writer, and
-/// what is counted.
+/// the counts.
 #[derive(Drop)]
 pub struct WriteSink<W> {
     writer: W,
@@ -93,7 +93,7 @@ impl<W: Write> WriteSink<W> {
         }
     }
 
-    /// The writer, which has what was written so far.
+    /// The writer, with the bytes that were written so far.
     pub fn into_inner(self) -> W
         ensures { W.contents result ≡ ⟦<WriteSink<W> as Sink>⟧.written self }
     {

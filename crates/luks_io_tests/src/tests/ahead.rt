@@ -1,5 +1,5 @@
-//! What no clause says of a source that is read ahead: how often the source below is asked, and
-//! that all that is announced comes at once.
+//! What no clause says about read-ahead: how often the source below is called, and that all bytes
+//! that may be read ahead come at once.
 
 use super::assert_at;
 use luks_io::DeviceFault;
@@ -11,13 +11,13 @@ use std::process::Abort;
 
 const BYTES: &[u8] = b"abcdefghij";
 
-/// How much read-ahead is allowed to a source, how many bytes are requested, and its answer. The
-/// source below has so many bytes left after so many calls.
+/// How much read-ahead is allowed, how many bytes are requested, and the answer. Afterwards the
+/// source below has this many bytes left and had this many calls.
 type Step = (Option<u64>, usize, Result<usize, DeviceFault>, usize, u64);
 
-/// A source with capacity for four bytes, over one that gives at most so many bytes a call, or all,
-/// and fails at the call of this number. In the end that one has counted so many failures, ends and
-/// needless calls. Each call after a failure is needless.
+/// A source with capacity for four bytes, over one that gives at most this many bytes a call, or
+/// all if that is 0, and fails at the call of this number. At the end, the source below has counted
+/// this many failures, ends and needless calls. Each call after a failure is needless.
 type Row = (&'static str, (usize, u64), &'static [Step], (u64, u64, u64));
 
 static ROWS: [Row; 7] = [
@@ -47,7 +47,7 @@ static ROWS: [Row; 7] = [
         ],
         (0, 0, 0),
     ),
-    // At the third read one byte is still announced.
+    // At the third read, one more byte may still be read ahead.
     (
         "passes large reads on",
         (0, 99),
@@ -142,7 +142,7 @@ fn requests_what_is_announced_at_once(rt: HostRuntime) {
     }
 }
 
-// All bytes come in pieces of this size, and the end that is found so often.
+// Checks that all bytes come in pieces of this size, and how often the end is hit.
 fn check_bytes(
     rt: &(impl Abort + AllocGlobal),
     announced: u64,

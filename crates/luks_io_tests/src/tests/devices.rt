@@ -13,7 +13,7 @@ use std::io::{self, ErrorKind, Read, Write};
 use std::process::Abort;
 use std::test::Fail;
 
-/// What a device answers: it moves at most so many bytes.
+/// A device's answer: it moves at most this many bytes, is interrupted, or refuses.
 enum Answer {
     Moves(usize),
     Interrupted,
@@ -23,7 +23,7 @@ enum Answer {
 // How often each answer comes.
 type Script = &'static [(u32, Answer)];
 
-/// A reader that gives bytes 7, and a writer. It refuses for good behind its script.
+/// A reader that gives bytes 7, and a writer. It refuses every call after its script.
 #[derive(Drop)]
 struct Device {
     script: Script,
@@ -68,8 +68,8 @@ impl Write for Device {
     }
 }
 
-/// A call that moves as many bytes as the device does once, or all of them, and its answer: how
-/// many were moved, also if it failed.
+/// A call that moves as many bytes as the device does at once, or all of them, and its answer: how
+/// many were moved, even if it failed.
 type Call = (bool, Result<usize, usize>);
 
 const ONCE: bool = false;
@@ -84,7 +84,7 @@ const FAILED_ONCE: Script = &[(1, Answer::Refused), (9, Answer::Moves(1))];
 
 const NOTHING: Script = &[(9, Answer::Moves(0))];
 
-// After its end this one would move a byte.
+// After its end this device would move a byte.
 const NOTHING_ONCE: Script = &[(1, Answer::Moves(0)), (9, Answer::Moves(1))];
 
 // A device's script, calls of a source with a buffer of eight bytes, and how many of these are

@@ -11,7 +11,7 @@ use luks_test_support::devices::{Flaky, Leaky};
 use std::process::Abort;
 use std::test::Fail;
 
-// Turns bytes round.
+// Reverses bytes.
 struct Reversed;
 
 impl Transform for Reversed {
@@ -26,9 +26,9 @@ impl Transform for Reversed {
     }
 }
 
-/// What is forwarded by a source that has five of ten letters buffered, to a sink with capacity for
-/// so many bytes: how many bytes, and the answers. Then these bytes are written, by so many calls
-/// of which so many failed, and these are still buffered.
+/// What is forwarded by a source that has five of ten letters buffered, to a sink with this
+/// capacity: how many bytes, and the answers. Afterwards these bytes are written, by this many
+/// calls of which this many failed, and these bytes are still buffered.
 type Row = (
     &'static str,
     usize,
@@ -62,14 +62,15 @@ static ROWS: [Row; 4] = [
     ("no bytes", 9, &[(0, Some(Ok(())))], (b"", 0, 0), b"bcdef"),
 ];
 
-// The next bytes of the source are these, and the source below was called so often.
+// Whether the next bytes of the source are these, and the source below was called this often.
 fn gives(source: &mut AheadSource<Flaky<'_>>, next: &[u8], calls: u64) -> bool {
     let mut buf = [b'-'; 16];
     let buf = &mut buf[..next.len().min(16)];
     source.read(buf) == Ok(next.len()) && *buf == *next && source.get_ref().calls() == calls
 }
 
-// The source has consumed the first letter, and five ahead. It forwards only what it has buffered.
+// The source has consumed the first letter, and read five ahead. It forwards only what it has
+// buffered.
 fn check_row(
     rt: &(impl Abort + AllocGlobal),
     (name, room, passes, (written, calls, failures), held): &Row,

@@ -1,4 +1,4 @@
-//! What no clause says of the devices: how many bytes a call moves, and which call fails.
+//! What no clause says about the devices: how many bytes a call moves, and which call fails.
 
 use super::assert_at;
 use luks_io::DeviceFault;

@@ -1,5 +1,5 @@
-//! What no clause says: whole images held against those of another program, and that the ranges are
-//! the stated ones.
+//! What no clause says: whole images compared with those of another program, and that the ranges
+//! are the stated ones.
 
 mod drawn1;
 mod images;
@@ -32,7 +32,8 @@ static KEY_LENGTHS: [(Mode, usize, bool); 16] = [
     (Mode::CbcPlain64, 64, false),
 ];
 
-// The volume of this row is sealed if its parameters fit, and they are refused if not.
+// Checks that the volume of this row is sealed if its parameters fit, and that they are refused if
+// not.
 fn check_fits(rt: &impl Abort, row: usize, fault: Option<SealFault>, fits: bool) {
     let stated = if fits {
         None
@@ -42,7 +43,7 @@ fn check_fits(rt: &impl Abort, row: usize, fault: Option<SealFault>, fits: bool)
     assert!(rt; fault == stated, "row {row}: {fault:?}");
 }
 
-// So many bytes that count up.
+// This many bytes that count up.
 fn counted(rt: &(impl Abort + AllocGlobal), len: usize) -> Vec<u8> {
     bytes::counted(rt.alloc(), len).expect(rt, "memory")
 }

@@ -2,6 +2,6 @@ use Rattle.std.proofs.Common.{◌≡◌, ◌++◌}
 use Rattle.luks1_seal.specs.Layout1.{areas1_below}
 use Rattle.luks1_seal.proofs.luks1.push_areas.Given as goal
 
--- the areas so far stand behind what was there
+-- the areas so far follow the bytes that were there before
 abbrev pub invariant-slots : goal.invariant-slots
 invariant-slots l = l.image.items ≡ l.fn.image.items ++ areas1_below l.seal l.number

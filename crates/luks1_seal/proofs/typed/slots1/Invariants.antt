@@ -3,6 +3,6 @@ use Rattle.luks_seal.specs.declared.parameters.Slot1.{Slot1}
 use Rattle.luks1_seal.specs.Typed1.{IsTypedSlot1}
 use Rattle.luks1_seal.proofs.typed.slots1.Given as goal
 
--- those so far
+-- each slot so far has what its types guarantee
 abbrev pub invariant-slots : goal.invariant-slots
 invariant-slots l = (k : ℕ) (d : Slot1) → k < l.slot-index → IsTypedSlot1 (get_or l.slots k d)

@@ -22,7 +22,7 @@ header_at-requires g c =
     omega (arith, c.loop-place-test.true, ap length c.places-place-items.ensures) in
     rw c.places-place-items.ensures (place_range c.loop-place.place-index inside)
 
--- reading is broken off at a place
+-- reading is aborted at an offset
 pub returns-in_err-header_at-clause-loads : goal.returns-in_err-header_at-clause-loads
 returns-in_err-header_at-clause-loads g c = record {
   within = λ image front.
@@ -47,7 +47,7 @@ returns-in_err-header_at-clause-loads g c = record {
   refusals = search rules;
 }
 
--- a valid header is at a place
+-- a valid header is at an offset
 pub valid_header-requires-clause-valid : goal.valid_header-requires-clause-valid
 valid_header-requires-clause-valid g c =
     rw c.as_slice-bytes.ensures.value (some_valid _ _ c.in_ok-header_at.field-0
@@ -113,7 +113,7 @@ returns-then-is_some-clause-loads g c = record {
   refusals = search rules;
 }
 
--- none is: the search goes on
+-- no valid header is at the offset: the search continues
 pub loop-place-preserved : goal.loop-place-preserved
 loop-place-preserved g c = record {
   searched = λ image front.
@@ -139,7 +139,7 @@ loop-place-preserved g c = record {
   grew = grew_more _ _ _ _ _ _ _ _ _ _ _ _ _ c.loop-place.invariant.grew c.in_ok-header_at.ensures.grew;
 }
 
--- no place has one
+-- no offset has a valid header
 pub returns-clause-found : goal.returns-clause-found
 returns-clause-found g c = λ image front.
     let none = searched_all image c.args.area.now.bytes c.loop-place.area.bytes c.loop-place.area.ended

@@ -4,7 +4,7 @@ use Rattle.luks2_binary.specs.Front2.{FallsShort, Extended, OfEach}
 use Rattle.luks2_binary.proofs.SearchLemmas.{Searched}
 use Rattle.luks2_binary.proofs.reading.search.Given as goal
 
--- no valid header stands at the places so far
+-- no valid header is at the offsets so far
 abbrev pub invariant-loop-place : goal.invariant-loop-place
 invariant-loop-place g l = record {
   searched : OfEach l.area.bytes l.area.ended

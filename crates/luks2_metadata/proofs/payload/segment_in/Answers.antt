@@ -24,7 +24,7 @@ returns-in-Some-fault c =
     sym (segment2-fault (view c.args.tree.now) c.args.bounds c.in-Some-fault.fault
     (there ∙ (sym c.fault.ensures ∙ c.in-Some-fault.is)))
 
--- a segment without a fault is made
+-- the parts of a segment without a fault make a segment
 pub unreachable-requires : goal.unreachable-requires
 unreachable-requires c =
     let there = fault2-there (view c.args.tree.now) c.args.bounds (view c.in-Some.segment.now)

@@ -3,6 +3,6 @@ use Rattle.luks_seal.specs.declared.parameters.Slot2.{Slot2}
 use Rattle.luks2_seal.specs.Typed2.{IsTypedSlot2}
 use Rattle.luks2_seal.proofs.typed2.slots2.Given as goal
 
--- those so far
+-- each slot so far has what its types guarantee
 abbrev pub invariant-slots : goal.invariant-slots
 invariant-slots l = (k : ℕ) (d : Slot2) → k < l.slot-index → IsTypedSlot2 (get_or l.slots k d)

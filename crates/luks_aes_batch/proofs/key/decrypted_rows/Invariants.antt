@@ -5,7 +5,7 @@ use Rattle.luks_aes_batch.specs.States.{RepresentStates, RepresentRotated}
 use Rattle.luks_aes_batch.specs.RoundKeys.{rows_of, IsBatchKey}
 use Rattle.luks_aes_batch.proofs.key.decrypted_rows.Given as goal
 
--- the rows hold the states after the inverse rounds so far, inv_shift_rows_batch
+-- the rows represent the states after the inverse rounds so far and after InvShiftRows of the next round
 abbrev pub invariant-loop-round : goal.invariant-loop-round
 invariant-loop-round l = record {
   some : 1 ≤ l.round;

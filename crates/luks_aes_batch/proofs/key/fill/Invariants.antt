@@ -3,7 +3,7 @@ use Rattle.luks_aes.specs.Aes.{key_expansion}
 use Rattle.luks_aes_batch.specs.RoundKeys.{HasInvMixedKeys}
 use Rattle.luks_aes_batch.proofs.key.fill.Given as goal
 
--- the round keys so far are there
+-- the first n entries have their round keys
 abbrev pub invariant-loop-n : goal.invariant-loop-n
 invariant-loop-n l = record {
   long : length l.round_keys ≡ 13;

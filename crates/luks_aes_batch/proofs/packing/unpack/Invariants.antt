@@ -4,7 +4,7 @@ use Rattle.luks_aes.specs.Bytes.{IsBytes}
 use Rattle.luks_aes_batch.proofs.OutLemmas.{placed}
 use Rattle.luks_aes_batch.proofs.packing.unpack.Given as goal
 
--- the batch is of bytes, and the blocks so far are written
+-- the batch consists of bytes, and the blocks so far are written
 abbrev pub invariant-loop-g : goal.invariant-loop-g
 invariant-loop-g l = record {
   bytes : IsBytes l.batch;

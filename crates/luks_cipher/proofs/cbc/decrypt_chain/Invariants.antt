@@ -7,7 +7,7 @@ use Rattle.luks_cipher.specs.Cbc.{block_before}
 use Rattle.luks_cipher.proofs.TweakLemmas.{IsDoneBefore}
 use Rattle.luks_cipher.proofs.cbc.decrypt_chain.Given as goal
 
--- the unit and the vector were of bytes, the blocks so far are done, and what the last of them was is kept
+-- the unit and the IV consisted of bytes at first, the blocks so far are done, and their last cipher block is kept
 abbrev pub invariant-loop-i : goal.invariant-loop-i
 invariant-loop-i l = record {
   bytes : IsBytes l.fn.unit;

@@ -5,7 +5,7 @@ use Rattle.luks_cipher.specs.Cbc.{chained}
 use Rattle.luks_cipher.proofs.TweakLemmas.{IsDoneBefore}
 use Rattle.luks_cipher.proofs.cbc.encrypt_chain.Given as goal
 
--- the unit and the vector were of bytes, the blocks so far are done, and the last of them is kept
+-- the unit and the IV consisted of bytes at first, the blocks so far are done, and the last of them is kept
 abbrev pub invariant-loop-j : goal.invariant-loop-j
 invariant-loop-j l = record {
   bytes : IsBytes l.fn.unit;

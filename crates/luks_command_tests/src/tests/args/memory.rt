@@ -1,4 +1,4 @@
-//! The answers if memory runs out.
+//! The results of `plan` if memory runs out.
 
 use super::{assert_of, words_of};
 use luks_args::planning::{PlanFault, plan};
@@ -7,13 +7,13 @@ use luks_test_support::scarce::Scarcity;
 use std::alloc::Global;
 use std::process::Abort;
 
-// The pieces in which memory comes back.
+// The number of pieces in which memory becomes free again.
 const PIECES: usize = 1000;
 
 const PIECE_SIZE: usize = 136;
 
-// Plans as memory comes back until it suffices, and answers how often it ran out before; `None` if
-// another answer comes than the specified one.
+// Plans again with each further piece of memory, until memory suffices. Returns how often it ran
+// out before, or `None` if a result is neither that nor the specified one.
 fn refusals<'a>(
     alloc: Global,
     words: &'a [&'a str],

@@ -1,17 +1,17 @@
-//! Lines that are no command line of luksrd.
+//! Lines that are not a luksrd command.
 
 use super::{assert_of, joined, words_of};
 use luks_args::planning::{PlanFault, plan};
 use std::process::Abort;
 
-// The words are no command line of luksrd.
+// The arguments are not a luksrd command.
 fn check_refused(rt: &(impl Abort + AllocGlobal), line: &str, words: &[&str]) {
     assert_of(rt, line, plan(rt.alloc(), words) == Err(PlanFault::Usage));
 }
 
-// Lines that are no command line of luksrd.
+// Lines that are not a luksrd command.
 static FAULTS: [&str; 133] = [
-    // no command, or another one
+    // no command, or an unknown one
     "",
     "-",
     "--",
@@ -25,7 +25,7 @@ static FAULTS: [&str; 133] = [
     "luksUuid i",
     "luksDum i",
     "lukscat --key-file f i",
-    // help and version are no commands and no options
+    // help and version are neither commands nor options
     "-h",
     "-V",
     "--help",
@@ -36,7 +36,7 @@ static FAULTS: [&str; 133] = [
     "afMerge --help",
     "afMerge --version",
     "afMerge --hash sha256 --stripes 1 --key-bytes 32 s --help",
-    // each option and the input missing
+    // an option or the input is missing
     "luksCat",
     "luksCat i",
     "luksCat --key-file f",
@@ -56,7 +56,7 @@ static FAULTS: [&str; 133] = [
     "afSplit --hash sha256 --random r k",
     "afSplit --hash sha256 --stripes 2 k",
     "afSplit --hash sha256 --stripes 2 --random r",
-    // an option without its text
+    // an option without its argument
     "isLuks --header",
     "isLuks --header i",
     "isLuks i --header",
@@ -69,7 +69,7 @@ static FAULTS: [&str; 133] = [
     "luksCat --key-file f --max-iterations --key-slot 1 i",
     "afSplit --hash sha256 --stripes 2 k --random",
     "afSplit --hash --stripes 2 --random r k",
-    // each option and the input given twice
+    // an option or the input is given twice
     "isLuks --header h --header h i",
     "luksUUID --header h --header=g i",
     "luksDump --header=h i --header h",
@@ -90,7 +90,7 @@ static FAULTS: [&str; 133] = [
     "luksCat --key-file f --max-iterations 9 --max-iterations=9 i",
     "testPassphrase --key-file f --key-slot 1 --key-slot=2 i",
     "testPassphrase --key-file f i i",
-    // options of others, short ones and prefixes
+    // options of other commands, short options and prefixes
     "isLuks --header h --key-file f i",
     "luksUUID --head h i",
     "luksDump --headers h i",
@@ -110,13 +110,13 @@ static FAULTS: [&str; 133] = [
     "afMerge --hash sha256 --stripes 1 --key-bytes 32 --random r s",
     "afMerge --hash sha256 --stripe 1 --key-bytes 32 s",
     "afMerge -h sha256 --stripes 1 --key-bytes 32 s",
-    // hash functions that have no name here
+    // unknown hash functions
     "afMerge --hash sha --stripes 1 --key-bytes 32 s",
     "afMerge --hash sha-256 --stripes 1 --key-bytes 32 s",
     "afMerge --hash ripemd160 --stripes 1 --key-bytes 32 s",
     "afMerge --hash= --stripes 1 --key-bytes 32 s",
     "afMerge --hash sha256 --stripes 1 --key-bytes 32 -s",
-    // standard input twice, or three times
+    // standard input for two inputs, or for three
     "isLuks --header - -",
     "isLuks --header=- -",
     "luksUUID - --header -",
@@ -139,7 +139,7 @@ static FAULTS: [&str; 133] = [
     "afSplit --hash sha256 --stripes 2 --random - -- -",
     "afSplit - --hash sha256 --stripes 2 --random=-",
     "afSplit --hash sha256 --stripes 2 --random - - x",
-    // numbers out of their ranges
+    // numbers out of range
     "afMerge --hash sha1 --stripes 1 --key-bytes 513 s",
     "luksCat --key-file f --key-slot 32 i",
     "luksCat --key-file f --key-slot= i",
@@ -163,7 +163,7 @@ fn refuses_other_lines(rt: HostRuntime) {
     }
 }
 
-// Texts that are no number of stripes and no number of key bytes.
+// Texts that are neither a number of stripes nor a number of key bytes.
 static NO_NUMBERS: [&str; 18] = [
     "",
     "0",
@@ -185,7 +185,7 @@ static NO_NUMBERS: [&str; 18] = [
     "4294967297",
 ];
 
-// What is before a number and behind it.
+// The text before a number, and the text after it.
 static AROUND: [(&str, &str); 3] = [
     ("afSplit --hash sha1 --stripes=", " --random r k"),
     ("afMerge --hash sha1 --stripes=", " --key-bytes 1 s"),

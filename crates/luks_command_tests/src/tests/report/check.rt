@@ -1,11 +1,11 @@
-//! The findings in headers of LUKS1, and how a check reports them.
+//! The findings in LUKS1 headers, and how a check reports them.
 
 use super::fixture::check_findings;
 use luks_io::memory::MemSink;
 use luks_report::message::Message;
 use std::process::Abort;
 
-// Puts bytes into a header, from a place on.
+// Overwrites the bytes of a header from an offset on.
 fn patch(bytes: &mut [u8], place: usize, with: &[u8]) {
     for (i, byte) in with.iter().enumerate() {
         let at = place.saturating_add(i);
@@ -15,14 +15,14 @@ fn patch(bytes: &mut [u8], place: usize, with: &[u8]) {
     }
 }
 
-// Puts numbers into a header, each at its place.
+// Overwrites numbers of a header, each at its offset.
 fn patch_numbers(bytes: &mut [u8], numbers: &[(usize, u32)]) {
     for (place, number) in numbers {
         patch(bytes, *place, &number.to_be_bytes());
     }
 }
 
-// Numbers of a header without key slots in use, of a payload from sector 4096 on.
+// The numbers of a header without key slots in use, and with a payload from sector 4096 on.
 static NUMBERS: [(usize, u32); 11] = [
     (104, 4096),
     (108, 64),
@@ -37,8 +37,8 @@ static NUMBERS: [(usize, u32); 11] = [
     (544, 0xdead),
 ];
 
-// Sets a key slot in use: 1000 iterations, and 4000 stripes of 64 bytes from this sector on. These
-// are 500 sectors.
+// Enables a key slot, with 1000 iterations, and 4000 stripes of 64 bytes from this sector on. The
+// stripes are 500 sectors.
 fn enable(bytes: &mut [u8], slot: u8, sector: u32) {
     let place = 208 + 48 * usize::from(slot);
     let state = [(place, 0x00ac_71f3), (place + 4, 1000)];
@@ -46,7 +46,8 @@ fn enable(bytes: &mut [u8], slot: u8, sector: u32) {
     patch_numbers(bytes, &[(place + 40, sector), (place + 44, 4000)]);
 }
 
-// A header with these slots in use, whose areas begin there, and with these other numbers.
+// A header with these key slots in use, each with the first sector of its area, and with these
+// other numbers.
 fn header_of(
     rt: &(impl Abort + AllocGlobal),
     slots: &[(u8, u32)],
@@ -78,10 +79,11 @@ const MANY: &[(usize, u32)] = &[
 
 const SHARE: &str = "slots 3 and 5: areas overlap\n";
 
-// Slots in use, each with the first sector of its area; other numbers; and what is found. Slot i
-// begins with its state, at 208 + 48 * i, and has its iterations 4 and its stripes 44 bytes behind.
-// No iterations are too many for a check. Areas that only touch share nothing; the last byte of the
-// stripes counts up to the end of its sector; and only slots that can be tried overlap.
+// Key slots in use, each with the first sector of its area; other numbers; and the findings. Slot i
+// starts with its state, at 208 + 48 * i; its iterations are 4 bytes and its stripes 44 bytes after
+// that. The number of iterations has no limit for a check. Areas that only touch share nothing; the
+// last byte of the stripes counts up to the end of its sector; and only slots that can be tried
+// overlap.
 static ROWS: [(&[(u8, u32)], &[(usize, u32)], &str); 17] = [
     (&[], &[], ""),
     (&[(0, 8)], &[], ""),

@@ -5,7 +5,8 @@ use luks_dump::dump::{dump_text, uuid_text};
 use luks_test_support::header2::{SIZE, empty_image, write_header};
 use std::process::Abort;
 
-// Key slots out of order in the text, and digests with and without their members.
+// Key slots in JSON text that are not ordered by number, and digests with and without their
+// members.
 const KEYSLOTS: &str = "{\"keyslots\":{\
     \"10\":{\"type\":\"luks2\",\"key_size\":64,\
     \"af\":{\"type\":\"luks1\",\"stripes\":4000,\"hash\":\"sha256\"},\
@@ -55,7 +56,7 @@ const OTHER_LINES: &str = "Segment 0: offset=16777216 size=dynamic iv=0 \
     Digest 9: REFUSED\n\
     Digest 10: USABLE hash=sha1 iterations=1 bytes=20 keyslots= segments=a,\\x5cb,\n";
 
-// What is before a segment, and behind it.
+// The JSON text before a segment, and the text after it.
 const BEFORE: &str = r#"{"keyslots":{},"digests":{},"segments":{"#;
 
 const BEHIND: &str = "}}";
@@ -71,8 +72,8 @@ const LINEAR: &str = r#""0":{"type":"linear"}"#;
 
 const NO_SEGMENT: &str = "Segment: REFUSED segments\n";
 
-/// The sequence numbers of two headers, the parts of their text, the first lines of the dump, and
-/// those behind the header's.
+/// The sequence numbers of two headers, the parts of their JSON text, the first lines of the dump,
+/// and the lines after those of the binary header.
 type Dump = ([u64; 2], [&'static str; 3], &'static str, [&'static str; 2]);
 
 static DUMPS: [Dump; 5] = [
@@ -108,7 +109,7 @@ static DUMPS: [Dump; 5] = [
     ),
 ];
 
-// The parts, one behind the other.
+// These parts, joined.
 fn joined(rt: &(impl Abort + AllocGlobal), parts: &[&str]) -> String {
     let mut text = String::new(rt.alloc());
     for part in parts {
@@ -117,7 +118,8 @@ fn joined(rt: &(impl Abort + AllocGlobal), parts: &[&str]) -> String {
     text
 }
 
-// An image with a header of this text at each place that has a sequence number.
+// An image with a header of this JSON text wherever a sequence number is given: as the primary
+// header, as the secondary one, or both.
 fn image(rt: &(impl Abort + AllocGlobal), numbers: [Option<u64>; 2], json: &str) -> Vec<u8> {
     let mut image = empty_image(rt.alloc()).expect(rt, "memory");
     if let Some(number) = numbers[0] {
@@ -152,8 +154,8 @@ const PLAIN: &str = r#"{"keyslots":{},"segments":{},"digests":{}}"#;
 
 const DIFFER: &str = "headers: sequence numbers differ\n";
 
-// The sequence numbers of the headers that there are, and what is found before that there is no
-// segment.
+// The sequence numbers of the headers that the image has, and the findings before the one that
+// there is no segment.
 static FOUND: [([Option<u64>; 2], &str); 5] = [
     ([Some(5), Some(5)], ""),
     ([Some(5), Some(6)], DIFFER),

@@ -1,4 +1,4 @@
-//! What is found in a header.
+//! The findings in a header.
 
 use luks_check::check::findings;
 use luks_header::header::{Header, read_header};
@@ -14,12 +14,13 @@ pub fn read(rt: &(impl Abort + AllocGlobal), image: &[u8]) -> Header {
     header
 }
 
-/// Asserts that a text is as it has to be.
+/// Asserts that a text is the expected one.
 pub fn assert_text(rt: &impl Abort, page: &str, wanted: &str) {
     assert!(rt; page == wanted, "{page}, and not {wanted}");
 }
 
-/// This is found in the header of an image, and a check of it prints that and ends so.
+/// The header of an image has these findings, and a check prints them and ends with the message for
+/// them.
 pub fn check_findings(rt: &(impl Abort + AllocGlobal), image: &[u8], wanted: &str) {
     let header = read(rt, image);
     let found = findings(rt.alloc(), &header).expect(rt, "memory");

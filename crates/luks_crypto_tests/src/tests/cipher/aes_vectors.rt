@@ -8,9 +8,9 @@ aes 000102030405060708090a0b0c0d0e0f1011121314151617 - 00112233445566778899aabbc
 aes 000102030405060708090a0b0c0d0e0f101112131415161718191a1b1c1d1e1f - 00112233445566778899aabbccddeeff 8ea2b7ca516745bfeafc49904b496089
 ";
 
-// NIST's known answers for AES under keys of 16, 24 and 32 bytes (the CAVP's sets GFSbox and
-// KeySbox whole, and 16 each of VarKey and VarTxt), as Debian's package
-// python3-cryptography-vectors has them.
+// NIST's known answers for AES under keys of 16, 24 and 32 bytes (all of the CAVP's sets GFSbox and
+// KeySbox, and 16 each of VarKey and VarTxt), as Debian's package python3-cryptography-vectors has
+// them.
 pub const KNOWN_ANSWERS: &str = "\
 aes 00000000000000000000000000000000 - f34481ec3cc627bacd5dc3fb08f273e6 0336763e966d92595a567cc9ce537f5e
 aes 00000000000000000000000000000000 - 9798c4640bad75c7c3227db910174e72 a9a1631bf4996954ebc093957b234589
@@ -189,7 +189,7 @@ aes 0000000000000000000000000000000000000000000000000000000000000000 - fffffffff
 aes 0000000000000000000000000000000000000000000000000000000000000000 - ffffffffffffffffffffffffffffffff acdace8078a32b1a182bfa4987ca1347
 ";
 
-// The plain slice of 512 bytes under the key of 16 bytes, by OpenSSL.
+// The plain batch of 512 bytes under the key of 16 bytes, encrypted by OpenSSL.
 pub const SLICE_128: &str = "\
 34ac3aa620b65d05b0b3f200402c7fdb178041598a8f93face159f7f274baa0bf30ab0a0547bf8be5efd6565c9032454\
 5361ad35b8a253e98ab47edd9aa8f91c0cd7841237d8bb4cf5fb81adbaf0961733587d13ac5290e00013260ff237188e\
@@ -203,7 +203,7 @@ b7fdb861f3dc3d3dc9f82f16db8d7a86432e16dec45aafb4f97b659d37503b2a86e9c331a868dd45
 2b83989352087d738ec89d80e7a17df64b69984ce2116a5ba557ea05db62942a77274fa5dcfbba47ab27f85b73c78f5a\
 a7890929f4dee6d6a2ec9c5493d59a6659b7eea9f4a000453c1aa07b854e0f91";
 
-// The plain slice of 512 bytes under the key of 24 bytes, by OpenSSL.
+// The plain batch of 512 bytes under the key of 24 bytes, encrypted by OpenSSL.
 pub const SLICE_192: &str = "\
 0862f5491a48836f01c13dd0f03b8c4ca60d62c2aeffec84ad7555f317f793e674c2cf78270349cf5e07b3aedb78dfd3\
 c58f7c30b3b589ef7b842d7c055c58bca8220b5848b117b2634f301b1743fd036c4f353e976ac80cc4ce9eb276a9b22a\
@@ -217,7 +217,7 @@ dd104b345c8b38726199bf75398be83ca7c73e8d8bdd3bb031e637fa6dabab7c5206df3557613eb9
 a3b92fd9cd8df69634bdc8e027bb4e71dd1ceb02f4fe69855fa4379ae65effca9f1962c102cb14649de4dfdd40eaf6c3\
 caafb701d5857cf989b1d9feca9456f9b12cf1fcff7c1e5987688aef0e4d3eb8";
 
-// The plain slice of 512 bytes under the key of 32 bytes, by OpenSSL.
+// The plain batch of 512 bytes under the key of 32 bytes, encrypted by OpenSSL.
 pub const SLICE_256: &str = "\
 ebad86d08dd66d5282841b37462e452dd0e9fbb1eaae2ddf56d4f7921aa8a64bfd688fb2b13045480baf61157dd03eb8\
 93cc66d20c568b93977d63f209639ab0559e7d29876b87c35e8a514291743ec8d337349ead27535ec3147df439219780\

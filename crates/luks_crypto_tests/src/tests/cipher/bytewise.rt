@@ -1,4 +1,4 @@
-//! XTS-AES byte by byte, as the standards write it: what the tables are compared with.
+//! XTS-AES byte by byte, as the standards write it, for comparison with the code that uses tables.
 
 // b times x in the field (FIPS 197, 4.2).
 fn times_x(b: u8) -> u8 {
@@ -45,7 +45,7 @@ struct Boxes {
 }
 
 impl Boxes {
-    // The S-box: the inverse, then the affine map. The other one leads back from its values.
+    // The S-box is the inverse, then the affine map. The inverse S-box maps its values back.
     fn new() -> Boxes {
         let mut there = [0; 256];
         let mut back = [0; 256];
@@ -60,8 +60,8 @@ impl Boxes {
 
 pub type State = [u8; 16];
 
-// The bytes substituted, and row r turned left by `by * r` places (5.1.1 and 5.1.2, and with 3 for
-// 1 and the other box 5.3.1 and 5.3.2).
+// The bytes substituted by the table, and row r rotated left by `by * r` columns (5.1.1 and 5.1.2
+// with the S-box and 1; 5.3.1 and 5.3.2 with the inverse S-box and 3).
 fn turned(table: &[u8; 256], by: usize, s: State) -> State {
     let mut next = [0; 16];
     for i in 0..16 {
@@ -86,7 +86,7 @@ fn multiplied(a: [u8; 4], s: State) -> State {
     next
 }
 
-// The bits of both.
+// XOR of two states.
 pub fn sum(a: State, b: State) -> State {
     let mut next = [0; 16];
     for i in 0..16 {
@@ -97,10 +97,10 @@ pub fn sum(a: State, b: State) -> State {
 
 type Word = [u8; 4];
 
-// The words of a schedule: as many as the longest keys have.
+// The words of a schedule: as many as the longest key needs.
 type Words = [Word; 60];
 
-// Word `i` of the schedule of a key of so many words, from the words before it (5.2).
+// Word `i` of the schedule of a key of `words` words, from the words before it (5.2).
 fn next_word(there: &[u8; 256], all: &Words, words: usize, i: usize, constant: u8) -> Word {
     let [a, b, c, d] = all[i.saturating_sub(1).min(59)];
     let mut word = [a, b, c, d];
@@ -186,7 +186,7 @@ pub fn number_block(number: u64) -> State {
     block
 }
 
-/// Two keys of AES and their schedules: what XTS-AES needs.
+/// The schedules of two keys of AES, for XTS-AES.
 #[derive(Drop)]
 pub struct Bytewise {
     boxes: Boxes,
@@ -196,7 +196,7 @@ pub struct Bytewise {
 }
 
 impl Bytewise {
-    /// Those of a key of 32 or 64 bytes.
+    /// The schedules of a key of 32 or 64 bytes.
     pub fn new(key: &[u8]) -> Bytewise {
         let boxes = Boxes::new();
         let (data_key, tweak_key) = key.split_at(key.len() / 2);
@@ -232,7 +232,7 @@ impl Bytewise {
         sum(shifted, round_key(all, 0))
     }
 
-    /// The data unit of this number (IEEE 1619, 5.3.2 and 5.4.2), encrypted or decrypted.
+    /// Encrypts or decrypts the data unit with this number (IEEE 1619, 5.3.2 and 5.4.2).
     pub fn unit(&self, encrypts: bool, number: u64, unit: &mut [u8]) {
         let mut tweak = self.encrypted(&self.tweak_words, number_block(number));
         for piece in unit.chunks_exact_mut(16) {

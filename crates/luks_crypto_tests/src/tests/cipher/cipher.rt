@@ -1,11 +1,11 @@
-//! What the tables speak of: a key and how it is used.
+//! The ciphers of the tables: a key and its use.
 
 use luks_aes_batch::BatchKey;
 use luks_cipher::cbc::{decrypt_chain, encrypt_chain};
 use luks_cipher::{AesKey, Mode, SectorCipher, XtsKey};
 use std::process::Abort;
 
-/// A key for blocks, for chains behind this block, for data units, or for sectors.
+/// A key for blocks, for chains after this block, for data units, or for sectors.
 #[derive(Drop)]
 pub enum Cipher {
     Block(AesKey),
@@ -15,7 +15,7 @@ pub enum Cipher {
 }
 
 impl Cipher {
-    /// The cipher of this name. The block before a chain is written as hexadecimal digits.
+    /// The cipher with this name. The block before a chain is written as hexadecimal digits.
     pub fn new(rt: &impl Abort, name: &str, key: &[u8], before: &str) -> Cipher {
         match name {
             "aes" => Cipher::Block(AesKey::new(key).expect(rt, "a key of AES")),
@@ -32,7 +32,7 @@ impl Cipher {
         }
     }
 
-    /// Encrypts what has this number, if the cipher counts.
+    /// Encrypts the unit with this number; blocks and chains have no number.
     pub fn encrypt(&self, rt: &impl Abort, number: u64, unit: &mut [u8]) {
         assert!(rt; unit.len() % 16 == 0 && 16 <= unit.len() && unit.len() <= 4096);
         match self {
@@ -48,7 +48,7 @@ impl Cipher {
         }
     }
 
-    /// Decrypts what has this number, if the cipher counts.
+    /// Decrypts the unit with this number; blocks and chains have no number.
     pub fn decrypt(&self, rt: &impl Abort, number: u64, unit: &mut [u8]) {
         assert!(rt; unit.len() % 16 == 0 && 16 <= unit.len() && unit.len() <= 4096);
         match self {

@@ -1,4 +1,4 @@
-//! Units by tables and slices against units byte by byte.
+//! Units by tables and batches, compared with units byte by byte.
 
 use super::bytewise::Bytewise;
 use super::cipher::Cipher;
@@ -11,7 +11,7 @@ fn next(x: u64) -> u64 {
     b ^ (b << 17)
 }
 
-// So many bytes that follow from the seed.
+// `length` bytes that are generated from the seed.
 fn drawn(rt: &(impl Abort + AllocGlobal), seed: u64, length: usize) -> Vec<u8> {
     let mut x = seed;
     let mut bytes = Vec::new(rt.alloc());
@@ -22,7 +22,7 @@ fn drawn(rt: &(impl Abort + AllocGlobal), seed: u64, length: usize) -> Vec<u8> {
     bytes
 }
 
-// The drawn unit of this number and length is encrypted and decrypted alike in both ways.
+// Asserts that both ways encrypt and decrypt the generated unit with this number and length alike.
 fn check_unit(
     rt: &(impl Abort + AllocGlobal),
     (cipher, bytewise): (&Cipher, &Bytewise),
@@ -43,7 +43,7 @@ fn check_unit(
     );
 }
 
-// 1000 units of this length, each under its own number.
+// Checks 1000 units of this length, each under its own number.
 fn check_length(rt: &(impl Abort + AllocGlobal), key_length: usize, length: usize) {
     let key = drawn(rt, 0x9e37_79b9_7f4a_7c15, key_length);
     let cipher = Cipher::new(rt, "xts", &key, "");

@@ -26,7 +26,7 @@ fn modes_have_names(rt: HostRuntime) {
     }
 }
 
-// A length in bytes, and whether it is one of AES, of XTS and of CBC here.
+// A length in bytes, and whether a key of AES, of XTS and of CBC can have it here.
 static LENGTHS: [(usize, bool, bool, bool); 10] = [
     (0, false, false, false),
     (15, false, false, false),

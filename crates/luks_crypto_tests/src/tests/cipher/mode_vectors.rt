@@ -48,7 +48,7 @@ cbc dc0eba1f2232a7879ded34ed8428eeb8769b056bbaf8ad77cb65c3541430b4cf 00000000000
 cbc f8be9ba615c5a952cabbca24f68f8593039624d524c816acda2c9183bd917cb9 00000000000000000000000000000000 00000000000000000000000000000000 a3944b95ca0b52043584ef02151926a8
 ";
 
-// As OpenSSL's command encrypts them under the vector that its `dgst` and ECB mode give.
+// Sectors as OpenSSL's command encrypts them under the IV that its `dgst` and ECB mode give.
 pub const SECTORS: &str = "\
 cbc-essiv:sha256 030a11181f262d343b424950575e656c 0 00010409101924314051647990a9c4e10021446990b9e4114071a4d9104984c1004184c91059a4f14091e43990e944a1 8c106c324baaab2304c5108b843039cb1972fb3cd5427e57d65b5395833d1cfacb0ed0386533b3a708032dd74f1c5846
 cbc-plain64 030a11181f262d343b424950575e656c 0 00010409101924314051647990a9c4e10021446990b9e4114071a4d9104984c1004184c91059a4f14091e43990e944a1 4b2b223826e819fca52c9427d35e9ed4389cb1823fde63092c8d9473a35a14812176f6cee8bcf8d73e316e1969fd4c79
@@ -72,8 +72,9 @@ cbc-essiv:sha256 030a11181f262d343b424950575e656c737a81888f969da4abb2b9c0c7ced5d
 cbc-plain64 030a11181f262d343b424950575e656c737a81888f969da4abb2b9c0c7ced5dc 18364758544493064720 101114192029344150617489a0b9d4f110315479a0c9f4215081b4e9205994d1105194d92069b40150a1f449a0f954b1 c5d1d872c712013dca51bc9d24b32a4bcb117bdeacfad5f77d2be43776218bc9fd12c99c8712e2633553be68ce8dd039
 ";
 
-// Worked by hand: in CBC under the bytes 00 to 0f, FIPS 197's example block comes out of each of
-// these.
+// Computed by hand: CBC under the key 00 to 0f encrypts each block of the first three to the
+// example block of FIPS 197. The last two are vector 1 of IEEE 1619, under the number 0 and under
+// one that `xts-plain` cuts to 0.
 pub const WORKED: &str = "\
 cbc-plain64 000102030405060708090a0b0c0d0e0f 0 00112233445566778899aabbccddeeff69d5c2eb2e2e624750541d3bbc692ba5 69c4e0d86a7b0430d8cdb78070b4c55a69c4e0d86a7b0430d8cdb78070b4c55a
 cbc-plain64 000102030405060708090a0b0c0d0e0f 1 01112233445566778899aabbccddeeff 69c4e0d86a7b0430d8cdb78070b4c55a
@@ -82,8 +83,8 @@ xts-plain 0000000000000000000000000000000000000000000000000000000000000000 42949
 xts-plain64 0000000000000000000000000000000000000000000000000000000000000000 0 0000000000000000000000000000000000000000000000000000000000000000 917cf69ebd68b2ec9b9fe9a3eadda692cd43d2f59598ed858c02c2652fbf922e
 ";
 
-// A line is a mode, how many bytes of `KEY` are the key, a sector's number, its length, and the
-// SHA-256 digest of the plain sector encrypted. The digests are of what OpenSSL encrypts, by
+// A line is a mode, the number of bytes of `KEY` that are the key, a sector's number, its length,
+// and the SHA-256 digest of the encrypted sector. OpenSSL encrypted the sectors for the digests, by
 // Python's cryptography 48.0.0.
 pub const DIGESTS: &str = "\
 xts-plain64 32 81985529216486895 16 dc32fded8f6f2c2df391682af1b1a160c002c76f145714c22c4569ee74b6c46a

@@ -8,7 +8,7 @@ use super::{assert_in, bytes, counted};
 use luks_cipher::AesKey;
 use std::process::Abort;
 
-// Encrypts the unit under each number in turn. At some the standard publishes it.
+// Encrypts the unit under each number in turn. The standard publishes the unit after some of them.
 fn encrypt_in_turn(rt: &(impl Abort + AllocGlobal), cipher: &Cipher, unit: &mut [u8]) {
     for number in 0..=255 {
         cipher.encrypt(rt, number, unit);
@@ -60,8 +60,8 @@ fn block_of(rt: &impl Abort, bytes: &[u8], j: usize) -> State {
     block
 }
 
-// Block `j` of the unit is that of the plain one, encrypted between two masks. Those are the first
-// one doubled `j` times.
+// Asserts that block `j` of the unit is that of the plain one, encrypted between two masks. Both
+// are the mask of block 0, doubled `j` times.
 fn check_block(
     rt: &impl Abort,
     (data_key, tweak_key): (&AesKey, &AesKey),

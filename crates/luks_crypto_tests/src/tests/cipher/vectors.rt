@@ -1,5 +1,5 @@
-//! Tables of what is encrypted and what that gives. A line is a cipher, a key, the number of a unit
-//! or the block before a chain, the plain bytes and the encrypted ones.
+//! Tables of plain and encrypted bytes. A line is a cipher, a key, the number of a unit or the
+//! block before a chain, the plain bytes, and the encrypted bytes.
 
 use super::aes_vectors::{EXAMPLES, KNOWN_ANSWERS, SLICE_128, SLICE_192, SLICE_256};
 use super::cipher::Cipher;
@@ -10,12 +10,13 @@ use luks_aes_batch::BatchKey;
 use sha2::{Digest, Sha256};
 use std::process::Abort;
 
-// A line's word of this number, from 0.
+// The word of a line with this number, counted from 0.
 fn word<'a>(rt: &impl Abort, line: &'a str, number: usize) -> &'a str {
     line.split(' ').nth(number).expect(rt, "a word")
 }
 
-// The cipher encrypts the plain unit of this number to the encrypted one, and decrypts that back.
+// Asserts that the cipher encrypts the plain unit with this number to the encrypted one, and
+// decrypts that to the plain one.
 pub fn check_unit(
     rt: &(impl Abort + AllocGlobal),
     case: &str,
@@ -32,7 +33,7 @@ pub fn check_unit(
 
 fn check_line(rt: &(impl Abort + AllocGlobal), line: &str) {
     let middle = word(rt, line, 2);
-    // A block before a chain is no number.
+    // A block before a chain is not a number.
     let number = middle.parse().unwrap_or(0);
     let cipher = Cipher::new(rt, word(rt, line, 0), &bytes(rt, word(rt, line, 1)), middle);
     let plain = bytes(rt, word(rt, line, 3));
@@ -63,7 +64,8 @@ const KEY: &str = "\
 05162738495a6b7c8d9eafc0d1e2f30415263748596a7b8c9daebfd0e1f20314\
 25364758697a8b9cadbecfe0f102132435465768798a9bacbdcedff001122334";
 
-// The line's sector is encrypted to what has the digest, and that is decrypted to the plain one.
+// Asserts that the line's sector is encrypted to one with the digest, and that this is decrypted to
+// the plain one.
 fn check_digest(rt: &(impl Abort + AllocGlobal), line: &str) {
     let key = bytes(rt, KEY);
     let key_length = word(rt, line, 1)
@@ -92,7 +94,7 @@ fn sectors_of_slices_and_blocks_have_their_digests(rt: HostRuntime) {
     }
 }
 
-// 32 blocks are decrypted at once, and the first of them alone.
+// Checks the decryption of 32 blocks at once, and of the first of them alone.
 fn check_slice(rt: &(impl Abort + AllocGlobal), key: &[u8], encrypted: &str, plain: &[u8]) {
     let key = BatchKey::new(key).expect(rt, "a key of AES");
     let mut slice = [0; 512];

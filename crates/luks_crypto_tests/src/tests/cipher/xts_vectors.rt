@@ -57,8 +57,8 @@ xts 95d5f5f2fd69311cf7ed8d944f6a4b721a01470a317de23543433e0180838952 18446744073
 ";
 
 // The keys of vectors 4 to 9 and of 10 to 14 of annex B. The first plain unit, of 512 bytes, is 00
-// to ff twice. Vectors 4 to 9 come of encrypting it under the numbers from 0 to ff in turn, each
-// time what the last number left. The answers below were computed by OpenSSL.
+// to ff twice. For vectors 4 to 9 it is encrypted under the numbers from 0 to ff in turn, each time
+// from the result of the last number. OpenSSL computed the answers below.
 pub const KEY_256: &str = "2718281828459045235360287471352631415926535897932384626433832795";
 
 pub const KEY_512: &str =

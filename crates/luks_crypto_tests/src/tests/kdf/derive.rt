@@ -4,7 +4,7 @@ use super::{HASHES, assert_hex};
 use luks_kdf::{Hash, Work, digest, pbkdf2};
 use std::process::Abort;
 
-// Asserts what is derived, as many bytes as the digits spell, and how far the work goes.
+// Asserts the derived key, with as many bytes as the digits represent, and the count of the work.
 fn check(
     rt: &impl Abort,
     hash: Hash,
@@ -25,7 +25,7 @@ fn check(
     assert!(rt; counted.count() == work);
 }
 
-// RFC 6070, but for the case of 16,777,216 iterations.
+// RFC 6070, except for the case of 16,777,216 iterations.
 #[test]
 fn published_keys(rt: HostRuntime) {
     let rows: [(u32, &[u8]); 3] = [
@@ -52,7 +52,7 @@ fn published_keys(rt: HostRuntime) {
     check(&rt, Hash::Sha1, b"pass\0word", b"sa\0lt", 4096, want, 4096);
 }
 
-// Here and below Python's `hashlib.pbkdf2_hmac` gave the keys.
+// Here and below, the keys are from Python's `hashlib.pbkdf2_hmac`.
 #[test]
 fn several_blocks(rt: HostRuntime) {
     let want = b"4b007901b765489abead49d926f721d065a429c12e463f6c4cd79401085b03dbc7e8b88f1447f8c3";
@@ -65,7 +65,7 @@ fn several_blocks(rt: HostRuntime) {
     check(&rt, Hash::Sha512, b"password", b"salt", 1000, want, 1000);
 }
 
-// Asserts what is derived for the whole key, and for shorter ones.
+// Asserts the whole derived key, and shorter ones.
 fn check_lengths(rt: &impl Abort, hash: Hash, want: &[u8]) {
     let size = hash.size();
     assert!(rt; want.len() == 4 * size + 2);
@@ -76,7 +76,7 @@ fn check_lengths(rt: &impl Abort, hash: Hash, want: &[u8]) {
     }
 }
 
-// Asserts what is derived for as many bytes of this key.
+// Asserts the derived key of this length, which is a prefix of the whole one.
 fn check_front(rt: &impl Abort, hash: Hash, want: &[u8], len: usize, work: u128) {
     assert!(rt; len <= want.len() / 2);
     check(rt, hash, b"password", b"salt", 3, &want[..2 * len], work);
@@ -175,8 +175,8 @@ fn longest_keys(rt: HostRuntime) {
     }
 }
 
-// Adds a key to the mark of many keys: the SHA-256 of the mark before and of the key. At first the
-// mark is zeros.
+// Adds a key to the mark of many keys: the new mark is the SHA-256 of the mark before and the key.
+// The first mark is zeros.
 fn add_to_mark(mark: &mut [u8; 32], hash: Hash, turns: u32, length: usize)
     requires turns { 1 ≤ turns }
     requires some { 1 ≤ length }
@@ -189,7 +189,7 @@ fn add_to_mark(mark: &mut [u8; 32], hash: Hash, turns: u32, length: usize)
     digest(Hash::Sha256, &before, key, b"", mark);
 }
 
-// The mark of the keys of 1 to 512 bytes, each so much longer than the one before it.
+// The mark of the keys of 1 to 512 bytes, each longer than the one before it by `step` bytes.
 fn mark_of(hash: Hash, turns: u32, step: usize) -> [u8; 32]
     requires turns { 1 ≤ turns }
     requires step { 1 ≤ step }
@@ -336,7 +336,7 @@ fn every_length(rt: HostRuntime) {
     }
 }
 
-// Derives a key, and asserts how far the work has gone with it.
+// Derives a key, and asserts the count of the work after it.
 fn check_count(rt: &impl Abort, iterations: u32, work: &mut Work, count: u128) -> [u8; 20] {
     let mut key = [0; 20];
     assert!(rt; iterations >= 1);

@@ -56,8 +56,8 @@ fn digests_of_zeros(rt: HostRuntime) {
     check_digest(&rt, Hash::Sha256, b"", b"", b"", nothing);
 }
 
-// The first four cases of RFC 2202, section 3, for SHA-1, and of RFC 4231, section 4, for the
-// others, which have the same keys and messages.
+// The first four cases of RFC 2202, section 3, for SHA-1, and of RFC 4231, section 4, for the other
+// hash functions. Both have the same keys and messages.
 #[test]
 fn published_short_keys(rt: HostRuntime) {
     check_each(
@@ -169,8 +169,8 @@ fn check_about_a_block(rt: &impl Abort, hash: Hash, key: &[u8; 129], wants: [&[u
     check_hmac(rt, hash, b"", b"", nothing);
 }
 
-// Keys of one byte less than a block, of a block and of one byte more, 5, 12, 19 and so on, and
-// then no key and no message. Python's `hmac` gave the values.
+// Keys of one byte less than a block, of a block and of one byte more, with the bytes 5, 12, 19 and
+// so on, and then an empty key and an empty message. The values are from Python's `hmac`.
 static ABOUT_A_BLOCK: [[&[u8]; 4]; 5] = [
     [
         b"bd9631c42f11cd3e44c81fe9079f9585ed3a3251",
@@ -213,7 +213,7 @@ fn keys_about_a_block(rt: HostRuntime) {
     }
 }
 
-// The HMAC under a key, and under the key's digest in its place.
+// The HMAC under a key, and the HMAC under the key's digest.
 fn by_key_and_digest(key: &[u8]) -> ([u8; 32], [u8; 32]) {
     let mut by_key = [0; 32];
     hmac(Hash::Sha256, key, b"message", &mut by_key);
@@ -224,7 +224,7 @@ fn by_key_and_digest(key: &[u8]) -> ([u8; 32], [u8; 32]) {
     (by_key, by_digest)
 }
 
-// A key that is longer than a block counts as its digest, and one of a block as it is.
+// HMAC replaces a key longer than a block by its digest, but not a key of exactly a block.
 #[test]
 fn long_keys_are_hashed(rt: HostRuntime) {
     let mut key = [0; 65];

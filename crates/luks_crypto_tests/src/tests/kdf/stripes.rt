@@ -58,7 +58,7 @@ fn two_stripes_of_zeros_and_ones(rt: HostRuntime) {
     assert_hex(&rt, &stripes[28..], last);
 }
 
-// The first 28 bytes of the SHA-256 of 32 zero bytes, which is what Diffuse makes of 28 zeros.
+// The first 28 bytes of the SHA-256 of 32 zero bytes: the result of Diffuse on 28 zeros.
 const DIFFUSED_ZEROS: [u8; 28] = [
     0x66, 0x68, 0x7a, 0xad, 0xf8, 0x62, 0xbd, 0x77, 0x6c, 0x8f, 0xc1, 0x8b, 0x8e, 0x9f, 0x8e, 0x20,
     0x08, 0x97, 0x14, 0x85, 0x6e, 0xe2, 0x33, 0xb3, 0x90, 0x2a, 0x59, 0x1d,
@@ -73,7 +73,7 @@ fn three_stripes_of_zeros(rt: HostRuntime) {
     assert!(rt; &stripes[56..] == DIFFUSED_ZEROS.as_slice());
 }
 
-// Here and below the values are those of a Python script over `hashlib` alone:
+// Here and below, the values are from a Python script that uses only `hashlib`:
 //
 //     def diffuse(h, block):
 //         n = hashlib.new(h).digest_size
@@ -166,7 +166,7 @@ fn splitter_after(rt: &impl Abort, stripes: &[u8]) -> AfSplitter
     splitter
 }
 
-// 50 stripes of 33 bytes, which are split and merged one at a time, and the SHA-256 of all.
+// Splits and merges 50 stripes of 33 bytes, one at a time, and checks the SHA-256 of all.
 #[test]
 fn one_stripe_at_a_time(rt: HostRuntime) {
     let mut key = [0; 33];

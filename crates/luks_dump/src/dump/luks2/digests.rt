@@ -56,7 +56,7 @@ fn push_digest(
     push_field(lines, name.as_str(), text.as_str())
 }
 
-// What is said of a digest.
+// The text of a digest.
 fn describe(alloc: Global, digest: &Option<Digest>) -> Result<String, AllocError>
     ensures { IfOk result (λ text. string_bytes text ≡ listed_text digest.now) }
 {
@@ -66,7 +66,7 @@ fn describe(alloc: Global, digest: &Option<Digest>) -> Result<String, AllocError
     }
 }
 
-// What is said of a digest that can be used.
+// The text of a digest that can be used.
 fn describe_usable(alloc: Global, digest: &Digest) -> Result<String, AllocError>
     ensures { IfOk result (λ text. string_bytes text ≡ digest_text digest.now) }
 {
@@ -75,7 +75,7 @@ fn describe_usable(alloc: Global, digest: &Digest) -> Result<String, AllocError>
     Ok(text)
 }
 
-// Adds what is said of a digest that can be used.
+// Adds the text of a digest that can be used.
 #[tactic(auto, unfolding(crate::specs::Dump2::digest_text))]
 fn push_usable(alloc: Global, text: &mut String, digest: &Digest) -> Result<(), AllocError>
     ensures { OnOk result
@@ -107,7 +107,7 @@ fn push_names(alloc: Global, text: &mut String, names: &[String]) -> Result<(), 
     }
 }
 
-// Adds names behind another.
+// Adds further names, after the first one.
 fn push_more(alloc: Global, text: &mut String, names: &[String]) -> Result<(), AllocError>
     ensures { OnOk result (string_bytes text.new
         ≡ string_bytes text.old ++ more_names (map string_bytes names.now)) }
@@ -118,7 +118,7 @@ fn push_more(alloc: Global, text: &mut String, names: &[String]) -> Result<(), A
     Ok(())
 }
 
-// Adds a name behind another.
+// Adds a further name, after a comma.
 fn push_name(alloc: Global, text: &mut String, name: &str) -> Result<(), AllocError>
     ensures { OnOk result
         (string_bytes text.new ≡ string_bytes text.old ++ codes "," ++ escaped name.now) }

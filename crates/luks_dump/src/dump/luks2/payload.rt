@@ -35,7 +35,7 @@ pub(super) fn push_segment(
     }
 }
 
-// What is said of a segment.
+// The text of a segment.
 #[tactic(auto, unfolding(crate::specs::Dump2::segment_text))]
 fn describe(alloc: Global, segment: Segment) -> Result<String, AllocError>
     ensures { IfOk result (λ text. string_bytes text ≡ segment_text segment) }
@@ -50,7 +50,7 @@ fn describe(alloc: Global, segment: Segment) -> Result<String, AllocError>
     Ok(text)
 }
 
-// Its length in bytes, if it has one.
+// The length of a segment in bytes, if it has one.
 fn size_text(alloc: Global, size: Option<u64>) -> Result<String, AllocError>
     ensures { IfOk result (λ text. string_bytes text ≡ size_text size) }
 {
@@ -60,7 +60,7 @@ fn size_text(alloc: Global, size: Option<u64>) -> Result<String, AllocError>
     }
 }
 
-// What is said of a fault.
+// The text of a fault.
 fn describe_fault(alloc: Global, fault: SegmentFault) -> Result<String, AllocError>
     ensures { IfOk result (λ text. string_bytes text ≡ codes "REFUSED " ++ fault_text fault) }
 {

@@ -31,7 +31,7 @@ pub(super) fn push_slots(
     Ok(())
 }
 
-// Adds the line of the key slot of a number, if there is one.
+// Adds the line of the key slot with this number, if there is one.
 fn push_slot(
     alloc: Global,
     lines: &mut String,
@@ -49,7 +49,7 @@ fn push_slot(
     }
 }
 
-// The verdict on the key slot of a number, if there is one.
+// The verdict on the key slot with this number, if there is one.
 fn verdict(
     alloc: Global,
     metadata: &Metadata,
@@ -84,7 +84,7 @@ fn push_verdict(
     push_field(lines, name.as_str(), text.as_str())
 }
 
-// What is said of a key slot.
+// The text of a key slot.
 fn describe(alloc: Global, verdict: &Verdict) -> Result<String, AllocError>
     ensures { IfOk result (λ text. string_bytes text ≡ verdict_text verdict.now) }
 {
@@ -98,7 +98,7 @@ fn describe(alloc: Global, verdict: &Verdict) -> Result<String, AllocError>
     }
 }
 
-// What is said of a key slot that can be tried.
+// The text of a key slot that can be tried.
 #[tactic(auto, unfolding(crate::specs::Dump2::usable_text))]
 fn describe_usable(alloc: Global, parts: &SlotParts) -> Result<String, AllocError>
     ensures { IfOk result (λ text. string_bytes text ≡ usable_text parts.now) }
@@ -113,7 +113,7 @@ fn describe_usable(alloc: Global, parts: &SlotParts) -> Result<String, AllocErro
     Ok(text)
 }
 
-/// The name of a hash function, or nothing if that is not known.
+/// The name of a hash function, or nothing if it is not known.
 pub(super) fn hash_text(hash: Option<Hash>) -> &'static str
     ensures { result.now ≡ hash_text hash }
 {

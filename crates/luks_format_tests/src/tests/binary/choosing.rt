@@ -7,7 +7,7 @@ use luks_kdf::Hash;
 use luks2_binary::header::{Finding, Header2, Place};
 use std::process::Abort;
 
-// Which header it is, its length, and what is wrong; or why there is none.
+// Which header is chosen, its length, and its finding; or why there is none.
 type Summary = Result<(Place, u32, Option<Finding>), HeaderFault>;
 
 const NONE: Summary = Err(HeaderFault::NotLuks);
@@ -20,7 +20,7 @@ const SECOND: Summary = Ok((Place::Secondary, 16_384, Some(Finding::PrimaryNotVa
 
 const NEXT: Summary = Ok((Place::Secondary, 32_768, Some(Finding::PrimaryNotValid)));
 
-// The answer for an image, and how many bytes are consumed.
+// Checks the answer for an image, and how many bytes are consumed.
 fn check(rt: &(impl Abort + AllocGlobal), case: usize, image: &[u8], want: Summary, taken: usize) {
     let mut source = MemSource::new(image);
     let summary = match read_from(rt.alloc(), &mut source) {
@@ -32,7 +32,7 @@ fn check(rt: &(impl Abort + AllocGlobal), case: usize, image: &[u8], want: Summa
     assert_in(rt, case, left == image.len().saturating_sub(taken));
 }
 
-// What the header says, by the places of its fields, and the text in its area.
+// Checks the fields of the header, and the text in its area.
 fn check_header(rt: &impl Abort, header: &Header2, area: &[u8]) {
     let chosen = (header.place, header.size, header.finding);
     assert_in(rt, 8, chosen == (Place::Primary, 16_384, None));
@@ -109,7 +109,7 @@ const TWO: &[Sketch<'static>] = &[
     },
 ];
 
-// A secondary header that is longer than its place says.
+// A secondary header that is longer than its offset allows.
 const LONG: &[Sketch<'static>] = &[Sketch {
     size: 32_768,
     ..SECONDARY
@@ -125,8 +125,8 @@ const MAGIC: &[Sketch<'static>] = &[Sketch {
 const LENGTH: &[(usize, u8)] = &[(13, 0x10), (14, 0x40)];
 
 // The headers of an image, the bits that are changed in it, its length, the answer, and how many
-// bytes are read for that. The search ends at the first valid header; one that fits and is not
-// valid is read to its end, as far as the image has it.
+// bytes are read for that. The search ends at the first valid header; one that fits but is not
+// valid is read to its end, or to the end of the image.
 static ROWS: [(&[Sketch<'static>], &[(usize, u8)], usize, Summary, usize); 18] = [
     (NEWER, &[(21_384, 1)], 1_000_000, FIRST, 32_768),
     (NEWER, &[], 20_000, FIRST, 20_000),
@@ -172,7 +172,7 @@ fn damaged_and_missing_headers(rt: HostRuntime) {
 
 #[test]
 fn a_damaged_primary_is_searched_for(rt: HostRuntime) {
-    // Any byte that is hashed, and any that has to fit.
+    // Each of these bytes is hashed or checked.
     for place in [
         0, 7, 8, 15, 16, 72, 104, 256, 263, 447, 448, 479, 512, 4095, 5_000, 16_383,
     ] {

@@ -61,14 +61,14 @@ fn check_is_read(rt: &(impl Abort + AllocGlobal), image: &[u8], name: &str, read
     assert_of(rt, name, fault.is_none() == read);
 }
 
-// Writes the checksum that the digits spell in place of a header's own.
+// Replaces a header's checksum by the one that the hexadecimal digits spell.
 fn put_sum(header: &mut [u8], hash: Hash, digits: &str) {
     let mut sum = [0; 64];
     let _ = hex::decode_to_slice(digits, &mut sum[..hash.size()]);
     put(header, 448, &sum);
 }
 
-// A header is read whole.
+// Checks that a whole header is read.
 fn check_whole(rt: &(impl Abort + AllocGlobal), image: &[u8], name: &str, hash: Hash) {
     let mut source = MemSource::new(image);
     let (header, _area) = read_from(rt.alloc(), &mut source).expect(rt, "a header");
@@ -76,7 +76,7 @@ fn check_whole(rt: &(impl Abort + AllocGlobal), image: &[u8], name: &str, hash: 
     assert_of(rt, name, image.len() == 16_384 && source.left().len() == 0);
 }
 
-// The bytes behind the checksum do not count, and its last one does.
+// Checks that the bytes after the checksum do not matter, and that its last one does.
 fn check_extent(rt: &(impl Abort + AllocGlobal), image: &mut [u8], name: &str, hash: Hash) {
     let size = hash.size();
     if size < 64 {
@@ -132,7 +132,7 @@ fn a_json_area_without_a_zero_byte_is_text_to_its_end(rt: HostRuntime) {
     check_text(&rt, &header, area.as_slice());
 }
 
-// Which header it is and what is wrong, in an image with one byte more than it has.
+// Checks which header is chosen and its finding, in an image with one byte more than is read.
 fn check_piece(
     rt: &(impl Abort + AllocGlobal),
     image: &[u8],
@@ -157,7 +157,7 @@ fn pieces_of_any_length_serve(rt: HostRuntime) {
     }
 }
 
-// A source of 40,000 bytes fails after so many; at most 32,768 are requested.
+// A source of 40,000 bytes fails after this many; at most 32,768 are requested.
 fn check_failed(rt: &(impl Abort + AllocGlobal), bytes: &[u8], given: usize) {
     let mut source = Broken::new(bytes, given);
     let fault = fault_of(rt.alloc(), &mut source);
@@ -187,7 +187,7 @@ fn each_failed_read_is_reported(rt: HostRuntime) {
     }
 }
 
-// Runs until one meets no refusal, and answers how many met one.
+// Reads the header until a run does not run out of memory, and returns how many runs did.
 fn refused_runs(alloc: Global, image: &[u8], scarcity: &mut Scarcity, most: u32) -> Option<u32> {
     for refused in 0..most {
         match fault_of(alloc, &mut MemSource::new(image)) {
@@ -207,7 +207,7 @@ fn scarce_runs(rt: &(impl Abort + AllocGlobal), image: &[u8]) -> Option<u32> {
 #[test]
 fn lack_of_memory_is_reported(rt: HostRuntime) {
     let runs = scarce_runs(&rt, &image_of(&rt, 32_768, &[SECONDARY]));
-    // Another fault than running out of memory, too little given back, or no run that ran out of
-    // memory.
+    // This fails if there was a fault other than running out of memory, too little memory was given
+    // back, or no run ran out of memory.
     assert!(rt; runs.unwrap_or(0) > 0, "{runs:?}");
 }

@@ -1,4 +1,4 @@
-//! Images with headers of LUKS2, and what is read of them.
+//! Images with headers of LUKS2, and what is read from them.
 //!
 //! If a call must succeed, an error ends the test at once: what is not returned need not be dropped
 //! on the way.
@@ -37,14 +37,14 @@ pub const PRIMARY: Sketch<'static> = Sketch {
     name: "sha256",
 };
 
-/// The one behind it.
+/// The secondary header after it.
 pub const SECONDARY: Sketch<'static> = Sketch {
     magic: "SKUL",
     place: 16_384,
     ..PRIMARY
 };
 
-/// Puts bytes into others, from a place on.
+/// Overwrites bytes from an offset on.
 pub fn put(bytes: &mut [u8], place: usize, with: &[u8]) {
     for (i, byte) in with.iter().enumerate() {
         let at = place.saturating_add(i);
@@ -54,14 +54,14 @@ pub fn put(bytes: &mut [u8], place: usize, with: &[u8]) {
     }
 }
 
-/// Changes one byte by these bits.
+/// Flips these bits of one byte.
 pub fn flip(bytes: &mut [u8], place: usize, bits: u8) {
     if place < bytes.len() {
         bytes[place] ^= bits;
     }
 }
 
-/// So many bytes from a place on, or as many as there are.
+/// This many bytes from an offset on, or as many as there are.
 pub fn range_mut(bytes: &mut [u8], place: usize, len: usize) -> &mut [u8] {
     let start = place.min(bytes.len());
     let rest = &mut bytes[start..];
@@ -107,7 +107,7 @@ pub fn image_of(rt: &(impl Abort + AllocGlobal), len: usize, headers: &[Sketch<'
     image
 }
 
-/// What is read of a source whose first 592 bytes are loaded before. A shorter one has no header.
+/// What is read from a source after its first 592 bytes are loaded. A shorter one has no header.
 pub fn read_from<S: Source>(
     alloc: Global,
     source: &mut S,
@@ -120,7 +120,7 @@ pub fn read_from<S: Source>(
     Ok((header, area))
 }
 
-/// Why a source is not read, if it is not.
+/// Why a source cannot be read, if it cannot.
 pub fn fault_of<S: Source>(alloc: Global, source: &mut S) -> Option<HeaderFault> {
     read_from(alloc, source).err()
 }
@@ -130,7 +130,7 @@ pub fn assert_in(rt: &impl Abort, case: usize, holds: bool) {
     assert!(rt; holds, "{case}");
 }
 
-/// Asserts what holds of a hash function of this name.
+/// Asserts what holds for a hash function of this name.
 pub fn assert_of(rt: &impl Abort, name: &str, holds: bool) {
     assert!(rt; holds, "{name}");
 }

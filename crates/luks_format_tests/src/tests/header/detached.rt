@@ -23,7 +23,7 @@ const SEGMENT: &str = "\"segments\":{\"0\":{\"type\":\"crypt\",\"size\":\"dynami
     \"iv_tweak\":\"0\",\"encryption\":\"aes-xts-plain64\",\"sector_size\":512,\
     \"offset\":\"";
 
-// What becomes of key slot 0.
+// The verdict on key slot 0.
 fn slot_word(header: &Header) -> &'static str {
     match verdict_kind(header, None, 0) {
         Some(VerdictKind::Usable(_)) => "usable",
@@ -40,14 +40,15 @@ fn is_detached(header: &Header) -> bool {
     }
 }
 
-/// The fault of the segment, and what becomes of key slot 0.
+/// The fault of the segment, and the verdict on key slot 0.
 type Words = [&'static str; 2];
 
 fn has_words(header: &Header, want: &Words) -> bool {
     [fault_of(header), slot_word(header)] == *want
 }
 
-// No header is read as a detached one.
+// Checks that a header that was read is not detached, and its fault and verdict before and after it
+// is detached.
 fn check(
     rt: &(impl Abort + AllocGlobal),
     row: &str,
@@ -73,8 +74,8 @@ const APART: Words = ["none", "area"];
 
 type First = (&'static str, Numbers, Words, Words);
 
-// Numbers of a header of LUKS1, and what is wrong if it is attached and if it is detached. The key
-// material ends with sector 508. Of a detached header too, key material starts behind the header
+// Numbers of a header of LUKS1, and the problems if it is attached and if it is detached. The key
+// material ends with sector 508. With a detached header too, key material starts after the header
 // and ends within 32 MiB.
 static OF_LUKS1: [First; 10] = [
     ("0", &[(PAYLOAD_OFFSET, 0)], FIRST, GOOD),
@@ -125,9 +126,9 @@ const WRONG: Words = ["offset", "usable"];
 
 type Second = (&'static str, Words, Words);
 
-// The payload's start, and what is wrong if the header is attached and if it is detached. Both
-// headers end with byte 32,768, and the key material with byte 288,768. If the payload's start
-// is refused, key areas are judged without it.
+// The payload's start, and the problems if the header is attached and if it is detached. Both
+// headers end with byte 32,768, and the key material with byte 288,768. If the payload's start is
+// refused, key areas are checked without it.
 static OF_LUKS2: [Second; 7] = [
     ("0", WRONG, GOOD),
     ("511", WRONG, WRONG),

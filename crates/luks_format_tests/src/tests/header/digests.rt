@@ -77,7 +77,8 @@ fn check_digests(rt: &(impl Abort + AllocGlobal), rows: &[Numbered]) {
     }
 }
 
-// By rising number, whatever their order. Names that are no number below 32 are passed over.
+// Digests are listed by ascending number, whatever their order. Names that are no number below 32
+// are ignored.
 #[test]
 fn digests_by_rising_number(rt: HostRuntime) {
     check_digests(&rt, &DIGESTS);
@@ -139,7 +140,7 @@ fn luks1_numbers_no_digest(rt: HostRuntime) {
     assert_of(&rt, "names", !has_name_out_of_range(header));
 }
 
-// Members of `keyslots`, and whether one is passed over.
+// Members of `keyslots`, and whether one is ignored.
 static KEYSLOTS: [(&str, bool); 10] = [
     ("", false),
     ("\"0\":null", false),
@@ -153,7 +154,7 @@ static KEYSLOTS: [(&str, bool); 10] = [
     ("\"255\":{},\"0\":{}", true),
 ];
 
-// Those of `digests` do not count.
+// Checks whether a name in `keyslots` is out of range. Members of `digests` do not count.
 fn check_names(rt: &(impl Abort + AllocGlobal), rows: &[(&str, bool)], digest: &str) {
     for (members, want) in rows {
         let header = header_of(rt, members, &[digest]);

@@ -1,4 +1,4 @@
-//! Headers of drawn numbers: the verdicts on their slots.
+//! Headers of generated numbers: the verdicts on their slots.
 
 use super::assert_row;
 use super::fixture::{parse, patch, verdicts, volume_header};
@@ -10,8 +10,7 @@ use luks_header::header::Header;
 use luks_header::slot::Verdict;
 use std::process::Abort;
 
-// The next of some numbers that look drawn: a linear congruence of 64 bits, of which the upper half
-// counts.
+// The next of some pseudorandom numbers: the upper half of a linear congruence of 64 bits.
 fn next(state: &mut u64) -> u32 {
     *state = state
         .wrapping_mul(6_364_136_223_846_793_005)
@@ -19,7 +18,7 @@ fn next(state: &mut u64) -> u32 {
     (*state >> 32) as u32
 }
 
-// One of four numbers that a field may well have, or any.
+// One of four numbers that are usual for a field, or any number.
 fn draw(state: &mut u64, usual: [u32; 4]) -> u32 {
     match next(state) % 5 {
         0 => usual[0],
@@ -72,7 +71,7 @@ fn usable_slots(
     usable
 }
 
-// How many slots of a drawn header are usable.
+// How many slots of a generated header are usable.
 fn usable_of(rt: &(impl Abort + AllocGlobal), bytes: &[u8; 592], run: u32) -> u32 {
     let header = parse(rt, bytes);
     let limit = if run % 2 == 0 { None } else { Some(1000) };
@@ -89,6 +88,6 @@ fn slots_and_digests_of_any_header_are_reported(rt: HostRuntime) {
     for run in 0..2000u32 {
         usable = usable.saturating_add(usable_of(&rt, &drawn_header(&mut state), run));
     }
-    // There are some of either kind.
+    // Some slots are usable, and some are not.
     assert_row(&rt, usable as usize, (usable > 100) & (usable < 15_900));
 }

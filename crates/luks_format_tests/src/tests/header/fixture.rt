@@ -63,12 +63,12 @@ pub fn header_bytes() -> [u8; 592] {
     bytes
 }
 
-// Writes the bytes of which a row has the digits.
+// Writes the bytes whose hexadecimal digits are in a row.
 fn write_row(row: &str, bytes: &mut [u8]) {
     let _ = hex::decode_to_slice(row, bytes);
 }
 
-/// Puts bytes into a header, from a place on.
+/// Overwrites bytes of a header from an offset on.
 pub fn patch(bytes: &mut [u8; 592], place: usize, with: &[u8]) {
     for (i, byte) in with.iter().enumerate() {
         let at = place.saturating_add(i);
@@ -91,7 +91,7 @@ pub fn volume_header() -> [u8; 592] {
     bytes
 }
 
-/// That header with these numbers and texts at these places.
+/// That header with these numbers and texts at these offsets.
 pub fn changed(numbers: &[(usize, u32)], texts: &[(usize, &[u8])]) -> [u8; 592] {
     let mut bytes = volume_header();
     for (place, number) in numbers {
@@ -124,7 +124,7 @@ pub fn read(rt: &(impl Abort + AllocGlobal), image: &[u8]) -> Header {
     header
 }
 
-/// The header of an image, which stays.
+/// The header of an image, which stays to the end of the test.
 pub fn parse(rt: &(impl Abort + AllocGlobal), image: &[u8]) -> &'static Header {
     kept(rt, read(rt, image))
 }
@@ -139,7 +139,7 @@ pub fn verdicts(
     verdicts.leak()
 }
 
-/// The header of LUKS1 with these numbers and texts at these places.
+/// The header of LUKS1 with these numbers and texts at these offsets.
 pub fn first(
     rt: &(impl Abort + AllocGlobal),
     numbers: &[(usize, u32)],
@@ -155,7 +155,7 @@ pub fn image2(rt: &(impl Abort + AllocGlobal), parts: &[&str]) -> &'static [u8] 
     image.leak()
 }
 
-/// Asserts that an image has this fault, and that so many of its bytes are not read to learn that.
+/// Asserts that reading an image has this fault, and leaves this many of its bytes unread.
 pub fn check_fault(rt: &(impl Abort + AllocGlobal), image: &[u8], fault: HeaderFault, left: usize) {
     let mut source = MemSource::new(image);
     let answer = read_header(rt.alloc(), &mut source).err();

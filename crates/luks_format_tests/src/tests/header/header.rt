@@ -50,8 +50,8 @@ static TEXTS: [&[u8]; 4] = [
     b"0123456789abcdefghijklmnopqrstuvwxyzABCD",
 ];
 
-// Texts; the payload's offset, the length of the key and the iterations of the digest; and the
-// first byte and the last one of the digest and of its salt.
+// Whether the header has these texts; the payload's offset, the length of the key and the
+// iterations of the digest; and the first byte and the last one of the digest and of its salt.
 fn has_fields(header: &Header1) -> bool {
     let texts = [
         header.cipher_name.as_bytes(),
@@ -80,7 +80,7 @@ fn is_the_header(header: &Header) -> bool {
     }
 }
 
-// The header is read from such a source, and the area has its bytes.
+// Checks that the header is read from such a source, and that the area has its bytes.
 fn check_reading<S: Source>(rt: &(impl Abort + AllocGlobal), source: &mut S, bytes: &[u8; 592]) {
     let (header, area) = read_from(rt, source);
     assert_of(rt, "header", is_the_header(header));
@@ -105,7 +105,7 @@ fn a_header_is_read_to_its_end(rt: HostRuntime) {
     check_pieces(&rt, &bytes);
 }
 
-/// A byte at a place of the header, how many bytes of it there are, and the fault.
+/// A byte at an offset of the header, how many bytes of the header there are, and the fault.
 type Row = (Option<(usize, u8)>, usize, HeaderFault);
 
 // Version 2 and version 257, and the magic of a secondary header.
@@ -120,7 +120,7 @@ static FAULTS: [Row; 8] = [
     (Some((0, 0x53)), 592, HeaderFault::NotLuks),
 ];
 
-// All of the image is read to learn its fault.
+// Checks that the whole image is read before its fault is reported.
 fn check_row(rt: &(impl Abort + AllocGlobal), (change, len, fault): &Row) {
     let mut image = header_bytes();
     if let Some((place, byte)) = change {
@@ -138,7 +138,7 @@ fn check_rows(rt: &(impl Abort + AllocGlobal), rows: &[Row]) {
 #[test]
 fn other_images_are_truncated_or_not_luks(rt: HostRuntime) {
     check_rows(&rt, &FAULTS);
-    // All of a short image is read to learn that it has no header.
+    // A short image is read to its end before it is reported to have no header.
     for len in [592, 600] {
         check_fault(&rt, &[0; 600][..len], HeaderFault::NotLuks, 0);
     }
@@ -146,7 +146,7 @@ fn other_images_are_truncated_or_not_luks(rt: HostRuntime) {
 
 const START: &[u8] = b"LUKS\xba\xbe\x00\x01aes";
 
-// Reading ends so if this call of the source fails.
+// Checks that reading reports this fault if this call of the source fails.
 fn check_failed(
     rt: &(impl Abort + AllocGlobal),
     (bytes, piece, call): (&[u8], usize, u64),
@@ -171,8 +171,8 @@ const DIGITS: &[u8] = b"0123456789";
 
 type Request = (usize, bool, usize);
 
-// How many bytes are requested, whether they are there, and how many are loaded then. Twice it
-// requests fewer than are loaded, or as many.
+// How many bytes are requested, whether they are there, and how many are loaded afterwards. One
+// request is for fewer bytes than are loaded, and one for as many.
 static LACKING: [Request; 8] = [
     (0, true, 0),
     (4, true, 4),
@@ -184,7 +184,7 @@ static LACKING: [Request; 8] = [
     (HeaderArea::MAX_LEN, false, 10),
 ];
 
-// Whether the area holds the first bytes then, and the others are left.
+// Whether the area has the first bytes afterwards, and the others remain in the source.
 fn takes(area: &mut HeaderArea, source: &mut MemSource<'_>, (end, there, held): &Request) -> bool {
     let whole = area.extend_to(source, *end.min(&HeaderArea::MAX_LEN));
     let (front, rest) = DIGITS.split_at(*held.min(&10));

@@ -14,8 +14,8 @@ use std::process::Abort;
 
 const TEXT: &str = r#"{"keyslots":{},"segments":{},"digests":{}}"#;
 
-// An image with a primary header of this text alone: the secondary one is replaced by zeros, and
-// 100 zeros are behind it.
+// An image whose only header is a primary one with this text: zeros replace the secondary header,
+// and 100 zeros follow it.
 fn image_of(rt: &(impl Abort + AllocGlobal), json: &str) -> &'static mut [u8] {
     let mut image = empty_image(rt.alloc()).expect(rt, "an image");
     write_header(image.as_mut_slice(), 0, 7, json);

@@ -26,7 +26,7 @@ pub(super) const KEY_BYTES: usize = 108;
 
 pub(super) const DIGEST_ITERATIONS: usize = 164;
 
-// Whether there is something of a slot to open.
+// Whether there is what is needed to open a slot.
 pub(super) fn is_there(rt: &(impl Abort + AllocGlobal), header: &Header, number: u8) -> bool {
     slot(rt.alloc(), header, number)
         .expect(rt, "memory")
@@ -48,12 +48,12 @@ fn word(verdict: &Verdict) -> &'static str {
     }
 }
 
-/// Numbers at places of the header.
+/// Numbers at offsets of the header.
 pub(super) type Numbers = &'static [(usize, u32)];
 
 const FAR: (usize, u32) = (PAYLOAD_OFFSET, 100_000);
 
-// Of several reasons the first in the format's table counts.
+// If several reasons hold, the first in the format's table counts.
 const NO_DIGEST: (usize, u32) = (DIGEST_ITERATIONS, 0);
 
 const NO_AREA: (usize, u32) = (SLOT_OFFSET, 1);
@@ -62,7 +62,7 @@ const NO_ITERATIONS: (usize, u32) = (ITERATIONS, 0);
 
 const NO_STRIPES: (usize, u32) = (STRIPES, 0);
 
-/// Numbers, the limit of iterations, and what becomes of slot 0.
+/// Numbers, the limit of iterations, and the verdict on slot 0.
 type Judgement = (Numbers, Option<u32>, &'static str);
 
 static SLOTS: [Judgement; 36] = [
@@ -133,7 +133,7 @@ fn verdicts_on(
     verdicts(rt, first(rt, numbers, texts), limit)
 }
 
-// Whether each slot has its verdict: the others are disabled.
+// Whether slot 0 has this verdict, and the others are disabled.
 fn are_slots(verdicts: &[(u8, Verdict)], want: &str) -> bool {
     let mut are = verdicts.len() == 8;
     let mut stated = want;
@@ -156,7 +156,7 @@ fn each_bound_of_a_slot(rt: HostRuntime) {
     check_slots(&rt, &SLOTS);
 }
 
-// Whether a slot has all parts of the usable slot 0, with so many stripes and this hash function.
+// Whether a slot has all parts of the usable slot 0, with this many stripes and this hash function.
 // 3999 stripes of 64 bytes are 499 sectors and seven eighths of one, and areas are whole sectors.
 fn has_parts(slot: &Slot, stripes: u32, hash: Option<Hash>) -> bool {
     let parts = &slot.parts;
@@ -201,7 +201,7 @@ fn check_usable(rt: &(impl Abort + AllocGlobal), rows: &[Parts]) {
     }
 }
 
-// A slot without a known hash is judged all the same.
+// A slot without a known hash gets a verdict all the same.
 #[test]
 fn a_usable_slot_has_its_numbers(rt: HostRuntime) {
     check_usable(&rt, &USABLE);
@@ -213,7 +213,7 @@ const MODE: usize = 40;
 
 const HASH: usize = 72;
 
-/// Texts at places of the header.
+/// Texts at offsets of the header.
 type Texts = &'static [(usize, &'static [u8])];
 
 /// Numbers and texts, and the fault of the segment.
@@ -306,8 +306,8 @@ const SKIPPED: VerdictKind = VerdictKind::Skipped(SkipReason::Iterations);
 
 type Judged = (Option<u32>, u8, Option<VerdictKind>);
 
-// The limit of iterations, a slot's number, and the verdict on it without its contents. What is no
-// slot of the format has nothing to open.
+// The limit of iterations, a slot's number, and the verdict on it without its contents. A number
+// that is no slot of the format has nothing to open.
 static JUDGED: [Judged; 7] = [
     (None, 0, Some(VerdictKind::Usable(1))),
     (Some(999), 0, Some(SKIPPED)),

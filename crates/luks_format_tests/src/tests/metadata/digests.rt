@@ -35,8 +35,8 @@ fn first_usable(rt: &(impl Abort + AllocGlobal), metadata: &Metadata) -> Option<
     }
 }
 
-/// Whether the first digest is usable, and how many iterations that of slot 2 has, with which the
-/// verdict on the slot agrees.
+/// Whether the first digest is usable, and how many iterations the digest of slot 2 has. The
+/// verdict on the slot agrees with that.
 pub(super) fn verdict(
     rt: &(impl Abort + AllocGlobal),
     metadata: &Metadata,
@@ -119,7 +119,7 @@ const SECOND: &str = "'digests':{'0':{ \
     -> 'digests':{'A':{'type':'pbkdf2','keyslots':['2'],'segments':['0'],'hash':'sha1',\
     'salt':'','digest':'AgICAgICAgICAgICAgICAgICAgI=','iterations':7},'B':{; ";
 
-// Of the usable digests that list the slot and the segment, the one with the lowest number.
+// The digest of a slot is the lowest-numbered usable one that lists the slot and the segment.
 static NAMES: [(&str, &str); 7] = [
     ("1000: ", "'A':{ -> '10':{; 'B':{ -> '9':{"),
     ("7: ", "'A':{ -> '9':{; 'B':{ -> '10':{"),
@@ -160,7 +160,7 @@ fn has_names(digest: &Digest) -> bool {
     }
 }
 
-// Whether the digest of the text is listed alone, as number 0.
+// Whether the digest of the text is the only one listed, as number 0.
 fn is_listed(all: &[(u8, Option<Digest>)]) -> bool {
     match all {
         [(number, Some(digest))] => { (*number == 0) & has_parts(&digest.key) & has_names(digest) }

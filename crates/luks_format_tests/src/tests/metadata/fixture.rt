@@ -1,14 +1,14 @@
 //! JSON areas, and how they are changed. They are written with ' in place of ".
 //!
 //! If a call must succeed, an error ends the test at once: what is not returned need not be dropped
-//! on the way. What a reference is returned to stays to the end of the test, so that no function
-//! drops it.
+//! on the way. A value that is returned by reference stays to the end of the test, so that no
+//! function drops it.
 
 use luks2_json::tree::Metadata;
 use luks2_metadata::bounds::Bounds;
 use std::process::Abort;
 
-/// The bounds of a header of twice 16,384 bytes in the payload's image.
+/// The bounds of an attached header of twice 16,384 bytes.
 pub const ATTACHED: Bounds = Bounds {
     end: 32_768,
     detached: false,
@@ -70,7 +70,7 @@ pub fn kept<'a, T: Drop + 'a>(rt: &(impl Abort + AllocGlobal), value: T) -> &'a 
     Box::leak(Box::new(rt.alloc(), value).expect(rt, "memory"))
 }
 
-/// The parts, one behind the other.
+/// The parts, concatenated.
 pub fn joined(rt: &(impl Abort + AllocGlobal), parts: &[&str]) -> &'static str {
     let text = parts.concat(rt.alloc()).expect(rt, "memory");
     kept(rt, text).as_str()
@@ -82,13 +82,13 @@ pub fn quoted(rt: &(impl Abort + AllocGlobal), text: &str) -> &'static str {
     kept(rt, text.expect(rt, "memory")).as_str()
 }
 
-/// What a text says.
+/// The metadata of a text.
 pub fn read(rt: &(impl Abort + AllocGlobal), text: &str) -> &'static Metadata {
     let metadata = Metadata::read(rt.alloc(), quoted(rt, text).as_bytes());
     kept(rt, metadata.expect(rt, "metadata"))
 }
 
-/// The text with a change `PART -> OTHER`, if it has the part, at its last place.
+/// The text with a change `PART -> OTHER` where the part occurs last, if the text has the part.
 pub fn changed(rt: &(impl Abort + AllocGlobal), text: &str, change: &str) -> String {
     let change = change.split_once(" -> ").ok_or(change);
     let (part, other) = change.expect(rt, "a change");
@@ -108,15 +108,15 @@ pub fn text_with(rt: &(impl Abort + AllocGlobal), changes: &str) -> String {
     text
 }
 
-/// What the text says with these changes.
+/// The metadata of the text with these changes.
 pub fn metadata(rt: &(impl Abort + AllocGlobal), changes: &str) -> &'static Metadata {
     read(rt, text_with(rt, changes).as_str())
 }
 
-/// A text with the three objects that there have to be, and the start of a further member `x`.
+/// A text with the three required objects, and the start of a further member `x`.
 pub const BEFORE_X: &str = "{'keyslots':{},'segments':{},'digests':{},'x':";
 
-/// What a text with this further member `x` says.
+/// The metadata of a text with this further member `x`.
 pub fn with_member(rt: &(impl Abort + AllocGlobal), value: &str) -> &'static Metadata {
     read(rt, joined(rt, &[BEFORE_X, value, "}"]))
 }

@@ -1,4 +1,4 @@
-//! Which values are of which kind.
+//! Which values are of which type.
 
 use super::assert_of;
 use super::fixture::with_member;
@@ -10,7 +10,7 @@ use luks2_json::member::{
 };
 use std::process::Abort;
 
-// Each row is a value, and what it is as a whole number and as a decimal text.
+// Each row is a value, and what it is as an integer and as a decimal string.
 static NUMBERS: [(&str, Option<u64>, Option<u64>); 33] = [
     ("0", Some(0), None),
     ("64", Some(64), None),
@@ -55,7 +55,7 @@ static NUMBERS: [(&str, Option<u64>, Option<u64>); 33] = [
     ("7", Some(7), None),
 ];
 
-// A whole number is no text.
+// An integer is no string.
 fn check_number(
     rt: &(impl Abort + AllocGlobal),
     value: &str,
@@ -89,7 +89,7 @@ fn a_text_is_what_it_spells(rt: HostRuntime) {
     assert_of(&rt, "named", named == [true, false, false, false]);
 }
 
-// RFC 4648, section 10, and texts that Python's base64.b64decode(.., validate=True) refuses, or
+// RFC 4648, section 10, and strings that Python's base64.b64decode(.., validate=True) refuses, or
 // that are not the encoding of what it gives.
 static BASE64_TEXTS: [(&str, Option<&str>); 25] = [
     ("''", Some("")),
@@ -119,7 +119,7 @@ static BASE64_TEXTS: [(&str, Option<&str>); 25] = [
     ("5", None),
 ];
 
-// Whether these bytes, and that length, are those that are wanted.
+// Whether the bytes and their length are the expected ones.
 fn is_encoding(bytes: &Option<Vec<u8>>, len: Option<usize>, want: Option<&str>) -> bool {
     match (bytes, want) {
         (Some(bytes), Some(want)) => {
@@ -181,7 +181,7 @@ static ENCRYPTIONS: [(&str, Option<Mode>); 13] = [
     ("cipher_null-ecb", None),
 ];
 
-// The lengths of keys of a mode.
+// Checks the lengths of keys of a mode.
 fn check_lengths(rt: &impl Abort, case: &str, mode: Option<Mode>, lengths: &[u64]) {
     for bytes in 0..130u64 {
         let holds = is_length_for(mode, bytes) == lengths.contains(&bytes);

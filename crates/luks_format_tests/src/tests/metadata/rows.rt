@@ -1,7 +1,7 @@
 //! Tables of changed texts.
 //!
 //! A row is a line with a verdict and the text's changes: `VERDICT: PART -> OTHER; PART -> OTHER`.
-//! If the verdict differs for a detached header, that one follows behind a slash.
+//! If the verdict differs for a detached header, that one follows after a slash.
 
 use super::fixture::{ATTACHED, DETACHED, metadata};
 use super::{assert_answer, digests, segments, slots};
@@ -9,7 +9,7 @@ use luks2_json::tree::Metadata;
 use luks2_metadata::bounds::Bounds;
 use std::process::Abort;
 
-/// What the verdicts of a table are on.
+/// The subject of the verdicts in a table.
 #[derive(Clone, Copy)]
 pub enum Subject {
     /// Slot 2.
@@ -33,7 +33,7 @@ fn verdict(
     }
 }
 
-/// This is the verdict on a text, attached and detached.
+/// Checks the verdict on a text, attached and detached.
 pub fn check_verdicts(
     rt: &(impl Abort + AllocGlobal),
     subject: Subject,
@@ -51,7 +51,7 @@ fn check_row(rt: &(impl Abort + AllocGlobal), subject: Subject, row: &str) {
     check_verdicts(rt, subject, row, metadata(rt, changes), want);
 }
 
-/// Each row of a table holds.
+/// Checks each row of a table.
 pub fn check_rows(rt: &(impl Abort + AllocGlobal), subject: Subject, rows: &str) {
     for row in rows.lines() {
         check_row(rt, subject, row);

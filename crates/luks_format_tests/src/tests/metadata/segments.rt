@@ -60,7 +60,7 @@ fn the_values_of_a_segment(rt: HostRuntime) {
     check_values(&rt, OTHER_VALUES, &OTHERS);
 }
 
-// Detached, any start serves that is a multiple of 512 bytes.
+// With a detached header, any start that is a multiple of 512 bytes is fine.
 const ROWS: &str = "\
     fine: 'config':{ -> 'config':{'requirements':[],\n\
     fine: 'config':{ -> 'config':{'requirements':{},\n\

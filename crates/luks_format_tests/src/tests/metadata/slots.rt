@@ -23,8 +23,8 @@ fn word(kind: Option<VerdictKind>) -> &'static str {
     }
 }
 
-/// The verdict on slot 2. If it is skipped for another reason than a limit, there is nothing to
-/// open.
+/// The verdict on slot 2. If the slot is skipped for a reason other than a limit, there is nothing
+/// to open.
 pub(super) fn verdict(
     rt: &(impl Abort + AllocGlobal),
     metadata: &Metadata,
@@ -79,9 +79,9 @@ fn the_slots_as_they_are(rt: HostRuntime) {
     assert_of(&rt, "values", has_values(&slot.expect(&rt, "slot 2")));
 }
 
-// The volume key's length is one of the segment's mode, whatever the area's is. If the segment is
-// refused, its mode and the payload's start are not known, and key areas end within 32 MiB, as they
-// do if the payload is in another image. An area has 256,000 bytes of key material.
+// The volume key's length is checked against the segment's mode, whatever the area's mode is. If
+// the segment is refused, its mode and the payload's start are not known, and key areas end within
+// 32 MiB, as they do with a detached header. An area has 256,000 bytes of key material.
 const ROWS: &str = "\
     member: 'type':'luks2','key_size' -> 'type':'luks2','x'\n\
     type: 'type':'luks2' -> 'type':'luks1'\n\
@@ -247,7 +247,7 @@ const FIRST: &str = "\
     member: '2':{'type':'luks2','key_size':0 -> '2':{'type':'luks2','x':0\n\
     type: '2':{'type':'luks2' -> '2':{'type':'x'";
 
-// Of several reasons the first in the format's table counts.
+// If several reasons hold, the first in the format's table counts.
 #[test]
 fn the_first_reason_counts(rt: HostRuntime) {
     let mut text = text_with(&rt, "");

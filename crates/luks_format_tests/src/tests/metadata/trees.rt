@@ -9,7 +9,7 @@ use luks2_json::numbered::{has_key_out_of_range, object_numbered};
 use luks2_json::tree::Metadata;
 use std::process::Abort;
 
-// Reading the JSON area ends so.
+// Checks how reading the JSON area ends.
 fn check_ending(rt: &(impl Abort + AllocGlobal), case: &str, area: &[u8], want: &str) {
     let answer = match Metadata::read(rt.alloc(), area) {
         Ok(_) => "read",
@@ -20,8 +20,8 @@ fn check_ending(rt: &(impl Abort + AllocGlobal), case: &str, area: &[u8], want: 
     assert_answer(rt, case, answer, want);
 }
 
-// Each row is a text in two parts, and how reading ends. The three objects have to be there, and
-// values that nothing looks at count too: Python's json.loads takes the same ones, but for a number
+// Each row is a text in two parts, and how reading ends. The three objects are required, and values
+// that nothing looks at count too: Python's json.loads accepts the same ones, except for a number
 // without bound, lone surrogates and text after the value.
 static TEXTS: [(&str, &str, &str); 27] = [
     ("", "{'keyslots':{},'segments':{},'digests':{}}", "read"),
@@ -61,7 +61,7 @@ fn texts_are_read_or_refused(rt: HostRuntime) {
     }
 }
 
-// Each row is a byte, a text with it, and how reading ends: what is no UTF-8 is not read.
+// Each row is a byte, a text with it, and how reading ends: bytes that are not UTF-8 are not read.
 static BYTES: [(&str, &[u8], &str); 3] = [
     (
         "0x7f",
@@ -87,7 +87,7 @@ fn text_that_is_not_utf8(rt: HostRuntime) {
     }
 }
 
-// So many arrays in one another; the object around them is one more.
+// This many nested arrays; the object around them is one more level.
 static DEPTHS: [(usize, &str); 4] = [(125, "read"), (126, "read"), (127, "json"), (500, "json")];
 
 fn repeated(rt: &(impl Abort + AllocGlobal), text: &str, count: usize) -> &'static str {
@@ -138,7 +138,8 @@ static NAMES: [(&str, Option<u8>); 11] = [
     ("\\u0033", Some(3)),
 ];
 
-// The one key slot of this name is found by this number alone, and ignored if it has none.
+// Checks that a single key slot with this name is found by this number alone, or is ignored if its
+// name is no number below 32.
 fn check_name(rt: &(impl Abort + AllocGlobal), name: &str, number: Option<u8>) {
     let before = "{'segments':{},'digests':{},'keyslots':{'";
     let text = joined(rt, &[before, name, "':'here'}}"]);
@@ -162,7 +163,7 @@ fn names_that_are_numbers(rt: HostRuntime) {
     );
 }
 
-// The member is a list of these texts.
+// Checks that the member is an array of these strings.
 fn check_texts(rt: &(impl Abort + AllocGlobal), metadata: &Metadata, name: &str, wants: &[&str]) {
     let texts = texts_at(rt.alloc(), metadata.tree(), name).expect(rt, "memory");
     assert_of(rt, name, texts.as_slice().len() == wants.len());

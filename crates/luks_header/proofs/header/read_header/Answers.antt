@@ -62,7 +62,7 @@ returns-then-is_header1-clause-only g c =
     ap (λ (area : HeaderAreaModel). length area.bytes) c.new-area.ensures in
     all_cost c.extend_to.new.self.bytes is (omega (arith, c.in_ok-whole.ensures.loads.within))
 
--- ---- the image does not begin as LUKS1
+-- ---- images that do not start as LUKS1
 
 pub returns-then-not-whole-2-clause-broken : goal.returns-then-not-whole-2-clause-broken
 returns-then-not-whole-2-clause-broken g c image knows =
@@ -120,7 +120,7 @@ returns-clause-taken g c image knows =
     rest_read c.extend_to.new.self.bytes image _ taken other all _ c.read2.new.area.bytes c.in_ok-header.header
     (c.in_ok-header.ensures.taken _ (left_is c.extend_to.new.self.bytes image _ taken other all))
 
--- the area has not ended, since all its first bytes were there
+-- the area has not ended, because all of its first 592 bytes were loaded
 pub read2-requires : goal.read2-requires
 read2-requires g c =
     let none : length c.new-area.result.bytes ≡ 0 =

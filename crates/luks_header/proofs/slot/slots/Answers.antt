@@ -7,7 +7,7 @@ use Rattle.luks_header.specs.SlotVerdicts.{numbered_verdict, verdicts_of}
 use Rattle.luks_header.proofs.slot.slots.Goals as goal
 use Rattle.luks_header.proofs.slot.slots.Goals.{in-Some+in_ok-push, in_default}
 
--- what is numbered_verdict is the verdict
+-- a verdict with the number of its key slot
 beside : (n : ℕ) → Option Verdict → Option (ℕ × Verdict)
 beside n verdict = option_map (λ v. (n, v)) verdict
 

@@ -7,7 +7,7 @@ use Rattle.luks_kdf.proofs.LaneLemmas.{group_at}
 use Rattle.luks_kdf.proofs.Pbkdf2Lemmas.{CountsWork, block_t}
 use Rattle.luks_kdf.proofs.lanes.derive_in_lanes.Given as goal
 
--- the groups of blocks before number i are filled, and their turns are counted
+-- the groups of blocks before number i are filled, and their iterations are counted
 abbrev pub invariant-fill : goal.invariant-fill
 invariant-fill g l =
     let h = g.E.Engine.function in

@@ -4,7 +4,7 @@ use Rattle.luks_kdf.specs.Stripes.{AfSplitterModel, stripe_at}
 use Rattle.luks_kdf.proofs.StripesLemmas.{chain_more, chain_start, length-chain_of, length-stripe_at}
 use Rattle.luks_kdf.proofs.stripes.splitter_after.Goals as goal
 
--- the slice that the loop takes is the stripe of its number
+-- the slice that the loop reads is the stripe of its number
 slice-stripe_at : (len : ℕ) (stripes : List ℕ) (i : ℕ)
     → take (i * len + len - i * len) (drop (i * len) stripes) ≡ stripe_at len stripes i
 unfolding stripe_at

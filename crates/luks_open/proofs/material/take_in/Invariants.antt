@@ -3,7 +3,7 @@ use Rattle.luks_kdf.specs.declared.hash.Hash.{Hash}
 use Rattle.luks_kdf.specs.Stripes.{chain_after}
 use Rattle.luks_open.proofs.material.take_in.Given as goal
 
--- the stripes before number i are taken in
+-- the stripes before number i are absorbed
 abbrev pub invariant-stripes : goal.invariant-stripes
 invariant-stripes l = record {
   len : length l.splitter.block ≡ l.len;

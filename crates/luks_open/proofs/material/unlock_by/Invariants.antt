@@ -4,7 +4,7 @@ use Rattle.luks_kdf.specs.Stripes.{chain_after}
 use Rattle.luks_open.specs.Candidate.{material_sector}
 use Rattle.luks_open.proofs.material.unlock_by.Given as goal
 
--- the stripes of the sectors before this number are taken in
+-- the stripes of the sectors before this number are absorbed
 abbrev pub invariant-sectors : goal.invariant-sectors
 invariant-sectors l = record {
   len : length l.splitter.block ≡ l.len;

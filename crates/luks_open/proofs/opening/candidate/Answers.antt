@@ -7,7 +7,7 @@ use Rattle.luks_open.specs.Candidate.{candidate_of}
 use Rattle.luks_open.proofs.opening.candidate.Goals as goal
 use Rattle.luks_open.proofs.opening.candidate.Goals.{After-from_residual-in_err-cipher}
 
--- the key material's key has a length of its mode
+-- the key of the key material has a length that its mode allows
 never : After-from_residual-in_err-cipher → ⊥
 never c =
     let len : length c.as_slice-2.result.now ≡ c.args.slot.now.parts.area_key_bytes =

@@ -1,6 +1,6 @@
 use Rattle.luks_open.proofs.OpeningLemmas.{GoesOn}
 use Rattle.luks_open.proofs.opening.first_opening.Given as goal
 
--- none of the key slots before opened
+-- none of the earlier key slots opened
 abbrev pub invariant-entries : goal.invariant-entries
 invariant-entries l = GoesOn l.entries l.image l.pass l.entry-index l.fn.work l.work

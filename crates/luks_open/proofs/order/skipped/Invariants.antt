@@ -3,6 +3,6 @@ use Rattle.luks_verdict.specs.Table.{ascending}
 use Rattle.luks_open.specs.Order.{skipped_at}
 use Rattle.luks_open.proofs.order.skipped.Given as goal
 
--- those of the key slots before this number
+-- the skipped ones among the key slots before this number
 abbrev pub invariant-loop-number : goal.invariant-loop-number
 invariant-loop-number l = l.skipped ≡ ascending (skipped_at l.header l.limit) l.number

@@ -3,7 +3,7 @@ use Rattle.luks_io.specs.Devices.{ConsumedExactly, IfKnown}
 use Rattle.luks_io.specs.Counts.{Reads}
 use Rattle.luks_payload.proofs.forwarding.discard.Given as goal
 
--- the bytes so far are gone, no read has failed or found the end, and none was needless
+-- the bytes so far were discarded, no read has failed or hit the end, and none was needless
 abbrev pub invariant-pieces : goal.invariant-pieces
 invariant-pieces g l = record {
   reads : Reads false false (g.S.Source.counts l.initial.source) (g.S.Source.counts l.source);
@@ -12,6 +12,6 @@ invariant-pieces g l = record {
       (λ known. ConsumedExactly known (g.S.Source.to_come l.source) (l.count - l.left));
 }
 
--- the bytes that are still to be taken
+-- the number of bytes still to be discarded
 abbrev pub decreases-pieces : goal.decreases-pieces
 decreases-pieces g l = l.left

@@ -14,6 +14,6 @@ invariant-pieces g l = record {
       × ConsumedExactly known (g.S.Source.to_come l.source) (vec_len l.secret));
 }
 
--- the bytes that there is room for
+-- how many more bytes may be read
 abbrev pub decreases-pieces : goal.decreases-pieces
 decreases-pieces g l = max_key_file_len + 1 - vec_len l.secret

@@ -6,7 +6,7 @@ use Rattle.luks_runs.specs.Payload.{with_payload_ahead}
 use Rattle.luks_runs.proofs.PayloadLemmas.{Forwarding}
 use Rattle.luks_runs.proofs.payload.write_payload.Given as goal
 
--- the pump has passed on so many sectors, with no needless call
+-- the pump has forwarded `counter` sectors, and no call was needless
 abbrev pub invariant-sectors : goal.invariant-sectors
 invariant-sectors g l = record {
   segment : l.pump.segment ≡ l.fn.segment;

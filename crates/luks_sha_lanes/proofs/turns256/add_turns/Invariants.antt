@@ -5,7 +5,7 @@ use Rattle.luks_sha_lanes.specs.Lanes.{behind, lane}
 use Rattle.luks_sha_lanes.specs.Lanes256.{AllTwice}
 use Rattle.luks_sha_lanes.proofs.turns256.add_turns.Given as goal
 
--- in each lane `u` is the digest `counter` turns on, and `t` the sum with as many in it
+-- in each lane, `u` is the digest after `counter` iterations, and `t` is `sum` with as many digests XORed into it
 abbrev pub invariant-turns : goal.invariant-turns
 invariant-turns l = (j : ℕ) → j < 2 → AllTwice j l.inner → AllTwice j l.outer → AllTwice j l.last
     → AllTwice j l.u

@@ -50,7 +50,7 @@ returns-in-Err-clause-run g c = rw (c.of_opening.ensures, c.named_slot.ensures) 
       ),
     ))
 
--- the image's end was hit before, and the key areas are not all there
+-- the image's end was hit before, and not all key areas are loaded
 pub returns-then-as_slice-end-clause-run : goal.returns-then-as_slice-end-clause-run
 returns-then-as_slice-end-clause-run g c rest there nothing =
     let none = nothing (sym c.has_ended.ensures ∙ c.if-has_ended.true) in

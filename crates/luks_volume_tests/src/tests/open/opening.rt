@@ -7,10 +7,10 @@ use luks_open::fault::OpenFault;
 use luks_open::opening::Opened;
 use std::process::Abort;
 
-/// What is changed of a volume.
+/// What is changed in a volume.
 enum Change {
     Nothing,
-    /// A bit of the byte at this place.
+    /// A bit of the byte at this offset.
     Flipped(usize),
     /// Numbers of its header.
     Numbers(&'static [(usize, u32)]),
@@ -60,7 +60,7 @@ const NONE: Stated = Stated::NoKey(&[]);
 /// The passphrase, the named slot, and the limit of iterations.
 type Asked = (&'static [u8], Option<u8>, Option<u32>);
 
-/// What opens of a volume, and the count of work before and behind it.
+/// A volume and a change of it, a request, the answer, and the count of work before and after it.
 type Row = (&'static Volume, Change, Asked, Stated, (u128, u128));
 
 static ROWS: [Row; 24] = [
@@ -155,7 +155,7 @@ static ROWS: [Row; 24] = [
         SKIPPED_BY_LIMIT,
         (0, 22),
     ),
-    // A digest of which a part agrees is another digest.
+    // A digest that matches only in part is another digest.
     (
         &SHORT_KEY,
         Change::Flipped(112),
@@ -177,7 +177,7 @@ static ROWS: [Row; 24] = [
         SKIPPED,
         (0, 38),
     ),
-    // A byte behind the stripes does not count.
+    // A byte after the stripes does not count.
     (
         &SHORT_KEY,
         Change::Flipped(2048),
@@ -214,7 +214,7 @@ static ROWS: [Row; 24] = [
         (0, 38),
     ),
     (&SHORT_KEY, USUAL, (b"first", None, None), NONE, (0, 3000)),
-    // A full count of work stays.
+    // A count of work at its maximum stays there.
     (
         &SHORT_KEY,
         Change::Nothing,
@@ -231,7 +231,7 @@ static ROWS: [Row; 24] = [
     ),
 ];
 
-// The image of a volume of which this is changed.
+// The image of a volume with this change.
 fn changed(rt: &(impl Abort + AllocGlobal), volume: &Volume, change: &Change) -> Vec<u8> {
     let mut image = volume.image(rt);
     match change {

@@ -119,7 +119,7 @@ fn first_answer(
     (Err(OpenFault::Memory), 400)
 }
 
-// Each run that runs out of memory answers so.
+// Each run that runs out of memory reports that.
 #[test]
 fn memory_is_answered_where_it_is_refused(rt: HostRuntime) {
     let header = header(&rt);

@@ -1,9 +1,9 @@
-//! Two volumes of LUKS1, and what a passphrase opens of them.
+//! Two volumes of LUKS1, and what a passphrase opens in them.
 //!
 //! Their bytes were written by a Python script with hashlib (`pbkdf2_hmac` and the hash functions)
-//! and the package cryptography (AES in its mode XTS). cryptsetup opens a volume of that script by
-//! the passphrases that it was made with, and by no other. It does not open these two, since they
-//! have few stripes.
+//! and the package cryptography (AES in its mode XTS). cryptsetup opens a volume of that script
+//! with the passphrases that it was made with, and with no other. It does not open these two, since
+//! they have few stripes.
 //!
 //! If a call must succeed, an error ends the test at once: what is not returned need not be dropped
 //! on the way.
@@ -19,7 +19,7 @@ use luks_open::order::order;
 use luks_open::ordered::held_end;
 use std::process::Abort;
 
-/// An image: its length, and rows of bytes, each with its place before it.
+/// An image: its length, and rows that each have an offset and the bytes that are there.
 #[derive(Clone, Copy)]
 pub struct Volume {
     len: usize,
@@ -68,7 +68,7 @@ impl Volume {
     }
 }
 
-/// What is asked of an image: which passphrase, a slot by its number, and the most iterations.
+/// A request for an image: the passphrase, the named slot, and the limit of iterations.
 #[derive(Clone, Copy, Debug)]
 pub struct Question<'a> {
     pub pass: &'a [u8],
@@ -76,7 +76,7 @@ pub struct Question<'a> {
     pub limit: Option<u32>,
 }
 
-// What a passphrase opens of a header's image.
+// What a passphrase opens in a header's image.
 fn opened(
     rt: &(impl Abort + AllocGlobal),
     header: &Header,
@@ -98,7 +98,7 @@ fn opened(
     open(header, area, &order, question.pass, work)
 }
 
-/// What a passphrase opens of an image.
+/// What a passphrase opens in an image.
 pub fn answer(
     rt: &(impl Abort + AllocGlobal),
     image: &[u8],

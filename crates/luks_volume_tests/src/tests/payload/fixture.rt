@@ -28,7 +28,8 @@ pub fn kept<'a, T: Drop + 'a>(rt: &(impl Abort + AllocGlobal), value: T) -> &'a 
     Box::leak(Box::new(rt.alloc(), value).expect(rt, "memory"))
 }
 
-/// A sink that accepts so many bytes, and so many at once, and of which this write fails.
+/// A sink that accepts this many bytes, at most `piece` of them at once, and whose write of this
+/// number fails.
 pub fn sink_of(
     rt: &(impl Abort + AllocGlobal),
     room: usize,
@@ -96,12 +97,12 @@ pub fn segment_of(
 /// No call fails.
 pub const NEVER: u64 = u64::MAX;
 
-/// How an image comes, and where its plain bytes go.
+/// How an image is read, and how its plain bytes are written.
 #[derive(Clone, Copy, Debug)]
 pub struct Way {
-    /// How many bytes are held before the source is asked.
+    /// How many bytes are loaded before the source is called.
     pub held: usize,
-    /// How many bytes the source may hold.
+    /// How many bytes the source can buffer.
     pub room: usize,
     /// How many bytes the source below gives at once, or all if it is 0.
     pub piece: usize,
@@ -113,11 +114,11 @@ pub struct Way {
     pub bad_write: u64,
 }
 
-/// The result of a run: how many sectors steps answer, the answer that ends it, and how many bytes
-/// are consumed and written.
+/// The result of a run: how many steps answer with a sector, the answer that ends it, and how many
+/// bytes are consumed and written.
 pub type End = (u32, Result<Step, VolumeFault>, usize, usize);
 
-/// What a run came to, and how many sectors the source passed on. It is sound if what it wrote is
+/// The result of a run, and how many sectors the source forwarded. It is sound if what it wrote is
 /// a prefix of the plain bytes, and if further steps and skips answered alike and called no device.
 #[derive(Clone, Copy, Debug)]
 pub struct Outcome {
@@ -126,7 +127,7 @@ pub struct Outcome {
     pub is_sound: bool,
 }
 
-// A source that counts how often it passes bytes on.
+// A source that counts how often it forwards bytes.
 #[derive(Drop)]
 struct Passing<S> {
     source: S,
@@ -186,7 +187,7 @@ pub fn run_pieces(
 
 type Held<'a> = Passing<AheadSource<Flaky<'a>>>;
 
-// The source of these bytes, with all of them announced.
+// A source of these bytes, which may all be read ahead.
 fn source_of<'a>(rt: &(impl Abort + AllocGlobal), bytes: &'a [u8], way: &Way) -> Held<'a> {
     let below = Flaky::new(bytes, way.piece, way.bad_read);
     let source = AheadSource::new(rt.alloc(), way.room, below).expect(rt, "memory");
@@ -195,7 +196,7 @@ fn source_of<'a>(rt: &(impl Abort + AllocGlobal), bytes: &'a [u8], way: &Way) ->
     source
 }
 
-// The pump of a payload, of which these bytes are held.
+// The pump of a payload, of which these bytes are loaded.
 fn pump_of<'a>(rt: &impl Abort, segment: Segment, first: &'a [u8]) -> Pump<'a> {
     if first.is_empty() {
         Pump::new(segment, key(rt), 0)
@@ -235,7 +236,7 @@ fn left_in(source: &mut Held<'_>) -> usize {
     }
 }
 
-/// What a run over an image comes to. Taken is what the source does not give any more.
+/// The result of a run over an image. Bytes that the source no longer gives count as consumed.
 pub fn run(
     rt: &(impl Abort + AllocGlobal),
     segment: Segment,
@@ -256,12 +257,12 @@ pub fn run(
     }
 }
 
-/// Asserts what holds of an outcome.
+/// Asserts what holds for an outcome.
 pub fn assert_outcome(rt: &impl Abort, len: usize, way: &Way, outcome: &Outcome, holds: bool) {
     assert!(rt; holds, "{len} bytes, {way:?}: {outcome:?}");
 }
 
-/// Asserts that a run comes to this.
+/// Asserts that a run has this result.
 pub fn check_run(
     rt: &(impl Abort + AllocGlobal),
     segment: Segment,

@@ -1,5 +1,5 @@
-//! Payloads of all endings, of which the source or the pump holds whole sectors, parts of them, or
-//! none.
+//! Payloads with all endings, of which the source or the pump has buffered whole sectors, parts of
+//! them, or nothing.
 
 use super::assert_of;
 use super::fixture::{
@@ -93,8 +93,9 @@ static PAYLOADS: [Payload; 7] = [
 /// how many a sink accepts at once.
 type Shape = (usize, usize, usize);
 
-// Pieces alone; and then none is loaded; less than a sector of 512 bytes, and one and a part;
-// three, and the whole image; and pieces that end within sectors.
+// First a source that buffers nothing, in pieces and at once; then one that buffers less than a
+// sector of 512 bytes, one sector and a part, three sectors, and the whole image; and last pieces
+// that end within sectors.
 static SHAPES: [Shape; 13] = [
     (0, 1, 700),
     (0, 511, 1),
@@ -123,7 +124,7 @@ fn way_of((room, piece, sink_piece): Shape) -> Way {
     }
 }
 
-// Each run of this payload, whatever the source holds.
+// Checks each run of this payload, whatever the source has buffered.
 fn check_payload(
     rt: &(impl Abort + AllocGlobal),
     (sector_size, iv_tweak, size, units, rows): &Payload,
@@ -149,7 +150,8 @@ fn payloads_end_as_they_are_truncated(rt: HostRuntime) {
 
 /// Sectors of a size, the payload's size if it is fixed, and a run over an image's first bytes: how
 /// many bytes these are, how many sectors are forwarded, the answer that ends it, and where the
-/// source is left if that is not behind the loaded bytes. It ends so if so many are loaded.
+/// source is left if that is not after the loaded bytes. The run ends like that for each of these
+/// numbers of loaded bytes.
 type Front = (SectorSize, Option<u64>, [u64; 3], Row, &'static [usize]);
 
 static FRONTS: [Front; 5] = [
@@ -238,7 +240,7 @@ fn failed_reads_are_reported_from_then_on(rt: HostRuntime) {
         };
         check_run(&rt, segment, parts, way, *end);
     }
-    // Behind the loaded bytes.
+    // After the loaded bytes.
     let way = Way {
         held: 1600,
         bad_read: 0,
@@ -253,7 +255,7 @@ fn failed_reads_are_reported_from_then_on(rt: HostRuntime) {
     );
 }
 
-// Writes, too. What was consumed is the same whatever the source has buffered.
+// Writes are of 200 bytes, too. What was consumed is the same whatever the source has buffered.
 static BAD_WRITES: [(u64, End); 5] = [
     (0, (0, Err(VolumeFault::Write), 1512, 0)),
     (2, (0, Err(VolumeFault::Write), 1512, 400)),
@@ -330,8 +332,8 @@ fn check_end(rt: &(impl Abort + AllocGlobal), mut pump: Pump<'_>, volume: Volume
     assert_of(rt, "end", is_over & rests(&mut pump, &mut more, sink));
 }
 
-// The source is behind the header's 592 bytes. A second skip consumes nothing, and after the end
-// neither a step nor a skip consumes or writes anything.
+// The source is at the end of the header's 592 bytes. A second skip consumes nothing, and after the
+// end neither a step nor a skip consumes or writes anything.
 #[test]
 fn a_second_skip_and_a_step_after_the_end_touch_nothing(rt: HostRuntime) {
     let volume = volume_of(&rt, SectorSize::B512, &UNITS_512);

@@ -1,4 +1,4 @@
-//! Sealed volumes, read by the places of the LUKS1 On-Disk Format Specification.
+//! Sealed volumes, read at the offsets of the LUKS1 On-Disk Format Specification.
 
 ghost use Rattle.std.specs.Prelude.{◌≡◌, length};
 
@@ -27,7 +27,7 @@ const FIRST_SALT: [u8; 32] = [0x11; 32];
 
 const SIXTH_SALT: [u8; 32] = [0x66; 32];
 
-// The key of four stripes.
+// Merges four stripes into the key.
 fn merge(stripes: &[u8], key: &mut [u8])
     requires stripes { length stripes.now ≡ 128 }
     requires key { length key.old ≡ 32 }
@@ -44,7 +44,7 @@ fn decrypt(area_key: &[u8], area: &mut [u8])
     }
 }
 
-// The key of the stripes in an area of one sector.
+// Merges the stripes in an area of one sector into the key.
 fn open_area(area_key: &[u8], area: &mut [u8], key: &mut [u8])
     requires area { length area.old ≡ 512 }
     requires key { length key.old ≡ 32 }
@@ -53,7 +53,7 @@ fn open_area(area_key: &[u8], area: &mut [u8], key: &mut [u8])
     merge(&area[..128], key);
 }
 
-// Whether the stripes at this place hold the key for a passphrase, after two iterations.
+// Whether the stripes at this offset hold the key for a passphrase, after two iterations.
 fn opens(rt: &impl Abort, image: &[u8], place: usize, salt: &[u8], pass: &[u8]) -> bool {
     let mut area_key = [0; 32];
     let mut work = Work::new(0);
@@ -67,7 +67,7 @@ fn opens(rt: &impl Abort, image: &[u8], place: usize, salt: &[u8], pass: &[u8]) 
     key.as_slice() == KEY
 }
 
-// Texts and numbers of the header, each with its place.
+// Texts and numbers of the header, each with its offset.
 static HEADER: [(usize, &[u8]); 16] = [
     (0, b"LUKS\xba\xbe\x00\x01aes"),
     (40, b"xts-plain64\x00"),
@@ -77,7 +77,7 @@ static HEADER: [(usize, &[u8]); 16] = [
     (132, &SALT),
     (164, b"\x00\x00\x00\x03"),
     (168, b"a-uuid\x00"),
-    // The slots: state and iterations, then salt, place and stripes.
+    // The slots: state and iterations, then salt, offset and stripes.
     (208, b"\x00\xac\x71\xf3\x00\x00\x00\x02"),
     (216, &FIRST_SALT),
     (248, b"\x00\x00\x00\x08\x00\x00\x00\x04"),

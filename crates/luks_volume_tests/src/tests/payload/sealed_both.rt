@@ -1,5 +1,5 @@
-//! Sealed volumes of both formats, opened by the header's reader, by what tries passphrases, and by
-//! a pump.
+//! Sealed volumes of both formats: the header is read, passphrases are tried, and a pump decrypts
+//! the payload.
 
 use super::assert_of;
 use super::fixture::{NEVER, kept, run_pieces, sink_of};
@@ -54,12 +54,12 @@ const KEY: &[u8] = b"a volume key of AES-256 has two halves, thirty-two bytes in
 /// How many stripes there are.
 const STRIPES: u32 = 3;
 
-// So many bytes that count up.
+// This many bytes that count up.
 fn bytes(rt: &(impl Abort + AllocGlobal), len: usize) -> &'static [u8] {
     counted(rt.alloc(), len).expect(rt, "memory").leak()
 }
 
-// What a passphrase opens of a header's image, whether or not a slot is named.
+// What a passphrase opens in a header's image, whether or not a slot is named.
 fn opened(
     rt: &(impl Abort + AllocGlobal),
     header: &Header,
@@ -80,7 +80,7 @@ fn opened(
     open(header, area, &order, pass, &mut Work::new(0))
 }
 
-// The payload under this key is this plain text.
+// Checks that the payload under this key is this plain text.
 fn check_payload(
     rt: &(impl Abort + AllocGlobal),
     header: &Header,
@@ -101,8 +101,8 @@ fn check_slot(rt: &impl Abort, pass: &[u8], found: Option<u8>, slot: Option<u8>)
     assert!(rt; found == slot, "{pass:?}: {found:?}");
 }
 
-// The passphrase opens this slot of the image, and the payload is this plain text. Or it opens
-// none, or not the named one.
+// Checks that the passphrase opens this slot of the image and that the payload is this plain text,
+// or that it opens no slot, or not the named one.
 fn check_opens(
     rt: &(impl Abort + AllocGlobal),
     (image, plain): (&[u8], &[u8]),
@@ -210,7 +210,7 @@ static OF_LUKS2: [Opening; 5] = [
     (Some(2), FIRST, None),
 ];
 
-// A volume of LUKS2 with three slots, of which the one with priority 0 opens by its number alone.
+// A volume of LUKS2 with three slots. The one with priority 0 only opens by its number.
 fn check_volume2(rt: &(impl Abort + AllocGlobal), seal: Seal2<'_>) {
     let random = bytes(rt, seal.key.len().saturating_mul(2));
     let slots = [
@@ -253,7 +253,7 @@ fn key_material_is_in_a_mode_of_its_own(rt: HostRuntime) {
     }
 }
 
-/// Lengths of payloads, none among them, and whether they are fixed.
+/// Lengths of payloads, 0 among them, and whether they are fixed.
 const LENGTHS: [(usize, bool); 5] = [
     (12_288, false),
     (12_288, true),
@@ -262,7 +262,7 @@ const LENGTHS: [(usize, bool); 5] = [
     (0, false),
 ];
 
-// Unit numbers that wrap at 2^64, and lengths that are fixed, none among them.
+// Unit numbers that wrap at 2^64, and lengths that are fixed, 0 among them.
 #[test]
 fn unit_numbers_wrap_and_sizes_are_kept(rt: HostRuntime) {
     let plain = bytes(&rt, 12_288);
@@ -289,7 +289,7 @@ fn sealed_once(rt: &(impl Abort + AllocGlobal), seal: Seal2<'_>) -> &'static mut
     seal2(rt.alloc(), &seal).expect(rt, "a volume").leak()
 }
 
-// Bytes behind a fixed size are no part of the payload.
+// Bytes after a fixed size are no part of the payload.
 #[test]
 fn a_fixed_size_ends_the_payload(rt: HostRuntime) {
     let plain = bytes(&rt, 1024);
@@ -305,7 +305,7 @@ fn a_fixed_size_ends_the_payload(rt: HostRuntime) {
 /// The sizes of headers.
 const HEADERS: [u64; 7] = [16_384, 32_768, 65_536, 131_072, 262_144, 524_288, 1_048_576];
 
-// Puts a byte that ends the primary header's text at its start.
+// Replaces the first byte of the primary header's text by one that ends it.
 fn damage(image: &mut [u8]) {
     if 4096 < image.len() {
         image[4096] = b'}';
@@ -325,7 +325,7 @@ fn check_headers(rt: &(impl Abort + AllocGlobal), plain: &[u8], hdr_size: u64) {
     check_opens(rt, (image, plain), None, FIRST, Some(0));
 }
 
-// The secondary header is chosen if the primary one is broken.
+// The secondary header is chosen if the primary one is damaged.
 #[test]
 fn both_headers_are_valid(rt: HostRuntime) {
     let plain = bytes(&rt, 1024);

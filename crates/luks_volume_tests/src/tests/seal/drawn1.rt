@@ -8,7 +8,7 @@ use luks_seal_fixtures::parameters::slot1 as slot;
 use luks1_seal::seal1;
 use std::process::Abort;
 
-/// How many are drawn.
+/// How many volumes are generated.
 const DRAWN: u32 = 200;
 
 const HASHES: [Hash; 5] = [
@@ -26,11 +26,10 @@ const MODES: [Mode; 4] = [
     Mode::CbcPlain64,
 ];
 
-/// Bytes that lengths are cut from.
+/// The bytes that keys and texts are cut from.
 const BYTES: &[u8] = &[0x6b; 1024];
 
-// The next of some numbers that look drawn: a linear congruence of 64 bits, of which the upper half
-// counts.
+// The next of some pseudorandom numbers: the upper half of a linear congruence of 64 bits.
 fn next(state: &mut u64) -> u32 {
     *state = state
         .wrapping_mul(6_364_136_223_846_793_005)
@@ -49,7 +48,7 @@ fn drawn_slot(state: &mut u64, number: u32) -> Slot1<'static> {
     }
 }
 
-// A volume of drawn parameters is sealed.
+// Checks that a volume of generated parameters is sealed.
 fn check_drawn(rt: &(impl Abort + AllocGlobal), state: &mut u64, run: u32) {
     let first = next(state) % 4;
     let second = 4 + next(state) % 4;

@@ -1,7 +1,7 @@
-//! Whole images of sealed volumes, held against those that a Python program made of the same
+//! Whole images of sealed volumes, compared with those that a Python program made from the same
 //! parameters by the LUKS1 and LUKS2 On-Disk Format Specifications, with hashlib, json and the AES,
-//! XTS and CBC of `cryptography`. Of LUKS1 an image of that program with 4000 stripes is opened by
-//! cryptsetup and read by qemu-img.
+//! XTS and CBC of `cryptography`. cryptsetup opens a LUKS1 image of that program with 4000 stripes,
+//! and qemu-img reads it.
 
 use super::counted;
 use luks_cipher::Mode;
@@ -47,7 +47,7 @@ const USUAL_2: [u8; 32] = [
     0xaf, 0x2e, 0x30, 0x9a, 0xd4, 0x7d, 0x43, 0x22, 0x27, 0xa9, 0xef, 0x45, 0xed, 0x4c, 0xe7, 0xea,
 ];
 
-// The volume is sealed, and its image has this length and this hash.
+// Checks that the volume is sealed, and that its image has this length and this hash.
 fn check_image(rt: &impl Abort, sealed: Result<Vec<u8>, SealFault>, len: usize, hash: [u8; 32]) {
     let image = sealed.expect(rt, "a volume");
     let mut found = [0; 32];

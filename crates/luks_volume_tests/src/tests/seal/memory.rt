@@ -1,5 +1,5 @@
 //! Sealing with less and less memory, until a call does not run out of it. Each call that does
-//! answers so, and never anything else.
+//! reports that, and never anything else.
 
 use super::counted;
 use luks_seal::parameters::{Seal1, Seal2, SealFault};
@@ -10,7 +10,7 @@ use luks2_seal::seal2;
 use std::alloc::Global;
 use std::process::Abort;
 
-/// How many pieces of memory are given back, and of how many bytes each.
+/// How many pieces of memory are freed, and how many bytes each has.
 const PIECES: usize = 400;
 
 const PIECE: usize = 1100;

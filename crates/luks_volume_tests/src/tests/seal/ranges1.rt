@@ -8,7 +8,7 @@ use luks_seal_fixtures::parameters::{SALT, parameters1, slot1};
 use luks1_seal::seal1;
 use std::process::Abort;
 
-/// What is changed of parameters that are in range.
+/// What is changed in parameters that are in range.
 #[derive(Drop)]
 enum Change {
     /// The stripes of an area, and the payload's sector.

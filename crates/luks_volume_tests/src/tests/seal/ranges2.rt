@@ -9,7 +9,7 @@ use luks_verdict::sector_size::SectorSize;
 use luks2_seal::seal2;
 use std::process::Abort;
 
-/// What is changed of parameters that are in range. A text begins at a place among bytes that count
+/// What is changed in parameters that are in range. A text begins at an index of bytes that count
 /// up, and has a length.
 #[derive(Drop)]
 enum Change {

@@ -4,7 +4,7 @@ use Rattle.luks_cipher.specs.Xts.{tweak_of, block_at, block_decrypted}
 use Rattle.luks_cipher.proofs.TweakLemmas.{IsDoneBefore}
 use Rattle.luks_cipher.proofs.xts.XtsKey.decrypt_unit.Given as goal
 
--- the unit was of bytes, the tweak is the next block's, and the blocks before it are done
+-- the unit consisted of bytes at first, the tweak is that of the next block, and the blocks before it are done
 abbrev pub invariant-loop-i : goal.invariant-loop-i
 invariant-loop-i l = record {
   bytes : IsBytes l.fn.unit;

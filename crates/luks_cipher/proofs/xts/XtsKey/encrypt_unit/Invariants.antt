@@ -4,7 +4,7 @@ use Rattle.luks_cipher.specs.Xts.{tweak_of, block_at, block_encrypted}
 use Rattle.luks_cipher.proofs.TweakLemmas.{IsDoneBefore}
 use Rattle.luks_cipher.proofs.xts.XtsKey.encrypt_unit.Given as goal
 
--- the unit was of bytes, the tweak is the next block's, and the blocks before it are done
+-- the unit consisted of bytes at first, the tweak is that of the next block, and the blocks before it are done
 abbrev pub invariant-loop-j : goal.invariant-loop-j
 invariant-loop-j l = record {
   bytes : IsBytes l.fn.unit;

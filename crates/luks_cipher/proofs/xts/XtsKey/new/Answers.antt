@@ -7,7 +7,7 @@ use Rattle.luks_cipher.specs.Xts.{is_xts_key_length}
 use Rattle.luks_cipher.specs.KeyPair.{IsKeyPair}
 use Rattle.luks_cipher.proofs.xts.XtsKey.new.Goals as goal
 
--- what a test lets through is what went in
+-- a value that comes out of a test is the value that went in
 let_through : (t : Bool) (x y : List ℕ) → Some y ≡ (if t then Some x else None) → y ≡ x
 let_through true x y is = cc
 let_through false x y is = cc

@@ -5,8 +5,7 @@ use Rattle.luks_io.specs.declared.DeviceFault.{DeviceFault}
 use Rattle.luks_io.specs.declared.adapters.CallOutcome.{CallOutcome}
 use Rattle.luks_io.proofs.adapters.writing.write_patiently.Given as goal
 
--- the calls so far were interrupted: they consumed nothing, and what is reported from here on is
--- reported of all calls
+-- the calls so far were interrupted: they wrote nothing, and the result reported from here on is that of all calls
 abbrev pub invariant-tries : goal.invariant-tries
 invariant-tries g l = record {
   told : (told : Result ℕ DeviceFault) (after : Option (List CallOutcome)) →
@@ -15,6 +14,6 @@ invariant-tries g l = record {
   kept : Keeps (g.D.RawWriter.bytes l.initial.device) (g.D.RawWriter.bytes l.device);
 }
 
--- the tries that are left
+-- the number of remaining tries
 abbrev pub decreases-tries : goal.decreases-tries
 decreases-tries g l = l.tries
