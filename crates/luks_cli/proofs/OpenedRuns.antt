@@ -6,12 +6,12 @@ use Rattle.std.proofs.Math.Nat.{div-eq_of_lt-le, mul-le-mul_right}
 use Rattle.std.specs.Prelude.{MatchBool}
 use Rattle.luks_header.specs.Header.{header_of}
 use Rattle.luks_verdict.specs.declared.segment.Segment.{Segment}
-use Rattle.luks_io.proofs.Consuming.{adds-none}
 use Rattle.luks_cipher.specs.Sector.{Cipher}
 use Rattle.luks_io.specs.Devices.{Appended, ConsumedExactly, counted}
 use Rattle.luks_open.specs.declared.opening.Opened.{Opened}
 use Rattle.luks_payload.specs.Plain.{sector_len, sector_start, sectors_of}
 use Rattle.luks_runs.proofs.PayloadLemmas.{plain_len}
+use Rattle.luks_runs.proofs.RunLemmas.{aborted_unwritten}
 use Rattle.luks_cli.proofs.PromptLemmas.{same_segment_by}
 use Rattle.luks_runs.specs.RunOutcome.{Outcome}
 use Rattle.luks_unlock.specs.Volume.{payload_outcome, slot_outcome, volume_outcome, volume_outcome_by}
@@ -84,19 +84,9 @@ module _ (location : HeaderLocation) (o : VolumeRequest) (image pass : List ℕ)
     secret = u.secret_consumed;
     output = reported.2;
   })
-  runs_slot w w' OutOfMemory reported = rw (reported, u.outcome (slot_outcome pass)) (record {
-    image_consumed = length loaded;
-    secret_consumed = length pass;
-    output_len = 0;
-    image_within = omega arith;
-    secret_within = omega arith;
-    output_within = omega arith;
-    is_silent = refl;
-    is_prompt = tt;
-    image = u.image_consumed;
-    secret = u.secret_consumed;
-    output = adds-none w;
-  })
+  runs_slot w w' OutOfMemory reported = rw (reported, u.outcome (slot_outcome pass))
+      (aborted_unwritten (length loaded) (length pass) refl (omega arith) tt (omega arith) (omega arith)
+      u.image_consumed u.secret_consumed)
   runs_slot w w' _ reported = absurd reported
 
 -- a write failed within the line

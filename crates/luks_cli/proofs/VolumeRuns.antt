@@ -21,9 +21,10 @@ use Rattle.luks_unlock.proofs.OutcomeLemmas.{area_cut, area_held, area_more, fou
 use Rattle.luks_unlock.proofs.OutcomeLemmas.{found_whole, front_len, outcome_is, tried_is}
 use Rattle.luks_report.specs.Faults.{message_for_header, message_for_opening}
 use Rattle.luks_unlock.specs.Volume.{OnOpened, found_outcome, opened_outcome, outcome_after, volume_outcome_by}
-use Rattle.luks_runs.specs.RunOutcome.{Outcome, no_output}
+use Rattle.luks_runs.specs.RunOutcome.{no_output}
 use Rattle.luks_request.specs.Request.{VolumeRequest}
-use Rattle.luks_runs.specs.Run.{Aborted, IsPrefixLen, IsSilent, RunMatches}
+use Rattle.luks_runs.specs.Run.{RunMatches}
+use Rattle.luks_runs.proofs.RunLemmas.{aborted_unwritten}
 use Rattle.luks_io.proofs.Consuming.{adds-none, took-none}
 use Rattle.luks_io.specs.Devices.{Appended, ConsumedExactly}
 use Rattle.luks_runs.proofs.HeaderConsumption.{cost_there, consumed_header}
@@ -44,28 +45,6 @@ use Rattle.luks_report.specs.declared.message.Message.TheVariants.{WriteFailed}
 
 -- ---- runs without output
 
--- a run that was aborted before it wrote anything
-early : (location : HeaderLocation) (out : Outcome) (image pass : List ℕ) (message : Message) (i s w : Option (List ℕ))
-    (a b : ℕ)
-    → IsSilent message 0 → IsPrefixLen message 0 (length out.output)
-    → PromptOpening location image message a b 0
-    → a ≤ out.image_consumed → b ≤ out.secret_consumed → ConsumedExactly image i a → ConsumedExactly pass s b
-    → Aborted (PromptOpening location image) out message (ConsumedExactly image i) (ConsumedExactly pass s)
-    (Appended w w)
-early location out image pass message i s w a b silent begins prompt few little consumed_image consumed_pass = record {
-  image_consumed = a;
-  secret_consumed = b;
-  output_len = 0;
-  image_within = few;
-  secret_within = little;
-  output_within = begins;
-  is_silent = silent;
-  is_prompt = prompt;
-  image = consumed_image;
-  secret = consumed_pass;
-  output = adds-none w;
-}
-
 -- a run whose outcome has no output, for every message except that of a failed write
 ends_unwritten : (location : HeaderLocation) (image pass : List ℕ) (message : Message) (i s w : Option (List ℕ))
     (a b : ℕ)
@@ -75,9 +54,9 @@ ends_unwritten : (location : HeaderLocation) (image pass : List ℕ) (message : 
     → RunMatches (PromptOpening location image) (no_output message a b) message (ConsumedExactly image i)
     (ConsumedExactly pass s) (Appended w w)
 ends_unwritten location image pass OutOfMemory i s w a b other prompt ti ts =
-    early location _ image pass OutOfMemory i s w a b refl (omega arith) prompt (omega arith) (omega arith) ti ts
+    aborted_unwritten a b refl (omega arith) prompt (omega arith) (omega arith) ti ts
 ends_unwritten location image pass ReadFailed i s w a b other prompt ti ts =
-    early location _ image pass ReadFailed i s w a b tt (omega arith) prompt (omega arith) (omega arith) ti ts
+    aborted_unwritten a b tt (omega arith) prompt (omega arith) (omega arith) ti ts
 ends_unwritten location image pass WriteFailed i s w a b other prompt ti ts = absurd (other refl)
 ends_unwritten location image pass _ i s w a b other prompt ti ts =
     record { as_stated = refl; image = ti; secret = ts; output = adds-none w }
@@ -155,15 +134,11 @@ module _ (location : HeaderLocation) (o : VolumeRequest) (image pass : List ℕ)
         → s ≡ Some pass
         → Matches on_opened message
     runs_without_volume OutOfMemory only stop whole =
-        early location _ image pass OutOfMemory i s w stop.0 0 refl (omega arith)
-        (prompt_in_header location image OutOfMemory stop.0 0 stop.1) (omega (arith, stop.1, cost_consumed))
-        (omega arith)
-        stop.2 (took-none pass s whole)
+        aborted_unwritten stop.0 0 refl (omega arith) (prompt_in_header location image OutOfMemory stop.0 0 stop.1)
+        (omega (arith, stop.1, cost_consumed)) (omega arith) stop.2 (took-none pass s whole)
     runs_without_volume ReadFailed only stop whole =
-        early location _ image pass ReadFailed i s w stop.0 0 tt (omega arith)
-        (prompt_in_header location image ReadFailed stop.0 0 stop.1) (omega (arith, stop.1, cost_consumed))
-        (omega arith)
-        stop.2 (took-none pass s whole)
+        aborted_unwritten stop.0 0 tt (omega arith) (prompt_in_header location image ReadFailed stop.0 0 stop.1)
+        (omega (arith, stop.1, cost_consumed)) (omega arith) stop.2 (took-none pass s whole)
     runs_without_volume WriteFailed only stop whole = absurd only
     runs_without_volume message only stop whole =
         rw (outcome_is location o image pass on_opened (Err message) stop.0)
@@ -205,13 +180,13 @@ module _ (location : HeaderLocation) (o : VolumeRequest) (image pass : List ℕ)
     runs_without_secret on_opened takes OutOfMemory stop rest =
         let within = found_within on_opened o.key_slot volume image pass takes in
         rw (outcome_found on_opened)
-        (early location _ image pass OutOfMemory i s w (header_read_len image) stop.0 refl (omega arith)
+        (aborted_unwritten (header_read_len image) stop.0 refl (omega arith)
         (prompt_in_header location image OutOfMemory (header_read_len image) stop.0 (omega arith)) within.0
         (omega (arith, stop.1, within.1)) rest stop.2)
     runs_without_secret on_opened takes ReadFailed stop rest =
         let within = found_within on_opened o.key_slot volume image pass takes in
         rw (outcome_found on_opened)
-        (early location _ image pass ReadFailed i s w (header_read_len image) stop.0 tt (omega arith)
+        (aborted_unwritten (header_read_len image) stop.0 tt (omega arith)
         (prompt_in_header location image ReadFailed (header_read_len image) stop.0 (omega arith)) within.0
         (omega (arith, stop.1, within.1)) rest stop.2)
     runs_without_secret on_opened takes _ stop rest = absurd stop
@@ -233,7 +208,7 @@ module _ (location : HeaderLocation) (o : VolumeRequest) (image pass : List ℕ)
           omega (arith, stop.1, front_len image area area' i (key_areas_end order.slots) front) in
           let within = area_within on_opened o.key_slot volume image pass takes short in
           rw (outcome_found on_opened)
-          (early location _ image pass ReadFailed i s w (header_read_len image + stop.0) (length pass) tt (omega arith)
+          (aborted_unwritten (header_read_len image + stop.0) (length pass) tt (omega arith)
           (prompt_before_payload location image ReadFailed (header_read_len image + stop.0) (length pass) segment
           (header, found, is_segment) (λ attached. omega (arith, few, held_before attached)))
           (omega (arith, within.0, more.1.within, few)) within.1 more.1 gone)
@@ -241,7 +216,7 @@ module _ (location : HeaderLocation) (o : VolumeRequest) (image pass : List ℕ)
           let within = found_within on_opened o.key_slot volume image pass takes in
           let whole = area_within on_opened o.key_slot volume image pass takes short in
           rw (outcome_found on_opened)
-          (early location _ image pass OutOfMemory i s w (header_read_len image) (length pass) refl (omega arith)
+          (aborted_unwritten (header_read_len image) (length pass) refl (omega arith)
           (prompt_in_header location image OutOfMemory (header_read_len image) (length pass) (omega arith))
           within.0 whole.1 (consumed_header image i stop.0.left) gone)
       runs_without_area on_opened takes _ stop = absurd stop

@@ -23,27 +23,8 @@ use Rattle.luks_runs.proofs.HeaderConsumption.{reading_fault}
 use Rattle.luks_runs.specs.declared.headers.Printout.{Printout}
 use Rattle.luks_runs.specs.declared.headers.Printout.TheVariants.{Uuid, Dump, Check}
 use Rattle.luks_report.specs.CheckOutput.{check_of, findings_of, message_for_check}
-use Rattle.luks_runs.specs.Run.{IsPrefixLen, IsSilent, RunMatches, Aborted, ConsumedNothing, AnyPace}
-use Rattle.luks_runs.specs.Run.{is_run_write_failure}
-
--- a run that was aborted before it wrote anything
-early : (o : Outcome) (image : List ℕ) (message : Message) (i w : Option (List ℕ)) (count : ℕ) → IsSilent message 0
-    → IsPrefixLen message 0 (length o.output) → count ≤ o.image_consumed
-    → ConsumedExactly image i count
-    → Aborted AnyPace o message (ConsumedExactly image i) ConsumedNothing (Appended w w)
-early o image message i w count silent begins few took = record {
-  image_consumed = count;
-  secret_consumed = 0;
-  output_len = 0;
-  image_within = few;
-  secret_within = omega arith;
-  output_within = begins;
-  is_silent = silent;
-  is_prompt = tt;
-  image = took;
-  secret = refl;
-  output = adds-none w;
-}
+use Rattle.luks_runs.specs.Run.{RunMatches, ConsumedNothing, AnyPace, is_run_write_failure}
+use Rattle.luks_runs.proofs.RunLemmas.{aborted_unwritten}
 
 -- the message after a text was printed is one of the messages that the printout may end with
 pub told_may_end : (printout : Printout) (header : Header) → PrintoutMessage printout (printout_message printout header)
@@ -86,13 +67,7 @@ module _ (location : HeaderLocation) (text : Header → List ℕ) (told : Header
   module _ (header : Header) (found : reader_for location image
       ≡ Ok header) (left : ConsumedExactly image i (header_read_len image)) where
     print_found : print_outcome_by (reader_for location) text told image
-        ≡ record {
-          output = text header;
-          message = told header;
-          image_consumed = header_read_len image;
-          secret_consumed = 0;
-          payload_consumed = 0;
-        }
+        ≡ record (no_output (told header) (header_read_len image) 0) { output = text header }
     unfolding print_outcome_by
     print_found = rw found refl
 
@@ -101,8 +76,8 @@ module _ (location : HeaderLocation) (text : Header → List ℕ) (told : Header
         (ConsumedExactly image i) ConsumedNothing
         (Appended w w)
     runs_without_text =
-        rw print_found (early _ image OutOfMemory i w (header_read_len image) refl (omega arith) (omega arith)
-        (left))
+        rw print_found
+        (aborted_unwritten (header_read_len image) 0 refl (omega arith) tt (omega arith) (omega arith) left refl)
 
     -- the text was printed, whole or in part
     pub runs_with_text : (message : Message) (w' : Option (List ℕ)) → Prints (text header) (told header) w w' message
@@ -152,10 +127,10 @@ module _ (location : HeaderLocation) (text : Header → List ℕ) (told : Header
       { as_stated = refl; image = stop.1.0; secret = refl; output = adds-none w })
   runs_without_header ends ends' Read stop =
       let some = stop.0 in
-      early _ image ReadFailed i w some.0 tt (omega arith) (omega (arith, some.1, print_cost)) some.2
+      aborted_unwritten some.0 0 tt (omega arith) tt (omega (arith, some.1, print_cost)) (omega arith) some.2 refl
   runs_without_header ends ends' Memory stop =
       let some = memory_below image i ends ends' stop in
-      early _ image OutOfMemory i w some.0 refl (omega arith) (omega (arith, some.1, print_cost)) some.2
+      aborted_unwritten some.0 0 refl (omega arith) tt (omega (arith, some.1, print_cost)) (omega arith) some.2 refl
 
 module _ (image : List ℕ) (i w : Option (List ℕ)) where
   asked_cost : (is_luks_outcome image).image_consumed ≡ header_read_len image
@@ -190,7 +165,7 @@ module _ (image : List ℕ) (i w : Option (List ℕ)) where
       { as_stated = refl; image = stop.1.0; secret = refl; output = adds-none w })
   is_luks_refused ends ends' Read stop =
       let some = stop.0 in
-      early _ image ReadFailed i w some.0 tt (omega arith) (omega (arith, some.1, asked_cost)) some.2
+      aborted_unwritten some.0 0 tt (omega arith) tt (omega (arith, some.1, asked_cost)) (omega arith) some.2 refl
   is_luks_refused ends ends' Memory stop =
       let some = memory_below image i ends ends' stop in
-      early _ image OutOfMemory i w some.0 refl (omega arith) (omega (arith, some.1, asked_cost)) some.2
+      aborted_unwritten some.0 0 refl (omega arith) tt (omega (arith, some.1, asked_cost)) (omega arith) some.2 refl

@@ -4,5 +4,6 @@ pub mod HeaderRuns
 pub mod KeyFileLemmas
 pub mod MergeLemmas
 pub mod PayloadLemmas
+pub mod RunLemmas
 pub mod SplitLemmas
 pub mod StripeLemmas

@@ -13,9 +13,11 @@ use Rattle.luks_kdf.specs.Stripes.{AfSplitterModel, chain_after, chain_of, merge
 use Rattle.luks_kdf.proofs.StripesLemmas.{chain_of-append, merged_by_number, stripe_at-append}
 use Rattle.luks_report.specs.declared.message.Message.{Message}
 use Rattle.luks_report.specs.declared.message.Message.TheVariants.{Done, FewStripes, ReadFailed, WriteFailed}
+use Rattle.luks_runs.specs.RunOutcome.{no_output}
 use Rattle.luks_runs.specs.Stripe.{merge_outcome}
 use Rattle.luks_runs.specs.Run.{RunMatches, Aborted, Completed, ConsumedNothing, AnyPace}
 use Rattle.luks_runs.specs.StripeParts.{AbortsReadingStripes}
+use Rattle.luks_runs.proofs.RunLemmas.{aborted_unwritten}
 use Rattle.luks_runs.proofs.StripeLemmas.{is_stripe}
 
 -- before any byte is consumed
@@ -49,25 +51,13 @@ module _ (bytes : List ℕ) (i len : ℕ) (s : Option (List ℕ)) (p : ConsumedE
 module _ (h : Hash) (count len : ℕ) (bytes : List ℕ) where
   stripes_enough : count * len ≤ length bytes
       → merge_outcome h count len bytes
-      ≡ record {
-        output = merged h len (take (count * len) bytes);
-        message = Done;
-        image_consumed = count * len;
-        secret_consumed = 0;
-        payload_consumed = 0;
-      }
+      ≡ record (no_output Done (count * len) 0) { output = merged h len (take (count * len) bytes) }
   unfolding merge_outcome
   stripes_enough enough = let yes : nat_le (count * len) (length bytes) ≡ true = grind (arith, nat_tests) in rw yes refl
 
   stripes_few : length bytes < count * len
       → merge_outcome h count len bytes
-      ≡ record {
-        output = [];
-        message = FewStripes;
-        image_consumed = length bytes;
-        secret_consumed = 0;
-        payload_consumed = 0;
-      }
+      ≡ no_output FewStripes (length bytes) 0
   unfolding merge_outcome
   stripes_few few = let no_more : nat_le (count * len) (length bytes)
       ≡ false = grind (arith, nat_tests) in rw no_more refl
@@ -86,19 +76,9 @@ pub runs_without_stripes : (h : Hash) (count len : ℕ) (bytes : List ℕ) (mess
 runs_without_stripes h count len bytes FewStripes s w stop =
     rw (stripes_few h count len bytes stop.0) (record
     { as_stated = refl; image = stop.1; secret = refl; output = adds-none w })
-runs_without_stripes h count len bytes ReadFailed s w stop = record {
-  image_consumed = stop.0;
-  secret_consumed = 0;
-  output_len = 0;
-  image_within = taken_within h count len bytes stop.0 stop.1 stop.2.within;
-  secret_within = omega arith;
-  output_within = omega arith;
-  is_silent = tt;
-  is_prompt = tt;
-  image = stop.2;
-  secret = refl;
-  output = adds-none w;
-}
+runs_without_stripes h count len bytes ReadFailed s w stop =
+    aborted_unwritten stop.0 0 tt (omega arith) tt (taken_within h count len bytes stop.0 stop.1 stop.2.within)
+    (omega arith) stop.2 refl
 runs_without_stripes h count len bytes _ s w stop = absurd stop
 
 module _ (h : Hash) (count len : ℕ) (bytes : List ℕ) (s w w' : Option (List ℕ)) (key : List ℕ)

@@ -18,10 +18,11 @@ use Rattle.luks_io.specs.Devices.{Appended, ConsumedExactly}
 use Rattle.luks_report.specs.declared.message.Message.{Message}
 use Rattle.luks_report.specs.declared.message.Message.TheVariants.{Done, KeyLength, FewRandomBytes, ReadFailed}
 use Rattle.luks_report.specs.declared.message.Message.TheVariants.{WriteFailed}
-use Rattle.luks_runs.specs.RunOutcome.{Outcome}
+use Rattle.luks_runs.specs.RunOutcome.{Outcome, no_output}
 use Rattle.luks_runs.specs.Stripe.{split_key_outcome, split_outcome, split_stripes}
 use Rattle.luks_runs.specs.Run.{IsPrefixLen, IsSilent, RunMatches, Aborted, Completed}
 use Rattle.luks_runs.specs.StripeParts.{NoKeyRead, ForwardedBytes, AbortsAtStripe, PromptSplit}
+use Rattle.luks_runs.proofs.RunLemmas.{aborted_unwritten}
 
 module _ (h : Hash) (count : ℕ) (key random : List ℕ) where
   -- a key of an allowed length
@@ -34,13 +35,7 @@ module _ (h : Hash) (count : ℕ) (key random : List ℕ) where
   -- a key of another length
   key_refused : (min (length key) 513 ≡ 0) ⊎ (512 < length key)
       → split_outcome h count key random
-      ≡ record {
-        output = [];
-        message = KeyLength;
-        image_consumed = min (length key) 513;
-        secret_consumed = 0;
-        payload_consumed = 0;
-      }
+      ≡ no_output KeyLength (min (length key) 513) 0
   unfolding split_outcome
   key_refused bad = let none : (nat_lt 0 (length key) && nat_le (length key) 512)
       ≡ false = grind (arith, nat_tests) in rw none refl
@@ -52,26 +47,16 @@ module _ (h : Hash) (count : ℕ) (key random : List ℕ) where
 
   random_enough : (count - 1) * length key ≤ length random
       → split_key_outcome h count key random
-      ≡ record {
-        output = split_stripes h count key (take ((count - 1) * length key) random);
-        message = Done;
-        image_consumed = length key;
-        secret_consumed = (count - 1) * length key;
-        payload_consumed = 0;
-      }
+      ≡ record (no_output Done (length key) ((count - 1) * length key))
+      { output = split_stripes h count key (take ((count - 1) * length key) random) }
   unfolding split_key_outcome
   random_enough enough = let yes : nat_le ((count - 1) * length key) (length random)
       ≡ true = grind (arith, nat_tests) in rw yes refl
 
   random_few : length random < (count - 1) * length key
       → split_key_outcome h count key random
-      ≡ record {
-        output = take (length random / length key * length key) random;
-        message = FewRandomBytes;
-        image_consumed = length key;
-        secret_consumed = length random;
-        payload_consumed = 0;
-      }
+      ≡ record (no_output FewRandomBytes (length key) (length random))
+      { output = take (length random / length key * length key) random }
   unfolding split_key_outcome
   random_few few = let no : nat_le ((count - 1) * length key) (length random)
       ≡ false = grind (arith, nat_tests) in rw no refl
@@ -85,19 +70,9 @@ pub runs_without_key : (h : Hash) (count : ℕ) (key random : List ℕ) (message
 runs_without_key h count key random KeyLength k r w refused is =
     rw (key_refused h count key random refused.0) (record
     { as_stated = refl; image = refused.1; secret = took-none random r is; output = adds-none w })
-runs_without_key h count key random ReadFailed k r w failed is = record {
-  image_consumed = failed.0;
-  secret_consumed = 0;
-  output_len = 0;
-  image_within = key_taken h count key random failed.0 failed.1;
-  secret_within = omega arith;
-  output_within = omega arith;
-  is_silent = tt;
-  is_prompt = simp (zero-div, zero-mul);
-  image = failed.2;
-  secret = took-none random r is;
-  output = adds-none w;
-}
+runs_without_key h count key random ReadFailed k r w failed is =
+    aborted_unwritten failed.0 0 tt (omega arith) (simp (zero-div, zero-mul))
+    (key_taken h count key random failed.0 failed.1) (omega arith) failed.2 (took-none random r is)
 runs_without_key h count key random _ k r w p is = absurd p
 
 -- `taken` random bytes may be consumed, and the specified output starts with the first `written` ones
