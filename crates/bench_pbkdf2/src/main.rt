@@ -57,7 +57,7 @@ fn main(rt: HostRuntime) -> io::Result<()> {
 fn measure(rt: &HostRuntime, way: &str, hash: Hash, turns: u32, length: usize) -> io::Result<()>
     requires turns { 1 ≤ turns }
     requires some { 1 ≤ length }
-    requires room { length ≤ MAX_KEY }
+    requires capacity { length ≤ MAX_KEY }
 {
     let mut key = [0; MAX_KEY];
     let key = &mut key[..length];
@@ -72,6 +72,6 @@ fn measure(rt: &HostRuntime, way: &str, hash: Hash, turns: u32, length: usize) -
         ("blockwise", Hash::Sha256) => blockwise::by_sha256(PASS, SALT, turns, key),
         _ => return Ok(()),
     };
-    let taken = rt.process_cpu_time()?.saturating_sub(start);
-    eprintln!(rt; "{count} {} {}", taken.as_nanos(), Hex { bytes: key })
+    let elapsed = rt.process_cpu_time()?.saturating_sub(start);
+    eprintln!(rt; "{count} {} {}", elapsed.as_nanos(), Hex { bytes: key })
 }

@@ -59,7 +59,7 @@ fn time<R: Runtime>(rt: &R, mode: Mode, way: Way, length: usize, count: u64) -> 
     let mut sector = vec![in rt.alloc(); 0u8; length]?;
     let start = Instant::now(rt)?;
     work(&cipher, way, &mut sector, count);
-    let took = start.elapsed(rt)?.as_nanos();
+    let consumption = start.elapsed(rt)?.as_nanos();
     let total = (length as u128).saturating_mul(u128::from(count));
     let left = sector.first().copied().unwrap_or(0);
     eprintln!(rt; "{total} {took} {left}")

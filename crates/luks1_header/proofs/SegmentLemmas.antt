@@ -23,7 +23,7 @@ pub record IsReadable (header : Header1) : Type 0 where
   pub mode : (mode : Mode) × (mode1_of header ≡ Some mode)
   pub hash : (hash : Hash) × (hash1_of header ≡ Some hash)
   pub key : is_key_length1 (mode1_of header) header.key_bytes ≡ true
-  pub behind_header : header.detached ≡ false → 592 ≤ 512 * header.payload_offset
+  pub after_header : header.detached ≡ false → 592 ≤ 512 * header.payload_offset
 
 -- with an attached header, a payload that does not start inside the header starts behind it
 starts_behind : (header : Header1) → overlaps_header1 header ≡ false → header.detached ≡ false
@@ -46,7 +46,7 @@ IsReadable-none header none =
       mode = some_from_not_none (mode1_of header) mode.0;
       hash = some_from_not_none (hash1_of header) hash.0;
       key = true_from_not (is_key_length1 (mode1_of header) header.key_bytes) key.0;
-      behind_header = starts_behind header offset.0;
+      after_header = starts_behind header offset.0;
     }
 
 -- the segment of a header, by its fields

@@ -8,15 +8,15 @@ use Rattle.luks_seal.specs.Pieces.{padded}
 use Rattle.luks_seal.specs.declared.parameters.Seal1.{Seal1}
 use Rattle.luks_seal.specs.declared.parameters.Slot1.{Slot1}
 use Rattle.luks_seal.proofs.SectorLemmas.{piece_at}
-use Rattle.luks_seal.proofs.SlicingLemmas.{at_at, at_behind, at_first, at_padded, at_second}
+use Rattle.luks_seal.proofs.SlicingLemmas.{at_at, at_within_second, at_first, at_padded, at_second}
 use Rattle.luks1_seal.specs.Layout1.{area1_of, area_sectors_of, areas1_below, header1_bytes, image1_of, material1_of}
 use Rattle.luks1_seal.specs.Layout1.{payload1_bytes, slot1_numbered}
 use Rattle.luks1_seal.specs.Ranges1.{AreParameters, FitsSlot}
 use Rattle.luks1_seal.specs.Typed1.{AreTyped1}
 use Rattle.luks1_seal.proofs.Layout1Lemmas.{areas_fit, areas_joined, length-area1, length-areas1, length-before_payload}
-use Rattle.luks1_seal.proofs.Layout1Lemmas.{length-front1, length-header1, length-image1, length-material1}
+use Rattle.luks1_seal.proofs.Layout1Lemmas.{length-prefix1, length-header1, length-image1, length-material1}
 use Rattle.luks1_seal.proofs.Layout1Lemmas.{length-payload1}
-use Rattle.luks1_seal.proofs.Read1.{front1_of}
+use Rattle.luks1_seal.proofs.Read1.{header1_start_bytes}
 
 module _ (p : Seal1) (fits : AreParameters p) (typed : AreTyped1 p) where
   -- bytes before the end of the areas are bytes of the header and the areas
@@ -24,11 +24,11 @@ module _ (p : Seal1) (fits : AreParameters p) (typed : AreTyped1 p) where
       → at place len (image1_of p) ≡ at place len (header1_bytes p ++ areas1_below p 8)
   unfolding image1_of
   before_payload place len inside =
-      let front = header1_bytes p ++ areas1_below p 8 in
-      let room = areas_fit p fits typed in
+      let prefix = header1_bytes p ++ areas1_below p 8 in
+      let capacity = areas_fit p fits typed in
       let long = length-before_payload p fits typed in
-      at_first place len (padded (p.payload_sectors * 512) front) (payload1_bytes p) (omega (arith, room, long))
-      ∙ at_padded place len (p.payload_sectors * 512) front inside
+      at_first place len (padded (p.payload_sectors * 512) prefix) (payload1_bytes p) (omega (arith, capacity, long))
+      ∙ at_padded place len (p.payload_sectors * 512) prefix inside
 
   length-areas : length (header1_bytes p ++ areas1_below p 8) ≡ 4096 + 8 * (area_sectors_of p * 512)
   length-areas =
@@ -40,19 +40,20 @@ module _ (p : Seal1) (fits : AreParameters p) (typed : AreTyped1 p) where
       )
 
   -- the header is at the start of the image
-  pub image_header : (place len : ℕ) → place + len ≤ 592 → at place len (image1_of p) ≡ at place len (front1_of p)
+  pub image_header : (place len : ℕ) → place + len ≤ 592 → at place len (image1_of p) ≡ at place len
+      (header1_start_bytes p)
   unfolding header1_bytes
   image_header place len inside =
       before_payload place len (omega (arith, length-areas))
       ∙ at_first place len (header1_bytes p) (areas1_below p 8) (omega (arith, length-header1 p fits typed))
-      ∙ at_padded place len 4096 (front1_of p) (omega (arith, length-front1 p fits typed))
+      ∙ at_padded place len 4096 (header1_start_bytes p) (omega (arith, length-prefix1 p fits typed))
 
   -- the areas start at byte 4096
   image_areas : (place k len : ℕ) → place ≡ 4096 + k → k + len ≤ 8 * (area_sectors_of p * 512)
       → at place len (image1_of p) ≡ at k len (areas1_below p 8)
   image_areas place k len is inside =
       before_payload place len (omega (arith, length-areas))
-      ∙ at_behind place k len (header1_bytes p) (areas1_below p 8) (omega (arith, length-header1 p fits typed))
+      ∙ at_within_second place k len (header1_bytes p) (areas1_below p 8) (omega (arith, length-header1 p fits typed))
 
   -- the payload starts at its sector
   pub image_payload : (place : ℕ) → place ≡ p.payload_sectors * 512
@@ -97,11 +98,11 @@ module _ (p : Seal1) (fits : AreParameters p) (typed : AreTyped1 p) where
         let start = number * size in
         let len = (length p.key.now * p.stripes + 511) / 512 * 512 in
         let within = area_within number low in
-        let room : 0 + len ≤ size = omega arith in
+        let capacity : 0 + len ≤ size = omega arith in
         let begins : start + 0 ≡ start = omega arith in
-        image_areas place start len (omega (arith, is)) (omega (arith, within, room))
+        image_areas place start len (omega (arith, is)) (omega (arith, within, capacity))
         ∙ ap (λ n. at n len (areas1_below p 8)) (sym begins)
-        ∙ sym (at_at 0 len start size (areas1_below p 8) room)
+        ∙ sym (at_at 0 len start size (areas1_below p 8) capacity)
         ∙ ap (at 0 len) (area_there number low)
         ∙ area_begins
 

@@ -17,7 +17,7 @@ use Rattle.luks_kdf.proofs.Pbkdf2Lemmas.{length-derived_key}
 use Rattle.luks_seal.specs.Pieces.{padded, stripes_of}
 use Rattle.luks_seal.specs.declared.parameters.Seal1.{Seal1}
 use Rattle.luks_seal.specs.declared.parameters.Slot1.{Slot1}
-use Rattle.luks_seal.proofs.MaterialLemmas.{AreDrawn, length-encrypted_material, length-stripes_of}
+use Rattle.luks_seal.proofs.MaterialLemmas.{AreRandomStripes, length-encrypted_material, length-stripes_of}
 use Rattle.luks_seal.proofs.SectorLemmas.{length-sectors_encrypted, pieces_length}
 use Rattle.luks_seal.proofs.SlicingLemmas.{length-padded}
 use Rattle.luks1_seal.specs.Layout1.{area1_of, area_key1_of, area_sectors_of, areas1_below, digest1_fields, fields1_of}
@@ -124,20 +124,20 @@ module _ (p : Seal1) (fits : AreParameters p) (typed : AreTyped1 p) where
       ap length (key_slots_joined n) ∙ pieces_length (key_slot1_of p) 48 n (λ j low. length-key_slot1 j)
 
   -- the header with all its key slots has 592 bytes
-  pub length-front1 : length (fields1_of p ++ key_slots1_below p 8) ≡ 592
-  length-front1 =
+  pub length-prefix1 : length (fields1_of p ++ key_slots1_below p 8) ≡ 592
+  length-prefix1 =
       omega (arith, length-append (fields1_of p) (key_slots1_below p 8), length-fields1, length-key_slots1 8)
 
   pub length-header1 : length (header1_bytes p) ≡ 4096
   unfolding header1_bytes
-  length-header1 = length-padded 4096 (fields1_of p ++ key_slots1_below p 8) (omega (arith, length-front1))
+  length-header1 = length-padded 4096 (fields1_of p ++ key_slots1_below p 8) (omega (arith, length-prefix1))
 
   -- ---- the areas
 
   -- each slot has as many random bytes as its stripes need
-  pub drawn1 : (slot : Slot1) → FitsSlot ((p.stripes - 1) * length p.key.now) slot
-      → AreDrawn p.key.now p.stripes slot.random.now
-  drawn1 slot of_slot = record {
+  pub random_stripes1 : (slot : Slot1) → FitsSlot ((p.stripes - 1) * length p.key.now) slot
+      → AreRandomStripes p.key.now p.stripes slot.random.now
+  random_stripes1 slot of_slot = record {
     some = fits.counts.0;
     few = fits.counts.1;
     key_most = longest_mode_key p.mode (length p.key.now) fits.key;
@@ -150,7 +150,7 @@ module _ (p : Seal1) (fits : AreParameters p) (typed : AreTyped1 p) where
   length-material1 slot of_slot =
       length-encrypted_material p.mode (area_key1_of p slot) (stripes_of p.hash p.key.now p.stripes slot.random.now)
       ∙ ap (λ n. (n + 511) / 512 * 512)
-      (length-stripes_of p.hash p.key.now p.stripes slot.random.now (drawn1 slot of_slot))
+      (length-stripes_of p.hash p.key.now p.stripes slot.random.now (random_stripes1 slot of_slot))
 
   length-area1_at : (found : Option Slot1)
       → ((slot : Slot1) → found ≡ Some slot → FitsSlot ((p.stripes - 1) * length p.key.now) slot)
@@ -182,7 +182,7 @@ module _ (p : Seal1) (fits : AreParameters p) (typed : AreTyped1 p) where
   -- the header and the areas end where the payload begins, or before
   pub areas_fit : length (header1_bytes p ++ areas1_below p 8) ≤ p.payload_sectors * 512
   areas_fit =
-      let room = fits.counts.3 in
+      let capacity = fits.counts.3 in
       omega (arith, length-append (header1_bytes p) (areas1_below p 8), length-header1, length-areas1 8)
 
   -- the part before the payload, padded with zeros, ends at the payload's sector

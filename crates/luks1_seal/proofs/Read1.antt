@@ -24,7 +24,7 @@ use Rattle.luks_seal.specs.Pieces.{padded}
 use Rattle.luks_seal.specs.declared.parameters.Seal1.{Seal1}
 use Rattle.luks_seal.specs.declared.parameters.Slot1.{Slot1}
 use Rattle.luks_seal.proofs.SectorLemmas.{piece_at}
-use Rattle.luks_seal.proofs.SlicingLemmas.{at_behind, at_first, at_second}
+use Rattle.luks_seal.proofs.SlicingLemmas.{at_within_second, at_first, at_second}
 use Rattle.luks1_seal.specs.Layout1.{area_sectors_of, digest1_fields, fields1_of, key_slot1_of, key_slots1_below}
 use Rattle.luks1_seal.specs.Layout1.{middle1_of, slot1_numbered, start1_of, state1_of}
 use Rattle.luks1_seal.specs.Ranges1.{AreParameters}
@@ -126,12 +126,12 @@ pub record IsRead1 (p : Seal1) (header : Header1) : Type 0 where
   pub attached : header.detached ≡ false
 
 -- the 592 bytes of a header
-abbrev pub front1_of : Seal1 → List ℕ
-front1_of p = fields1_of p ++ key_slots1_below p 8
+abbrev pub header1_start_bytes : Seal1 → List ℕ
+header1_start_bytes p = fields1_of p ++ key_slots1_below p 8
 
 module _ (p : Seal1) (fits : AreParameters p) (typed : AreTyped1 p) where
   -- bytes before the key slots are bytes of the fields
-  in_fields : (place len : ℕ) → place + len ≤ 208 → at place len (front1_of p) ≡ at place len (fields1_of p)
+  in_fields : (place len : ℕ) → place + len ≤ 208 → at place len (header1_start_bytes p) ≡ at place len (fields1_of p)
   in_fields place len inside =
       at_first place len (fields1_of p) (key_slots1_below p 8) (omega (arith, length-fields1 p fits typed))
 
@@ -148,42 +148,43 @@ module _ (p : Seal1) (fits : AreParameters p) (typed : AreTyped1 p) where
       )
 
   in_digested : (place len : ℕ) → place + len ≤ 168
-      → at place len (front1_of p) ≡ at place len (start1_of p ++ middle1_of p ++ digest1_fields p)
+      → at place len (header1_start_bytes p) ≡ at place len (start1_of p ++ middle1_of p ++ digest1_fields p)
   unfolding fields1_of
   in_digested place len inside =
       in_fields place len (omega arith)
       ∙ at_first place len (start1_of p ++ middle1_of p ++ digest1_fields p) (padded 40 p.uuid.now)
       (omega (arith, length-digested))
 
-  pub in_start : (place len : ℕ) → place + len ≤ 72 → at place len (front1_of p) ≡ at place len (start1_of p)
+  pub in_start : (place len : ℕ) → place + len ≤ 72 → at place len (header1_start_bytes p) ≡ at place len (start1_of p)
   in_start place len inside =
       in_digested place len (omega arith)
       ∙ at_first place len (start1_of p ++ middle1_of p) (digest1_fields p) (omega (arith, length-start_middle))
       ∙ at_first place len (start1_of p) (middle1_of p) (omega (arith, length-start1 p))
 
   in_middle : (place k len : ℕ) → place ≡ 72 + k → k + len ≤ 40
-      → at place len (front1_of p) ≡ at k len (middle1_of p)
+      → at place len (header1_start_bytes p) ≡ at k len (middle1_of p)
   in_middle place k len is inside =
       in_digested place len (omega arith)
       ∙ at_first place len (start1_of p ++ middle1_of p) (digest1_fields p) (omega (arith, length-start_middle))
-      ∙ at_behind place k len (start1_of p) (middle1_of p) (omega (arith, length-start1 p))
+      ∙ at_within_second place k len (start1_of p) (middle1_of p) (omega (arith, length-start1 p))
 
   in_digest : (place k len : ℕ) → place ≡ 112 + k → k + len ≤ 56
-      → at place len (front1_of p) ≡ at k len (digest1_fields p)
+      → at place len (header1_start_bytes p) ≡ at k len (digest1_fields p)
   in_digest place k len is inside =
       in_digested place len (omega arith)
-      ∙ at_behind place k len (start1_of p ++ middle1_of p) (digest1_fields p) (omega (arith, length-start_middle))
+      ∙ at_within_second place k len (start1_of p ++ middle1_of p) (digest1_fields p)
+      (omega (arith, length-start_middle))
 
-  in_slots : (number : ℕ) → number < 8 → at (208 + 48 * number) 48 (front1_of p) ≡ key_slot1_of p number
+  in_slots : (number : ℕ) → number < 8 → at (208 + 48 * number) 48 (header1_start_bytes p) ≡ key_slot1_of p number
   in_slots number low =
-      at_behind (208 + 48 * number) (number * 48) 48 (fields1_of p) (key_slots1_below p 8)
+      at_within_second (208 + 48 * number) (number * 48) 48 (fields1_of p) (key_slots1_below p 8)
       (omega (arith, length-fields1 p fits typed))
       ∙ ap (at (number * 48) 48) (key_slots_joined p fits typed 8)
       ∙ piece_at (key_slot1_of p) 48 8 number (λ j below. length-key_slot1 p fits typed j) low
 
   -- ---- the fields of the header
 
-  cipher_name_is : text_of (at 8 32 (front1_of p)) ≡ codes "aes"
+  cipher_name_is : text_of (at 8 32 (header1_start_bytes p)) ≡ codes "aes"
   unfolding start1_of
   cipher_name_is =
       ap text_of (in_start 8 32 (omega arith)
@@ -191,7 +192,7 @@ module _ (p : Seal1) (fits : AreParameters p) (typed : AreTyped1 p) where
       ∙ take_all 32 (padded 32 (codes "aes")) (omega (arith, length-cipher_name)))
       ∙ cipher_read
 
-  cipher_mode_is : text_of (at 40 32 (front1_of p)) ≡ mode_name p.mode
+  cipher_mode_is : text_of (at 40 32 (header1_start_bytes p)) ≡ mode_name p.mode
   unfolding start1_of
   cipher_mode_is =
       ap text_of (in_start 40 32 (omega arith)
@@ -199,7 +200,7 @@ module _ (p : Seal1) (fits : AreParameters p) (typed : AreTyped1 p) where
       (length-mode_name p.mode))
       ∙ mode_read p.mode
 
-  hash_spec_is : text_of (at 72 32 (front1_of p)) ≡ hash_name p.hash
+  hash_spec_is : text_of (at 72 32 (header1_start_bytes p)) ≡ hash_name p.hash
   unfolding middle1_of
   hash_spec_is =
       let hash = padded 32 (hash_name p.hash) in
@@ -212,30 +213,30 @@ module _ (p : Seal1) (fits : AreParameters p) (typed : AreTyped1 p) where
       ∙ take_all 32 hash (omega (arith, long)))
       ∙ hash_read p.hash
 
-  payload_offset_is : be32 (at 104 4 (front1_of p)) ≡ p.payload_sectors
+  payload_offset_is : be32 (at 104 4 (header1_start_bytes p)) ≡ p.payload_sectors
   unfolding middle1_of
   payload_offset_is =
       let hash = padded 32 (hash_name p.hash) in
       let sectors = to_be_bytes w32 p.payload_sectors in
       let key = to_be_bytes w32 (length p.key.now) in
       let long = length-hash_name p.hash in
-      number_read (at 104 4 (front1_of p)) p.payload_sectors (omega (arith, fits.counts.4))
+      number_read (at 104 4 (header1_start_bytes p)) p.payload_sectors (omega (arith, fits.counts.4))
       (in_middle 104 32 4 refl (omega arith)
       ∙ at_first 32 4 (hash ++ sectors) key (omega (arith, length-append hash sectors, long))
       ∙ at_second 32 4 hash sectors (sym long) refl)
 
-  key_bytes_is : be32 (at 108 4 (front1_of p)) ≡ length p.key.now
+  key_bytes_is : be32 (at 108 4 (header1_start_bytes p)) ≡ length p.key.now
   unfolding middle1_of
   key_bytes_is =
       let hash = padded 32 (hash_name p.hash) in
       let sectors = to_be_bytes w32 p.payload_sectors in
       let key = to_be_bytes w32 (length p.key.now) in
-      number_read (at 108 4 (front1_of p)) (length p.key.now)
+      number_read (at 108 4 (header1_start_bytes p)) (length p.key.now)
       (omega (arith, longest_mode_key p.mode (length p.key.now) fits.key))
       (in_middle 108 36 4 refl (omega arith)
       ∙ at_second 36 4 (hash ++ sectors) key (omega (arith, length-append hash sectors, length-hash_name p.hash)) refl)
 
-  digest_is : at 112 20 (front1_of p) ≡ derived_key p.hash p.key.now p.digest_salt p.digest_iterations 20
+  digest_is : at 112 20 (header1_start_bytes p) ≡ derived_key p.hash p.key.now p.digest_salt p.digest_iterations 20
   unfolding digest1_fields
   digest_is =
       let digest = derived_key p.hash p.key.now p.digest_salt p.digest_iterations 20 in
@@ -246,7 +247,7 @@ module _ (p : Seal1) (fits : AreParameters p) (typed : AreTyped1 p) where
       ∙ at_first 0 20 digest p.digest_salt (omega (arith, long))
       ∙ take_all 20 digest (omega (arith, long))
 
-  digest_salt_is : at 132 32 (front1_of p) ≡ p.digest_salt
+  digest_salt_is : at 132 32 (header1_start_bytes p) ≡ p.digest_salt
   unfolding digest1_fields
   digest_salt_is =
       let digest = derived_key p.hash p.key.now p.digest_salt p.digest_iterations 20 in
@@ -257,19 +258,19 @@ module _ (p : Seal1) (fits : AreParameters p) (typed : AreTyped1 p) where
       (omega (arith, length-append digest p.digest_salt, long, typed.salt))
       ∙ at_second 20 32 digest p.digest_salt (sym long) typed.salt
 
-  digest_iterations_is : be32 (at 164 4 (front1_of p)) ≡ p.digest_iterations
+  digest_iterations_is : be32 (at 164 4 (header1_start_bytes p)) ≡ p.digest_iterations
   unfolding digest1_fields
   digest_iterations_is =
       let digest = derived_key p.hash p.key.now p.digest_salt p.digest_iterations 20 in
       let turns = to_be_bytes w32 p.digest_iterations in
       let long = length-derived_key p.hash p.key.now p.digest_salt p.digest_iterations 20 in
-      number_read (at 164 4 (front1_of p)) p.digest_iterations typed.iterations
+      number_read (at 164 4 (header1_start_bytes p)) p.digest_iterations typed.iterations
       (in_digest 164 52 4 refl (omega arith)
       ∙ at_second 52 4 (digest ++ p.digest_salt) turns
       (omega (arith, length-append digest p.digest_salt, long, typed.salt)) refl)
 
   -- the header that is read from the 592 bytes has the values of the parameters
-  pub header1_is : IsRead1 p (read_header1 (front1_of p))
+  pub header1_is : IsRead1 p (read_header1 (header1_start_bytes p))
   unfolding read_header1
   header1_is = record {
     cipher_name = cipher_name_is;
@@ -281,7 +282,7 @@ module _ (p : Seal1) (fits : AreParameters p) (typed : AreTyped1 p) where
     digest_salt = digest_salt_is;
     digest_iterations = digest_iterations_is;
     slots = λ number low.
-        key_slots_read (front1_of p) number low ∙ ap (λ b. Some (key_slot_of b)) (in_slots number low);
+        key_slots_read (header1_start_bytes p) number low ∙ ap (λ b. Some (key_slot_of b)) (in_slots number low);
     attached = refl;
   }
 
@@ -291,10 +292,10 @@ module _ (p : Seal1) (fits : AreParameters p) (typed : AreTyped1 p) where
       → IsKeySlot slot (8 + number * area_sectors_of p) p.stripes (key_slot_of (key_slot1_of p number))
   unfolding key_slot1_of
   key_slot1_is number slot found salt turns low =
-      let room = fits.counts.3 in
+      let capacity = fits.counts.3 in
       let few = fits.counts.1 in
       let below : number * area_sectors_of p ≤ 8 * area_sectors_of p =
       mul-le-mul_right {m = number} {n = 8} (area_sectors_of p) (omega arith) in
       rw found
       (key_slot_read slot (8 + number * area_sectors_of p) p.stripes salt turns
-      (omega (arith, below, room, fits.counts.4)) (omega (arith, few)))
+      (omega (arith, below, capacity, fits.counts.4)) (omega (arith, few)))

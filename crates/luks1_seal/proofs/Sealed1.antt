@@ -24,7 +24,7 @@ use Rattle.luks_seal.specs.Sealed.{GivesKey, Sealed, SealsKey, SealsPlain}
 use Rattle.luks_seal.specs.declared.parameters.Seal1.{Seal1}
 use Rattle.luks_seal.specs.declared.parameters.Slot1.{Slot1}
 use Rattle.luks_seal.proofs.MaterialLemmas.{gives_key}
-use Rattle.luks_seal.proofs.SectorLemmas.{sectors_stand}
+use Rattle.luks_seal.proofs.SectorLemmas.{sectors_are_stored}
 use Rattle.luks1_seal.specs.Layout1.{area_key1_of, area_sectors_of, image1_of, key_slot1_of, material1_of}
 use Rattle.luks1_seal.specs.Layout1.{payload1_bytes, slot1_numbered, start1_of}
 use Rattle.luks1_seal.specs.Passphrases1.{passphrases1_of}
@@ -33,8 +33,8 @@ use Rattle.luks1_seal.specs.Typed1.{AreTyped1, IsTypedSlot1}
 use Rattle.luks1_seal.proofs.Image1.{image_header, image_material, image_payload, material_within}
 use Rattle.luks1_seal.proofs.Verdicts1.{digest1_is, digest1_of_key, digest_usable, hash1_is, mode1_is, payload_starts}
 use Rattle.luks1_seal.proofs.Verdicts1.{ranged, segment1_is, verdict1_is}
-use Rattle.luks1_seal.proofs.Layout1Lemmas.{drawn1, length-front1, length-image1}
-use Rattle.luks1_seal.proofs.Read1.{IsKeySlot, IsRead1, front1_of, header1_is, in_start, key_slot1_is}
+use Rattle.luks1_seal.proofs.Layout1Lemmas.{random_stripes1, length-prefix1, length-image1}
+use Rattle.luks1_seal.proofs.Read1.{IsKeySlot, IsRead1, header1_start_bytes, header1_is, in_start, key_slot1_is}
 use Rattle.luks1_seal.proofs.Slots1.{numbered_itself}
 
 module _ (p : Seal1) (fits : AreParameters p) (typed : AreTyped1 p) where
@@ -46,19 +46,19 @@ module _ (p : Seal1) (fits : AreParameters p) (typed : AreTyped1 p) where
       ap (λ (b : List ℕ). bytes_eq b (0x4c ∷ 0x55 ∷ 0x4b ∷ 0x53 ∷ 0xba ∷ 0xbe ∷ 0x00 ∷ 0x01 ∷ []))
       (image_header p fits typed 0 8 (omega arith) ∙ in_start p fits typed 0 8 (omega arith))
 
-  whole_header : at 0 592 (image1_of p) ≡ front1_of p
+  whole_header : at 0 592 (image1_of p) ≡ header1_start_bytes p
   whole_header =
       image_header p fits typed 0 592 (omega arith)
-      ∙ take_all 592 (front1_of p) (omega (arith, length-front1 p fits typed))
+      ∙ take_all 592 (header1_start_bytes p) (omega (arith, length-prefix1 p fits typed))
 
-  header_is : header_of (image1_of p) ≡ Ok (V1 (read_header1 (front1_of p)))
+  header_is : header_of (image1_of p) ≡ Ok (V1 (read_header1 (header1_start_bytes p)))
   unfolding header_of
   header_is =
       let long = length-image1 p fits typed in
-      let room = le-ltb (length (image1_of p)) 592 (omega (arith, long, fits.counts.3)) in
-      rw (begins, room, whole_header) refl
+      let capacity = le-ltb (length (image1_of p)) 592 (omega (arith, long, fits.counts.3)) in
+      rw (begins, capacity, whole_header) refl
 
-  read : IsRead1 p (read_header1 (front1_of p))
+  read : IsRead1 p (read_header1 (header1_start_bytes p))
   read = header1_is p fits typed
 
   -- ---- a key slot
@@ -78,7 +78,7 @@ module _ (p : Seal1) (fits : AreParameters p) (typed : AreTyped1 p) where
         → GivesKey (slot_parts1_of header stored) slot.passphrase.now p.key.now (image1_of p)
     unfolding slot_parts1_of need_of material1_of area_key1_of
     gives1 header stored of_header of_stored =
-        let drawn = drawn1 p fits typed slot of_slot in
+        let drawn = random_stripes1 p fits typed slot of_slot in
         let starts = ap (λ n. 512 * n) of_stored.offset in
         gives_key (slot_parts1_of header stored) p.hash p.hash p.mode slot.passphrase.now p.key.now slot.random.now
         (image1_of p)
@@ -96,10 +96,11 @@ module _ (p : Seal1) (fits : AreParameters p) (typed : AreTyped1 p) where
         (rw (of_stored.stripes, of_stored.salt, of_stored.iterations, of_header.key_bytes)
         (image_material p fits typed slot.number slot found low of_slot (512 * stored.offset) starts))
 
-    seals_key1 : SealsKey (V1 (read_header1 (front1_of p))) (image1_of p) p.key.now slot.number slot.passphrase.now
+    seals_key1 : SealsKey (V1 (read_header1 (header1_start_bytes p))) (image1_of p) p.key.now slot.number
+        slot.passphrase.now
     unfolding verdict_at verdict1_at digest_for slot_of
     seals_key1 =
-        let header = read_header1 (front1_of p) in
+        let header = read_header1 (header1_start_bytes p) in
         let stored = key_slot_of (key_slot1_of p slot.number) in
         record {
           slot = slot_of (slot_parts1_of header stored)
@@ -116,15 +117,16 @@ module _ (p : Seal1) (fits : AreParameters p) (typed : AreTyped1 p) where
 
   -- ---- the payload
 
-  seals_plain1 : SealsPlain (segment_by (512 * (read_header1 (front1_of p)).payload_offset) None 0 B512 p.mode refl)
+  seals_plain1 : SealsPlain (segment_by (512 * (read_header1 (header1_start_bytes p)).payload_offset) None 0 B512
+      p.mode refl)
       (image1_of p) p.key.now p.plain.now
   unfolding segment_by payload1_bytes
   seals_plain1 =
-      let place = 512 * (read_header1 (front1_of p)).payload_offset in
-      let starts = payload_starts p (read_header1 (front1_of p)) fits typed read in
+      let place = 512 * (read_header1 (header1_start_bytes p)).payload_offset in
+      let starts = payload_starts p (read_header1 (header1_start_bytes p)) fits typed read in
       let long = length-image1 p fits typed in
       record {
-        stands = sectors_stand (p.mode, p.key.now) 0 1 512 p.plain.now refl fits.plain.0 place (image1_of p)
+        is_stored = sectors_are_stored (p.mode, p.key.now) 0 1 512 p.plain.now refl fits.plain.0 place (image1_of p)
             typed.plain (omega (arith, starts, long)) (image_payload p fits typed place starts);
         ends = omega (arith, starts, long);
       }
@@ -134,7 +136,7 @@ module _ (p : Seal1) (fits : AreParameters p) (typed : AreTyped1 p) where
   pub sealed1 : Sealed (image1_of p) (passphrases1_of p) p.key.now p.plain.now
   unfolding segment_of
   sealed1 =
-      let header = read_header1 (front1_of p) in
+      let header = read_header1 (header1_start_bytes p) in
       record {
         header = V1 header;
         segment = segment_by (512 * header.payload_offset) None 0 B512 p.mode refl;

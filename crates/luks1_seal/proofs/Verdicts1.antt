@@ -123,9 +123,9 @@ module _ (p : Seal1) (header : Header1) (fits : AreParameters p) (typed : AreTyp
         let most = fits.counts.1 in
         grind (arith, nat_tests)
 
-    few_turns : iterations_out_of_range None stored.iterations ≡ false
+    few_slot_iterations : iterations_out_of_range None stored.iterations ≡ false
     unfolding iterations_out_of_range
-    few_turns =
+    few_slot_iterations =
         let same = is.iterations in
         grind (arith, nat_tests)
 
@@ -144,12 +144,12 @@ module _ (p : Seal1) (header : Header1) (fits : AreParameters p) (typed : AreTyp
     unfolding area1_out_of_range area_out_of_range payload1_start
     placed =
         let need = need_of header.key_bytes stored.stripes in
-        let room = before_payload in
+        let capacity = before_payload in
         let starts = le-ltb (512 * stored.offset) 592 (omega (arith, is.offset)) in
         let whole = le-ltb need need (omega arith) in
-        let before = le-ltb (512 * header.payload_offset) (512 * stored.offset + need) (omega (arith, room)) in
+        let before = le-ltb (512 * header.payload_offset) (512 * stored.offset + need) (omega (arith, capacity)) in
         let held = le-ltb 33554432 (512 * stored.offset + need)
-        (omega (arith, room, payload_starts, fits.counts.4)) in
+        (omega (arith, capacity, payload_starts, fits.counts.4)) in
         rw (read.attached, starts, whole, before, held) refl
 
     digested : has_no_usable_digest None (digest1_of header) ≡ false
@@ -165,7 +165,7 @@ module _ (p : Seal1) (header : Header1) (fits : AreParameters p) (typed : AreTyp
     unfolding reason1_of
     no_reason =
         let undamaged = ap is_damaged is.state in
-        rw (undamaged, striped, few_turns, placed, digested) refl
+        rw (undamaged, striped, few_slot_iterations, placed, digested) refl
 
     pub ranged : are_in_range (slot_parts1_of header stored) ≡ true
     ranged = (slot_there header None stored no_reason).0

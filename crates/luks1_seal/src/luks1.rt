@@ -105,9 +105,9 @@ fn image_of(alloc: Global, seal: &Seal1<'_>) -> Result<Vec<u8>, AllocError>
     requires { AreParameters seal.now }
     ensures { IfOk result (λ image. image.items ≡ image1_of seal.now) }
 {
-    let mut front = header1_bytes(alloc, seal)?;
-    push_areas(alloc, &mut front, seal)?;
-    let mut image = padded(alloc, &front, seal.payload_sectors as usize * 512)?;
+    let mut prefix = header1_bytes(alloc, seal)?;
+    push_areas(alloc, &mut prefix, seal)?;
+    let mut image = padded(alloc, &prefix, seal.payload_sectors as usize * 512)?;
     let payload = payload_of(alloc, seal)?;
     image.extend_from_slice(&payload)?;
     Ok(image)

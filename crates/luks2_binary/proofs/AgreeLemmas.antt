@@ -9,28 +9,28 @@ use Rattle.luks_area.specs.Fields.{at}
 use Rattle.luks2_binary.specs.Choice2.{fits, is_valid, size_at}
 use Rattle.luks2_binary.specs.ReadLen2.{probe_end}
 use Rattle.luks2_binary.specs.Header2.{size_in}
-use Rattle.luks2_binary.specs.Front2.{IsPrefixOf, valid_size}
-use Rattle.luks2_binary.proofs.FrontLemmas.{short_from_not}
+use Rattle.luks2_binary.specs.Reading2.{IsPrefixOf, valid_size}
+use Rattle.luks2_binary.proofs.PrefixLemmas.{short_from_not}
 use Rattle.luks2_binary.proofs.ValidLemmas.{unfit-is_valid}
 
-module _ (held : List ℕ) (ended : Bool) (image : List ℕ) (front : IsPrefixOf held ended image) where
+module _ (held : List ℕ) (ended : Bool) (image : List ℕ) (prefix : IsPrefixOf held ended image) where
   -- loaded bytes are the image's
-  pub at-front : (place n : ℕ) → place + n ≤ length held → at place n held ≡ at place n image
-  at-front place n within =
+  pub at-prefix : (place n : ℕ) → place + n ≤ length held → at place n held ≡ at place n image
+  at-prefix place n within =
       let split : length held ≡ place + (length held - place) = omega arith in
-      ap (λ l. take n (drop place l)) (sym front.begins)
+      ap (λ l. take n (drop place l)) (sym prefix.begins)
       ∙ ap (λ m. take n (drop place (take m image))) split
       ∙ ap (take n) (drop-take place (length held - place) image)
       ∙ take-take n (length held - place) (drop place image) (omega arith)
 
   -- if a binary header's length is loaded, a header fits the loaded bytes if and only if it fits the image
-  pub fits-front : (place : ℕ) → place + 4096 ≤ length held → fits held place ≡ fits image place
+  pub fits-prefix : (place : ℕ) → place + 4096 ≤ length held → fits held place ≡ fits image place
   unfolding fits
-  fits-front place within =
+  fits-prefix place within =
       rw (
         le-leb (place + 4096) (length held) within,
-        le-leb (place + 4096) (length image) (omega (arith, front.within)),
-        at-front place 4096 within,
+        le-leb (place + 4096) (length image) (omega (arith, prefix.within)),
+        at-prefix place 4096 within,
       ) refl
 
   -- a header that fits and is loaded whole is valid in the loaded bytes if and only if it is valid in the image
@@ -39,12 +39,12 @@ module _ (held : List ℕ) (ended : Bool) (image : List ℕ) (front : IsPrefixOf
   unfolding is_valid
   valid-whole place within fit whole =
       rw (
-        fits-front place within,
+        fits-prefix place within,
         fit,
-        at-front place 4096 within,
+        at-prefix place 4096 within,
         le-leb (place + size_at image place) (length held) whole,
-        le-leb (place + size_at image place) (length image) (omega (arith, front.within)),
-        at-front place (size_at image place) whole,
+        le-leb (place + size_at image place) (length image) (omega (arith, prefix.within)),
+        at-prefix place (size_at image place) whole,
       ) refl
 
   valid-by : (place : ℕ) (fit : Bool) → fits image place ≡ fit → place + 4096 ≤ length held
@@ -52,13 +52,13 @@ module _ (held : List ℕ) (ended : Bool) (image : List ℕ) (front : IsPrefixOf
       → is_valid held place ≡ is_valid image place
   valid-by place true is within whole = valid-whole place within is (whole is)
   valid-by place false is within whole =
-      unfit-is_valid held place (fits-front place within ∙ is) ∙ sym (unfit-is_valid image place is)
+      unfit-is_valid held place (fits-prefix place within ∙ is) ∙ sym (unfit-is_valid image place is)
 
   -- a header that is loaded whole, or does not fit, is valid in the loaded bytes if and only if it is in the image
-  pub valid-front : (place : ℕ) → place + 4096 ≤ length held
+  pub valid-prefix : (place : ℕ) → place + 4096 ≤ length held
       → (fits image place ≡ true → place + size_at image place ≤ length held)
       → is_valid held place ≡ is_valid image place
-  valid-front place = valid-by place (fits image place) refl
+  valid-prefix place = valid-by place (fits image place) refl
 
 -- a header is not valid if the image ends before it does
 pub short-valid : (image : List ℕ) (place : ℕ) → fits image place ≡ true
@@ -71,28 +71,28 @@ pub no_size : (image : List ℕ) (place : ℕ) → is_valid image place ≡ fals
 no_size image place is = rw is refl
 
 -- at least a binary header's length is read to check an offset
-pub reach_least : (image : List ℕ) (place : ℕ) → place + 4096 ≤ probe_end image place
+pub probe_least : (image : List ℕ) (place : ℕ) → place + 4096 ≤ probe_end image place
 unfolding probe_end
-reach_least image place = omega arith
+probe_least image place = omega arith
 
 -- no more is read to check an offset if no header fits
-pub reach_unfit : (image : List ℕ) (place : ℕ) → fits image place ≡ false → probe_end image place ≡ place + 4096
+pub probe_unfit : (image : List ℕ) (place : ℕ) → fits image place ≡ false → probe_end image place ≡ place + 4096
 unfolding probe_end
-reach_unfit image place is = rw is (omega arith)
+probe_unfit image place is = rw is (omega arith)
 
 -- the whole header is read to check an offset if one fits
-pub reach_fit : (image : List ℕ) (place : ℕ) → fits image place ≡ true
+pub probe_fit : (image : List ℕ) (place : ℕ) → fits image place ≡ true
     → probe_end image place ≡ max (place + 4096) (place + size_at image place)
 unfolding probe_end
-reach_fit image place is = rw is refl
+probe_fit image place is = rw is refl
 
 -- if fewer bytes are loaded than were requested, the image is loaded whole
 pub whole_image : (held : List ℕ) (ended : Bool) (image : List ℕ) (whole : Bool) (end : ℕ) → IsPrefixOf held ended image
     → (IsTrue whole ↔ (end ≤ length held)) → (ended ≡ false → end ≤ length held) → whole ≡ false
     → (image ≡ held) × (length held < end)
-whole_image held true image whole end front iff complete is =
-    (front.ends refl, short_from_not whole end (length held) iff (ap not is))
-whole_image held false image whole end front iff complete is =
+whole_image held true image whole end prefix iff complete is =
+    (prefix.ends refl, short_from_not whole end (length held) iff (ap not is))
+whole_image held false image whole end prefix iff complete is =
     (let short = short_from_not whole end (length held) iff (ap not is) in absurd (omega (arith, complete refl)))
 
 -- a test whose answer is `None` does not hold
@@ -105,10 +105,10 @@ pub some_holds : (b : Bool) (size n : ℕ) → Some size ≡ (if b then Some n e
 some_holds true size n is = (refl, cc)
 some_holds false size n is = absurd (cc)
 
-module _ (held : List ℕ) (ended : Bool) (image bytes : List ℕ) (place : ℕ) (front : IsPrefixOf held ended image)
+module _ (held : List ℕ) (ended : Bool) (image bytes : List ℕ) (place : ℕ) (prefix : IsPrefixOf held ended image)
     (is : bytes ≡ held) (there : place + 4096 ≤ length held) where
   fits-bytes : fits bytes place ≡ fits image place
-  fits-bytes = ap (λ l. fits l place) is ∙ fits-front held ended image front place there
+  fits-bytes = ap (λ l. fits l place) is ∙ fits-prefix held ended image prefix place there
 
   -- if no header fits the loaded bytes, none fits the image
   pub unfit_here : None ≡ (if fits bytes place then Some (size_at bytes place) else None) → fits image place ≡ false
@@ -120,7 +120,7 @@ module _ (held : List ℕ) (ended : Bool) (image bytes : List ℕ) (place : ℕ)
   fit_here size some =
       let one = some_holds (fits bytes place) size (size_at bytes place) some in (
         sym fits-bytes ∙ one.0,
-        one.1 ∙ ap (λ l. size_at l place) is ∙ ap size_in (at-front held ended image front place 4096 there),
+        one.1 ∙ ap (λ l. size_at l place) is ∙ ap size_in (at-prefix held ended image prefix place 4096 there),
       )
 
 then_some_is : (b : Bool) (n : ℕ) → then_some b n ≡ (if b then Some n else None)
@@ -131,7 +131,7 @@ then_some_is false n = refl
 pub valid_here : (held : List ℕ) (ended : Bool) (image bytes : List ℕ) (place size : ℕ) → IsPrefixOf held ended image
     → bytes ≡ held → place + 4096 ≤ length held → size ≡ size_at image place → place + size ≤ length held
     → then_some (is_valid bytes place) size ≡ valid_size image place
-valid_here held ended image bytes place size front is there long whole =
+valid_here held ended image bytes place size prefix is there long whole =
     let valid : is_valid bytes place ≡ is_valid image place = ap (λ l. is_valid l place) is
-    ∙ valid-front held ended image front place there (λ fit. omega (arith, long, whole)) in
+    ∙ valid-prefix held ended image prefix place there (λ fit. omega (arith, long, whole)) in
     rw (valid, long) (then_some_is (is_valid image place) (size_at image place))

@@ -9,7 +9,7 @@ use Rattle.luks_area.proofs.FieldLemmas.{at_beginning}
 use Rattle.luks_area.specs.Fields.{at, text_of}
 use Rattle.luks2_binary.specs.Choice2.{with_valid_primary, binary_at, chosen2_of, found_at, header2_of, is_valid}
 use Rattle.luks2_binary.specs.Choice2.{least_valid, size_at}
-use Rattle.luks2_binary.specs.ReadLen2.{header2_read_len, reach2_of, probe_end}
+use Rattle.luks2_binary.specs.ReadLen2.{header2_read_len, probe2_len, probe_end}
 use Rattle.luks2_binary.specs.Header2.{binary_len, checksum_hash_in, header2_from, sequence_in, size_in, sizes}
 use Rattle.luks2_binary.specs.Text2.{json_area_of, json_text_of, header_offset}
 use Rattle.luks2_binary.specs.declared.header.Finding.{Finding}
@@ -17,24 +17,24 @@ use Rattle.luks2_binary.specs.declared.header.Finding.TheVariants.{PrimaryNotVal
 use Rattle.luks2_binary.specs.declared.header.Header2.{Header2}
 use Rattle.luks2_binary.specs.declared.header.Place.{Place}
 use Rattle.luks2_binary.specs.declared.header.Place.TheVariants.{Primary, Secondary}
-use Rattle.luks2_binary.proofs.AgreeLemmas.{reach_fit}
-use Rattle.luks2_binary.proofs.ChoiceLemmas.{chosen_other, chosen_primary, reach_other, reach_primary}
-use Rattle.luks2_binary.proofs.SearchLemmas.{least_is, search_reach_is}
+use Rattle.luks2_binary.proofs.AgreeLemmas.{probe_fit}
+use Rattle.luks2_binary.proofs.ChoiceLemmas.{chosen_other, chosen_primary, probe_other, probe_primary}
+use Rattle.luks2_binary.proofs.SearchLemmas.{least_is, search_len_is}
 use Rattle.luks2_binary.proofs.ValidLemmas.{fits_parts, size_is_place, valid_parts, valid_range}
 use Rattle.luks2_binary.proofs.WalkLemmas.{first_valid, furthest}
 
 -- the first valid offset is valid, and the search reads at least as far as it does for this offset
-first_is : (valid : ℕ → Bool) (reach : ℕ → ℕ) (places : List ℕ) (place : ℕ) → first_valid valid places ≡ Some place
-    → (valid place ≡ true) × (reach place ≤ furthest valid reach places)
+first_is : (valid : ℕ → Bool) (probe : ℕ → ℕ) (places : List ℕ) (place : ℕ) → first_valid valid places ≡ Some place
+    → (valid place ≡ true) × (probe place ≤ furthest valid probe places)
 unfolding first_valid furthest
-first_is valid reach [] place is = absurd (cc)
-first_is valid reach (here ∷ places) place is = by (valid here) refl (first_is valid reach places place) where
+first_is valid probe [] place is = absurd (cc)
+first_is valid probe (here ∷ places) place is = by (valid here) refl (first_is valid probe places place) where
   by : (b : Bool) → valid here ≡ b
-      → (first_valid valid places ≡ Some place → (valid place ≡ true) × (reach place ≤ furthest valid reach places))
-      → (valid place ≡ true) × (reach place ≤ furthest valid reach (here ∷ places))
+      → (first_valid valid places ≡ Some place → (valid place ≡ true) × (probe place ≤ furthest valid probe places))
+      → (valid place ≡ true) × (probe place ≤ furthest valid probe (here ∷ places))
   by true e behind =
       let same : here ≡ place = (let first : Some here ≡ Some place = rw e at is in cc) in
-      (ap valid (sym same) ∙ e, omega (arith, ap reach same))
+      (ap valid (sym same) ∙ e, omega (arith, ap probe same))
   by false e behind = (let rest = behind (rw e at is) in (rest.0, rw e (omega (arith, rest.1))))
 
 -- a header that was made from bytes has this place, the length that they give, and is attached
@@ -53,7 +53,7 @@ record HasHeaderAt (image : List ℕ) (header : Header2) (place : ℕ) : Type 0 
   pub valid : is_valid image place ≡ true
   pub here : header_offset header.place header.size ≡ place
   pub size : header.size ≡ size_at image place
-  pub reached : place + header.size ≤ reach2_of image
+  pub probed : place + header.size ≤ probe2_len image
   pub attached : header.detached ≡ false
 
 -- the sequence number of the header at an offset
@@ -62,23 +62,23 @@ sequence_at image place = sequence_in (binary_at image place)
 
 module _ (image : List ℕ) (header : Header2) where
   -- a primary header is at the image's start
-  primary_stands : (finding : Option Finding) → is_valid image 0 ≡ true
+  primary_header_at : (finding : Option Finding) → is_valid image 0 ≡ true
       → header2_from Primary finding (binary_at image 0) ≡ Some header → HasHeaderAt image header 0
-  primary_stands finding valid is =
+  primary_header_at finding valid is =
       let made = made_of Primary finding (binary_at image 0) header is in
       record {
         valid = valid;
         here = ap (λ p. header_offset p header.size) made.0;
         size = made.1;
-        reached = omega (arith, made.1, reach_primary image valid);
+        probed = omega (arith, made.1, probe_primary image valid);
         attached = made.2;
       }
 
   -- a secondary header is at the offset that is its own length
-  secondary_stands : (finding : Option Finding) (place : ℕ) → is_valid image place ≡ true → (place ≡ 0 → ⊥)
-      → place + place ≤ reach2_of image
+  secondary_header_at : (finding : Option Finding) (place : ℕ) → is_valid image place ≡ true → (place ≡ 0 → ⊥)
+      → place + place ≤ probe2_len image
       → header2_from Secondary finding (binary_at image place) ≡ Some header → HasHeaderAt image header place
-  secondary_stands finding place valid some reach is =
+  secondary_header_at finding place valid some probe is =
       let made = made_of Secondary finding (binary_at image place) header is in
       let fit = fits_parts image place (valid_parts image place valid).0 in
       let own = size_is_place place (binary_at image place) fit.1 some in
@@ -86,21 +86,21 @@ module _ (image : List ℕ) (header : Header2) where
         valid = valid;
         here = ap (λ p. header_offset p header.size) made.0 ∙ made.1 ∙ own;
         size = made.1;
-        reached = omega (arith, made.1, own, reach);
+        probed = omega (arith, made.1, own, probe);
         attached = made.2;
       }
 
   -- the header of an image with a valid primary one is at an offset of the image
-  beside_stands : is_valid image 0 ≡ true → with_valid_primary image ≡ Some header
+  choice_with_primary_at : is_valid image 0 ≡ true → with_valid_primary image ≡ Some header
       → (place : ℕ) × HasHeaderAt image header place
   unfolding with_valid_primary
-  beside_stands valid is = by (is_valid image (size_at image 0)) refl where
+  choice_with_primary_at valid is = by (is_valid image (size_at image 0)) refl where
     earlier : is_valid image (size_at image 0) ≡ true
         → nat_lt (sequence_at image 0) (sequence_at image (size_at image 0)) ≡ false
         → (b : Bool) → nat_lt (sequence_at image (size_at image 0)) (sequence_at image 0) ≡ b
         → (place : ℕ) × HasHeaderAt image header place
-    earlier both not_later true e = (0, primary_stands (Some SequencesDiffer) valid (rw (both, not_later, e) at is))
-    earlier both not_later false e = (0, primary_stands None valid (rw (both, not_later, e) at is))
+    earlier both not_later true e = (0, primary_header_at (Some SequencesDiffer) valid (rw (both, not_later, e) at is))
+    earlier both not_later false e = (0, primary_header_at None valid (rw (both, not_later, e) at is))
 
     later : is_valid image (size_at image 0) ≡ true → (b : Bool)
         → nat_lt (sequence_at image 0) (sequence_at image (size_at image 0)) ≡ b
@@ -108,67 +108,67 @@ module _ (image : List ℕ) (header : Header2) where
     later both true e =
         let range = valid_range image 0 valid in (
           size_at image 0,
-          secondary_stands (Some SequencesDiffer) (size_at image 0) both
-              (λ none. absurd (omega (arith, range.1, none))) (omega (arith, reach_primary image valid))
+          secondary_header_at (Some SequencesDiffer) (size_at image 0) both
+              (λ none. absurd (omega (arith, range.1, none))) (omega (arith, probe_primary image valid))
               (rw (both, e) at is),
         )
     later both false e =
         earlier both e (nat_lt (sequence_at image (size_at image 0)) (sequence_at image 0)) refl
 
     by : (b : Bool) → is_valid image (size_at image 0) ≡ b → (place : ℕ) × HasHeaderAt image header place
-    by false e = (0, primary_stands (Some SecondaryNotValid) valid (rw e at is))
+    by false e = (0, primary_header_at (Some SecondaryNotValid) valid (rw e at is))
     by true e = later e (nat_lt (sequence_at image 0) (sequence_at image (size_at image 0))) refl
 
   -- the header that the search finds is at the offset where it was found
-  found_stands : is_valid image 0 ≡ false → (place : ℕ) → least_valid image ≡ Some place
+  search_result_at : is_valid image 0 ≡ false → (place : ℕ) → least_valid image ≡ Some place
       → found_at image place ≡ Some header → HasHeaderAt image header place
-  found_stands none place least is =
+  search_result_at none place least is =
       let one = first_is (is_valid image) (probe_end image) sizes place (sym (least_is image) ∙ least) in
       let some : place ≡ 0 → ⊥ =
       λ start. (let wrong : true ≡ false = sym one.0 ∙ ap (is_valid image) start ∙ none in cc) in
       let fit = valid_parts image place one.0 in
       let own = size_is_place place (binary_at image place) (fits_parts image place fit.0).1 some in
-      secondary_stands (Some PrimaryNotValid) place one.0 some
-      (omega (arith, one.1, reach_fit image place fit.0, own, search_reach_is image, reach_other image none)) is
+      secondary_header_at (Some PrimaryNotValid) place one.0 some
+      (omega (arith, one.1, probe_fit image place fit.0, own, search_len_is image, probe_other image none)) is
 
   -- the header that is chosen is at an offset of the image
-  chosen_stands : chosen2_of image ≡ Some header → (place : ℕ) × HasHeaderAt image header place
-  chosen_stands is = by (is_valid image 0) refl where
+  chosen_header_at : chosen2_of image ≡ Some header → (place : ℕ) × HasHeaderAt image header place
+  chosen_header_at is = by (is_valid image 0) refl where
     by : (b : Bool) → is_valid image 0 ≡ b → (place : ℕ) × HasHeaderAt image header place
-    by true e = beside_stands e (sym (chosen_primary image e) ∙ is)
+    by true e = choice_with_primary_at e (sym (chosen_primary image e) ∙ is)
     by false e =
         option_and_then_some (found_at image) (least_valid image) header (sym (chosen_other image e) ∙ is)
-        (λ place least made. (place, found_stands e place least made))
+        (λ place least made. (place, search_result_at e place least made))
 
   -- the header of an image is at an offset of it
-  stands : header2_of image ≡ Ok header → (place : ℕ) × HasHeaderAt image header place
+  located : header2_of image ≡ Ok header → (place : ℕ) × HasHeaderAt image header place
   unfolding header2_of
-  stands is = by (chosen2_of image) refl where
+  located is = by (chosen2_of image) refl where
     by : (chosen : Option Header2) → chosen2_of image ≡ chosen → (place : ℕ) × HasHeaderAt image header place
     by (Some found) e =
-        chosen_stands (e ∙ (let answer = sym (ap (λ o. ok_or o NotLuks) e) ∙ is in ap Some cc))
+        chosen_header_at (e ∙ (let answer = sym (ap (λ o. ok_or o NotLuks) e) ∙ is in ap Some cc))
     by None e = absurd (let answer = sym (ap (λ o. ok_or o NotLuks) e) ∙ is in cc)
 
 -- the length of a header is in range
 pub size_range : (image : List ℕ) (header : Header2) → header2_of image ≡ Ok header
     → (16384 ≤ header.size) × (header.size ≤ 4194304)
 size_range image header is =
-    let it = stands image header is in
+    let it = located image header is in
     let range = valid_range image it.0 it.1.valid in
     (omega (arith, range.1, it.1.size), omega (arith, range.2, it.1.size))
 
 -- a header is read as an attached one
 pub read_attached : (image : List ℕ) (header : Header2) → header2_of image ≡ Ok header → header.detached ≡ false
-read_attached image header is = (stands image header is).1.attached
+read_attached image header is = (located image header is).1.attached
 
 -- a header ends, with its JSON area, within the bytes that were read to choose it
 pub json_within : (image : List ℕ) (header : Header2) → header2_of image ≡ Ok header
     → header_offset header.place header.size + binary_len + (header.size - binary_len) ≤ header2_read_len image
 unfolding header2_read_len
 json_within image header is =
-    let it = stands image header is in
+    let it = located image header is in
     let whole = valid_parts image it.0 it.1.valid in
-    omega (arith, (size_range image header is).0, it.1.here, it.1.size, it.1.reached, whole.1)
+    omega (arith, (size_range image header is).0, it.1.here, it.1.size, it.1.probed, whole.1)
 
 -- the bytes that were read to choose a header have its JSON text
 pub json_beginning : (image : List ℕ) (header : Header2) → header2_of image ≡ Ok header

@@ -1,7 +1,7 @@
 pub mod AbsentLemmas
 pub mod AgreeLemmas
 pub mod ChoiceLemmas
-pub mod FrontLemmas
+pub mod PrefixLemmas
 pub mod JsonLemmas
 pub mod SearchLemmas
 pub mod SeekingLemmas

@@ -8,14 +8,14 @@ use Rattle.std.proofs.lemmas.List.{drop_all}
 use Rattle.std.proofs.lemmas.List.Sums.{AllPass-from_list_all}
 use Rattle.luks_area.specs.Fields.{at}
 use Rattle.luks2_binary.specs.Choice2.{binary_at, found_at, is_tried, is_valid, least_valid, size_at}
-use Rattle.luks2_binary.specs.ReadLen2.{probe_end, search_reach}
-use Rattle.luks2_binary.specs.Front2.{IsPrefixOf, valid_size}
+use Rattle.luks2_binary.specs.ReadLen2.{probe_end, search_len}
+use Rattle.luks2_binary.specs.Reading2.{IsPrefixOf, valid_size}
 use Rattle.luks2_binary.specs.Header2.{header2_from, sizes}
 use Rattle.luks2_binary.specs.declared.header.Finding.TheVariants.{PrimaryNotValid}
 use Rattle.luks2_binary.specs.declared.header.Header2.{Header2}
 use Rattle.luks2_binary.specs.declared.header.Place.TheVariants.{Secondary}
-use Rattle.luks2_binary.proofs.AgreeLemmas.{at-front}
-use Rattle.luks2_binary.proofs.FrontLemmas.{end_hit_joined}
+use Rattle.luks2_binary.proofs.AgreeLemmas.{at-prefix}
+use Rattle.luks2_binary.proofs.PrefixLemmas.{end_hit_joined}
 use Rattle.luks2_binary.proofs.ValidLemmas.{valid_range}
 use Rattle.luks2_binary.proofs.WalkLemmas.{are_one, first_valid, furthest}
 
@@ -35,7 +35,7 @@ pub searched_none : (image held : List ℕ) (ended : Bool) → Searched image he
 searched_none image held ended = record {
   place = refl;
   within = omega arith;
-  complete = λ goes. omega arith;
+  complete = λ unended. omega arith;
   behind = omega arith;
 }
 
@@ -44,9 +44,9 @@ pub least_is : (image : List ℕ) → least_valid image ≡ first_valid (is_vali
 unfolding least_valid is_tried
 least_is image = (let one = are_one (is_valid image) (probe_end image) in sym one.0)
 
-pub search_reach_is : (image : List ℕ) → search_reach image ≡ ahead image 0
-unfolding search_reach is_tried
-search_reach_is image = (let one = are_one (is_valid image) (probe_end image) in sym one.1)
+pub search_len_is : (image : List ℕ) → search_len image ≡ ahead image 0
+unfolding search_len is_tried
+search_len_is image = (let one = are_one (is_valid image) (probe_end image) in sym one.1)
 
 -- at offset number k of the list of offsets
 module _ (image old held held' : List ℕ) (ended ended' : Bool) (k : ℕ) (items : List ℕ) (are : items ≡ sizes)
@@ -61,20 +61,20 @@ module _ (image old held held' : List ℕ) (ended ended' : Bool) (k : ℕ) (item
       drop-cons sizes k 0 (omega (arith, inside, ap length are))
       ∙ ap (λ p. p ∷ drop (suc k) sizes) (sym (ap (λ l. get_or l k 0) are))
 
-  goes_on : ended' ≡ false → ended ≡ false
-  goes_on goes = went ended refl where
+  unended_before : ended' ≡ false → ended ≡ false
+  unended_before unended = went ended refl where
     went : (b : Bool) → ended ≡ b → ended ≡ false
     went true e = absurd (let wrong = stays e in cc)
     went false e = e
 
   -- the end of the bytes that are read to check the offsets from this one on
-  reached : (is_valid image place ≡ false) → ahead image k ≡ max (probe_end image place) (ahead image (suc k))
+  probed : (is_valid image place ≡ false) → ahead image k ≡ max (probe_end image place) (ahead image (suc k))
   unfolding furthest
-  reached fails = rw (here, fails) refl
+  probed fails = rw (here, fails) refl
 
-  reached_last : (is_valid image place ≡ true) → ahead image k ≡ probe_end image place
+  probed_last : (is_valid image place ≡ true) → ahead image k ≡ probe_end image place
   unfolding furthest
-  reached_last holds = rw (here, holds) (omega arith)
+  probed_last holds = rw (here, holds) (omega arith)
 
   -- no valid header is here: the search continues
   pub searched_on : is_valid image place ≡ false → (ended' ≡ false → probe_end image place ≤ length held')
@@ -82,30 +82,36 @@ module _ (image old held held' : List ℕ) (ended ended' : Bool) (k : ℕ) (item
   unfolding first_valid
   searched_on fails complete = rw add-one record {
     place = so_far.place ∙ rw (here, fails) refl;
-    within = omega (arith, reached fails, so_far.within, so_far.behind, within);
-    complete = λ goes. omega (arith, reached fails, so_far.complete (goes_on goes), complete goes, longer);
-    behind = omega (arith, reached fails, so_far.behind);
+    within = omega (arith, probed fails, so_far.within, so_far.behind, within);
+    complete = λ unended. omega (
+      arith,
+      probed fails,
+      so_far.complete (unended_before unended),
+      complete unended,
+      longer,
+    );
+    behind = omega (arith, probed fails, so_far.behind);
   }
 
   -- the bytes that are read to check this offset are among those that the search reads
-  pub reach_below : probe_end image place ≤ search_reach image
-  reach_below = by (is_valid image place) refl where
-    by : (b : Bool) → is_valid image place ≡ b → probe_end image place ≤ search_reach image
-    by true e = omega (arith, reached_last e, so_far.behind, search_reach_is image)
-    by false e = omega (arith, reached e, so_far.behind, search_reach_is image)
+  pub probe_below : probe_end image place ≤ search_len image
+  probe_below = by (is_valid image place) refl where
+    by : (b : Bool) → is_valid image place ≡ b → probe_end image place ≤ search_len image
+    by true e = omega (arith, probed_last e, so_far.behind, search_len_is image)
+    by false e = omega (arith, probed e, so_far.behind, search_len_is image)
 
   -- no more bytes are loaded than the search reads
-  pub searched_within : length held' ≤ max (length old) (search_reach image)
-  searched_within = omega (arith, reach_below, so_far.within, within, search_reach_is image)
+  pub searched_within : length held' ≤ max (length old) (search_len image)
+  searched_within = omega (arith, probe_below, so_far.within, within, search_len_is image)
 
   -- if the end was hit by now, fewer bytes are loaded than the search reads
   pub end_hit_here : (before : Bool) → IsPrefixOf held ended image → IsPrefixOf held' ended' image
-      → (before ≡ false → ended ≡ true → length held < search_reach image)
+      → (before ≡ false → ended ≡ true → length held < search_len image)
       → (ended ≡ false → ended' ≡ true → length held' < probe_end image place)
-      → before ≡ false → ended' ≡ true → length held' < search_reach image
-  end_hit_here before front front' end_hit end_hit' =
-      end_hit_joined image held held' before ended ended' (search_reach image) (probe_end image place)
-      (search_reach image) front front' end_hit end_hit' (omega arith) reach_below
+      → before ≡ false → ended' ≡ true → length held' < search_len image
+  end_hit_here before prefix prefix' end_hit end_hit' =
+      end_hit_joined image held held' before ended ended' (search_len image) (probe_end image place)
+      (search_len image) prefix prefix' end_hit end_hit' (omega arith) probe_below
 
   -- a valid header is here: the search ends
   pub searched_place : is_valid image place ≡ true → first_valid (is_valid image) sizes ≡ Some place
@@ -113,15 +119,15 @@ module _ (image old held held' : List ℕ) (ended ended' : Bool) (k : ℕ) (item
   searched_place holds = so_far.place ∙ rw (here, holds) refl
 
   pub searched_complete : is_valid image place ≡ true → (ended' ≡ false → probe_end image place ≤ length held')
-      → ended' ≡ false → search_reach image ≤ length held'
-  searched_complete holds complete goes =
+      → ended' ≡ false → search_len image ≤ length held'
+  searched_complete holds complete unended =
       omega (
         arith,
-        reached_last holds,
-        so_far.complete (goes_on goes),
-        complete goes,
+        probed_last holds,
+        so_far.complete (unended_before unended),
+        complete unended,
         longer,
-        search_reach_is image,
+        search_len_is image,
       )
 
 -- a header that has a length is valid
@@ -155,10 +161,10 @@ pub found_least : (held : List ℕ) (ended : Bool) (image bytes : List ℕ) (pla
     → header ≡ header2_from Secondary (Some PrimaryNotValid) (binary_at bytes place)
     → first_valid (is_valid image) sizes ≡ Some place
     → header ≡ option_and_then (found_at image) (least_valid image)
-found_least held ended image bytes place header front is valid made first =
+found_least held ended image bytes place header prefix is valid made first =
     let range = valid_range held place valid in
     let same : binary_at bytes place ≡ binary_at image place = ap (λ l. at place 4096 l) is
-    ∙ at-front held ended image front place 4096 range.0 in
+    ∙ at-prefix held ended image prefix place 4096 range.0 in
     made ∙ ap (header2_from Secondary (Some PrimaryNotValid)) same
     ∙ sym (ap (option_and_then (found_at image)) (least_is image ∙ first))
 

@@ -10,28 +10,29 @@ use Rattle.luks_area.specs.Area.{ConsumedOnto, HeaderAreaModel}
 use Rattle.luks_area.specs.declared.fault.HeaderFault.{HeaderFault}
 use Rattle.luks_area.specs.declared.fault.HeaderFault.TheVariants.{NotLuks, Cut, Json, Read, Memory}
 use Rattle.luks2_binary.specs.Choice2.{chosen2_of, header2_of}
-use Rattle.luks2_binary.specs.ReadLen2.{header2_read_len, reach2_of}
-use Rattle.luks2_binary.specs.Front2.{AbortsSeeking, AnsweredFrom, ConsumedReadLen, Extended, HoldsFront, IsPrefixOf}
-use Rattle.luks2_binary.specs.Front2.{FallsShort, Reaches, RemembersEnd, SeeksHeader2, StaysBelow, hits_eof, unloaded}
-use Rattle.luks2_binary.proofs.FrontLemmas.{front_self}
+use Rattle.luks2_binary.specs.ReadLen2.{header2_read_len, probe2_len}
+use Rattle.luks2_binary.specs.Reading2.{AbortsSearching, AnsweredFrom, ConsumedReadLen, Extended, LoadedPrefixOf}
+use Rattle.luks2_binary.specs.Reading2.{IsPrefixOf, FallsShort, CoversProbe, RecordsEnd, SearchesHeader2, StaysBelow}
+use Rattle.luks2_binary.specs.Reading2.{hits_eof, unloaded}
+use Rattle.luks2_binary.proofs.PrefixLemmas.{prefix_of_itself}
 use Rattle.std.proofs.lemmas.Bool.{le-ltb, lt-ltb}
 use Rattle.luks2_binary.specs.declared.header.Header2.{Header2}
-use Rattle.luks2_binary.proofs.ChoiceLemmas.{reach_some}
+use Rattle.luks2_binary.proofs.ChoiceLemmas.{probe_some}
 
-module _ (image old new : List ℕ) (ended : Bool) (front : IsPrefixOf new ended image) (few : length old ≤ 4096)
-    (within : length new ≤ max (length old) (reach2_of image)) where
+module _ (image old new : List ℕ) (ended : Bool) (prefix : IsPrefixOf new ended image) (few : length old ≤ 4096)
+    (within : length new ≤ max (length old) (probe2_len image)) where
   -- no more bytes are loaded than are read for the header
   pub below_cost : length new ≤ header2_read_len image
   unfolding header2_read_len
-  below_cost = omega (arith, reach_some image, within, front.within)
+  below_cost = omega (arith, probe_some image, within, prefix.within)
 
   -- exactly as many bytes are loaded as are read for the header if the search was finished
-  pub cost_held : (ended ≡ false → reach2_of image ≤ length new) → length new ≡ header2_read_len image
+  pub cost_held : (ended ≡ false → probe2_len image ≤ length new) → length new ≡ header2_read_len image
   unfolding header2_read_len
   cost_held complete = by ended refl where
     by : (b : Bool) → ended ≡ b → length new ≡ header2_read_len image
-    by true e = omega (arith, reach_some image, within, ap length (front.ends e))
-    by false e = omega (arith, reach_some image, within, complete e, front.within)
+    by true e = omega (arith, probe_some image, within, ap length (prefix.ends e))
+    by false e = omega (arith, probe_some image, within, complete e, prefix.within)
 
 -- the answer that the code makes of a choice is the header of the image
 pub answer_is : (image : List ℕ) (chosen : Option Header2) (answer : Result Header2 HeaderFault)
@@ -41,9 +42,9 @@ answer_is image chosen answer is choice = sym (is ∙ ap (λ o. ok_or o NotLuks)
 
 -- before anything is consumed
 pub holds_start : (old rest : List ℕ) (ended : Bool) (left : Option (List ℕ)) → ended ≡ false → left ≡ Some rest
-    → HoldsFront (old ++ rest) old ended left
-holds_start old rest ended left goes is = record {
-  front = record {
+    → LoadedPrefixOf (old ++ rest) old ended left
+holds_start old rest ended left unended is = record {
+  prefix = record {
     begins = take-append_seam old rest;
     within = omega (arith, length-append old rest);
     ends = λ wrong. absurd (cc);
@@ -52,41 +53,43 @@ holds_start old rest ended left goes is = record {
 }
 
 -- if the image's end was hit, no bytes remain in its source
-pub nothing_behind : (image held : List ℕ) (ended : Bool) (left : Option (List ℕ)) → HoldsFront image held ended left
+pub nothing_behind : (image held : List ℕ) (ended : Bool) (left : Option (List ℕ)) → LoadedPrefixOf image held ended
+    left
     → ended ≡ true → left ≡ Some []
 nothing_behind image held ended left holds is =
-    holds.behind ∙ ap Some (drop_all (length held) image (omega (arith, ap length (holds.front.ends is))))
+    holds.behind ∙ ap Some (drop_all (length held) image (omega (arith, ap length (holds.prefix.ends is))))
 
 module _ (old new rest : List ℕ) (ended : Bool) (left' : Option (List ℕ)) where
   -- the consumed bytes were appended to the loaded ones
-  pub consumed_count : HoldsFront (old ++ rest) new ended left' → length old ≤ length new
+  pub consumed_count : LoadedPrefixOf (old ++ rest) new ended left' → length old ≤ length new
       → ConsumedOnto old new rest left' (length new - length old)
   consumed_count holds longer =
       let count = length new - length old in
       let split : length new ≡ length old + count = omega arith in (
         record {
-          within = omega (arith, holds.front.within, length-append old rest);
+          within = omega (arith, holds.prefix.within, length-append old rest);
           left = holds.behind
               ∙ ap (λ n. Some (drop n (old ++ rest))) split
               ∙ ap Some (sym (drop-drop count (length old) (old ++ rest)))
               ∙ ap (λ l. Some (drop count l)) (drop-append_seam old rest);
         },
-        sym holds.front.begins ∙ ap (λ n. take n (old ++ rest)) split ∙ take-append-add old rest count,
+        sym holds.prefix.begins ∙ ap (λ n. take n (old ++ rest)) split ∙ take-append-add old rest count,
       )
 
   -- all bytes that are read for the header were consumed
-  pub consumed_read_len : HoldsFront (old ++ rest) new ended left' → length old ≤ length new
+  pub consumed_read_len : LoadedPrefixOf (old ++ rest) new ended left' → length old ≤ length new
       → length new ≡ header2_read_len (old ++ rest) → ConsumedReadLen (old ++ rest) old new rest left'
   consumed_read_len holds longer cost = (
-    sym holds.front.begins ∙ ap (λ n. take n (old ++ rest)) cost,
+    sym holds.prefix.begins ∙ ap (λ n. take n (old ++ rest)) cost,
     subst (λ n. ConsumedOnto old new rest left' (n - length old)) cost (consumed_count holds longer),
   )
 
   -- no more than that was consumed before a failure, and less than was to be read if memory ran out
   pub aborts_seeking : (fault : HeaderFault) → (fault ≡ Read) ⊎ (fault ≡ Memory)
-      → HoldsFront (old ++ rest) new ended left' → length old ≤ length new → length new ≤ header2_read_len (old ++ rest)
-      → (fault ≡ Memory → length new < reach2_of (old ++ rest))
-      → AbortsSeeking (old ++ rest) old new rest left' fault
+      → LoadedPrefixOf (old ++ rest) new ended left' → length old ≤ length new → length new ≤ header2_read_len
+      (old ++ rest)
+      → (fault ≡ Memory → length new < probe2_len (old ++ rest))
+      → AbortsSearching (old ++ rest) old new rest left' fault
   aborts_seeking Read which holds longer within stopped_below =
       (length new - length old, omega arith, consumed_count holds longer)
   aborts_seeking Memory which holds longer within stopped_below =
@@ -98,9 +101,9 @@ module _ (old new rest : List ℕ) (ended : Bool) (left' : Option (List ℕ)) wh
 -- the image has the header that was answered, or none
 pub seeks_answer : (old new rest : List ℕ) (left' : Option (List ℕ)) (chosen : Option Header2)
     (answer : Result Header2 HeaderFault) → answer ≡ ok_or chosen NotLuks → header2_of (old ++ rest) ≡ answer
-    → ConsumedReadLen (old ++ rest) old new rest left' → SeeksHeader2 (old ++ rest) old new rest left' answer
-seeks_answer old new rest left' (Some header) answer is known taken = rw is (known ∙ is, taken)
-seeks_answer old new rest left' None answer is known taken = rw is (known ∙ is, taken)
+    → ConsumedReadLen (old ++ rest) old new rest left' → SearchesHeader2 (old ++ rest) old new rest left' answer
+seeks_answer old new rest left' (Some header) answer is known consumed = rw is (known ∙ is, consumed)
+seeks_answer old new rest left' None answer is known consumed = rw is (known ∙ is, consumed)
 
 -- the loaded bytes have the header that was answered, or none
 pub answered_from : (held : List ℕ) (chosen : Option Header2) (answer : Result Header2 HeaderFault)
@@ -111,7 +114,7 @@ answered_from held None answer is known long = rw is (known ∙ is, long)
 
 -- a failure claims nothing about the header of the image
 pub fault_answered : (held : List ℕ) (fault : HeaderFault) → (fault ≡ Read) ⊎ (fault ≡ Memory)
-    → (fault ≡ Memory → StaysBelow held false reach2_of) → AnsweredFrom held (Err fault)
+    → (fault ≡ Memory → StaysBelow held false probe2_len) → AnsweredFrom held (Err fault)
 fault_answered held Read which stopped_below = tt
 fault_answered held Memory which stopped_below = stopped_below refl
 fault_answered held NotLuks which stopped_below = absurd (elim which [ inl e ↦ cc | inr e ↦ cc ])
@@ -121,13 +124,13 @@ fault_answered held Json which stopped_below = absurd (elim which [ inl e ↦ cc
 -- the bytes behind the loaded ones, whether or not the image's end was hit before
 pub holds_unloaded : (old new rest : List ℕ) (ended ended' : Bool) (left left' : Option (List ℕ)) (failed' : Bool)
     (counts counts' : ReadCounts) → Extended old new ended ended' left left' failed' counts counts'
-    → unloaded ended left ≡ Some rest → HoldsFront (old ++ rest) new ended' (unloaded ended left')
+    → unloaded ended left ≡ Some rest → LoadedPrefixOf (old ++ rest) new ended' (unloaded ended left')
 holds_unloaded old new rest false ended' left left' failed' counts counts' grew is =
     grew.holds (old ++ rest) (holds_start old rest false left refl is)
 holds_unloaded old new rest true ended' left left' failed' counts counts' grew is =
     let nothing : rest ≡ [] = cc in
     rw (nothing, (grew.rests refl).0, append-nil old) (record {
-      front = record {
+      prefix = record {
         begins = take_all (length old) old (omega arith);
         within = omega arith;
         ends = λ _. refl;
@@ -137,12 +140,12 @@ holds_unloaded old new rest true ended' left left' failed' counts counts' grew i
 
 -- the image's end was hit exactly if fewer bytes are loaded than are to be read
 pub hits_end : (new : List ℕ) (ended ended' : Bool) (chosen : Option Header2) (answer : Result Header2 HeaderFault)
-    → answer ≡ ok_or chosen NotLuks → FallsShort new ended ended' reach2_of → Reaches new ended' reach2_of
+    → answer ≡ ok_or chosen NotLuks → FallsShort new ended ended' probe2_len → CoversProbe new ended' probe2_len
     → ended ≡ false → ended' ≡ hits_eof answer new
-hits_end new ended ended' chosen answer is end_hit complete goes = by_answer chosen is where
-  by_end : (b : Bool) → ended' ≡ b → b ≡ nat_lt (length new) (reach2_of new)
-  by_end true e = sym (lt-ltb (length new) (reach2_of new) (end_hit new (front_self new ended') goes e))
-  by_end false e = sym (le-ltb (length new) (reach2_of new) (complete new (front_self new ended') e))
+hits_end new ended ended' chosen answer is end_hit complete unended = by_answer chosen is where
+  by_end : (b : Bool) → ended' ≡ b → b ≡ nat_lt (length new) (probe2_len new)
+  by_end true e = sym (lt-ltb (length new) (probe2_len new) (end_hit new (prefix_of_itself new ended') unended e))
+  by_end false e = sym (le-ltb (length new) (probe2_len new) (complete new (prefix_of_itself new ended') e))
 
   by_answer : (o : Option Header2) → answer ≡ ok_or o NotLuks → ended' ≡ hits_eof answer new
   by_answer (Some header) e = rw e (by_end ended' refl)
@@ -152,12 +155,13 @@ hits_end new ended ended' chosen answer is end_hit complete goes = by_answer cho
 pub remembers_end : (hit : Bool) (area area' : HeaderAreaModel) (left left' : Option (List ℕ)) (failed' : Bool)
     (counts counts' : ReadCounts)
     → Extended area.bytes area'.bytes area.ended area'.ended left left' failed' counts counts'
-    → (area.ended ≡ false → area'.ended ≡ hit) → RemembersEnd hit area area' left left'
+    → (area.ended ≡ false → area'.ended ≡ hit) → RecordsEnd hit area area' left left'
 remembers_end hit area area' left left' failed' counts counts' grew is = (
-  λ goes. (
-    is goes,
+  λ unended. (
+    is unended,
     λ found rest knows. nothing_behind (area.bytes ++ rest) area'.bytes area'.ended left'
-        (grew.holds (area.bytes ++ rest) (holds_start area.bytes rest area.ended left goes knows)) (is goes ∙ found),
+        (grew.holds (area.bytes ++ rest) (holds_start area.bytes rest area.ended left unended knows))
+        (is unended ∙ found),
   ),
   λ ended. (same ended, (grew.rests ended).1),
 ) where

@@ -12,10 +12,10 @@ first_valid valid (place ∷ places) = if valid place then Some place else first
 
 -- the end of the bytes that are read to check these offsets, up to the first with a valid header
 unfoldable pub furthest : (ℕ → Bool) → (ℕ → ℕ) → List ℕ → ℕ
-furthest valid reach [] = 0
-furthest valid reach (place ∷ places) = max (reach place) (if valid place then 0 else furthest valid reach places)
+furthest valid probe [] = 0
+furthest valid probe (place ∷ places) = max (probe place) (if valid place then 0 else furthest valid probe places)
 
-module _ (valid : ℕ → Bool) (reach : ℕ → ℕ) where
+module _ (valid : ℕ → Bool) (probe : ℕ → ℕ) where
   -- no lower one of the nine offsets has a valid header
   abbrev pub tried : ℕ → Bool
   tried place = not (list_any (λ other. nat_lt other place && valid other) sizes)
@@ -23,7 +23,7 @@ module _ (valid : ℕ → Bool) (reach : ℕ → ℕ) where
   -- the walk gives what the definitions state
   abbrev pub AreOne : Type 0
   AreOne = (first_valid valid sizes ≡ find (λ place. tried place && valid place) sizes)
-      × (furthest valid reach sizes ≡ greatest (map reach (filter tried sizes)))
+      × (furthest valid probe sizes ≡ greatest (map probe (filter tried sizes)))
 
   -- none of the nine offsets is valid
   none-nine : valid 16384 ≡ false → valid 32768 ≡ false → valid 65536 ≡ false → valid 131072 ≡ false

@@ -14,16 +14,16 @@ greatest [] = 0
 greatest (number ∷ numbers) = max number (greatest numbers)
 
 -- the end of the bytes that are read to check the offsets that the search tries
-unfoldable pub search_reach : List ℕ → ℕ
-search_reach image = greatest (map (probe_end image) (filter (is_tried image) sizes))
+unfoldable pub search_len : List ℕ → ℕ
+search_len image = greatest (map (probe_end image) (filter (is_tried image) sizes))
 
 -- the end of the bytes that are read of an image that is long enough: both headers if the primary one is valid, and
 -- otherwise the image's start and each offset that the search tries
-unfoldable pub reach2_of : List ℕ → ℕ
-reach2_of image =
+unfoldable pub probe2_len : List ℕ → ℕ
+probe2_len image =
     if is_valid image 0 then 2 * size_at image 0
-    else max (probe_end image 0) (search_reach image)
+    else max (probe_end image 0) (search_len image)
 
 -- the number of bytes of the image that are read
 unfoldable pub header2_read_len : List ℕ → ℕ
-header2_read_len image = min (reach2_of image) (length image)
+header2_read_len image = min (probe2_len image) (length image)

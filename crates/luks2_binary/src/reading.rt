@@ -7,10 +7,10 @@ ghost use Rattle.luks_io.specs.Devices.{IfKnown};
 ghost use Rattle.luks_io.specs.Counts.{Reads};
 ghost use Rattle.luks_area.specs.Area.{is_read, max_area_len};
 ghost use Rattle.luks2_binary.specs.Choice2.{chosen2_of, found_at, least_valid};
-ghost use Rattle.luks2_binary.specs.ReadLen2.{reach2_of, probe_end, search_reach};
-ghost use Rattle.luks2_binary.specs.Front2.{AnsweredFrom, Extended, LoadedFor, OfEach};
-ghost use Rattle.luks2_binary.specs.Front2.{RemembersEnd, SeeksHeader2, hits_eof};
-ghost use Rattle.luks2_binary.specs.Front2.{unloaded, valid_size};
+ghost use Rattle.luks2_binary.specs.ReadLen2.{probe2_len, probe_end, search_len};
+ghost use Rattle.luks2_binary.specs.Reading2.{AnsweredFrom, Extended, LoadedFor, OfEach};
+ghost use Rattle.luks2_binary.specs.Reading2.{RecordsEnd, SearchesHeader2, hits_eof};
+ghost use Rattle.luks2_binary.specs.Reading2.{unloaded, valid_size};
 
 use crate::choice::{valid_header, with_valid_primary};
 use crate::header::{BINARY_LEN, Finding, Header2, Place};
@@ -77,7 +77,7 @@ fn header_at<S: Source>(
 fn search<S: Source>(area: &mut HeaderArea, source: &mut S) -> Result<Option<Header2>, HeaderFault>
     ensures found { IfOk result (λ header. OfEach area.new.bytes area.new.ended
         (λ image. header ≡ option_and_then (found_at image) (least_valid image))) }
-    ensures loads { LoadedFor search_reach result area.old.bytes area.new.bytes
+    ensures loads { LoadedFor search_len result area.old.bytes area.new.bytes
         area.old.ended area.new.ended }
     ensures grew { Extended area.old.bytes area.new.bytes area.old.ended area.new.ended
         (S.to_come source.old) (S.to_come source.new) (is_read result)
@@ -98,7 +98,7 @@ fn search<S: Source>(area: &mut HeaderArea, source: &mut S) -> Result<Option<Hea
 fn choose<S: Source>(area: &mut HeaderArea, source: &mut S) -> Result<Option<Header2>, HeaderFault>
     ensures chosen { IfOk result (λ header. OfEach area.new.bytes area.new.ended
         (λ image. header ≡ chosen2_of image)) }
-    ensures loads { LoadedFor reach2_of result area.old.bytes area.new.bytes
+    ensures loads { LoadedFor probe2_len result area.old.bytes area.new.bytes
         area.old.ended area.new.ended }
     ensures grew { Extended area.old.bytes area.new.bytes area.old.ended area.new.ended
         (S.to_come source.old) (S.to_come source.new) (is_read result)
@@ -129,7 +129,7 @@ pub fn read_header2<S: Source>(
 ) -> Result<Header2, HeaderFault>
     requires few { length area.old.bytes ≤ 4096 }
     ensures seeks { IfKnown (unloaded area.old.ended (S.to_come source.old)) (λ rest.
-        SeeksHeader2 (area.old.bytes ++ rest) area.old.bytes area.new.bytes rest
+        SearchesHeader2 (area.old.bytes ++ rest) area.old.bytes area.new.bytes rest
         (unloaded area.old.ended (S.to_come source.new)) result) }
 
     // Whether or not the source knows its bytes:
@@ -138,7 +138,7 @@ pub fn read_header2<S: Source>(
     ensures reads { Reads (is_read result)
         (not area.old.ended && hits_eof result area.new.bytes)
         (S.counts source.old) (S.counts source.new) }
-    ensures ended { RemembersEnd (hits_eof result area.new.bytes) area.old area.new
+    ensures ended { RecordsEnd (hits_eof result area.new.bytes) area.old area.new
         (S.to_come source.old) (S.to_come source.new) }
 {
     let header = choose(area, source)?;

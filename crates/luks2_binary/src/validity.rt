@@ -92,7 +92,7 @@ fn no_checksum() -> &'static [u8]
 #[tactic(auto, unfolding(crate::specs::Checksum2::without_checksum))]
 fn agrees(hash: Hash, header: &[u8], sum: &mut [u8]) -> bool
     requires whole { 4096 ≤ length header.now }
-    requires room { length sum.old ≡ digest_len hash }
+    requires capacity { length sum.old ≡ digest_len hash }
     ensures { result ≡ bytes_eq (hash_of hash (without_checksum header.now))
         (at 448 (digest_len hash) header.now) }
 {

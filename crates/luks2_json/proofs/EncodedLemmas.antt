@@ -66,13 +66,13 @@ group_is text = sym (of_one _ _ _ ∙ ap (λ b. is_symbol (slice_index text 0) &
     ∙ ap (λ b. is_symbol (slice_index text 2) && b) (of_last _ _))))
 
 -- a text that starts with a group encodes three bytes more than the rest of it
-len_known : (front : List ℕ) (rest : Option (List ℕ)) → length front ≡ 3 → (before : ℕ)
+len_known : (prefix : List ℕ) (rest : Option (List ℕ)) → length prefix ≡ 3 → (before : ℕ)
     → option_map (λ (n : ℕ). before + 3 + n) (option_map (λ (bytes : List ℕ). length bytes) rest)
-    ≡ option_map (λ (n : ℕ). before + n) (option_map (λ (bytes : List ℕ). length bytes) (prepend_known front rest))
-len_known front None three before = refl
-len_known front (Some bytes) three before =
-    let same : before + 3 + length bytes ≡ before + length (front ++ bytes) =
-    omega (arith, length-append front bytes) in
+    ≡ option_map (λ (n : ℕ). before + n) (option_map (λ (bytes : List ℕ). length bytes) (prepend_known prefix rest))
+len_known prefix None three before = refl
+len_known prefix (Some bytes) three before =
+    let same : before + 3 + length bytes ≡ before + length (prefix ++ bytes) =
+    omega (arith, length-append prefix bytes) in
     ap (λ (n : ℕ). Some n) same
 
 len_past : (text : List ℕ) (before : ℕ) → 4 < length text → begins_with_group text ≡ true

@@ -25,11 +25,11 @@ unfolding is_number_below
 number_next n name is none here = rw (add-one, none, here) refl
 
 -- a name that is a number below n is one below any higher number
-of_place : (n m : ℕ) (name : List ℕ) → (n ≤ m → is_number_below m name ≡ true) → is_number_below n name ≡ true
+number_below_cases : (n m : ℕ) (name : List ℕ) → (n ≤ m → is_number_below m name ≡ true) → is_number_below n name ≡ true
     → (n < suc m) ⊎ (suc m ≤ n) → n ≤ suc m → is_number_below (suc m) name ≡ true
 unfolding is_number_below
-of_place n m name before is (inl below) few = rw (before (omega arith)) refl
-of_place n m name before is (inr at) few =
+number_below_cases n m name before is (inl below) few = rw (before (omega arith)) refl
+number_below_cases n m name before is (inr at) few =
     let same : n ≡ suc m = omega arith in
     subst (λ k. is_number_below k name ≡ true) same is
 
@@ -38,7 +38,7 @@ number_stays n zero name few is =
     let same : n ≡ 0 = omega arith in
     subst (λ k. is_number_below k name ≡ true) same is
 number_stays n (suc m) name few is =
-    of_place n m name (λ below. number_stays n m name below is) is (cases_lt n (suc m)) few
+    number_below_cases n m name (λ below. number_stays n m name below is) is (cases_lt n (suc m)) few
 
 -- the keys of a map are the names of the object's members
 pub list_any-names : (test : List ℕ → Bool) (entries : List (String Global × Value))
@@ -50,7 +50,7 @@ list_any-names test (entry ∷ rest) = ap (λ others. test (string_bytes entry.0
 -- the iterator over the keys of a map yields each of them in order
 pub keys_given : {K : Type 0} (keys : List K) → YieldsList (TakesFirst (deref {X = K})) (deref {X = K}) keys keys
 keys_given {K} keys = YieldsList-from_shown (TakesFirst (deref {X = K})) (deref {X = K}) (λ rest. rest)
-    (λ s t ended. ap (λ (l : List K). length l) ended.0) (λ s x t taken. taken) keys
+    (λ s t ended. ap (λ (l : List K). length l) ended.0) (λ s x t consumed. consumed) keys
 
 -- ---- the lowest number with a result
 

@@ -5,12 +5,13 @@ use Rattle.std.specs.Str.{is_utf8}
 use Rattle.std.proofs.lemmas.Str.{IsUtf8-from_is_utf8, is_utf8-from_IsUtf8}
 use Rattle.luks_area.specs.declared.fault.HeaderFault.{HeaderFault}
 use Rattle.luks_area.specs.declared.fault.HeaderFault.TheVariants.{Json}
-use Rattle.luks2_json.specs.Tree.{has_objects, tree_of, value_of, where_header}
+use Rattle.luks2_json.specs.Tree.{has_objects, tree_of, value_of, tree_if_complete}
 use Rattle.serde_json.specs.Data.{Data}
 use Rattle.serde_json.specs.Read.{read}
 
 -- the tree of a text that can be read is its value, if that has the objects
-tree_of-read : (text : List ℕ) (tree : Data) → IsUtf8 text → read text ≡ Some tree → tree_of text ≡ where_header tree
+tree_of-read : (text : List ℕ) (tree : Data) → IsUtf8 text → read text ≡ Some tree → tree_of text ≡ tree_if_complete
+    tree
 unfolding tree_of value_of
 tree_of-read text tree utf8 is = rw (is_utf8-from_IsUtf8 text utf8, is) refl
 

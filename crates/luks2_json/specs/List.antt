@@ -20,26 +20,26 @@ abbrev pub is_text : Data → Bool
 is_text value = is_some (as_str value)
 
 -- the value is this string
-abbrev pub is_the_text : List ℕ → Data → Bool
-is_the_text text value = unwrap_or (option_map (bytes_eq text) (as_str value)) false
+abbrev pub is_the_string : List ℕ → Data → Bool
+is_the_string text value = unwrap_or (option_map (bytes_eq text) (as_str value)) false
 
 -- the strings among the items, in their order
-abbrev pub texts_among : Items → List (List ℕ)
-texts_among no_items = []
-texts_among (item value rest) = cons_option (as_str value) (texts_among rest)
+abbrev pub strings_among : Items → List (List ℕ)
+strings_among no_items = []
+strings_among (item value rest) = cons_option (as_str value) (strings_among rest)
 
 -- the items of the array under this name
 abbrev pub list_at : List ℕ → Data → Option Items
 list_at name owner = option_and_then as_array (get name owner)
 
 -- there is an array under this name, and all its items are strings
-unfoldable pub has_texts : List ℕ → Data → Bool
-has_texts name owner = unwrap_or (option_map (all_items is_text) (list_at name owner)) false
+unfoldable pub has_strings : List ℕ → Data → Bool
+has_strings name owner = unwrap_or (option_map (all_items is_text) (list_at name owner)) false
 
 -- there is an array under this name, and it contains the string
 unfoldable pub array_contains : List ℕ → List ℕ → Data → Bool
-array_contains name text owner = unwrap_or (option_map (any_item (is_the_text text)) (list_at name owner)) false
+array_contains name text owner = unwrap_or (option_map (any_item (is_the_string text)) (list_at name owner)) false
 
 -- the strings in the array under this name
-unfoldable pub texts_at : List ℕ → Data → List (List ℕ)
-texts_at name owner = unwrap_or (option_map texts_among (list_at name owner)) []
+unfoldable pub strings_at : List ℕ → Data → List (List ℕ)
+strings_at name owner = unwrap_or (option_map strings_among (list_at name owner)) []

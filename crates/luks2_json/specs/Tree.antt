@@ -20,9 +20,9 @@ has_objects tree = is_object_at (codes "keyslots") tree
     && is_object_at (codes "digests") tree
 
 -- the value, if it has the objects
-abbrev pub where_header : Data → Option Data
-where_header tree = if has_objects tree then Some tree else None
+abbrev pub tree_if_complete : Data → Option Data
+tree_if_complete tree = if has_objects tree then Some tree else None
 
 -- the tree of the text of a JSON area, if it can be read
 unfoldable pub tree_of : List ℕ → Option Data
-tree_of text = option_and_then where_header (value_of text)
+tree_of text = option_and_then tree_if_complete (value_of text)

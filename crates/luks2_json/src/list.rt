@@ -2,8 +2,8 @@
 
 ghost use Rattle.std.specs.Prelude.{◌≡◌, ◌++◌, [], IfOk, OnOk, List, ℕ, map, string_bytes};
 ghost use Rattle.std.specs.List.{cons_option};
-ghost use Rattle.luks2_json.specs.List.{all_items, any_item, has_texts, is_text, is_the_text};
-ghost use Rattle.luks2_json.specs.List.{array_contains, texts_among, texts_at};
+ghost use Rattle.luks2_json.specs.List.{all_items, any_item, has_strings, is_text, is_the_string};
+ghost use Rattle.luks2_json.specs.List.{array_contains, strings_among, strings_at};
 ghost use Rattle.serde_json.specs.Find.{as_str};
 ghost use Rattle.serde_json.specs.View.{items_view, view as data_of};
 
@@ -12,8 +12,8 @@ use std::alloc::{AllocError, Global};
 use std::marker::Model;
 
 // The value is this string.
-fn is_the_text(value: &Value, text: &str) -> bool
-    ensures { result ≡ is_the_text text.now (data_of value.now) }
+fn is_the_string(value: &Value, text: &str) -> bool
+    ensures { result ≡ is_the_string text.now (data_of value.now) }
 {
     match value.as_str() {
         Some(found) => text == found,
@@ -30,15 +30,15 @@ fn all_texts(values: &[Value]) -> bool
 
 // Some item of the array is this string.
 fn any_text(values: &[Value], text: &str) -> bool
-    ensures { result ≡ any_item (is_the_text text.now) (items_view values.now) }
+    ensures { result ≡ any_item (is_the_string text.now) (items_view values.now) }
 {
-    values.iter().any(|value| is_the_text(value, text))
+    values.iter().any(|value| is_the_string(value, text))
 }
 
 /// There is an array under this name, and all its items are strings.
-#[tactic(auto, unfolding(crate::specs::List::has_texts))]
-pub fn has_texts(object: &Value, name: &str) -> bool
-    ensures { result ≡ has_texts name.now (data_of object.now) }
+#[tactic(auto, unfolding(crate::specs::List::has_strings))]
+pub fn has_strings(object: &Value, name: &str) -> bool
+    ensures { result ≡ has_strings name.now (data_of object.now) }
 {
     let Some(list) = object.get(name) else {
         return false;
@@ -96,8 +96,8 @@ fn push_text(alloc: Global, names: &mut Vec<String>, value: &Value) -> Result<()
 }
 
 // The strings among the items of the array.
-fn texts_among(alloc: Global, values: &[Value]) -> Result<Names, AllocError>
-    ensures { IfOk result (λ names. names ≡ texts_among (items_view values.now)) }
+fn strings_among(alloc: Global, values: &[Value]) -> Result<Names, AllocError>
+    ensures { IfOk result (λ names. names ≡ strings_among (items_view values.now)) }
 {
     let mut names = Vec::new(alloc);
     for value in values {
@@ -107,15 +107,15 @@ fn texts_among(alloc: Global, values: &[Value]) -> Result<Names, AllocError>
 }
 
 /// The strings in the array under this name.
-#[tactic(auto, unfolding(crate::specs::List::texts_at))]
-pub fn texts_at(alloc: Global, object: &Value, name: &str) -> Result<Names, AllocError>
-    ensures { IfOk result (λ names. names ≡ texts_at name.now (data_of object.now)) }
+#[tactic(auto, unfolding(crate::specs::List::strings_at))]
+pub fn strings_at(alloc: Global, object: &Value, name: &str) -> Result<Names, AllocError>
+    ensures { IfOk result (λ names. names ≡ strings_at name.now (data_of object.now)) }
 {
     let Some(list) = object.get(name) else {
-        return texts_among(alloc, &[]);
+        return strings_among(alloc, &[]);
     };
     match list.as_array() {
-        Some(values) => texts_among(alloc, values.as_slice()),
-        None => texts_among(alloc, &[]),
+        Some(values) => strings_among(alloc, values.as_slice()),
+        None => strings_among(alloc, &[]),
     }
 }

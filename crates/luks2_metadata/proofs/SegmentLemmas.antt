@@ -8,9 +8,10 @@ use Rattle.std.specs.Ordering.{match_ordering}
 use Rattle.std.specs.Result.{result_ok}
 use Rattle.std.proofs.lemmas.Map.Text.{is_eq-slice_cmp}
 use Rattle.std.proofs.lemmas.Bool.{ne_eqb}
-use Rattle.luks2_metadata.specs.Segment2.{are_none, fault2_of, has_requirement, is_empty_list, made2, offset_of}
+use Rattle.luks2_metadata.specs.Segment2.{are_none, fault2_of, has_requirement, is_empty_array, made2, offset_of}
 use Rattle.luks2_metadata.specs.Segment2.{only_member, payload2_of, payload_mode2_of, segment2_of, segment_faults}
-use Rattle.luks2_metadata.specs.Segment2.{segment_parts2_of, segment_said, overlaps_headers2, starts_wrong, the_segment}
+use Rattle.luks2_metadata.specs.Segment2.{segment_parts2_of, segment_value, overlaps_headers2, starts_wrong}
+use Rattle.luks2_metadata.specs.Segment2.{the_segment}
 use Rattle.luks2_metadata.specs.declared.bounds.Bounds.{Bounds}
 use Rattle.luks_cipher.specs.declared.mode.Mode.{Mode}
 use Rattle.luks_verdict.proofs.MadeLemmas.{refused_or-fault, refused_or-none, refused_or-ok}
@@ -38,7 +39,7 @@ none_viewed [] = refl
 none_viewed (value ∷ rest) = ne_eqb (length (value ∷ rest)) 0 (λ e. omega (arith, e))
 
 pub empty_viewed : (value : Data) (values : List Value) (len : ℕ) → Some (items_view values) ≡ as_array value
-    → len ≡ length values → (len == 0) ≡ is_empty_list value
+    → len ≡ length values → (len == 0) ≡ is_empty_array value
 empty_viewed value values len is same = rw (← is, same) (none_viewed values)
 
 -- ---- the only member
@@ -111,18 +112,18 @@ pub segment2-fault : (tree : Data) (bounds : Bounds) (fault : SegmentFault) → 
     → segment2_of tree bounds ≡ Err fault
 unfolding segment2_of
 segment2-fault tree bounds fault is =
-    refused_or-fault (fault2_of tree bounds) (segment_from (segment_parts2_of (segment_said tree)))
+    refused_or-fault (fault2_of tree bounds) (segment_from (segment_parts2_of (segment_value tree)))
     (made2 tree bounds) fault is
 
 pub segment2-none : (tree : Data) (bounds : Bounds) (segment : Segment) → fault2_of tree bounds ≡ None
-    → segment_from (segment_parts2_of (segment_said tree)) ≡ Some segment → segment2_of tree bounds ≡ Ok segment
+    → segment_from (segment_parts2_of (segment_value tree)) ≡ Some segment → segment2_of tree bounds ≡ Ok segment
 unfolding segment2_of
 segment2-none tree bounds segment none made =
-    refused_or-none (fault2_of tree bounds) (segment_from (segment_parts2_of (segment_said tree)))
+    refused_or-none (fault2_of tree bounds) (segment_from (segment_parts2_of (segment_value tree)))
     (made2 tree bounds) segment none made
 
--- if there is a segment, `segment_said` is its value
-pub said-there : (tree segment : Data) → the_segment tree ≡ Some segment → segment_said tree ≡ segment
+-- if there is a segment, `segment_value` is its value
+pub said-there : (tree segment : Data) → the_segment tree ≡ Some segment → segment_value tree ≡ segment
 said-there tree segment there = rw there refl
 
 -- ---- a segment that is not refused
@@ -165,20 +166,20 @@ payload_starts tree bounds segment is attached =
 pub record IsSegment2 (tree : Data) (bounds : Bounds) (segment : Segment) : Type 0 where
   pub start : bounds.detached ≡ false → payload2_of tree bounds ≡ Some segment.offset
   pub mode : payload_mode2_of tree bounds ≡ Some segment.mode
-  pub behind_header : bounds.detached ≡ false → bounds.end ≤ segment.offset
+  pub after_header : bounds.detached ≡ false → bounds.end ≤ segment.offset
 
 pub segment2-ok : (tree : Data) (bounds : Bounds) (segment : Segment) → segment2_of tree bounds ≡ Ok segment
     → IsSegment2 tree bounds segment
 unfolding segment2_of payload2_of payload_mode2_of fault2_of segment_from segment_parts2_of
 segment2-ok tree bounds segment is =
-    let made = refused_or-ok (fault2_of tree bounds) (segment_from (segment_parts2_of (segment_said tree)))
+    let made = refused_or-ok (fault2_of tree bounds) (segment_from (segment_parts2_of (segment_value tree)))
     (made2 tree bounds) segment is in
     let all = none_holds ((has_requirement tree, Requirement) ∷ (is_none (the_segment tree), Segments)
-    ∷ segment_faults bounds (segment_said tree)) made.0 in
-    let offset : offset_of (segment_said tree) ≡ Some segment.offset = offset_made _ _ _ _ _ segment made.1 in
-    let wrong : starts_wrong bounds (offset_of (segment_said tree)) ≡ false = all.1.1.1.1.1.1.1.0 in
+    ∷ segment_faults bounds (segment_value tree)) made.0 in
+    let offset : offset_of (segment_value tree) ≡ Some segment.offset = offset_made _ _ _ _ _ segment made.1 in
+    let wrong : starts_wrong bounds (offset_of (segment_value tree)) ≡ false = all.1.1.1.1.1.1.1.0 in
     record {
       start = payload_starts tree bounds segment is;
       mode = rw is refl;
-      behind_header = starts_right bounds segment.offset (subst (λ o. starts_wrong bounds o ≡ false) offset wrong);
+      after_header = starts_right bounds segment.offset (subst (λ o. starts_wrong bounds o ≡ false) offset wrong);
     }

@@ -103,16 +103,17 @@ range_of tree bounds limit number slot none =
     grind (arith, nat_tests)
 
 -- a reason that does not hold with a limit does not hold without one
-beyond_none : (limit : Option ℕ) (iterations : ℕ) → iterations_out_of_range limit iterations ≡ false
+iterations_in_range_without_limit : (limit : Option ℕ) (iterations : ℕ) → iterations_out_of_range limit iterations ≡
+    false
     → iterations_out_of_range None iterations ≡ false
 unfolding iterations_out_of_range
-beyond_none limit iterations is = grind (arith, nat_tests)
+iterations_in_range_without_limit limit iterations is = grind (arith, nat_tests)
 
-undigested_none : (limit : Option ℕ) (digest : Option KeyDigest) → has_no_usable_digest limit digest ≡ false
+usable_digest_without_limit : (limit : Option ℕ) (digest : Option KeyDigest) → has_no_usable_digest limit digest ≡ false
     → has_no_usable_digest None digest ≡ false
 unfolding has_no_usable_digest
-undigested_none limit None is = is
-undigested_none limit (Some digest) is = beyond_none limit digest.iterations is
+usable_digest_without_limit limit None is = is
+usable_digest_without_limit limit (Some digest) is = iterations_in_range_without_limit limit digest.iterations is
 
 pub no_reason_none : (tree : Data) (bounds : Bounds) (limit : Option ℕ) (number : ℕ) (slot : Data)
     → NoReason tree bounds limit number slot → reason2_of tree bounds None number slot ≡ None
@@ -128,9 +129,9 @@ no_reason_none tree bounds limit number slot none =
       none.encryption,
       none.key_size,
       none.stripes,
-      beyond_none limit (iterations_of_slot slot) none.iterations,
+      iterations_in_range_without_limit limit (iterations_of_slot slot) none.iterations,
       none.area,
-      undigested_none limit (digest2_for tree number) none.digest,
+      usable_digest_without_limit limit (digest2_for tree number) none.digest,
     ) refl
 
 -- if there is no reason to skip a slot, there is what is needed to open it
@@ -189,7 +190,7 @@ pub record IsOf2 (tree : Data) (bounds : Bounds) (number : ℕ) (usable : Slot) 
   pub area : (mode : Mode) × (usable.parts.area_mode ≡ Some mode)
       × (is_mode_key_length mode usable.parts.area_key_bytes ≡ true)
   pub volume_key : is_length_for (payload_mode2_of tree bounds) usable.parts.key_bytes ≡ true
-  pub behind_header : bounds.end ≤ usable.parts.area_offset
+  pub after_header : bounds.end ≤ usable.parts.area_offset
   pub before_payload : exceeds (payload2_of tree bounds) (material_end usable) ≡ false
   pub digest : (digest : KeyDigest) × (digest2_for tree number ≡ Some digest)
 
@@ -210,16 +211,16 @@ unfolding is_length_for
 known_area None bytes none is = absurd cc
 known_area (Some mode) bytes none is = (mode, refl, is)
 
-placed : (start : ℕ) (payload : Option ℕ) (offset size need : ℕ)
+area_in_range_bounds : (start : ℕ) (payload : Option ℕ) (offset size need : ℕ)
     → area_out_of_range start payload offset size need ≡ false
     → (start ≤ offset) × (exceeds payload (offset + need) ≡ false)
 unfolding area_out_of_range
-placed start payload offset size need is =
+area_in_range_bounds start payload offset size need is =
     let past = neither (nat_lt offset start || nat_lt size need || exceeds payload (offset + need))
     (nat_lt max_area_len (offset + need)) is in
     let before = neither (nat_lt offset start || nat_lt size need) (exceeds payload (offset + need)) past.0 in
-    let room = neither (nat_lt offset start) (nat_lt size need) before.0 in
-    (ltb-false offset start room.0, before.1)
+    let capacity = neither (nat_lt offset start) (nat_lt size need) before.0 in
+    (ltb-false offset start capacity.0, before.1)
 
 -- if the verdict is that a slot is usable, there is no reason to skip it, and the verdict has what is needed to open it
 of_verdict : (reason : Option SkipReason) (made : Option Slot) (usable : Slot) → verdict_by reason made ≡ Usable usable
@@ -239,14 +240,14 @@ usable_is tree bounds limit number slot usable is =
     let same : usable ≡ slot_of (slot_parts2_of slot) there.0 = same_Some _ _ (sym verdict.1 ∙ there.1) in
     let hashes = known_hashes slot no.hash in
     let sizes = both _ _ (true_from_not _ no.key_size) in
-    let place = placed bounds.end (payload2_of tree bounds) (area_offset_of slot) (area_size_of slot)
+    let place = area_in_range_bounds bounds.end (payload2_of tree bounds) (area_offset_of slot) (area_size_of slot)
     (need_of (key_size_of slot) (stripes_member slot)) no.area in
     let known : IsOf2 tree bounds number (slot_of (slot_parts2_of slot) there.0) = record {
       kdf = hashes.0;
       af = hashes.1;
       area = known_area (area_mode_of slot) (area_key_size_of slot) no.encryption sizes.0;
       volume_key = sizes.1;
-      behind_header = place.0;
+      after_header = place.0;
       before_payload = place.1;
       digest = digest_there limit (digest2_for tree number) no.digest;
     } in

@@ -7,7 +7,7 @@ use Rattle.luks_verdict.specs.Table.{ascending}
 use Rattle.luks_verdict.specs.declared.digest.DigestParts.{DigestParts}
 use Rattle.luks_verdict.specs.declared.digest.KeyDigest.{KeyDigest}
 use Rattle.luks2_json.specs.Derivation.{hash_member, iterations_in, salt_in}
-use Rattle.luks2_json.specs.List.{has_texts, array_contains, texts_at}
+use Rattle.luks2_json.specs.List.{has_strings, array_contains, strings_at}
 use Rattle.luks2_json.specs.Member.{base64_member, is_type, integer_member}
 use Rattle.luks2_json.specs.Numbered.{lowest, object_numbered}
 use Rattle.luks2_metadata.specs.declared.digest.Digest.{Digest}
@@ -21,8 +21,8 @@ value_in digest = unwrap_or (base64_member (codes "digest") digest) []
 unfoldable pub is_digest2 : Data → Bool
 is_digest2 digest =
     is_type (codes "pbkdf2") digest
-    && has_texts (codes "keyslots") digest
-    && has_texts (codes "segments") digest
+    && has_strings (codes "keyslots") digest
+    && has_strings (codes "segments") digest
     && is_some (hash_member digest)
     && is_some (integer_member (codes "iterations") digest)
     && is_some (base64_member (codes "salt") digest)
@@ -67,8 +67,8 @@ unfoldable pub listed_of : Data → Option Digest
 listed_of digest =
     option_map (λ key. record {
       key = key;
-      keyslots = texts_at (codes "keyslots") digest;
-      segments = texts_at (codes "segments") digest;
+      keyslots = strings_at (codes "keyslots") digest;
+      segments = strings_at (codes "segments") digest;
     }) (digest2_of digest)
 
 -- digest number n, paired with its number, if there is one

@@ -31,17 +31,17 @@ abbrev pub are_none : Items → Bool
 are_none no_items = true
 are_none (item value rest) = false
 
-abbrev pub is_empty_list : Data → Bool
-is_empty_list value = unwrap_or (option_map are_none (as_array value)) false
+abbrev pub is_empty_array : Data → Bool
+is_empty_array value = unwrap_or (option_map are_none (as_array value)) false
 
 -- the member with this name is missing or an empty array
 unfoldable pub has_none_of : List ℕ → Data → Bool
-has_none_of name value = unwrap_or (option_map is_empty_list (get name value)) true
+has_none_of name value = unwrap_or (option_map is_empty_array (get name value)) true
 
 -- `requirements` that require nothing: an empty array, or an object without mandatory requirements
 unfoldable pub requires_nothing : Data → Bool
 requires_nothing requirements =
-    is_empty_list requirements
+    is_empty_array requirements
     || (is_some (as_object requirements) && has_none_of (codes "mandatory") requirements)
 
 -- the configuration requires something of a program that reads the volume
@@ -63,8 +63,8 @@ unfoldable pub the_segment : Data → Option Data
 the_segment tree = option_and_then (only_member (codes "0")) (in_member (codes "segments") as_object tree)
 
 -- the segment's value, or null if there is no such segment
-abbrev pub segment_said : Data → Data
-segment_said tree = unwrap_or (the_segment tree) null
+abbrev pub segment_value : Data → Data
+segment_value tree = unwrap_or (the_segment tree) null
 
 -- the segment's offset: its first byte
 abbrev pub offset_of : Data → Option ℕ
@@ -143,7 +143,7 @@ unfoldable pub fault2_of : Data → Bounds → Option SegmentFault
 fault2_of tree bounds = first_match (
     (has_requirement tree, Requirement)
     ∷ (is_none (the_segment tree), Segments)
-    ∷ segment_faults bounds (segment_said tree))
+    ∷ segment_faults bounds (segment_value tree))
 
 -- the values of a segment's members
 unfoldable pub segment_parts2_of : Data → SegmentParts
@@ -181,10 +181,10 @@ members_there _ _ _ is kind = absurd cc
 
 -- the values of a segment without a fault make a segment
 pub made2 : (tree : Data) (bounds : Bounds) → fault2_of tree bounds ≡ None
-    → segment_from (segment_parts2_of (segment_said tree)) ≢ None
+    → segment_from (segment_parts2_of (segment_value tree)) ≢ None
 unfolding fault2_of segment_from segment_parts2_of is_segment has_segment_members
 made2 tree bounds no_fault =
-    let segment = segment_said tree in
+    let segment = segment_value tree in
     let all = none_holds ((has_requirement tree, Requirement) ∷ (is_none (the_segment tree), Segments)
     ∷ segment_faults bounds segment) no_fault in
     let lines = all.1.1 in
@@ -201,7 +201,7 @@ made2 tree bounds no_fault =
 -- the segment, or its first fault
 unfoldable pub segment2_of : Data → Bounds → Result Segment SegmentFault
 segment2_of tree bounds =
-    refused_or (fault2_of tree bounds) (segment_from (segment_parts2_of (segment_said tree))) (made2 tree bounds)
+    refused_or (fault2_of tree bounds) (segment_from (segment_parts2_of (segment_value tree))) (made2 tree bounds)
 
 -- ---- values that key slots are checked against
 

@@ -14,7 +14,8 @@ use Rattle.luks_verdict.specs.declared.refusal.SkipReason.TheVariants.{Stripes, 
 use Rattle.luks_verdict.specs.declared.slot.Slot.{Slot}
 use Rattle.luks_verdict.specs.declared.slot.SlotParts.{SlotParts}
 use Rattle.luks_verdict.specs.declared.slot.Verdict.{Verdict}
-use Rattle.luks2_json.specs.Member.{base64_member, decimal_member, is_type, passes, string_member, integer_member, in_member}
+use Rattle.luks2_json.specs.Member.{base64_member, decimal_member, is_type, passes, string_member, integer_member}
+use Rattle.luks2_json.specs.Member.{in_member}
 use Rattle.luks2_json.specs.Derivation.{hash_member, iterations_in, salt_in}
 use Rattle.luks2_metadata.specs.Digest2.{digest2_for}
 use Rattle.luks2_json.specs.Encryption.{is_length_for, encryption_mode}
@@ -27,13 +28,13 @@ use Rattle.serde_json.specs.Find.{get}
 -- ---- members and their kinds
 
 -- the priority of a slot: 0, 1 or 2, and 1 if it has none
-abbrev pub priority_said : Option Data → Data → Option ℕ
-priority_said None slot = Some 1
-priority_said (Some _) slot =
+abbrev pub priority_if_present : Option Data → Data → Option ℕ
+priority_if_present None slot = Some 1
+priority_if_present (Some _) slot =
     option_and_then (λ n. if nat_le n 2 then Some n else None) (integer_member (codes "priority") slot)
 
 unfoldable pub priority_of : Data → Option ℕ
-priority_of slot = priority_said (get (codes "priority") slot) slot
+priority_of slot = priority_if_present (get (codes "priority") slot) slot
 
 -- the value is an `af` object of type luks1 with all its members: how the key material is split into stripes
 unfoldable pub is_af : Data → Bool

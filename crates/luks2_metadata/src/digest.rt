@@ -12,7 +12,7 @@ use luks_verdict::bytes::HeaderBytes;
 use luks_verdict::digest::{DigestParts, KeyDigest};
 use luks_verdict::rule::{MAX_ITERATIONS, MAX_SLOTS, usable_digest};
 use luks2_json::derivation::{bytes_in, hash_member, iterations_in, salt_in};
-use luks2_json::list::{Names, array_contains, has_texts, texts_at};
+use luks2_json::list::{Names, array_contains, has_strings, strings_at};
 use luks2_json::member::{base64_len, integer_member, is_type};
 use luks2_json::numbered::object_numbered;
 use luks2_json::tree::Metadata;
@@ -52,8 +52,8 @@ fn is_digest(digest: &Value) -> bool
     ensures { result ≡ is_digest2 (data_of digest.now) }
 {
     is_type(digest, "pbkdf2")
-        && has_texts(digest, "keyslots")
-        && has_texts(digest, "segments")
+        && has_strings(digest, "keyslots")
+        && has_strings(digest, "segments")
         && hash_member(digest).is_some()
         && integer_member(digest, "iterations").is_some()
         && base64_len(digest, "salt").is_some()
@@ -174,8 +174,8 @@ fn listed(alloc: Global, digest: &Value) -> Result<Option<Digest>, AllocError>
     };
     Ok(Some(Digest {
         key,
-        keyslots: texts_at(alloc, digest, "keyslots")?,
-        segments: texts_at(alloc, digest, "segments")?,
+        keyslots: strings_at(alloc, digest, "keyslots")?,
+        segments: strings_at(alloc, digest, "segments")?,
     }))
 }
 

@@ -3,7 +3,7 @@
 ghost use Rattle.std.specs.Prelude.{◌≡◌, option_map};
 ghost use Rattle.luks_verdict.specs.Table.{first_match};
 ghost use Rattle.luks2_metadata.specs.Segment2.{has_none_of, has_requirement, has_segment_members};
-ghost use Rattle.luks2_metadata.specs.Segment2.{is_empty_list, is_segment, is_torn, mode2_of};
+ghost use Rattle.luks2_metadata.specs.Segment2.{is_empty_array, is_segment, is_torn, mode2_of};
 ghost use Rattle.luks2_metadata.specs.Segment2.{payload2_of, payload_mode2_of, requires_nothing};
 ghost use Rattle.luks2_metadata.specs.Segment2.{sector_size_of, sector_size_with, segment2_of};
 ghost use Rattle.luks2_metadata.specs.Segment2.{segment_faults, segment_parts2_of, size_member};
@@ -21,8 +21,8 @@ use luks2_json::tree::Metadata;
 use serde_json::Value;
 
 // The value is an empty array.
-fn is_empty_list(value: &Value) -> bool
-    ensures { result ≡ is_empty_list (data_of value.now) }
+fn is_empty_array(value: &Value) -> bool
+    ensures { result ≡ is_empty_array (data_of value.now) }
 {
     match value.as_array() {
         Some(values) => values.is_empty(),
@@ -36,7 +36,7 @@ fn has_none_of(name: &str, value: &Value) -> bool
     ensures { result ≡ has_none_of name.now (data_of value.now) }
 {
     match value.get(name) {
-        Some(values) => is_empty_list(values),
+        Some(values) => is_empty_array(values),
         None => true,
     }
 }
@@ -46,7 +46,7 @@ fn has_none_of(name: &str, value: &Value) -> bool
 fn requires_nothing(requirements: &Value) -> bool
     ensures { result ≡ requires_nothing (data_of requirements.now) }
 {
-    is_empty_list(requirements)
+    is_empty_array(requirements)
         || requirements.is_object() && has_none_of("mandatory", requirements)
 }
 

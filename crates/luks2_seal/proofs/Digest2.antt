@@ -13,7 +13,7 @@ use Rattle.luks_verdict.specs.declared.digest.DigestParts.{DigestParts}
 use Rattle.luks_verdict.specs.declared.digest.KeyDigest.{KeyDigest}
 use Rattle.luks_verdict.proofs.MadeLemmas.{digest_from-yes}
 use Rattle.luks2_json.specs.Derivation.{hash_member, iterations_in, salt_in}
-use Rattle.luks2_json.specs.List.{has_texts, array_contains}
+use Rattle.luks2_json.specs.List.{has_strings, array_contains}
 use Rattle.luks2_json.specs.Member.{base64_member, is_named, string_member, integer_member}
 use Rattle.luks2_json.specs.Numbered.{object_numbered}
 use Rattle.luks2_json.proofs.NumberedLemmas.{lowest_found, lowest_none}
@@ -62,12 +62,12 @@ module _ (p : Seal2) (fits : AreParameters2 p) (typed : AreTyped2 p) where
       base64_read _
       (derived_bytes p.digest_hash p.key.now p.digest_salt p.digest_iterations (digest_len p.digest_hash))
 
-  keyslots_said : has_texts (codes "keyslots") (digest_object p) ≡ true
-  unfolding has_texts digest_object
+  keyslots_said : has_strings (codes "keyslots") (digest_object p) ≡ true
+  unfolding has_strings digest_object
   keyslots_said = names_texts p 32
 
   is_said : is_digest2 (digest_object p) ≡ true
-  unfolding is_digest2 has_texts digest_object is_named string_member integer_member
+  unfolding is_digest2 has_strings digest_object is_named string_member integer_member
   is_said = rw (keyslots_said, hash_said, salt_said, value_said) refl
 
   parts_said : digest_parts2_of (digest_object p) ≡ digest_parts p
@@ -81,7 +81,7 @@ module _ (p : Seal2) (fits : AreParameters2 p) (typed : AreTyped2 p) where
       let len = length-derived_key p.digest_hash p.key.now p.digest_salt p.digest_iterations
       (digest_len p.digest_hash) in
       let size = digest_sizes p.digest_hash in
-      in_range p.digest_iterations _ fits.turns typed.digest_iterations (omega (arith, len, size.least))
+      in_range p.digest_iterations _ fits.min_digest_iterations typed.digest_iterations (omega (arith, len, size.least))
       (omega (arith, len, size.greatest))
 
   unfoldable pub digest_is : KeyDigest

@@ -18,9 +18,9 @@ use Rattle.luks2_binary.specs.Choice2.{beginning_at, is_binary_of}
 use Rattle.luks2_binary.specs.Header2.{checksum_hash_in, hdr_offset_in, sequence_in, size_in, sizes}
 use Rattle.luks_seal.specs.Pieces.{padded}
 use Rattle.luks_seal.specs.declared.parameters.Seal2.{Seal2}
-use Rattle.luks_seal.proofs.SlicingLemmas.{at_at, at_behind, at_first, at_padded, at_second, length-padded}
-use Rattle.luks2_seal.specs.Layout2.{fields_end_bytes, fields_of, header2_bytes, middle_of, primary_magic, body_bytes, secondary_magic}
-use Rattle.luks2_seal.specs.Layout2.{start_of}
+use Rattle.luks_seal.proofs.SlicingLemmas.{at_at, at_within_second, at_first, at_padded, at_second, length-padded}
+use Rattle.luks2_seal.specs.Layout2.{fields_end_bytes, fields_of, header2_bytes, middle_of, primary_magic, body_bytes}
+use Rattle.luks2_seal.specs.Layout2.{secondary_magic, start_of}
 use Rattle.luks2_seal.specs.Metadata2.{FitsJson, json_of}
 use Rattle.luks2_seal.specs.Ranges2.{AreParameters2, is_header_size}
 use Rattle.luks2_seal.proofs.RangeLemmas.{size_range}
@@ -57,7 +57,7 @@ either true b is = refl
 either false b is = is
 
 some_size : (n : ℕ) → is_header_size n ≡ true → n ≢ 0
-some_size n is none = (let room = size_range n is in omega (arith, room.0, none))
+some_size n is none = (let capacity = size_range n is in omega (arith, capacity.0, none))
 
 pub secondary_start : (p : Seal2) → AreParameters2 p → IsStart p secondary_magic p.hdr_size
 unfolding start_of beginning_at
@@ -71,17 +71,17 @@ secondary_start p fits = record {
 }
 
 -- the checksum of a header
-abbrev header_sum : Seal2 → List ℕ → List ℕ → ℕ → List ℕ
-header_sum p magic salt place = hash_of Sha256 (fields_of p magic salt place ++ padded 64 [] ++ body_bytes p)
+abbrev header_checksum : Seal2 → List ℕ → List ℕ → ℕ → List ℕ
+header_checksum p magic salt place = hash_of Sha256 (fields_of p magic salt place ++ padded 64 [] ++ body_bytes p)
 
 -- the checksum's field is replaced by other bytes
-zeroed_of : (front sum rest zeros : List ℕ) → length front ≡ 448 → length sum ≡ 64
-    → take 448 (front ++ sum ++ rest) ++ zeros ++ drop 512 (front ++ sum ++ rest) ≡ front ++ zeros ++ rest
-zeroed_of front sum rest zeros long filled =
-    let first : take 448 (front ++ sum ++ rest) ≡ front =
-    ap (take 448) (append_assoc front sum rest) ∙ take_at front (sum ++ rest) 448 long in
-    let last : drop 512 (front ++ sum ++ rest) ≡ rest =
-    drop_at (front ++ sum) rest 512 (omega (arith, length-append front sum, long, filled)) in
+zeroed_of : (prefix sum rest zeros : List ℕ) → length prefix ≡ 448 → length sum ≡ 64
+    → take 448 (prefix ++ sum ++ rest) ++ zeros ++ drop 512 (prefix ++ sum ++ rest) ≡ prefix ++ zeros ++ rest
+zeroed_of prefix sum rest zeros long filled =
+    let first : take 448 (prefix ++ sum ++ rest) ≡ prefix =
+    ap (take 448) (append_assoc prefix sum rest) ∙ take_at prefix (sum ++ rest) 448 long in
+    let last : drop 512 (prefix ++ sum ++ rest) ≡ rest =
+    drop_at (prefix ++ sum) rest 512 (omega (arith, length-append prefix sum, long, filled)) in
     rw (first, last) refl
 
 module _ (p : Seal2) (fits : AreParameters2 p) (json : FitsJson p) (magic salt : List ℕ) (place : ℕ)
@@ -107,22 +107,22 @@ module _ (p : Seal2) (fits : AreParameters2 p) (json : FitsJson p) (magic salt :
   length-rest : length (body_bytes p) ≡ p.hdr_size - 512
   unfolding body_bytes
   length-rest =
-      let room = size_range p.hdr_size fits.size in
+      let capacity = size_range p.hdr_size fits.size in
       let zeros = length-padded 3584 [] (omega arith) in
       let text = length-padded (p.hdr_size - 4096) (json_of p) (omega (arith, json.0)) in
-      rw (length-append, zeros, text) (omega (arith, room.0))
+      rw (length-append, zeros, text) (omega (arith, capacity.0))
 
-  sum_long : length (header_sum p magic salt place) ≡ 32
+  sum_long : length (header_checksum p magic salt place) ≡ 32
   sum_long = length-hash_of Sha256 (fields_of p magic salt place ++ padded 64 [] ++ body_bytes p)
 
-  length-sum : length (padded 64 (header_sum p magic salt place)) ≡ 64
-  length-sum = length-padded 64 (header_sum p magic salt place) (omega (arith, sum_long))
+  length-sum : length (padded 64 (header_checksum p magic salt place)) ≡ 64
+  length-sum = length-padded 64 (header_checksum p magic salt place) (omega (arith, sum_long))
 
   pub length-header : length (header2_bytes p magic salt place) ≡ p.hdr_size
   unfolding header2_bytes
   length-header =
-      let room = size_range p.hdr_size fits.size in
-      rw (length-append, length-append, length-fields, length-sum, length-rest) (omega (arith, room.0))
+      let capacity = size_range p.hdr_size fits.size in
+      rw (length-append, length-append, length-fields, length-sum, length-rest) (omega (arith, capacity.0))
 
   -- ---- fields
 
@@ -132,7 +132,7 @@ module _ (p : Seal2) (fits : AreParameters2 p) (json : FitsJson p) (magic salt :
   unfolding header2_bytes
   in_fields k len below =
       let fields = fields_of p magic salt place in
-      let sum = padded 64 (header_sum p magic salt place) in
+      let sum = padded 64 (header_checksum p magic salt place) in
       at_first k len (fields ++ sum) (body_bytes p) (omega (arith, length-append fields sum, length-fields))
       ∙ at_first k len fields sum (omega (arith, length-fields))
 
@@ -155,9 +155,9 @@ module _ (p : Seal2) (fits : AreParameters2 p) (json : FitsJson p) (magic salt :
       let long : length label ≡ 48 = length-padded 48 p.label.now fits.texts.1.0 in
       in_fields 72 32 (omega arith)
       ∙ at_first 72 32 (start_of p magic ++ middle_of p salt) (fields_end_bytes p place) (omega (arith, length-before))
-      ∙ at_behind 72 48 32 (start_of p magic) (middle_of p salt) (omega (arith, start.len))
+      ∙ at_within_second 72 48 32 (start_of p magic) (middle_of p salt) (omega (arith, start.len))
       ∙ at_first 48 32 (label ++ name) salt (omega (arith, length-append label name, long))
-      ∙ at_behind 48 0 32 label name (omega (arith, long))
+      ∙ at_within_second 48 0 32 label name (omega (arith, long))
 
   -- the header's own offset is in its field
   own_there : at 256 8 (header2_bytes p magic salt place) ≡ to_be_bytes w64 place
@@ -168,21 +168,21 @@ module _ (p : Seal2) (fits : AreParameters2 p) (json : FitsJson p) (magic salt :
       let long : length uuid ≡ 40 = length-padded 40 p.uuid.now fits.texts.0.0 in
       let longer : length subsystem ≡ 48 = length-padded 48 p.subsystem.now fits.texts.2.0 in
       in_fields 256 8 (omega arith)
-      ∙ at_behind 256 88 8 (start_of p magic ++ middle_of p salt) (fields_end_bytes p place) (omega
+      ∙ at_within_second 256 88 8 (start_of p magic ++ middle_of p salt) (fields_end_bytes p place) (omega
       (arith, length-before))
-      ∙ at_behind 88 0 8 (uuid ++ subsystem) (padded 192 (to_be_bytes w64 place))
+      ∙ at_within_second 88 0 8 (uuid ++ subsystem) (padded 192 (to_be_bytes w64 place))
       (omega (arith, length-append uuid subsystem, long, longer))
 
   -- ---- the checksum
 
-  sum_there : at 448 32 (header2_bytes p magic salt place) ≡ header_sum p magic salt place
+  checksum_there : at 448 32 (header2_bytes p magic salt place) ≡ header_checksum p magic salt place
   unfolding header2_bytes
-  sum_there =
+  checksum_there =
       let fields = fields_of p magic salt place in
-      let sum = header_sum p magic salt place in
+      let sum = header_checksum p magic salt place in
       at_first 448 32 (fields ++ padded 64 sum) (body_bytes p)
       (omega (arith, length-append fields (padded 64 sum), length-fields, length-sum))
-      ∙ at_behind 448 0 32 fields (padded 64 sum) (omega (arith, length-fields))
+      ∙ at_within_second 448 0 32 fields (padded 64 sum) (omega (arith, length-fields))
       ∙ at_padded 0 32 64 sum (omega (arith, sum_long))
       ∙ take_all 32 sum (omega (arith, sum_long))
 
@@ -191,7 +191,8 @@ module _ (p : Seal2) (fits : AreParameters2 p) (json : FitsJson p) (magic salt :
       ≡ fields_of p magic salt place ++ padded 64 [] ++ body_bytes p
   unfolding without_checksum no_checksum header2_bytes padded
   zeroed =
-      zeroed_of (fields_of p magic salt place) (padded 64 (header_sum p magic salt place)) (body_bytes p) no_checksum
+      zeroed_of (fields_of p magic salt place) (padded 64 (header_checksum p magic salt place)) (body_bytes p)
+      no_checksum
       length-fields length-sum
 
   hash_known : checksum_hash_in (header2_bytes p magic salt place) ≡ Some Sha256
@@ -202,8 +203,8 @@ module _ (p : Seal2) (fits : AreParameters2 p) (json : FitsJson p) (magic salt :
   pub intact : checksum_matches (header2_bytes p magic salt place) ≡ true
   unfolding checksum_matches
   intact =
-      let sum = header_sum p magic salt place in
-      rw (hash_known, zeroed, sum_there) ((bytes_eq-Decides sum sum).1 refl)
+      let sum = header_checksum p magic salt place in
+      rw (hash_known, zeroed, checksum_there) ((bytes_eq-Decides sum sum).1 refl)
 
   -- ---- the binary header
 
@@ -261,9 +262,9 @@ module _ (p : Seal2) (fits : AreParameters2 p) (json : FitsJson p) (magic salt :
   unfolding header2_bytes body_bytes
   json_there =
       let fields = fields_of p magic salt place in
-      let sum = padded 64 (header_sum p magic salt place) in
+      let sum = padded 64 (header_checksum p magic salt place) in
       let text = length-padded (p.hdr_size - 4096) (json_of p) (omega (arith, json.0)) in
-      at_behind 4096 3584 (p.hdr_size - 4096) (fields ++ sum) (body_bytes p)
+      at_within_second 4096 3584 (p.hdr_size - 4096) (fields ++ sum) (body_bytes p)
       (omega (arith, length-append fields sum, length-fields, length-sum))
       ∙ at_second 3584 (p.hdr_size - 4096) (padded 3584 []) (padded (p.hdr_size - 4096) (json_of p))
       (sym (length-padded 3584 [] (omega arith))) text

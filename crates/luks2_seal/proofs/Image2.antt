@@ -15,11 +15,11 @@ use Rattle.luks_verdict.specs.SectorSize.{bytes_of}
 use Rattle.luks_seal.specs.Pieces.{encrypted_material, padded, stripes_of}
 use Rattle.luks_seal.specs.declared.parameters.Seal2.{Seal2}
 use Rattle.luks_seal.specs.declared.parameters.Slot2.{Slot2}
-use Rattle.luks_seal.proofs.MaterialLemmas.{AreDrawn, length-encrypted_material, length-stripes_of}
+use Rattle.luks_seal.proofs.MaterialLemmas.{AreRandomStripes, length-encrypted_material, length-stripes_of}
 use Rattle.luks_seal.proofs.SectorLemmas.{length-sectors_encrypted}
-use Rattle.luks_seal.proofs.SlicingLemmas.{at_at, at_behind, at_first, at_padded, at_second, length-padded}
-use Rattle.luks2_seal.specs.Layout2.{area_key_of, area_of, areas_below, header2_bytes, headers_of, image2_of, payload_of}
-use Rattle.luks2_seal.specs.Layout2.{primary_magic, secondary_magic}
+use Rattle.luks_seal.proofs.SlicingLemmas.{at_at, at_within_second, at_first, at_padded, at_second, length-padded}
+use Rattle.luks2_seal.specs.Layout2.{area_key_of, area_of, areas_below, header2_bytes, headers_of, image2_of}
+use Rattle.luks2_seal.specs.Layout2.{payload_of, primary_magic, secondary_magic}
 use Rattle.luks2_seal.specs.Metadata2.{FitsJson}
 use Rattle.luks2_seal.specs.SlotAreas.{area_size, area_start, slot_numbered}
 use Rattle.luks2_seal.specs.Ranges2.{AreParameters2, FitsSlot2}
@@ -51,7 +51,8 @@ material2_of p slot =
 module _ (p : Seal2) (fits : AreParameters2 p) (json : FitsJson p) (typed : AreTyped2 p) where
   -- ---- lengths
 
-  pub drawn : (slot : Slot2) → FitsSlot2 (length p.key.now) slot → AreDrawn p.key.now slot.stripes slot.random.now
+  pub drawn : (slot : Slot2) → FitsSlot2 (length p.key.now) slot → AreRandomStripes p.key.now slot.stripes
+      slot.random.now
   drawn slot of_slot = record {
     some = of_slot.3;
     few = of_slot.4;
@@ -104,13 +105,13 @@ module _ (p : Seal2) (fits : AreParameters2 p) (json : FitsJson p) (typed : AreT
   length-headers = rw (length-append, length-primary, length-secondary) (omega arith)
 
   -- the headers and the areas end where an area of slot 32 would start
-  length-front : length (headers_of p ++ areas_below p 32) ≡ area_start p 32
-  length-front =
+  length-prefix : length (headers_of p ++ areas_below p 32) ≡ area_start p 32
+  length-prefix =
       omega (arith, length-append (headers_of p) (areas_below p 32), length-headers, length-areas 32)
 
   length-before : length (padded p.offset (headers_of p ++ areas_below p 32)) ≡ p.offset
   length-before =
-      length-padded p.offset (headers_of p ++ areas_below p 32) (omega (arith, length-front, fits.offset.2))
+      length-padded p.offset (headers_of p ++ areas_below p 32) (omega (arith, length-prefix, fits.offset.2))
 
   length-payload : length (payload_of p) ≡ length p.plain.now
   unfolding payload_of
@@ -135,9 +136,9 @@ module _ (p : Seal2) (fits : AreParameters2 p) (json : FitsJson p) (typed : AreT
       → at place len (image2_of p) ≡ at place len (headers_of p ++ areas_below p 32)
   unfolding image2_of
   before_payload place len inside =
-      let front = headers_of p ++ areas_below p 32 in
-      at_first place len (padded p.offset front) (payload_of p) (omega (arith, length-before, fits.offset.2))
-      ∙ at_padded place len p.offset front (omega (arith, length-front))
+      let prefix = headers_of p ++ areas_below p 32 in
+      at_first place len (padded p.offset prefix) (payload_of p) (omega (arith, length-before, fits.offset.2))
+      ∙ at_padded place len p.offset prefix (omega (arith, length-prefix))
 
   in_headers : (place len : ℕ) → place + len ≤ 2 * p.hdr_size
       → at place len (image2_of p) ≡ at place len (headers_of p)
@@ -199,8 +200,8 @@ module _ (p : Seal2) (fits : AreParameters2 p) (json : FitsJson p) (typed : AreT
     low = omega (arith, of_slot.0)
 
     -- an area starts after both headers and ends before the payload
-    pub area_behind : 2 * p.hdr_size ≤ area_start p slot.number
-    area_behind = omega (arith, length-areas slot.number)
+    pub area_after_headers : 2 * p.hdr_size ≤ area_start p slot.number
+    area_after_headers = omega (arith, length-areas slot.number)
 
     pub area_before : area_start p slot.number + area_size (length p.key.now) slot.stripes ≤ area_start p 32
     area_before =
@@ -223,13 +224,13 @@ module _ (p : Seal2) (fits : AreParameters2 p) (json : FitsJson p) (typed : AreT
         let need = need_of (length p.key.now) slot.stripes in
         let size = area_size (length p.key.now) slot.stripes in
         let start = area_start p slot.number - 2 * p.hdr_size in
-        let room = need_fits (length p.key.now) slot.stripes in
+        let capacity = need_fits (length p.key.now) slot.stripes in
         let begins : start + 0 ≡ start = omega arith in
-        before_payload (area_start p slot.number) need (omega (arith, room, area_before))
-        ∙ at_behind (area_start p slot.number) start need (headers_of p) (areas_below p 32)
-        (omega (arith, length-headers, area_behind))
+        before_payload (area_start p slot.number) need (omega (arith, capacity, area_before))
+        ∙ at_within_second (area_start p slot.number) start need (headers_of p) (areas_below p 32)
+        (omega (arith, length-headers, area_after_headers))
         ∙ ap (λ n. at n need (areas_below p 32)) (sym begins)
-        ∙ sym (at_at 0 need start size (areas_below p 32) (omega (arith, room)))
+        ∙ sym (at_at 0 need start size (areas_below p 32) (omega (arith, capacity)))
         ∙ ap (at 0 need) (area_there slot.number 32 slot found low)
         ∙ material_begins
 

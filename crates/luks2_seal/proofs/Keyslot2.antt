@@ -68,13 +68,13 @@ module _ (p : Seal2) (slot : Slot2) (placed : IsPlaced p slot) where
   unfolding keyslot_object af_object hash_member string_member
   af_hash_said = hash_read slot.af_hash
 
-  priority_said : priority_of (keyslot_object p slot) ≡ Some slot.priority
+  priority_if_present : priority_of (keyslot_object p slot) ≡ Some slot.priority
   unfolding keyslot_object priority_of integer_member
-  priority_said = rw (le-leb slot.priority 2 placed.fits.1) refl
+  priority_if_present = rw (le-leb slot.priority 2 placed.fits.1) refl
 
   pub parts_said : slot_parts2_of (keyslot_object p slot) ≡ parts_of p slot
   unfolding slot_parts2_of keyslot_object kdf_object area_object af_object integer_member iterations_in salt_in
-  parts_said = rw (priority_said, kdf_hash_said, salt_said, af_hash_said, offset_said, size_said, mode_said) refl
+  parts_said = rw (priority_if_present, kdf_hash_said, salt_said, af_hash_said, offset_said, size_said, mode_said) refl
 
   -- ---- kinds
 
@@ -92,4 +92,4 @@ module _ (p : Seal2) (slot : Slot2) (placed : IsPlaced p slot) where
 
   pub members_said : has_members (keyslot_object p slot) ≡ true
   unfolding has_members keyslot_object integer_member
-  members_said = rw (priority_said, af_is, area_is, kdf_is) refl
+  members_said = rw (priority_if_present, af_is, area_is, kdf_is) refl

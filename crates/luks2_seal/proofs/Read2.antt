@@ -11,8 +11,8 @@ use Rattle.std.proofs.lemmas.Str.{is_utf8-from_IsUtf8}
 use Rattle.luks_area.specs.Fields.{at, be64, text_of}
 use Rattle.luks_kdf.specs.declared.hash.Hash.TheVariants.{Sha256}
 use Rattle.luks1_header.specs.Header1.{is_luks1}
-use Rattle.luks2_binary.specs.Choice2.{beginning_at, with_valid_primary, binary_at, chosen2_of, fits, header2_of, is_valid}
-use Rattle.luks2_binary.specs.Choice2.{size_at}
+use Rattle.luks2_binary.specs.Choice2.{beginning_at, with_valid_primary, binary_at, chosen2_of, fits, header2_of}
+use Rattle.luks2_binary.specs.Choice2.{is_valid, size_at}
 use Rattle.luks2_binary.specs.Header2.{checksum_hash_in, header2_from, sequence_in, size_in}
 use Rattle.luks2_binary.specs.Text2.{json_area_of, json_text_of}
 use Rattle.luks2_binary.specs.declared.header.Header2.{Header2}
@@ -41,16 +41,16 @@ zeros_at (suc n) zero = refl
 zeros_at (suc n) (suc k) = zeros_at n k
 
 -- a text without zero bytes is read back from its field
-text_back : (room : ℕ) (text : List ℕ) → ((i : ℕ) → i < length text → slice_index text i ≢ 0)
-    → text_of (padded room text) ≡ text
+text_back : (capacity : ℕ) (text : List ℕ) → ((i : ℕ) → i < length text → slice_index text i ≢ 0)
+    → text_of (padded capacity text) ≡ text
 unfolding padded
-text_back room text some =
-    let zeros = replicate (room - length text) 0 in
+text_back capacity text some =
+    let zeros = replicate (capacity - length text) 0 in
     let zero_at : length text < length (text ++ zeros) → (get_or (text ++ zeros) (length text) 0 == 0) ≡ true =
     λ more.
     rw (
       get_or-append_right text zeros (length text) (length text) 0 refl (omega arith),
-      zeros_at (room - length text) (length text - length text),
+      zeros_at (capacity - length text) (length text - length text),
     ) refl in
     let ends : position_or_len (λ b. b == 0) (text ++ zeros) ≡ length text =
     position_or_len_is (λ b. b == 0) (text ++ zeros) (length text) 0 (omega (arith, length-append text zeros))
@@ -66,9 +66,9 @@ module _ (p : Seal2) (fit : AreParameters2 p) (json : FitsJson p) (magic salt : 
   binary_there : binary_at image place ≡ at 0 4096 (header2_bytes p magic salt place)
   binary_there =
       let same : place ≡ place + 0 = omega arith in
-      let room = size_range p.hdr_size fit.size in
+      let capacity = size_range p.hdr_size fit.size in
       ap (λ n. at n 4096 image) same
-      ∙ sym (at_at 0 4096 place p.hdr_size image (omega (arith, room.0)))
+      ∙ sym (at_at 0 4096 place p.hdr_size image (omega (arith, capacity.0)))
       ∙ ap (at 0 4096) there
 
   size_there : size_at image place ≡ p.hdr_size
@@ -80,11 +80,11 @@ module _ (p : Seal2) (fit : AreParameters2 p) (json : FitsJson p) (magic salt : 
   valid_there : is_valid image place ≡ true
   unfolding is_valid fits
   valid_there =
-      let room = size_range p.hdr_size fit.size in
+      let capacity = size_range p.hdr_size fit.size in
       rw (
         size_there,
         binary_there,
-        le-leb (place + 4096) (length image) (omega (arith, room.0)),
+        le-leb (place + 4096) (length image) (omega (arith, capacity.0)),
         is_binary p fit json magic salt place start salted,
         le-leb (place + p.hdr_size) (length image) long,
         there,
@@ -167,8 +167,8 @@ module _ (p : Seal2) (fit : AreParameters2 p) (json : FitsJson p) (back : ReadsB
   text_there : json_text_of (image2_of p) header_is ≡ json_of p
   unfolding json_text_of json_area_of header_is
   text_there =
-      let room = size_range p.hdr_size fit.size in
-      let within : 4096 + (p.hdr_size - 4096) ≤ p.hdr_size = omega (arith, room.0) in
+      let capacity = size_range p.hdr_size fit.size in
+      let within : 4096 + (p.hdr_size - 4096) ≤ p.hdr_size = omega (arith, capacity.0) in
       ap (λ n. text_of (at 4096 (n - 4096) (image2_of p))) primary_size
       ∙ ap text_of
       (sym (at_at 4096 (p.hdr_size - 4096) 0 p.hdr_size (image2_of p) within)

@@ -17,7 +17,7 @@ use Rattle.luks_seal.specs.declared.parameters.Seal2.{Seal2}
 use Rattle.luks_seal.specs.declared.parameters.Slot2.{Slot2}
 use Rattle.luks_verdict.proofs.SectorLemmas.{sector_blocks}
 use Rattle.luks_seal.proofs.MaterialLemmas.{gives_key}
-use Rattle.luks_seal.proofs.SectorLemmas.{sectors_stand}
+use Rattle.luks_seal.proofs.SectorLemmas.{sectors_are_stored}
 use Rattle.luks2_seal.specs.Layout2.{area_key_of, image2_of, payload_of}
 use Rattle.luks2_seal.specs.Metadata2.{FitsJson, ReadsBack, metadata_of}
 use Rattle.luks2_seal.specs.SlotAreas.{slot_numbered}
@@ -25,7 +25,8 @@ use Rattle.luks2_seal.specs.Passphrases2.{passphrases2_of}
 use Rattle.luks2_seal.specs.Ranges2.{AreParameters2, FitsSlot2}
 use Rattle.luks2_seal.specs.Typed2.{AreTyped2, IsTypedSlot2}
 use Rattle.luks2_seal.proofs.Digest2.{digest_is, digest_read, of_key}
-use Rattle.luks2_seal.proofs.Image2.{area_before, area_behind, drawn, image_material, image_payload, length-image}
+use Rattle.luks2_seal.proofs.Image2.{area_before, area_after_headers, drawn, image_material, image_payload}
+use Rattle.luks2_seal.proofs.Image2.{length-image}
 use Rattle.luks2_seal.proofs.Keyslot2.{IsPlaced, parts_of}
 use Rattle.luks2_seal.proofs.Slots2.{numbered_each}
 use Rattle.luks2_seal.proofs.Read2.{bounds_there, header_is, header_read}
@@ -51,7 +52,7 @@ module _ (p : Seal2) (fits : AreParameters2 p) (json : FitsJson p) (back : Reads
       fits = of_slot;
       typed = of_types;
       numbered = found;
-      behind = area_behind p fits json typed slot of_slot found;
+      behind = area_after_headers p fits json typed slot of_slot found;
       before = omega (arith, area_before p fits json typed slot of_slot found, fits.offset.2);
       held = fits.offset.1;
     }
@@ -94,7 +95,8 @@ module _ (p : Seal2) (fits : AreParameters2 p) (json : FitsJson p) (back : Reads
   seals_plain2 =
       let long = length-image p fits json typed in
       record {
-        stands = sectors_stand (p.mode, p.key.now) p.iv_tweak (bytes_of p.sector_size / 512) (bytes_of p.sector_size)
+        is_stored = sectors_are_stored (p.mode, p.key.now) p.iv_tweak (bytes_of p.sector_size / 512)
+            (bytes_of p.sector_size)
             p.plain.now (sector_blocks p.sector_size).blocks fits.plain.0 p.offset (image2_of p) typed.plain
             (omega (arith, long)) (image_payload p fits json typed);
         ends = ends_there p.fixed p.plain.now (image2_of p) (p.offset + length p.plain.now) long;

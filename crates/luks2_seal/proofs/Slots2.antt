@@ -11,7 +11,7 @@ use Rattle.serde_json.proofs.Views.{get_member-put, get_member-put_other}
 use Rattle.serde_json.specs.Data.{Data, put}
 use Rattle.serde_json.specs.Find.{get_member}
 use Rattle.serde_json.specs.View.{items_of}
-use Rattle.luks2_json.specs.List.{all_items, any_item, is_text, is_the_text}
+use Rattle.luks2_json.specs.List.{all_items, any_item, is_text, is_the_string}
 use Rattle.luks_seal.specs.declared.parameters.Seal2.{Seal2}
 use Rattle.luks_seal.specs.declared.parameters.Slot2.{Slot2}
 use Rattle.luks2_seal.specs.Metadata2.{decimal_value, keyslot_object, keyslots_below, names_below}
@@ -31,7 +31,7 @@ numbered_each (slot ∷ slots) distinct (suc k) d below =
 -- ---- names
 
 -- the string of a number is that number's name
-same_name : (n : ℕ) → is_the_text (decimal n) (decimal_value n) ≡ true
+same_name : (n : ℕ) → is_the_string (decimal n) (decimal_value n) ≡ true
 same_name n = (bytes_eq-Decides (decimal n) (decimal n)).1 refl
 
 -- an array keeps its items when a string is appended
@@ -95,22 +95,22 @@ module _ (p : Seal2) where
 
   -- a number is still listed after a further one is listed
   listed_later : (n m : ℕ) (next : Option Slot2)
-      → any_item (is_the_text (decimal n)) (items_of (names_below p m)) ≡ true
-      → any_item (is_the_text (decimal n)) (items_of (option_map_or (λ other. names_below p m ++ decimal_value m ∷ [])
+      → any_item (is_the_string (decimal n)) (items_of (names_below p m)) ≡ true
+      → any_item (is_the_string (decimal n)) (items_of (option_map_or (λ other. names_below p m ++ decimal_value m ∷ [])
       next (names_below p m))) ≡ true
   listed_later n m None before = before
   listed_later n m (Some other) before =
-      any_kept (is_the_text (decimal n)) (names_below p m) (decimal_value m) before
+      any_kept (is_the_string (decimal n)) (names_below p m) (decimal_value m) before
 
   pub slot_listed : (n m : ℕ) (slot : Slot2) → slot_numbered n p.slots.now ≡ Some slot → n < m
-      → any_item (is_the_text (decimal n)) (items_of (names_below p m)) ≡ true
+      → any_item (is_the_string (decimal n)) (items_of (names_below p m)) ≡ true
   unfolding names_below
   slot_listed n zero slot is below = absurd (omega arith)
   slot_listed n (suc m) slot is below = elim (cases_lt n m) [
     | inl earlier ↦ listed_later n m (slot_numbered m p.slots.now) (slot_listed n m slot is earlier)
     | inr last ↦
         let same : n ≡ m = omega arith in
-        rw (← same, is) (any_last (is_the_text (decimal n)) (names_below p n) (decimal_value n) (same_name n))
+        rw (← same, is) (any_last (is_the_string (decimal n)) (names_below p n) (decimal_value n) (same_name n))
   ]
 
   texts_more : (m : ℕ) (next : Option Slot2) → all_items is_text (items_of (names_below p m)) ≡ true

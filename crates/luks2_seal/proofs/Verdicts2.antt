@@ -52,7 +52,7 @@ need_fits key stripes = omega arith
 well_placed : (start payload offset size need : ℕ) → start ≤ offset → need ≤ size → offset + size ≤ payload
     → payload ≤ max_area_len → area_out_of_range start (Some payload) offset size need ≡ false
 unfolding area_out_of_range
-well_placed start payload offset size need behind room before held = grind (arith, nat_tests)
+well_placed start payload offset size need behind capacity before held = grind (arith, nat_tests)
 
 module _ (p : Seal2) (fits : AreParameters2 p) (typed : AreTyped2 p) (slot : Slot2) (placed : IsPlaced p slot) where
   -- ---- the values that the slot is checked against
@@ -71,7 +71,7 @@ module _ (p : Seal2) (fits : AreParameters2 p) (typed : AreTyped2 p) (slot : Slo
   unfolding has_no_usable_digest digest_is digest_of
   digested =
       rw (digest_read p fits typed slot.number slot placed.numbered (omega (arith, placed.fits.0)))
-      (within_limits p.digest_iterations fits.turns typed.digest_iterations)
+      (within_limits p.digest_iterations fits.min_digest_iterations typed.digest_iterations)
 
   -- ---- the reasons, one after the other
 

@@ -44,7 +44,7 @@ pub record AreParameters2 (p : Seal2) : Type 0 where
   pub size : is_header_size p.hdr_size ≡ true
   pub keys : FitKeys p
   pub texts : FitTexts p
-  pub turns : 1 ≤ p.digest_iterations
+  pub min_digest_iterations : 1 ≤ p.digest_iterations
   pub plain : FitsPlain2 (bytes_of p.sector_size) (length p.plain.now)
   pub slots : All (FitsSlot2 (length p.key.now)) p.slots.now
   pub distinct : AreDistinct2 p.slots.now

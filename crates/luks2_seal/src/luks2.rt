@@ -1,7 +1,7 @@
 //! Volumes of LUKS2 (LUKS2 On-Disk Format Specification 1.1).
 
 ghost use Rattle.std.specs.Prelude.{◌≡◌, ◌++◌, IfOk, OnOk};
-ghost use Rattle.luks_seal.specs.Ranges.{SealsOrSaysLate};
+ghost use Rattle.luks_seal.specs.Ranges.{SealAnswerLate};
 ghost use Rattle.luks_seal.specs.Sealed.{Sealed};
 ghost use Rattle.luks2_seal.specs.Layout2.{image2_of, payload_of};
 ghost use Rattle.luks2_seal.specs.Metadata2.{FitsJson, json_of};
@@ -43,9 +43,9 @@ fn image_of(alloc: Global, seal: &Seal2<'_>, json: &[u8]) -> Result<Vec<u8>, All
     requires json { json.now ≡ json_of seal.now }
     ensures { IfOk result (λ image. image.items ≡ image2_of seal.now) }
 {
-    let mut front = headers_of(alloc, seal, json)?;
-    push_areas(alloc, &mut front, seal)?;
-    let mut image = padded(alloc, &front, seal.offset as usize)?;
+    let mut prefix = headers_of(alloc, seal, json)?;
+    push_areas(alloc, &mut prefix, seal)?;
+    let mut image = padded(alloc, &prefix, seal.offset as usize)?;
     let payload = payload_of(alloc, seal)?;
     image.extend_from_slice(&payload)?;
     Ok(image)
@@ -62,7 +62,7 @@ fn image_of(alloc: Global, seal: &Seal2<'_>, json: &[u8]) -> Result<Vec<u8>, All
 /// allocated, or if the JSON text does not fit the header, which is only known after the text is
 /// made; otherwise [`Memory`](SealFault::Memory) if memory runs out.
 pub fn seal2(alloc: Global, seal: &Seal2<'_>) -> Result<Vec<u8>, SealFault>
-    ensures answer { SealsOrSaysLate (AreParameters2 seal.now) (FitsJson seal.now) result }
+    ensures answer { SealAnswerLate (AreParameters2 seal.now) (FitsJson seal.now) result }
     ensures image { IfOk result (λ image. image.items ≡ image2_of seal.now) }
     ensures sealed { IfOk result (λ image. Sealed image.items (passphrases2_of seal.now)
         seal.now.key.now seal.now.plain.now) }

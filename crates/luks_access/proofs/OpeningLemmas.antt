@@ -99,7 +99,7 @@ module _ (options : Options) (o : VolumeRequest) (image pass : List ℕ) (i : Op
   module _ (header : Header) (segment : Segment) (order : OrderModel)
       (found : reader_for options.location image ≡ Ok header) (is_segment : segment_of header ≡ Ok segment)
       (ordered : order_of header o.key_slot o.max_iterations ≡ Ok order) (area area' : List ℕ)
-      (front : area ≡ take (header_read_len image) image) where
+      (prefix : area ≡ take (header_read_len image) image) where
     -- the image ended within the key areas, or none of the key slots opens
     refused_slots : (short : length pass ≤ max_key_file_len) (message : Message) → aborts message ≡ false
         → TriesSlots o.key_slot segment order pass area area' (drop (header_read_len image) image) i (Err message)
@@ -111,7 +111,7 @@ module _ (options : Options) (o : VolumeRequest) (image pass : List ℕ) (i : Op
     refused_slots short message never (inl (NoJson, is, lost)) = absurd lost
     refused_slots short message never (inr (grows, inl (is, few))) =
         let v = volume_with header segment order in
-        let cut = area_cut image area area' i (key_areas_end order.slots) front grows few in
+        let cut = area_cut image area area' i (key_areas_end order.slots) prefix grows few in
         rw is (refused_by options o image pass _ (length image) (length pass) has
         (λ on_opened. found_is options.location o image pass header segment order found is_segment ordered on_opened
         ∙ found_cut on_opened o.key_slot v image pass short cut.0))
@@ -119,7 +119,7 @@ module _ (options : Options) (o : VolumeRequest) (image pass : List ℕ) (i : Op
         let v = volume_with header segment order in
         rw is (refused_by options o image pass _ (loaded_for image v) (length pass) has
         (λ on_opened. tried_is options.location o image pass header segment order found is_segment ordered short area
-        area' i front grows enough (Err fault) tried on_opened))
+        area' i prefix grows enough (Err fault) tried on_opened))
 
     -- the volume was not opened
     pub refused_unopened : (message : Message) → aborts message ≡ false
@@ -144,7 +144,7 @@ module _ (options : Options) (o : VolumeRequest) (image pass : List ℕ) (i : Op
           outcome = λ p of_p on_opened.
               same_options options p o of_p has (reader_for options.location) on_opened image pass
               ∙ tried_is options.location o image pass header segment order found is_segment ordered short area area'
-              i front grows enough (Ok (opened_of opened)) tried on_opened
+              i prefix grows enough (Ok (opened_of opened)) tried on_opened
               ∙ ap (λ s. on_opened s (opened_of opened) (loaded_for image v)) (sym same);
         }
     opened_by opened (inr (long, is)) = cc

@@ -1,13 +1,12 @@
 -- Parts of joined pieces, and sectors decrypted one after the other.
 use Rattle.std.proofs.Common.{◌≡◌, ℕ, zero, suc, ◌+◌, ◌-◌, ◌*◌, ◌/◌, ◌%◌, ◌<◌, ◌≤◌, List, [], ◌++◌, length, take, drop}
-use Rattle.std.proofs.Common.{length-drop, length-take-le, append-nil, append_assoc, add-one, arith}
-use Rattle.std.proofs.Common.{refl, sym, ap, ◌∙◌}
+use Rattle.std.proofs.Common.{length-drop, length-take-le, append-nil, append_assoc, add-one, arith, refl, sym, ap, ◌∙◌}
 use Rattle.std.proofs.lemmas.List.{drop-drop, drop-take, take-take, drop_all}
 use Rattle.std.proofs.Math.Nat.{div-mul-le_self, mod-eq-sub-div-mul, mul-le-mul_right}
 use Rattle.luks_cipher.proofs.UnitsUndone.{joined_same}
 use Rattle.luks_cipher.specs.Sector.{Cipher, sector_decrypted}
 use Rattle.luks_cipher.specs.Xts.{joined}
-use Rattle.luks_kdf.proofs.BytesLemmas.{take_front, drop_front}
+use Rattle.luks_kdf.proofs.BytesLemmas.{take_prefix, drop_prefix}
 use Rattle.luks_verdict.specs.declared.segment.Segment.{Segment}
 use Rattle.luks_payload.specs.Plain.{payload_len, plain_of, sector_len, sector_plaintext, sector_start, sectors_of}
 use Rattle.luks_payload.specs.Plain.{unit_number, unit_plain, payload_bytes}
@@ -37,13 +36,13 @@ joined_part f z a n total sizes few =
     let rest = total - (a + n) in
     let all : total ≡ a + (n + rest) = omega arith in
     let g : ℕ → List ℕ = λ j. f (a + j) in
-    let front : length (joined f a) ≡ a * z = joined_length f z a (λ j low. sizes j (omega arith)) in
+    let prefix : length (joined f a) ≡ a * z = joined_length f z a (λ j low. sizes j (omega arith)) in
     let middle : length (joined g n) ≡ n * z = joined_length g z n (λ j low. sizes (a + j) (omega arith)) in
     ap (λ k. take (n * z) (drop (a * z) (joined f k))) all
     ∙ (ap (λ l. take (n * z) (drop (a * z) l)) (joined_both f a (n + rest))
-    ∙ (ap (take (n * z)) (drop_front (a * z) (joined f a) (joined g (n + rest)) front)
+    ∙ (ap (take (n * z)) (drop_prefix (a * z) (joined f a) (joined g (n + rest)) prefix)
     ∙ (ap (take (n * z)) (joined_both g n rest)
-    ∙ take_front (n * z) (joined g n) (joined (λ j. g (n + j)) rest) middle)))
+    ∙ take_prefix (n * z) (joined g n) (joined (λ j. g (n + j)) rest) middle)))
 
 -- ---- sectors decrypted one after the other
 
@@ -90,12 +89,12 @@ module _ (s : Segment) (cipher : Cipher) (first : ℕ) (stored : List ℕ) where
       rw (← is_size) (omega (arith, within, next_start i size, inside)) in
       len_in i there ∙ sym is_size in
       let long : length (joined f j) ≡ a = joined_length f size j each in
-      let front : take a now ≡ joined f j = rw is_now (take_front a (joined f j) (drop a stored) long) in
-      let back : drop a now ≡ drop a stored = rw is_now (drop_front a (joined f j) (drop a stored) long) in
+      let prefix : take a now ≡ joined f j = rw is_now (take_prefix a (joined f j) (drop a stored) long) in
+      let back : drop a now ≡ drop a stored = rw is_now (drop_prefix a (joined f j) (drop a stored) long) in
       let here : new ≡ f j = is_new ∙ rw (back, width, is_size) refl in
       let rest : drop (a + size - a) (drop a now) ≡ drop ((j + 1) * size) stored =
       rw (back, width) (drop-drop size a stored ∙ ap (λ n. drop n stored) (next_start j size)) in
-      rw (front, rest, here, add-one) (sym (append_assoc (joined f j) (f j) (drop (suc j * size) stored)))
+      rw (prefix, rest, here, add-one) (sym (append_assoc (joined f j) (f j) (drop (suc j * size) stored)))
     where
       next_start : (i size : ℕ) → i * size + size ≡ (i + 1) * size
       next_start i size = omega arith
@@ -142,23 +141,24 @@ module _ (s : Segment) (cipher : Cipher) (image : List ℕ) where
   same_sector first stored n j len is low =
       let z = sector_len s in
       let inside : (j + 1) * sector_len s ≤ n * sector_len s = mul-le-mul_right (sector_len s) (omega arith) in
-      let room : j * sector_len s + sector_len s ≤ length stored =
-      room_of j (sector_len s) n (length stored) len inside in
+      let capacity : j * sector_len s + sector_len s ≤ length stored =
+      capacity_of j (sector_len s) n (length stored) len inside in
       let m = length stored - j * sector_len s in
-      let split : length stored ≡ j * sector_len s + m = omega (arith, room) in
+      let split : length stored ≡ j * sector_len s + m = omega (arith, capacity) in
       let here : drop (j * sector_len s) stored ≡ take m (drop (j * sector_len s) (drop (sector_start s first) image)) =
       ap (drop (j * sector_len s)) (is ∙ ap (λ k. take k (drop (sector_start s first) image)) split)
       ∙ drop-take (j * sector_len s) m (drop (sector_start s first) image) in
       let cut : take (sector_len s) (drop (j * sector_len s) stored)
       ≡ take (sector_len s) (drop (sector_start s (first + j)) image) =
       ap (take (sector_len s)) here
-      ∙ (take-take (sector_len s) m (drop (j * sector_len s) (drop (sector_start s first) image)) (omega (arith, room))
+      ∙ (take-take (sector_len s) m (drop (j * sector_len s) (drop (sector_start s first) image))
+      (omega (arith, capacity))
       ∙ ap (take (sector_len s)) (drop-drop (j * sector_len s) (sector_start s first) image
       ∙ ap (λ k. drop k image) (place s.offset first j (sector_len s)))) in
       ap (unit_plain cipher (unit_number s (first + j))) (sym cut)
     where
-      room_of : (j z n len : ℕ) → len ≡ n * z → (j + 1) * z ≤ n * z → j * z + z ≤ len
-      room_of j z n len is inside = omega arith
+      capacity_of : (j z n len : ℕ) → len ≡ n * z → (j + 1) * z ≤ n * z → j * z + z ≤ len
+      capacity_of j z n len is inside = omega arith
 
       place : (o first j z : ℕ) → o + first * z + j * z ≡ o + (first + j) * z
       place o first j z = omega arith

@@ -4,7 +4,7 @@ use Rattle.std.proofs.Common.{[], append-nil, length-append, length-drop, Option
 use Rattle.std.proofs.Common.{arith, sym, ap, ◌∙◌, Bool, true}
 use Rattle.std.specs.Prelude.{OnOk}
 use Rattle.std.proofs.lemmas.List.{drop-drop, drop-take, drop_all, take-take}
-use Rattle.luks_kdf.proofs.BytesLemmas.{take_front}
+use Rattle.luks_kdf.proofs.BytesLemmas.{take_prefix}
 use Rattle.std.proofs.Math.Seq.{take-add}
 use Rattle.luks_io.specs.Devices.{IfKnown}
 use Rattle.luks_runs.proofs.PayloadLemmas.{plain_len}
@@ -79,7 +79,7 @@ two_parts : (a rest b : List ℕ) (n : ℕ) → length a ≡ n
 two_parts a rest b n long =
     let none : drop (length (a ++ rest) - n) (drop n (a ++ rest)) ≡ [] =
     drop_all (length (a ++ rest) - n) (drop n (a ++ rest)) (omega (arith, length-drop n (a ++ rest))) in
-    ap (λ l. l ++ (b ++ drop (length (a ++ rest) - n) (drop n (a ++ rest)))) (take_front n a rest long)
+    ap (λ l. l ++ (b ++ drop (length (a ++ rest) - n) (drop n (a ++ rest)))) (take_prefix n a rest long)
     ∙ ap (λ l. a ++ l) (ap (λ l. b ++ l) none ∙ append-nil b)
 
 -- the first n bytes of a buffer were read, and then the rest was read, or reading it failed

@@ -5,7 +5,7 @@ use Rattle.std.proofs.lemmas.List.{drop-drop, drop_all, take-append-drop}
 use Rattle.std.specs.Prelude.{IfErr, IfOk}
 use Rattle.std.specs.Io.KnownBytes.{Consumes, IsAtEnd}
 use Rattle.luks_io.specs.Devices.{IfKnown}
-use Rattle.luks_kdf.proofs.BytesLemmas.{take_front}
+use Rattle.luks_kdf.proofs.BytesLemmas.{take_prefix}
 use Rattle.luks_access.specs.Image.{IsAt, remaining_from}
 
 -- the bytes that were read are the next ones
@@ -18,7 +18,7 @@ gives_part (Some known) place count buf rest long bytes =
     (bytes known refl).same ∙ ap (λ n. take n (drop place known)) long in
     let later : drop count (drop place known) ≡ drop (place + count) known =
     drop-drop count place known ∙ ap (λ n. drop n known) (omega arith) in
-    sym (ap (λ l. l ++ drop (place + count) known) (take_front count buf rest long ∙ is)
+    sym (ap (λ l. l ++ drop (place + count) known) (take_prefix count buf rest long ∙ is)
     ∙ ap (λ l. take count (drop place known) ++ l) (sym later)
     ∙ take-append-drop count (drop place known))
 

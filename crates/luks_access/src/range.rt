@@ -58,7 +58,7 @@ fn read_part<I: ReadAt>(
     requires some { 0 < length buf.old }
     requires inside { offset + length buf.old ≤ len }
     requires part { offset % sector_len segment.now + length buf.old ≤ sector_len segment.now }
-    requires room { length sector.old ≡ MAX_SECTOR_LEN }
+    requires capacity { length sector.old ≡ MAX_SECTOR_LEN }
     ensures { ReadsRange segment.now cipher.now len (I.image image.now) (I.fails image.now) offset
         result buf.new }
 {

@@ -85,9 +85,9 @@ unfolding bytes_of_words add_round_key
 round_key_added s w round p q r t first second third fourth = λ i. first i ++ (second i ++ (third i ++ fourth i))
 
 -- the bytes of columns are a state
-pub spelt_state : (words : List ℕ) → IsState (bytes_of_words words)
+pub state_from_words : (words : List ℕ) → IsState (bytes_of_words words)
 unfolding bytes_of_words
-spelt_state words = record {
+state_from_words words = record {
   len = refl;
   bytes =
       bytes_cons (omega arith) (bytes_cons (omega arith) (bytes_cons (omega arith) (bytes_cons (omega arith)

@@ -13,7 +13,7 @@ use Rattle.luks_aes.specs.Aes.{cell, state_of, word_at, multiplied_columns, inv_
 use Rattle.luks_aes.specs.Bytes.{IsBytes}
 use Rattle.luks_aes.specs.Columns.{column_product, IsMultiplied}
 use Rattle.luks_aes.proofs.ByteLists.{IsState}
-use Rattle.luks_aes.proofs.MixingLemmas.{product_sum, inv_mixed}
+use Rattle.luks_aes.proofs.MixingLemmas.{product_xor, inv_mixed}
 
 -- ---- a word that is written after the words before it
 
@@ -35,7 +35,7 @@ word_kept xs ys at k j inside low =
 
 pub products_more : (a words old word : List ℕ) (i k : ℕ) → IsMultiplied a words old i → 4 * i + 4 ≤ length old
     → word ≡ column_product a (word_at words i) → IsMultiplied a words (put_mid (4 * i) k old word) (i + 1)
-products_more a words old word i k before room is = record {
+products_more a words old word i k before capacity is = record {
   at = λ j low.
       let four : length word ≡ 4 = ap length is in
       elim (cases_lt j i) [
@@ -59,14 +59,15 @@ products_more a words old word i k before room is = record {
 
 -- ---- InvMixColumns of a state XORed with a round key
 
-sums_apart : (p q r s k l m n : ℕ) → (p ⊕ k) ⊕ (q ⊕ l) ⊕ (r ⊕ m) ⊕ (s ⊕ n) ≡ (p ⊕ q ⊕ r ⊕ s) ⊕ (k ⊕ l ⊕ m ⊕ n)
-sums_apart p q r s k l m n = same_from_bits _ _ (λ i. simp bit_at_xor (omega arith))
+sums_regrouped : (p q r s k l m n : ℕ) → (p ⊕ k) ⊕ (q ⊕ l) ⊕ (r ⊕ m) ⊕ (s ⊕ n) ≡ (p ⊕ q ⊕ r ⊕ s) ⊕ (k ⊕ l ⊕ m ⊕ n)
+sums_regrouped p q r s k l m n = same_from_bits _ _ (λ i. simp bit_at_xor (omega arith))
 
-pub row_sum : (a b c d k l m n : ℕ) → a < 256 → b < 256 → c < 256 → d < 256 → k < 256 → l < 256 → m < 256 → n < 256
+pub inv_mixed_xor : (a b c d k l m n : ℕ) → a < 256 → b < 256 → c < 256 → d < 256 → k < 256 → l < 256 → m < 256 → n <
+    256
     → inv_mixed (a ⊕ k) (b ⊕ l) (c ⊕ m) (d ⊕ n) ≡ inv_mixed a b c d ⊕ inv_mixed k l m n
-row_sum a b c d k l m n p q r s t u v w =
-    rw (product_sum 14 a k p t, product_sum 11 b l q u, product_sum 13 c m r v, product_sum 9 d n s w)
-    (sums_apart (14 • a) (11 • b) (13 • c) (9 • d) (14 • k) (11 • l) (13 • m) (9 • n))
+inv_mixed_xor a b c d k l m n p q r s t u v w =
+    rw (product_xor 14 a k p t, product_xor 11 b l q u, product_xor 13 c m r v, product_xor 9 d n s w)
+    (sums_regrouped (14 • a) (11 • b) (13 • c) (9 • d) (14 • k) (11 • l) (13 • m) (9 • n))
 
 -- row r of word i after InvMixColumns
 pub product_at : (w u : List ℕ) (n i r : ℕ) → IsMultiplied (14 ∷ 11 ∷ 13 ∷ 9 ∷ []) w u n → i < n → r < 4
@@ -117,7 +118,7 @@ round_key_inv_mixed s w u n round is bytes products inside =
     (λ r c row column.
     let byte : (q : ℕ) → cell s q c < 256 = λ q. is.bytes.each (q + 4 * c) in
     let key_byte : (q : ℕ) → key q c < 256 = λ q. bytes.each (q + 4 * (4 * round + c)) in
-    row_sum (cell s r c) (cell s ((r + 1) % 4) c) (cell s ((r + 2) % 4) c) (cell s ((r + 3) % 4) c) (key r c)
+    inv_mixed_xor (cell s r c) (cell s ((r + 1) % 4) c) (cell s ((r + 2) % 4) c) (cell s ((r + 3) % 4) c) (key r c)
     (key ((r + 1) % 4) c) (key ((r + 2) % 4) c) (key ((r + 3) % 4) c)
     (byte r) (byte ((r + 1) % 4)) (byte ((r + 2) % 4)) (byte ((r + 3) % 4)) (key_byte r) (key_byte ((r + 1) % 4))
     (key_byte ((r + 2) % 4)) (key_byte ((r + 3) % 4))

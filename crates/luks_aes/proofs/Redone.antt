@@ -10,7 +10,7 @@ use Rattle.luks_aes.proofs.Bytes.{same_below}
 use Rattle.luks_aes.proofs.SboxLemmas.{sbox_entry, inv_sbox_entry, inv_sbox_byte, there_and_back}
 use Rattle.luks_aes.proofs.ByteLists.{IsState, made_state, product_byte, columns_state, add_round_key_state}
 use Rattle.luks_aes.proofs.ByteLists.{expansion_bytes}
-use Rattle.luks_aes.proofs.MixingLemmas.{mixed, inv_mixed, product_sum4, gathered}
+use Rattle.luks_aes.proofs.MixingLemmas.{mixed, inv_mixed, product_sum4, grouped_by_letter}
 use Rattle.luks_aes.proofs.Undone.{whole_state, same_states, add_round_key_undone}
 
 -- ---- states of bytes
@@ -95,7 +95,8 @@ mixed_is a b c d p q r s =
       products_of 1 c d a b r s p q,
       products_of 1 d a b c s p q r,
     )
-    (gathered (2 • (14 • a)) (3 • (9 • a)) (1 • (13 • a)) (1 • (11 • a)) (2 • (11 • b)) (3 • (14 • b)) (1 • (9 • b))
+    (grouped_by_letter (2 • (14 • a)) (3 • (9 • a)) (1 • (13 • a)) (1 • (11 • a)) (2 • (11 • b)) (3 • (14 • b))
+    (1 • (9 • b))
     (1 • (13 • b))
     (2 • (13 • c)) (3 • (11 • c)) (1 • (14 • c)) (1 • (9 • c)) (2 • (9 • d)) (3 • (13 • d)) (1 • (11 • d))
     (1 • (14 • d))
@@ -154,12 +155,12 @@ rounds_undone block w nr (suc n) is keys low =
     let here : nr - 1 - n ≡ suc m = omega arith in
     let key : suc n ≡ nr - suc m = omega arith in
     let before = inv_after_state block w nr m is keys in
-    let reached = inv_after_state block w nr (suc m) is keys in
+    let inv_state = inv_after_state block w nr (suc m) is keys in
     let shifted = inv_sub_bytes_state _ (inv_shift_rows_state _ before) in
     rw (
       rounds_undone block w nr n is keys (omega arith),
       here,
-      half_round_undone (inv_state_after block nr w (suc m)) reached,
+      half_round_undone (inv_state_after block nr w (suc m)) inv_state,
     )
     (ap (add_round_key (mix_columns (inv_state_after block nr w (suc m))) w) key
     ∙ round_undone block w nr m shifted keys)

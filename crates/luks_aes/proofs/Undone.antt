@@ -102,13 +102,13 @@ rounds_undone block w nr (suc n) is keys low =
     let here : nr - 1 - n ≡ suc m = omega arith in
     let key : nr - suc n ≡ suc m = omega arith in
     let before = after_state block w m is keys in
-    let reached = after_state block w (suc m) is keys in
+    let inv_state = after_state block w (suc m) is keys in
     let shifted = shift_rows_state _ (sub_bytes_state _ before) in
     rw (
       rounds_undone block w nr n is keys (omega arith),
       here,
       key,
-      half_round_undone (state_after block w (suc m)) reached,
+      half_round_undone (state_after block w (suc m)) inv_state,
     )
     (round_undone block w m shifted)
 

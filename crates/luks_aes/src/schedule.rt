@@ -82,7 +82,7 @@ fn next_word(key_words: usize, schedule: &[u8], i: usize) -> [u8; 4]
 fn write_word(key_words: usize, schedule: &mut [u8], i: usize)
     requires some { 0 < key_words }
     requires after_key { key_words ≤ i }
-    requires room { 4 * i + 4 ≤ length schedule.old }
+    requires capacity { 4 * i + 4 ≤ length schedule.old }
     ensures { take (4 * i + 4) schedule.new ≡ with_next_word key_words (take (4 * i) schedule.old) }
 {
     let at = 4 * i;
@@ -93,7 +93,7 @@ fn write_word(key_words: usize, schedule: &mut [u8], i: usize)
 // Fills `schedule` with the words of the key and those that follow from them.
 fn expand(key: &[u8], schedule: &mut [u8])
     requires key_length { IsTrue (is_aes_key_length (length key.now)) }
-    requires room { length schedule.old ≡ MAX_SCHEDULE_LEN }
+    requires capacity { length schedule.old ≡ MAX_SCHEDULE_LEN }
     ensures { take (16 * (rounds_of key.now + 1)) schedule.new ≡ key_expansion key.now }
 {
     let key_words = key.len() / 4;

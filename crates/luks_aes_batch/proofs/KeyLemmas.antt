@@ -18,27 +18,27 @@ use Rattle.luks_aes_batch.specs.States.{RepresentRows, block_in}
 use Rattle.luks_aes_batch.specs.RoundKeys.{rows_of, HasInvMixedKey, HasInvMixedKeys}
 use Rattle.luks_aes_batch.specs.declared.rows.BitslicedState.{BitslicedState}
 use Rattle.luks_aes_batch.proofs.StateLemmas.{all_also, all_as}
-use Rattle.luks_aes_batch.proofs.WayLemmas.{ordered_below, in_block}
+use Rattle.luks_aes_batch.proofs.PackingLemmas.{ordered_below, in_block}
 
 -- the rows of a block with k XORed into each of its bytes
-pub block_stands : (block sum : List ℕ) (k : ℕ) (f : ℕ → ℕ → ℕ) (rows kept : List (List (List ℕ)))
+pub block_represented : (block sum : List ℕ) (k : ℕ) (f : ℕ → ℕ → ℕ) (rows kept : List (List (List ℕ)))
     → sum ≡ state_of (λ r c. cell block r c ⊕ k) → ((r c : ℕ) → r < 4 → c < 4 → cell block r c ≡ f r c)
     → RepresentRows (λ r q. cell sum r (column_index q)) rows → kept ≡ rows
     → RepresentRows (λ r q. f r (column_index q) ⊕ k) kept
-block_stands block sum k f rows kept is same stand kept_rows =
+block_represented block sum k f rows kept is same represented kept_rows =
     let at : (r q : ℕ) → r < 4 → cell sum r (column_index q) ≡ f r (column_index q) ⊕ k = λ r q low.
     let small = ordered_below (q / 8 % 4) in
     ap (λ s. cell s r (column_index q)) is
     ∙ cell_of (λ r c. cell block r c ⊕ k) r (column_index q) low small
     ∙ ap (λ x. x ⊕ k) (same r (column_index q) low small) in
     all_as kept_rows
-    (all_also _ _ rows stand (λ r q low. omega (arith, (stand.at r low).bytes q, at r q low))
+    (all_also _ _ rows represented (λ r q low. omega (arith, (represented.at r low).bytes q, at r q low))
     (λ r q low inside. at r q low))
 
 pub keys_more : (w : List ℕ) (all : List BitslicedState) (n : ℕ) (key : BitslicedState) → HasInvMixedKeys w all (n + 1)
     → n < length all
     → HasInvMixedKey w (n + 1) 0x63 (rows_of key) → HasInvMixedKeys w (set all n key) (n + 1 + 1)
-keys_more w all n key before room here = record {
+keys_more w all n key before capacity here = record {
   at = λ m low found there.
       let got = get_or_from_slice_get (set all n key) m found found there in
       elim (cases_lt m n) [
@@ -47,7 +47,7 @@ keys_more w all n key before room here = record {
             before.at m (omega arith) found (slice_get-get_or all m found (omega arith) ∙ ap Some (sym kept ∙ got))
         | inr above ↦
             let place : m ≡ n = omega arith in
-            let is : key ≡ found = sym (get_or-set_at all n m key found place room) ∙ got in
+            let is : key ≡ found = sym (get_or-set_at all n m key found place capacity) ∙ got in
             subst (λ (x : BitslicedState). HasInvMixedKey w (m + 1) 0x63 (rows_of x)) is
             (subst (λ (x : ℕ). HasInvMixedKey w (x + 1) 0x63 (rows_of key)) (sym place) here)
       ];
@@ -58,8 +58,8 @@ keys_more w all n key before room here = record {
 pub block_state : (s : List ℕ) (n : ℕ) → length s ≡ 512 → n < 32 → IsBytes s → IsState (block_in s n)
 block_state s n size low all = record {
   len =
-      let room : 16 ≤ length (drop (16 * n) s) = rw (length-drop (16 * n) s) (omega arith) in
-      length-take-le 16 (drop (16 * n) s) room;
+      let capacity : 16 ≤ length (drop (16 * n) s) = rw (length-drop (16 * n) s) (omega arith) in
+      length-take-le 16 (drop (16 * n) s) capacity;
   bytes = bytes_take 16 (drop (16 * n) s) (bytes_drop (16 * n) s all);
 }
 

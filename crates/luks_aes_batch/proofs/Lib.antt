@@ -1,7 +1,7 @@
 pub mod MixLemmas
 pub mod PlaneLemmas
 pub mod StateLemmas
-pub mod WayLemmas
+pub mod PackingLemmas
 pub mod OutLemmas
 pub mod RoundLemmas
 pub mod KeyLemmas

@@ -8,7 +8,7 @@ use Rattle.luks_aes.proofs.Bytes.{same_below}
 use Rattle.luks_bitslice.specs.BitPlanes.{column_order, block_index, column_index, HasBits, Represents}
 use Rattle.luks_aes_batch.specs.States.{state_byte}
 use Rattle.luks_bitslice.proofs.LaneLemmas.{each_below_4}
-use Rattle.luks_aes_batch.proofs.WayLemmas.{ordered_below}
+use Rattle.luks_aes_batch.proofs.PackingLemmas.{ordered_below}
 
 -- a byte is the sum of its bits, each times its power of two
 sum_of_bits : (x : ℕ) → x < 256
@@ -35,9 +35,9 @@ same_bits x y low small same =
     ∙ sum_of_bits y small
 
 -- the bit planes of a row, bit by bit
-pub stands_shown : (y : ℕ → ℕ) (x : List (List ℕ)) → Represents y x
+pub represented_bits : (y : ℕ → ℕ) (x : List (List ℕ)) → Represents y x
     → (j : ℕ) → j < 8 → HasBits (λ p k. bit_at (y (8 * p + k)) j) (slice_index_or x j [])
-stands_shown y x is j low =
+represented_bits y x is j low =
     let plane = is.at j low in
     record {
       len = plane.len;
@@ -51,9 +51,9 @@ twice_ordered : (i : ℕ) → i < 4 → column_order (column_order i) ≡ i
 twice_ordered = same_below (λ i. column_order (column_order i)) (λ i. i) 4 refl
 
 -- the byte of row i % 4 at the bit index of block n and column i / 4 is byte i of that block
-pub at_place : (s : ℕ → List ℕ) (n i : ℕ) → n < 32 → i < 16
+pub state_byte_at_index : (s : ℕ → List ℕ) (n i : ℕ) → n < 32 → i < 16
     → state_byte s 0 (i % 4) (8 * (4 * (n % 4) + column_order (i / 4)) + n / 4) ≡ slice_index (s n) i
-at_place s n i low inside =
+state_byte_at_index s n i low inside =
     let q = 8 * (4 * (n % 4) + column_order (i / 4)) + n / 4 in
     let small = ordered_below (i / 4) in
     let block : block_index q ≡ n = omega (arith, small) in
@@ -64,8 +64,8 @@ at_place s n i low inside =
     ∙ ap (slice_index (s n)) (omega arith)
 
 -- byte i of block m of the four blocks in group g, read from their rows
-abbrev pub placed : List (List ℕ) → List (List ℕ) → List (List ℕ) → List (List ℕ) → ℕ → ℕ → ℕ → ℕ
-placed a b c d g m i =
+abbrev pub byte_of_rows : List (List ℕ) → List (List ℕ) → List (List ℕ) → List (List ℕ) → ℕ → ℕ → ℕ → ℕ
+byte_of_rows a b c d g m i =
     slice_index
     (slice_index_or (slice_index_or a g [] ∷ slice_index_or b g [] ∷ slice_index_or c g [] ∷ slice_index_or d g [] ∷
     []) (i % 4) [])
@@ -77,7 +77,7 @@ pub placed_bits : (y : ℕ → ℕ → ℕ) (a b c d : List (List ℕ)) (g m i :
     → ((p k : ℕ) → p < 16 → k < 8 → bit_at (slice_index (slice_index_or c g []) p) k ≡ bit_at (y 2 (8 * p + g)) k)
     → ((p k : ℕ) → p < 16 → k < 8 → bit_at (slice_index (slice_index_or d g []) p) k ≡ bit_at (y 3 (8 * p + g)) k)
     → (k : ℕ) → m < 4 → i < 16 → k < 8
-    → bit_at (placed a b c d g m i) k ≡ bit_at (y (i % 4) (8 * (4 * m + column_order (i / 4)) + g)) k
+    → bit_at (byte_of_rows a b c d g m i) k ≡ bit_at (y (i % 4) (8 * (4 * m + column_order (i / 4)) + g)) k
 placed_bits y a b c d g m i first second third fourth k low inside bit =
     let p = 4 * m + column_order (i / 4) in
     let small : p < 16 = omega (arith, ordered_below (i / 4)) in

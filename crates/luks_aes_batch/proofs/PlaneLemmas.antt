@@ -12,7 +12,8 @@ use Rattle.luks_bitslice.proofs.GateLemmas.{gate_len, gate_bit}
 use Rattle.luks_aes_batch.specs.States.{RepresentRows}
 use Rattle.luks_aes_batch.proofs.MixLemmas.{inv_mixed_byte}
 use Rattle.luks_aes_batch.specs.RoundKeys.{row_0_of, row_1_of, row_2_of, row_3_of, rows_of}
-use Rattle.luks_aes_batch.specs.Mixing.{sum_of, even_of, next_of, inv_mixed_row, AreBytes, IsOfPlane, HasSums, HasDoubled}
+use Rattle.luks_aes_batch.specs.Mixing.{column_bytes_xor, even_of, step_of, inv_mixed_row, AreBytes, IsOfPlane}
+use Rattle.luks_aes_batch.specs.Mixing.{HasSharedValues, HasDoubledValues}
 use Rattle.luks_aes_batch.specs.declared.rows.BitslicedState.{BitslicedState}
 use Rattle.luks_aes_batch.specs.declared.mixing.Sums.{Sums}
 
@@ -69,7 +70,7 @@ reduced f j k {v} {w} {r} law bytes first second is = record {
 
 -- ---- the shared values as bytes
 
-sum_bytes : (y : ℕ → ℕ → ℕ) → AreBytes y → (q : ℕ) → sum_of (y 0 q) (y 1 q) (y 2 q) (y 3 q) < 256
+sum_bytes : (y : ℕ → ℕ → ℕ) → AreBytes y → (q : ℕ) → column_bytes_xor (y 0 q) (y 1 q) (y 2 q) (y 3 q) < 256
 sum_bytes y all q =
     xor_byte _ (y 3 q)
     (xor_byte _ (y 1 q) (xor_byte (y 0 q) (y 2 q) (all.at 0 q (omega arith)) (all.at 2 q (omega arith)))
@@ -80,7 +81,7 @@ even_bytes y all q =
     xor_byte _ _ (times_x_byte _ (sum_bytes y all q))
     (xor_byte (y 0 q) (y 2 q) (all.at 0 q (omega arith)) (all.at 2 q (omega arith)))
 
-step_bytes : (y : ℕ → ℕ → ℕ) → AreBytes y → (q : ℕ) → next_of (y 0 q) (y 1 q) (y 2 q) (y 3 q) < 256
+step_bytes : (y : ℕ → ℕ → ℕ) → AreBytes y → (q : ℕ) → step_of (y 0 q) (y 1 q) (y 2 q) (y 3 q) < 256
 step_bytes y all q =
     xor_byte _ (y 1 q) (xor_byte _ (y 0 q) (times_x_byte _ (even_bytes y all q)) (all.at 0 q (omega arith)))
     (all.at 1 q (omega arith))
@@ -88,35 +89,37 @@ step_bytes y all q =
 -- ---- the shared values in one plane as doubled values in another
 
 doubled_from : (y : ℕ → ℕ → ℕ) (j k : ℕ) (x : Sums) → ((b : ℕ) → b < 256 → bit_at (times_x b) k ≡ bit_at b j)
-    → AreBytes y → HasSums y j x → HasDoubled y k x
+    → AreBytes y → HasSharedValues y j x → HasDoubledValues y k x
 doubled_from y j k x law all has = record {
   all = moved _ j k law (sum_bytes y all) has.all;
   even = moved _ j k law (even_bytes y all) has.even;
   step = moved _ j k law (step_bytes y all) has.step;
 }
 
-pub doubled_0 : (y : ℕ → ℕ → ℕ) (x : Sums) → AreBytes y → HasSums y 7 x → HasDoubled y 0 x
+pub doubled_0 : (y : ℕ → ℕ → ℕ) (x : Sums) → AreBytes y → HasSharedValues y 7 x → HasDoubledValues y 0 x
 doubled_0 y x = doubled_from y 7 0 x bit_0
 
-pub doubled_2 : (y : ℕ → ℕ → ℕ) (x : Sums) → AreBytes y → HasSums y 1 x → HasDoubled y 2 x
+pub doubled_2 : (y : ℕ → ℕ → ℕ) (x : Sums) → AreBytes y → HasSharedValues y 1 x → HasDoubledValues y 2 x
 doubled_2 y x = doubled_from y 1 2 x bit_2
 
-pub doubled_5 : (y : ℕ → ℕ → ℕ) (x : Sums) → AreBytes y → HasSums y 4 x → HasDoubled y 5 x
+pub doubled_5 : (y : ℕ → ℕ → ℕ) (x : Sums) → AreBytes y → HasSharedValues y 4 x → HasDoubledValues y 5 x
 doubled_5 y x = doubled_from y 4 5 x bit_5
 
-pub doubled_6 : (y : ℕ → ℕ → ℕ) (x : Sums) → AreBytes y → HasSums y 5 x → HasDoubled y 6 x
+pub doubled_6 : (y : ℕ → ℕ → ℕ) (x : Sums) → AreBytes y → HasSharedValues y 5 x → HasDoubledValues y 6 x
 doubled_6 y x = doubled_from y 5 6 x bit_6
 
-pub doubled_7 : (y : ℕ → ℕ → ℕ) (x : Sums) → AreBytes y → HasSums y 6 x → HasDoubled y 7 x
+pub doubled_7 : (y : ℕ → ℕ → ℕ) (x : Sums) → AreBytes y → HasSharedValues y 6 x → HasDoubledValues y 7 x
 doubled_7 y x = doubled_from y 6 7 x bit_7
 
 -- the doubled values in planes 6 and 7, not all of which are known
-pub all_6 : (y : ℕ → ℕ → ℕ) {v : List ℕ} → AreBytes y → IsBitPlane (λ q. sum_of (y 0 q) (y 1 q) (y 2 q) (y 3 q)) 5 v
-    → IsBitPlane (λ q. times_x (sum_of (y 0 q) (y 1 q) (y 2 q) (y 3 q))) 6 v
+pub all_6 : (y : ℕ → ℕ → ℕ) {v : List ℕ} → AreBytes y → IsBitPlane (λ q. column_bytes_xor (y 0 q) (y 1 q) (y 2 q)
+    (y 3 q)) 5 v
+    → IsBitPlane (λ q. times_x (column_bytes_xor (y 0 q) (y 1 q) (y 2 q) (y 3 q))) 6 v
 all_6 y all = moved _ 5 6 bit_6 (sum_bytes y all)
 
-pub all_7 : (y : ℕ → ℕ → ℕ) {v : List ℕ} → AreBytes y → IsBitPlane (λ q. sum_of (y 0 q) (y 1 q) (y 2 q) (y 3 q)) 6 v
-    → IsBitPlane (λ q. times_x (sum_of (y 0 q) (y 1 q) (y 2 q) (y 3 q))) 7 v
+pub all_7 : (y : ℕ → ℕ → ℕ) {v : List ℕ} → AreBytes y → IsBitPlane (λ q. column_bytes_xor (y 0 q) (y 1 q) (y 2 q)
+    (y 3 q)) 6 v
+    → IsBitPlane (λ q. times_x (column_bytes_xor (y 0 q) (y 1 q) (y 2 q) (y 3 q))) 7 v
 all_7 y all = moved _ 6 7 bit_7 (sum_bytes y all)
 
 pub even_7 : (y : ℕ → ℕ → ℕ) {v : List ℕ} → AreBytes y → IsBitPlane (λ q. even_of (y 0 q) (y 1 q) (y 2 q) (y 3 q)) 6 v
@@ -127,27 +130,27 @@ even_7 y all = moved _ 6 7 bit_7 (even_bytes y all)
 -- the XOR of the byte's bits j and 7
 doubled_with : (y : ℕ → ℕ → ℕ) (j k : ℕ) (x top r : Sums)
     → ((b : ℕ) → b < 256 → bit_at (times_x b) k ≡ (bit_at b j + bit_at b 7) % 2)
-    → AreBytes y → HasSums y j x → HasSums y 7 top → r.all ≡ zip2 bit_xor x.all top.all
-    → r.even ≡ zip2 bit_xor x.even top.even → r.step ≡ zip2 bit_xor x.step top.step → HasDoubled y k r
+    → AreBytes y → HasSharedValues y j x → HasSharedValues y 7 top → r.all ≡ zip2 bit_xor x.all top.all
+    → r.even ≡ zip2 bit_xor x.even top.even → r.step ≡ zip2 bit_xor x.step top.step → HasDoubledValues y k r
 doubled_with y j k x top r law all has last a e s = record {
   all = reduced _ j k law (sum_bytes y all) has.all last.all a;
   even = reduced _ j k law (even_bytes y all) has.even last.even e;
   step = reduced _ j k law (step_bytes y all) has.step last.step s;
 }
 
-pub doubled_1 : (y : ℕ → ℕ → ℕ) (x top r : Sums) → AreBytes y → HasSums y 0 x → HasSums y 7 top
+pub doubled_1 : (y : ℕ → ℕ → ℕ) (x top r : Sums) → AreBytes y → HasSharedValues y 0 x → HasSharedValues y 7 top
     → r.all ≡ zip2 bit_xor x.all top.all → r.even ≡ zip2 bit_xor x.even top.even → r.step ≡ zip2 bit_xor x.step top.step
-    → HasDoubled y 1 r
+    → HasDoubledValues y 1 r
 doubled_1 y x top r = doubled_with y 0 1 x top r bit_1
 
-pub doubled_3 : (y : ℕ → ℕ → ℕ) (x top r : Sums) → AreBytes y → HasSums y 2 x → HasSums y 7 top
+pub doubled_3 : (y : ℕ → ℕ → ℕ) (x top r : Sums) → AreBytes y → HasSharedValues y 2 x → HasSharedValues y 7 top
     → r.all ≡ zip2 bit_xor x.all top.all → r.even ≡ zip2 bit_xor x.even top.even → r.step ≡ zip2 bit_xor x.step top.step
-    → HasDoubled y 3 r
+    → HasDoubledValues y 3 r
 doubled_3 y x top r = doubled_with y 2 3 x top r bit_3
 
-pub doubled_4 : (y : ℕ → ℕ → ℕ) (x top r : Sums) → AreBytes y → HasSums y 3 x → HasSums y 7 top
+pub doubled_4 : (y : ℕ → ℕ → ℕ) (x top r : Sums) → AreBytes y → HasSharedValues y 3 x → HasSharedValues y 7 top
     → r.all ≡ zip2 bit_xor x.all top.all → r.even ≡ zip2 bit_xor x.even top.even → r.step ≡ zip2 bit_xor x.step top.step
-    → HasDoubled y 4 r
+    → HasDoubledValues y 4 r
 doubled_4 y x top r = doubled_with y 3 4 x top r bit_4
 
 -- ---- rows

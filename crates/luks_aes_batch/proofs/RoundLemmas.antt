@@ -12,17 +12,17 @@ use Rattle.luks_aes.proofs.SboxLemmas.{inv_sbox_byte}
 use Rattle.luks_aes.proofs.ByteLists.{IsState, made_state, state_bytes, xor_byte, columns_state}
 use Rattle.luks_aes.proofs.MixingLemmas.{inv_mixed}
 use Rattle.luks_aes.proofs.Undone.{xor_twice}
-use Rattle.luks_aes.proofs.InvMixedLemmas.{row_sum, cell_of}
+use Rattle.luks_aes.proofs.InvMixedLemmas.{inv_mixed_xor, cell_of}
 use Rattle.luks_bitslice.specs.BitPlanes.{block_index, column_index, rotated_index}
 use Rattle.luks_aes_batch.specs.States.{RepresentRows, RepresentStates, RepresentRotated, state_byte}
 use Rattle.luks_bitslice.proofs.LaneLemmas.{each_below_4}
 use Rattle.luks_aes_batch.proofs.StateLemmas.{all_also}
-use Rattle.luks_aes_batch.proofs.WayLemmas.{ordered_below}
+use Rattle.luks_aes_batch.proofs.PackingLemmas.{ordered_below}
 
 -- ---- bit indices after the rotation of a row
 
-turned_block : (r q : ℕ) → r < 4 → q < 128 → block_index (rotated_index r q) ≡ block_index q
-turned_block r q low inside =
+rotated_block_index : (r q : ℕ) → r < 4 → q < 128 → block_index (rotated_index r q) ≡ block_index q
+rotated_block_index r q low inside =
     each_below_4 (λ r. block_index (rotated_index r q) ≡ block_index q)
     (same_below (λ q. block_index (rotated_index 0 q)) block_index 128 refl q inside)
     (same_below (λ q. block_index (rotated_index 1 q)) block_index 128 refl q inside)
@@ -30,8 +30,8 @@ turned_block r q low inside =
     (same_below (λ q. block_index (rotated_index 3 q)) block_index 128 refl q inside)
     r low
 
-turned_column : (r q : ℕ) → r < 4 → q < 128 → column_index (rotated_index r q) ≡ (column_index q + 4 - r) % 4
-turned_column r q low inside =
+rotated_column_index : (r q : ℕ) → r < 4 → q < 128 → column_index (rotated_index r q) ≡ (column_index q + 4 - r) % 4
+rotated_column_index r q low inside =
     each_below_4 (λ r. column_index (rotated_index r q) ≡ (column_index q + 4 - r) % 4)
     (same_below (λ q. column_index (rotated_index 0 q)) (λ q. (column_index q + 4 - 0) % 4) 128 refl q inside)
     (same_below (λ q. column_index (rotated_index 1 q)) (λ q. (column_index q + 4 - 1) % 4) 128 refl q inside)
@@ -92,7 +92,7 @@ inv_mixed_cell s w n r c all keys low small =
     c low small
     ∙ (λ i. inv_mixed (at r low i) (at ((r + 1) % 4) (omega arith) i) (at ((r + 2) % 4) (omega arith) i)
     (at ((r + 3) % 4) (omega arith) i))
-    ∙ row_sum _ _ _ _ _ _ _ _ (byte r) (byte ((r + 1) % 4)) (byte ((r + 2) % 4)) (byte ((r + 3) % 4))
+    ∙ inv_mixed_xor _ _ _ _ _ _ _ _ (byte r) (byte ((r + 1) % 4)) (byte ((r + 2) % 4)) (byte ((r + 3) % 4))
     (key r) (key ((r + 1) % 4)) (key ((r + 2) % 4)) (key ((r + 3) % 4))
 
 -- ---- rows
@@ -109,7 +109,7 @@ rows_substituted t rows all is =
     (λ r q low. (substituted_bytes (t (block_index q)) (all (block_index q))).each (r + 4 * column_index q))
     (λ r q low inside.
     ap inv_sbox (xor_twice (cells t r (rotated_index r q)) 0x63)
-    ∙ (λ i. inv_sbox (cell (t (turned_block r q low inside i)) r (turned_column r q low inside i)))
+    ∙ (λ i. inv_sbox (cell (t (rotated_block_index r q low inside i)) r (rotated_column_index r q low inside i)))
     ∙ sym (substituted_cell (t (block_index q)) r (column_index q) low (ordered_below (q / 8 % 4))))
 
 -- a byte of a row after InvMixColumns, XORed with the round key after InvMixColumns
@@ -132,7 +132,7 @@ pub rows_inv_mixed : (t : ℕ → List ℕ) (w : List ℕ) (n : ℕ) (rows : Lis
     rows
     → RepresentRotated (λ m. inv_mix_columns (add_round_key (t m) w n)) rows
 rows_inv_mixed t w n rows all keys is = record {
-  stand = all_also _ (λ r q. state_byte (λ m. inv_mix_columns (add_round_key (t m) w n)) 0x63 r
+  represented = all_also _ (λ r q. state_byte (λ m. inv_mix_columns (add_round_key (t m) w n)) 0x63 r
       (rotated_index r q)) rows is
       (λ r q low.
       let p = rotated_index r q in
@@ -147,7 +147,7 @@ pub rows_keyed : (t : ℕ → List ℕ) (w : List ℕ) (n k : ℕ) (rows : List 
     → RepresentRows (λ r q. cells t r q ⊕ (key_byte w n r (column_index q) ⊕ k)) rows
     → RepresentStates (λ m. add_round_key (t m) w n) k rows
 rows_keyed t w n k rows small all keys is = record {
-  stand = all_also _ (state_byte (λ m. add_round_key (t m) w n) k) rows is
+  represented = all_also _ (state_byte (λ m. add_round_key (t m) w n) k) rows is
       (λ r q low.
       let state = added_state (t (block_index q)) w n (all (block_index q)) keys in
       xor_byte _ k (state.bytes.each (r + 4 * column_index q)) small)
@@ -160,7 +160,7 @@ rows_keyed t w n k rows small all keys is = record {
 pub rows_plain : (t : ℕ → List ℕ) (rows : List (List (List ℕ))) → RepresentStates t 0 rows → ((m : ℕ) → IsBytes (t m))
     → RepresentRows (cells t) rows
 rows_plain t rows hold all =
-    all_also _ (cells t) rows hold.stand (λ r q low. (all (block_index q)).each (r + 4 * column_index q))
+    all_also _ (cells t) rows hold.represented (λ r q low. (all (block_index q)).each (r + 4 * column_index q))
     (λ r q low inside. xor_zero_r (cells t r q))
 
 pub hold_same : (s t : ℕ → List ℕ) (k : ℕ) (rows : List (List (List ℕ))) → ((m : ℕ) → s m ≡ t m)

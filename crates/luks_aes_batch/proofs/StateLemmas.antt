@@ -11,15 +11,15 @@ pub plane_also : (y z : ℕ → ℕ) (j : ℕ) (v : List ℕ) → IsBitPlane y j
     → IsBitPlane z j v
 plane_also y z j v is same = record { len = is.len; at = λ q low. is.at q low ∙ ap (λ b. bit_at b j) (same q low) }
 
-pub stands_also : (y z : ℕ → ℕ) (x : List (List ℕ)) → Represents y x → ((q : ℕ) → z q < 256)
+pub represents_also : (y z : ℕ → ℕ) (x : List (List ℕ)) → Represents y x → ((q : ℕ) → z q < 256)
     → ((q : ℕ) → q < 128 → y q ≡ z q) → Represents z x
-stands_also y z x is bytes same = record { bytes = bytes; at = λ j low. plane_also y z j _ (is.at j low) same }
+represents_also y z x is bytes same = record { bytes = bytes; at = λ j low. plane_also y z j _ (is.at j low) same }
 
 pub all_also : (y z : ℕ → ℕ → ℕ) (rows : List (List (List ℕ))) → RepresentRows y rows → ((r q : ℕ) → r < 4
     → z r q < 256)
     → ((r q : ℕ) → r < 4 → q < 128 → y r q ≡ z r q) → RepresentRows z rows
 all_also y z rows is bytes same = record {
-  at = λ r low. stands_also (y r) (z r) _ (is.at r low) (λ q. bytes r q low) (λ q below. same r q low below);
+  at = λ r low. represents_also (y r) (z r) _ (is.at r low) (λ q. bytes r q low) (λ q below. same r q low below);
 }
 
 four_rows : (z : ℕ → ℕ → ℕ) (a b c d : List (List ℕ)) → Represents (z 0) a → Represents (z 1) b → Represents (z 2) c
@@ -36,17 +36,17 @@ pub four : (z : ℕ → ℕ → ℕ) (a b c d : List (List ℕ)) → Represents 
     → RepresentRows z (a ∷ b ∷ c ∷ d ∷ [])
 four z a b c d p q r s = record { at = four_rows z a b c d p q r s }
 
-pub stands_as : {y : ℕ → ℕ} {a b : List (List ℕ)} → a ≡ b → Represents y b → Represents y a
-stands_as {y} same is = subst (λ (x : List (List ℕ)). Represents y x) (sym same) is
+pub represents_if_equal : {y : ℕ → ℕ} {a b : List (List ℕ)} → a ≡ b → Represents y b → Represents y a
+represents_if_equal {y} same is = subst (λ (x : List (List ℕ)). Represents y x) (sym same) is
 
 pub all_as : {y : ℕ → ℕ → ℕ} {a b : List (List (List ℕ))} → a ≡ b → RepresentRows y b → RepresentRows y a
 all_as {y} same is = subst (λ (x : List (List (List ℕ))). RepresentRows y x) (sym same) is
 
 -- the eight planes of a row, listed one by one, represent the bytes that the row represents
-pub taken : {y : ℕ → ℕ} {x : List (List ℕ)} → Represents y x
+pub represented_by_planes : {y : ℕ → ℕ} {x : List (List ℕ)} → Represents y x
     → Represents y (slice_index_or x 0 [] ∷ slice_index_or x 1 [] ∷ slice_index_or x 2 [] ∷ slice_index_or x 3 []
     ∷ slice_index_or x 4 [] ∷ slice_index_or x 5 [] ∷ slice_index_or x 6 [] ∷ slice_index_or x 7 [] ∷ [])
-taken {y} is = record {
+represented_by_planes {y} is = record {
   bytes = is.bytes;
   at = eight y _ _ _ _ _ _ _ _ (is.at 0 (omega arith)) (is.at 1 (omega arith)) (is.at 2 (omega arith))
       (is.at 3 (omega arith)) (is.at 4 (omega arith)) (is.at 5 (omega arith)) (is.at 6 (omega arith))

@@ -10,14 +10,14 @@ use Rattle.luks_aes_batch.specs.declared.mixing.Sums.{Sums}
 
 -- ---- the values that the rows of a column share
 
-abbrev pub sum_of : ℕ → ℕ → ℕ → ℕ → ℕ
-sum_of a b c d = ((a ⊕ c) ⊕ b) ⊕ d
+abbrev pub column_bytes_xor : ℕ → ℕ → ℕ → ℕ → ℕ
+column_bytes_xor a b c d = ((a ⊕ c) ⊕ b) ⊕ d
 
 abbrev pub even_of : ℕ → ℕ → ℕ → ℕ → ℕ
-even_of a b c d = times_x (sum_of a b c d) ⊕ (a ⊕ c)
+even_of a b c d = times_x (column_bytes_xor a b c d) ⊕ (a ⊕ c)
 
-abbrev pub next_of : ℕ → ℕ → ℕ → ℕ → ℕ
-next_of a b c d = (times_x (even_of a b c d) ⊕ a) ⊕ b
+abbrev pub step_of : ℕ → ℕ → ℕ → ℕ → ℕ
+step_of a b c d = (times_x (even_of a b c d) ⊕ a) ⊕ b
 
 -- the byte of row r at bit q after InvMixColumns, if y r q are the bytes of the four rows before
 abbrev pub inv_mixed_row : (ℕ → ℕ → ℕ) → ℕ → ℕ → ℕ
@@ -36,13 +36,13 @@ pub record IsOfPlane (y : ℕ → ℕ → ℕ) (j : ℕ) (x : FourPlanes) : Type
   pub row_3 : IsBitPlane (y 3) j x.row_3
 
 -- `x` holds bit j of the shared values
-pub record HasSums (y : ℕ → ℕ → ℕ) (j : ℕ) (x : Sums) : Type 0 where
-  pub all : IsBitPlane (λ q. sum_of (y 0 q) (y 1 q) (y 2 q) (y 3 q)) j x.all
+pub record HasSharedValues (y : ℕ → ℕ → ℕ) (j : ℕ) (x : Sums) : Type 0 where
+  pub all : IsBitPlane (λ q. column_bytes_xor (y 0 q) (y 1 q) (y 2 q) (y 3 q)) j x.all
   pub even : IsBitPlane (λ q. even_of (y 0 q) (y 1 q) (y 2 q) (y 3 q)) j x.even
-  pub step : IsBitPlane (λ q. next_of (y 0 q) (y 1 q) (y 2 q) (y 3 q)) j x.step
+  pub step : IsBitPlane (λ q. step_of (y 0 q) (y 1 q) (y 2 q) (y 3 q)) j x.step
 
 -- `x` holds bit j of the doubled shared values
-pub record HasDoubled (y : ℕ → ℕ → ℕ) (j : ℕ) (x : Sums) : Type 0 where
-  pub all : IsBitPlane (λ q. times_x (sum_of (y 0 q) (y 1 q) (y 2 q) (y 3 q))) j x.all
+pub record HasDoubledValues (y : ℕ → ℕ → ℕ) (j : ℕ) (x : Sums) : Type 0 where
+  pub all : IsBitPlane (λ q. times_x (column_bytes_xor (y 0 q) (y 1 q) (y 2 q) (y 3 q))) j x.all
   pub even : IsBitPlane (λ q. times_x (even_of (y 0 q) (y 1 q) (y 2 q) (y 3 q))) j x.even
-  pub step : IsBitPlane (λ q. times_x (next_of (y 0 q) (y 1 q) (y 2 q) (y 3 q))) j x.step
+  pub step : IsBitPlane (λ q. times_x (step_of (y 0 q) (y 1 q) (y 2 q) (y 3 q))) j x.step

@@ -33,11 +33,11 @@ rows_of x = row_0_of x ∷ row_1_of x ∷ row_2_of x ∷ row_3_of x ∷ []
 
 -- the rows represent round key n of the schedule w for every block, with k XORed into each byte
 pub record HasRoundKey (w : List ℕ) (n k : ℕ) (rows : List (List (List ℕ))) : Type 0 where
-  pub stand : RepresentRows (λ r q. key_byte w n r (column_index q) ⊕ k) rows
+  pub represented : RepresentRows (λ r q. key_byte w n r (column_index q) ⊕ k) rows
 
 -- the rows represent round key n after InvMixColumns, with k XORed into each byte
 pub record HasInvMixedKey (w : List ℕ) (n k : ℕ) (rows : List (List (List ℕ))) : Type 0 where
-  pub stand : RepresentRows (λ r q. inv_mixed_key_byte w n r (column_index q) ⊕ k) rows
+  pub represented : RepresentRows (λ r q. inv_mixed_key_byte w n r (column_index q) ⊕ k) rows
 
 -- if n + 1 is less than `end`, entry n is round key n + 1 after InvMixColumns, with 0x63 XORed into each byte
 pub record HasInvMixedKeys (w : List ℕ) (all : List BitslicedState) (end : ℕ) : Type 0 where

@@ -14,11 +14,11 @@ state_byte s k r q = cell (s (block_index q)) r (column_index q) ⊕ k
 
 -- the rows represent the states of 32 blocks, with k XORed into each byte
 pub record RepresentStates (s : ℕ → List ℕ) (k : ℕ) (rows : List (List (List ℕ))) : Type 0 where
-  pub stand : RepresentRows (state_byte s k) rows
+  pub represented : RepresentRows (state_byte s k) rows
 
 -- the rows represent the states of 32 blocks after InvShiftRows, with 0x63 XORed into each byte
 pub record RepresentRotated (s : ℕ → List ℕ) (rows : List (List (List ℕ))) : Type 0 where
-  pub stand : RepresentRows (λ r q. state_byte s 0x63 r (rotated_index r q)) rows
+  pub represented : RepresentRows (λ r q. state_byte s 0x63 r (rotated_index r q)) rows
 
 -- block n of a batch
 abbrev pub block_in : List ℕ → ℕ → List ℕ

@@ -6,8 +6,8 @@ ghost use Rattle.luks_aes.specs.Aes.{cell, state_of, decrypted, is_aes_key_lengt
 ghost use Rattle.luks_aes.specs.Aes.{key_expansion};
 ghost use Rattle.luks_aes.specs.Bytes.{IsBytes};
 ghost use Rattle.luks_aes_batch.specs.States.{block_in, RepresentStates};
-ghost use Rattle.luks_aes_batch.specs.RoundKeys.{rows_of, HasRoundKey, HasInvMixedKey, HasInvMixedKeys};
-ghost use Rattle.luks_aes_batch.specs.RoundKeys.{IsBatchKey};
+ghost use Rattle.luks_aes_batch.specs.RoundKeys.{rows_of, HasRoundKey, HasInvMixedKey};
+ghost use Rattle.luks_aes_batch.specs.RoundKeys.{HasInvMixedKeys, IsBatchKey};
 
 use crate::packing::{broadcast, pack, unpack};
 use crate::rows::BitslicedState;
@@ -50,7 +50,7 @@ impl Model for BatchKey {
 }
 
 // The block with a number XORed into each byte.
-fn block_plus(block: [u8; 16], number: u8) -> [u8; 16]
+fn block_xor_number(block: [u8; 16], number: u8) -> [u8; 16]
     ensures { result ≡ state_of (λ r c. cell block r c ⊕ number) }
 {
     let mut sum = [0; 16];
@@ -65,7 +65,7 @@ fn plain_round_key(key: &AesKey, n: usize, number: u8) -> BitslicedState
     requires { n ≤ rounds_of key.now }
     ensures { HasRoundKey (key_expansion key.now) n number (rows_of result) }
 {
-    BitslicedState::new(broadcast(block_plus(key.round_key(n), number)))
+    BitslicedState::new(broadcast(block_xor_number(key.round_key(n), number)))
 }
 
 // Round key `n` after InvMixColumns, with 0x63 XORed into each byte.
@@ -73,7 +73,7 @@ fn inv_mixed_round_key(key: &AesKey, n: usize) -> BitslicedState
     requires { n ≤ rounds_of key.now }
     ensures { HasInvMixedKey (key_expansion key.now) n 0x63 (rows_of result) }
 {
-    BitslicedState::new(broadcast(block_plus(key.inv_mixed_round_key(n), CONSTANT)))
+    BitslicedState::new(broadcast(block_xor_number(key.inv_mixed_round_key(n), CONSTANT)))
 }
 
 // Fills in the round keys between the first and the last.

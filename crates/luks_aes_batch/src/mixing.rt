@@ -3,8 +3,9 @@
 ghost use Rattle.std.specs.Prelude.{◌≡◌, ◌+◌, ◌%◌, ◌<◌, ℕ};
 ghost use Rattle.luks_aes.specs.Field.{◌⊕◌, ◌•◌, times_x};
 ghost use Rattle.luks_bitslice.specs.BitPlanes.{IsBitPlane, rotated_index};
-ghost use Rattle.luks_aes_batch.specs.Mixing.{sum_of, even_of, next_of, AreBytes, IsOfPlane, HasSums};
-ghost use Rattle.luks_aes_batch.specs.Mixing.{HasDoubled, inv_mixed_row};
+ghost use Rattle.luks_aes_batch.specs.Mixing.{column_bytes_xor, even_of, step_of};
+ghost use Rattle.luks_aes_batch.specs.Mixing.{AreBytes, IsOfPlane, HasSharedValues};
+ghost use Rattle.luks_aes_batch.specs.Mixing.{HasDoubledValues, inv_mixed_row};
 ghost use Rattle.luks_aes_batch.specs.RoundKeys.{rows_of};
 ghost use Rattle.luks_aes_batch.specs.States.{RepresentRows};
 
@@ -27,12 +28,12 @@ impl Sums {
     // values in this plane XORed with those in plane 7.
     #[inline(always)]
     fn reduced(&self, top: &Sums) -> Sums
-        ensures to_1 { (y : ℕ → ℕ → ℕ) → AreBytes y → HasSums y 0 self.now → HasSums y 7 top.now
-            → HasDoubled y 1 result }
-        ensures to_3 { (y : ℕ → ℕ → ℕ) → AreBytes y → HasSums y 2 self.now → HasSums y 7 top.now
-            → HasDoubled y 3 result }
-        ensures to_4 { (y : ℕ → ℕ → ℕ) → AreBytes y → HasSums y 3 self.now → HasSums y 7 top.now
-            → HasDoubled y 4 result }
+        ensures to_1 { (y : ℕ → ℕ → ℕ) → AreBytes y → HasSharedValues y 0 self.now
+            → HasSharedValues y 7 top.now → HasDoubledValues y 1 result }
+        ensures to_3 { (y : ℕ → ℕ → ℕ) → AreBytes y → HasSharedValues y 2 self.now
+            → HasSharedValues y 7 top.now → HasDoubledValues y 3 result }
+        ensures to_4 { (y : ℕ → ℕ → ℕ) → AreBytes y → HasSharedValues y 3 self.now
+            → HasSharedValues y 7 top.now → HasDoubledValues y 4 result }
     {
         Sums {
             all: xor(self.all, top.all),
@@ -47,13 +48,14 @@ impl FourPlanes {
     #[inline(always)]
     fn sums(&self, all_doubled: u8x16, even_doubled: u8x16) -> Sums
         ensures all { (y : ℕ → ℕ → ℕ) (j : ℕ) → IsOfPlane y j self.now
-            → IsBitPlane (λ q. sum_of (y 0 q) (y 1 q) (y 2 q) (y 3 q)) j result.all }
+            → IsBitPlane (λ q. column_bytes_xor (y 0 q) (y 1 q) (y 2 q) (y 3 q)) j result.all }
         ensures even { (y : ℕ → ℕ → ℕ) (j : ℕ) → IsOfPlane y j self.now
-            → IsBitPlane (λ q. times_x (sum_of (y 0 q) (y 1 q) (y 2 q) (y 3 q))) j all_doubled
+            → IsBitPlane (λ q. times_x (column_bytes_xor (y 0 q) (y 1 q) (y 2 q) (y 3 q))) j
+            all_doubled
             → IsBitPlane (λ q. even_of (y 0 q) (y 1 q) (y 2 q) (y 3 q)) j result.even }
         ensures step { (y : ℕ → ℕ → ℕ) (j : ℕ) → IsOfPlane y j self.now
             → IsBitPlane (λ q. times_x (even_of (y 0 q) (y 1 q) (y 2 q) (y 3 q))) j even_doubled
-            → IsBitPlane (λ q. next_of (y 0 q) (y 1 q) (y 2 q) (y 3 q)) j result.step }
+            → IsBitPlane (λ q. step_of (y 0 q) (y 1 q) (y 2 q) (y 3 q)) j result.step }
     {
         let ends = xor(self.row_0, self.row_2);
         let three = xor(ends, self.row_1);
@@ -69,11 +71,11 @@ impl FourPlanes {
     #[inline(always)]
     fn inv_mix_columns_batch(&mut self, key: &FourPlanes, doubled: Sums) -> Sums
         ensures plane { (y z : ℕ → ℕ → ℕ) (j : ℕ) → AreBytes y → IsOfPlane y j self.old
-            → IsOfPlane z j key.now → HasDoubled y j doubled
+            → IsOfPlane z j key.now → HasDoubledValues y j doubled
             → IsOfPlane (λ r q. inv_mixed_row y r (rotated_index r q) ⊕ z r (rotated_index r q)) j
             self.new }
-        ensures sums { (y : ℕ → ℕ → ℕ) (j : ℕ) → IsOfPlane y j self.old → HasDoubled y j doubled
-            → HasSums y j result }
+        ensures sums { (y : ℕ → ℕ → ℕ) (j : ℕ) → IsOfPlane y j self.old
+            → HasDoubledValues y j doubled → HasSharedValues y j result }
     {
         let sums = self.sums(doubled.all, doubled.even);
         let with_all = xor(doubled.step, sums.all);
@@ -93,7 +95,7 @@ impl FourPlanes {
 // The shared values in plane 7, which depend on those in planes 5 and 6.
 #[inline(always)]
 fn top_sums(rows: &BitslicedState) -> Sums
-    ensures { (y : ℕ → ℕ → ℕ) → RepresentRows y (rows_of rows.now) → HasSums y 7 result }
+    ensures { (y : ℕ → ℕ → ℕ) → RepresentRows y (rows_of rows.now) → HasSharedValues y 7 result }
 {
     let unknown = u8x16::splat(0);
     let below = rows.plane_5.sums(unknown, unknown);

@@ -97,7 +97,7 @@ fn groups(x: [u8x16; 8]) -> [u8x16; 8]
 // Writes block `n` of the batch.
 #[inline(always)]
 fn store(batch: &mut [u8], n: usize, block: u8x16)
-    requires room { 16 * n + 16 ≤ length batch.old }
+    requires capacity { 16 * n + 16 ≤ length batch.old }
     requires lanes { length block ≡ 16 }
     ensures written { (i : ℕ) → i < 16 → slice_index batch.new (16 * n + i) ≡ slice_index block i }
     ensures kept { (k : ℕ) → k < 16 * n → slice_index batch.new k ≡ slice_index batch.old k }

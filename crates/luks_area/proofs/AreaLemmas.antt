@@ -10,26 +10,26 @@ use Rattle.luks_area.specs.Area.{ConsumedOnto}
 module _ (old whole buf : List ℕ) (held n : ℕ) (is-whole : whole ≡ old ++ replicate n 0) (is-held : held ≡ length old)
     (kept : length buf ≡ length (take (length whole - held) (drop held whole))) where
   -- the buffer that a source fills is as long as the appended zeros
-  pub length-room : length buf ≡ n
-  length-room =
+  pub length-capacity : length buf ≡ n
+  length-capacity =
       kept ∙ ap length (take_all (length whole - held) (drop held whole) (omega (arith, length-drop held whole)))
       ∙ (let all : length whole ≡ length old + n = ap length is-whole ∙ length-append old (replicate n 0)
       ∙ ap (λ k. length old + k) (length-replicate n 0) in
       omega (arith, length-drop held whole))
 
   -- after a source has filled the buffer, the list starts with the bytes loaded before and then those that were read
-  pub front_filled : (rest more new : List ℕ) (len count : ℕ) → len ≡ length whole → count ≤ length buf
+  pub prefix_filled : (rest more new : List ℕ) (len count : ℕ) → len ≡ length whole → count ≤ length buf
       → new ≡ take (held + count) (take len (take held whole ++ (buf ++ rest) ++ more)) → new ≡ old ++ take count buf
-  front_filled rest more new len count is-len few is =
-      let front : take held whole ≡ old = ap (take held) is-whole ∙ ap (λ k. take k (old ++ replicate n 0)) is-held
+  prefix_filled rest more new len count is-len few is =
+      let prefix : take held whole ≡ old = ap (take held) is-whole ∙ ap (λ k. take k (old ++ replicate n 0)) is-held
       ∙ take-append_seam old (replicate n 0) in
       let all : length whole ≡ length old + n = ap length is-whole ∙ length-append old (replicate n 0)
       ∙ ap (λ k. length old + k) (length-replicate n 0) in
-      let room = length-room in
+      let capacity = length-capacity in
       is ∙ take-take (held + count) len (take held whole ++ (buf ++ rest) ++ more) (omega arith)
       ∙ take-append-le (held + count) (take held whole ++ (buf ++ rest)) more
-      (omega (arith, ap length front, length-append (take held whole) (buf ++ rest), length-append buf rest))
-      ∙ ap (λ l. take (held + count) (l ++ (buf ++ rest))) front
+      (omega (arith, ap length prefix, length-append (take held whole) (buf ++ rest), length-append buf rest))
+      ∙ ap (λ l. take (held + count) (l ++ (buf ++ rest))) prefix
       ∙ ap (λ k. take (k + count) (old ++ (buf ++ rest))) is-held
       ∙ take-append-add old (buf ++ rest) count
       ∙ ap (λ l. old ++ l) (take-append-le count buf rest few)
@@ -38,12 +38,12 @@ module _ (old whole buf : List ℕ) (held n : ℕ) (is-whole : whole ≡ old ++ 
 pub consumed_behind : (old new known buf : List ℕ) (left : Option (List ℕ)) (count : ℕ) → new ≡ old ++ take count buf
     → ConsumedInto known left buf count
     → ConsumedOnto old new known left count
-consumed_behind old new known buf left count is taken = (taken.0, is ∙ ap (λ l. old ++ l) taken.1)
+consumed_behind old new known buf left count is consumed = (consumed.0, is ∙ ap (λ l. old ++ l) consumed.1)
 
 -- all requested bytes were appended, or all that the source had
 pub consumed_all_behind : (old new known buf : List ℕ) (left : Option (List ℕ)) (count asked most : ℕ)
     → new ≡ old ++ take count buf → ConsumedInto known left buf count
     → count ≡ min asked (length known) → asked ≡ most → ConsumedOnto old new known left (min most (length known))
-consumed_all_behind old new known buf left count asked most is taken all is-most =
+consumed_all_behind old new known buf left count asked most is consumed all is-most =
     subst (ConsumedOnto old new known left) (all ∙ ap (λ k. min k (length known)) is-most)
-    (consumed_behind old new known buf left count is taken)
+    (consumed_behind old new known buf left count is consumed)

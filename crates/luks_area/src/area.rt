@@ -70,7 +70,7 @@ impl HeaderArea {
     /// failed; after [`HeaderFault::Memory`] nothing was consumed. There are no other faults.
     pub fn extend_to<S: Source>(&mut self, source: &mut S, end: usize) -> Result<bool, HeaderFault>
         requires { end ≤ max_area_len }
-        ensures taken { IfKnown (S.to_come source.old) (λ known.
+        ensures consumed { IfKnown (S.to_come source.old) (λ known.
             ConsumesUpTo (end - length self.old.bytes) self.old.bytes self.new.bytes known
             (S.to_come source.new) result) }
 
@@ -96,14 +96,14 @@ impl HeaderArea {
 fn reserve(bytes: &mut Vec<u8>, end: usize) -> Result<(), AllocError>
     requires { vec_len bytes.old ≤ end }
     ensures items { bytes.new.items ≡ bytes.old.items }
-    ensures room { OnOk result (vec_capacity bytes.new ≡ max (vec_capacity bytes.old) end) }
+    ensures capacity { OnOk result (vec_capacity bytes.new ≡ max (vec_capacity bytes.old) end) }
     ensures none { OnErr result (vec_capacity bytes.new ≡ vec_capacity bytes.old) }
 {
     bytes.reserve_exact(end - bytes.len())
 }
 
 // Appends zeros until there are `end` bytes.
-fn make_room(bytes: &mut Vec<u8>, end: usize) -> Result<(), AllocError>
+fn ensure_capacity(bytes: &mut Vec<u8>, end: usize) -> Result<(), AllocError>
     requires { vec_len bytes.old ≤ end }
     ensures ok { OnOk result (bytes.new.items
         ≡ bytes.old.items ++ replicate (end - vec_len bytes.old) 0) }
@@ -116,7 +116,7 @@ fn make_room(bytes: &mut Vec<u8>, end: usize) -> Result<(), AllocError>
 // Appends the next bytes of the source, up to `end` in all.
 fn extend<S: Source>(bytes: &mut Vec<u8>, source: &mut S, end: usize) -> Result<bool, HeaderFault>
     requires { vec_len bytes.old < end }
-    ensures taken { IfKnown (S.to_come source.old) (λ known.
+    ensures consumed { IfKnown (S.to_come source.old) (λ known.
         ConsumesUpTo (end - vec_len bytes.old) bytes.old.items bytes.new.items known
         (S.to_come source.new) result) }
     ensures loads { Loads end bytes.old.items bytes.new.items result }
@@ -126,7 +126,7 @@ fn extend<S: Source>(bytes: &mut Vec<u8>, source: &mut S, end: usize) -> Result<
         (S.counts source.old) (S.counts source.new) }
 {
     let held = bytes.len();
-    make_room(bytes, end)?;
+    ensure_capacity(bytes, end)?;
     match fill(source, &mut bytes[held..]) {
         Ok(count) => {
             bytes.truncate(held + count);

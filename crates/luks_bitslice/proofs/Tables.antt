@@ -172,7 +172,7 @@ eight z a b c d e f g h p0 p1 p2 p3 p4 p5 p6 p7 (suc (suc (suc (suc (suc (suc (s
 eight z a b c d e f g h p0 p1 p2 p3 p4 p5 p6 p7 (suc (suc (suc (suc (suc (suc (suc (suc j)))))))) low = absurd
     (omega arith)
 
-pub stands_unsubstituted : (y : ℕ → ℕ) → ((q : ℕ) → y q < 256) → {a b c d e f g h : List ℕ}
+pub represented_inv_sub_bytes : (y : ℕ → ℕ) → ((q : ℕ) → y q < 256) → {a b c d e f g h : List ℕ}
     → HasTruthTable y a 0x66f01ac744211cfdddd7997ddd4cf62332f6fa25f5422334e5e0c000df616922
     → HasTruthTable y b 0x3a893fd82dc7bf0a9322946901fdc6c256f57b4a4e15f9e58b10309a75f35832
     → HasTruthTable y c 0xf2fe6be0518e2da83d52b06cb27b01a1cd78296198251e9affc8ef9306673dc0
@@ -182,7 +182,7 @@ pub stands_unsubstituted : (y : ℕ → ℕ) → ((q : ℕ) → y q < 256) → {
     → HasTruthTable y g 0x7d82b7f1f7ed0a2d562e31249d615c25f32c740bad41fc4c0bdfcb4f18882e24
     → HasTruthTable y h 0x2ddcef345fc8a434f54168a608a0aebcf4b5fb2162526ac2f0f03da62e89ccee
     → Represents (λ q. inv_sbox (y q ⊕ 0x63)) (a ∷ b ∷ c ∷ d ∷ e ∷ f ∷ g ∷ h ∷ [])
-stands_unsubstituted y bytes {a} {b} {c} {d} {e} {f} {g} {h} p0 p1 p2 p3 p4 p5 p6 p7 = record {
+represented_inv_sub_bytes y bytes {a} {b} {c} {d} {e} {f} {g} {h} p0 p1 p2 p3 p4 p5 p6 p7 = record {
   bytes = λ q. inv_sbox_byte (y q ⊕ 0x63) (xor_byte (y q) 0x63 (bytes q) (omega arith));
   at = eight (λ q. inv_sbox (y q ⊕ 0x63)) a b c d e f g h
       (value_plane y (λ b. inv_sbox (b ⊕ 0x63)) a 0 _ bytes p0 (λ b low. value_0 b low ∙ inv_sbox_bit 0 b low))

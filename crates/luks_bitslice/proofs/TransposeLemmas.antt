@@ -31,10 +31,10 @@ chosen true u w p q = omega arith
 chosen false u w p q = omega arith
 
 -- a byte of the XOR of two vectors, after a function of bytes on each vector
-at_sum : (f g : ℕ → ℕ) (v w r : List ℕ) (p : ℕ) → length v ≡ 16 → length w ≡ 16 → p < 16 → r
+byte_of_xored_maps : (f g : ℕ → ℕ) (v w r : List ℕ) (p : ℕ) → length v ≡ 16 → length w ≡ 16 → p < 16 → r
     ≡ zip2 bit_xor (map f v) (map g w)
     → slice_index r p ≡ bit_xor (f (slice_index v p)) (g (slice_index w p))
-at_sum f g v w r p long also low is =
+byte_of_xored_maps f g v w r p long also low is =
     ap (λ l. slice_index l p) is
     ∙ get_or-zip2 bit_xor (map f v) (map g w) p 0 0 0 (omega (arith, length-map v f)) (omega (arith, length-map w g))
     ∙ (λ i. bit_xor (get_or-map f v p 0 0 (omega arith) i) (get_or-map g w p 0 0 (omega arith) i))
@@ -46,27 +46,27 @@ sum_len f g v w r long also is =
     ∙ length-map v f ∙ long
 
 -- the bits of the XOR of two vectors, from the sums of their bits modulo 2
-shows_sum : (lower upper : ℕ → ℕ) (h : ℕ → ℕ → ℕ) (v w r : List ℕ) → length v ≡ 16 → length w ≡ 16
+has_bits_of_xor : (lower upper : ℕ → ℕ) (h : ℕ → ℕ → ℕ) (v w r : List ℕ) → length v ≡ 16 → length w ≡ 16
     → r ≡ zip2 bit_xor (map lower v) (map upper w)
     → ((p k : ℕ) → p < 16 → k < 8
     → (bit_at (lower (slice_index v p)) k + bit_at (upper (slice_index w p)) k) % 2 ≡ h p k)
     → HasBits h r
-shows_sum lower upper h v w r long also is bits = record {
+has_bits_of_xor lower upper h v w r long also is bits = record {
   len = sum_len lower upper v w r long also is;
-  at = λ p k low small. ap (λ x. bit_at x k) (at_sum lower upper v w r p long also low is)
+  at = λ p k low small. ap (λ x. bit_at x k) (byte_of_xored_maps lower upper v w r p long also low is)
       ∙ bit_at_xor (lower (slice_index v p)) (upper (slice_index w p)) k
       ∙ bits p k low small;
 }
 
 -- the XOR of one vector, which keeps its lower runs of n bits, and the other, whose lower runs are moved up
-shows_low : (n : ℕ) (lower upper : ℕ → ℕ)
+has_bits_low_runs : (n : ℕ) (lower upper : ℕ → ℕ)
     → ((x k : ℕ) → x < 256 → k < 8 → bit_at (lower x) k ≡ cond (eqb (k / n % 2) 0) (bit_at x k) 0)
     → ((x k : ℕ) → x < 256 → k < 8 → bit_at (upper x) k ≡ cond (eqb (k / n % 2) 0) 0 (bit_at x (k - n)))
     → (f g : ℕ → ℕ → ℕ) (v w r : List ℕ) → HasBits f v → HasBits g w
     → ((p : ℕ) → p < 16 → slice_index v p < 256) → ((p : ℕ) → p < 16 → slice_index w p < 256)
     → r ≡ zip2 bit_xor (map lower v) (map upper w) → HasBits (swapped_low n f g) r
-shows_low n lower upper kept risen f g v w r first second v_fits w_fits is =
-    shows_sum lower upper (swapped_low n f g) v w r first.len second.len is
+has_bits_low_runs n lower upper kept risen f g v w r first second v_fits w_fits is =
+    has_bits_of_xor lower upper (swapped_low n f g) v w r first.len second.len is
     (λ p k low small.
     let t = eqb (k / n % 2) 0 in
     let a = slice_index v p in
@@ -76,14 +76,14 @@ shows_low n lower upper kept risen f g v w r first second v_fits w_fits is =
     ∙ (λ i. cond t (first.at p k low small i) (second.at p (k - n) low (omega arith) i)))
 
 -- the XOR of one vector, whose upper runs of n bits are moved down, and the other, which keeps its upper runs
-shows_high : (n : ℕ) (lower upper : ℕ → ℕ) → ((k : ℕ) → k < 8 → k / n % 2 ≡ 0 → k + n < 8)
+has_bits_high_runs : (n : ℕ) (lower upper : ℕ → ℕ) → ((k : ℕ) → k < 8 → k / n % 2 ≡ 0 → k + n < 8)
     → ((x k : ℕ) → x < 256 → k < 8 → bit_at (lower x) k ≡ cond (eqb (k / n % 2) 0) (bit_at x (k + n)) 0)
     → ((x k : ℕ) → x < 256 → k < 8 → bit_at (upper x) k ≡ cond (eqb (k / n % 2) 0) 0 (bit_at x k))
     → (f g : ℕ → ℕ → ℕ) (v w r : List ℕ) → HasBits f v → HasBits g w
     → ((p : ℕ) → p < 16 → slice_index v p < 256) → ((p : ℕ) → p < 16 → slice_index w p < 256)
     → r ≡ zip2 bit_xor (map lower v) (map upper w) → HasBits (swapped_high n f g) r
-shows_high n lower upper room fallen kept f g v w r first second v_fits w_fits is =
-    shows_sum lower upper (swapped_high n f g) v w r first.len second.len is
+has_bits_high_runs n lower upper capacity fallen kept f g v w r first second v_fits w_fits is =
+    has_bits_of_xor lower upper (swapped_high n f g) v w r first.len second.len is
     (λ p k low small.
     let t = eqb (k / n % 2) 0 in
     let a = slice_index v p in
@@ -91,7 +91,7 @@ shows_high n lower upper room fallen kept f g v w r first second v_fits w_fits i
     (λ i. (fallen a k (v_fits p low) small i + kept b k (w_fits p low) small i) % 2)
     ∙ chosen t (bit_at a (k + n)) (bit_at b k) (bit_at-lt a (k + n)) (bit_at-lt b k)
     ∙ elim (cases_Bool t) [
-      | inl even ↦ rw even (first.at p (k + n) low (room k small (eqb-true (k / n % 2) 0 even)))
+      | inl even ↦ rw even (first.at p (k + n) low (capacity k small (eqb-true (k / n % 2) 0 even)))
       | inr odd ↦ rw odd (second.at p k low small)
     ])
 
@@ -158,7 +158,7 @@ pub shows_swap_low : (r : Run) (f g : ℕ → ℕ → ℕ) (v w u : List ℕ) �
     → u ≡ zip2 bit_xor (map (λ x. bit_and x (low_mask r)) v)
     (map (λ x. bit_and (x * 2 ^ run_bits r % 256) (high_mask r)) w)
     → HasBits (swapped_low (run_bits r) f g) u
-shows_swap_low r = shows_low (run_bits r) (λ x. bit_and x (low_mask r))
+shows_swap_low r = has_bits_low_runs (run_bits r) (λ x. bit_and x (low_mask r))
     (λ x. bit_and (x * 2 ^ run_bits r % 256) (high_mask r)) (keep r) (rise r)
 
 pub shows_swap_high : (r : Run) (f g : ℕ → ℕ → ℕ) (v w u : List ℕ) → HasBits f v → HasBits g w
@@ -166,7 +166,7 @@ pub shows_swap_high : (r : Run) (f g : ℕ → ℕ → ℕ) (v w u : List ℕ) �
     → u ≡ zip2 bit_xor (map (λ x. bit_and (x / 2 ^ run_bits r) (low_mask r)) v)
     (map (λ x. bit_and x (high_mask r)) w)
     → HasBits (swapped_high (run_bits r) f g) u
-shows_swap_high r = shows_high (run_bits r) (λ x. bit_and (x / 2 ^ run_bits r) (low_mask r))
+shows_swap_high r = has_bits_high_runs (run_bits r) (λ x. bit_and (x / 2 ^ run_bits r) (low_mask r))
     (λ x. bit_and x (high_mask r)) (above r) (fall r) (stay r)
 
 -- ---- eight vectors

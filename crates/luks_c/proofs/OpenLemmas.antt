@@ -7,7 +7,7 @@ use Rattle.luks_io.specs.Devices.{counted}
 use Rattle.luks_report.specs.declared.message.Message.{Message}
 use Rattle.luks_report.specs.declared.message.Message.TheVariants.{Done, ReadFailed}
 use Rattle.luks_runs.specs.Run.{aborts, is_run_read_failure}
-use Rattle.luks_unlock.proofs.FrontLemmas.{outcome_decided}
+use Rattle.luks_unlock.proofs.PrefixLemmas.{outcome_decided}
 use Rattle.luks_unlock.specs.OpeningMessages.{OpeningMessage}
 use Rattle.luks_c.specs.Answers.{Opened, Refused}
 use Rattle.luks_c.specs.Codes.{code_for}

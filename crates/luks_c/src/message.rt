@@ -6,7 +6,7 @@ ghost use Rattle.luks_c.specs.Message.{StoresMessage, StoresText};
 use luks_access::Message;
 
 /// The length of the longest sentence in bytes.
-const ROOM: usize = 1016;
+const CAPACITY: usize = 1016;
 
 /// The exit status of `luksrd luksCat`, and the line that it prints, without its newline.
 #[repr(C)]
@@ -20,15 +20,15 @@ pub struct LuksrdMessage {
 }
 
 // Writes as much of a text as fits, and zeros after it. Returns how many bytes of it were written.
-fn write_text(room: &mut [u8], text: &[u8]) -> u32
-    requires { length room.old ≡ ROOM }
-    ensures count { result ≡ min ROOM (length text.now) }
-    ensures text { take result room.new ≡ take result text.now }
-    ensures rest { drop result room.new ≡ replicate (ROOM - result) 0 }
+fn write_text(capacity: &mut [u8], text: &[u8]) -> u32
+    requires { length capacity.old ≡ CAPACITY }
+    ensures count { result ≡ min CAPACITY (length text.now) }
+    ensures text { take result capacity.new ≡ take result text.now }
+    ensures rest { drop result capacity.new ≡ replicate (CAPACITY - result) 0 }
 {
-    let len = text.len().min(room.len());
-    room.fill(0);
-    room[..len].copy_from_slice(&text[..len]);
+    let len = text.len().min(capacity.len());
+    capacity.fill(0);
+    capacity[..len].copy_from_slice(&text[..len]);
     len as u32
 }
 

@@ -12,7 +12,7 @@ use luks_header::segment::{Segment, SegmentParts};
 use luks_verdict::sector_size::SectorSize;
 
 /// The length of the longest volume key in bytes.
-const ROOM: usize = 64;
+const CAPACITY: usize = 64;
 
 /// A volume that is open. All of it is plain numbers.
 #[repr(C)]
@@ -108,30 +108,30 @@ pub(crate) fn cipher(volume: &LuksrdVolume, mode: Mode) -> Option<SectorCipher>
         × (cipher ≡ cipher_in volume.now mode)) }
 {
     let len = volume.key_size as usize;
-    if len > ROOM {
+    if len > CAPACITY {
         return None;
     }
     SectorCipher::new(mode, &volume.key[..len])
 }
 
 // Writes a key, and zeros after it. Returns its length.
-fn write_key(room: &mut [u8], key: &[u8]) -> u32
-    requires there { length room.old ≡ ROOM }
-    requires fits { length key.now ≤ ROOM }
+fn write_key(capacity: &mut [u8], key: &[u8]) -> u32
+    requires there { length capacity.old ≡ CAPACITY }
+    requires fits { length key.now ≤ CAPACITY }
     ensures count { result ≡ length key.now }
-    ensures key { take result room.new ≡ key.now }
-    ensures rest { drop result room.new ≡ replicate (ROOM - result) 0 }
+    ensures key { take result capacity.new ≡ key.now }
+    ensures rest { drop result capacity.new ≡ replicate (CAPACITY - result) 0 }
 {
     let len = key.len();
-    room.fill(0);
-    room[..len].copy_from_slice(key);
+    capacity.fill(0);
+    capacity[..len].copy_from_slice(key);
     len as u32
 }
 
 impl LuksrdVolume {
     /// Stores a volume that is open.
     pub(crate) fn store(&mut self, volume: &Volume)
-        requires { length volume.now.key ≤ ROOM }
+        requires { length volume.now.key ≤ CAPACITY }
         ensures { Filled self.new volume.now }
     {
         let segment = volume.segment();

@@ -19,18 +19,18 @@ use Rattle.luks_cipher.proofs.UnitsUndone.{joined_at, joined_same}
 
 -- ---- XORs of blocks
 
-pub piece_sum : (piece vector : List ℕ) → length piece ≡ 16 → length vector ≡ 16
-    → put_chunk 0 piece (zip2 bit_xor (take 16 piece) vector) ≡ block_xor piece vector
+pub piece_sum : (piece iv : List ℕ) → length piece ≡ 16 → length iv ≡ 16
+    → put_chunk 0 piece (zip2 bit_xor (take 16 piece) iv) ≡ block_xor piece iv
 unfolding block_xor
-piece_sum piece vector long same =
+piece_sum piece iv long same =
     let all = take_all 16 piece (omega arith) in
-    let sum = zip2 bit_xor piece vector in
-    let size : length sum ≡ 16 = length-zip2 bit_xor piece vector (long ∙ sym same) ∙ long in
-    ap (λ x. put_chunk 0 piece (zip2 bit_xor x vector)) all
+    let sum = zip2 bit_xor piece iv in
+    let size : length sum ≡ 16 = length-zip2 bit_xor piece iv (long ∙ sym same) ∙ long in
+    ap (λ x. put_chunk 0 piece (zip2 bit_xor x iv)) all
     ∙ put_chunk_whole piece sum (long ∙ sym size)
     ∙ whole_state sum size
-    ∙ same_cells (cell sum) (λ r c. cell piece r c ⊕ cell vector r c)
-    (λ r c low small. get_or-zip2 bit_xor piece vector (r + 4 * c) 0 0 0 (omega arith) (omega arith))
+    ∙ same_cells (cell sum) (λ r c. cell piece r c ⊕ cell iv r c)
+    (λ r c low small. get_or-zip2 bit_xor piece iv (r + 4 * c) 0 0 0 (omega arith) (omega arith))
 
 pub sum_len : (a b : List ℕ) → length (block_xor a b) ≡ 16
 unfolding block_xor
@@ -52,7 +52,7 @@ joined_more f a (suc b) =
 done_many : (f : ℕ → List ℕ) (old new piece : List ℕ) (at k j n : ℕ) → at ≡ 16 * j → k ≡ 16 * n
     → IsDoneBefore f old new j → 16 * j + 16 * n ≤ length new → length piece ≡ 16 * n
     → piece ≡ joined (λ m. f (j + m)) n → IsDoneBefore f old (put_mid at k new piece) (j + n)
-done_many f old new piece at k j n place size before room long is =
+done_many f old new piece at k j n place size before capacity long is =
     let next = 16 * (j + n) in
     let split : next ≡ 16 * j + 16 * n = omega arith in
     let rest : drop next new ≡ drop next old =
@@ -73,7 +73,7 @@ done_moved f old new j k same is = subst (λ (n : ℕ). IsDoneBefore f old new n
 pub batch_done : (f : ℕ → List ℕ) (old new piece : List ℕ) (i : ℕ) → IsDoneBefore f old new (32 * i)
     → 512 * i + 512 ≤ length new → length piece ≡ 512 → piece ≡ joined (λ m. f (32 * i + m)) 32
     → IsDoneBefore f old (put_mid (512 * i) (512 * i + 512 - 512 * i) new piece) (32 * (i + 1))
-batch_done f old new piece i before room long is =
+batch_done f old new piece i before capacity long is =
     done_moved f old _ (32 * i + 32) (32 * (i + 1)) (omega arith)
     (done_many f old new piece (512 * i) (512 * i + 512 - 512 * i) (32 * i) 32 (omega arith) (omega arith) before
     (omega arith) (omega arith) is)
@@ -124,9 +124,9 @@ tweak_len tweak zero long = long
 tweak_len tweak (suc n) long = doubled_len (tweak_after tweak n)
 
 -- if the kept blocks are the tweaks, the blocks XORed with them are the batch with its tweaks
-pub tweaks_added : (tweak kept old new : List ℕ) → ((n : ℕ) → n < 32 → block_at kept n ≡ tweak_after tweak n)
+pub tweaks_xored : (tweak kept old new : List ℕ) → ((n : ℕ) → n < 32 → block_at kept n ≡ tweak_after tweak n)
     → new ≡ joined (λ n. block_xor (block_at old n) (block_at kept n)) 32 → new ≡ with_tweaks tweak old
-tweaks_added tweak kept old new same is =
+tweaks_xored tweak kept old new same is =
     is
     ∙ joined_same (λ n. block_xor (block_at old n) (block_at kept n))
     (λ n. block_xor (block_at old n) (tweak_after tweak n)) 32
@@ -174,35 +174,35 @@ cbc_batch key before old t new back is =
     (λ n. block_xor (decrypted key (block_at old n)) (block_before before old n)) 32
     (λ n low. ap (λ b. block_xor b (block_before before old n)) (back n low))
 
-before_same : (vector before old batch : List ℕ) (j n : ℕ) → before ≡ block_before vector old j
+before_same : (iv before old batch : List ℕ) (j n : ℕ) → before ≡ block_before iv old j
     → ((m : ℕ) → m < 32 → block_at batch m ≡ block_at old (j + m)) → n ≤ 32
-    → block_before before batch n ≡ block_before vector old (j + n)
+    → block_before before batch n ≡ block_before iv old (j + n)
 unfolding block_before
-before_same vector before old batch j zero first same low =
+before_same iv before old batch j zero first same low =
     let none : j + 0 ≡ j = omega arith in
     rw none first
-before_same vector before old batch j (suc n) first same low =
+before_same iv before old batch j (suc n) first same low =
     let next : j + suc n ≡ suc (j + n) = omega arith in
     rw next (same n (omega arith))
 
-pub cbc_unit_batch : (key vector : List ℕ) (j : ℕ) (before old batch new : List ℕ) → before ≡ block_before vector old j
+pub cbc_unit_batch : (key iv : List ℕ) (j : ℕ) (before old batch new : List ℕ) → before ≡ block_before iv old j
     → ((m : ℕ) → m < 32 → block_at batch m ≡ block_at old (j + m))
     → new ≡ joined (λ n. block_xor (decrypted key (block_at batch n)) (block_before before batch n)) 32
-    → new ≡ joined (λ m. block_xor (decrypted key (block_at old (j + m))) (block_before vector old (j + m))) 32
-cbc_unit_batch key vector j before old batch new first same is =
+    → new ≡ joined (λ m. block_xor (decrypted key (block_at old (j + m))) (block_before iv old (j + m))) 32
+cbc_unit_batch key iv j before old batch new first same is =
     is
     ∙ joined_same (λ n. block_xor (decrypted key (block_at batch n)) (block_before before batch n))
-    (λ m. block_xor (decrypted key (block_at old (j + m))) (block_before vector old (j + m))) 32
+    (λ m. block_xor (decrypted key (block_at old (j + m))) (block_before iv old (j + m))) 32
     (λ n low.
-    let here = before_same vector before old batch j n first same (omega arith) in
+    let here = before_same iv before old batch j n first same (omega arith) in
     (λ i. block_xor (decrypted key (same n low i)) (here i)))
 
 -- the block before the batch after batch i
-pub before_next : (vector before old batch last : List ℕ) (i : ℕ) → before ≡ block_before vector old (32 * i)
+pub before_next : (iv before old batch last : List ℕ) (i : ℕ) → before ≡ block_before iv old (32 * i)
     → ((m : ℕ) → m < 32 → block_at batch m ≡ block_at old (32 * i + m)) → last ≡ block_before before batch 32
-    → last ≡ block_before vector old (32 * (i + 1))
-before_next vector before old batch last i first same is =
+    → last ≡ block_before iv old (32 * (i + 1))
+before_next iv before old batch last i first same is =
     let more : 32 * i + 32 ≡ 32 * (i + 1) = omega arith in
     is
-    ∙ before_same vector before old batch (32 * i) 32 first same (omega arith)
-    ∙ ap (block_before vector old) more
+    ∙ before_same iv before old batch (32 * i) 32 first same (omega arith)
+    ∙ ap (block_before iv old) more

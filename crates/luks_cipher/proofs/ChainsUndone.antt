@@ -11,60 +11,60 @@ use Rattle.luks_cipher.specs.Cbc.{block_before, chained, cbc_encrypted, cbc_decr
 use Rattle.luks_cipher.proofs.UnitsUndone.{sum_state, sum_twice, joined_same, joined_length, joined_at, joined_count}
 use Rattle.luks_cipher.proofs.UnitsUndone.{joined_blocks, block_state}
 
-chained_state : (key vector unit : List ℕ) (n j : ℕ) → IsBytes key → IsState vector → length unit ≡ 16 * n
+chained_state : (key iv unit : List ℕ) (n j : ℕ) → IsBytes key → IsState iv → length unit ≡ 16 * n
     → IsBytes unit → j ≤ n
-    → IsState (chained key vector unit j)
+    → IsState (chained key iv unit j)
 unfolding chained
-chained_state key vector unit n zero keys first size all low = first
-chained_state key vector unit n (suc j) keys first size all low =
-    let before = chained_state key vector unit n j keys first size all (omega arith) in
+chained_state key iv unit n zero keys first size all low = first
+chained_state key iv unit n (suc j) keys first size all low =
+    let before = chained_state key iv unit n j keys first size all (omega arith) in
     encrypted_state key _ keys (sum_state (block_at unit j) _ (block_state unit n j size (omega arith) all) before)
 
-chained_len : (key vector unit : List ℕ) (n j : ℕ) → IsBytes key → IsState vector → length unit ≡ 16 * n → IsBytes unit
+chained_len : (key iv unit : List ℕ) (n j : ℕ) → IsBytes key → IsState iv → length unit ≡ 16 * n → IsBytes unit
     → j < n
-    → length (chained key vector unit (suc j)) ≡ 16
-chained_len key vector unit n j keys first size all low =
-    (chained_state key vector unit n (suc j) keys first size all (omega arith)).len
+    → length (chained key iv unit (suc j)) ≡ 16
+chained_len key iv unit n j keys first size all low =
+    (chained_state key iv unit n (suc j) keys first size all (omega arith)).len
 
 -- the block before block j of the encrypted unit is the one that it was chained with
-before_encrypted : (key vector unit : List ℕ) (n j : ℕ) → IsBytes key → IsState vector → length unit ≡ 16 * n
+before_encrypted : (key iv unit : List ℕ) (n j : ℕ) → IsBytes key → IsState iv → length unit ≡ 16 * n
     → IsBytes unit → j < n
-    → block_before vector (joined (λ j. chained key vector unit (suc j)) n) j ≡ chained key vector unit j
+    → block_before iv (joined (λ j. chained key iv unit (suc j)) n) j ≡ chained key iv unit j
 unfolding block_before chained
-before_encrypted key vector unit n zero keys first size all low = refl
-before_encrypted key vector unit n (suc j) keys first size all low =
-    joined_at (λ j. chained key vector unit (suc j)) n j
-    (λ k below. chained_len key vector unit n k keys first size all below) (omega arith)
+before_encrypted key iv unit n zero keys first size all low = refl
+before_encrypted key iv unit n (suc j) keys first size all low =
+    joined_at (λ j. chained key iv unit (suc j)) n j
+    (λ k below. chained_len key iv unit n k keys first size all below) (omega arith)
 
-link_undone : (key vector unit : List ℕ) (n j : ℕ) → IsBytes key → IsState vector → length unit ≡ 16 * n → IsBytes unit
+link_undone : (key iv unit : List ℕ) (n j : ℕ) → IsBytes key → IsState iv → length unit ≡ 16 * n → IsBytes unit
     → j < n
-    → block_xor (decrypted key (chained key vector unit (suc j))) (chained key vector unit j) ≡ block_at unit j
+    → block_xor (decrypted key (chained key iv unit (suc j))) (chained key iv unit j) ≡ block_at unit j
 unfolding chained
-link_undone key vector unit n j keys first size all low =
-    let before = chained_state key vector unit n j keys first size all (omega arith) in
+link_undone key iv unit n j keys first size all low =
+    let before = chained_state key iv unit n j keys first size all (omega arith) in
     let block = block_state unit n j size low all in
-    rw (decrypted-encrypted key (block_xor (block_at unit j) (chained key vector unit j)) keys
+    rw (decrypted-encrypted key (block_xor (block_at unit j) (chained key iv unit j)) keys
     (sum_state _ _ block before))
-    (sum_twice (block_at unit j) (chained key vector unit j) block.len)
+    (sum_twice (block_at unit j) (chained key iv unit j) block.len)
 
-pub cbc_decrypted-cbc_encrypted : (key vector unit : List ℕ) → IsBytes key → IsState vector → IsBytes unit
-    → length unit % 16 ≡ 0 → cbc_decrypted key vector (cbc_encrypted key vector unit) ≡ unit
+pub cbc_decrypted-cbc_encrypted : (key iv unit : List ℕ) → IsBytes key → IsState iv → IsBytes unit
+    → length unit % 16 ≡ 0 → cbc_decrypted key iv (cbc_encrypted key iv unit) ≡ unit
 unfolding cbc_encrypted cbc_decrypted
-cbc_decrypted-cbc_encrypted key vector unit keys first all whole =
+cbc_decrypted-cbc_encrypted key iv unit keys first all whole =
     let n = length unit / 16 in
     let size : length unit ≡ 16 * n = omega arith in
-    let there : ℕ → List ℕ = λ j. chained key vector unit (suc j) in
+    let there : ℕ → List ℕ = λ j. chained key iv unit (suc j) in
     let sizes : (j : ℕ) → j < n
-    → length (there j) ≡ 16 = λ j low. chained_len key vector unit n j keys first size all low in
+    → length (there j) ≡ 16 = λ j low. chained_len key iv unit n j keys first size all low in
     let count : length (joined there n) / 16 ≡ n = rw (joined_length there n sizes) (omega arith) in
     rw count
     (joined_same (λ j.
-    block_xor (decrypted key (block_at (joined there n) j)) (block_before vector (joined there n) j))
+    block_xor (decrypted key (block_at (joined there n) j)) (block_before iv (joined there n) j))
     (block_at unit) n
     (λ j low.
     (λ i. block_xor (decrypted key (joined_at there n j sizes low i))
-    (before_encrypted key vector unit n j keys first size all low i))
-    ∙ link_undone key vector unit n j keys first size all low)
+    (before_encrypted key iv unit n j keys first size all low i))
+    ∙ link_undone key iv unit n j keys first size all low)
     ∙ joined_blocks unit n ∙ take_all (16 * n) unit (omega arith))
 
 decrypted_len : (a b : List ℕ) → length (block_xor a b) ≡ 16
@@ -72,50 +72,50 @@ unfolding block_xor
 decrypted_len a b = refl
 
 -- block j of the decrypted unit is chained with the block before block j of the encrypted unit
-chained_decrypted : (key vector unit : List ℕ) (n j : ℕ) → IsBytes key → IsState vector → length unit ≡ 16 * n
+chained_decrypted : (key iv unit : List ℕ) (n j : ℕ) → IsBytes key → IsState iv → length unit ≡ 16 * n
     → IsBytes unit → j ≤ n
-    → chained key vector (joined (λ j. block_xor (decrypted key (block_at unit j)) (block_before vector unit j)) n) j
-    ≡ block_before vector unit j
+    → chained key iv (joined (λ j. block_xor (decrypted key (block_at unit j)) (block_before iv unit j)) n) j
+    ≡ block_before iv unit j
 unfolding chained block_before
-chained_decrypted key vector unit n zero keys first size all low = refl
-chained_decrypted key vector unit n (suc j) keys first size all low =
-    let back : ℕ → List ℕ = λ j. block_xor (decrypted key (block_at unit j)) (block_before vector unit j) in
+chained_decrypted key iv unit n zero keys first size all low = refl
+chained_decrypted key iv unit n (suc j) keys first size all low =
+    let back : ℕ → List ℕ = λ j. block_xor (decrypted key (block_at unit j)) (block_before iv unit j) in
     let here = joined_at back n j
-    (λ k below. decrypted_len (decrypted key (block_at unit k)) (block_before vector unit k)) (omega arith) in
-    let before = chained_decrypted key vector unit n j keys first size all (omega arith) in
+    (λ k below. decrypted_len (decrypted key (block_at unit k)) (block_before iv unit k)) (omega arith) in
+    let before = chained_decrypted key iv unit n j keys first size all (omega arith) in
     let block = block_state unit n j size (omega arith) all in
     (λ i. encrypted key (block_xor (here i) (before i)))
     ∙ ap (encrypted key)
-    (sum_twice (decrypted key (block_at unit j)) (block_before vector unit j)
+    (sum_twice (decrypted key (block_at unit j)) (block_before iv unit j)
     (decrypted_state key _ keys block).len)
     ∙ encrypted-decrypted key (block_at unit j) keys block
 
-block_after : (key vector unit : List ℕ) (n j : ℕ) → IsBytes key → IsState vector → length unit ≡ 16 * n → IsBytes unit
+block_after : (key iv unit : List ℕ) (n j : ℕ) → IsBytes key → IsState iv → length unit ≡ 16 * n → IsBytes unit
     → j < n
-    → chained key vector (joined (λ j. block_xor (decrypted key (block_at unit j)) (block_before vector unit j)) n)
+    → chained key iv (joined (λ j. block_xor (decrypted key (block_at unit j)) (block_before iv unit j)) n)
     (suc j) ≡ block_at unit j
 unfolding block_before
-block_after key vector unit n j keys first size all low =
-    chained_decrypted key vector unit n (suc j) keys first size all (omega arith)
+block_after key iv unit n j keys first size all low =
+    chained_decrypted key iv unit n (suc j) keys first size all (omega arith)
 
-pub cbc_encrypted-cbc_decrypted : (key vector unit : List ℕ) → IsBytes key → IsState vector → IsBytes unit
-    → length unit % 16 ≡ 0 → cbc_encrypted key vector (cbc_decrypted key vector unit) ≡ unit
+pub cbc_encrypted-cbc_decrypted : (key iv unit : List ℕ) → IsBytes key → IsState iv → IsBytes unit
+    → length unit % 16 ≡ 0 → cbc_encrypted key iv (cbc_decrypted key iv unit) ≡ unit
 unfolding cbc_encrypted cbc_decrypted
-cbc_encrypted-cbc_decrypted key vector unit keys first all whole =
+cbc_encrypted-cbc_decrypted key iv unit keys first all whole =
     let n = length unit / 16 in
     let size : length unit ≡ 16 * n = omega arith in
-    let back : ℕ → List ℕ = λ j. block_xor (decrypted key (block_at unit j)) (block_before vector unit j) in
+    let back : ℕ → List ℕ = λ j. block_xor (decrypted key (block_at unit j)) (block_before iv unit j) in
     let count = joined_count back n
-    (λ j. decrypted_len (decrypted key (block_at unit j)) (block_before vector unit j)) in
+    (λ j. decrypted_len (decrypted key (block_at unit j)) (block_before iv unit j)) in
     rw count
-    (joined_same (λ j. chained key vector (joined back n) (suc j)) (block_at unit) n
-    (λ j low. block_after key vector unit n j keys first size all low)
+    (joined_same (λ j. chained key iv (joined back n) (suc j)) (block_at unit) n
+    (λ j low. block_after key iv unit n j keys first size all low)
     ∙ joined_blocks unit n ∙ take_all (16 * n) unit (omega arith))
 
 -- the same chain from an equal IV
-pub to_vector : (f : List ℕ → List ℕ → List ℕ → List ℕ) (key v w unit new : List ℕ) → v ≡ w → new ≡ f key v unit
+pub to_iv : (f : List ℕ → List ℕ → List ℕ → List ℕ) (key v w unit new : List ℕ) → v ≡ w → new ≡ f key v unit
     → new ≡ f key w unit
-to_vector f key v w unit new same is = is ∙ ap (λ x. f key x unit) same
+to_iv f key v w unit new same is = is ∙ ap (λ x. f key x unit) same
 
 pub from_vector : (f : List ℕ → List ℕ → List ℕ → List ℕ) (key v w unit old : List ℕ) → v ≡ w → f key v unit ≡ old
     → f key w unit ≡ old

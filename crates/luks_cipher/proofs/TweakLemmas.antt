@@ -44,7 +44,7 @@ done_none f old = record { done = refl; left = refl }
 pub done_more : (f : ℕ → List ℕ) (old new piece : List ℕ) (j : ℕ) → IsDoneBefore f old new j → 16 * j + 16 ≤ length new
     → length piece ≡ 16 → piece ≡ f j → IsDoneBefore f old (put_mid (16 * j) (16 * j + 16 - 16 * j) new piece) (j + 1)
 unfolding joined
-done_more f old new piece j before room size is =
+done_more f old new piece j before capacity size is =
     let at = 16 * j in
     let next = 16 * (j + 1) in
     let split : next ≡ at + 16 = omega arith in
@@ -74,8 +74,8 @@ pub done_next : (g : List ℕ → List ℕ → List ℕ) (t : ℕ → List ℕ) 
     → IsDoneBefore (λ j. g (t j) (block_at old j)) old new j → 16 * j + 16 ≤ length new → length piece ≡ 16
     → own ≡ t j → piece ≡ g own (take (16 * j + 16 - 16 * j) (drop (16 * j) new))
     → IsDoneBefore (λ j. g (t j) (block_at old j)) old (put_mid (16 * j) (16 * j + 16 - 16 * j) new piece) (j + 1)
-done_next g t old new piece own j before room size same is =
-    done_more (λ j. g (t j) (block_at old j)) old new piece j before room size
+done_next g t old new piece own j before capacity size same is =
+    done_more (λ j. g (t j) (block_at old j)) old new piece j before capacity size
     (is ∙ (λ i. g (same i) (block_is old new j before.left i)))
 
 pub next_tweak : (key : List ℕ) (number j : ℕ) (tweak next : List ℕ) → tweak ≡ tweak_of key number j

@@ -86,9 +86,9 @@ joined_at f (suc n) j sizes low =
     elim (cases_lt j n) [
       | inl inside ↦
           let rest = drop (16 * j) (joined f n) in
-          let room : 16 ≤ length rest = rw (length-drop (16 * j) (joined f n), before) (omega arith) in
+          let capacity : 16 ≤ length rest = rw (length-drop (16 * j) (joined f n), before) (omega arith) in
           ap (take 16) (drop-append-le (16 * j) (joined f n) (f n) (omega arith))
-          ∙ take-append-le 16 rest (f n) room ∙ joined_at f n j smaller inside
+          ∙ take-append-le 16 rest (f n) capacity ∙ joined_at f n j smaller inside
       | inr last ↦
           let e : j ≡ n = omega arith in
           rw e (ap (take 16) (drop_at (joined f n) (f n) (16 * n) before)
@@ -111,8 +111,8 @@ joined_blocks unit (suc n) =
 pub block_state : (unit : List ℕ) (n j : ℕ) → length unit ≡ 16 * n → j < n → IsBytes unit → IsState (block_at unit j)
 block_state unit n j size low all = record {
   len =
-      let room : 16 ≤ length (drop (16 * j) unit) = rw (length-drop (16 * j) unit) (omega arith) in
-      length-take-le 16 (drop (16 * j) unit) room;
+      let capacity : 16 ≤ length (drop (16 * j) unit) = rw (length-drop (16 * j) unit) (omega arith) in
+      length-take-le 16 (drop (16 * j) unit) capacity;
   bytes = bytes_take 16 (drop (16 * j) unit) (bytes_drop (16 * j) unit all);
 }
 

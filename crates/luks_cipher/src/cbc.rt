@@ -79,13 +79,13 @@ fn decrypt_batch(key: &BatchKey, before: [u8; 16], batch: &mut [u8]) -> [u8; 16]
 
 /// Encrypts the data unit, whole blocks of 16 bytes, in place by CBC under the key and the IV (NIST
 /// SP 800-38A, 6.2).
-pub fn encrypt_chain(key: &AesKey, vector: [u8; 16], unit: &mut [u8])
+pub fn encrypt_chain(key: &AesKey, iv: [u8; 16], unit: &mut [u8])
     requires { length unit.old % 16 ≡ 0 }
-    ensures value { unit.new ≡ cbc_encrypted key.now vector unit.old }
-    ensures undone { cbc_decrypted key.now vector unit.new ≡ unit.old }
+    ensures value { unit.new ≡ cbc_encrypted key.now iv unit.old }
+    ensures undone { cbc_decrypted key.now iv unit.new ≡ unit.old }
 {
     holds_bytes(key);
-    let mut before = vector;
+    let mut before = iv;
     for j in 0..unit.len() / 16 {
         let next = encrypt_link(key, before, &mut unit[16 * j..16 * j + 16]);
         before = next;
@@ -94,18 +94,18 @@ pub fn encrypt_chain(key: &AesKey, vector: [u8; 16], unit: &mut [u8])
 
 /// Decrypts the data unit, whole blocks of 16 bytes, in place by CBC under the key and the IV (NIST
 /// SP 800-38A, 6.2).
-pub fn decrypt_chain(key: &BatchKey, vector: [u8; 16], unit: &mut [u8])
+pub fn decrypt_chain(key: &BatchKey, iv: [u8; 16], unit: &mut [u8])
     requires { length unit.old % 16 ≡ 0 }
-    ensures value { unit.new ≡ cbc_decrypted key.now vector unit.old }
+    ensures value { unit.new ≡ cbc_decrypted key.now iv unit.old }
 
     // Decrypting an encrypted data unit gives the plain one.
     ensures undoes { (plain : List ℕ) → IsBytes plain → length plain ≡ length unit.old
-        → unit.old ≡ cbc_encrypted key.now vector plain → unit.new ≡ plain }
-    ensures undone { cbc_encrypted key.now vector unit.new ≡ unit.old }
+        → unit.old ≡ cbc_encrypted key.now iv plain → unit.new ≡ plain }
+    ensures undone { cbc_encrypted key.now iv unit.new ≡ unit.old }
 {
     let block_key = key.key();
     holds_bytes(block_key);
-    let mut before = vector;
+    let mut before = iv;
     let batches = unit.len() / 512;
     for i in 0..batches {
         let next = decrypt_batch(key, before, &mut unit[512 * i..512 * i + 512]);

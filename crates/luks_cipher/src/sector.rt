@@ -133,9 +133,9 @@ impl SectorCipher {
             Keys::XtsPlain64(key) => key.encrypt_unit(number, unit),
             Keys::XtsPlain(key) => key.encrypt_unit(number % 0x1_0000_0000, unit),
             Keys::CbcEssivSha256(key, iv_key) => {
-                let mut vector = number_block(number);
-                iv_key.encrypt_block(&mut vector);
-                encrypt_chain(key.key(), vector, unit);
+                let mut iv = number_block(number);
+                iv_key.encrypt_block(&mut iv);
+                encrypt_chain(key.key(), iv, unit);
             }
             Keys::CbcPlain64(key) => encrypt_chain(key.key(), number_block(number), unit),
         }
@@ -160,9 +160,9 @@ impl SectorCipher {
             Keys::XtsPlain64(key) => key.decrypt_unit(number, unit),
             Keys::XtsPlain(key) => key.decrypt_unit(number % 0x1_0000_0000, unit),
             Keys::CbcEssivSha256(key, iv_key) => {
-                let mut vector = number_block(number);
-                iv_key.encrypt_block(&mut vector);
-                decrypt_chain(key, vector, unit);
+                let mut iv = number_block(number);
+                iv_key.encrypt_block(&mut iv);
+                decrypt_chain(key, iv, unit);
             }
             Keys::CbcPlain64(key) => decrypt_chain(key, number_block(number), unit),
         }

@@ -147,11 +147,11 @@ calls_without_payload o known known_secret message image image' secret secret' o
 -- ---- with a detached header
 
 -- nothing of the payload's image was read
-pub calls_apart : (ReadsIt : Bool → ReadCounts → ReadCounts → Type 0) (message : Message)
+pub detached_calls_without_payload : (ReadsIt : Bool → ReadCounts → ReadCounts → Type 0) (message : Message)
     (header header' image secret secret' : ReadCounts) (out out' : WriteCounts) → ReadsIt false image image
     → CountsCalls ReadsOnce message header header' secret secret' out out'
     → CountsCallsDetached ReadsIt message header header' image image secret secret' out out'
-calls_apart ReadsIt message header header' image secret secret' out out' none calls = record {
+detached_calls_without_payload ReadsIt message header header' image secret secret' out out' none calls = record {
   in_image = false;
   in_header = calls.in_image;
   header_reads = calls.image_reads;

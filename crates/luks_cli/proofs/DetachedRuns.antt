@@ -68,9 +68,9 @@ module _ (Q : Outcome → Type 0) (on_opened : OnOpened) (named : Option ℕ) (f
   of_volume (Ok v) = of_found v
   of_volume (Err message) = none _ _ _
 
-pub no_payload_for_answer : (file : List ℕ) → (is_luks_outcome file).payload_consumed ≡ 0
+pub no_payload_for_is_luks : (file : List ℕ) → (is_luks_outcome file).payload_consumed ≡ 0
 unfolding is_luks_outcome
-no_payload_for_answer file = refl
+no_payload_for_is_luks file = refl
 
 pub no_payload_for_text : (read : HeaderReader) (text : Header → List ℕ) (reported : Header → Message) (file : List ℕ)
     → (print_outcome_by read text reported file).payload_consumed ≡ 0
@@ -107,18 +107,18 @@ no_payload_without_key o file image pass message opening well =
     (volume_by detached_header_of o file)
 
 -- the payload's outcome consumes at least the loaded bytes of the file with the header, and the whole key file
-pub takes_detached_payload : (image pass : List ℕ) → ConsumesLoaded pass (detached_payload_outcome image pass)
-takes_detached_payload image pass =
+pub detached_payload_consumes_loaded : (image pass : List ℕ) → ConsumesLoaded pass (detached_payload_outcome image pass)
+detached_payload_consumes_loaded image pass =
     record { loaded = λ segment opened loaded. omega arith; whole = λ segment opened loaded. refl }
 
 -- ---- runs that consume nothing of it
 
-pub runs_apart : (is_prompt : Promptness) (out : Outcome) (message : Message)
+pub detached_runs_without_payload : (is_prompt : Promptness) (out : Outcome) (message : Message)
     (ConsumedHeader ConsumedSecret : ℕ → Type 0)
     (Wrote : List ℕ → Type 0) → out.payload_consumed ≡ 0
     → RunMatches is_prompt out message ConsumedHeader ConsumedSecret Wrote
     → DetachedRunMatches (λ _. is_prompt) out message ConsumedHeader ConsumedNothing ConsumedSecret Wrote
-runs_apart is_prompt out message ConsumedHeader ConsumedSecret Wrote none run =
+detached_runs_without_payload is_prompt out message ConsumedHeader ConsumedSecret Wrote none run =
     record { payload_consumed = 0; payload_within = by (aborts message); payload = refl; run = run }
   where
     by : (b : Bool) → MatchBool b (0 ≤ out.payload_consumed) (0 ≡ out.payload_consumed)
@@ -137,10 +137,10 @@ unopened : (file : List ℕ) (out : Outcome) (message : Message)
     (Wrote : List ℕ → Type 0) → (aborts message ≡ false → message ≡ out.message → out.payload_consumed ≡ 0)
     → ConsumedPayload 0 → RunMatches (PromptOpening Detached file) out message ConsumedHeader ConsumedSecret Wrote
     → DetachedRunMatches (PromptDetachedCat file) out message ConsumedHeader ConsumedPayload ConsumedSecret Wrote
-unopened file out message ConsumedHeader ConsumedPayload ConsumedSecret Wrote none took run = record {
+unopened file out message ConsumedHeader ConsumedPayload ConsumedSecret Wrote none consumption run = record {
   payload_consumed = 0;
   payload_within = within (aborts message) refl;
-  payload = took;
+  payload = consumption;
   run = runs_at (PromptOpening Detached file) (PromptDetachedCat file 0) out message ConsumedHeader ConsumedSecret Wrote
       (λ a b output silent. subst (PromptDetachedCat file 0 message a b) (sym silent)
       (prompt_at_first file message a b))
@@ -152,10 +152,10 @@ unopened file out message ConsumedHeader ConsumedPayload ConsumedSecret Wrote no
     within true is = omega arith
     within false is =
         let whole : Completed out message ConsumedHeader ConsumedSecret Wrote = rw is at run in
-        sym (none is whole.as_stated)
+        sym (none is whole.as_specified)
 
 -- opening ended the run
-pub runs_unopened_apart : (o : VolumeRequest) (file image pass : List ℕ) (message : Message)
+pub detached_runs_unopened : (o : VolumeRequest) (file image pass : List ℕ) (message : Message)
     (ConsumedHeader ConsumedPayload ConsumedSecret : ℕ → Type 0) (Wrote : List ℕ → Type 0) → OpeningMessage message
     → ConsumedPayload 0
     → RunMatches (PromptOpening Detached file)
@@ -164,9 +164,10 @@ pub runs_unopened_apart : (o : VolumeRequest) (file image pass : List ℕ) (mess
     → DetachedRunMatches (PromptDetachedCat file)
     (volume_outcome_by detached_header_of (detached_payload_outcome image pass) o file pass) message ConsumedHeader
     ConsumedPayload ConsumedSecret Wrote
-runs_unopened_apart o file image pass message ConsumedHeader ConsumedPayload ConsumedSecret Wrote opening took run =
+detached_runs_unopened o file image pass message ConsumedHeader ConsumedPayload ConsumedSecret Wrote opening
+    consumption run =
     unopened file _ message ConsumedHeader ConsumedPayload ConsumedSecret Wrote
-    (no_payload_without_key o file image pass message opening) took run
+    (no_payload_without_key o file image pass message opening) consumption run
 
 -- ---- the payload
 
@@ -178,22 +179,22 @@ module _ (o : VolumeRequest) (file image pass : List ℕ) (segment : Segment) (o
   stated = u.outcome (detached_payload_outcome image pass)
 
   -- the payload was forwarded, to its end or not
-  pub runs_passed_apart : (message : Message) → message ≢ OutOfMemory
+  pub detached_runs_forwarded : (message : Message) → message ≢ OutOfMemory
       → ForwardsPayload segment (segment.mode, opened.key) image 0 i' w w' message
       → DetachedRunMatches (PromptDetachedCat file)
       (volume_outcome_by detached_header_of (detached_payload_outcome image pass) o file pass) message
       (ConsumedExactly file h)
       (ConsumedExactly image i') (ConsumedExactly pass s) (Appended w w')
-  runs_passed_apart OutOfMemory never passed = absurd (never refl)
-  runs_passed_apart ReadFailed never passed =
-      let place = passed.0 in
-      let count = passed.1 in
+  detached_runs_forwarded OutOfMemory never forwarded = absurd (never refl)
+  detached_runs_forwarded ReadFailed never forwarded =
+      let place = forwarded.0 in
+      let count = forwarded.1 in
       let span : count * sector_len segment
-      ≤ sectors_of segment image * sector_len segment = mul-le-mul_right (sector_len segment) passed.3 in
+      ≤ sectors_of segment image * sector_len segment = mul-le-mul_right (sector_len segment) forwarded.3 in
       rw stated (record {
         payload_consumed = place;
-        payload_within = omega (arith, passed.4);
-        payload = passed.5;
+        payload_within = omega (arith, forwarded.4);
+        payload = forwarded.5;
         run = record {
           image_consumed = length loaded;
           secret_consumed = length pass;
@@ -204,20 +205,20 @@ module _ (o : VolumeRequest) (file image pass : List ℕ) (segment : Segment) (o
           is_silent = tt;
           is_prompt = λ other is passes.
               rw (same_segment_by detached_header_of file segment other u.has is)
-              (ap (λ n. n * sector_len segment) passed.2);
+              (ap (λ n. n * sector_len segment) forwarded.2);
           image = u.image_consumed;
           secret = u.secret_consumed;
-          output = passed.6;
+          output = forwarded.6;
         };
       })
-  runs_passed_apart WriteFailed never passed =
-      let count = passed.0 in
-      let written = passed.1 in
-      let within = positioned_within segment image count written passed.2 passed.3 in
+  detached_runs_forwarded WriteFailed never forwarded =
+      let count = forwarded.0 in
+      let written = forwarded.1 in
+      let within = positioned_within segment image count written forwarded.2 forwarded.3 in
       rw stated (record {
         payload_consumed = max 0 (sector_start segment (count + 1));
-        payload_within = omega (arith, passed.4);
-        payload = passed.5;
+        payload_within = omega (arith, forwarded.4);
+        payload = forwarded.5;
         run = record {
           image_consumed = length loaded;
           secret_consumed = length pass;
@@ -230,29 +231,29 @@ module _ (o : VolumeRequest) (file image pass : List ℕ) (segment : Segment) (o
               (omega arith);
           image = u.image_consumed;
           secret = u.secret_consumed;
-          output = passed.6;
+          output = forwarded.6;
         };
       })
-  runs_passed_apart message never passed =
+  detached_runs_forwarded message never forwarded =
       let all : max 0 (payload_end_of segment image) ≡ payload_end_of segment image = omega arith in
       rw stated (record {
         payload_consumed = payload_end_of segment image;
         payload_within = refl;
-        payload = subst (ConsumedExactly image i') all passed.1;
+        payload = subst (ConsumedExactly image i') all forwarded.1;
         run = record {
-          as_stated = passed.0;
+          as_specified = forwarded.0;
           image = u.image_consumed;
           secret = u.secret_consumed;
-          output = passed.2;
+          output = forwarded.2;
         };
       })
 
 -- forwarding a payload ends with no message that a run without a key may have
 pub with_key : (message : Message) → PayloadMessage message → EndsWithoutKey message → ⊥
-with_key Done passed without = absurd without.0
-with_key CutBeforePayload passed without = absurd without.0
-with_key (Tail n) passed without = absurd without.0
-with_key (Short n) passed without = absurd without.0
-with_key WriteFailed passed without = absurd without.0
-with_key ReadFailed passed without = let wrong : true ≡ false = without.1 in cc
-with_key _ passed without = absurd passed
+with_key Done forwarded without = absurd without.0
+with_key CutBeforePayload forwarded without = absurd without.0
+with_key (Tail n) forwarded without = absurd without.0
+with_key (Short n) forwarded without = absurd without.0
+with_key WriteFailed forwarded without = absurd without.0
+with_key ReadFailed forwarded without = let wrong : true ≡ false = without.1 in cc
+with_key _ forwarded without = absurd forwarded

@@ -16,5 +16,5 @@ writes_plain (luks_cat o) message image image' secret secret' written written' r
     λ known is passphrase is_secret plain counted honest whole.
     let run = rw whole at (runs known is passphrase is_secret counted) in
     let outcome = unsealed o known passphrase plain honest in
-    (run.as_stated ∙ outcome.1, subst (λ (bytes : List ℕ). Appended written written' bytes) outcome.0 run.output)
+    (run.as_specified ∙ outcome.1, subst (λ (bytes : List ℕ). Appended written written' bytes) outcome.0 run.output)
 writes_plain _ message image image' secret secret' written written' runs = tt

@@ -29,8 +29,11 @@ use Rattle.luks_report.specs.Texts.{opened_line}
 use Rattle.luks_report.specs.declared.message.Message.{Message}
 use Rattle.luks_report.specs.declared.message.Message.TheVariants.{Done, OutOfMemory, ReadFailed, WriteFailed}
 
-pub takes_slot : (secret : List ℕ) → ConsumesLoaded secret (slot_outcome secret)
-takes_slot secret = record { loaded = λ segment opened loaded. omega arith; whole = λ segment opened loaded. refl }
+pub slot_consumes_loaded : (secret : List ℕ) → ConsumesLoaded secret (slot_outcome secret)
+slot_consumes_loaded secret = record {
+  loaded = λ segment opened loaded. omega arith;
+  whole = λ segment opened loaded. refl;
+}
 
 -- a run that is prompt in one sense is also prompt in every sense that follows from it
 pub runs_at : (is_prompt is_prompt' : Promptness) (out : Outcome) (message : Message)
@@ -70,7 +73,7 @@ module _ (location : HeaderLocation) (o : VolumeRequest) (image pass : List ℕ)
       (ConsumedExactly image i) (ConsumedExactly pass s)
       (Appended w w')
   runs_slot w w' Done reported = rw (u.outcome (slot_outcome pass))
-      (record { as_stated = refl; image = u.image_consumed; secret = u.secret_consumed; output = reported })
+      (record { as_specified = refl; image = u.image_consumed; secret = u.secret_consumed; output = reported })
   runs_slot w w' WriteFailed reported = rw (u.outcome (slot_outcome pass)) (record {
     image_consumed = length loaded;
     secret_consumed = length pass;
@@ -131,77 +134,78 @@ positioned_within segment image count written few less =
 -- if all of an image is loaded, nothing more of it was consumed
 none_more : (image : List ℕ) (loaded count : ℕ) (left : Option (List ℕ)) → length image ≤ loaded → loaded ≤ count
     → ConsumedExactly image left count → ConsumedExactly image (Some []) count
-none_more image loaded count left all more took =
-    record { within = took.within; left = ap Some (sym (drop_all count image (omega arith))) }
+none_more image loaded count left all more consumption =
+    record { within = consumption.within; left = ap Some (sym (drop_all count image (omega arith))) }
 
 forwarded_all : (segment : Segment) (cipher : Cipher) (image : List ℕ) (loaded : ℕ) (left w w' : Option (List ℕ))
     (message : Message) → length image ≤ loaded → message ≢ ReadFailed
     → ForwardsPayload segment cipher image loaded left w w' message
     → ForwardsPayload segment cipher image loaded (Some []) w w' message
-forwarded_all segment cipher image loaded left w w' ReadFailed all unread passed = absurd (unread refl)
-forwarded_all segment cipher image loaded left w w' WriteFailed all unread passed = (
-  passed.0,
-  passed.1,
-  passed.2,
-  passed.3,
-  passed.4,
-  none_more image loaded _ left all (omega arith) passed.5,
-  passed.6,
+forwarded_all segment cipher image loaded left w w' ReadFailed all unread forwarded = absurd (unread refl)
+forwarded_all segment cipher image loaded left w w' WriteFailed all unread forwarded = (
+  forwarded.0,
+  forwarded.1,
+  forwarded.2,
+  forwarded.3,
+  forwarded.4,
+  none_more image loaded _ left all (omega arith) forwarded.5,
+  forwarded.6,
 )
-forwarded_all segment cipher image loaded left w w' message all unread passed =
-    (passed.0, none_more image loaded _ left all (omega arith) passed.1, passed.2)
+forwarded_all segment cipher image loaded left w w' message all unread forwarded =
+    (forwarded.0, none_more image loaded _ left all (omega arith) forwarded.1, forwarded.2)
 
 module _ (o : VolumeRequest) (image pass : List ℕ) (segment : Segment) (opened : Opened) (loaded : List ℕ)
     (i s : Option (List ℕ)) (u : Unlocks Attached o image pass segment opened loaded i s) where
   module _ (i' w w' : Option (List ℕ)) where
     -- the payload was forwarded, to its end or not
-    pub runs_passed : (message : Message) → message ≢ OutOfMemory
+    pub runs_forwarded : (message : Message) → message ≢ OutOfMemory
         → ForwardsPayload segment (segment.mode, opened.key) image (length loaded) i' w w' message
         → RunMatches (PromptCat image) (volume_outcome (payload_outcome image pass) o image pass) message
         (ConsumedExactly image i')
         (ConsumedExactly pass s) (Appended w w')
-    runs_passed OutOfMemory never passed = absurd (never refl)
-    runs_passed ReadFailed never passed =
-        let place = passed.0 in
-        let count = passed.1 in
-        let whole = passed.3 in
+    runs_forwarded OutOfMemory never forwarded = absurd (never refl)
+    runs_forwarded ReadFailed never forwarded =
+        let place = forwarded.0 in
+        let count = forwarded.1 in
+        let whole = forwarded.3 in
         let span : count * sector_len segment
         ≤ sectors_of segment image * sector_len segment = mul-le-mul_right (sector_len segment) whole in
         rw (u.outcome (payload_outcome image pass)) (record {
           image_consumed = place;
           secret_consumed = length pass;
           output_len = count * sector_len segment;
-          image_within = omega (arith, passed.4);
+          image_within = omega (arith, forwarded.4);
           secret_within = omega arith;
           output_within = omega (arith, plain_len segment image (segment.mode, opened.key));
           is_silent = tt;
           is_prompt = λ other is passes.
-              rw (same_segment_by header_of image segment other u.has is) (ap (λ n. n * sector_len segment) passed.2);
-          image = passed.5;
+              rw (same_segment_by header_of image segment other u.has is) (ap (λ n. n * sector_len segment)
+              forwarded.2);
+          image = forwarded.5;
           secret = u.secret_consumed;
-          output = passed.6;
+          output = forwarded.6;
         })
-    runs_passed WriteFailed never passed =
-        let count = passed.0 in
-        let written = passed.1 in
-        let within = positioned_within segment image count written passed.2 passed.3 in
+    runs_forwarded WriteFailed never forwarded =
+        let count = forwarded.0 in
+        let written = forwarded.1 in
+        let within = positioned_within segment image count written forwarded.2 forwarded.3 in
         rw (u.outcome (payload_outcome image pass)) (record {
           image_consumed = max (length loaded) (sector_start segment (count + 1));
           secret_consumed = length pass;
           output_len = count * sector_len segment + written;
-          image_within = omega (arith, passed.4);
+          image_within = omega (arith, forwarded.4);
           secret_within = omega arith;
           output_within = omega (arith, plain_len segment image (segment.mode, opened.key), within.span);
           is_silent = tt;
           is_prompt = λ other is. rw (same_segment_by header_of image segment other u.has is, within.row)
               (omega (arith, u.no_further refl));
-          image = passed.5;
+          image = forwarded.5;
           secret = u.secret_consumed;
-          output = passed.6;
+          output = forwarded.6;
         })
-    runs_passed message never passed =
+    runs_forwarded message never forwarded =
         rw (u.outcome (payload_outcome image pass)) (record
-        { as_stated = passed.0; image = passed.1; secret = u.secret_consumed; output = passed.2 })
+        { as_specified = forwarded.0; image = forwarded.1; secret = u.secret_consumed; output = forwarded.2 })
 
   -- all of the image is loaded, and its payload was forwarded from there
   pub runs_loaded : (left w w' : Option (List ℕ)) (message : Message) → i ≡ Some [] → message ≢ OutOfMemory
@@ -222,7 +226,7 @@ module _ (o : VolumeRequest) (image pass : List ℕ) (segment : Segment) (opened
       (volume_outcome (payload_outcome image pass) o image pass) message
       (ConsumedExactly image rest) (ConsumedExactly pass s) (Appended w w'))
       (sym none)
-      (runs_passed (Some []) w w' message never
+      (runs_forwarded (Some []) w w' message never
       (forwarded_all segment (segment.mode, opened.key) image (length loaded) left w w' message all unread
       (forwards consumed)))
 

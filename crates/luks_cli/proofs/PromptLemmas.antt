@@ -7,7 +7,7 @@ use Rattle.luks_header.specs.HeaderSegment.{segment_of}
 use Rattle.luks_header.specs.declared.header.Header.{Header}
 use Rattle.luks_header.proofs.KnownLemmas.{is_attached}
 use Rattle.luks_verdict.specs.declared.segment.Segment.{Segment}
-use Rattle.luks_open.proofs.CallerLemmas.{held_before_payload}
+use Rattle.luks_open.proofs.CallerLemmas.{key_areas_before_payload}
 use Rattle.luks_open.specs.Order.{OrderModel, key_areas_end, order_of}
 use Rattle.luks_payload.specs.Plain.{sector_len}
 use Rattle.luks_report.specs.declared.message.Message.{Message}
@@ -84,10 +84,10 @@ prompt_before_payload Attached image message a b segment has early =
 prompt_before_payload Detached image message a b segment has early = refl
 
 -- with an attached header, the key material of the slots to be tried ends before the payload starts
-pub held_early : (location : HeaderLocation) (image : List ℕ) (header : Header) (segment : Segment)
+pub material_before_payload : (location : HeaderLocation) (image : List ℕ) (header : Header) (segment : Segment)
     (named limit : Option ℕ)
     (order : OrderModel) → reader_for location image ≡ Ok header → segment_of header ≡ Ok segment
     → order_of header named limit ≡ Ok order → location ≡ Attached → key_areas_end order.slots ≤ segment.offset
-held_early Attached image header segment named limit order found is_segment ordered attached =
-    held_before_payload header segment named limit order (is_attached image header found) is_segment ordered
-held_early Detached image header segment named limit order found is_segment ordered attached = cc
+material_before_payload Attached image header segment named limit order found is_segment ordered attached =
+    key_areas_before_payload header segment named limit order (is_attached image header found) is_segment ordered
+material_before_payload Detached image header segment named limit order found is_segment ordered attached = cc

@@ -16,18 +16,19 @@ use Rattle.luks_open.specs.declared.fault.OpenFault.{OpenFault}
 use Rattle.luks_open.specs.declared.fault.OpenFault.TheVariants.{NoSuchSlot as NotThere, Disabled, NamedSkipped}
 use Rattle.luks_open.specs.declared.fault.OpenFault.TheVariants.{NothingTried as NoneTried, NoKey as NoneOpens, Memory}
 use Rattle.luks_open.specs.declared.opening.Opened.{Opened}
-use Rattle.luks_cli.proofs.PromptLemmas.{held_early, prompt_before_payload, prompt_in_header, prompt_refused}
-use Rattle.luks_unlock.proofs.OutcomeLemmas.{area_cut, area_held, area_more, found_cut, found_is, found_long}
-use Rattle.luks_unlock.proofs.OutcomeLemmas.{found_whole, front_len, outcome_is, tried_is}
+use Rattle.luks_cli.proofs.PromptLemmas.{material_before_payload, prompt_before_payload, prompt_in_header}
+use Rattle.luks_cli.proofs.PromptLemmas.{prompt_refused}
+use Rattle.luks_unlock.proofs.OutcomeLemmas.{area_cut, area_loaded, area_more, found_cut, found_is, found_long}
+use Rattle.luks_unlock.proofs.OutcomeLemmas.{found_whole, prefix_length, outcome_is, tried_is}
 use Rattle.luks_report.specs.Faults.{message_for_header, message_for_opening}
 use Rattle.luks_unlock.specs.Volume.{OnOpened, found_outcome, opened_outcome, outcome_after, volume_outcome_by}
 use Rattle.luks_runs.specs.RunOutcome.{no_output}
 use Rattle.luks_request.specs.Request.{VolumeRequest}
 use Rattle.luks_runs.specs.Run.{RunMatches}
 use Rattle.luks_runs.proofs.RunLemmas.{aborted_unwritten}
-use Rattle.luks_io.proofs.Consuming.{adds-none, took-none}
+use Rattle.luks_io.proofs.Consuming.{adds-none, consumed-none}
 use Rattle.luks_io.specs.Devices.{Appended, ConsumedExactly}
-use Rattle.luks_runs.proofs.HeaderConsumption.{cost_there, consumed_header}
+use Rattle.luks_runs.proofs.HeaderConsumption.{header_read_len_within, consumed_header}
 use Rattle.luks_runs.specs.KeyFile.{NoKeyFileRead, max_key_file_len}
 use Rattle.luks_cli.specs.VolumeParts.{ConsumesLoaded}
 use Rattle.luks_unlock.specs.OpeningMessages.{OpeningMessage}
@@ -59,16 +60,16 @@ ends_unwritten location image pass ReadFailed i s w a b other prompt ti ts =
     aborted_unwritten a b tt (omega arith) prompt (omega arith) (omega arith) ti ts
 ends_unwritten location image pass WriteFailed i s w a b other prompt ti ts = absurd (other refl)
 ends_unwritten location image pass _ i s w a b other prompt ti ts =
-    record { as_stated = refl; image = ti; secret = ts; output = adds-none w }
+    record { as_specified = refl; image = ti; secret = ts; output = adds-none w }
 
 -- no fault of opening has the message of a failed write
-no_write_told : (named : Option ℕ) (fault : OpenFault) → message_for_opening named fault ≢ WriteFailed
-no_write_told named NotThere h = cc
-no_write_told named Disabled h = cc
-no_write_told named (NamedSkipped reason) h = cc
-no_write_told named (NoneTried skipped) h = cc
-no_write_told named (NoneOpens skipped) h = cc
-no_write_told named Memory h = cc
+fault_not_write_failed : (named : Option ℕ) (fault : OpenFault) → message_for_opening named fault ≢ WriteFailed
+fault_not_write_failed named NotThere h = cc
+fault_not_write_failed named Disabled h = cc
+fault_not_write_failed named (NamedSkipped reason) h = cc
+fault_not_write_failed named (NoneTried skipped) h = cc
+fault_not_write_failed named (NoneOpens skipped) h = cc
+fault_not_write_failed named Memory h = cc
 
 -- no message of opening is that of a failed write
 never_written : (message : Message) → OpeningMessage message → message ≢ WriteFailed
@@ -105,7 +106,7 @@ module _ (on_opened : OnOpened) (named : Option ℕ) (v : Volume) (image secret 
     | inl long ↦ rw (found_long on_opened named v image secret long) (omega arith, omega arith)
     | inr short ↦
         let all = area_within short in
-        (omega (arith, all.0, cost_there image), omega (arith, all.1))
+        (omega (arith, all.0, header_read_len_within image), omega (arith, all.1))
   ]
 
 -- ---- runs on a volume
@@ -118,10 +119,10 @@ module _ (location : HeaderLocation) (o : VolumeRequest) (image pass : List ℕ)
       (ConsumedExactly image i) (ConsumedExactly pass s) (Appended w w)
 
   module _ (on_opened : OnOpened) (takes : ConsumesLoaded pass on_opened) where
-    cost_consumed : header_read_len image
+    header_read_len_consumed : header_read_len image
         ≤ (volume_outcome_by (reader_for location) on_opened o image pass).image_consumed
     unfolding volume_outcome_by
-    cost_consumed = after (volume_by (reader_for location) o image)
+    header_read_len_consumed = after (volume_by (reader_for location) o image)
       where
         after : (r : Result Volume Message)
             → header_read_len image ≤ (outcome_after on_opened o.key_slot image pass r).image_consumed
@@ -135,16 +136,16 @@ module _ (location : HeaderLocation) (o : VolumeRequest) (image pass : List ℕ)
         → Matches on_opened message
     runs_without_volume OutOfMemory only stop whole =
         aborted_unwritten stop.0 0 refl (omega arith) (prompt_in_header location image OutOfMemory stop.0 0 stop.1)
-        (omega (arith, stop.1, cost_consumed)) (omega arith) stop.2 (took-none pass s whole)
+        (omega (arith, stop.1, header_read_len_consumed)) (omega arith) stop.2 (consumed-none pass s whole)
     runs_without_volume ReadFailed only stop whole =
         aborted_unwritten stop.0 0 tt (omega arith) (prompt_in_header location image ReadFailed stop.0 0 stop.1)
-        (omega (arith, stop.1, cost_consumed)) (omega arith) stop.2 (took-none pass s whole)
+        (omega (arith, stop.1, header_read_len_consumed)) (omega arith) stop.2 (consumed-none pass s whole)
     runs_without_volume WriteFailed only stop whole = absurd only
     runs_without_volume message only stop whole =
         rw (outcome_is location o image pass on_opened (Err message) stop.0)
         (ends_unwritten location image pass message i s w (header_read_len image) 0 (never_written message only)
         (prompt_in_header location image message (header_read_len image) 0 (omega arith)) stop.1
-        (took-none pass s whole))
+        (consumed-none pass s whole))
 
   -- the header names this segment and these key slots to be tried
   module _ (header : Header) (segment : Segment) (order : OrderModel) (found : reader_for location image ≡ Ok header)
@@ -160,11 +161,12 @@ module _ (location : HeaderLocation) (o : VolumeRequest) (image pass : List ℕ)
     outcome_found on_opened =
         found_is location o image pass header segment order found is_segment ordered on_opened
 
-    held_before : location ≡ Attached → loaded_for image volume ≤ max (header_read_len image) segment.offset
+    loaded_before_payload : location ≡ Attached → loaded_for image volume ≤ max (header_read_len image) segment.offset
     unfolding volume
-    held_before attached = omega (
+    loaded_before_payload attached = omega (
       arith,
-      held_early location image header segment o.key_slot o.max_iterations order found is_segment ordered attached,
+      material_before_payload location image header segment o.key_slot o.max_iterations order found is_segment ordered
+          attached,
     )
 
     -- the key file was not read
@@ -192,9 +194,9 @@ module _ (location : HeaderLocation) (o : VolumeRequest) (image pass : List ℕ)
     runs_without_secret on_opened takes _ stop rest = absurd stop
 
     -- the key file was read
-    module _ (short : length pass ≤ max_key_file_len) (gone : ConsumedExactly pass s (length pass))
+    module _ (short : length pass ≤ max_key_file_len) (key_file_consumed : ConsumedExactly pass s (length pass))
         (area area' : List ℕ)
-        (front : area ≡ take (header_read_len image) image) where
+        (prefix : area ≡ take (header_read_len image) image) where
       -- the key areas could not be read
       runs_without_area : (on_opened : OnOpened) (takes : ConsumesLoaded pass on_opened) (fault : HeaderFault)
           → AbortsConsuming (key_areas_end order.slots - length area) area area' (drop
@@ -202,23 +204,23 @@ module _ (location : HeaderLocation) (o : VolumeRequest) (image pass : List ℕ)
           → Matches on_opened (message_for_header fault)
       unfolding volume
       runs_without_area on_opened takes LostRead stop =
-          let more = area_more image area area' i (key_areas_end order.slots) front stop.0 stop.2 in
+          let more = area_more image area area' i (key_areas_end order.slots) prefix stop.0 stop.2 in
           let few : header_read_len image + stop.0
           ≤ loaded_for image volume =
-          omega (arith, stop.1, front_len image area area' i (key_areas_end order.slots) front) in
+          omega (arith, stop.1, prefix_length image area area' i (key_areas_end order.slots) prefix) in
           let within = area_within on_opened o.key_slot volume image pass takes short in
           rw (outcome_found on_opened)
           (aborted_unwritten (header_read_len image + stop.0) (length pass) tt (omega arith)
           (prompt_before_payload location image ReadFailed (header_read_len image + stop.0) (length pass) segment
-          (header, found, is_segment) (λ attached. omega (arith, few, held_before attached)))
-          (omega (arith, within.0, more.1.within, few)) within.1 more.1 gone)
+          (header, found, is_segment) (λ attached. omega (arith, few, loaded_before_payload attached)))
+          (omega (arith, within.0, more.1.within, few)) within.1 more.1 key_file_consumed)
       runs_without_area on_opened takes NoMemory stop =
           let within = found_within on_opened o.key_slot volume image pass takes in
           let whole = area_within on_opened o.key_slot volume image pass takes short in
           rw (outcome_found on_opened)
           (aborted_unwritten (header_read_len image) (length pass) refl (omega arith)
           (prompt_in_header location image OutOfMemory (header_read_len image) (length pass) (omega arith))
-          within.0 whole.1 (consumed_header image i stop.0.left) gone)
+          within.0 whole.1 (consumed_header image i stop.0.left) key_file_consumed)
       runs_without_area on_opened takes _ stop = absurd stop
 
       module _ (grows : ConsumedOnto area area' (drop (header_read_len image) image) i
@@ -228,10 +230,10 @@ module _ (location : HeaderLocation) (o : VolumeRequest) (image pass : List ℕ)
             → Matches on_opened Cut
         unfolding volume
         runs_cut on_opened few =
-            let cut = area_cut image area area' i (key_areas_end order.slots) front grows few in
+            let cut = area_cut image area area' i (key_areas_end order.slots) prefix grows few in
             rw (outcome_found on_opened, found_cut on_opened o.key_slot volume image pass short cut.0)
             (ends_unwritten location image pass Cut i s w (length image) (length pass) (λ h. cc)
-            (prompt_refused location image (length image) (length pass)) cut.1 gone)
+            (prompt_refused location image (length image) (length pass)) cut.1 key_file_consumed)
 
         module _ (enough : key_areas_end order.slots ≤ length area') (r : Result Opened OpenFault)
             (tried : opening_of order area' pass ≡ r) where
@@ -240,7 +242,7 @@ module _ (location : HeaderLocation) (o : VolumeRequest) (image pass : List ℕ)
               ≡ opened_outcome on_opened o.key_slot volume image pass r
           unfolding volume
           outcome_tried on_opened =
-              tried_is location o image pass header segment order found is_segment ordered short area area' i front
+              tried_is location o image pass header segment order found is_segment ordered short area area' i prefix
               grows
               enough r tried on_opened
 
@@ -252,15 +254,14 @@ module _ (location : HeaderLocation) (o : VolumeRequest) (image pass : List ℕ)
           → Matches on_opened (message_for_opening o.key_slot fault)
       unfolding volume
       runs_unopened grows enough fault tried on_opened =
-          let loaded = area_held image area area' i (key_areas_end order.slots) front grows enough in
+          let loaded = area_loaded image area area' i (key_areas_end order.slots) prefix grows enough in
           rw (outcome_tried grows enough (Err fault) tried on_opened)
           (ends_unwritten location image pass (message_for_opening o.key_slot fault) i s w (loaded_for image volume)
           (length pass)
-          (no_write_told o.key_slot fault)
+          (fault_not_write_failed o.key_slot fault)
           (prompt_before_payload location image (message_for_opening o.key_slot fault) (loaded_for image volume)
           (length pass)
-          segment (header, found, is_segment) held_before)
-          loaded.3 gone)
+          segment (header, found, is_segment) loaded_before_payload) loaded.3 key_file_consumed)
 
       -- a key slot opens
       unlocks : (grows : ConsumedOnto area area' (drop (header_read_len image) image) i
@@ -270,33 +271,34 @@ module _ (location : HeaderLocation) (o : VolumeRequest) (image pass : List ℕ)
           → Unlocks location o image pass segment opened area' i s
       unfolding volume
       unlocks grows enough opened tried =
-          let loaded = area_held image area area' i (key_areas_end order.slots) front grows enough in
+          let loaded = area_loaded image area area' i (key_areas_end order.slots) prefix grows enough in
           record {
             outcome = λ on_opened. outcome_tried grows enough (Ok opened) tried on_opened
                 ∙ ap (on_opened segment opened) (sym loaded.1);
             has = (header, found, is_segment);
             has_header = omega (arith, loaded.1);
-            no_further = λ attached. omega (arith, loaded.1, held_before attached);
-            front = rw (← loaded.1) at loaded.2;
+            no_further = λ attached. omega (arith, loaded.1, loaded_before_payload attached);
+            prefix = rw (← loaded.1) at loaded.2;
             image_consumed = rw (← loaded.1) at loaded.3;
-            secret_consumed = gone;
+            secret_consumed = key_file_consumed;
           }
 
     -- the key slots were not tried, or none of them opens
-    runs_without_slot : (short : length pass ≤ max_key_file_len) (gone : ConsumedExactly pass s (length pass))
-        (area area' : List ℕ) (front : area ≡ take (header_read_len image) image) (on_opened : OnOpened)
+    runs_without_slot : (short : length pass ≤ max_key_file_len) (key_file_consumed : ConsumedExactly pass s
+        (length pass))
+        (area area' : List ℕ) (prefix : area ≡ take (header_read_len image) image) (on_opened : OnOpened)
         (takes : ConsumesLoaded pass on_opened) (message : Message)
         → TriesSlots o.key_slot segment order pass area area' (drop (header_read_len image) image) i (Err message)
         → Matches on_opened message
-    runs_without_slot short gone area area' front on_opened takes message (inl lost) =
-        rw lost.1 (runs_without_area short gone area area' front on_opened takes lost.0 lost.2)
-    runs_without_slot short gone area area' front on_opened takes message (inr (grows, inl cut)) =
-        rw cut.0 (runs_cut short gone area area' front grows on_opened cut.1)
-    runs_without_slot short gone area area' front on_opened takes message (inr (grows, inr none)) =
-        rw none.1 (runs_unopened short gone area area' front grows none.2 none.0 none.3 on_opened)
+    runs_without_slot short key_file_consumed area area' prefix on_opened takes message (inl lost) =
+        rw lost.1 (runs_without_area short key_file_consumed area area' prefix on_opened takes lost.0 lost.2)
+    runs_without_slot short key_file_consumed area area' prefix on_opened takes message (inr (grows, inl cut)) =
+        rw cut.0 (runs_cut short key_file_consumed area area' prefix grows on_opened cut.1)
+    runs_without_slot short key_file_consumed area area' prefix on_opened takes message (inr (grows, inr none)) =
+        rw none.1 (runs_unopened short key_file_consumed area area' prefix grows none.2 none.0 none.3 on_opened)
 
     -- the volume was not opened
-    pub runs_without_key : (area area' : List ℕ) (front : area
+    pub runs_without_key : (area area' : List ℕ) (prefix : area
         ≡ take (header_read_len image) image) (on_opened : OnOpened)
         (takes : ConsumesLoaded pass on_opened)
         (left : ConsumedExactly image (Some (drop (header_read_len image) image))
@@ -304,17 +306,17 @@ module _ (location : HeaderLocation) (o : VolumeRequest) (image pass : List ℕ)
         (message : Message)
         → OpensVolume o.key_slot segment order pass area area' (drop (header_read_len image) image) i s (Err message)
         → Matches on_opened message
-    runs_without_key area area' front on_opened takes left message (inl (short, gone, tried)) =
-        runs_without_slot short gone area area' front on_opened takes message tried
-    runs_without_key area area' front on_opened takes left message (inr none) =
+    runs_without_key area area' prefix on_opened takes left message (inl (short, key_file_consumed, tried)) =
+        runs_without_slot short key_file_consumed area area' prefix on_opened takes message tried
+    runs_without_key area area' prefix on_opened takes left message (inr none) =
         let same : message ≡ none.0 = cc in
         rw same (runs_without_secret on_opened takes none.0 none.2 (rw none.4 left))
 
     -- the volume was opened
-    pub unlocks_volume : (area area' : List ℕ) (front : area ≡ take (header_read_len image) image)
+    pub unlocks_volume : (area area' : List ℕ) (prefix : area ≡ take (header_read_len image) image)
         (opened : UnlockedVolume)
         → OpensVolume o.key_slot segment order pass area area' (drop (header_read_len image) image) i s (Ok opened)
         → Unlocks location o image pass opened.segment (opened_of opened) area' i s
-    unlocks_volume area area' front opened (inl (short, gone, tried)) =
-        rw tried.2 (unlocks short gone area area' front tried.0 tried.1 (opened_of opened) tried.3)
-    unlocks_volume area area' front opened (inr none) = cc
+    unlocks_volume area area' prefix opened (inl (short, key_file_consumed, tried)) =
+        rw tried.2 (unlocks short key_file_consumed area area' prefix tried.0 tried.1 (opened_of opened) tried.3)
+    unlocks_volume area area' prefix opened (inr none) = cc

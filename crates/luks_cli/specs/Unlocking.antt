@@ -47,7 +47,7 @@ pub record Unlocks (location : HeaderLocation) (o : VolumeRequest) (image secret
   pub has : HasSegmentBy (reader_for location) image segment
   pub has_header : header_read_len image ≤ length loaded
   pub no_further : location ≡ Attached → length loaded ≤ max (header_read_len image) segment.offset
-  pub front : loaded ≡ take (length loaded) image
+  pub prefix : loaded ≡ take (length loaded) image
   pub image_consumed : ConsumedExactly image image' (length loaded)
   pub secret_consumed : ConsumedExactly secret secret' (length secret)
 

@@ -23,15 +23,15 @@ pub record ConsumesLoaded (secret : List ℕ) (on_opened : OnOpened) : Type 0 wh
 
 -- the header ends before the payload starts, or more than the header was consumed. Both can fail only if the size in a
 -- damaged primary header reaches into the payload
-abbrev pub PassesHeader : Segment → ℕ → ℕ → Type 0
-PassesHeader s header_len consumed = (header_len ≤ s.offset) ⊎ (header_len < consumed)
+abbrev pub IsPastHeader : Segment → ℕ → ℕ → Type 0
+IsPastHeader s header_len consumed = (header_len ≤ s.offset) ⊎ (header_len < consumed)
 
 -- forwarding a payload is aborted: if a write fails, no byte of the image past the sector of the last byte written was
 -- consumed, except for the header's; if a read fails, the output is the whole sectors that were consumed
 abbrev pub PromptForwarding : Segment → ℕ → Message → ℕ → ℕ → Type 0
 PromptForwarding s header_len WriteFailed consumed output =
     consumed ≤ max header_len (sector_start s (output / sector_len s + 1))
-PromptForwarding s header_len ReadFailed consumed output = PassesHeader s header_len consumed
+PromptForwarding s header_len ReadFailed consumed output = IsPastHeader s header_len consumed
     → output ≡ (consumed - s.offset) / sector_len s * sector_len s
 PromptForwarding s header_len _ consumed output = Unit {0}
 

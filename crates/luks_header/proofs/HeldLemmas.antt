@@ -8,16 +8,16 @@ use Rattle.luks_area.specs.declared.fault.HeaderFault.{HeaderFault}
 use Rattle.luks_area.specs.declared.fault.HeaderFault.TheVariants.{NotLuks, Cut, Json, Read, Memory}
 use Rattle.luks1_header.specs.Header1.{is_luks1}
 use Rattle.luks2_binary.specs.Choice2.{header2_of}
-use Rattle.luks2_binary.specs.ReadLen2.{header2_read_len, reach2_of}
-use Rattle.luks2_binary.specs.Front2.{AbortsSeeking, ConsumedReadLen, hits_eof}
+use Rattle.luks2_binary.specs.ReadLen2.{header2_read_len, probe2_len}
+use Rattle.luks2_binary.specs.Reading2.{AbortsSearching, ConsumedReadLen, hits_eof}
 use Rattle.luks2_binary.specs.Text2.{json_text_of}
 use Rattle.luks2_binary.specs.declared.header.Header2.{Header2}
 use Rattle.luks2_binary.proofs.JsonLemmas.{json_beginning}
 use Rattle.luks2_binary.proofs.StableLemmas.{falls_short-take}
 use Rattle.luks2_json.specs.Tree.{tree_of}
 use Rattle.serde_json.specs.Data.{Data}
-use Rattle.luks_header.specs.Header.{AbortsHeld, ConsumedHeaderLenBehind, header_read_len, falls_short, header_of}
-use Rattle.luks_header.specs.Header.{probe_len}
+use Rattle.luks_header.specs.Header.{AbortsReadingBehind, ConsumedHeaderLenBehind, header_read_len, falls_short}
+use Rattle.luks_header.specs.Header.{header_of, probe_len}
 use Rattle.luks_header.specs.declared.header.Header.TheVariants.{V2}
 
 -- the first bytes decide whether an image starts as LUKS1
@@ -38,9 +38,9 @@ module _ (image : List ℕ) (other : is_luks1 image ≡ false) where
   cost_other = rw other refl
 
   -- the search for its header goes as far as for a LUKS2 header
-  pub reach_other : probe_len image ≡ reach2_of image
+  pub probe_other : probe_len image ≡ probe2_len image
   unfolding probe_len
-  reach_other = rw other refl
+  probe_other = rw other refl
 
   -- it has this LUKS2 header if the JSON text can be read
   pub header_read : (header : Header2) (tree : Data) → header2_of image ≡ Ok header
@@ -60,47 +60,54 @@ module _ (image : List ℕ) (other : is_luks1 image ≡ false) where
   header_missing none = rw (other, none) refl
 
 -- the JSON text in the loaded bytes is the image's
-pub text_held : (image held : List ℕ) (header : Header2) → header2_of image ≡ Ok header
+pub json_text_loaded : (image held : List ℕ) (header : Header2) → header2_of image ≡ Ok header
     → held ≡ take (header2_read_len image) image → json_text_of held header ≡ json_text_of image header
-text_held image held header found is = ap (λ bytes. json_text_of bytes header) is ∙ json_beginning image header found
+json_text_loaded image held header found is = ap (λ bytes. json_text_of bytes header) is ∙ json_beginning image header
+    found
 
 -- the bytes that were loaded decide whether the image falls short
-pub short_held : (image held : List ℕ) → is_luks1 image ≡ false → held ≡ take (header2_read_len image) image
-    → nat_lt (length held) (reach2_of held) ≡ falls_short image
-short_held image held other is =
-    ap (λ l. nat_lt (length l) (reach2_of l)) is
+pub falls_short_loaded : (image held : List ℕ) → is_luks1 image ≡ false → held ≡ take (header2_read_len image) image
+    → nat_lt (length held) (probe2_len held) ≡ falls_short image
+falls_short_loaded image held other is =
+    ap (λ l. nat_lt (length l) (probe2_len l)) is
     ∙ falls_short-take image
-    ∙ ap (nat_lt (length image)) (sym (reach_other image other))
+    ∙ ap (nat_lt (length image)) (sym (probe_other image other))
 
 module _ (image held held' rest : List ℕ) (left : Option (List ℕ)) (ends ends' : ℕ) (other : is_luks1 image ≡ false)
   where
     -- as many bytes were consumed as are read for the header
-    costs : ConsumedReadLen image held held' rest left → ends' ≡ counted (nat_lt (length held') (reach2_of held')) ends
+    costs : ConsumedReadLen image held held' rest left → ends' ≡ counted (nat_lt (length held') (probe2_len held')) ends
         → ConsumedHeaderLenBehind image held held' rest left ends ends'
-    costs took found = (took, found ∙ ap (λ b. counted b ends) (short_held image held' other took.0))
+    costs consumption found = (
+      consumption,
+      found ∙ ap (λ b. counted b ends) (falls_short_loaded image held' other consumption.0),
+    )
 
     -- searching for the header was aborted
-    pub seeking_broken : (fault : HeaderFault) → AbortsSeeking image held held' rest left fault
+    pub search_aborted : (fault : HeaderFault) → AbortsSearching image held held' rest left fault
         → ends' ≡ counted (hits_eof {T = Header2} (Err fault) held') ends
-        → AbortsHeld image held held' rest left ends ends' fault
-    seeking_broken NotLuks (none, took) found = (header_missing image other none, costs took found)
-    seeking_broken Cut never found = absurd never
-    seeking_broken Json never found = absurd never
-    seeking_broken Read took found = (took, found)
-    seeking_broken Memory took found = inl (took, found)
+        → AbortsReadingBehind image held held' rest left ends ends' fault
+    search_aborted NotLuks (none, consumption) found = (header_missing image other none, costs consumption found)
+    search_aborted Cut never found = absurd never
+    search_aborted Json never found = absurd never
+    search_aborted Read consumption found = (consumption, found)
+    search_aborted Memory consumption found = inl (consumption, found)
 
     -- reading the JSON text was aborted
-    pub reading_broken : (header : Header2) (fault : HeaderFault) → header2_of image ≡ Ok header
-        → ConsumedReadLen image held held' rest left → ends' ≡ counted (nat_lt (length held') (reach2_of held')) ends
+    pub json_reading_aborted : (header : Header2) (fault : HeaderFault) → header2_of image ≡ Ok header
+        → ConsumedReadLen image held held' rest left → ends' ≡ counted (nat_lt (length held') (probe2_len held')) ends
         → (fault ≡ Json → tree_of (json_text_of held' header) ≡ None) → (fault ≡ Json) ⊎ (fault ≡ Memory)
-        → AbortsHeld image held held' rest left ends ends' fault
-    reading_broken header Json found took end json refusals =
-        let same = text_held image held' header found took.0 in
-        (header_unreadable image other header found (ap tree_of (sym same) ∙ json refl), costs took end)
-    reading_broken header Memory found took end json refusals = inr ((header, other, found), costs took end)
-    reading_broken header NotLuks found took end json refusals =
+        → AbortsReadingBehind image held held' rest left ends ends' fault
+    json_reading_aborted header Json found consumption end json refusals =
+        let same = json_text_loaded image held' header found consumption.0 in
+        (header_unreadable image other header found (ap tree_of (sym same) ∙ json refl), costs consumption end)
+    json_reading_aborted header Memory found consumption end json refusals = inr (
+      (header, other, found),
+      costs consumption end,
+    )
+    json_reading_aborted header NotLuks found consumption end json refusals =
         elim refusals [ inl wrong ↦ absurd (cc) | inr wrong ↦ absurd (cc) ]
-    reading_broken header Cut found took end json refusals =
+    json_reading_aborted header Cut found consumption end json refusals =
         elim refusals [ inl wrong ↦ absurd (cc) | inr wrong ↦ absurd (cc) ]
-    reading_broken header Read found took end json refusals =
+    json_reading_aborted header Read found consumption end json refusals =
         elim refusals [ inl wrong ↦ absurd (cc) | inr wrong ↦ absurd (cc) ]

@@ -5,8 +5,8 @@ use Rattle.luks_io.specs.Devices.{ConsumedExactly, ConsumedFewer, ConsumedAtMost
 use Rattle.luks_area.specs.Fields.{at}
 use Rattle.luks1_header.specs.Header1.{header1_len, header1_of, is_luks1}
 use Rattle.luks2_binary.specs.Choice2.{header2_of}
-use Rattle.luks2_binary.specs.ReadLen2.{header2_read_len, reach2_of}
-use Rattle.luks2_binary.specs.Front2.{ConsumedUpToReadLen, ConsumedReadLen, ConsumedBeforeReach}
+use Rattle.luks2_binary.specs.ReadLen2.{header2_read_len, probe2_len}
+use Rattle.luks2_binary.specs.Reading2.{ConsumedUpToReadLen, ConsumedReadLen, ConsumedBeforeProbe2}
 use Rattle.luks2_binary.specs.Header2.{end2_of}
 use Rattle.luks2_binary.specs.Text2.{json_text_of}
 use Rattle.luks2_binary.specs.declared.header.Header2.{Header2}
@@ -55,7 +55,7 @@ header_read_len image = if is_luks1 image then min header1_len (length image) el
 
 -- how far into an image the search for its header goes; the image may end before
 unfoldable pub probe_len : List ℕ → ℕ
-probe_len image = if is_luks1 image then header1_len else reach2_of image
+probe_len image = if is_luks1 image then header1_len else probe2_len image
 
 -- the image ends before the search for its header does
 abbrev pub falls_short : List ℕ → Bool
@@ -89,10 +89,11 @@ ConsumedHeaderLenBehind image held held' rest left ends ends' = ConsumedReadLen 
     × (ends' ≡ counted (falls_short image) ends)
 
 -- like `AbortsReading`, for such an image
-abbrev pub AbortsHeld : List ℕ → List ℕ → List ℕ → List ℕ → Option (List ℕ) → ℕ → ℕ → HeaderFault → Type 0
-AbortsHeld image held held' rest left ends ends' Read = ConsumedUpToReadLen image held held' rest left × (ends' ≡ ends)
-AbortsHeld image held held' rest left ends ends' Memory =
-    (ConsumedBeforeReach image held held' rest left × (ends' ≡ ends))
+abbrev pub AbortsReadingBehind : List ℕ → List ℕ → List ℕ → List ℕ → Option (List ℕ) → ℕ → ℕ → HeaderFault → Type 0
+AbortsReadingBehind image held held' rest left ends ends' Read =
+    ConsumedUpToReadLen image held held' rest left × (ends' ≡ ends)
+AbortsReadingBehind image held held' rest left ends ends' Memory =
+    (ConsumedBeforeProbe2 image held held' rest left × (ends' ≡ ends))
     ⊎ (HasHeader2 image × ConsumedHeaderLenBehind image held held' rest left ends ends')
-AbortsHeld image held held' rest left ends ends' fault =
+AbortsReadingBehind image held held' rest left ends ends' fault =
     (header_of image ≡ Err fault) × ConsumedHeaderLenBehind image held held' rest left ends ends'

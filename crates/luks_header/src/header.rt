@@ -6,9 +6,9 @@ ghost use Rattle.luks_io.specs.Devices.{ConsumedExactly, IfKnown};
 ghost use Rattle.luks_io.specs.Counts.{Reads};
 ghost use Rattle.luks_area.specs.Area.{is_read};
 ghost use Rattle.luks1_header.specs.Header1.{is_luks1};
-ghost use Rattle.luks2_binary.specs.Front2.{ConsumedReadLen};
-ghost use Rattle.luks_header.specs.Header.{AbortsHeld, AbortsReading, bounds2_of, header_read_len};
-ghost use Rattle.luks_header.specs.Header.{detached_of, falls_short, header_of};
+ghost use Rattle.luks2_binary.specs.Reading2.{ConsumedReadLen};
+ghost use Rattle.luks_header.specs.Header.{AbortsReadingBehind, AbortsReading, bounds2_of};
+ghost use Rattle.luks_header.specs.Header.{header_read_len, detached_of, falls_short, header_of};
 
 use luks_area::area::HeaderArea;
 use luks_area::fault::HeaderFault;
@@ -73,10 +73,10 @@ pub fn read_header<S: Source>(
     alloc: Global,
     source: &mut S,
 ) -> Result<(Header, HeaderArea), HeaderFault>
-    ensures taken { IfOk result (λ read. IfKnown (S.to_come source.old) (λ image.
+    ensures consumed { IfOk result (λ read. IfKnown (S.to_come source.old) (λ image.
         (header_of image ≡ Ok read.0) × (read.1.bytes ≡ take (header_read_len image) image)
         × ConsumedExactly image (S.to_come source.new) (header_read_len image))) }
-    ensures broken { IfErr result (λ fault. IfKnown (S.to_come source.old) (λ image.
+    ensures aborted { IfErr result (λ fault. IfKnown (S.to_come source.old) (λ image.
         AbortsReading image (S.to_come source.new) (S.counts source.old).ends
         (S.counts source.new).ends fault)) }
     ensures memory { IfKnown (S.to_come source.old) (λ image. is_luks1 image ≡ true
@@ -116,12 +116,12 @@ fn read2<S: Source>(
 ) -> Result<Header, HeaderFault>
     requires first { (length area.old.bytes ≡ 592) × (area.old.ended ≡ false)
         × (is_luks1 area.old.bytes ≡ false) }
-    ensures taken { IfOk result (λ header. IfKnown (S.to_come source.old) (λ rest.
+    ensures consumed { IfOk result (λ header. IfKnown (S.to_come source.old) (λ rest.
         (header_of (area.old.bytes ++ rest) ≡ Ok header)
         × ConsumedReadLen (area.old.bytes ++ rest) area.old.bytes area.new.bytes rest
         (S.to_come source.new))) }
-    ensures broken { IfErr result (λ fault. IfKnown (S.to_come source.old) (λ rest.
-        AbortsHeld (area.old.bytes ++ rest) area.old.bytes area.new.bytes rest
+    ensures aborted { IfErr result (λ fault. IfKnown (S.to_come source.old) (λ rest.
+        AbortsReadingBehind (area.old.bytes ++ rest) area.old.bytes area.new.bytes rest
         (S.to_come source.new)
         (S.counts source.old).ends (S.counts source.new).ends fault)) }
     ensures held { IfOk result (λ header. (header_of area.new.bytes ≡ Ok header)

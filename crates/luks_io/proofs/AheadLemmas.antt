@@ -8,21 +8,21 @@ use Rattle.std.specs.Io.KnownBytes.{Consumes, Keeps, ReadConsumes, prepend_known
 use Rattle.luks_io.specs.Devices.{Appended, ConsumedAtMost, IfKnown}
 use Rattle.luks_io.specs.Forwarding.{ForwardEffect}
 use Rattle.luks_io.specs.declared.sink.WriteFault.{WriteFault}
-use Rattle.luks_io.proofs.Moves.{took-front}
-use Rattle.luks_io.proofs.Consuming.{took-none}
+use Rattle.luks_io.proofs.Moves.{consumed-prefix}
+use Rattle.luks_io.proofs.Consuming.{consumed-none}
 
 -- the first buffered bytes are copied to the start of a buffer, and the others stay buffered
-pub hands_on : (held buf piece : List ℕ) (start end count : ℕ) → length piece ≡ count → count ≤ end - start
+pub copies_out_first : (held buf piece : List ℕ) (start end count : ℕ) → length piece ≡ count → count ≤ end - start
     → piece ≡ take count (drop start held)
     → take (end - start) (drop start held)
     ≡ take count (piece ++ drop count buf) ++ take (end - (start + count)) (drop (start + count) held)
-hands_on held buf piece start end count long few is =
+copies_out_first held buf piece start end count long few is =
     let all : end - start ≡ count + (end - (start + count)) = omega arith in
-    let front : take count (piece ++ drop count buf) ≡ take count (drop start held) =
+    let prefix : take count (piece ++ drop count buf) ≡ take count (drop start held) =
     ap (λ n. take n (piece ++ drop count buf)) (sym long) ∙ take-append_seam piece (drop count buf) ∙ is in
     ap (λ n. take n (drop start held)) all ∙ take-add count (end - (start + count)) (drop start held)
     ∙ ap (λ l. take count (drop start held) ++ take (end - (start + count)) l) (drop-drop count start held)
-    ∙ ap (λ l. l ++ take (end - (start + count)) (drop (start + count) held)) (sym front)
+    ∙ ap (λ l. l ++ take (end - (start + count)) (drop (start + count) held)) (sym prefix)
 
 kept_known : (a b : Option (List ℕ)) → Keeps a b → IfKnown a (λ known. b ≡ Some known)
 kept_known None b kept known is = absurd cc
@@ -30,13 +30,14 @@ kept_known (Some xs) None kept known is = absurd kept
 kept_known (Some xs) (Some ys) kept known is = cc
 
 -- a read consumed no more bytes than its buffer has capacity for
-pub takes_at_most : {E : Type 0} (a b : Option (List ℕ)) (r : Result ℕ E) (buf : List ℕ) (most : ℕ) → length buf ≤ most
+pub read_consumes_at_most : {E : Type 0} (a b : Option (List ℕ)) (r : Result ℕ E) (buf : List ℕ) (most : ℕ) → length
+    buf ≤ most
     → ReadsAtMost r buf → ReadConsumes a b r buf
     → IfKnown a (λ known. ConsumedAtMost known b most)
-takes_at_most a b (Ok n) buf most fits bound took known is =
-    (n, omega (arith, bound.0), (took-front a b buf n bound.0 took.0 known is).0)
-takes_at_most a b (Err e) buf most fits bound kept known is =
-    (0, omega arith, took-none known b (kept_known a b kept known is))
+read_consumes_at_most a b (Ok n) buf most fits bound consumption known is =
+    (n, omega (arith, bound.0), (consumed-prefix a b buf n bound.0 consumption.0 known is).0)
+read_consumes_at_most a b (Err e) buf most fits bound kept known is =
+    (0, omega arith, consumed-none known b (kept_known a b kept known is))
 
 -- the first buffered bytes are the next ones of the source
 consumes_first : (piece rest : List ℕ) (behind : Option (List ℕ))
@@ -61,10 +62,10 @@ forwards : (piece : List ℕ) (count : ℕ) (left left' before after : Option (L
     → OnOk answer (Appended before after (transformed piece))
     → IfErr answer (λ fault. (fault.written < count) × Appended before after (take fault.written (transformed piece)))
     → ForwardEffect (Some answer) untouched count transformed left left' before after
-forwards piece count left left' before after transformed (Ok done) untouched sized taken ok err =
-    (piece, sized, taken, ok)
-forwards piece count left left' before after transformed (Err fault) untouched sized taken ok err =
-    (err.0, (piece, sized, taken, err.1))
+forwards piece count left left' before after transformed (Ok done) untouched sized consumed ok err =
+    (piece, sized, consumed, ok)
+forwards piece count left left' before after transformed (Err fault) untouched sized consumed ok err =
+    (err.0, (piece, sized, consumed, err.1))
 
 -- the vector has exactly the bytes of the buffer whose piece was transformed
 all_of : (items buf : List ℕ) (len : ℕ) → length buf ≡ len → take len (buf ++ drop (length buf) items) ≡ buf
@@ -77,11 +78,12 @@ piece_length items len start end count few inside long =
     omega (arith, length-take count (drop start items), length-drop start items)
 
 -- the bytes behind a forwarded piece stay buffered
-pub stays_held : (items buf : List ℕ) (len start end count : ℕ) → count ≤ end - start → end ≤ len → length items ≡ len
+pub stays_buffered : (items buf : List ℕ) (len start end count : ℕ) → count ≤ end - start → end ≤ len → length items ≡
+    len
     → length buf ≡ len → drop (start + count) buf ≡ drop (start + count) items
     → take (end - (start + count)) (drop (start + count) (take len (buf ++ drop (length buf) items)))
     ≡ drop count (take (end - start) (drop start items))
-stays_held items buf len start end count few inside long long' behind =
+stays_buffered items buf len start end count few inside long long' behind =
     let piece = take count (drop start items) in
     let rest = take (end - (start + count)) (drop (start + count) buf) in
     let held = piece_first items buf start end count few behind in
@@ -111,7 +113,7 @@ forwards_buffered items buf len start end count below before after transformed a
     let piece = take count (drop start items) in
     let sized = piece_length items len start end count few inside long in
     let rest = take (end - (start + count)) (drop (start + count) buf) in
-    let taken : Consumes (prepend_known (take (end - start) (drop start items)) below)
+    let consumed : Consumes (prepend_known (take (end - start) (drop start items)) below)
     (prepend_known rest below) piece =
     rw (piece_first items buf start end count few behind) (consumes_first piece rest below) in
-    rw whole (forwards piece count _ _ before after transformed answer untouched sized taken ok err)
+    rw whole (forwards piece count _ _ before after transformed answer untouched sized consumed ok err)

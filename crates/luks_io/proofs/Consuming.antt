@@ -34,13 +34,13 @@ module _ (known : List ℕ) (r r' : Option (List ℕ)) where
       (whole, consumed_sum m n (length known) whole before next)
 
 -- before any byte is consumed
-pub took-none : (known : List ℕ) (left : Option (List ℕ)) → left ≡ Some known → ConsumedExactly known left 0
-took-none known left is = record { within = omega arith; left = is }
+pub consumed-none : (known : List ℕ) (left : Option (List ℕ)) → left ≡ Some known → ConsumedExactly known left 0
+consumed-none known left is = record { within = omega arith; left = is }
 
 -- all bytes were consumed
-pub took-all : (known : List ℕ) (left : Option (List ℕ)) (count : ℕ) → length known ≤ count
+pub consumed-all : (known : List ℕ) (left : Option (List ℕ)) (count : ℕ) → length known ≤ count
     → left ≡ Some (drop count known) → ConsumedExactly known left (length known)
-took-all known left count all is =
+consumed-all known left count all is =
     record {
       within = omega arith;
       left = is

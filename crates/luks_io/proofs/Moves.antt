@@ -23,16 +23,16 @@ Appends-next a b c xs at n p q =
     (Appends-trans a b c (take at xs) (take n (drop at xs)) p (subst (λ l. Appends b c (take n l)) (rest_of xs at) q))
 
 -- the first `at` bytes of a buffer stay, and its rest becomes `ys`
-front_of : (xs ys rest : List ℕ) (at n : ℕ) → at ≤ length xs → n ≤ length ys
+prefix_of : (xs ys rest : List ℕ) (at n : ℕ) → at ≤ length xs → n ≤ length ys
     → take (at + n) (take at xs ++ (ys ++ rest)) ≡ take at xs ++ take n ys
-front_of xs ys rest at n within few =
+prefix_of xs ys rest at n within few =
     ap (λ k. take (k + n) (take at xs ++ (ys ++ rest))) (sym (length-take-le at xs within))
     ∙ take-append-add (take at xs) (ys ++ rest) n
     ∙ ap (λ l. take at xs ++ l) (take-append-le n ys rest few)
 
 -- the first `at` bytes of a buffer stay, whatever comes behind them
-front_stays : (xs rest : List ℕ) (at : ℕ) → at ≤ length xs → take at (take at xs ++ rest) ≡ take at xs
-front_stays xs rest at within =
+prefix_stays : (xs rest : List ℕ) (at : ℕ) → at ≤ length xs → take at (take at xs ++ rest) ≡ take at xs
+prefix_stays xs rest at within =
     let cut : length (take at xs) ≡ at = length-take-le at xs within in
     take-append-le at (take at xs) rest (omega (arith, cut)) ∙ take_all at (take at xs) (omega (arith, cut))
 
@@ -41,14 +41,14 @@ pub Consumes-next : (a b c : Option (List ℕ)) (xs ys : List ℕ) (at n : ℕ) 
     → Consumes a b (take at xs) → Consumes b c (take n ys)
     → Consumes a c (take (at + n) (put_mid at (length xs - at) xs ys))
 Consumes-next a b c xs ys at n within few p q =
-    subst (Consumes a c) (sym (front_of xs ys _ at n within few)) (Consumes-trans a b c (take at xs) (take n ys) p q)
+    subst (Consumes a c) (sym (prefix_of xs ys _ at n within few)) (Consumes-trans a b c (take at xs) (take n ys) p q)
 
 -- if the first bytes of a buffer were consumed, they are the next bytes that the source knew
-pub took-front : (a b : Option (List ℕ)) (buf : List ℕ) (at : ℕ) → at ≤ length buf → Consumes a b (take at buf)
+pub consumed-prefix : (a b : Option (List ℕ)) (buf : List ℕ) (at : ℕ) → at ≤ length buf → Consumes a b (take at buf)
     → IfKnown a (λ known. ConsumedInto known b buf at)
-took-front None b buf at within p known is = absurd cc
-took-front (Some xs) None buf at within p known is = absurd p
-took-front (Some xs) (Some ys) buf at within p known is =
+consumed-prefix None b buf at within p known is = absurd cc
+consumed-prefix (Some xs) None buf at within p known is = absurd p
+consumed-prefix (Some xs) (Some ys) buf at within p known is =
     let whole : known ≡ take at buf ++ ys = cc in
     let cut : length (take at buf) ≡ at = length-take-le at buf within in
     let rest : drop at known ≡ ys = subst (λ n. drop n known ≡ ys) cut (drop-appended (take at buf) known ys whole) in (
@@ -56,14 +56,14 @@ took-front (Some xs) (Some ys) buf at within p known is =
         within = omega (arith, cut, ap length whole, length-append (take at buf) ys);
         left = ap Some (sym rest);
       },
-      sym (ap (take at) whole ∙ front_stays buf ys at within),
+      sym (ap (take at) whole ∙ prefix_stays buf ys at within),
     )
 
 -- if a buffer was filled whole, the source knew at least as many bytes
-pub took-whole : (a b : Option (List ℕ)) (buf : List ℕ) (at : ℕ) → at ≤ length buf → length buf ≤ at
+pub consumed-whole : (a b : Option (List ℕ)) (buf : List ℕ) (at : ℕ) → at ≤ length buf → length buf ≤ at
     → Consumes a b (take at buf)
     → IfKnown a (λ known. at ≡ min (length buf) (length known))
-took-whole a b buf at within all p known is = omega (arith, (took-front a b buf at within p known is).0.within)
+consumed-whole a b buf at within all p known is = omega (arith, (consumed-prefix a b buf at within p known is).0.within)
 
 module _ (a b c : Option (List ℕ)) (xs ys : List ℕ) (at : ℕ) where
   consumed_same : at ≤ length xs → Consumes a c (take at xs)
@@ -71,18 +71,18 @@ module _ (a b c : Option (List ℕ)) (xs ys : List ℕ) (at : ℕ) where
   consumed_same within p =
       let cut : length (take at xs) ≡ at = length-take-le at xs within in
       let rest = ys ++ post_of at (length xs - at) xs in
-      took-front a c (take at xs ++ rest) at (omega (arith, cut, length-append (take at xs) rest))
-      (subst (Consumes a c) (sym (front_stays xs rest at within)) p)
+      consumed-prefix a c (take at xs ++ rest) at (omega (arith, cut, length-append (take at xs) rest))
+      (subst (Consumes a c) (sym (prefix_stays xs rest at within)) p)
 
   -- the first bytes of a buffer were consumed, and then a read behind them failed
-  pub took-kept : at ≤ length xs → Consumes a b (take at xs) → Keeps b c
+  pub consumed-kept : at ≤ length xs → Consumes a b (take at xs) → Keeps b c
       → IfKnown a (λ known. ConsumedInto known c (put_mid at (length xs - at) xs ys) at)
-  took-kept within p q = consumed_same within (Consumes-kept a b c (take at xs) p q)
+  consumed-kept within p q = consumed_same within (Consumes-kept a b c (take at xs) p q)
 
   -- the first bytes of a buffer were consumed, and then a read behind them gave nothing
-  pub took-nothing : (n : ℕ) → n ≡ 0 → at ≤ length xs → Consumes a b (take at xs) → Consumes b c (take n ys)
+  pub consumed-nothing : (n : ℕ) → n ≡ 0 → at ≤ length xs → Consumes a b (take at xs) → Consumes b c (take n ys)
       → IfKnown a (λ known. ConsumedInto known c (put_mid at (length xs - at) xs ys) at)
-  took-nothing n none within p q =
+  consumed-nothing n none within p q =
       let nothing : Consumes b c [] = subst (λ k. Consumes b c (take k ys)) none q in
       consumed_same within
       (subst (Consumes a c) (append-nil (take at xs)) (Consumes-trans a b c (take at xs) [] p nothing))

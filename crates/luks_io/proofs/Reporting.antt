@@ -13,10 +13,10 @@ module _ (result_for : ℕ → Result ℕ DeviceFault) (after : Option (List Cal
       subst (λ b. ReportsFirstOf result_for tries (b ∷ rest) (result_for count) after) is (refl, left)
 
   -- a call moved some bytes
-  pub reports_moved : (before : Option (List CallOutcome)) (tries count : ℕ) (told : Result ℕ DeviceFault)
-      → result_for count ≡ told
-      → GivesNext before (Moved count) after → ReportsFirst result_for before tries told after
-  reports_moved before tries count told is next known knows =
+  pub reports_moved : (before : Option (List CallOutcome)) (tries count : ℕ) (reported : Result ℕ DeviceFault)
+      → result_for count ≡ reported
+      → GivesNext before (Moved count) after → ReportsFirst result_for before tries reported after
+  reports_moved before tries count reported is next known knows =
       subst (λ r. ReportsFirstOf result_for tries known r after) is (moved_first tries count known (next known knows))
 
   failed_first : (tries : ℕ) (known : List CallOutcome) → IsNextOf known Failed after
@@ -42,18 +42,19 @@ module _ (result_for : ℕ → Result ℕ DeviceFault) (after : Option (List Cal
   reports_last before tries none next known is = rw none (last_first known (next known is))
 
 -- a call was interrupted, and is repeated
-module _ (result_for : ℕ → Result ℕ DeviceFault) (before now : Option (List CallOutcome)) (told : Result ℕ DeviceFault)
+module _ (result_for : ℕ → Result ℕ DeviceFault) (before now : Option (List CallOutcome))
+    (reported : Result ℕ DeviceFault)
     (after : Option (List CallOutcome)) where
   again_first : (tries : ℕ) (known : List CallOutcome) → IsNextOf known Interrupted now
-      → ReportsFirst result_for now tries told after
-      → ReportsFirstOf result_for (suc tries) known told after
-  again_first tries [] next tells = tt
-  again_first tries (a ∷ rest) (is, left) tells =
-      subst (λ b. ReportsFirstOf result_for (suc tries) (b ∷ rest) told after) is (tells rest left)
+      → ReportsFirst result_for now tries reported after
+      → ReportsFirstOf result_for (suc tries) known reported after
+  again_first tries [] next reports = tt
+  again_first tries (a ∷ rest) (is, left) reports =
+      subst (λ b. ReportsFirstOf result_for (suc tries) (b ∷ rest) reported after) is (reports rest left)
 
   pub reports_again : (tries : ℕ) → 0 < tries → GivesNext before Interrupted now
-      → ReportsFirst result_for now (tries - 1) told after → ReportsFirst result_for before tries told after
-  reports_again zero some next tells = absurd (omega arith)
-  reports_again (suc tries) some next tells = λ known is.
+      → ReportsFirst result_for now (tries - 1) reported after → ReportsFirst result_for before tries reported after
+  reports_again zero some next reports = absurd (omega arith)
+  reports_again (suc tries) some next reports = λ known is.
       let left : suc tries - 1 ≡ tries = omega arith in
-      again_first tries known (next known is) (subst (λ n. ReportsFirst result_for now n told after) left tells)
+      again_first tries known (next known is) (subst (λ n. ReportsFirst result_for now n reported after) left reports)

@@ -32,18 +32,20 @@ write_result count = if count == 0 then Err record {} else Ok count
 abbrev pub ReportsFirstOf : (ℕ → Result ℕ DeviceFault) → ℕ → List CallOutcome → Result ℕ DeviceFault
     → Option (List CallOutcome)
     → Type 0
-ReportsFirstOf result_for tries [] told after = Unit {0}
-ReportsFirstOf result_for tries (Moved count ∷ rest) told after = (told ≡ result_for count) × (after ≡ Some rest)
-ReportsFirstOf result_for tries (Failed ∷ rest) told after = (told ≡ Err record {}) × (after ≡ Some rest)
-ReportsFirstOf result_for zero (Interrupted ∷ rest) told after = (told ≡ Err record {}) × (after ≡ Some rest)
-ReportsFirstOf result_for (suc tries) (Interrupted ∷ rest) told after = ReportsFirstOf result_for tries rest told after
+ReportsFirstOf result_for tries [] reported after = Unit {0}
+ReportsFirstOf result_for tries (Moved count ∷ rest) reported after =
+    (reported ≡ result_for count) × (after ≡ Some rest)
+ReportsFirstOf result_for tries (Failed ∷ rest) reported after = (reported ≡ Err record {}) × (after ≡ Some rest)
+ReportsFirstOf result_for zero (Interrupted ∷ rest) reported after = (reported ≡ Err record {}) × (after ≡ Some rest)
+ReportsFirstOf result_for (suc tries) (Interrupted ∷ rest) reported after =
+    ReportsFirstOf result_for tries rest reported after
 
 -- a device whose answers are known reports the first that is not an interruption, as above
 abbrev pub ReportsFirst : (ℕ → Result ℕ DeviceFault) → Option (List CallOutcome) → ℕ → Result ℕ DeviceFault
     → Option (List CallOutcome)
     → Type 0
-ReportsFirst result_for before tries told after = (known : List CallOutcome) → before ≡ Some known
-    → ReportsFirstOf result_for tries known told after
+ReportsFirst result_for before tries reported after = (known : List CallOutcome) → before ≡ Some known
+    → ReportsFirstOf result_for tries known reported after
 
 -- `read(buf)`: the effect of its answer on the bytes, in the terms of std
 abbrev pub OutcomeConsumes : Option (List ℕ) → Option (List ℕ) → CallOutcome → List ℕ → Type 0

@@ -6,7 +6,7 @@ use Rattle.luks_io.specs.declared.counts.WriteCounts.{WriteCounts}
 
 -- no caller needs this read: the buffer has no capacity, or a read before it failed or hit the end
 abbrev pub is_needless_read : ReadCounts → ℕ → Bool
-is_needless_read counts room = room == 0 || (nat_lt 0 counts.failures || nat_lt 0 counts.ends)
+is_needless_read counts capacity = capacity == 0 || (nat_lt 0 counts.failures || nat_lt 0 counts.ends)
 
 -- the number of bytes that a read gave
 abbrev pub given : {E : Type 0} → Result ℕ E → ℕ
@@ -17,12 +17,12 @@ given (Err _) = 0
 abbrev pub unread : ReadCounts
 unread = record { failures = 0; ends = 0; needless = 0; ahead = 0 }
 
--- the counts after one more read into a buffer with capacity for `room` bytes
+-- the counts after one more read into a buffer of `capacity` bytes
 abbrev pub after_read : {E : Type 0} → Result ℕ E → ℕ → ReadCounts → ReadCounts
-after_read answer room counts = record {
+after_read answer capacity counts = record {
   failures = counted (is_err answer) counts.failures;
-  ends = counted (is_end answer room) counts.ends;
-  needless = counted (is_needless_read counts room) counts.needless;
+  ends = counted (is_end answer capacity) counts.ends;
+  needless = counted (is_needless_read counts capacity) counts.needless;
   ahead = counts.ahead - given answer;
 }
 

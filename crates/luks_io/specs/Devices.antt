@@ -46,10 +46,10 @@ abbrev pub counted : Bool → ℕ → ℕ
 counted true count = saturating_inc count
 counted false count = count
 
--- a read hit the end: it gave nothing to a buffer with capacity for `room` bytes
+-- a read hit the end: it gave nothing to a buffer of `capacity` bytes that was not empty
 abbrev pub is_end : {E : Type 0} → Result ℕ E → ℕ → Bool
-is_end (Ok count) room = count == 0 && nat_lt 0 room
-is_end (Err _) room = false
+is_end (Ok count) capacity = count == 0 && nat_lt 0 capacity
+is_end (Err _) capacity = false
 
 -- fewer bytes were read than were requested, and no read failed: the end was hit
 abbrev pub is_short_read : {E : Type 0} → Result ℕ E → ℕ → Bool

@@ -1,5 +1,6 @@
 -- Forwarding bytes from a source to a sink without a buffer between them.
-use Rattle.std.specs.Prelude.{◌≡◌, ℕ, ◌<◌, Bool, true, false, List, drop, length, take, Option, None, Some, Result, Ok, Err}
+use Rattle.std.specs.Prelude.{◌≡◌, ℕ, ◌<◌, Bool, true, false, List, drop, length, take, Option, None, Some, Result}
+use Rattle.std.specs.Prelude.{Ok, Err}
 use Rattle.std.specs.Io.KnownBytes.{Consumes}
 use Rattle.luks_io.specs.Devices.{Appended}
 use Rattle.luks_io.specs.declared.sink.WriteFault.{WriteFault}
@@ -26,6 +27,6 @@ is_aborted (Some (Ok _)) = false
 is_aborted (Some (Err _)) = true
 
 -- the bytes that stay buffered
-abbrev pub held_after : Option (Result (Unit {0}) WriteFault) → ℕ → List ℕ → List ℕ
-held_after None count held = held
-held_after (Some _) count held = drop count held
+abbrev pub buffered_after : Option (Result (Unit {0}) WriteFault) → ℕ → List ℕ → List ℕ
+buffered_after None count held = held
+buffered_after (Some _) count held = drop count held

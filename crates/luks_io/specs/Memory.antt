@@ -17,5 +17,5 @@ counts_of_memory source = record { failures = 0; ends = source.ends; needless = 
 -- a sink over memory: the bytes written, how many more fit, and the counts of its writes
 pub record MemSinkModel : Type 0 where
   pub written : List ℕ
-  pub room : ℕ
+  pub capacity : ℕ
   pub counts : WriteCounts

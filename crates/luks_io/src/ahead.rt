@@ -5,11 +5,11 @@ ghost use Rattle.std.specs.Prelude.{◌≡◌, ◌+◌, ◌-◌, ◌<◌, ◌≤
 ghost use Rattle.std.specs.Prelude.{MatchResult, is_err, is_some, length, max, min, nat_le, take};
 ghost use Rattle.std.specs.Io.{ReadsAtMost};
 ghost use Rattle.std.specs.Io.KnownBytes.{Consumes, IsAtEnd, Keeps, ReadConsumes, prepend_known};
-ghost use Rattle.luks_io.specs.Ahead.{ReadsAhead, announced_of, max_read};
+ghost use Rattle.luks_io.specs.Ahead.{ReadsAhead, read_ahead_remaining, max_read};
 ghost use Rattle.luks_io.specs.Devices.{ConsumedAtMost, IfKnown, is_end};
 ghost use Rattle.luks_io.specs.Counts.{Reads, Writes, after_read, given, left_ahead};
 ghost use Rattle.luks_io.specs.Counts.{unread, with_ahead};
-ghost use Rattle.luks_io.specs.Forwarding.{ForwardEffect, held_after, is_aborted};
+ghost use Rattle.luks_io.specs.Forwarding.{ForwardEffect, buffered_after, is_aborted};
 
 use crate::DeviceFault;
 use crate::counts::ReadCounts;
@@ -26,7 +26,7 @@ use std::marker::Model;
 /// A clause sees the source below, which of its bytes are buffered, the buffer's capacity, and the
 /// counts. The buffered bytes are some of those that are allowed to be read ahead.
 #[derive(Drop)]
-pub struct AheadSource<S> {
+pub struct ReadAheadSource<S> {
     source: S,
     buffer: Vec<u8>,
     start: usize,
@@ -34,7 +34,7 @@ pub struct AheadSource<S> {
     counts: ReadCounts,
 }
 
-impl<S> Model for AheadSource<S> {
+impl<S> Model for ReadAheadSource<S> {
     ghost use Rattle.std.specs.Prelude.{◌-◌, ◌≤◌, slice_range, vec_len};
     ghost use Rattle.luks_io.specs.Ahead.{ReadAheadModel};
 
@@ -44,7 +44,7 @@ impl<S> Model for AheadSource<S> {
         record {
           source = a.source;
           held = slice_range a.buffer.items a.start a.end;
-          room = vec_len a.buffer;
+          capacity = vec_len a.buffer;
           counts = a.counts;
         } };
 
@@ -53,7 +53,7 @@ impl<S> Model for AheadSource<S> {
 }
 
 /// Reads at most `count` bytes into the start of a buffer.
-fn read_front<S: Source>(
+fn read_prefix<S: Source>(
     source: &mut S,
     buffer: &mut [u8],
     count: usize,
@@ -70,23 +70,23 @@ fn read_front<S: Source>(
     source.read(&mut buffer[..count])
 }
 
-impl<S: Source + Drop> AheadSource<S> {
-    /// A source over this one, which reads at most `room` bytes ahead. Their buffer is allocated
-    /// here.
+impl<S: Source + Drop> ReadAheadSource<S> {
+    /// A source over this one, which reads at most `capacity` bytes ahead. The buffer for them is
+    /// allocated here.
     ///
     /// # Errors
     ///
     /// `AllocError` if memory runs out.
-    pub fn new(alloc: Global, room: usize, source: S) -> Result<AheadSource<S>, AllocError>
+    pub fn new(alloc: Global, capacity: usize, source: S) -> Result<ReadAheadSource<S>, AllocError>
         ensures { IfOk result (λ a. a ≡ record {
           source = source;
           held = [];
-          room = room;
+          capacity = capacity;
           counts = unread;
         }) }
     {
-        let buffer = vec![in alloc; 0; room]?;
-        Ok(AheadSource {
+        let buffer = vec![in alloc; 0; capacity]?;
+        Ok(ReadAheadSource {
             source,
             buffer,
             start: 0,
@@ -96,7 +96,7 @@ impl<S: Source + Drop> AheadSource<S> {
     }
 }
 
-impl<S: Source> AheadSource<S> {
+impl<S: Source> ReadAheadSource<S> {
     /// The source below.
     pub fn get_ref(&self) -> &S
         ensures { result.now ≡ self.now.source }
@@ -118,7 +118,7 @@ impl<S: Source> AheadSource<S> {
 
     /// Reads at most `count` bytes into the empty buffer, and returns how many it read.
     fn refill(&mut self, count: usize) -> Result<usize, DeviceFault>
-        requires room { count ≤ self.old.room }
+        requires capacity { count ≤ self.old.capacity }
         requires allowed { count ≤ self.old.counts.ahead }
         requires empty { self.old.held ≡ [] }
         ensures held { MatchResult result (λ n. (n ≤ count) × (length self.new.held ≡ n))
@@ -136,7 +136,7 @@ impl<S: Source> AheadSource<S> {
     {
         self.start = 0;
         self.end = 0;
-        let got = read_front(&mut self.source, &mut self.buffer, count)?;
+        let got = read_prefix(&mut self.source, &mut self.buffer, count)?;
         self.end = got;
         Ok(got)
     }
@@ -157,23 +157,23 @@ impl<S: Source> AheadSource<S> {
     }
 }
 
-impl<S> AheadSource<S> {
+impl<S> ReadAheadSource<S> {
     /// Counts a read of this source, and returns its answer.
     fn counted(
         &mut self,
         answer: Result<usize, DeviceFault>,
-        room: usize,
+        capacity: usize,
     ) -> Result<usize, DeviceFault>
         requires { length self.old.held ≤ self.old.counts.ahead - given answer }
         ensures value { result ≡ answer }
         ensures counts { self.new
-            ≡ record self.old { counts = after_read answer room self.old.counts } }
+            ≡ record self.old { counts = after_read answer capacity self.old.counts } }
     {
-        self.counts.count(answer, room)
+        self.counts.count(answer, capacity)
     }
 }
 
-impl<S: Source> AheadSource<S> {
+impl<S: Source> ReadAheadSource<S> {
     /// Copies out as many of the buffered bytes as fit, and counts that as a read.
     fn hand_out(&mut self, buf: &mut [u8]) -> Result<usize, DeviceFault>
         ensures value { result ≡ Ok (min (length buf.old) (length self.old.held)) }
@@ -190,7 +190,7 @@ impl<S: Source> AheadSource<S> {
     }
 }
 
-impl<S: Source> Source for AheadSource<S> {
+impl<S: Source> Source for ReadAheadSource<S> {
     ghost use Rattle.std.specs.Io.KnownBytes.{prepend_known};
 
     ghost to_come = { λ a. prepend_known a.held (S.to_come a.source) };
@@ -209,7 +209,7 @@ impl<S: Source> Source for AheadSource<S> {
             (S.counts self.old.source) (S.counts self.new.source) }
         ensures within { IfKnown (S.to_come self.old.source)
             (λ known. ConsumedAtMost known (S.to_come self.new.source)
-            (max_read (length buf.old) (announced_of self.old) self.old.room)) }
+            (max_read (length buf.old) (read_ahead_remaining self.old) self.old.capacity)) }
         ensures leaves { ReadsAhead (length buf.old) result self.old self.new }
     {
         if self.start == self.end && !buf.is_empty() {
@@ -227,7 +227,7 @@ impl<S: Source> Source for AheadSource<S> {
     }
 
     /// Allows read-ahead for the next `count` bytes, including those that are buffered.
-    fn announce(&mut self, count: u64)
+    fn allow_read_ahead(&mut self, count: u64)
         ensures leaves { self.new ≡ record self.old {
           counts = with_ahead (max count (length self.old.held)) self.old.counts;
         } }
@@ -254,7 +254,7 @@ impl<S: Source> Source for AheadSource<S> {
         ensures writes { Writes (is_aborted result) (O.counts sink.old) (O.counts sink.new) }
         ensures enough { is_some result ≡ nat_le count (length self.old.held) }
         ensures leaves { self.new ≡ record self.old {
-          held = held_after result count self.old.held;
+          held = buffered_after result count self.old.held;
           counts = self.new.counts;
         } }
     {

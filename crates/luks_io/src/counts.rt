@@ -33,20 +33,20 @@ impl ReadCounts {
         }
     }
 
-    /// Counts a read into a buffer with capacity for `room` bytes, and returns its answer. For a
-    /// source's own `read`.
+    /// Counts a read into a buffer of `capacity` bytes, and returns its answer. For a source's own
+    /// `read`.
     pub fn count(
         &mut self,
         answer: Result<usize, DeviceFault>,
-        room: usize,
+        capacity: usize,
     ) -> Result<usize, DeviceFault>
         ensures value { result ≡ answer }
-        ensures counts { self.new ≡ after_read answer room self.old }
+        ensures counts { self.new ≡ after_read answer capacity self.old }
     {
-        let needless = room == 0 || self.failures > 0 || self.ends > 0;
+        let needless = capacity == 0 || self.failures > 0 || self.ends > 0;
         count_if(&mut self.needless, needless);
         count_if(&mut self.failures, answer.is_err());
-        count_if(&mut self.ends, hits_end(&answer, room));
+        count_if(&mut self.ends, hits_end(&answer, capacity));
         self.ahead = self.ahead.saturating_sub(given(&answer));
         answer
     }
@@ -107,12 +107,12 @@ fn count_if(count: &mut u64, is: bool)
     }
 }
 
-/// Whether a read into a buffer with capacity for `room` bytes hit the end.
-fn hits_end(answer: &Result<usize, DeviceFault>, room: usize) -> bool
-    ensures { result ≡ is_end answer.now room }
+/// Whether a read into a buffer of `capacity` bytes hit the end.
+fn hits_end(answer: &Result<usize, DeviceFault>, capacity: usize) -> bool
+    ensures { result ≡ is_end answer.now capacity }
 {
     match answer {
-        Ok(count) => *count == 0 && room > 0,
+        Ok(count) => *count == 0 && capacity > 0,
         Err(_) => false,
     }
 }

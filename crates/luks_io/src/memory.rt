@@ -97,7 +97,7 @@ impl Model for MemSink {
     ghost view = { λ s.
         record {
           written = take s.len s.bytes.items;
-          room = vec_len s.bytes - s.len;
+          capacity = vec_len s.bytes - s.len;
           counts = s.counts;
         } };
 
@@ -105,20 +105,20 @@ impl Model for MemSink {
 }
 
 impl MemSink {
-    /// An empty sink with capacity for `room` bytes. All memory is allocated here; no write
+    /// An empty sink that holds at most `capacity` bytes. All memory is allocated here; no write
     /// allocates more.
     ///
     /// # Errors
     ///
     /// `AllocError` if memory runs out.
-    pub fn new(alloc: Global, room: usize) -> Result<MemSink, AllocError>
+    pub fn new(alloc: Global, capacity: usize) -> Result<MemSink, AllocError>
         ensures { IfOk result (λ s. s ≡ record {
           written = [];
-          room = room;
+          capacity = capacity;
           counts = record { failures = 0; needless = 0 };
         }) }
     {
-        let bytes = vec![in alloc; 0; room]?;
+        let bytes = vec![in alloc; 0; capacity]?;
         Ok(MemSink {
             bytes,
             len: 0,
@@ -152,10 +152,10 @@ impl Sink for MemSink {
         ensures bytes { WriteAppends (Some self.old.written)
             (Some self.new.written) result buf.now }
         ensures counts { self.new.counts ≡ after_write result (length buf.now) self.old.counts }
-        ensures count { IfOk result (λ n. n ≡ min (length buf.now) self.old.room) }
-        ensures room { IfOk result (λ n. self.new.room ≡ self.old.room - n) }
-        ensures full { IsErr result ↔ ((self.old.room ≡ 0) × (0 < length buf.now)) }
-        ensures kept { IsErr result → self.new.room ≡ self.old.room }
+        ensures count { IfOk result (λ n. n ≡ min (length buf.now) self.old.capacity) }
+        ensures capacity { IfOk result (λ n. self.new.capacity ≡ self.old.capacity - n) }
+        ensures full { IsErr result ↔ ((self.old.capacity ≡ 0) × (0 < length buf.now)) }
+        ensures kept { IsErr result → self.new.capacity ≡ self.old.capacity }
     {
         let fitting = buf.len().min(self.bytes.len() - self.len);
         if fitting == 0 && !buf.is_empty() {

@@ -34,7 +34,7 @@ pub trait Source {
     /// Allows read-ahead for the next `count` bytes: they will be requested, unless the source ends
     /// or a call of some device fails first. A source may consume them before they are requested;
     /// the bytes that it gives are the same. A later call replaces an earlier one.
-    fn announce(&mut self, count: u64)
+    fn allow_read_ahead(&mut self, count: u64)
         ensures bytes { to_come self.new ≡ to_come self.old }
         ensures counts { counts self.new ≡ with_ahead (counts self.new).ahead (counts self.old) }
         ensures ahead { (counts self.new).ahead ≤ max count (counts self.old).ahead }

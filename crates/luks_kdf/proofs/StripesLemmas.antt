@@ -12,7 +12,7 @@ use Rattle.luks_kdf.specs.Bytes.{joined, xor}
 use Rattle.luks_kdf.specs.Hash.{hash_of, digest_len}
 use Rattle.luks_kdf.specs.Stripes.{AfSplitterModel, IsSplit, chain_after, chain_of, diffused}
 use Rattle.luks_kdf.specs.Stripes.{diffused_piece, extended, merged, piece_of, stripe_at}
-use Rattle.luks_kdf.proofs.BytesLemmas.{cut_part, drop_front, joined_more, length-xor, xor-undone}
+use Rattle.luks_kdf.proofs.BytesLemmas.{cut_part, drop_prefix, joined_more, length-xor, xor-undone}
 use Rattle.luks_kdf.proofs.HashLemmas.{length-hash_of, digest_sizes}
 
 -- the length of a diffused piece is that of the piece
@@ -71,15 +71,15 @@ pub diffuse_step : (h : Hash) (before now new : List ℕ) (size j end : ℕ)
     ≡ joined (diffused_piece h before) (j + 1) ++ drop ((j + 1) * size) before
 unfolding diffused_piece piece_of
 diffuse_step h before now new size j end is_size inside same_length is_now is_end is_new =
-    let length_front : length (joined (diffused_piece h before) j) ≡ j * size =
+    let length_prefix : length (joined (diffused_piece h before) j) ≡ j * size =
     length_pieces h before j ∙ (ap (λ n. min (j * n) (length before)) (sym is_size) ∙ min-eq_left (omega arith)) in
     let back : drop (j * size) now ≡ drop (j * size) before =
-    rw is_now (drop_front (j * size) (joined (diffused_piece h before) j) (drop (j * size) before) length_front) in
+    rw is_now (drop_prefix (j * size) (joined (diffused_piece h before) j) (drop (j * size) before) length_prefix) in
     let cut : end ≡ min (j * size + size) (length before) = rw (← same_length) is_end in
     let part : take (end - j * size) (drop (j * size) now) ≡ take (digest_len h) (drop (j * digest_len h) before) =
     rw (back, cut, ← is_size) (cut_part (j * size) size before (omega arith)) in
     let is_piece : new ≡ diffused_piece h before j = rw (← part) is_new in
-    rw cut (joined_more (diffused_piece h before) before now new j size is_now length_front (omega arith) is_piece)
+    rw cut (joined_more (diffused_piece h before) before now new j size is_now length_prefix (omega arith) is_piece)
 
 -- after the last piece the block is diffused
 pub diffuse_end : (h : Hash) (before now : List ℕ) (size count j : ℕ)
@@ -136,7 +136,7 @@ pub stripe_at-last : (len : ℕ) (xs last : List ℕ) (i : ℕ) → length xs �
     → stripe_at len (xs ++ last) i ≡ last
 unfolding stripe_at
 stripe_at-last len xs last i before whole =
-    ap (take len) (drop_front (i * len) xs last before) ∙ take_all len last (omega arith)
+    ap (take len) (drop_prefix (i * len) xs last before) ∙ take_all len last (omega arith)
 
 -- the key that n stripes merge to, from their number n
 pub merged_by_number : (h : Hash) (len : ℕ) (stripes : List ℕ) (n : ℕ) → 0 < len

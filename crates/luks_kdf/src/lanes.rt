@@ -3,7 +3,7 @@
 ghost use Rattle.std.specs.Prelude.{◌≡◌, ℕ, ◌+◌, ◌*◌, ◌^◌, ◌<◌, ◌≤◌, List, ◌⊎◌, length, refl, take};
 ghost use Rattle.std.specs.Int.{div_ceil};
 ghost use Rattle.std.proofs.Common.{inl, inr};
-ghost use Rattle.luks_sha_lanes.specs.Chains.{chain_sum, digest_at};
+ghost use Rattle.luks_sha_lanes.specs.Chains.{chain_xor, digest_at};
 ghost use Rattle.luks_kdf.specs.declared.hash.Hash.TheVariants as Variants;
 ghost use Rattle.luks_kdf.specs.Bytes.{joined};
 ghost use Rattle.luks_kdf.specs.Hash.{block_len, hash_of, digest_len};
@@ -41,7 +41,7 @@ pub(crate) trait Lanes: Engine {
         requires last { length last.now ≡ WIDTH * digest_len Self.function }
         requires sums { length sums.old ≡ WIDTH * digest_len Self.function }
         ensures { (j : ℕ) → j < used → digest_at (digest_len Self.function) j sums.new
-            ≡ chain_sum (hash_of Self.function) inner.now outer.now
+            ≡ chain_xor (hash_of Self.function) inner.now outer.now
             (digest_at (digest_len Self.function) j last.now)
             (digest_at (digest_len Self.function) j sums.old) count };
 
@@ -106,7 +106,7 @@ pub(crate) fn derive_in_lanes<E: Lanes>(
 )
     requires turns { 1 ≤ iterations }
     requires some { 1 ≤ length out.old }
-    requires room { length out.old ≤ 512 }
+    requires capacity { length out.old ≤ 512 }
     ensures key { out.new ≡ derived_key E.function pass.now salt.now iterations (length out.old) }
     ensures work { work.new
         ≡ capped (work.old + iterations * div_ceil (length out.old) (digest_len E.function)) }
@@ -144,7 +144,7 @@ fn derive_group<E: Lanes>(
     requires turns { 1 ≤ iterations }
     requires number { number + E.WIDTH < 2 ^ 32 }
     requires some { 1 ≤ length out.old }
-    requires room { length out.old ≤ E.WIDTH * digest_len E.function }
+    requires capacity { length out.old ≤ E.WIDTH * digest_len E.function }
     ensures key { (pass : List ℕ) → E.holds keyed.now.inner (inner_block E.function pass)
         → E.holds keyed.now.outer (outer_block E.function pass)
         → blocks.now.inner ≡ inner_block E.function pass
@@ -180,7 +180,7 @@ fn sum_group<E: Lanes>(
     requires turns { 1 ≤ iterations }
     requires number { number + count < 2 ^ 32 }
     requires count { count ≤ E.WIDTH }
-    requires room { length t.old ≡ E.WIDTH * digest_len E.function }
+    requires capacity { length t.old ≡ E.WIDTH * digest_len E.function }
     ensures { (pass : List ℕ) → E.holds keyed.now.inner (inner_block E.function pass)
         → E.holds keyed.now.outer (outer_block E.function pass)
         → blocks.now.inner ≡ inner_block E.function pass
@@ -190,16 +190,22 @@ fn sum_group<E: Lanes>(
 {
     let mut u = [0; MAX_GROUP];
     let u = &mut u[..t.len()];
-    first_turns(keyed, salt, number, count, u);
+    first_iterations(keyed, salt, number, count, u);
     t.copy_from_slice(u);
     E::add_chains(&blocks.inner, &blocks.outer, count, iterations - 1, u, t);
 }
 
 // Writes the first U of `count` blocks, from this number on.
-fn first_turns<E: Lanes>(keyed: &Keyed<E>, salt: &[u8], number: u32, count: usize, u: &mut [u8])
+fn first_iterations<E: Lanes>(
+    keyed: &Keyed<E>,
+    salt: &[u8],
+    number: u32,
+    count: usize,
+    u: &mut [u8],
+)
     requires number { number + count < 2 ^ 32 }
     requires count { count ≤ E.WIDTH }
-    requires room { length u.old ≡ E.WIDTH * digest_len E.function }
+    requires capacity { length u.old ≡ E.WIDTH * digest_len E.function }
     ensures { (pass : List ℕ) → E.holds keyed.now.inner (inner_block E.function pass)
         → E.holds keyed.now.outer (outer_block E.function pass)
         → (k : ℕ) → k < count → digest_at (digest_len E.function) k u.new
@@ -208,12 +214,12 @@ fn first_turns<E: Lanes>(keyed: &Keyed<E>, salt: &[u8], number: u32, count: usiz
     let size = E::hash().size();
     'first: for k in 0..count {
         let start = size * k;
-        first_turn(keyed, salt, number + k as u32, &mut u[start..start + size]);
+        first_iteration(keyed, salt, number + k as u32, &mut u[start..start + size]);
     }
 }
 
 // Writes the first U of the block with this number.
-fn first_turn<E: Engine>(keyed: &Keyed<E>, salt: &[u8], number: u32, u: &mut [u8])
+fn first_iteration<E: Engine>(keyed: &Keyed<E>, salt: &[u8], number: u32, u: &mut [u8])
     requires { length u.old ≡ digest_len E.function }
     ensures { (pass : List ℕ) → E.holds keyed.now.inner (inner_block E.function pass)
         → E.holds keyed.now.outer (outer_block E.function pass)

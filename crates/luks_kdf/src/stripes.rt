@@ -39,7 +39,7 @@ impl AfSplitter {
     /// A splitter of a key of `len` bytes, before its first stripe.
     pub fn new(hash: Hash, len: usize) -> AfSplitter
         requires some { 1 ≤ len }
-        requires room { len ≤ 512 }
+        requires capacity { len ≤ 512 }
         ensures start { result ≡ record { hash = hash; block = replicate len 0 } }
         ensures len { length result.block ≡ len }
     {
@@ -94,8 +94,8 @@ fn diffuse_piece(hash: Hash, number: u32, piece: &mut [u8])
     ensures { piece.new
         ≡ take (length piece.old) (hash_of hash (to_be_bytes w32 number ++ piece.old)) }
 {
-    let mut room = [0; MAX_DIGEST];
-    let whole = &mut room[..hash.size()];
+    let mut capacity = [0; MAX_DIGEST];
+    let whole = &mut capacity[..hash.size()];
     digest(hash, &number.to_be_bytes(), piece, &[], whole);
     piece.copy_from_slice(&whole[..piece.len()]);
 }
@@ -103,7 +103,7 @@ fn diffuse_piece(hash: Hash, number: u32, piece: &mut [u8])
 // The splitter after the first `count` stripes.
 fn splitter_after(hash: Hash, len: usize, stripes: &[u8], count: usize) -> AfSplitter
     requires some { 1 ≤ len }
-    requires room { len ≤ 512 }
+    requires capacity { len ≤ 512 }
     requires there { count * len ≤ length stripes.now }
     ensures start { result ≡ chain_after hash len stripes.now count }
     ensures len { length result.block ≡ len }
@@ -119,7 +119,7 @@ fn splitter_after(hash: Hash, len: usize, stripes: &[u8], count: usize) -> AfSpl
 /// more that makes them merge to the key.
 pub fn af_split(hash: Hash, key: &[u8], random: &[u8], out: &mut [u8])
     requires some { 1 ≤ length key.now }
-    requires room { length key.now ≤ 512 }
+    requires capacity { length key.now ≤ 512 }
     requires out { AreStripes (length key.now) out.old }
     requires random { length random.now + length key.now ≡ length out.old }
     ensures split { IsSplit hash random.now key.now out.new }
@@ -127,15 +127,15 @@ pub fn af_split(hash: Hash, key: &[u8], random: &[u8], out: &mut [u8])
 {
     let count = random.len() / key.len();
     let splitter = splitter_after(hash, key.len(), random, count);
-    let (front, last) = out.split_at_mut(random.len());
-    front.copy_from_slice(random);
+    let (prefix, last) = out.split_at_mut(random.len());
+    prefix.copy_from_slice(random);
     splitter.last(key, last);
 }
 
 /// Writes the key that the stripes merge to. Each stripe is as long as `out`.
 pub fn af_merge(hash: Hash, stripes: &[u8], out: &mut [u8])
     requires some { 1 ≤ length out.old }
-    requires room { length out.old ≤ 512 }
+    requires capacity { length out.old ≤ 512 }
     requires stripes { AreStripes (length out.old) stripes.now }
     ensures { out.new ≡ merged hash (length out.old) stripes.now }
 {

@@ -17,18 +17,18 @@ use Rattle.luks_header.specs.declared.header.Header.{Header}
 use Rattle.luks_verdict.specs.declared.segment.Segment.{Segment}
 use Rattle.luks_header.proofs.KnownLemmas.{before_payload}
 use Rattle.luks_open.specs.Candidate.{candidate_by, candidate_of, decrypted_material, material_sector, unlocked}
-use Rattle.luks_open.specs.Opening.{first_opening, if_meets, slot_key, opened_or, opening_of, answer_of}
+use Rattle.luks_open.specs.Opening.{first_opening, if_matches_digest, slot_key, opened_or, opening_of, answer_of}
 use Rattle.luks_open.specs.Order.{OrderModel, key_areas_end, order_of}
 use Rattle.luks_open.specs.declared.entry.Entry.{Entry}
 use Rattle.luks_open.specs.declared.opening.Opened.{Opened}
 use Rattle.luks_open.proofs.OrderLemmas.{All-key_areas_end, All-order, IsOf, key_areas_end-le}
 
 -- with an attached header, the key material of all key slots to be tried ends at or before the payload's start
-pub held_before_payload : (header : Header) (segment : Segment) (named limit : Option ℕ) (order : OrderModel)
+pub key_areas_before_payload : (header : Header) (segment : Segment) (named limit : Option ℕ) (order : OrderModel)
     → is_detached header ≡ false
     → segment_of header ≡ Ok segment
     → order_of header named limit ≡ Ok order → key_areas_end order.slots ≤ segment.offset
-held_before_payload header segment named limit order attached is_segment is_order =
+key_areas_before_payload header segment named limit order attached is_segment is_order =
     key_areas_end-le segment.offset order.slots (of_entries order.slots (All-order header named limit order is_order))
   where
     of_entries : (entries : List Entry) → AllByRecursion (IsOf header limit) entries
@@ -58,7 +58,7 @@ key_beginning : (entry : Entry) (n : ℕ) (image pass : List ℕ) → material_e
 unfolding slot_key candidate_of
 key_beginning entry n image pass before =
     let parts = entry.slot.parts in
-    ap (if_meets entry.digest) (of_read parts.kdf_hash parts.af_hash parts.area_mode)
+    ap (if_matches_digest entry.digest) (of_read parts.kdf_hash parts.af_hash parts.area_mode)
   where
     of_read : (kdf af : Option Hash) (mode : Option Mode)
         → candidate_by kdf af mode entry.slot.parts (take n image) pass

@@ -78,24 +78,24 @@ in_sectors len stripes whole rest is some is_whole is_rest = of_len (one_of_thre
     of_len (inr (inr h)) = same 64 h (of_64 (rw h at is_whole) (rw h at is_rest))
 
 -- the chain after one more stripe
-pub taken_more : (h : Hash) (len : ℕ) (before stripes stripe : List ℕ) (number i : ℕ) (chain : AfSplitterModel)
+pub chain_more_stripes : (h : Hash) (len : ℕ) (before stripes stripe : List ℕ) (number i : ℕ) (chain : AfSplitterModel)
     → (i + 1) * len ≤ length stripes
     → length before ≡ number * len → stripe ≡ take len (drop (i * len) stripes)
     → chain ≡ chain_after h len (before ++ take (i * len) stripes) (number + i)
     → extended chain stripe ≡ chain_after h len (before ++ take ((i + 1) * len) stripes) (number + (i + 1))
-taken_more h len before stripes stripe number i chain there whole is_stripe is =
-    let front = take (i * len) stripes in
+chain_more_stripes h len before stripes stripe number i chain there whole is_stripe is =
+    let prefix = take (i * len) stripes in
     let one : length stripe ≡ len = ap length is_stripe
     ∙ length-take-le len (drop (i * len) stripes) (omega (arith, length-drop (i * len) stripes)) in
-    let all : length (before ++ front) ≡ (number + i) * len =
-    omega (arith, length-append before front, length-take-le (i * len) stripes (omega arith)) in
-    let further : (before ++ front) ++ stripe ≡ before ++ take ((i + 1) * len) stripes =
-    append_assoc before front stripe
+    let all : length (before ++ prefix) ≡ (number + i) * len =
+    omega (arith, length-append before prefix, length-take-le (i * len) stripes (omega arith)) in
+    let further : (before ++ prefix) ++ stripe ≡ before ++ take ((i + 1) * len) stripes =
+    append_assoc before prefix stripe
     ∙ ap (λ s. before ++ s)
-    (ap (λ s. front ++ s) is_stripe
+    (ap (λ s. prefix ++ s) is_stripe
     ∙ (sym (take-add (i * len) len stripes) ∙ ap (λ n. take n stripes) (next i len))) in
     let count : number + i + 1 ≡ number + (i + 1) = omega arith in
-    chain_push h len (before ++ front) stripe (number + i) chain all one is
+    chain_push h len (before ++ prefix) stripe (number + i) chain all one is
     ∙ (ap (λ s. chain_after h len s (number + i + 1)) further
     ∙ ap (λ n. chain_after h len (before ++ take ((i + 1) * len) stripes) n) count)
   where
@@ -103,11 +103,11 @@ taken_more h len before stripes stripe number i chain there whole is_stripe is =
     next i len = omega arith
 
 -- joining further pieces only appends bytes to those of the first q pieces
-joined_front : (f : ℕ → List ℕ) (q m : ℕ) → (tail : List ℕ) × (joined f (q + m) ≡ joined f q ++ tail)
+joined_prefix : (f : ℕ → List ℕ) (q m : ℕ) → (tail : List ℕ) × (joined f (q + m) ≡ joined f q ++ tail)
 unfolding joined
-joined_front f q zero = let same : q + 0 ≡ q = omega arith in ([], ap (joined f) same ∙ sym (append-nil (joined f q)))
-joined_front f q (suc m) =
-    let before = joined_front f q m in
+joined_prefix f q zero = let same : q + 0 ≡ q = omega arith in ([], ap (joined f) same ∙ sym (append-nil (joined f q)))
+joined_prefix f q (suc m) =
+    let before = joined_prefix f q m in
     let same : q + suc m ≡ suc (q + m) = omega arith in (
       before.0 ++ f (q + m),
       ap (joined f) same
@@ -115,11 +115,11 @@ joined_front f q (suc m) =
     )
 
 -- the first bytes of pieces of 512 bytes: q pieces, and a part of the next
-front_of_joined : (f : ℕ → List ℕ) (q n part : ℕ) → q < n → length (joined f q) ≡ q * 512 → part ≤ length (f q)
+prefix_of_joined : (f : ℕ → List ℕ) (q n part : ℕ) → q < n → length (joined f q) ≡ q * 512 → part ≤ length (f q)
     → take (q * 512 + part) (joined f n) ≡ joined f q ++ take part (f q)
 unfolding joined
-front_of_joined f q n part below whole short =
-    let further = joined_front f (suc q) (n - suc q) in
+prefix_of_joined f q n part below whole short =
+    let further = joined_prefix f (suc q) (n - suc q) in
     let count : suc q + (n - suc q) ≡ n = omega arith in
     let all : joined f n ≡ joined f q ++ (f q ++ further.0) =
     ap (joined f) (sym count) ∙ (further.1 ∙ append_assoc (joined f q) (f q) further.0) in
@@ -181,13 +181,13 @@ unfolding unlocked decrypted_material
 unlocked_by_last h key image offset len stripes whole rest sector last chain place before is_sector full is_last
     is_chain =
     let f = material_sector key image offset in
-    let front = joined f whole ++ take (rest * len) sector in
+    let prefix = joined f whole ++ take (rest * len) sector in
     let count = need_of len stripes / 512 in
     let long : rest * len + len ≤ length (f whole) = omega (arith, ap length is_sector, place.within) in
     let below : whole < count = omega (arith, place.there) in
-    let stripes_are : take (len * stripes) (joined f count) ≡ front ++ last =
+    let stripes_are : take (len * stripes) (joined f count) ≡ prefix ++ last =
     ap (λ n. take n (joined f count)) place.all
-    ∙ (front_of_joined f whole count (rest * len + len) below before long
+    ∙ (prefix_of_joined f whole count (rest * len + len) below before long
     ∙ (ap (λ s. joined f whole ++ take (rest * len + len) s) (sym is_sector)
     ∙ (ap (λ s. joined f whole ++ s)
     (take-add (rest * len) len sector ∙ ap (λ s. take (rest * len) sector ++ s) (sym is_last))
@@ -196,7 +196,7 @@ unlocked_by_last h key image offset len stripes whole rest sector last chain pla
     ap length is_last
     ∙ length-take-le len (drop (rest * len) sector)
     (omega (arith, length-drop (rest * len) sector, place.within)) in
-    let number : length front ≡ (whole * (512 / len) + rest) * len =
+    let number : length prefix ≡ (whole * (512 / len) + rest) * len =
     omega (
       arith,
       length-append (joined f whole) (take (rest * len) sector),
@@ -204,5 +204,5 @@ unlocked_by_last h key image offset len stripes whole rest sector last chain pla
       place.before,
     ) in
     ap (λ (c : AfSplitterModel). xor c.block last) is_chain
-    ∙ (sym (merged_push h len front last (whole * (512 / len) + rest) place.some number one)
+    ∙ (sym (merged_push h len prefix last (whole * (512 / len) + rest) place.some number one)
     ∙ ap (merged h len) (sym stripes_are))

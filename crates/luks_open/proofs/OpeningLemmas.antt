@@ -38,7 +38,7 @@ tried_last entries image pass entry key some =
     )
 
 -- none of the first i entries opened, and the count of work went from `start` to `now`
-pub record GoesOn (entries : List Entry) (image pass : List ℕ) (i start now : ℕ) : Type 0 where
+pub record NoneOpenedBefore (entries : List Entry) (image pass : List ℕ) (i start now : ℕ) : Type 0 where
   pub value : first_opening (drop i entries) image pass ≡ first_opening entries image pass
   pub work : capped (now + work_on (drop i entries) image pass) ≡ capped (start + work_on entries image pass)
   pub count : now ≡ capped now
@@ -50,10 +50,10 @@ from_entry entries i entry there is = drop_more entries i entry there
     ∙ ap (λ (e : Entry). e ∷ drop (i + 1) entries) (sym is)
 
 pub go_on : (entries : List Entry) (image pass : List ℕ) (i start now new : ℕ) (entry : Entry)
-    → GoesOn entries image pass i start now
+    → NoneOpenedBefore entries image pass i start now
     → i < length entries → entry ≡ get_or entries i entry → slot_key entry image pass ≡ None
     → new ≡ capped (now + evaluations_of entry)
-    → GoesOn entries image pass (i + 1) start new
+    → NoneOpenedBefore entries image pass (i + 1) start new
 go_on entries image pass i start now new entry before there is none is_new =
     let rest = from_entry entries i entry there is in
     let past = tried_past (drop (i + 1) entries) image pass entry none in
@@ -65,7 +65,7 @@ go_on entries image pass i start now new entry before there is none is_new =
     }
 
 pub go_last : (entries : List Entry) (image pass : List ℕ) (i start now new : ℕ) (entry : Entry) (key : List ℕ)
-    → GoesOn entries image pass i start now → i < length entries → entry ≡ get_or entries i entry
+    → NoneOpenedBefore entries image pass i start now → i < length entries → entry ≡ get_or entries i entry
     → slot_key entry image pass ≡ Some key
     → new ≡ capped (now + evaluations_of entry)
     → (first_opening entries image pass ≡ Some record { slot = entry.number; key = key })
@@ -78,7 +78,8 @@ go_last entries image pass i start now new entry key before there is some is_new
       omega (arith, is_new, left, before.work),
     )
 
-pub go_out : (entries : List Entry) (image pass : List ℕ) (i start now : ℕ) → GoesOn entries image pass i start now
+pub go_out : (entries : List Entry) (image pass : List ℕ) (i start now : ℕ) → NoneOpenedBefore entries image pass i
+    start now
     → length entries ≤ i
     → (first_opening entries image pass ≡ None) × (now ≡ capped (start + work_on entries image pass))
 unfolding first_opening tried_of

@@ -23,7 +23,7 @@ use Rattle.luks_header.specs.SlotVerdicts.{verdict_at}
 use Rattle.luks_header.specs.declared.header.Header.{Header}
 use Rattle.luks_header.proofs.KnownLemmas.{digest_of_usable}
 use Rattle.luks_open.specs.Order.{OrderModel, entries_of, entry_at, entry_of, key_areas_end, order_of, skipped_at}
-use Rattle.luks_open.specs.Order.{order_of_all, order_of_named, unless_none, usable_at, where_usable}
+use Rattle.luks_open.specs.Order.{order_of_all, order_of_named, unless_none, usable_at, usable_with_priority}
 use Rattle.luks_open.specs.declared.entry.Entry.{Entry}
 
 -- an entry is one of this header: its key slot can be tried, and this is its digest
@@ -76,7 +76,8 @@ usable_at-some header limit priority number entry is = of_verdict (verdict_at he
     of_test true h = entry_at-some header limit number entry h
     of_test false h = absurd cc
 
-    of_verdict : (verdict : Option Verdict) → where_usable priority (entry_at header limit number) verdict ≡ Some entry
+    of_verdict : (verdict : Option Verdict) → usable_with_priority priority (entry_at header limit number) verdict ≡
+        Some entry
         → IsOf header limit entry
     of_verdict None h = absurd cc
     of_verdict (Some Disabled) h = absurd cc

@@ -6,31 +6,32 @@ use Rattle.std.proofs.lemmas.List.{length-replicate, take_more_set}
 use Rattle.luks_verdict.specs.declared.refusal.SkipReason.{SkipReason}
 use Rattle.luks_open.specs.Skipped.{IsPadded, nothing}
 
-pub filled_more : (places : List (ℕ × SkipReason)) (taken : ℕ) (entry : ℕ × SkipReason) → IsPadded places taken
-    → taken < 32
-    → IsPadded (set places taken entry) (taken + 1)
-filled_more places taken entry filled room =
-    let front = take taken places in
-    let rest = replicate (32 - (taken + 1)) nothing in
-    let one_less : 32 - taken ≡ suc (32 - (taken + 1)) = omega arith in
-    let split : places ≡ front ++ nothing ∷ rest = filled.others ∙ ap (λ n. front ++ replicate n nothing) one_less in
-    let all : length places ≡ 32 =
+pub filled_more : (elements : List (ℕ × SkipReason)) (used : ℕ) (entry : ℕ × SkipReason) → IsPadded elements used
+    → used < 32
+    → IsPadded (set elements used entry) (used + 1)
+filled_more elements used entry filled capacity =
+    let prefix = take used elements in
+    let rest = replicate (32 - (used + 1)) nothing in
+    let one_less : 32 - used ≡ suc (32 - (used + 1)) = omega arith in
+    let split : elements ≡ prefix ++ nothing ∷ rest = filled.others ∙ ap (λ n. prefix ++ replicate n nothing)
+    one_less in
+    let all : length elements ≡ 32 =
     omega (
       arith,
       ap length filled.others,
-      length-append front (replicate (32 - taken) nothing),
-      length-replicate (32 - taken) nothing,
+      length-append prefix (replicate (32 - used) nothing),
+      length-replicate (32 - used) nothing,
       filled.there,
     ) in
-    let there : taken < length places = omega arith in
-    let written : set places taken entry ≡ front ++ entry ∷ rest =
-    ap (λ all. set all taken entry) split
-    ∙ (ap (λ n. set (front ++ nothing ∷ rest) n entry) (sym filled.there)
-    ∙ set-append_seam front nothing rest entry) in
-    let more : take (taken + 1) (set places taken entry) ≡ front ++ entry
-    ∷ [] = take_more_set places taken entry there in
+    let there : used < length elements = omega arith in
+    let written : set elements used entry ≡ prefix ++ entry ∷ rest =
+    ap (λ all. set all used entry) split
+    ∙ (ap (λ n. set (prefix ++ nothing ∷ rest) n entry) (sym filled.there)
+    ∙ set-append_seam prefix nothing rest entry) in
+    let more : take (used + 1) (set elements used entry) ≡ prefix ++ entry
+    ∷ [] = take_more_set elements used entry there in
     record {
-      room = omega arith;
-      there = ap length more ∙ (let sum = length-append front (entry ∷ []) in omega (arith, sum, filled.there));
-      others = written ∙ (sym (append_assoc front (entry ∷ []) rest) ∙ ap (λ start. start ++ rest) (sym more));
+      capacity = omega arith;
+      there = ap length more ∙ (let sum = length-append prefix (entry ∷ []) in omega (arith, sum, filled.there));
+      others = written ∙ (sym (append_assoc prefix (entry ∷ []) rest) ∙ ap (λ start. start ++ rest) (sym more));
     }

@@ -42,11 +42,11 @@ candidate_of slot image pass =
     candidate_by slot.parts.kdf_hash slot.parts.af_hash slot.parts.area_mode slot.parts image pass
 
 -- PBKDF2 of the key with this hash function gives the whole value of the digest
-abbrev pub meets_by : Option Hash → KeyDigest → List ℕ → Bool
-meets_by (Some hash) digest key =
+abbrev pub matches_digest_by : Option Hash → KeyDigest → List ℕ → Bool
+matches_digest_by (Some hash) digest key =
     bytes_eq (derived_key hash key digest.salt digest.iterations (length digest.value)) digest.value
-meets_by None digest key = false
+matches_digest_by None digest key = false
 
 -- the key matches the digest
 unfoldable pub matches_digest : KeyDigest → List ℕ → Bool
-matches_digest digest key = meets_by digest.hash digest key
+matches_digest digest key = matches_digest_by digest.hash digest key

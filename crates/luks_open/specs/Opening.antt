@@ -14,13 +14,13 @@ use Rattle.luks_open.specs.declared.fault.OpenFault.TheVariants.{NoKey}
 use Rattle.luks_open.specs.declared.opening.Opened.{Opened}
 
 -- a candidate that matches the digest is the volume key
-abbrev pub if_meets : KeyDigest → Option (List ℕ) → Option (List ℕ)
-if_meets digest None = None
-if_meets digest (Some key) = if matches_digest digest key then Some key else None
+abbrev pub if_matches_digest : KeyDigest → Option (List ℕ) → Option (List ℕ)
+if_matches_digest digest None = None
+if_matches_digest digest (Some key) = if matches_digest digest key then Some key else None
 
 -- the volume key that a key slot gives under a passphrase, if it opens
 unfoldable pub slot_key : Entry → List ℕ → List ℕ → Option (List ℕ)
-slot_key entry image pass = if_meets entry.digest (candidate_of entry.slot image pass)
+slot_key entry image pass = if_matches_digest entry.digest (candidate_of entry.slot image pass)
 
 -- this key slot if it opens, or else the further one that opens
 abbrev pub opened_or : ℕ → Option (List ℕ) → Option Opened → Option Opened

@@ -33,26 +33,26 @@ unfoldable pub entry_at : Header → Option ℕ → ℕ → Option Entry
 entry_at header limit number = entry_of number (verdict_at header limit number) (digest_for header number)
 
 -- this entry, if the key slot has this priority
-abbrev pub where_usable : ℕ → Option Entry → Option Verdict → Option Entry
-where_usable priority entry (Some (Usable slot)) = if slot.parts.priority == priority then entry else None
-where_usable priority entry (Some Unused) = None
-where_usable priority entry (Some (Skipped reason)) = None
-where_usable priority entry None = None
+abbrev pub usable_with_priority : ℕ → Option Entry → Option Verdict → Option Entry
+usable_with_priority priority entry (Some (Usable slot)) = if slot.parts.priority == priority then entry else None
+usable_with_priority priority entry (Some Unused) = None
+usable_with_priority priority entry (Some (Skipped reason)) = None
+usable_with_priority priority entry None = None
 
 abbrev pub usable_at : Header → Option ℕ → ℕ → ℕ → Option Entry
 usable_at header limit priority number =
-    where_usable priority (entry_at header limit number)
+    usable_with_priority priority (entry_at header limit number)
     (verdict_at header limit number)
 
 -- the number of a key slot and the reason why it is skipped, if it is
-abbrev pub where_skipped : ℕ → Option Verdict → Option (ℕ × SkipReason)
-where_skipped number (Some (Usable slot)) = None
-where_skipped number (Some Unused) = None
-where_skipped number (Some (Skipped reason)) = Some (number, reason)
-where_skipped number None = None
+abbrev pub skipped_with_reason : ℕ → Option Verdict → Option (ℕ × SkipReason)
+skipped_with_reason number (Some (Usable slot)) = None
+skipped_with_reason number (Some Unused) = None
+skipped_with_reason number (Some (Skipped reason)) = Some (number, reason)
+skipped_with_reason number None = None
 
 abbrev pub skipped_at : Header → Option ℕ → ℕ → Option (ℕ × SkipReason)
-skipped_at header limit number = where_skipped number (verdict_at header limit number)
+skipped_at header limit number = skipped_with_reason number (verdict_at header limit number)
 
 -- the order that tries these key slots, or the fault if there are none
 abbrev pub unless_none : List Entry → List (ℕ × SkipReason) → Result OrderModel OpenFault

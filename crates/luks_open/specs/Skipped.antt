@@ -12,16 +12,16 @@ nothing = (0, State)
 abbrev pub padded_to_32 : List (ℕ × SkipReason) → List (ℕ × SkipReason)
 padded_to_32 slots = slots ++ replicate (32 - length slots) nothing
 
--- the first `taken` of the 32 elements are used, and the others have the unused value
-pub record IsPadded (places : List (ℕ × SkipReason)) (taken : ℕ) : Type 0 where
-  pub room : taken ≤ 32
-  pub there : length (take taken places) ≡ taken
-  pub others : places ≡ take taken places ++ replicate (32 - taken) nothing
+-- the first `used` of the 32 elements are used, and the others have the unused value
+pub record IsPadded (elements : List (ℕ × SkipReason)) (used : ℕ) : Type 0 where
+  pub capacity : used ≤ 32
+  pub there : length (take used elements) ≡ used
+  pub others : elements ≡ take used elements ++ replicate (32 - used) nothing
 
 -- padding the used elements to 32 gives the same array
-pub filled_up_again : {T : Type 0} (make : List (ℕ × SkipReason) → ℕ → T) (places : List (ℕ × SkipReason)) (taken : ℕ)
-    → IsPadded places taken
-    → make (padded_to_32 (take taken places)) (length (take taken places)) ≡ make places taken
-filled_up_again make places taken filled =
-    ap (λ n. make (take taken places ++ replicate (32 - n) nothing) n) filled.there
-    ∙ ap (λ all. make all taken) (sym filled.others)
+pub padded_again : {T : Type 0} (make : List (ℕ × SkipReason) → ℕ → T) (elements : List (ℕ × SkipReason)) (used : ℕ)
+    → IsPadded elements used
+    → make (padded_to_32 (take used elements)) (length (take used elements)) ≡ make elements used
+padded_again make elements used filled =
+    ap (λ n. make (take used elements ++ replicate (32 - n) nothing) n) filled.there
+    ∙ ap (λ all. make all used) (sym filled.others)

@@ -11,7 +11,7 @@ use luks_kdf::Work;
 
 /// Whether PBKDF2 of the key gives the digest's whole value.
 #[tactic(auto, unfolding(crate::specs::Candidate::matches_digest))]
-pub(crate) fn is_met(digest: &KeyDigest, key: &[u8], work: &mut Work) -> bool
+pub(crate) fn key_matches_digest(digest: &KeyDigest, key: &[u8], work: &mut Work) -> bool
     ensures value { result ≡ matches_digest digest.now key.now }
     ensures work { work.new ≡ capped (work.old
         + evaluations digest.now.hash digest.now.iterations (length digest.now.value)) }

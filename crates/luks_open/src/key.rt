@@ -81,7 +81,7 @@ impl Key {
     ) -> Key
         requires turns { 1 ≤ iterations }
         requires some { 1 ≤ len }
-        requires room { len ≤ 64 }
+        requires capacity { len ≤ 64 }
         ensures key { result ≡ derived_key hash secret.now salt.now iterations len }
         ensures work { work.new ≡ capped (work.old + iterations * div_ceil len (digest_len hash)) }
     {

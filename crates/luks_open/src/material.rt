@@ -16,7 +16,7 @@ const SECTOR: usize = 512;
 
 // Decrypts the sector of this number of the key material from `offset` on.
 fn decrypt_sector(key: &SectorCipher, image: &[u8], offset: usize, number: usize, sector: &mut [u8])
-    requires room { length sector.old ≡ 512 }
+    requires capacity { length sector.old ≡ 512 }
     requires there { offset + 512 * number + 512 ≤ length image.now }
     ensures { sector.new ≡ material_sector key.now image.now offset number }
 {
@@ -26,10 +26,11 @@ fn decrypt_sector(key: &SectorCipher, image: &[u8], offset: usize, number: usize
 }
 
 // Absorbs `count` stripes of `len` bytes, none of which is the last.
-fn take_in(splitter: &mut AfSplitter, stripes: &[u8], len: usize, count: usize)
+fn absorb_stripes(splitter: &mut AfSplitter, stripes: &[u8], len: usize, count: usize)
     requires len { length splitter.old.block ≡ len }
     requires there { count * len ≤ length stripes.now }
-    ensures taken { (hash : AnyHash) (before : List ℕ) (number : ℕ) → length before ≡ number * len
+    ensures absorbed { (hash : AnyHash) (before : List ℕ) (number : ℕ)
+        → length before ≡ number * len
         → splitter.old ≡ chain_after hash len before number
         → splitter.new
         ≡ chain_after hash len (before ++ take (count * len) stripes.now) (number + count) }
@@ -51,7 +52,7 @@ fn unlock_by(
     sector: &mut [u8],
     out: &mut [u8],
 )
-    requires room { length sector.old ≡ 512 }
+    requires capacity { length sector.old ≡ 512 }
     requires key_bytes { is_key_length (length out.old) ≡ true }
     requires some { 1 ≤ stripes }
     requires few { stripes ≤ max_stripes }
@@ -66,10 +67,10 @@ fn unlock_by(
     let mut splitter = AfSplitter::new(af, len);
     'sectors: for number in 0..whole {
         decrypt_sector(key, image, offset, number, sector);
-        take_in(&mut splitter, sector, len, in_sector);
+        absorb_stripes(&mut splitter, sector, len, in_sector);
     }
     decrypt_sector(key, image, offset, whole, sector);
-    take_in(&mut splitter, sector, len, rest);
+    absorb_stripes(&mut splitter, sector, len, rest);
     splitter.last(&sector[rest * len..rest * len + len], out);
 }
 

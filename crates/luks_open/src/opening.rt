@@ -13,7 +13,7 @@ ghost use Rattle.luks_open.specs.Opening.{opening_of, tried_of, work_of};
 ghost use Rattle.luks_open.specs.Order.{key_areas_end, order_of};
 ghost use Rattle.luks_open.specs.Trial.{IsTriable};
 
-use crate::digest::is_met;
+use crate::digest::key_matches_digest;
 use crate::entry::Entry;
 use crate::fault::OpenFault;
 use crate::key::Key;
@@ -74,7 +74,7 @@ fn key(entry: &Entry, image: &[u8], pass: &[u8], work: &mut Work) -> Option<Key>
     ensures len { IfSome result (λ key. length key ≡ entry.now.slot.parts.key_bytes) }
 {
     let key = candidate(&entry.slot, image, pass, work)?;
-    if is_met(&entry.digest, key.as_slice(), work) {
+    if key_matches_digest(&entry.digest, key.as_slice(), work) {
         Some(key)
     } else {
         None

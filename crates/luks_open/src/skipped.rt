@@ -15,26 +15,26 @@ const NOTHING: (u8, SkipReason) = (0, SkipReason::State);
 /// list.
 #[derive(Clone, Copy, PartialEq, Eq, Debug)]
 pub struct SkippedSlots {
-    places: [(u8, SkipReason); MAX_SKIPPED],
-    taken: usize,
+    elements: [(u8, SkipReason); MAX_SKIPPED],
+    used: usize,
 }
 
 impl Model for SkippedSlots {
     ghost use Rattle.std.specs.Prelude.{List, ℕ, take, length};
     ghost use Rattle.luks_verdict.specs.declared.refusal.SkipReason.{SkipReason};
-    ghost use Rattle.luks_open.specs.Skipped.{IsPadded, padded_to_32, filled_up_again};
+    ghost use Rattle.luks_open.specs.Skipped.{IsPadded, padded_to_32, padded_again};
 
     ghost Value = { List (ℕ × SkipReason) };
 
-    ghost view = { λ s. take s.taken s.places };
+    ghost view = { λ s. take s.used s.elements };
 
-    ghost invariant = { λ s. IsPadded s.places s.taken };
+    ghost invariant = { λ s. IsPadded s.elements s.used };
 
-    ghost inverse = { λ slots. record { places = padded_to_32 slots; taken = length slots } };
+    ghost inverse = { λ slots. record { elements = padded_to_32 slots; used = length slots } };
 
     ghost inverse_ok = { λ s filled.
-        filled_up_again (λ places taken. record { places = places; taken = taken })
-        s.places s.taken filled };
+        padded_again (λ elements used. record { elements = elements; used = used })
+        s.elements s.used filled };
 }
 
 impl SkippedSlots {
@@ -43,8 +43,8 @@ impl SkippedSlots {
         ensures { result ≡ [] }
     {
         SkippedSlots {
-            places: [NOTHING; MAX_SKIPPED],
-            taken: 0,
+            elements: [NOTHING; MAX_SKIPPED],
+            used: 0,
         }
     }
 
@@ -53,8 +53,8 @@ impl SkippedSlots {
         requires { length self.old < 32 }
         ensures { self.new ≡ self.old ++ (number, reason) ∷ [] }
     {
-        self.places[self.taken] = (number, reason);
-        self.taken += 1;
+        self.elements[self.used] = (number, reason);
+        self.used += 1;
     }
 
     /// The numbers of the key slots, each with the reason, by ascending number; at most 32.
@@ -62,6 +62,6 @@ impl SkippedSlots {
         ensures value { result.now ≡ self.now }
         ensures few { length self.now ≤ 32 }
     {
-        &self.places[..self.taken]
+        &self.elements[..self.used]
     }
 }

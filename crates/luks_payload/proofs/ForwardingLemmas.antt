@@ -11,7 +11,7 @@ use Rattle.luks_io.specs.Devices.{ConsumedExactly}
 use Rattle.luks_io.specs.Counts.{Reads}
 use Rattle.luks_io.specs.declared.counts.ReadCounts.{ReadCounts}
 use Rattle.luks_io.specs.Forwarding.{Forwarded}
-use Rattle.luks_io.proofs.Moves.{took-front}
+use Rattle.luks_io.proofs.Moves.{consumed-prefix}
 use Rattle.luks_payload.specs.SectorEffects.{BeginsWith, FilledSector, AbortsInSector}
 use Rattle.luks_payload.specs.Plain.{unit_plain}
 use Rattle.luks_payload.specs.declared.fault.VolumeFault.TheVariants.{Write}
@@ -43,24 +43,24 @@ unit_filled cipher number len got bytes buf unit long whole same is =
     is ∙ ap (sector_decrypted cipher.0 cipher.1 number) filled
 
 -- the first bytes of a sector were written, and then a piece behind them
-module _ (held len : ℕ) (front new old piece : List ℕ) (is : held ≡ min (length front) len) (sized : length old ≡ len)
-    (written : new ≡ take held front) where
+module _ (held len : ℕ) (prefix new old piece : List ℕ) (is : held ≡ min (length prefix) len) (sized : length old ≡ len)
+    (written : new ≡ take held prefix) where
   long : length new ≡ held
-  long = ap length written ∙ length-take-le held front (omega arith)
+  long = ap length written ∙ length-take-le held prefix (omega arith)
 
   whole : length (new ++ drop held old) ≡ len
   whole = length-append new (drop held old) ∙ (omega (arith, length-drop held old, long))
 
   pub rest_len
       : length piece ≡ length (take (length (new ++ drop held old) - held) (drop held (new ++ drop held old)))
-      → length piece ≡ len - min (length front) len
+      → length piece ≡ len - min (length prefix) len
   rest_len rest =
       let behind = length-drop held (new ++ drop held old) in
       rest ∙ length-take-le (length (new ++ drop held old) - held) (drop held (new ++ drop held old)) (omega arith)
       ∙ (omega (arith, whole))
 
   pub sector_is : put_mid held (length (new ++ drop held old) - held) (new ++ drop held old) piece
-      ≡ take (min (length front) len) front ++ piece
+      ≡ take (min (length prefix) len) prefix ++ piece
   sector_is =
       let none : drop (length (new ++ drop held old) - held) (drop held (new ++ drop held old)) ≡ [] =
       drop_all (length (new ++ drop held old) - held) (drop held (new ++ drop held old))
@@ -69,88 +69,88 @@ module _ (held len : ℕ) (front new old piece : List ℕ) (is : held ≡ min (l
       take-append-le held new (drop held old) (omega (arith, long)) ∙ take_all held new (omega (arith, long)) in
       ap (λ l. take held (new ++ drop held old) ++ (piece ++ l)) none
       ∙ ap (λ l. take held (new ++ drop held old) ++ l) (append-nil piece)
-      ∙ ap (λ l. l ++ piece) (first ∙ written ∙ ap (λ n. take n front) is)
+      ∙ ap (λ l. l ++ piece) (first ∙ written ∙ ap (λ n. take n prefix) is)
 
--- a sector that was filled with bytes of `front`, and then with those of a piece
-module _ (len : ℕ) (front piece sector : List ℕ) (is : sector ≡ take (min (length front) len) front ++ piece)
-    (rest : length piece ≡ len - min (length front) len) where
-  first_len : length (take (min (length front) len) front) ≡ min (length front) len
-  first_len = length-take-le (min (length front) len) front (omega arith)
+-- a sector that was filled with bytes of `prefix`, and then with those of a piece
+module _ (len : ℕ) (prefix piece sector : List ℕ) (is : sector ≡ take (min (length prefix) len) prefix ++ piece)
+    (rest : length piece ≡ len - min (length prefix) len) where
+  first_len : length (take (min (length prefix) len) prefix) ≡ min (length prefix) len
+  first_len = length-take-le (min (length prefix) len) prefix (omega arith)
 
-  begins_few : length front ≤ len → BeginsWith front sector
+  begins_few : length prefix ≤ len → BeginsWith prefix sector
   begins_few few =
-      let all : min (length front) len ≡ length front = omega arith in
-      let whole : sector ≡ front ++ piece = is ∙ ap (λ l. l ++ piece)
-      (ap (λ n. take n front) all ∙ take_all (length front) front (omega arith)) in
-      let size : length front ≤ length sector = omega (arith, ap length whole, length-append front piece) in
-      rw whole (take-append_seam front piece) ∙ sym (take_all (length sector) front size)
+      let all : min (length prefix) len ≡ length prefix = omega arith in
+      let whole : sector ≡ prefix ++ piece = is ∙ ap (λ l. l ++ piece)
+      (ap (λ n. take n prefix) all ∙ take_all (length prefix) prefix (omega arith)) in
+      let size : length prefix ≤ length sector = omega (arith, ap length whole, length-append prefix piece) in
+      rw whole (take-append_seam prefix piece) ∙ sym (take_all (length sector) prefix size)
 
-  begins_many : len < length front → BeginsWith front sector
+  begins_many : len < length prefix → BeginsWith prefix sector
   begins_many many =
       let size : length sector ≡ len = ap length is
-      ∙ length-append (take (min (length front) len) front) piece ∙ (omega (arith, first_len)) in
-      let part : sector ≡ take len front = sym (take_all len sector (omega arith))
+      ∙ length-append (take (min (length prefix) len) prefix) piece ∙ (omega (arith, first_len)) in
+      let part : sector ≡ take len prefix = sym (take_all len sector (omega arith))
       ∙ ap (take len) is
-      ∙ take-append-le len (take (min (length front) len) front) piece (omega (arith, first_len))
-      ∙ take_all len (take (min (length front) len) front) (omega (arith, first_len))
-      ∙ ap (λ n. take n front) (omega arith) in
-      take_all (length front) sector (omega arith) ∙ part ∙ ap (λ n. take n front) (sym size)
+      ∙ take-append-le len (take (min (length prefix) len) prefix) piece (omega (arith, first_len))
+      ∙ take_all len (take (min (length prefix) len) prefix) (omega (arith, first_len))
+      ∙ ap (λ n. take n prefix) (omega arith) in
+      take_all (length prefix) sector (omega arith) ∙ part ∙ ap (λ n. take n prefix) (sym size)
 
-  -- the sector starts with the bytes of `front`
-  pub begins : BeginsWith front sector
-  begins = elim (cases_lt len (length front)) [ inl many ↦ begins_many many | inr few ↦ begins_few few ]
+  -- the sector starts with the bytes of `prefix`
+  pub begins : BeginsWith prefix sector
+  begins = elim (cases_lt len (length prefix)) [ inl many ↦ begins_many many | inr few ↦ begins_few few ]
 
   module _ (known : List ℕ) (left' : Option (List ℕ)) (n : ℕ) (all : n ≡ min (length piece) (length known))
-      (same : take n piece ≡ take n known) (took : ConsumedExactly known left' n) where
-    filled_few : length front ≤ len → FilledSector len front known left' sector (min (length front) len + n)
+      (same : take n piece ≡ take n known) (consumption : ConsumedExactly known left' n) where
+    filled_few : length prefix ≤ len → FilledSector len prefix known left' sector (min (length prefix) len + n)
     filled_few few =
-        let held : min (length front) len ≡ length front = omega arith in
-        let whole : sector ≡ front ++ piece = is ∙ ap (λ l. l ++ piece)
-        (ap (λ n. take n front) held ∙ take_all (length front) front (omega arith)) in
-        let count : n ≡ length front + n - length front = omega arith in
+        let held : min (length prefix) len ≡ length prefix = omega arith in
+        let whole : sector ≡ prefix ++ piece = is ∙ ap (λ l. l ++ piece)
+        (ap (λ n. take n prefix) held ∙ take_all (length prefix) prefix (omega arith)) in
+        let count : n ≡ length prefix + n - length prefix = omega arith in
         rw held (record {
-          all = omega (arith, length-append front known);
-          bytes = ap (take (length front + n)) whole ∙ take-append-add front piece n
-              ∙ ap (λ l. front ++ l) same ∙ sym (take-append-add front known n);
-          took = subst (ConsumedExactly known left') count took;
+          all = omega (arith, length-append prefix known);
+          bytes = ap (take (length prefix + n)) whole ∙ take-append-add prefix piece n
+              ∙ ap (λ l. prefix ++ l) same ∙ sym (take-append-add prefix known n);
+          consumption = subst (ConsumedExactly known left') count consumption;
         })
 
-    filled_many : len < length front → FilledSector len front known left' sector (min (length front) len + n)
+    filled_many : len < length prefix → FilledSector len prefix known left' sector (min (length prefix) len + n)
     filled_many many =
-        let got : min (length front) len + n ≡ len = omega arith in
-        let none : n ≡ len - length front = omega arith in
+        let got : min (length prefix) len + n ≡ len = omega arith in
+        let none : n ≡ len - length prefix = omega arith in
         rw got (record {
-          all = omega (arith, length-append front known);
+          all = omega (arith, length-append prefix known);
           bytes = ap (take len) is
-              ∙ take-append-le len (take (min (length front) len) front) piece (omega (arith, first_len))
-              ∙ take_all len (take (min (length front) len) front) (omega (arith, first_len))
-              ∙ ap (λ n. take n front) (omega arith) ∙ sym (take-append-le len front known (omega arith));
-          took = subst (ConsumedExactly known left') none took;
+              ∙ take-append-le len (take (min (length prefix) len) prefix) piece (omega (arith, first_len))
+              ∙ take_all len (take (min (length prefix) len) prefix) (omega (arith, first_len))
+              ∙ ap (λ n. take n prefix) (omega arith) ∙ sym (take-append-le len prefix known (omega arith));
+          consumption = subst (ConsumedExactly known left') none consumption;
         })
 
     -- the sector continues with the bytes of the source
-    pub filled_sector : (held : ℕ) → held ≡ min (length front) len
-        → FilledSector len front known left' sector (held + n)
+    pub filled_sector : (held : ℕ) → held ≡ min (length prefix) len
+        → FilledSector len prefix known left' sector (held + n)
     filled_sector held first =
-        subst (λ m. FilledSector len front known left' sector (m + n)) (sym first)
-        (elim (cases_lt len (length front)) [ inl many ↦ filled_many many | inr few ↦ filled_few few ])
+        subst (λ m. FilledSector len prefix known left' sector (m + n)) (sym first)
+        (elim (cases_lt len (length prefix)) [ inl many ↦ filled_many many | inr few ↦ filled_few few ])
 
 -- the forwarded bytes are the next bytes of the source, if these are known
-passed_bytes : (known bytes : List ℕ) (left left' : Option (List ℕ)) (len : ℕ) → length bytes ≡ len
+forwarded_bytes : (known bytes : List ℕ) (left left' : Option (List ℕ)) (len : ℕ) → length bytes ≡ len
     → Consumes left left' bytes → left ≡ Some known → ConsumedExactly known left' len × (take len known ≡ bytes)
-passed_bytes known bytes left left' len sized taken is =
+forwarded_bytes known bytes left left' len sized consumed is =
     let whole : take len bytes ≡ bytes = take_all len bytes (omega arith) in
-    let took = took-front left left' bytes len (omega arith) (rw whole taken) known is in
-    (took.0, sym took.1 ∙ whole)
+    let consumption = consumed-prefix left left' bytes len (omega arith) (rw whole consumed) known is in
+    (consumption.0, sym consumption.1 ∙ whole)
 
--- a sector that was forwarded from the source, with an empty `front`
+-- a sector that was forwarded from the source, with an empty `prefix`
 module _ (cipher : Cipher) (number len : ℕ) (known : List ℕ) (left left' before after : Option (List ℕ)) where
   -- the write was aborted
-  pub stops_passed : (front : List ℕ) (written : ℕ) → length front ≡ 0 → written < len
+  pub write_aborted_forwarded : (prefix : List ℕ) (written : ℕ) → length prefix ≡ 0 → written < len
       → Forwarded len (λ bytes. take written (unit_plain cipher number bytes)) left left' before after
-      → left ≡ Some known → AbortsInSector cipher number len front known left' before after Write
-  stops_passed [] written none few passed is =
-      let p = passed_bytes known passed.0 left left' len passed.1 passed.2 is in
+      → left ≡ Some known → AbortsInSector cipher number len prefix known left' before after Write
+  write_aborted_forwarded [] written none few forwarded is =
+      let p = forwarded_bytes known forwarded.0 left left' len forwarded.1 forwarded.2 is in
       let all : len - 0 ≡ len = omega arith in
-      (rw all p.0, (written, few, rw p.1 passed.3))
-  stops_passed (x ∷ front) written none few passed is = absurd (omega arith)
+      (rw all p.0, (written, few, rw p.1 forwarded.3))
+  write_aborted_forwarded (x ∷ prefix) written none few forwarded is = absurd (omega arith)

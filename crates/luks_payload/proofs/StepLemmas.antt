@@ -32,114 +32,118 @@ use Rattle.luks_payload.proofs.SectorLemmas.{ends_at_end, ends_before, is_whole,
 
 module _ (s : Segment) (image : List ℕ) (count : ℕ) where
   -- an end with the specified answer is the effect of a step
-  steps_from_end : (cipher : Cipher) (reach : ℕ) (left' before after : Option (List ℕ))
+  steps_from_end : (cipher : Cipher) (already : ℕ) (left' before after : Option (List ℕ))
       (answer : Result Step VolumeFault) (len : ℕ) → answer ≡ ending_of_len s.size (sector_len s) len
-      → EndEffect image s count reach answer left' → StepEffect s cipher count reach image answer left' before after
-  steps_from_end cipher reach l b a answer len is =
-      rw is (by_ending (λ x. EndEffect image s count reach x l → StepEffect s cipher count reach image x l b a)
+      → EndEffect image s count already answer left'
+      → StepEffect s cipher count already image answer left' before after
+  steps_from_end cipher already l b a answer len is =
+      rw is (by_ending
+      (λ x. EndEffect image s count already x l → StepEffect s cipher count already image x l b a)
       (λ e. e) (λ n e. e) (λ n e. e) s.size (sector_len s) len)
 
-  module _ (front : List ℕ) (left : Option (List ℕ)) (stands : PositionedAt image front
+  module _ (prefix : List ℕ) (left : Option (List ℕ)) (positioned : PositionedAt image prefix
       (sector_start s count) left) where
-    there : sector_start s count + length front ≤ length image
-    there = stands.took.within
+    there : sector_start s count + length prefix ≤ length image
+    there = positioned.consumption.within
 
-    long : length (drop (sector_start s count + length front) image)
-        ≡ length image - (sector_start s count + length front)
-    long = length-drop (sector_start s count + length front) image
+    long : length (drop (sector_start s count + length prefix) image)
+        ≡ length image - (sector_start s count + length prefix)
+    long = length-drop (sector_start s count + length prefix) image
 
-    -- the bytes of `front` and the remaining ones are the image's next bytes
-    joined : front ++ drop (sector_start s count + length front) image ≡ drop (sector_start s count) image
+    -- the bytes of `prefix` and the remaining ones are the image's next bytes
+    joined : prefix ++ drop (sector_start s count + length prefix) image ≡ drop (sector_start s count) image
     joined =
-        ap (λ l. front ++ l) (sym (drop-drop (length front) (sector_start s count) image))
-        ∙ ap (λ l. l ++ drop (length front) (drop (sector_start s count) image)) stands.next
-        ∙ take-append-drop (length front) (drop (sector_start s count) image)
+        ap (λ l. prefix ++ l) (sym (drop-drop (length prefix) (sector_start s count) image))
+        ∙ ap (λ l. l ++ drop (length prefix) (drop (sector_start s count) image)) positioned.next
+        ∙ take-append-drop (length prefix) (drop (sector_start s count) image)
 
     -- the sector was consumed
-    pub takes_sector : (left' : Option (List ℕ)) → count < max_sectors s
-        → IfKnown left (λ rest. ConsumedExactly rest left' (sector_len s - length front))
-        → ConsumesSector image s count (sector_start s count + length front) left'
-    takes_sector left' below next =
+    pub sector_consumed : (left' : Option (List ℕ)) → count < max_sectors s
+        → IfKnown left (λ rest. ConsumedExactly rest left' (sector_len s - length prefix))
+        → ConsumesSector image s count (sector_start s count + length prefix) left'
+    sector_consumed left' below next =
         let least = (sector_blocks s.sector_size).long in
-        let within = (next (drop (sector_start s count + length front) image) stands.took.left).within in
+        let within = (next (drop (sector_start s count + length prefix) image) positioned.consumption.left).within in
         record {
           is_one = is_whole (sector_len s) (omega arith) s.size count (payload_len s image) below
               (omega (arith, there, long));
-          took = consumed_sum image left left' (sector_start s count + length front) (sector_len s - length front) _
-              (omega arith) stands.took next;
+          consumption = consumed_sum image left left' (sector_start s count + length prefix)
+              (sector_len s - length prefix) _ (omega arith) positioned.consumption next;
         }
 
     -- a read or a write failed
-    pub steps_broken : (cipher : Cipher) (left' before after : Option (List ℕ)) (fault : VolumeFault)
+    pub step_aborted : (cipher : Cipher) (left' before after : Option (List ℕ)) (fault : VolumeFault)
         → count < max_sectors s
-        → IfKnown left (λ rest. AbortsInSector cipher (unit_number s count) (sector_len s) front rest left' before
+        → IfKnown left (λ rest. AbortsInSector cipher (unit_number s count) (sector_len s) prefix rest left' before
         after fault)
-        → StepEffect s cipher count (sector_start s count + length front) image (Err fault) left' before after
-    steps_broken cipher left' b a Read below stops =
+        → StepEffect s cipher count (sector_start s count + length prefix) image (Err fault) left' before after
+    step_aborted cipher left' b a Read below stops =
         let least = (sector_blocks s.sector_size).long in
-        let (count', few, next) = stops (drop (sector_start s count + length front) image) stands.took.left in
+        let (count', few, next) = stops (drop (sector_start s count + length prefix) image)
+        positioned.consumption.left in
         let within = next.within in
         let end = is_within (sector_len s) (omega arith) s.size count s.offset (length image)
-        (sector_start s count + length front + count') below (omega arith) (omega (arith, there, long)) in (
-          sector_start s count + length front + count',
+        (sector_start s count + length prefix + count') below (omega arith) (omega (arith, there, long)) in (
+          sector_start s count + length prefix + count',
           omega arith,
           omega arith,
-          consumed_behind image left left' (sector_start s count + length front) count' stands.took next,
+          consumed_behind image left left' (sector_start s count + length prefix) count' positioned.consumption next,
         )
-    steps_broken cipher left' b a Write below stops =
-        let (next, more) = stops (drop (sector_start s count + length front) image) stands.took.left in (
-          takes_sector left' below (λ rest is. (stops rest is).0),
+    step_aborted cipher left' b a Write below stops =
+        let (next, more) = stops (drop (sector_start s count + length prefix) image) positioned.consumption.left in (
+          sector_consumed left' below (λ rest is. (stops rest is).0),
           rw joined at more,
         )
-    steps_broken cipher left' b a CutBeforePayload below stops =
-        absurd (stops (drop (sector_start s count + length front) image) stands.took.left)
-    steps_broken cipher left' b a (Tail _) below stops =
-        absurd (stops (drop (sector_start s count + length front) image) stands.took.left)
-    steps_broken cipher left' b a (Short _) below stops =
-        absurd (stops (drop (sector_start s count + length front) image) stands.took.left)
+    step_aborted cipher left' b a CutBeforePayload below stops =
+        absurd (stops (drop (sector_start s count + length prefix) image) positioned.consumption.left)
+    step_aborted cipher left' b a (Tail _) below stops =
+        absurd (stops (drop (sector_start s count + length prefix) image) positioned.consumption.left)
+    step_aborted cipher left' b a (Short _) below stops =
+        absurd (stops (drop (sector_start s count + length prefix) image) positioned.consumption.left)
 
     -- the sector's plaintext was written
-    pub adds_sector : (cipher : Cipher) (before after : Option (List ℕ))
+    pub sector_appended : (cipher : Cipher) (before after : Option (List ℕ))
         → IfKnown left (λ rest. Appended before after (unit_plain cipher (unit_number s count)
-        (take (sector_len s) (front ++ rest))))
+        (take (sector_len s) (prefix ++ rest))))
         → Appended before after (sector_plaintext s cipher image count)
-    adds_sector cipher b a adds =
-        rw joined at (adds (drop (sector_start s count + length front) image) stands.took.left)
+    sector_appended cipher b a adds =
+        rw joined at (adds (drop (sector_start s count + length prefix) image) positioned.consumption.left)
 
     -- the image ended before the sector did
     pub steps_torn : (cipher : Cipher) (left' before after : Option (List ℕ)) (answer : Result Step VolumeFault)
         (got : ℕ)
         → count < max_sectors s
-        → IfKnown left (λ rest. (got ≡ min (sector_len s) (length (front ++ rest)))
-        × ConsumedExactly rest left' (got - length front)) → got < sector_len s
+        → IfKnown left (λ rest. (got ≡ min (sector_len s) (length (prefix ++ rest)))
+        × ConsumedExactly rest left' (got - length prefix)) → got < sector_len s
         → answer ≡ ending_of_len s.size (sector_len s) (count * sector_len s + got)
-        → StepEffect s cipher count (sector_start s count + length front) image answer left' before after
+        → StepEffect s cipher count (sector_start s count + length prefix) image answer left' before after
     steps_torn cipher left' b a answer got below next torn is =
         let least = (sector_blocks s.sector_size).long in
         let some : 0 < sector_len s = omega arith in
-        let rest = drop (sector_start s count + length front) image in
+        let rest = drop (sector_start s count + length prefix) image in
         let whole : length image ≡ s.offset + (count * sector_len s + got) =
-        omega (arith, (next rest stands.took.left).0, length-append front rest, there, long) in
+        omega (arith, (next rest positioned.consumption.left).0, length-append prefix rest, there, long) in
         let len : payload_len s image ≡ count * sector_len s + got = omega arith in
         let behind : nat_lt (length image) s.offset ≡ false = le-ltb (length image) s.offset (omega arith) in
         let end : payload_end_of s image ≡ length image =
         ap (λ n. payload_end_in s.size s.offset n) whole
         ∙ ends_at_end (sector_len s) some s.size count got s.offset below torn ∙ sym whole in
-        let all : max (sector_start s count + length front) (length image) ≡ length image = omega (arith, there) in
-        let more : sector_start s count + length front + (got - length front) ≡ length image =
+        let all : max (sector_start s count + length prefix) (length image) ≡ length image = omega (arith, there) in
+        let more : sector_start s count + length prefix + (got - length prefix) ≡ length image =
         omega (arith, there) in
-        steps_from_end cipher (sector_start s count + length front) left' b a answer (count * sector_len s + got) is
+        steps_from_end cipher (sector_start s count + length prefix) left' b a answer (count * sector_len s + got) is
         (record {
           all = rw len (all_whole (sector_len s) some s.size count got below torn);
-          as_stated = rw (behind, len) is;
-          took = rw (end, all) (consumed_sum image left left' (sector_start s count + length front) (got - length front)
-              (length image) more stands.took (λ rest is. (next rest is).1));
+          as_specified = rw (behind, len) is;
+          consumption = rw (end, all) (consumed_sum image left left' (sector_start s count + length prefix)
+              (got - length prefix)
+              (length image) more positioned.consumption (λ rest is. (next rest is).1));
         })
 
     -- the limit is reached
     pub steps_at_limit : (cipher : Cipher) (before after : Option (List ℕ)) → count ≡ max_sectors s
         → length image < 2 ^ 64
-        → StepEffect s cipher count (sector_start s count + length front) image (Ok End) left before after
+        → StepEffect s cipher count (sector_start s count + length prefix) image (Ok End) left before after
     steps_at_limit cipher b a is few =
         let least = (sector_blocks s.sector_size).long in
         let some : 0 < sector_len s = omega arith in
@@ -149,12 +153,12 @@ module _ (s : Segment) (image : List ℕ) (count : ℕ) where
         (omega (arith, there)) (omega arith) in
         let end = at_limit_end (sector_len s) some s.size count s.offset (length image) least s.whole_sectors is from
         few in
-        let same : max (sector_start s count + length front) (s.offset + count * sector_len s)
-        ≡ sector_start s count + length front = omega arith in
+        let same : max (sector_start s count + length prefix) (s.offset + count * sector_len s)
+        ≡ sector_start s count + length prefix = omega arith in
         record {
           all = ends.0;
-          as_stated = rw behind (sym ends.1);
-          took = rw (end, same) stands.took;
+          as_specified = rw behind (sym ends.1);
+          consumption = rw (end, same) positioned.consumption;
         }
 
 -- the image ends in a sector: a step may give this answer, and hit the end if it gives it
@@ -203,85 +207,88 @@ module _ (s : Segment) (count : ℕ) (fault : VolumeFault) (only : (fault ≡ Re
 
 -- the effect of a skip, from the effect of discarding its bytes
 module _ (p : PumpModel) (image : List ℕ) (r r' : Option (List ℕ)) (early : p.consumed ≤ p.segment.offset)
-    (first : p.state ≡ BeforePayload) (bare : p.front ≡ []) (stands : PositionedIn image p r) where
+    (first : p.state ≡ BeforePayload) (bare : p.prefix ≡ []) (positioned : PositionedIn image p r) where
   from : consumed_by p ≡ p.consumed
   from = rw (first, bare) (omega arith)
 
-  took : ConsumedExactly image r p.consumed
-  took = subst (ConsumedExactly image r) from stands.stands.took
+  consumption : ConsumedExactly image r p.consumed
+  consumption = subst (ConsumedExactly image r) from positioned.positioned.consumption
 
   pub skips : (answer : Result (Unit {0}) VolumeFault)
       → OnOk answer (IfKnown r (λ rest. ConsumedExactly rest r' (p.segment.offset - p.consumed)))
       → IfErr answer (λ fault. IfKnown r (λ rest. AbortsDiscarding (p.segment.offset - p.consumed) rest r' fault))
       → SkipEffect p image answer r'
   skips (Ok _) ok err =
-      consumed_sum image r r' p.consumed (p.segment.offset - p.consumed) p.segment.offset (omega arith) took ok
+      consumed_sum image r r' p.consumed (p.segment.offset - p.consumed) p.segment.offset (omega arith) consumption ok
   skips (Err CutBeforePayload) ok err =
-      let (few, next) = err (drop p.consumed image) took.left in
+      let (few, next) = err (drop p.consumed image) consumption.left in
       let long = length-drop p.consumed image in
       let is : r' ≡ Some (drop (length image) image) = next.left
       ∙ ap Some (drop-drop (length (drop p.consumed image)) p.consumed image
-      ∙ ap (λ n. drop n image) (omega (arith, took.within))) in
-      (omega (arith, took.within), record { within = omega arith; left = is })
+      ∙ ap (λ n. drop n image) (omega (arith, consumption.within))) in
+      (omega (arith, consumption.within), record { within = omega arith; left = is })
   skips (Err Read) ok err =
-      let (count, few, next) = err (drop p.consumed image) took.left in
+      let (count, few, next) = err (drop p.consumed image) consumption.left in
       let long = length-drop p.consumed image in
       let within = next.within in (
         p.consumed + count,
         omega arith,
         omega arith,
-        record { within = omega (arith, took.within); left = next.left ∙ ap Some (drop-drop count p.consumed image) },
+        record {
+          within = omega (arith, consumption.within);
+          left = next.left ∙ ap Some (drop-drop count p.consumed image);
+        },
       )
-  skips (Err (Tail _)) ok err = absurd (err (drop p.consumed image) took.left)
-  skips (Err (Short _)) ok err = absurd (err (drop p.consumed image) took.left)
-  skips (Err Write) ok err = absurd (err (drop p.consumed image) took.left)
+  skips (Err (Tail _)) ok err = absurd (err (drop p.consumed image) consumption.left)
+  skips (Err (Short _)) ok err = absurd (err (drop p.consumed image) consumption.left)
+  skips (Err Write) ok err = absurd (err (drop p.consumed image) consumption.left)
 
 -- the pump with these parts
 abbrev pub pumped : Segment → Cipher → ℕ → ℕ → State → List ℕ → PumpModel
-pumped s cipher consumed count state front =
-    record { segment = s; cipher = cipher; consumed = consumed; count = count; state = state; front = front }
+pumped s cipher consumed count state prefix =
+    record { segment = s; cipher = cipher; consumed = consumed; count = count; state = state; prefix = prefix }
 
 -- a step whose skip failed
-module _ (s : Segment) (cipher : Cipher) (consumed count : ℕ) (front image : List ℕ)
+module _ (s : Segment) (cipher : Cipher) (consumed count : ℕ) (prefix image : List ℕ)
     (r r' before after : Option (List ℕ)) where
-  skip_broken : (fault : VolumeFault) → count ≡ 0 → consumed ≤ length image
-      → SkipEffect (pumped s cipher consumed count BeforePayload front) image (Err fault) r'
+  skip_aborted : (fault : VolumeFault) → count ≡ 0 → consumed ≤ length image
+      → SkipEffect (pumped s cipher consumed count BeforePayload prefix) image (Err fault) r'
       → StepEffect s cipher count consumed image (Err fault) r' before after
-  skip_broken CutBeforePayload none there (cut, took) =
+  skip_aborted CutBeforePayload none there (cut, consumption) =
       let len : payload_len s image ≡ 0 = omega arith in
       let yes : nat_lt (length image) s.offset ≡ true = lt-ltb (length image) s.offset cut in
       let all : max consumed (length image) ≡ length image = omega arith in
       record {
         all = rw len (none ∙ sym (none_whole s.size (sector_len s)));
-        as_stated = rw yes refl;
-        took = rw (ends_before s.size s.offset (length image) cut, all) took;
+        as_specified = rw yes refl;
+        consumption = rw (ends_before s.size s.offset (length image) cut, all) consumption;
       }
-  skip_broken Read none there (place, first, last, took) =
-      let end = before_end s.size s.offset (length image) place (omega arith) took.within in
-      (place, first, omega arith, took)
-  skip_broken (Tail _) none there stops = absurd stops
-  skip_broken (Short _) none there stops = absurd stops
-  skip_broken Write none there stops = absurd stops
+  skip_aborted Read none there (place, first, last, consumption) =
+      let end = before_end s.size s.offset (length image) place (omega arith) consumption.within in
+      (place, first, omega arith, consumption)
+  skip_aborted (Tail _) none there stops = absurd stops
+  skip_aborted (Short _) none there stops = absurd stops
+  skip_aborted Write none there stops = absurd stops
 
   pub steps_unskipped : (state : State) (fault : VolumeFault) (T : Type 0)
-      → PositionedIn image (pumped s cipher consumed count state front) r → SkipsAgain state (Err fault) T
-      → (state ≡ BeforePayload → (count ≡ 0) × (front ≡ []))
-      → (state ≡ BeforePayload → SkipEffect (pumped s cipher consumed count state front) image (Err fault) r')
-      → StepEffect s cipher count (consumed_by (pumped s cipher consumed count state front)) image
+      → PositionedIn image (pumped s cipher consumed count state prefix) r → SkipsAgain state (Err fault) T
+      → (state ≡ BeforePayload → (count ≡ 0) × (prefix ≡ []))
+      → (state ≡ BeforePayload → SkipEffect (pumped s cipher consumed count state prefix) image (Err fault) r')
+      → StepEffect s cipher count (consumed_by (pumped s cipher consumed count state prefix)) image
       (Err fault) r' before after
-  steps_unskipped BeforePayload fault T stands again none stops =
-      let from : consumed + length front ≡ consumed = rw (none refl).1 (omega arith) in
-      let within = stands.stands.took.within in
+  steps_unskipped BeforePayload fault T positioned again none stops =
+      let from : consumed + length prefix ≡ consumed = rw (none refl).1 (omega arith) in
+      let within = positioned.positioned.consumption.within in
       subst (λ n. StepEffect s cipher count n image (Err fault) r' before after) (sym from)
-      (skip_broken fault (none refl).0 (omega arith) (stops refl))
-  steps_unskipped InPayload fault T stands again none stops =
+      (skip_aborted fault (none refl).0 (omega arith) (stops refl))
+  steps_unskipped InPayload fault T positioned again none stops =
       let same = again.0 in
       cc
-  steps_unskipped Ended fault T stands again none stops =
-      let not = stands.running in
+  steps_unskipped Ended fault T positioned again none stops =
+      let not = positioned.running in
       cc
-  steps_unskipped (Faulted _) fault T stands again none stops =
-      let not = stands.running in
+  steps_unskipped (Faulted _) fault T positioned again none stops =
+      let not = positioned.running in
       cc
 
 -- if a skip failed, a running pump was before its payload
@@ -310,59 +317,61 @@ start_in_end None offset len whole = whole
 start_in_end (Some size) offset len whole = omega arith
 
 -- the effect of a step from the payload's start on is also the effect of one from an earlier offset
-module _ (s : Segment) (cipher : Cipher) (count reach : ℕ) (image : List ℕ) (l b a : Option (List ℕ))
-    (early : reach ≤ s.offset) (there : s.offset ≤ length image) where
+module _ (s : Segment) (cipher : Cipher) (count already : ℕ) (image : List ℕ) (l b a : Option (List ℕ))
+    (early : already ≤ s.offset) (there : s.offset ≤ length image) where
   ends_earlier : (answer : Result Step VolumeFault) → EndEffect image s count s.offset answer l
-      → EndEffect image s count reach answer l
+      → EndEffect image s count already answer l
   ends_earlier answer ends =
       let end = start_in_end s.size s.offset (length image) there in
-      let same : max s.offset (payload_end_of s image) ≡ max reach (payload_end_of s image) = omega arith in
-      record { all = ends.all; as_stated = ends.as_stated; took = rw same at ends.took }
+      let same : max s.offset (payload_end_of s image) ≡ max already (payload_end_of s image) = omega arith in
+      record { all = ends.all; as_specified = ends.as_specified; consumption = rw same at ends.consumption }
 
-  takes_earlier : ConsumesSector image s count s.offset l → ConsumesSector image s count reach l
+  takes_earlier : ConsumesSector image s count s.offset l → ConsumesSector image s count already l
   takes_earlier takes =
-      let same : max s.offset (sector_start s (count + 1)) ≡ max reach (sector_start s (count + 1)) = omega arith in
-      record { is_one = takes.is_one; took = rw same at takes.took }
+      let same : max s.offset (sector_start s (count + 1)) ≡ max already (sector_start s (count + 1)) =
+      omega arith in
+      record { is_one = takes.is_one; consumption = rw same at takes.consumption }
 
   steps_earlier : (answer : Result Step VolumeFault) → StepEffect s cipher count s.offset image answer l b a
-      → StepEffect s cipher count reach image answer l b a
+      → StepEffect s cipher count already image answer l b a
   steps_earlier (Ok Sector) (takes, adds) =
       (takes_earlier takes, adds)
   steps_earlier (Ok End) ends = ends_earlier (Ok End) ends
   steps_earlier (Err CutBeforePayload) ends = ends_earlier (Err CutBeforePayload) ends
   steps_earlier (Err (Tail bytes)) ends = ends_earlier (Err (Tail bytes)) ends
   steps_earlier (Err (Short bytes)) ends = ends_earlier (Err (Short bytes)) ends
-  steps_earlier (Err Read) (n, first, last, took) = (n, omega arith, last, took)
+  steps_earlier (Err Read) (n, first, last, consumption) = (n, omega arith, last, consumption)
   steps_earlier (Err Write) (takes, adds) =
       (takes_earlier takes, adds)
 
 -- a step continues where its skip left the source
-module _ (s : Segment) (cipher : Cipher) (consumed count : ℕ) (front image : List ℕ)
+module _ (s : Segment) (cipher : Cipher) (consumed count : ℕ) (prefix image : List ℕ)
     (r r' r'' before after : Option (List ℕ)) (answer : Result Step VolumeFault) where
   pub steps_skipped : (state : State) (T : Type 0)
-      → PositionedIn image (pumped s cipher consumed count state front) r → consumed ≤ s.offset
+      → PositionedIn image (pumped s cipher consumed count state prefix) r → consumed ≤ s.offset
       → SkipsAgain state (Ok tt) T
-      → (T → r' ≡ r) → (state ≡ BeforePayload → (count ≡ 0) × (front ≡ []))
-      → (state ≡ BeforePayload → SkipEffect (pumped s cipher consumed count state front) image (Ok tt) r')
-      → (PositionedAt image front (sector_start s count) r'
-      → StepEffect s cipher count (sector_start s count + length front) image answer r'' before after)
-      → StepEffect s cipher count (consumed_by (pumped s cipher consumed count state front)) image answer r'' before
+      → (T → r' ≡ r) → (state ≡ BeforePayload → (count ≡ 0) × (prefix ≡ []))
+      → (state ≡ BeforePayload → SkipEffect (pumped s cipher consumed count state prefix) image (Ok tt) r')
+      → (PositionedAt image prefix (sector_start s count) r'
+      → StepEffect s cipher count (sector_start s count + length prefix) image answer r'' before after)
+      → StepEffect s cipher count (consumed_by (pumped s cipher consumed count state prefix)) image answer r'' before
       after
-  steps_skipped BeforePayload T stands early again same none skipped steps =
+  steps_skipped BeforePayload T positioned early again same none skipped steps =
       let (first, bare) = none refl in
-      let took = skipped refl in
-      let start : s.offset ≡ sector_start s count + length front = rw (first, bare) (omega arith) in
-      let next : front ≡ take (length front) (drop (sector_start s count) image) = rw bare refl in
-      let from : consumed + length front ≤ s.offset = rw bare (omega arith) in
-      steps_earlier s cipher count (consumed + length front) image r'' before after from took.within answer
+      let consumption = skipped refl in
+      let start : s.offset ≡ sector_start s count + length prefix = rw (first, bare) (omega arith) in
+      let next : prefix ≡ take (length prefix) (drop (sector_start s count) image) = rw bare refl in
+      let from : consumed + length prefix ≤ s.offset = rw bare (omega arith) in
+      steps_earlier s cipher count (consumed + length prefix) image r'' before after from consumption.within answer
       (subst (λ n. StepEffect s cipher count n image answer r'' before after) (sym start)
-      (steps (record { next = next; took = subst (ConsumedExactly image r') start took })))
-  steps_skipped InPayload T stands early again same none skipped steps = steps (rw (same again.1) stands.stands)
-  steps_skipped Ended T stands early again same none skipped steps =
-      let not = stands.running in
+      (steps (record { next = next; consumption = subst (ConsumedExactly image r') start consumption })))
+  steps_skipped InPayload T positioned early again same none skipped steps = steps
+      (rw (same again.1) positioned.positioned)
+  steps_skipped Ended T positioned early again same none skipped steps =
+      let not = positioned.running in
       absurd (cc)
-  steps_skipped (Faulted _) T stands early again same none skipped steps =
-      let not = stands.running in
+  steps_skipped (Faulted _) T positioned early again same none skipped steps =
+      let not = positioned.running in
       absurd (cc)
 
 -- if a skip succeeded and the pump has not ended, it is in its payload, and was before it or in it already

@@ -23,7 +23,7 @@ pub record PumpModel : Type 0 where
   pub consumed : ℕ
   pub count : ℕ
   pub state : State
-  pub front : List ℕ
+  pub prefix : List ℕ
 
 -- a pump in this state has neither ended nor failed
 abbrev pub is_running : State → Bool
@@ -44,12 +44,12 @@ position p = next_offset p.state p.consumed (sector_start p.segment p.count)
 
 -- the number of bytes of the image that were consumed
 abbrev pub consumed_by : PumpModel → ℕ
-consumed_by p = position p + length p.front
+consumed_by p = position p + length p.prefix
 
 -- a pump is running, and is in an image whose other bytes remain in the source
 pub record PositionedIn (image : List ℕ) (pump : PumpModel) (left' : Option (List ℕ)) : Type 0 where
   pub running : IsTrue (is_running pump.state)
-  pub stands : PositionedAt image pump.front (position pump) left'
+  pub positioned : PositionedAt image pump.prefix (position pump) left'
 
 -- the state of a pump after a skip
 abbrev pub state_after_skip : {T : Type 0} → State → Result T VolumeFault → State
@@ -79,7 +79,7 @@ SkipEffect p image (Err Write) left = ⊥
 -- a pump after a step
 abbrev pub after_step : PumpModel → Result Step VolumeFault → PumpModel
 after_step p (Ok Sector) =
-    record p { count = p.count + 1; state = InPayload; front = drop (sector_len p.segment) p.front }
+    record p { count = p.count + 1; state = InPayload; prefix = drop (sector_len p.segment) p.prefix }
 after_step p (Ok End) = record p { state = Ended }
 after_step p (Err fault) = record p { state = Faulted fault }
 
@@ -127,34 +127,35 @@ hits_eof_at s count (Err (Short _)) = true
 hits_eof_at s count (Err Read) = false
 hits_eof_at s count (Err Write) = false
 
--- sector `count` was consumed from the image, of which `reach` bytes had been consumed before, and nothing past it
-pub record ConsumesSector (image : List ℕ) (segment : Segment) (count reach : ℕ) (left : Option (List ℕ)) : Type 0 where
+-- sector `count` was consumed from the image, of which `already` bytes had been consumed before, and nothing past it
+pub record ConsumesSector (image : List ℕ) (segment : Segment) (count already : ℕ) (left : Option (List ℕ))
+    : Type 0 where
   pub is_one : count < sectors_of segment image
-  pub took : ConsumedExactly image left (max reach (sector_start segment (count + 1)))
+  pub consumption : ConsumedExactly image left (max already (sector_start segment (count + 1)))
 
 -- the payload came to its specified end after `count` sectors, and all of it was consumed from an image of which
--- `reach` bytes had been consumed before
-pub record EndEffect (image : List ℕ) (segment : Segment) (count reach : ℕ) (answer : Result Step VolumeFault)
+-- `already` bytes had been consumed before
+pub record EndEffect (image : List ℕ) (segment : Segment) (count already : ℕ) (answer : Result Step VolumeFault)
     (left : Option (List ℕ)) : Type 0 where
   pub all : count ≡ sectors_of segment image
-  pub as_stated : answer ≡ ending_of segment image
-  pub took : ConsumedExactly image left (max reach (payload_end_of segment image))
+  pub as_specified : answer ≡ ending_of segment image
+  pub consumption : ConsumedExactly image left (max already (payload_end_of segment image))
 
--- the effect of a step after `count` sectors, in an image of which `reach` bytes had been consumed before
+-- the effect of a step after `count` sectors, in an image of which `already` bytes had been consumed before
 abbrev pub StepEffect : Segment → Cipher → ℕ → ℕ → List ℕ → Result Step VolumeFault → Option (List ℕ) → Option (List ℕ)
     → Option (List ℕ) → Type 0
-StepEffect s cipher count reach image (Ok Sector) left before after =
-    ConsumesSector image s count reach left × Appended before after (sector_plaintext s cipher image count)
-StepEffect s cipher count reach image (Ok End) left before after = EndEffect image s count reach (Ok End) left
-StepEffect s cipher count reach image (Err CutBeforePayload) left before after =
-    EndEffect image s count reach (Err CutBeforePayload) left
-StepEffect s cipher count reach image (Err (Tail bytes)) left before after = EndEffect image s count reach (Err
-    (Tail bytes)) left
-StepEffect s cipher count reach image (Err (Short bytes)) left before after =
-    EndEffect image s count reach (Err (Short bytes)) left
-StepEffect s cipher count reach image (Err Read) left before after =
-    ConsumedBetween image left reach (min (sector_start s (count + 1)) (payload_end_of s image + 1))
-StepEffect s cipher count reach image (Err Write) left before after =
-    ConsumesSector image s count reach left
+StepEffect s cipher count already image (Ok Sector) left before after =
+    ConsumesSector image s count already left × Appended before after (sector_plaintext s cipher image count)
+StepEffect s cipher count already image (Ok End) left before after = EndEffect image s count already (Ok End) left
+StepEffect s cipher count already image (Err CutBeforePayload) left before after =
+    EndEffect image s count already (Err CutBeforePayload) left
+StepEffect s cipher count already image (Err (Tail bytes)) left before after =
+    EndEffect image s count already (Err (Tail bytes)) left
+StepEffect s cipher count already image (Err (Short bytes)) left before after =
+    EndEffect image s count already (Err (Short bytes)) left
+StepEffect s cipher count already image (Err Read) left before after =
+    ConsumedBetween image left already (min (sector_start s (count + 1)) (payload_end_of s image + 1))
+StepEffect s cipher count already image (Err Write) left before after =
+    ConsumesSector image s count already left
     × ((written : ℕ) × (written < sector_len s) × Appended before after (take written
     (sector_plaintext s cipher image count)))

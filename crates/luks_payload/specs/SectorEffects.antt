@@ -31,64 +31,64 @@ AbortsDiscarding count known left (Tail _) = ⊥
 AbortsDiscarding count known left (Short _) = ⊥
 AbortsDiscarding count known left Write = ⊥
 
--- the bytes of an image at this offset are `front`, and those behind them remain in the source
-pub record PositionedAt (image front : List ℕ) (place : ℕ) (left' : Option (List ℕ)) : Type 0 where
-  pub next : front ≡ take (length front) (drop place image)
-  pub took : ConsumedExactly image left' (place + length front)
+-- the bytes of an image at this offset are `prefix`, and those behind them remain in the source
+pub record PositionedAt (image prefix : List ℕ) (place : ℕ) (left' : Option (List ℕ)) : Type 0 where
+  pub next : prefix ≡ take (length prefix) (drop place image)
+  pub consumption : ConsumedExactly image left' (place + length prefix)
 
--- a unit starts with the bytes of `front`, as far as both have bytes
+-- a unit starts with the bytes of `prefix`, as far as both have bytes
 abbrev pub BeginsWith : List ℕ → List ℕ → Type 0
-BeginsWith front unit = take (length front) unit ≡ take (length unit) front
+BeginsWith prefix unit = take (length prefix) unit ≡ take (length unit) prefix
 
--- the plaintext was written of some unit of `len` bytes that starts with the bytes of `front`
+-- the plaintext was written of some unit of `len` bytes that starts with the bytes of `prefix`
 abbrev pub AppendsUnit : Cipher → ℕ → ℕ → List ℕ → Option (List ℕ) → Option (List ℕ) → Type 0
-AppendsUnit cipher number len front before after = (unit : List ℕ) × (length unit ≡ len) × BeginsWith front unit
+AppendsUnit cipher number len prefix before after = (unit : List ℕ) × (length unit ≡ len) × BeginsWith prefix unit
     × Appended before after (unit_plain cipher number unit)
 
--- a sector was filled with `got` bytes: those of `front`, and then the next ones of the source
-pub record FilledSector (len : ℕ) (front known : List ℕ) (left' : Option (List ℕ)) (sector : List ℕ) (got : ℕ)
+-- a sector was filled with `got` bytes: those of `prefix`, and then the next ones of the source
+pub record FilledSector (len : ℕ) (prefix known : List ℕ) (left' : Option (List ℕ)) (sector : List ℕ) (got : ℕ)
     : Type 0 where
-  pub all : got ≡ min len (length (front ++ known))
-  pub bytes : take got sector ≡ take got (front ++ known)
-  pub took : ConsumedExactly known left' (got - length front)
+  pub all : got ≡ min len (length (prefix ++ known))
+  pub bytes : take got sector ≡ take got (prefix ++ known)
+  pub consumption : ConsumedExactly known left' (got - length prefix)
 
 -- forwarding a sector of `len` bytes was aborted
 abbrev pub AbortsInSector : Cipher → ℕ → ℕ → List ℕ → List ℕ → Option (List ℕ) → Option (List ℕ) → Option (List ℕ)
     → VolumeFault → Type 0
-AbortsInSector cipher number len front known left before after Read = ConsumedFewer known left (len - length front)
-AbortsInSector cipher number len front known left before after Write =
-    ConsumedExactly known left (len - length front)
+AbortsInSector cipher number len prefix known left before after Read = ConsumedFewer known left (len - length prefix)
+AbortsInSector cipher number len prefix known left before after Write =
+    ConsumedExactly known left (len - length prefix)
     × ((count : ℕ) × (count < len)
-    × Appended before after (take count (unit_plain cipher number (take len (front ++ known)))))
-AbortsInSector cipher number len front known left before after CutBeforePayload = ⊥
-AbortsInSector cipher number len front known left before after (Tail _) = ⊥
-AbortsInSector cipher number len front known left before after (Short _) = ⊥
+    × Appended before after (take count (unit_plain cipher number (take len (prefix ++ known)))))
+AbortsInSector cipher number len prefix known left before after CutBeforePayload = ⊥
+AbortsInSector cipher number len prefix known left before after (Tail _) = ⊥
+AbortsInSector cipher number len prefix known left before after (Short _) = ⊥
 
--- the sector with this unit number, which starts with the bytes of `front`, was consumed, and was written if it is
+-- the sector with this unit number, which starts with the bytes of `prefix`, was consumed, and was written if it is
 -- whole: it has `got` bytes
-pub record SectorForwarded (cipher : Cipher) (number len : ℕ) (front : List ℕ) (got : ℕ)
+pub record SectorForwarded (cipher : Cipher) (number len : ℕ) (prefix : List ℕ) (got : ℕ)
     (left left' before after : Option (List ℕ)) (unwritten : Type 0) : Type 0 where
   pub most : got ≤ len
-  pub taken : IfKnown left
-      (λ known. (got ≡ min len (length (front ++ known))) × ConsumedExactly known left' (got - length front))
+  pub consumed : IfKnown left
+      (λ known. (got ≡ min len (length (prefix ++ known))) × ConsumedExactly known left' (got - length prefix))
   pub written : got ≡ len
-      → IfKnown left (λ known. Appended before after (unit_plain cipher number (take got (front ++ known))))
-  pub whole : got ≡ len → AppendsUnit cipher number len front before after
+      → IfKnown left (λ known. Appended before after (unit_plain cipher number (take got (prefix ++ known))))
+  pub whole : got ≡ len → AppendsUnit cipher number len prefix before after
   pub torn : got < len → unwritten
 
 -- a read or a write of that sector failed
-pub record SectorAborted (cipher : Cipher) (number len : ℕ) (front : List ℕ) (fault : VolumeFault)
+pub record SectorAborted (cipher : Cipher) (number len : ℕ) (prefix : List ℕ) (fault : VolumeFault)
     (left left' before after : Option (List ℕ)) (unwritten : Type 0) : Type 0 where
-  pub known : IfKnown left (λ known. AbortsInSector cipher number len front known left' before after fault)
+  pub known : IfKnown left (λ known. AbortsInSector cipher number len prefix known left' before after fault)
   pub unread : fault ≡ Read → unwritten
   pub only : (fault ≡ Read) ⊎ (fault ≡ Write)
 
 -- the effect of forwarding that sector
 abbrev pub SectorEffect : Cipher → ℕ → ℕ → List ℕ → Result ℕ VolumeFault → Option (List ℕ) → Option (List ℕ)
     → Option (List ℕ) → Option (List ℕ) → Type 0 → Type 0
-SectorEffect cipher number len front answer left left' before after unwritten = MatchResult answer
-    (λ got. SectorForwarded cipher number len front got left left' before after unwritten)
-    (λ fault. SectorAborted cipher number len front fault left left' before after unwritten)
+SectorEffect cipher number len prefix answer left left' before after unwritten = MatchResult answer
+    (λ got. SectorForwarded cipher number len prefix got left left' before after unwritten)
+    (λ fault. SectorAborted cipher number len prefix fault left left' before after unwritten)
 
 -- the largest number of sectors that are forwarded: those of a payload of fixed size, or otherwise 2^64 - 1
 abbrev pub max_sectors_of : Option ℕ → ℕ → ℕ

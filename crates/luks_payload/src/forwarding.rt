@@ -40,27 +40,27 @@ pub(crate) fn discard<S: Source>(
     Ok(())
 }
 
-/// Fills a sector with the bytes of `front`, and then with the next ones of the source. Returns the
-/// number of bytes, which is less than the sector's only if the source is at its end.
+/// Fills a sector with the bytes of `prefix`, and then with the next ones of the source. Returns
+/// the number of bytes, which is less than the sector's only if the source is at its end.
 fn fill_sector<S: Source>(
-    front: &[u8],
+    prefix: &[u8],
     sector: &mut [u8],
     source: &mut S,
 ) -> Result<usize, VolumeFault>
     ensures most { IfOk result (λ got. got ≤ length sector.old) }
     ensures filled_sector { IfOk result (λ got. IfKnown (S.to_come source.old)
-        (λ known. FilledSector (length sector.old) front.now known (S.to_come source.new)
+        (λ known. FilledSector (length sector.old) prefix.now known (S.to_come source.new)
         sector.new got)) }
-    ensures begins { IfOk result (λ got. BeginsWith front.now sector.new) }
+    ensures begins { IfOk result (λ got. BeginsWith prefix.now sector.new) }
     ensures err { IfErr result (λ fault. IfKnown (S.to_come source.old)
         (λ known. ConsumedFewer known (S.to_come source.new)
-        (length sector.old - length front.now))) }
+        (length sector.old - length prefix.now))) }
     ensures only { IfErr result (λ fault. fault ≡ VolumeFault.Read) }
     ensures reads { Reads (is_pump_read_failure result) (is_short_read result (length sector.old))
         (S.counts source.old) (S.counts source.new) }
 {
-    let held = front.len().min(sector.len());
-    sector[..held].copy_from_slice(&front[..held]);
+    let held = prefix.len().min(sector.len());
+    sector[..held].copy_from_slice(&prefix[..held]);
     let got = fill(source, &mut sector[held..])?;
     Ok(held + got)
 }
@@ -70,7 +70,7 @@ fn fill_sector<S: Source>(
 fn forward_filled<S: Source, O: Sink>(
     cipher: &SectorCipher,
     number: u64,
-    front: &[u8],
+    prefix: &[u8],
     sector: &mut [u8],
     source: &mut S,
     sink: &mut O,
@@ -78,7 +78,7 @@ fn forward_filled<S: Source, O: Sink>(
     requires whole_blocks { length sector.old % 16 ≡ 0 }
     requires shortest { 16 ≤ length sector.old }
     requires longest { length sector.old ≤ 4096 }
-    ensures forwards { SectorEffect cipher.now number (length sector.old) front.now result
+    ensures forwards { SectorEffect cipher.now number (length sector.old) prefix.now result
         (S.to_come source.old) (S.to_come source.new) (O.written sink.old) (O.written sink.new)
         (sink.new ≡ sink.old) }
     ensures reads { Reads (is_pump_read_failure result) (is_short_read result (length sector.old))
@@ -86,7 +86,7 @@ fn forward_filled<S: Source, O: Sink>(
     ensures writes { Writes (is_pump_write_failure result)
         (O.counts sink.old) (O.counts sink.new) }
 {
-    let got = fill_sector(front, sector, source)?;
+    let got = fill_sector(prefix, sector, source)?;
     if got < sector.len() {
         return Ok(got);
     }
@@ -95,13 +95,13 @@ fn forward_filled<S: Source, O: Sink>(
     Ok(got)
 }
 
-/// Consumes the sector with this unit number, which starts with the bytes of `front`, and writes
-/// its plaintext if it is whole. The sector is decrypted in the source if `front` is empty and the
+/// Consumes the sector with this unit number, which starts with the bytes of `prefix`, and writes
+/// its plaintext if it is whole. The sector is decrypted in the source if `prefix` is empty and the
 /// source has all of it buffered, and otherwise in `sector`. Returns the number of bytes.
 pub(crate) fn forward_sector<S: Source, O: Sink>(
     cipher: &SectorCipher,
     number: u64,
-    front: &[u8],
+    prefix: &[u8],
     sector: &mut [u8],
     source: &mut S,
     sink: &mut O,
@@ -109,7 +109,7 @@ pub(crate) fn forward_sector<S: Source, O: Sink>(
     requires whole_blocks { length sector.old % 16 ≡ 0 }
     requires shortest { 16 ≤ length sector.old }
     requires longest { length sector.old ≤ 4096 }
-    ensures forwards { SectorEffect cipher.now number (length sector.old) front.now result
+    ensures forwards { SectorEffect cipher.now number (length sector.old) prefix.now result
         (S.to_come source.old) (S.to_come source.new) (O.written sink.old) (O.written sink.new)
         (sink.new ≡ sink.old) }
     ensures reads { Reads (is_pump_read_failure result) (is_short_read result (length sector.old))
@@ -117,14 +117,14 @@ pub(crate) fn forward_sector<S: Source, O: Sink>(
     ensures writes { Writes (is_pump_write_failure result)
         (O.counts sink.old) (O.counts sink.new) }
 {
-    // The bytes of `front` are not in the source: a sector that starts with them is filled in the
+    // The bytes of `prefix` are not in the source: a sector that starts with them is filled in the
     // buffer.
-    if front.is_empty() {
+    if prefix.is_empty() {
         let decryption = Decryption { cipher, number };
         if let Some(answer) = source.forward_buffered(sector.len(), &decryption, sink) {
             answer?;
             return Ok(sector.len());
         }
     }
-    forward_filled(cipher, number, front, sector, source, sink)
+    forward_filled(cipher, number, prefix, sector, source, sink)
 }

@@ -23,7 +23,7 @@ use luks_verdict::segment::Segment;
 use std::marker::Model;
 
 /// The capacity for the longest sector.
-const ROOM: usize = 4096;
+const CAPACITY: usize = 4096;
 
 /// Forwards a payload, sector by sector. It buffers one sector and allocates nothing.
 ///
@@ -37,8 +37,8 @@ pub struct Pump<'a> {
     consumed: u64,
     count: u64,
     state: State,
-    front: &'a [u8],
-    buffer: [u8; ROOM],
+    prefix: &'a [u8],
+    buffer: [u8; CAPACITY],
 }
 
 impl<'a> Model for Pump<'a> {
@@ -56,21 +56,21 @@ impl<'a> Model for Pump<'a> {
           consumed = p.consumed;
           count = p.count;
           state = p.state;
-          front = p.front.now;
+          prefix = p.prefix.now;
         } };
 
     ghost invariant = { λ p. (p.consumed ≤ p.segment.offset) × (p.count ≤ max_sectors p.segment)
-        × (p.state ≡ BeforePayload → (p.count ≡ 0) × (p.front.now ≡ [])) };
+        × (p.state ≡ BeforePayload → (p.count ≡ 0) × (p.prefix.now ≡ [])) };
 }
 
-/// Forwards the sector of this number, which starts with the bytes of `front`, or reports how the
+/// Forwards the sector of this number, which starts with the bytes of `prefix`, or reports how the
 /// payload ends before it. The buffer is long enough for the sector.
 fn next_sector<S: Source, O: Sink>(
     segment: &Segment,
     cipher: &SectorCipher,
     count: u64,
-    front: &[u8],
-    buffer: &mut [u8; ROOM],
+    prefix: &[u8],
+    buffer: &mut [u8; CAPACITY],
     source: &mut S,
     sink: &mut O,
 ) -> Result<Step, VolumeFault>
@@ -79,12 +79,12 @@ fn next_sector<S: Source, O: Sink>(
         → (result ≡ Ok Step.End) × (source.new ≡ source.old) × (sink.new ≡ sink.old) }
     ensures only { MayAnswer State.InPayload segment.now count result }
     ensures run { (image : List ℕ) → length image < 2 ^ 64
-        → PositionedAt image front.now (sector_start segment.now count) (S.to_come source.old)
+        → PositionedAt image prefix.now (sector_start segment.now count) (S.to_come source.old)
         → StepEffect segment.now cipher.now count
-        (sector_start segment.now count + length front.now)
+        (sector_start segment.now count + length prefix.now)
         image result (S.to_come source.new) (O.written sink.old) (O.written sink.new) }
     ensures writes_sectors { WritesSectors result (AppendsUnit cipher.now
-        (unit_number segment.now count) (sector_len segment.now) front.now
+        (unit_number segment.now count) (sector_len segment.now) prefix.now
         (O.written sink.old) (O.written sink.new)) (sink.new ≡ sink.old) }
     ensures reads { Reads (is_pump_read_failure result) (hits_eof_at segment.now count result)
         (S.counts source.old) (S.counts source.new) }
@@ -98,7 +98,7 @@ fn next_sector<S: Source, O: Sink>(
     let got = forward_sector(
         cipher,
         number(segment, count),
-        front,
+        prefix,
         &mut buffer[..size],
         source,
         sink,
@@ -120,7 +120,7 @@ impl<'a> Pump<'a> {
           consumed = consumed;
           count = 0;
           state = State.BeforePayload;
-          front = [];
+          prefix = [];
         } }
     {
         Pump {
@@ -129,21 +129,21 @@ impl<'a> Pump<'a> {
             consumed,
             count: 0,
             state: State::BeforePayload,
-            front: &[],
-            buffer: [0; ROOM],
+            prefix: &[],
+            buffer: [0; CAPACITY],
         }
     }
 
     /// A pump for this payload and this cipher, and for an image of which the payload's first
-    /// bytes, `front`, are consumed already. They come before those that remain in the source.
-    pub fn with_front(segment: Segment, cipher: SectorCipher, front: &'a [u8]) -> Pump<'a>
+    /// bytes, `prefix`, are consumed already. They come before those that remain in the source.
+    pub fn with_loaded(segment: Segment, cipher: SectorCipher, prefix: &'a [u8]) -> Pump<'a>
         ensures { result ≡ record {
           segment = segment;
           cipher = cipher;
           consumed = segment.offset;
           count = 0;
           state = State.InPayload;
-          front = front.now;
+          prefix = prefix.now;
         } }
     {
         Pump {
@@ -152,8 +152,8 @@ impl<'a> Pump<'a> {
             consumed: segment.offset,
             count: 0,
             state: State::InPayload,
-            front,
-            buffer: [0; ROOM],
+            prefix,
+            buffer: [0; CAPACITY],
         }
     }
 
@@ -174,7 +174,7 @@ impl<'a> Pump<'a> {
         ensures only { self.old.state ≡ State.BeforePayload → IfErr result (λ fault.
             (fault ≡ VolumeFault.CutBeforePayload) ⊎ (fault ≡ VolumeFault.Read)) }
         ensures fresh { self.old.state ≡ State.BeforePayload
-            → (self.old.count ≡ 0) × (self.old.front ≡ []) }
+            → (self.old.count ≡ 0) × (self.old.prefix ≡ []) }
         ensures reads { is_running self.old.state ≡ true
             → Reads (is_pump_read_failure result) (is_cut result)
             (S.counts source.old) (S.counts source.new) }
@@ -203,8 +203,8 @@ impl<'a> Pump<'a> {
         match answer {
             Ok(Step::Sector) => {
                 let size = self.segment.sector_size.bytes();
-                let held = size.min(self.front.len());
-                self.front = &self.front[held..];
+                let held = size.min(self.prefix.len());
+                self.prefix = &self.prefix[held..];
                 self.count += 1;
             }
             Ok(Step::End) => self.state = State::Ended,
@@ -240,7 +240,7 @@ impl<'a> Pump<'a> {
             → MayAnswer self.old.state self.old.segment self.old.count result }
         ensures writes_sectors { WritesSectors result (AppendsUnit self.old.cipher
             (unit_number self.old.segment self.old.count) (sector_len self.old.segment)
-            self.old.front (O.written sink.old) (O.written sink.new)) (sink.new ≡ sink.old) }
+            self.old.prefix (O.written sink.old) (O.written sink.new)) (sink.new ≡ sink.old) }
         ensures reads { is_running self.old.state ≡ true → Reads (is_pump_read_failure result)
             (hits_eof_at self.old.segment self.old.count result)
             (S.counts source.old) (S.counts source.new) }
@@ -255,7 +255,7 @@ impl<'a> Pump<'a> {
             &self.segment,
             &self.cipher,
             self.count,
-            self.front,
+            self.prefix,
             &mut self.buffer,
             source,
             sink,

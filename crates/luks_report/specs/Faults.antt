@@ -6,7 +6,7 @@ use Rattle.luks_area.specs.declared.fault.HeaderFault.TheVariants.{Read as Heade
 use Rattle.luks_open.specs.declared.fault.OpenFault.{OpenFault}
 use Rattle.luks_open.specs.declared.fault.OpenFault.TheVariants.{NoSuchSlot as NotThere, Disabled, NamedSkipped}
 use Rattle.luks_open.specs.declared.fault.OpenFault.TheVariants.{NothingTried as NoneTried, NoKey as NoneOpens}
-use Rattle.luks_open.specs.declared.fault.OpenFault.TheVariants.{Memory as NoRoom}
+use Rattle.luks_open.specs.declared.fault.OpenFault.TheVariants.{Memory as NoCapacity}
 use Rattle.luks_payload.specs.declared.fault.VolumeFault.{VolumeFault}
 use Rattle.luks_payload.specs.declared.fault.VolumeFault.TheVariants.{CutBeforePayload as IsCutBefore, Tail as HasTail}
 use Rattle.luks_payload.specs.declared.fault.VolumeFault.TheVariants.{Short as IsShort, Read, Write}
@@ -44,7 +44,7 @@ message_for_opening named Disabled = SlotDisabled (number_named named)
 message_for_opening named (NamedSkipped reason) = SlotSkipped (number_named named) reason
 message_for_opening named (NoneTried skipped) = NothingTried skipped
 message_for_opening named (NoneOpens skipped) = NoKey skipped
-message_for_opening named NoRoom = OutOfMemory
+message_for_opening named NoCapacity = OutOfMemory
 
 -- the message if forwarding the payload failed, or the payload is not whole
 abbrev pub message_for_payload : VolumeFault → Message

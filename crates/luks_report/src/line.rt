@@ -6,13 +6,13 @@ use itoa::Buffer;
 use std::marker::Model;
 
 /// The capacity of a line in bytes: more than any message needs.
-const ROOM: usize = 2048;
+const CAPACITY: usize = 2048;
 
 /// A line that is built piece by piece. Its view is its bytes.
 #[derive(Drop)]
 pub struct Line {
-    places: [u8; ROOM],
-    taken: usize,
+    bytes: [u8; CAPACITY],
+    used: usize,
 }
 
 impl Model for Line {
@@ -20,9 +20,9 @@ impl Model for Line {
 
     ghost Value = { List ℕ };
 
-    ghost view = { λ line. take line.taken line.places };
+    ghost view = { λ line. take line.used line.bytes };
 
-    ghost invariant = { λ line. line.taken ≤ 2048 };
+    ghost invariant = { λ line. line.used ≤ 2048 };
 }
 
 impl Line {
@@ -31,8 +31,8 @@ impl Line {
         ensures { result ≡ [] }
     {
         Line {
-            places: [0; ROOM],
-            taken: 0,
+            bytes: [0; CAPACITY],
+            used: 0,
         }
     }
 
@@ -41,9 +41,9 @@ impl Line {
         requires { length self.old + length text.now ≤ 2048 }
         ensures { self.new ≡ self.old ++ text.now }
     {
-        let end = self.taken + text.len();
-        self.places[self.taken..end].copy_from_slice(text.as_bytes());
-        self.taken = end;
+        let end = self.used + text.len();
+        self.bytes[self.used..end].copy_from_slice(text.as_bytes());
+        self.used = end;
     }
 
     /// Appends a number in decimal digits.
@@ -60,6 +60,6 @@ impl Line {
     pub fn as_slice(&self) -> &[u8]
         ensures { result.now ≡ self.now }
     {
-        &self.places[..self.taken]
+        &self.bytes[..self.used]
     }
 }

@@ -9,9 +9,9 @@ use Rattle.luks_runs.specs.Location.{reader_for}
 use Rattle.luks_runs.specs.declared.location.HeaderLocation.{HeaderLocation}
 use Rattle.luks_runs.specs.declared.location.HeaderLocation.TheVariants.{Attached, Detached}
 
-pub cost_there : (image : List ℕ) → header_read_len image ≤ length image
+pub header_read_len_within : (image : List ℕ) → header_read_len image ≤ length image
 unfolding header_read_len
-cost_there image = by (is_luks1 image) refl
+header_read_len_within image = by (is_luks1 image) refl
   where
     by : (b : Bool) → is_luks1 image ≡ b → header_read_len image ≤ length image
     by true is = rw is (omega arith)
@@ -20,7 +20,7 @@ cost_there image = by (is_luks1 image) refl
 -- the header was read
 pub consumed_header : (image : List ℕ) (left : Option (List ℕ)) → left ≡ Some (drop (header_read_len image) image)
     → ConsumedExactly image left (header_read_len image)
-consumed_header image left is = record { within = cost_there image; left = is }
+consumed_header image left is = record { within = header_read_len_within image; left = is }
 
 -- if no attached header can be read, no detached one can either
 pub reading_fault : (location : HeaderLocation) (image : List ℕ) (fault : HeaderFault) → header_of image ≡ Err fault

@@ -11,7 +11,7 @@ use Rattle.luks_area.specs.declared.fault.HeaderFault.TheVariants.{NotLuks as No
 use Rattle.luks_area.specs.declared.fault.HeaderFault.TheVariants.{Read, Memory}
 use Rattle.luks_report.specs.declared.message.Message.{Message}
 use Rattle.luks_report.specs.declared.message.Message.TheVariants.{Done, OutOfMemory, ReadFailed, WriteFailed}
-use Rattle.luks_runs.specs.HeaderOutcome.{answer_to_is_luks}
+use Rattle.luks_runs.specs.HeaderOutcome.{message_for_is_luks}
 use Rattle.luks_report.specs.Faults.{message_for_header}
 use Rattle.luks_runs.specs.RunOutcome.{Outcome, no_output}
 use Rattle.luks_runs.specs.RunMessages.{CheckMessage, PrintoutMessage}
@@ -27,52 +27,53 @@ use Rattle.luks_runs.specs.Run.{RunMatches, ConsumedNothing, AnyPace, is_run_wri
 use Rattle.luks_runs.proofs.RunLemmas.{aborted_unwritten}
 
 -- the message after a text was printed is one of the messages that the printout may end with
-pub told_may_end : (printout : Printout) (header : Header) → PrintoutMessage printout (printout_message printout header)
+pub printout_message_allowed : (printout : Printout) (header : Header) → PrintoutMessage printout
+    (printout_message printout header)
 unfolding message_for_check
-told_may_end Uuid header = tt
-told_may_end Dump header = tt
-told_may_end Check header = by (length (findings_of header) == 0) refl where
+printout_message_allowed Uuid header = tt
+printout_message_allowed Dump header = tt
+printout_message_allowed Check header = by (length (findings_of header) == 0) refl where
   by : (b : Bool) → (length (findings_of header) == 0) ≡ b → CheckMessage (message_for_check header)
   by true is = rw is tt
   by false is = rw is tt
 
 -- the message after a text was printed is not that of a failed write
-pub told_unfailed : (printout : Printout) (header : Header)
+pub printout_message_not_write : (printout : Printout) (header : Header)
     → is_run_write_failure (printout_message printout header) ≡ false
 unfolding message_for_check
-told_unfailed Uuid header = refl
-told_unfailed Dump header = refl
-told_unfailed Check header = by (length (findings_of header) == 0) refl where
+printout_message_not_write Uuid header = refl
+printout_message_not_write Dump header = refl
+printout_message_not_write Check header = by (length (findings_of header) == 0) refl where
   by : (b : Bool) → (length (findings_of header) == 0) ≡ b → is_run_write_failure (message_for_check header) ≡ false
   by true is = rw is refl
   by false is = rw is refl
 
 -- if the text was written, it was printed, with its message
-pub told_prints : (printout : Printout) (header : Header) (text : List ℕ) (before after : Option (List ℕ))
+pub printout_written : (printout : Printout) (header : Header) (text : List ℕ) (before after : Option (List ℕ))
     → text ≡ printout_text printout header → Appended before after text
     → Prints (printout_text printout header) (printout_message printout header) before after
     (printout_message printout header)
 unfolding message_for_check
-told_prints Uuid header text before after is a = (refl, rw is at a)
-told_prints Dump header text before after is a = (refl, rw is at a)
-told_prints Check header text before after is a = by (length (findings_of header) == 0) refl where
+printout_written Uuid header text before after is a = (refl, rw is at a)
+printout_written Dump header text before after is a = (refl, rw is at a)
+printout_written Check header text before after is a = by (length (findings_of header) == 0) refl where
   by : (b : Bool) → (length (findings_of header) == 0) ≡ b
       → Prints (check_of header) (message_for_check header) before after (message_for_check header)
   by true none = rw none (refl, rw is at a)
   by false some = rw some (refl, rw is at a)
 
-module _ (location : HeaderLocation) (text : Header → List ℕ) (told : Header → Message) (image : List ℕ)
+module _ (location : HeaderLocation) (text : Header → List ℕ) (message_for : Header → Message) (image : List ℕ)
     (i w : Option (List ℕ)) where
   -- the header was read
   module _ (header : Header) (found : reader_for location image
       ≡ Ok header) (left : ConsumedExactly image i (header_read_len image)) where
-    print_found : print_outcome_by (reader_for location) text told image
-        ≡ record (no_output (told header) (header_read_len image) 0) { output = text header }
+    print_found : print_outcome_by (reader_for location) text message_for image
+        ≡ record (no_output (message_for header) (header_read_len image) 0) { output = text header }
     unfolding print_outcome_by
     print_found = rw found refl
 
     -- memory for the text of the header ran out
-    runs_without_text : RunMatches AnyPace (print_outcome_by (reader_for location) text told image) OutOfMemory
+    runs_without_text : RunMatches AnyPace (print_outcome_by (reader_for location) text message_for image) OutOfMemory
         (ConsumedExactly image i) ConsumedNothing
         (Appended w w)
     runs_without_text =
@@ -80,8 +81,9 @@ module _ (location : HeaderLocation) (text : Header → List ℕ) (told : Header
         (aborted_unwritten (header_read_len image) 0 refl (omega arith) tt (omega arith) (omega arith) left refl)
 
     -- the text was printed, whole or in part
-    pub runs_with_text : (message : Message) (w' : Option (List ℕ)) → Prints (text header) (told header) w w' message
-        → RunMatches AnyPace (print_outcome_by (reader_for location) text told image) message
+    pub runs_with_text : (message : Message) (w' : Option (List ℕ)) → Prints (text header) (message_for header) w w'
+        message
+        → RunMatches AnyPace (print_outcome_by (reader_for location) text message_for image) message
         (ConsumedExactly image i) ConsumedNothing
         (Appended w w')
     runs_with_text OutOfMemory w' same = rw same runs_without_text
@@ -100,46 +102,47 @@ module _ (location : HeaderLocation) (text : Header → List ℕ) (told : Header
     })
     runs_with_text ReadFailed w' lost = absurd lost
     runs_with_text _ w' all =
-        rw print_found (record { as_stated = all.0; image = left; secret = refl; output = all.1 })
+        rw print_found (record { as_specified = all.0; image = left; secret = refl; output = all.1 })
 
-  print_cost : (print_outcome_by (reader_for location) text told image).image_consumed ≡ header_read_len image
+  print_read_len : (print_outcome_by (reader_for location) text message_for image).image_consumed ≡ header_read_len
+      image
   unfolding print_outcome_by
-  print_cost = refl
+  print_read_len = refl
 
   print_none : (fault : HeaderFault) → header_of image ≡ Err fault
-      → print_outcome_by (reader_for location) text told image
+      → print_outcome_by (reader_for location) text message_for image
       ≡ no_output (message_for_header fault) (header_read_len image) 0
   unfolding print_outcome_by
   print_none fault found = rw (reading_fault location image fault found) refl
 
   -- the image has no readable header, or reading it failed
   pub runs_without_header : (ends ends' : ℕ) (fault : HeaderFault) → AbortsReading image i ends ends' fault
-      → RunMatches AnyPace (print_outcome_by (reader_for location) text told image) (message_for_header fault)
+      → RunMatches AnyPace (print_outcome_by (reader_for location) text message_for image) (message_for_header fault)
       (ConsumedExactly image i) ConsumedNothing (Appended w w)
   runs_without_header ends ends' NoLuks stop =
       rw (print_none NoLuks stop.0) (record
-      { as_stated = refl; image = stop.1.0; secret = refl; output = adds-none w })
+      { as_specified = refl; image = stop.1.0; secret = refl; output = adds-none w })
   runs_without_header ends ends' IsCut stop =
       rw (print_none IsCut stop.0) (record
-      { as_stated = refl; image = stop.1.0; secret = refl; output = adds-none w })
+      { as_specified = refl; image = stop.1.0; secret = refl; output = adds-none w })
   runs_without_header ends ends' NoJson stop =
       rw (print_none NoJson stop.0) (record
-      { as_stated = refl; image = stop.1.0; secret = refl; output = adds-none w })
+      { as_specified = refl; image = stop.1.0; secret = refl; output = adds-none w })
   runs_without_header ends ends' Read stop =
       let some = stop.0 in
-      aborted_unwritten some.0 0 tt (omega arith) tt (omega (arith, some.1, print_cost)) (omega arith) some.2 refl
+      aborted_unwritten some.0 0 tt (omega arith) tt (omega (arith, some.1, print_read_len)) (omega arith) some.2 refl
   runs_without_header ends ends' Memory stop =
       let some = memory_below image i ends ends' stop in
-      aborted_unwritten some.0 0 refl (omega arith) tt (omega (arith, some.1, print_cost)) (omega arith) some.2 refl
+      aborted_unwritten some.0 0 refl (omega arith) tt (omega (arith, some.1, print_read_len)) (omega arith) some.2 refl
 
 module _ (image : List ℕ) (i w : Option (List ℕ)) where
-  asked_cost : (is_luks_outcome image).image_consumed ≡ header_read_len image
+  is_luks_read_len : (is_luks_outcome image).image_consumed ≡ header_read_len image
   unfolding is_luks_outcome
-  asked_cost = refl
+  is_luks_read_len = refl
 
   asked : (answer : Result Header HeaderFault) → header_of image ≡ answer
       → is_luks_outcome image
-      ≡ no_output (answer_to_is_luks answer) (header_read_len image) 0
+      ≡ no_output (message_for_is_luks answer) (header_read_len image) 0
   unfolding is_luks_outcome
   asked answer found = rw found refl
 
@@ -148,24 +151,25 @@ module _ (image : List ℕ) (i w : Option (List ℕ)) where
       → RunMatches AnyPace (is_luks_outcome image) Done (ConsumedExactly image i) ConsumedNothing (Appended w w)
   is_luks_found header found left =
       rw (asked (Ok header) found) (record
-      { as_stated = refl; image = left; secret = refl; output = adds-none w })
+      { as_specified = refl; image = left; secret = refl; output = adds-none w })
 
   -- `isLuks` of an image without a readable header, or if reading the header failed
   pub is_luks_refused : (ends ends' : ℕ) (fault : HeaderFault) → AbortsReading image i ends ends' fault
-      → RunMatches AnyPace (is_luks_outcome image) (answer_to_is_luks (Err fault))
+      → RunMatches AnyPace (is_luks_outcome image) (message_for_is_luks (Err fault))
       (ConsumedExactly image i) ConsumedNothing (Appended w w)
   is_luks_refused ends ends' NoLuks stop =
       rw (asked (Err NoLuks) stop.0) (record
-      { as_stated = refl; image = stop.1.0; secret = refl; output = adds-none w })
+      { as_specified = refl; image = stop.1.0; secret = refl; output = adds-none w })
   is_luks_refused ends ends' IsCut stop =
       rw (asked (Err IsCut) stop.0) (record
-      { as_stated = refl; image = stop.1.0; secret = refl; output = adds-none w })
+      { as_specified = refl; image = stop.1.0; secret = refl; output = adds-none w })
   is_luks_refused ends ends' NoJson stop =
       rw (asked (Err NoJson) stop.0) (record
-      { as_stated = refl; image = stop.1.0; secret = refl; output = adds-none w })
+      { as_specified = refl; image = stop.1.0; secret = refl; output = adds-none w })
   is_luks_refused ends ends' Read stop =
       let some = stop.0 in
-      aborted_unwritten some.0 0 tt (omega arith) tt (omega (arith, some.1, asked_cost)) (omega arith) some.2 refl
+      aborted_unwritten some.0 0 tt (omega arith) tt (omega (arith, some.1, is_luks_read_len)) (omega arith) some.2 refl
   is_luks_refused ends ends' Memory stop =
       let some = memory_below image i ends ends' stop in
-      aborted_unwritten some.0 0 refl (omega arith) tt (omega (arith, some.1, asked_cost)) (omega arith) some.2 refl
+      aborted_unwritten some.0 0 refl (omega arith) tt (omega (arith, some.1, is_luks_read_len)) (omega arith) some.2
+      refl

@@ -2,7 +2,7 @@
 use Rattle.std.proofs.Common.{◌≡◌, ℕ, ◌+◌, ◌-◌, ◌*◌, ◌<◌, ◌≤◌, List, [], ◌++◌, true, false, suc, length-take-le, Option}
 use Rattle.std.proofs.Common.{Some, ◌∙◌, ap, sym, refl, take, drop, length, length-drop, arith, zero-mul}
 use Rattle.std.proofs.lemmas.List.{take-append-drop}
-use Rattle.luks_io.proofs.Consuming.{adds-none, took-none, consumed_behind}
+use Rattle.luks_io.proofs.Consuming.{adds-none, consumed-none, consumed_behind}
 use Rattle.luks_io.specs.Devices.{Appended, ConsumedExactly, IfKnown}
 use Rattle.std.proofs.lemmas.Bool.Decides.{nat_tests}
 use Rattle.std.proofs.Math.Nat.{mul-le-mul_right}
@@ -21,8 +21,9 @@ use Rattle.luks_runs.proofs.RunLemmas.{aborted_unwritten}
 use Rattle.luks_runs.proofs.StripeLemmas.{is_stripe}
 
 -- before any byte is consumed
-pub taken_none : (bytes : List ℕ) (s : Option (List ℕ)) (len : ℕ) → s ≡ Some bytes → ConsumedExactly bytes s (0 * len)
-taken_none bytes s len is = rw zero-mul (took-none bytes s is)
+pub consumed_no_stripes : (bytes : List ℕ) (s : Option (List ℕ)) (len : ℕ) → s ≡ Some bytes → ConsumedExactly bytes s
+    (0 * len)
+consumed_no_stripes bytes s len is = rw zero-mul (consumed-none bytes s is)
 
 module _ (bytes : List ℕ) (i len : ℕ) (s : Option (List ℕ)) (p : ConsumedExactly bytes s (i * len)) where
   -- one whole stripe more
@@ -63,10 +64,10 @@ module _ (h : Hash) (count len : ℕ) (bytes : List ℕ) where
       ≡ false = grind (arith, nat_tests) in rw no_more refl
 
   -- merging consumes at least as many bytes as are both needed and there
-  taken_within : (taken : ℕ) → taken ≤ count * len → taken ≤ length bytes
-      → taken ≤ (merge_outcome h count len bytes).image_consumed
+  merge_consumes_within : (consumed : ℕ) → consumed ≤ count * len → consumed ≤ length bytes
+      → consumed ≤ (merge_outcome h count len bytes).image_consumed
   unfolding merge_outcome
-  taken_within taken needed there = grind (arith, nat_tests)
+  merge_consumes_within consumed needed there = grind (arith, nat_tests)
 
 -- there were too few stripes, or a read of them failed
 pub runs_without_stripes : (h : Hash) (count len : ℕ) (bytes : List ℕ) (message : Message) (s w : Option (List ℕ))
@@ -75,9 +76,9 @@ pub runs_without_stripes : (h : Hash) (count len : ℕ) (bytes : List ℕ) (mess
     (Appended w w)
 runs_without_stripes h count len bytes FewStripes s w stop =
     rw (stripes_few h count len bytes stop.0) (record
-    { as_stated = refl; image = stop.1; secret = refl; output = adds-none w })
+    { as_specified = refl; image = stop.1; secret = refl; output = adds-none w })
 runs_without_stripes h count len bytes ReadFailed s w stop =
-    aborted_unwritten stop.0 0 tt (omega arith) tt (taken_within h count len bytes stop.0 stop.1 stop.2.within)
+    aborted_unwritten stop.0 0 tt (omega arith) tt (merge_consumes_within h count len bytes stop.0 stop.1 stop.2.within)
     (omega arith) stop.2 refl
 runs_without_stripes h count len bytes _ s w stop = absurd stop
 
@@ -88,7 +89,7 @@ module _ (h : Hash) (count len : ℕ) (bytes : List ℕ) (s w w' : Option (List 
   pub runs_to_end : Appended w w' key → Completed (merge_outcome h count len bytes) Done
       (ConsumedExactly bytes s) ConsumedNothing (Appended w w')
   runs_to_end a = rw (stripes_enough h count len bytes p.within, ← key_is)
-      (record { as_stated = refl; image = p; secret = refl; output = a })
+      (record { as_specified = refl; image = p; secret = refl; output = a })
 
   -- a write failed within the key
   pub runs_without_key : (n : ℕ) → n < length key → Appended w w' (take n key)
@@ -116,19 +117,19 @@ pub key_merged : (h : Hash) (count len : ℕ) (bytes : List ℕ) (splitter : AfS
     → key ≡ xor splitter.block stripe
     → key ≡ merged h len (take (count * len) bytes)
 key_merged h count len bytes splitter stripe key some one there chained next made =
-    let front = take (count * len) bytes in
+    let prefix = take (count * len) bytes in
     let before = count - 1 in
-    let whole : length front ≡ count * len = length-take-le (count * len) bytes there in
+    let whole : length prefix ≡ count * len = length-take-le (count * len) bytes there in
     let fewer : before * len ≤ count * len = mul-le-mul_right len (omega arith) in
     let all : suc before ≡ count = omega arith in
     let up : suc before * len ≡ count * len = ap (λ n. n * len) all in
-    let joined : front ++ drop (count * len) bytes ≡ bytes = take-append-drop (count * len) bytes in
-    let same_chain : chain_of h len bytes before ≡ chain_of h len front before =
+    let joined : prefix ++ drop (count * len) bytes ≡ bytes = take-append-drop (count * len) bytes in
+    let same_chain : chain_of h len bytes before ≡ chain_of h len prefix before =
     ap (λ l. chain_of h len l before) (sym joined)
-    ∙ chain_of-append h len front (drop (count * len) bytes) before (omega arith) in
-    let same_stripe : stripe_at len bytes before ≡ stripe_at len front before =
+    ∙ chain_of-append h len prefix (drop (count * len) bytes) before (omega arith) in
+    let same_stripe : stripe_at len bytes before ≡ stripe_at len prefix before =
     ap (λ l. stripe_at len l before) (sym joined)
-    ∙ stripe_at-append len front (drop (count * len) bytes) before (omega arith) in
+    ∙ stripe_at-append len prefix (drop (count * len) bytes) before (omega arith) in
     made ∙ ap (λ (s : AfSplitterModel). xor s.block stripe) chained ∙ ap (λ d. xor d stripe) same_chain
-    ∙ ap (xor (chain_of h len front before)) (next ∙ same_stripe)
-    ∙ sym (merged_by_number h len front count some whole)
+    ∙ ap (xor (chain_of h len prefix before)) (next ∙ same_stripe)
+    ∙ sym (merged_by_number h len prefix count some whole)

@@ -83,10 +83,10 @@ within_end None offset len n some few = omega arith
 within_end (Some size) offset len n some few = omega arith
 
 -- an offset within whole sectors of a payload is within the payload
-place_in_size : (size : Option ℕ) (offset len n place : ℕ) → place ≤ offset + n → n ≤ payload_bytes size (len - offset)
+offset_in_size : (size : Option ℕ) (offset len n place : ℕ) → place ≤ offset + n → n ≤ payload_bytes size (len - offset)
     → place ≤ len → place ≤ payload_end_in size offset len
-place_in_size None offset len n place few there within = within
-place_in_size (Some size) offset len n place few there within = omega arith
+offset_in_size None offset len n place few there within = within
+offset_in_size (Some size) offset len n place few there within = omega arith
 
 end_there : (size : Option ℕ) (offset len : ℕ) → payload_end_in size offset len ≤ len
 end_there None offset len = omega arith
@@ -134,46 +134,46 @@ module _ (s : Segment) (image : List ℕ) where
 -- ---- a running pump
 
 -- what remains of the prefix after one more sector is the start of the remaining image
-front_behind : (front image : List ℕ) (start z : ℕ) → front ≡ take (length front) (drop start image)
-    → drop z front ≡ take (length (drop z front)) (drop (start + z) image)
-front_behind front image start z next = elim (cases_lt z (length front)) [
+prefix_after_sector : (prefix image : List ℕ) (start z : ℕ) → prefix ≡ take (length prefix) (drop start image)
+    → drop z prefix ≡ take (length (drop z prefix)) (drop (start + z) image)
+prefix_after_sector prefix image start z next = elim (cases_lt z (length prefix)) [
   | inl many ↦
-      let more : length front ≡ z + (length front - z) = omega arith in
-      let rest : drop z front ≡ take (length front - z) (drop (start + z) image) =
+      let more : length prefix ≡ z + (length prefix - z) = omega arith in
+      let rest : drop z prefix ≡ take (length prefix - z) (drop (start + z) image) =
       ap (drop z) next ∙ ap (λ n. drop z (take n (drop start image))) more
-      ∙ drop-take z (length front - z) (drop start image)
-      ∙ ap (take (length front - z)) (drop-drop z start image) in
-      rest ∙ ap (λ n. take n (drop (start + z) image)) (sym (length-drop z front))
-  | inr few ↦ let none : drop z front ≡ [] = drop_all z front (omega arith) in rw none refl
+      ∙ drop-take z (length prefix - z) (drop start image)
+      ∙ ap (take (length prefix - z)) (drop-drop z start image) in
+      rest ∙ ap (λ n. take n (drop (start + z) image)) (sym (length-drop z prefix))
+  | inr few ↦ let none : drop z prefix ≡ [] = drop_all z prefix (omega arith) in rw none refl
 ]
 
 -- in every state, a pump that consumed at most `start` bytes is not past offset `start`
-place_le : (state : State) (consumed start : ℕ) → consumed ≤ start → next_offset state consumed start ≤ start
-place_le BeforePayload consumed start few = few
-place_le InPayload consumed start few = omega arith
-place_le Ended consumed start few = omega arith
-place_le (Faulted _) consumed start few = omega arith
+next_offset_le : (state : State) (consumed start : ℕ) → consumed ≤ start → next_offset state consumed start ≤ start
+next_offset_le BeforePayload consumed start few = few
+next_offset_le InPayload consumed start few = omega arith
+next_offset_le Ended consumed start few = omega arith
+next_offset_le (Faulted _) consumed start few = omega arith
 
 -- a pump on an image of which `loaded` bytes were consumed before; the sectors that it forwarded are written
 pub record Forwarding (p : PumpModel) (image : List ℕ) (loaded : ℕ) (left before after : Option (List ℕ)) : Type 0 where
-  pub stands : PositionedIn image p left
+  pub positioned : PositionedIn image p left
   pub early : p.consumed ≤ p.segment.offset
-  pub bare : ((p.count ≡ 0) × (p.front ≡ [])) ⊎ (p.state ≡ InPayload)
-  pub reach : consumed_by p ≡ max loaded (position p)
+  pub bare : ((p.count ≡ 0) × (p.prefix ≡ [])) ⊎ (p.state ≡ InPayload)
+  pub consumed_to : consumed_by p ≡ max loaded (position p)
   pub few : p.count ≤ sectors_of p.segment image
   pub wrote : Appended before after (joined (sector_plaintext p.segment p.cipher image) p.count)
 
 pub forwarding_start : (p : PumpModel) (image : List ℕ) (loaded : ℕ) (left w : Option (List ℕ)) → p.count ≡ 0
-    → p.consumed ≤ p.segment.offset → ((p.state ≡ BeforePayload) × (p.front ≡ [])) ⊎ (p.state ≡ InPayload)
+    → p.consumed ≤ p.segment.offset → ((p.state ≡ BeforePayload) × (p.prefix ≡ [])) ⊎ (p.state ≡ InPayload)
     → consumed_by p ≡ loaded
     → PositionedIn image p left
     → Forwarding p image loaded left w w
 unfolding joined
-forwarding_start p image loaded left w none early bare reach stands = record {
-  stands = stands;
+forwarding_start p image loaded left w none early bare consumed_to positioned = record {
+  positioned = positioned;
   early = early;
   bare = elim bare [ inl empty ↦ inl (none, empty.1) | inr is ↦ inr is ];
-  reach = omega arith;
+  consumed_to = omega arith;
   few = omega arith;
   wrote = rw none (adds-none w);
 }
@@ -185,37 +185,38 @@ module _ (p : PumpModel) (image : List ℕ) (loaded : ℕ) (l b w l' w' : Option
     place : position p ≤ sector_start p.segment p.count
     place =
         let early = so_far.early in
-        place_le p.state p.consumed (sector_start p.segment p.count) (omega arith)
+        next_offset_le p.state p.consumed (sector_start p.segment p.count) (omega arith)
 
     next_start : sector_start p.segment (p.count + 1) ≡ sector_start p.segment p.count + sector_len p.segment
     next_start = omega arith
 
     -- after the next sector, the bytes up to its end are consumed, or the loaded ones if those are more
-    reached : max (consumed_by p) (sector_start p.segment (p.count + 1))
+    consumed_after : max (consumed_by p) (sector_start p.segment (p.count + 1))
         ≡ max loaded (sector_start p.segment (p.count + 1))
-    reached = omega (arith, so_far.reach, place, next_start)
+    consumed_after = omega (arith, so_far.consumed_to, place, next_start)
 
-    next_front : drop (sector_len p.segment) p.front
-        ≡ take (length (drop (sector_len p.segment) p.front)) (drop (sector_start p.segment (p.count + 1)) image)
-    next_front = elim so_far.bare [
+    next_prefix : drop (sector_len p.segment) p.prefix
+        ≡ take (length (drop (sector_len p.segment) p.prefix)) (drop (sector_start p.segment (p.count + 1)) image)
+    next_prefix = elim so_far.bare [
       | inl (none, empty) ↦ rw (empty, drop-nil (sector_len p.segment)) refl
       | inr is ↦
-          let next : p.front ≡ take (length p.front) (drop (sector_start p.segment p.count) image) =
-          rw is at so_far.stands.stands.next in
-          rw next_start (front_behind p.front image (sector_start p.segment p.count) (sector_len p.segment) next)
+          let next : p.prefix ≡ take (length p.prefix) (drop (sector_start p.segment p.count) image) =
+          rw is at so_far.positioned.positioned.next in
+          rw next_start (prefix_after_sector p.prefix image (sector_start p.segment p.count) (sector_len p.segment)
+          next)
     ]
 
-    next_reach : sector_start p.segment (p.count + 1) + length (drop (sector_len p.segment) p.front)
+    next_consumed_end : sector_start p.segment (p.count + 1) + length (drop (sector_len p.segment) p.prefix)
         ≡ max loaded (sector_start p.segment (p.count + 1))
-    next_reach =
-        let less = length-drop (sector_len p.segment) p.front in
+    next_consumed_end =
+        let less = length-drop (sector_len p.segment) p.prefix in
         elim so_far.bare [
           | inl (none, empty) ↦
-              let small : length p.front ≡ 0 = ap length empty in
-              omega (arith, so_far.reach, place, next_start, less)
+              let small : length p.prefix ≡ 0 = ap length empty in
+              omega (arith, so_far.consumed_to, place, next_start, less)
           | inr is ↦
-              let from : sector_start p.segment p.count + length p.front
-              ≡ max loaded (sector_start p.segment p.count) = rw is at so_far.reach in
+              let from : sector_start p.segment p.count + length p.prefix
+              ≡ max loaded (sector_start p.segment p.count) = rw is at so_far.consumed_to in
               omega (arith, next_start, less)
         ]
 
@@ -223,29 +224,32 @@ module _ (p : PumpModel) (image : List ℕ) (loaded : ℕ) (l b w l' w' : Option
         → Forwarding (after_step p (Ok Sector)) image loaded l' b w'
     unfolding joined
     forwarding_more step =
-        let taken = step.0 in
+        let sector = step.0 in
         record {
-          stands = record {
+          positioned = record {
             running = refl;
-            stands = record { next = next_front; took = rw (next_reach, ← reached) taken.took };
+            positioned = record {
+              next = next_prefix;
+              consumption = rw (next_consumed_end, ← consumed_after) sector.consumption;
+            };
           };
           early = so_far.early;
           bare = inr refl;
-          reach = next_reach;
-          few = omega (arith, taken.is_one);
+          consumed_to = next_consumed_end;
+          few = omega (arith, sector.is_one);
           wrote = rw add-one
               (adds-more b w w' (joined (sector_plaintext p.segment p.cipher image) p.count)
               (sector_plaintext p.segment p.cipher image p.count) so_far.wrote step.1);
         }
 
     -- the pump's offset is not past the payload's end
-    place_in_end : position p ≤ payload_end_of p.segment image
-    place_in_end =
+    offset_in_payload : position p ≤ payload_end_of p.segment image
+    offset_in_payload =
         let z = sector_len p.segment in
-        let within = so_far.stands.stands.took.within in
+        let within = so_far.positioned.positioned.consumption.within in
         let all : p.count * z ≤ sectors_of p.segment image * z = mul-le-mul_right z so_far.few in
         let whole = div-mul-le_self (payload_bytes p.segment.size (length image - p.segment.offset)) z in
-        place_in_size p.segment.size p.segment.offset (length image) (p.count * z) (position p)
+        offset_in_size p.segment.size p.segment.offset (length image) (p.count * z) (position p)
         (omega (arith, place)) (omega arith) (omega arith)
 
     -- the payload ended as specified
@@ -255,8 +259,8 @@ module _ (p : PumpModel) (image : List ℕ) (loaded : ℕ) (l b w l' w' : Option
         × Appended b w' (plain_of p.segment p.cipher image)
     ended answer end same =
         let all : max (consumed_by p) (payload_end_of p.segment image) ≡ max loaded (payload_end_of p.segment image) =
-        omega (arith, so_far.reach, place_in_end) in
-        (ap message_at_end end.as_stated, rw all at end.took, rw (same, ← end.all) so_far.wrote)
+        omega (arith, so_far.consumed_to, offset_in_payload) in
+        (ap message_at_end end.as_specified, rw all at end.consumption, rw (same, ← end.all) so_far.wrote)
 
     pub forwarding_ends : StepEffect p.segment p.cipher p.count (consumed_by p) image (Ok End) l' w w' → w' ≡ w
         → ForwardsPayload p.segment p.cipher image loaded l' b w' Done
@@ -272,7 +276,7 @@ module _ (p : PumpModel) (image : List ℕ) (loaded : ℕ) (l b w l' w' : Option
         ≡ p.count * sector_len p.segment + sector_len p.segment = omega arith in
         let first : p.count * sector_len p.segment ≤ end - p.segment.offset = elim so_far.bare [
           | inl (none, empty) ↦ rw none (omega arith)
-          | inr is ↦ let from : sector_start p.segment p.count + length p.front ≤ end = rw is at step.1 in omega arith
+          | inr is ↦ let from : sector_start p.segment p.count + length p.prefix ≤ end = rw is at step.1 in omega arith
         ] in
         let row : (end - p.segment.offset) / sector_len p.segment
         ≡ p.count = div-eq_of_lt-le (sector_len p.segment) (omega arith) (omega (arith, step.2, z.long)) in
@@ -292,18 +296,18 @@ module _ (p : PumpModel) (image : List ℕ) (loaded : ℕ) (l b w l' w' : Option
     unwritten : StepEffect p.segment p.cipher p.count (consumed_by p) image (Err Write) l' w w'
         → ForwardsPayload p.segment p.cipher image loaded l' b w' (message_for_payload Write)
     unwritten step =
-        let taken = step.0 in
+        let sector = step.0 in
         let written = step.1 in
         let few = written.1 in
         let part = take_joined (sector_plaintext p.segment p.cipher image) (sector_len p.segment)
         (sectors_of p.segment image)
-        p.count written.0 (sector_size p.segment image p.cipher) taken.is_one (omega arith) in (
+        p.count written.0 (sector_size p.segment image p.cipher) sector.is_one (omega arith) in (
           p.count,
           written.0,
-          taken.is_one,
+          sector.is_one,
           few,
-          sector_before_end p.segment image p.count taken.is_one,
-          rw reached at taken.took,
+          sector_before_end p.segment image p.count sector.is_one,
+          rw consumed_after at sector.consumption,
           rw part (adds-more b w w' (joined (sector_plaintext p.segment p.cipher image) p.count)
               (take written.0 (sector_plaintext p.segment p.cipher image p.count)) so_far.wrote written.2),
         )
@@ -323,29 +327,31 @@ module _ (p : PumpModel) (image : List ℕ) (loaded : ℕ) (l b w l' w' : Option
 
 -- if the loaded bytes reach into the payload, those in it are its first ones
 module _ (loaded image : List ℕ) (offset : ℕ) (within : offset ≤ length loaded) where
-  front_len : length (take (length loaded - offset) (drop offset loaded)) ≡ length loaded - offset
-  front_len = length-take-le (length loaded - offset) (drop offset loaded) (omega (arith, length-drop offset loaded))
+  prefix_length : length (take (length loaded - offset) (drop offset loaded)) ≡ length loaded - offset
+  prefix_length = length-take-le (length loaded - offset) (drop offset loaded)
+      (omega (arith, length-drop offset loaded))
 
-  pub held_reach : offset + length (take (length loaded - offset) (drop offset loaded)) ≡ length loaded
-  held_reach = omega (arith, front_len)
+  pub loaded_end : offset + length (take (length loaded - offset) (drop offset loaded)) ≡ length loaded
+  loaded_end = omega (arith, prefix_length)
 
   pub positioned_within : loaded ≡ take (length loaded) image
       → take (length loaded - offset) (drop offset loaded)
       ≡ take (length (take (length loaded - offset) (drop offset loaded))) (drop offset image)
-  positioned_within front =
+  positioned_within prefix =
       let more : length loaded ≡ offset + (length loaded - offset) = omega arith in
       take_all (length loaded - offset) (drop offset loaded) (omega (arith, length-drop offset loaded))
-      ∙ ap (drop offset) front ∙ ap (λ n. drop offset (take n image)) more
+      ∙ ap (drop offset) prefix ∙ ap (λ n. drop offset (take n image)) more
       ∙ drop-take offset (length loaded - offset) image
-      ∙ ap (λ n. take n (drop offset image)) (sym front_len)
+      ∙ ap (λ n. take n (drop offset image)) (sym prefix_length)
 
 -- ---- read-ahead
 
 -- no more read-ahead was allowed than before or than the payload needs
-pub reads_announced : (s : Segment) (loaded : ℕ) (before after : ReadCounts) → after ≡ with_ahead after.ahead before
+pub reads_with_ahead_allowed : (s : Segment) (loaded : ℕ) (before after : ReadCounts) → after ≡ with_ahead after.ahead
+    before
     → after.ahead ≤ max (max_needed s.size s.offset loaded) before.ahead
     → Reads false false (with_payload_ahead s loaded before) after
-reads_announced s loaded before after is few = record {
+reads_with_ahead_allowed s loaded before after is few = record {
   failures = ap (λ (c : ReadCounts). c.failures) is;
   ends = ap (λ (c : ReadCounts). c.ends) is;
   needed = λ live. ap (λ (c : ReadCounts). c.needless) is;

@@ -13,7 +13,7 @@ use Rattle.luks_kdf.specs.declared.hash.Hash.{Hash}
 use Rattle.luks_kdf.specs.Bytes.{xor}
 use Rattle.luks_kdf.specs.Stripes.{AfSplitterModel, chain_after, chain_of}
 use Rattle.luks_kdf.proofs.StripesLemmas.{chain_of-append}
-use Rattle.luks_io.proofs.Consuming.{adds-more, adds-none, took-none}
+use Rattle.luks_io.proofs.Consuming.{adds-more, adds-none, consumed-none}
 use Rattle.luks_io.specs.Devices.{Appended, ConsumedExactly}
 use Rattle.luks_report.specs.declared.message.Message.{Message}
 use Rattle.luks_report.specs.declared.message.Message.TheVariants.{Done, KeyLength, FewRandomBytes, ReadFailed}
@@ -29,7 +29,7 @@ module _ (h : Hash) (count : ℕ) (key random : List ℕ) where
   key_allowed : 1 ≤ length key → length key ≤ 512
       → split_outcome h count key random ≡ split_key_outcome h count key random
   unfolding split_outcome
-  key_allowed some room = let both : (nat_lt 0 (length key) && nat_le (length key) 512)
+  key_allowed some capacity = let both : (nat_lt 0 (length key) && nat_le (length key) 512)
       ≡ true = grind (arith, nat_tests) in rw both refl
 
   -- a key of another length
@@ -41,9 +41,9 @@ module _ (h : Hash) (count : ℕ) (key random : List ℕ) where
       ≡ false = grind (arith, nat_tests) in rw none refl
 
   -- the outcome allows c bytes of the key to be consumed, if the key has them and c is at most 513
-  key_taken : (c : ℕ) → c ≤ min (length key) 513 → c ≤ (split_outcome h count key random).image_consumed
+  split_consumes_key : (c : ℕ) → c ≤ min (length key) 513 → c ≤ (split_outcome h count key random).image_consumed
   unfolding split_outcome split_key_outcome
-  key_taken c few = grind (arith, nat_tests)
+  split_consumes_key c few = grind (arith, nat_tests)
 
   random_enough : (count - 1) * length key ≤ length random
       → split_key_outcome h count key random
@@ -69,27 +69,27 @@ pub runs_without_key : (h : Hash) (count : ℕ) (key random : List ℕ) (message
     (Appended w w)
 runs_without_key h count key random KeyLength k r w refused is =
     rw (key_refused h count key random refused.0) (record
-    { as_stated = refl; image = refused.1; secret = took-none random r is; output = adds-none w })
+    { as_specified = refl; image = refused.1; secret = consumed-none random r is; output = adds-none w })
 runs_without_key h count key random ReadFailed k r w failed is =
     aborted_unwritten failed.0 0 tt (omega arith) (simp (zero-div, zero-mul))
-    (key_taken h count key random failed.0 failed.1) (omega arith) failed.2 (took-none random r is)
+    (split_consumes_key h count key random failed.0 failed.1) (omega arith) failed.2 (consumed-none random r is)
 runs_without_key h count key random _ k r w p is = absurd p
 
--- `taken` random bytes may be consumed, and the specified output starts with the first `written` ones
-record MayForward (o : Outcome) (random : List ℕ) (taken written : ℕ) : Type 0 where
-  within : taken ≤ o.secret_consumed
+-- `consumed` random bytes may be consumed, and the specified output starts with the first `written` ones
+record MayForward (o : Outcome) (random : List ℕ) (consumed written : ℕ) : Type 0 where
+  within : consumed ≤ o.secret_consumed
   fits : written ≤ length o.output
   begins : take written o.output ≡ take written random
 
-may_forward : (h : Hash) (count : ℕ) (key random : List ℕ) (j taken written : ℕ) → 1 ≤ length key
-    → taken ≤ (count - 1) * length key → taken ≤ length random
+may_forward : (h : Hash) (count : ℕ) (key random : List ℕ) (j consumed written : ℕ) → 1 ≤ length key
+    → consumed ≤ (count - 1) * length key → consumed ≤ length random
     → j ≤ count - 1 → j * length key ≤ length random → written ≤ j * length key
-    → MayForward (split_key_outcome h count key random) random taken written
-may_forward h count key random j taken written some within there below fits few =
+    → MayForward (split_key_outcome h count key random) random consumed written
+may_forward h count key random j consumed written some within there below fits few =
     let needed = (count - 1) * length key in
     let more : j * length key ≤ needed = mul-le-mul_right (length key) below in
     elim (cases_lt (length random) needed) as
-    (λ _. MayForward (split_key_outcome h count key random) random taken written) [
+    (λ _. MayForward (split_key_outcome h count key random) random consumed written) [
       | inl lacking ↦
           let whole : j ≤ length random / length key = le-div j (length random) (length key) some fits in
           let span : j * length key ≤ length random / length key * length key = mul-le-mul_right (length key) whole in
@@ -116,32 +116,33 @@ may_forward h count key random j taken written some within there below fits few 
     ]
 
 module _ (h : Hash) (count : ℕ) (key random : List ℕ) (k r b w : Option (List ℕ)) (some : 1 ≤ length key)
-    (room : length key ≤ 512) (took : ConsumedExactly key k (length key)) where
+    (capacity : length key ≤ 512) (consumption : ConsumedExactly key k (length key)) where
   key_whole : length key ≤ (split_key_outcome h count key random).image_consumed
   unfolding split_key_outcome
   key_whole = grind (arith, nat_tests)
 
   -- the run was aborted after these random bytes were consumed and written
-  broken : (message : Message) (taken written : ℕ) → IsSilent message written
-      → MayForward (split_key_outcome h count key random) random taken written
+  split_aborted : (message : Message) (consumed written : ℕ) → IsSilent message written
+      → MayForward (split_key_outcome h count key random) random consumed written
       → IsPrefixLen message written (length (split_key_outcome h count key random).output)
-      → PromptSplit (length key) message (length key) taken written → ForwardedBytes random r b w taken written
+      → PromptSplit (length key) message (length key) consumed written → ForwardedBytes random r b w consumed written
       → Aborted (PromptSplit (length key)) (split_outcome h count key random) message (ConsumedExactly key k)
       (ConsumedExactly random r)
       (Appended b w)
-  broken message taken written silent may begins prompt p = rw (key_allowed h count key random some room) (record {
-    image_consumed = length key;
-    secret_consumed = taken;
-    output_len = written;
-    image_within = key_whole;
-    secret_within = may.within;
-    output_within = begins;
-    is_silent = silent;
-    is_prompt = prompt;
-    image = took;
-    secret = p.took;
-    output = rw may.begins p.added;
-  })
+  split_aborted message consumed written silent may begins prompt p =
+      rw (key_allowed h count key random some capacity) (record {
+        image_consumed = length key;
+        secret_consumed = consumed;
+        output_len = written;
+        image_within = key_whole;
+        secret_within = may.within;
+        output_within = begins;
+        is_silent = silent;
+        is_prompt = prompt;
+        image = consumption;
+        secret = p.consumption;
+        output = rw may.begins p.added;
+      })
 
   -- forwarding the random stripes was aborted
   pub runs_without_stripes : (message : Message) → AbortsAtStripe (count - 1) (length key) random r b w message
@@ -153,27 +154,27 @@ module _ (h : Hash) (count : ℕ) (key random : List ℕ) (k r b w : Option (Lis
       let span : (stop.0 + 1) * length key ≤ (count - 1) * length key = mul-le-mul_right (length key) below in
       let few : length random < (count - 1) * length key = omega arith in
       let whole : length random / length key ≡ stop.0 = div-eq_of_lt-le (length key) stop.2 stop.3 in
-      rw (key_allowed h count key random some room, random_few h count key random few, whole)
-      (record { as_stated = refl; image = took; secret = stop.4.took; output = stop.4.added })
+      rw (key_allowed h count key random some capacity, random_few h count key random few, whole)
+      (record { as_specified = refl; image = consumption; secret = stop.4.consumption; output = stop.4.added })
   runs_without_stripes ReadFailed stop =
       let below : stop.0 + 1 ≤ count - 1 = omega (arith, stop.2) in
       let span : (stop.0 + 1) * length key ≤ (count - 1) * length key = mul-le-mul_right (length key) below in
-      let there = stop.5.took.within in
+      let there = stop.5.consumption.within in
       let may =
       may_forward h count key random stop.0 stop.1 (stop.0 * length key) some (omega arith) there (omega arith)
       (omega arith) (omega arith) in
-      broken ReadFailed stop.1 (stop.0 * length key) tt may may.fits
+      split_aborted ReadFailed stop.1 (stop.0 * length key) tt may may.fits
       (ap (λ q. q * length key) (sym (div-eq_of_lt-le (length key) stop.3 stop.4))) stop.5
   runs_without_stripes WriteFailed stop =
       let below : stop.0 + 1 ≤ count - 1 = omega (arith, stop.2) in
       let span : (stop.0 + 1) * length key ≤ (count - 1) * length key = mul-le-mul_right (length key) below in
       let whole = (stop.0 + 1) * length key in
-      let there = stop.5.took.within in
+      let there = stop.5.consumption.within in
       let may = may_forward h count key random (stop.0 + 1) whole stop.1 some span there (omega arith) there
       (omega arith) in
       let all = may_forward h count key random (stop.0 + 1) whole whole some span there (omega arith) there
       (omega arith) in
-      broken WriteFailed whole stop.1 tt may (omega (arith, all.fits, stop.4))
+      split_aborted WriteFailed whole stop.1 tt may (omega (arith, all.fits, stop.4))
       (rw (div-eq_of_lt-le (length key) stop.3 stop.4) (omega arith)) stop.5
   runs_without_stripes _ stop = absurd stop
 
@@ -186,11 +187,12 @@ module _ (h : Hash) (count : ℕ) (key random : List ℕ) (k r b w : Option (Lis
         → Completed (split_outcome h count key random) Done (ConsumedExactly key k) (ConsumedExactly random r)
         (Appended b w')
     runs_to_end a =
-        rw (key_allowed h count key random some room, random_enough h count key random p.took.within, ← last_is)
+        let there = p.consumption.within in
+        rw (key_allowed h count key random some capacity, random_enough h count key random there, ← last_is)
         (record {
-          as_stated = refl;
-          image = took;
-          secret = p.took;
+          as_specified = refl;
+          image = consumption;
+          secret = p.consumption;
           output = adds-more b w w' (take ((count - 1) * length key) random) last p.added a;
         })
 
@@ -200,13 +202,13 @@ module _ (h : Hash) (count : ℕ) (key random : List ℕ) (k r b w : Option (Lis
         (ConsumedExactly random r) (Appended b w')
     runs_without_last n within long a =
         let needed = (count - 1) * length key in
-        let front = take needed random in
-        let whole : length front ≡ needed = length-take-le needed random p.took.within in
-        let both : length (front ++ last) ≡ length front + length last = length-append front last in
-        let begin : take (needed + n) (front ++ last) ≡ front ++ take n last =
-        ap (λ m. take (m + n) (front ++ last)) (sym whole) ∙ take-append-add front last n in
+        let prefix = take needed random in
+        let whole : length prefix ≡ needed = length-take-le needed random p.consumption.within in
+        let both : length (prefix ++ last) ≡ length prefix + length last = length-append prefix last in
+        let begin : take (needed + n) (prefix ++ last) ≡ prefix ++ take n last =
+        ap (λ m. take (m + n) (prefix ++ last)) (sym whole) ∙ take-append-add prefix last n in
         let row : (needed + n) / length key ≡ count - 1 = div-eq_of_lt-le (length key) (omega arith) (omega arith) in
-        rw (key_allowed h count key random some room, random_enough h count key random p.took.within)
+        rw (key_allowed h count key random some capacity, random_enough h count key random p.consumption.within)
         (record {
           image_consumed = length key;
           secret_consumed = needed;
@@ -216,9 +218,9 @@ module _ (h : Hash) (count : ℕ) (key random : List ℕ) (k r b w : Option (Lis
           output_within = rw (← last_is) (omega arith);
           is_silent = tt;
           is_prompt = rw row (omega arith);
-          image = took;
-          secret = p.took;
-          output = rw (← last_is, begin) (adds-more b w w' front (take n last) p.added a);
+          image = consumption;
+          secret = p.consumption;
+          output = rw (← last_is, begin) (adds-more b w w' prefix (take n last) p.added a);
         })
 
 -- the last stripe depends on the random stripes alone, and not on the bytes after them
@@ -227,9 +229,9 @@ pub last_stripe : (h : Hash) (n : ℕ) (key random : List ℕ) (splitter : AfSpl
     → (last : List ℕ) → last ≡ xor splitter.block key
     → last ≡ xor (chain_of h (length key) (take (n * length key) random) n) key
 last_stripe h n key random splitter is there last made =
-    let front = take (n * length key) random in
-    let whole : length front ≡ n * length key = length-take-le (n * length key) random there in
-    let same : chain_of h (length key) random n ≡ chain_of h (length key) front n =
+    let prefix = take (n * length key) random in
+    let whole : length prefix ≡ n * length key = length-take-le (n * length key) random there in
+    let same : chain_of h (length key) random n ≡ chain_of h (length key) prefix n =
     ap (λ l. chain_of h (length key) l n) (sym (take-append-drop (n * length key) random))
-    ∙ chain_of-append h (length key) front (drop (n * length key) random) n (omega arith) in
+    ∙ chain_of-append h (length key) prefix (drop (n * length key) random) n (omega arith) in
     made ∙ ap (λ (s : AfSplitterModel). xor s.block key) is ∙ ap (λ d. xor d key) same

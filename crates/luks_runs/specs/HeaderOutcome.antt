@@ -15,10 +15,10 @@ use Rattle.luks_runs.specs.declared.headers.Printout.{Printout}
 use Rattle.luks_runs.specs.declared.headers.Printout.TheVariants.{Uuid, Dump, Check}
 
 -- the message of `isLuks`
-abbrev pub answer_to_is_luks : Result Header HeaderFault → Message
-answer_to_is_luks (Ok _) = Done
-answer_to_is_luks (Err NotLuks) = No
-answer_to_is_luks (Err fault) = message_for_header fault
+abbrev pub message_for_is_luks : Result Header HeaderFault → Message
+message_for_is_luks (Ok _) = Done
+message_for_is_luks (Err NotLuks) = No
+message_for_is_luks (Err fault) = message_for_header fault
 
 -- the text of a printout
 abbrev pub printout_text : Printout → Header → List ℕ
@@ -41,20 +41,20 @@ abbrev pub printed : (Header → List ℕ) → Result Header HeaderFault → Lis
 printed text (Ok header) = text header
 printed text (Err _) = []
 
--- the message of a command that prints a text of the header, if `told` gives the message for a header
+-- the message of a command that prints a text of the header, if `message_for` gives the message for a header
 abbrev pub message_printing : (Header → Message) → Result Header HeaderFault → Message
-message_printing told (Ok header) = told header
-message_printing told (Err fault) = message_for_header fault
+message_printing message_for (Ok header) = message_for header
+message_printing message_for (Err fault) = message_for_header fault
 
 -- `isLuks`: nothing is written
 unfoldable pub is_luks_outcome : List ℕ → Outcome
-is_luks_outcome image = no_output (answer_to_is_luks (header_of image)) (header_read_len image) 0
+is_luks_outcome image = no_output (message_for_is_luks (header_of image)) (header_read_len image) 0
 
 -- the outcome of a command that prints a text of a header read by `read`
 unfoldable pub print_outcome_by : HeaderReader → (Header → List ℕ) → (Header → Message) → List ℕ → Outcome
-print_outcome_by read text told image = record {
+print_outcome_by read text message_for image = record {
   output = printed text (read image);
-  message = message_printing told (read image);
+  message = message_printing message_for (read image);
   image_consumed = header_read_len image;
   secret_consumed = 0;
   payload_consumed = 0;

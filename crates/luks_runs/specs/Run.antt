@@ -51,7 +51,7 @@ pub record Aborted (is_prompt' : Promptness) (o : Outcome) (message : Message)
 -- a run that was not aborted: the specified message, output and bytes consumed
 pub record Completed (o : Outcome) (message : Message) (ConsumedImage ConsumedSecret : ℕ → Type 0)
     (Wrote : List ℕ → Type 0) : Type 0 where
-  pub as_stated : message ≡ o.message
+  pub as_specified : message ≡ o.message
   pub image : ConsumedImage o.image_consumed
   pub secret : ConsumedSecret o.secret_consumed
   pub output : Wrote o.output

@@ -18,9 +18,9 @@ NoKeyRead key left KeyLength =
 NoKeyRead key left ReadFailed = ConsumedAtMost key left (min (length key) (max_key_len + 1))
 NoKeyRead key left _ = ⊥
 
--- `taken` random bytes were consumed, and the first `written` of them were written
-pub record ForwardedBytes (random : List ℕ) (left before after : Option (List ℕ)) (taken written : ℕ) : Type 0 where
-  pub took : ConsumedExactly random left taken
+-- `consumed` random bytes were consumed, and the first `written` of them were written
+pub record ForwardedBytes (random : List ℕ) (left before after : Option (List ℕ)) (consumed written : ℕ) : Type 0 where
+  pub consumption : ConsumedExactly random left consumed
   pub added : Appended before after (take written random)
 
 -- forwarding one random stripe of `len` bytes was aborted: by the end of the random bytes, or by a failed read, before
@@ -29,7 +29,7 @@ abbrev pub AbortsInStripe : ℕ → List ℕ → Option (List ℕ) → Option (L
 AbortsInStripe len random left before after FewRandomBytes =
     (length random < len) × ForwardedBytes random left before after (length random) 0
 AbortsInStripe len random left before after ReadFailed =
-    (taken : ℕ) × (taken < len) × ForwardedBytes random left before after taken 0
+    (consumed : ℕ) × (consumed < len) × ForwardedBytes random left before after consumed 0
 AbortsInStripe len random left before after WriteFailed =
     (written : ℕ) × (written < len) × ForwardedBytes random left before after len written
 AbortsInStripe len random left before after _ = ⊥
@@ -41,8 +41,8 @@ AbortsAtStripe count len random left before after FewRandomBytes =
     (i : ℕ) × (i < count) × (i * len ≤ length random) × (length random < (i + 1) * len)
     × ForwardedBytes random left before after (length random) (i * len)
 AbortsAtStripe count len random left before after ReadFailed =
-    (i : ℕ) × (taken : ℕ) × (i < count) × (i * len ≤ taken) × (taken < (i + 1) * len)
-    × ForwardedBytes random left before after taken (i * len)
+    (i : ℕ) × (consumed : ℕ) × (i < count) × (i * len ≤ consumed) × (consumed < (i + 1) * len)
+    × ForwardedBytes random left before after consumed (i * len)
 AbortsAtStripe count len random left before after WriteFailed =
     (i : ℕ) × (written : ℕ) × (i < count) × (i * len ≤ written) × (written < (i + 1) * len)
     × ForwardedBytes random left before after ((i + 1) * len) written

@@ -3,7 +3,7 @@
 ghost use Rattle.std.specs.Prelude.{◌≡◌, Bool, List, ℕ, IfOk, Option, string_bytes};
 ghost use Rattle.luks_io.specs.Devices.{Appended, ConsumedExactly, IfKnown};
 ghost use Rattle.luks_io.specs.Counts.{Reads, Writes};
-ghost use Rattle.luks_runs.specs.HeaderOutcome.{answer_to_is_luks, is_luks_outcome};
+ghost use Rattle.luks_runs.specs.HeaderOutcome.{message_for_is_luks, is_luks_outcome};
 ghost use Rattle.luks_runs.specs.HeaderOutcome.{print_outcome_by, printout_text, printout_message};
 ghost use Rattle.luks_runs.specs.Printing.{Prints};
 ghost use Rattle.luks_runs.specs.Run.{ConsumedNothing, RunMatches, AnyPace, result_message};
@@ -39,7 +39,7 @@ pub fn is_luks<S: Source>(alloc: Global, image: &mut S) -> Result<(), Message>
 
 /// The message of `isLuks` for an image without a readable header.
 fn refusal_of(fault: HeaderFault) -> Message
-    ensures { result ≡ answer_to_is_luks (Err fault) }
+    ensures { result ≡ message_for_is_luks (Err fault) }
 {
     match fault {
         HeaderFault::NotLuks => Message::No,
@@ -66,7 +66,7 @@ fn printed_text(
 ) -> Result<(String, Message), AllocError>
     ensures text { IfOk result
         (λ printed. string_bytes printed.0 ≡ printout_text printout header.now) }
-    ensures told { IfOk result (λ printed. printed.1 ≡ printout_message printout header.now) }
+    ensures reported { IfOk result (λ printed. printed.1 ≡ printout_message printout header.now) }
 {
     match printout {
         Printout::Uuid => Ok((uuid_text(alloc, header)?, Message::Done)),

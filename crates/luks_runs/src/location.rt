@@ -28,14 +28,14 @@ pub fn read_header_at<S: Source>(
     location: HeaderLocation,
     source: &mut S,
 ) -> Result<(Header, HeaderArea), HeaderFault>
-    ensures taken { IfOk result (λ read. IfKnown (S.to_come source.old) (λ known.
+    ensures consumed { IfOk result (λ read. IfKnown (S.to_come source.old) (λ known.
         (reader_for location known ≡ Ok read.0)
         × (read.1.bytes ≡ take (header_read_len known) known)
         × ConsumedExactly known (S.to_come source.new) (header_read_len known))) }
-    ensures broken { IfErr result (λ fault. IfKnown (S.to_come source.old) (λ known.
+    ensures aborted { IfErr result (λ fault. IfKnown (S.to_come source.old) (λ known.
         AbortsReading known (S.to_come source.new) (S.counts source.old).ends
         (S.counts source.new).ends fault)) }
-    ensures front { IfOk result (λ read. reader_for location read.1.bytes ≡ Ok read.0) }
+    ensures of_area { IfOk result (λ read. reader_for location read.1.bytes ≡ Ok read.0) }
     ensures only { IfOk result (λ read. length read.1.bytes ≡ header_read_len read.1.bytes) }
     ensures reads { (ended : Bool)
         × Reads (is_read result) ended (S.counts source.old) (S.counts source.new) }

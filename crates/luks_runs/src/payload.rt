@@ -24,10 +24,10 @@ fn pump_behind<'a>(segment: Segment, cipher: SectorCipher, loaded: &'a [u8]) -> 
     ensures cipher { result.cipher ≡ cipher }
     ensures count { result.count ≡ 0 }
     ensures early { result.consumed ≤ segment.offset }
-    ensures state { ((result.state ≡ State.BeforePayload) × (result.front ≡ []))
+    ensures state { ((result.state ≡ State.BeforePayload) × (result.prefix ≡ []))
         ⊎ (result.state ≡ State.InPayload) }
-    ensures reach { consumed_by result ≡ length loaded.now }
-    ensures stands { (whole : List ℕ) (left : Option (List ℕ))
+    ensures consumed_to { consumed_by result ≡ length loaded.now }
+    ensures positioned { (whole : List ℕ) (left : Option (List ℕ))
         → loaded.now ≡ take (length loaded.now) whole
         → ConsumedExactly whole left (length loaded.now)
         → PositionedIn whole result left }
@@ -36,7 +36,7 @@ fn pump_behind<'a>(segment: Segment, cipher: SectorCipher, loaded: &'a [u8]) -> 
     if consumed <= segment.offset {
         return Pump::new(segment, cipher, consumed);
     }
-    Pump::with_front(segment, cipher, &loaded[segment.offset as usize..])
+    Pump::with_loaded(segment, cipher, &loaded[segment.offset as usize..])
 }
 
 /// How many bytes of an image are still needed to forward its payload, if its first `loaded` bytes
@@ -71,7 +71,7 @@ pub fn write_payload<I: Source, O: Sink>(
     ensures writes { Writes (is_run_write_failure (result_message result))
         (O.counts out.old) (O.counts out.new) }
 {
-    image.announce(bytes_needed(&segment, loaded.len()));
+    image.allow_read_ahead(bytes_needed(&segment, loaded.len()));
     let mut pump = pump_behind(segment, cipher, loaded);
     'sectors: for _ in 0..u64::MAX {
         match pump.step(image, out)? {

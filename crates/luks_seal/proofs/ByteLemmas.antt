@@ -92,6 +92,6 @@ stripes_bytes hash key count random keys drawn =
     (chain_bytes hash (length key) random (count - 1)) keys)
 
 -- bytes padded with zeros are bytes
-pub padded_bytes : (room : ℕ) (xs : List ℕ) → IsBytes xs → IsBytes (padded room xs)
+pub padded_bytes : (capacity : ℕ) (xs : List ℕ) → IsBytes xs → IsBytes (padded capacity xs)
 unfolding padded
-padded_bytes room xs all = bytes_append xs _ all (zeros_bytes (room - length xs))
+padded_bytes capacity xs all = bytes_append xs _ all (zeros_bytes (capacity - length xs))

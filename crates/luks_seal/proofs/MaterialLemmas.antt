@@ -18,7 +18,7 @@ use Rattle.luks_verdict.specs.declared.slot.SlotParts.{SlotParts}
 use Rattle.luks_seal.specs.Pieces.{encrypted_material, stripes_of, wrapping_number, sector_padded}
 use Rattle.luks_seal.specs.Sealed.{GivesKey, IsMaterial, IsStoredEncrypted}
 use Rattle.luks_seal.proofs.ByteLemmas.{padded_bytes, stripes_bytes}
-use Rattle.luks_seal.proofs.SectorLemmas.{length-sectors_encrypted, sectors_stand, stand_under}
+use Rattle.luks_seal.proofs.SectorLemmas.{length-sectors_encrypted, sectors_are_stored, stored_under}
 use Rattle.luks_seal.proofs.SlicingLemmas.{at_padded, length-padded}
 
 -- ---- whole sectors
@@ -50,13 +50,13 @@ length-encrypted_material mode area_key stripes =
 -- ---- stripes
 
 -- a key of at most 64 bytes, 1 to 4000 stripes, and as many random bytes as they need
-pub record AreDrawn (key : List ℕ) (count : ℕ) (random : List ℕ) : Type 0 where
+pub record AreRandomStripes (key : List ℕ) (count : ℕ) (random : List ℕ) : Type 0 where
   pub some : 1 ≤ count
   pub few : count ≤ 4000
   pub key_most : length key ≤ 64
   pub len : length random ≡ (count - 1) * length key
 
-module _ (af : Hash) (key : List ℕ) (count : ℕ) (random : List ℕ) (drawn : AreDrawn key count random) where
+module _ (af : Hash) (key : List ℕ) (count : ℕ) (random : List ℕ) (drawn : AreRandomStripes key count random) where
   -- the stripes of a key have the length of the key times their number
   pub length-stripes_of : length (stripes_of af key count random) ≡ length key * count
   unfolding stripes_of
@@ -93,18 +93,18 @@ module _ (af : Hash) (key : List ℕ) (count : ℕ) (random : List ℕ) (drawn :
 -- ---- key material in an image
 
 -- encrypted key material that an image has at this offset is stored encrypted there
-material_stands : (mode : Mode) (area_key stripes : List ℕ) (place : ℕ) (image : List ℕ) → IsBytes stripes
+material_is_stored : (mode : Mode) (area_key stripes : List ℕ) (place : ℕ) (image : List ℕ) → IsBytes stripes
     → length stripes ≤ 256000
     → place + length (sector_padded stripes) ≤ length image
     → at place (length (sector_padded stripes)) image ≡ encrypted_material (mode, area_key) stripes
     → IsStoredEncrypted (mode, area_key) (λ i. i) 512 place (sector_padded stripes) image
 unfolding encrypted_material
-material_stands mode area_key stripes place image bytes few there is =
+material_is_stored mode area_key stripes place image bytes few there is =
     let len = length-whole_sectors stripes in
     let same : (i : ℕ) → i < length (sector_padded stripes) / 512 → wrapping_number 0 1 i ≡ i =
     λ i low. omega (arith, len) in
-    stand_under (mode, area_key) (wrapping_number 0 1) (λ i. i) 512 place (sector_padded stripes) image same
-    (sectors_stand (mode, area_key) 0 1 512 (sector_padded stripes) refl (omega (arith, len)) place image
+    stored_under (mode, area_key) (wrapping_number 0 1) (λ i. i) 512 place (sector_padded stripes) image same
+    (sectors_are_stored (mode, area_key) 0 1 512 (sector_padded stripes) refl (omega (arith, len)) place image
     (whole_sectors_bytes stripes bytes) there is)
 
 -- what a key slot with these parts is made from
@@ -113,7 +113,7 @@ pub record IsMade (parts : SlotParts) (kdf af : Hash) (mode : Mode) (key random 
   pub is_af : parts.af_hash ≡ Some af
   pub is_mode : parts.area_mode ≡ Some mode
   pub key_bytes : parts.key_bytes ≡ length key
-  pub drawn : AreDrawn key parts.stripes random
+  pub drawn : AreRandomStripes key parts.stripes random
   pub bytes : IsBytes key
   pub random_bytes : IsBytes random
 
@@ -140,7 +140,7 @@ gives_key parts kdf af mode passphrase key random image made there is =
       key_bytes = made.key_bytes;
       material = sector_padded stripes;
       is_material = material;
-      stands = material_stands mode area_key stripes parts.area_offset image
+      is_stored = material_is_stored mode area_key stripes parts.area_offset image
           (stripes_bytes af key parts.stripes random made.bytes made.random_bytes)
           (omega (arith, long, few_stripes af key parts.stripes random made.drawn))
           (omega (arith, there, material.len))

@@ -5,7 +5,7 @@ use Rattle.std.proofs.lemmas.Grind.{common_steps}
 use Rattle.std.proofs.Math.Nat.{eq_of_mul-eq-mul_right}
 use Rattle.luks_cipher.specs.Sector.{Cipher, sector_encrypted}
 use Rattle.luks_cipher.specs.Xts.{joined}
-use Rattle.luks_kdf.proofs.BytesLemmas.{take_front}
+use Rattle.luks_kdf.proofs.BytesLemmas.{take_prefix}
 use Rattle.luks_kdf.specs.Bytes.{xor}
 use Rattle.luks_kdf.specs.Stripes.{IsSplit, chain_of}
 use Rattle.luks_kdf.specs.declared.hash.Hash.{Hash}
@@ -13,7 +13,7 @@ use Rattle.luks_seal.specs.Pieces.{encrypted_sector, stripes_of, wrapping_number
 
 -- a buffer that is overwritten in full keeps its length
 pub written_len : (len : ℕ) (new rest : List ℕ) → length new ≡ len → length (take len (new ++ rest)) ≡ len
-written_len len new rest is = ap length (take_front len new rest is) ∙ is
+written_len len new rest is = ap length (take_prefix len new rest is) ∙ is
 
 -- the stripes of a split of the key with these random bytes are `stripes_of` the key
 pub split_is : (hash : Hash) (random key stripes : List ℕ) (count : ℕ) → 1 ≤ length key

@@ -41,7 +41,7 @@ module _ (f : ℕ → List ℕ) (size : ℕ) where
       let before = pieces_length n smaller in
       elim (cases_lt j n) [
         | inl inside ↦
-            let room : (j + 1) * size ≤ n * size = mul-le-mul_right {m = j + 1} {n = n} size (omega arith) in
+            let capacity : (j + 1) * size ≤ n * size = mul-le-mul_right {m = j + 1} {n = n} size (omega arith) in
             at_first (j * size) size (joined f n) (f n) (omega arith) ∙ piece_at n j smaller inside
         | inr last ↦
             let e : j ≡ n = omega arith in
@@ -53,8 +53,9 @@ module _ (f : ℕ → List ℕ) (size : ℕ) where
 -- each whole sector ends within the bytes
 sector_within : (len size i : ℕ) → len % size ≡ 0 → i < len / size → i * size + size ≤ len
 sector_within len size i whole low =
-    let room : (i + 1) * size ≤ len / size * size = mul-le-mul_right {m = i + 1} {n = len / size} size (omega arith) in
-    omega (arith, room)
+    let capacity : (i + 1) * size ≤ len / size * size = mul-le-mul_right {m = i + 1} {n = len / size} size
+    (omega arith) in
+    omega (arith, capacity)
 
 module _ (cipher : Cipher) (first step size : ℕ) (plain : List ℕ) (blocks : size % 16 ≡ 0)
     (whole : length plain % size ≡ 0) where
@@ -80,10 +81,10 @@ module _ (cipher : Cipher) (first step size : ℕ) (plain : List ℕ) (blocks : 
       piece_at (encrypted_sector cipher first step size plain) size (length plain / size) i sector_length low
 
   -- if an image has the encrypted sectors at this offset, the sectors are stored encrypted there
-  pub sectors_stand : (place : ℕ) (image : List ℕ) → IsBytes plain → place + length plain ≤ length image
+  pub sectors_are_stored : (place : ℕ) (image : List ℕ) → IsBytes plain → place + length plain ≤ length image
       → at place (length plain) image ≡ sectors_encrypted cipher first step size plain
       → IsStoredEncrypted cipher (wrapping_number first step) size place plain image
-  sectors_stand place image bytes there is = record {
+  sectors_are_stored place image bytes there is = record {
     bytes = bytes;
     whole = whole;
     there = there;
@@ -93,14 +94,14 @@ module _ (cipher : Cipher) (first step size : ℕ) (plain : List ℕ) (blocks : 
   }
 
 -- sectors that are stored under some numbers are stored under any numbers equal to them
-pub stand_under : (cipher : Cipher) (number other : ℕ → ℕ) (size place : ℕ) (plain image : List ℕ)
+pub stored_under : (cipher : Cipher) (number other : ℕ → ℕ) (size place : ℕ) (plain image : List ℕ)
     → ((i : ℕ) → i < length plain / size → number i ≡ other i)
     → IsStoredEncrypted cipher number size place plain image → IsStoredEncrypted cipher other size place plain image
-stand_under cipher number other size place plain image same stand = record {
-  bytes = stand.bytes;
-  whole = stand.whole;
-  there = stand.there;
+stored_under cipher number other size place plain image same is_stored = record {
+  bytes = is_stored.bytes;
+  whole = is_stored.whole;
+  there = is_stored.there;
   units = λ i low.
-      stand.units i low
+      is_stored.units i low
       ∙ ap (λ n. sector_encrypted cipher.0 cipher.1 n (at (i * size) size plain)) (same i low);
 }

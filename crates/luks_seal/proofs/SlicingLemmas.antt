@@ -13,8 +13,9 @@ at_first place len xs ys there =
     ∙ take-append-le len (drop place xs) ys (omega (arith, length-drop place xs))
 
 -- a part that starts within the second of two lists
-pub at_behind : (place k len : ℕ) (xs ys : List ℕ) → place ≡ length xs + k → at place len (xs ++ ys) ≡ at k len ys
-at_behind place k len xs ys is =
+pub at_within_second : (place k len : ℕ) (xs ys : List ℕ) → place ≡ length xs + k → at place len (xs ++ ys) ≡ at k len
+    ys
+at_within_second place k len xs ys is =
     ap (take len)
     (ap (λ n. drop n (xs ++ ys)) is ∙ sym (drop-drop k (length xs) (xs ++ ys))
     ∙ ap (drop k) (drop_at xs ys (length xs) refl))
@@ -22,7 +23,7 @@ at_behind place k len xs ys is =
 -- a part that is the second of two lists
 pub at_second : (place len : ℕ) (xs ys : List ℕ) → place ≡ length xs → length ys ≡ len → at place len (xs ++ ys) ≡ ys
 at_second place len xs ys is all =
-    at_behind place 0 len xs ys (omega arith) ∙ take_all len ys (omega arith)
+    at_within_second place 0 len xs ys (omega arith) ∙ take_all len ys (omega arith)
 
 -- a part of a part
 pub at_at : (place len start size : ℕ) (xs : List ℕ) → place + len ≤ size
@@ -39,13 +40,17 @@ pub length-at : (place len : ℕ) (xs : List ℕ) → place + len ≤ length xs 
 length-at place len xs there = length-take-le len (drop place xs) (omega (arith, length-drop place xs))
 
 -- padded bytes have the stated length, if that is not too short
-pub length-padded : (room : ℕ) (xs : List ℕ) → length xs ≤ room → length (padded room xs) ≡ room
+pub length-padded : (capacity : ℕ) (xs : List ℕ) → length xs ≤ capacity → length (padded capacity xs) ≡ capacity
 unfolding padded
-length-padded room xs fits =
-    omega (arith, length-append xs (replicate (room - length xs) 0), length-replicate {A = ℕ} (room - length xs) 0)
+length-padded capacity xs fits =
+    omega (
+      arith,
+      length-append xs (replicate (capacity - length xs) 0),
+      length-replicate {A = ℕ} (capacity - length xs) 0,
+    )
 
 -- padded bytes begin with the bytes themselves
-pub at_padded : (place len room : ℕ) (xs : List ℕ) → place + len ≤ length xs
-    → at place len (padded room xs) ≡ at place len xs
+pub at_padded : (place len capacity : ℕ) (xs : List ℕ) → place + len ≤ length xs
+    → at place len (padded capacity xs) ≡ at place len xs
 unfolding padded
-at_padded place len room xs there = at_first place len xs (replicate (room - length xs) 0) there
+at_padded place len capacity xs there = at_first place len xs (replicate (capacity - length xs) 0) there

@@ -9,7 +9,7 @@ use Rattle.luks_kdf.specs.declared.hash.Hash.{Hash}
 
 -- bytes padded with zeros to this length
 unfoldable pub padded : ℕ → List ℕ → List ℕ
-padded room bytes = bytes ++ replicate (room - length bytes) 0
+padded capacity bytes = bytes ++ replicate (capacity - length bytes) 0
 
 -- the unit number of sector i: `first` for the first sector, and `step` more for each further one. The numbers wrap at
 -- 2^64

@@ -24,7 +24,7 @@ SealAnswer fits (Err Parameters) = ¬ fits
 SealAnswer fits (Err Memory) = fits
 
 -- the same if one of the ranges is only known late: memory can run out before it is known
-abbrev pub SealsOrSaysLate : {T : Type 0} → Type 0 → Type 0 → Result T SealFault → Type 0
-SealsOrSaysLate fits late (Ok _) = fits × late
-SealsOrSaysLate fits late (Err Parameters) = ¬ (fits × late)
-SealsOrSaysLate fits late (Err Memory) = fits
+abbrev pub SealAnswerLate : {T : Type 0} → Type 0 → Type 0 → Result T SealFault → Type 0
+SealAnswerLate fits late (Ok _) = fits × late
+SealAnswerLate fits late (Err Parameters) = ¬ (fits × late)
+SealAnswerLate fits late (Err Memory) = fits

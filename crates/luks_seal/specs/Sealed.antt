@@ -52,7 +52,7 @@ pub record GivesKey (parts : SlotParts) (passphrase key image : List ℕ) : Type
   pub key_bytes : parts.key_bytes ≡ length key
   pub material : List ℕ
   pub is_material : IsMaterial af parts key material
-  pub stands : IsStoredEncrypted
+  pub is_stored : IsStoredEncrypted
       (mode, derived_key kdf passphrase parts.salt parts.iterations parts.area_key_bytes)
       (λ i. i) 512 parts.area_offset material image
 
@@ -84,7 +84,8 @@ EndsWith (Some size) plain end image = size ≡ length plain
 
 -- the payload is the plaintext, encrypted under the key
 pub record SealsPlain (segment : Segment) (image key plain : List ℕ) : Type 0 where
-  pub stands : IsStoredEncrypted (segment.mode, key) (unit_number segment) (bytes_of segment.sector_size) segment.offset
+  pub is_stored : IsStoredEncrypted (segment.mode, key) (unit_number segment) (bytes_of segment.sector_size)
+      segment.offset
       plain image
   pub ends : EndsWith segment.size plain (segment.offset + length plain) image
 

@@ -16,11 +16,11 @@ use std::alloc::{AllocError, Global};
 
 /// Bytes padded with zeros to this length.
 #[tactic(auto, unfolding(crate::specs::Pieces::padded))]
-pub fn padded(alloc: Global, bytes: &[u8], room: usize) -> Result<Vec<u8>, AllocError>
-    ensures { IfOk result (λ all. all.items ≡ padded room bytes.now) }
+pub fn padded(alloc: Global, bytes: &[u8], capacity: usize) -> Result<Vec<u8>, AllocError>
+    ensures { IfOk result (λ all. all.items ≡ padded capacity bytes.now) }
 {
     let mut all = Vec::from_slice(alloc, bytes)?;
-    all.resize(room.max(bytes.len()), 0)?;
+    all.resize(capacity.max(bytes.len()), 0)?;
     Ok(all)
 }
 
@@ -29,11 +29,11 @@ pub fn push_padded(
     alloc: Global,
     image: &mut Vec<u8>,
     bytes: &[u8],
-    room: usize,
+    capacity: usize,
 ) -> Result<(), AllocError>
-    ensures { OnOk result (image.new.items ≡ image.old.items ++ padded room bytes.now) }
+    ensures { OnOk result (image.new.items ≡ image.old.items ++ padded capacity bytes.now) }
 {
-    let field = padded(alloc, bytes, room)?;
+    let field = padded(alloc, bytes, capacity)?;
     image.extend_from_slice(&field)
 }
 
@@ -48,7 +48,7 @@ pub fn derived_key(
 ) -> Result<Vec<u8>, AllocError>
     requires turns { 1 ≤ iterations }
     requires some { 1 ≤ len }
-    requires room { len ≤ 512 }
+    requires capacity { len ≤ 512 }
     ensures value { IfOk result (λ key. key.items
         ≡ derived_key hash password.now salt.now iterations len) }
     ensures len { IfOk result (λ key. length key.items ≡ len) }
@@ -139,7 +139,7 @@ pub fn stripes_of(
     random: &[u8],
 ) -> Result<Vec<u8>, AllocError>
     requires some { 1 ≤ length key.now }
-    requires room { length key.now ≤ 64 }
+    requires capacity { length key.now ≤ 64 }
     requires least { 1 ≤ count }
     requires most { count ≤ 4000 }
     requires random { length random.now ≡ (count - 1) * length key.now }

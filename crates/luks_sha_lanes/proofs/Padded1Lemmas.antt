@@ -6,10 +6,10 @@ use Rattle.std.specs.Int.{to_be_bytes, w32}
 use Rattle.sha1.specs.Sha1.{compress, hash_after, initial_hash, sha1}
 use Rattle.sha1.specs.Sha1 as Sha1
 use Rattle.sha2.specs.Sha256.{digest_bytes, padded_message, padding, word_at}
-use Rattle.luks_sha_lanes.specs.Lanes.{behind, lane}
+use Rattle.luks_sha_lanes.specs.Lanes.{after_digest, lane}
 use Rattle.luks_sha_lanes.proofs.ChainLemmas.{IsChained}
 use Rattle.luks_sha_lanes.proofs.LaneLemmas.{word_of_lane, word_splat, words_fit}
-use Rattle.luks_sha_lanes.proofs.PaddedLemmas.{IsTwoBlocks, two_blocks, word_back}
+use Rattle.luks_sha_lanes.proofs.PaddedLemmas.{IsTwoBlocks, two_blocks, word_from_its_bytes}
 use Rattle.luks_sha_lanes.proofs.WordLemmas.{below_sixteen, length-digest_bytes}
 
 -- the words of a digest after one block, and of its padding
@@ -22,7 +22,7 @@ digest_word : (h : List ℕ) → ((k : ℕ) → slice_index h k < 2 ^ 32) → (k
     → slice_index (padded_words h) k ≡ word_at (digest_bytes h 5 ++ padding 84) (4 * k)
 unfolding digest_bytes
 digest_word h fits =
-    let word = word_back h fits in
+    let word = word_from_its_bytes h fits in
     below_sixteen (λ k. slice_index (padded_words h) k ≡ word_at (digest_bytes h 5 ++ padding 84) (4 * k))
     (word 0) (word 1) (word 2) (word 3) (word 4) refl refl refl refl refl refl refl refl refl refl refl
 
@@ -64,8 +64,8 @@ unfolding hash_after
 hash_of_two p b c is = rw (is.count, is.first, is.second) refl
 
 sha1_behind : (b w : List ℕ) → length b ≡ 64
-    → sha1 (b ++ digest_bytes w 5) ≡ digest_bytes (behind compress 5 (compress initial_hash b) w) 5
-unfolding behind sha1
+    → sha1 (b ++ digest_bytes w 5) ≡ digest_bytes (after_digest compress 5 (compress initial_hash b) w) 5
+unfolding after_digest sha1
 sha1_behind b w whole =
     let d = digest_bytes w 5 in
     let size = length-digest_bytes w 5 in
@@ -73,5 +73,5 @@ sha1_behind b w whole =
     (hash_of_two (padded_message (b ++ d)) b (d ++ padding 84)
     (two_blocks b d 20 whole size (omega (arith, size, length-append d (padding 84)))))
 
-pub chained1 : IsChained sha1 (compress initial_hash) (behind compress 5) 5
+pub chained1 : IsChained sha1 (compress initial_hash) (after_digest compress 5) 5
 chained1 = record { follows = sha1_behind }

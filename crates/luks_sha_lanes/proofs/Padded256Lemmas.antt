@@ -4,12 +4,12 @@ use Rattle.std.proofs.Common.{arith, length-append}
 use Rattle.std.specs.Prelude.{slice_index, slice_index_or}
 use Rattle.sha2.specs.Sha256.{compress, digest_bytes, hash_after, initial_hash_256, padded_message, padding, sha256}
 use Rattle.sha2.specs.Sha256.{word_at}
-use Rattle.luks_sha_lanes.specs.Lanes.{behind, lane}
+use Rattle.luks_sha_lanes.specs.Lanes.{after_digest, lane}
 use Rattle.luks_sha_lanes.specs.Lanes256.{AllTwice, IsTwice}
 use Rattle.luks_sha_lanes.proofs.ChainLemmas.{IsChained}
 use Rattle.luks_sha_lanes.proofs.Lane256Lemmas.{twice_none, twice_of_eight}
 use Rattle.luks_sha_lanes.proofs.LaneLemmas.{word_of_lane, word_splat, words_fit}
-use Rattle.luks_sha_lanes.proofs.PaddedLemmas.{IsTwoBlocks, two_blocks, word_back}
+use Rattle.luks_sha_lanes.proofs.PaddedLemmas.{IsTwoBlocks, two_blocks, word_from_its_bytes}
 use Rattle.luks_sha_lanes.proofs.WordLemmas.{below_sixteen, below_two, length-digest_bytes}
 
 -- the words of a digest after one block, and of its padding
@@ -23,7 +23,7 @@ digest_word : (h : List ℕ) → ((k : ℕ) → slice_index h k < 2 ^ 32) → (k
     → slice_index (padded_words h) k ≡ word_at (digest_bytes h 8 ++ padding 96) (4 * k)
 unfolding digest_bytes
 digest_word h fits =
-    let word = word_back h fits in
+    let word = word_from_its_bytes h fits in
     below_sixteen (λ k. slice_index (padded_words h) k ≡ word_at (digest_bytes h 8 ++ padding 96) (4 * k))
     (word 0) (word 1) (word 2) (word 3) (word 4) (word 5) (word 6) (word 7) refl refl refl refl refl refl refl refl
 
@@ -78,8 +78,8 @@ unfolding hash_after
 hash_of_two h p b c is = rw (is.count, is.first, is.second) refl
 
 sha256_behind : (b w : List ℕ) → length b ≡ 64
-    → sha256 (b ++ digest_bytes w 8) ≡ digest_bytes (behind compress 8 (compress initial_hash_256 b) w) 8
-unfolding behind sha256
+    → sha256 (b ++ digest_bytes w 8) ≡ digest_bytes (after_digest compress 8 (compress initial_hash_256 b) w) 8
+unfolding after_digest sha256
 sha256_behind b w whole =
     let d = digest_bytes w 8 in
     let size = length-digest_bytes w 8 in
@@ -87,5 +87,5 @@ sha256_behind b w whole =
     (hash_of_two initial_hash_256 (padded_message (b ++ d)) b (d ++ padding 96)
     (two_blocks b d 32 whole size (omega (arith, size, length-append d (padding 96)))))
 
-pub chained256 : IsChained sha256 (compress initial_hash_256) (behind compress 8) 8
+pub chained256 : IsChained sha256 (compress initial_hash_256) (after_digest compress 8) 8
 chained256 = record { follows = sha256_behind }

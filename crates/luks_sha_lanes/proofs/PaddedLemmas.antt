@@ -6,7 +6,7 @@ use Rattle.std.specs.Int.{from_be_bytes, to_be_bytes, w32}
 use Rattle.std.proofs.lemmas.List.{take_all}
 use Rattle.std.proofs.lemmas.Nat.{from_be_bytes-to_be_bytes_4}
 use Rattle.sha2.specs.Sha256.{padded_message, padding}
-use Rattle.luks_sha_lanes.proofs.WordLemmas.{drop_front, take_front}
+use Rattle.luks_sha_lanes.proofs.WordLemmas.{drop_prefix, take_prefix}
 
 -- the message p is the blocks b and c
 pub record IsTwoBlocks (p b c : List ℕ) : Type 0 where
@@ -25,11 +25,11 @@ two_blocks b d n whole size rest =
     let count : length (b ++ tail) ≡ 128 = omega (arith, length-append b tail) in
     rw padded (record {
       count = rw count refl;
-      first = take_front 64 b tail whole;
-      second = rw (drop_front 64 b tail whole) (take_all 64 tail (omega arith));
+      first = take_prefix 64 b tail whole;
+      second = rw (drop_prefix 64 b tail whole) (take_all 64 tail (omega arith));
     })
 
 -- a word is read back from its bytes
-pub word_back : (h : List ℕ) → ((k : ℕ) → slice_index h k < 2 ^ 32) → (k : ℕ)
+pub word_from_its_bytes : (h : List ℕ) → ((k : ℕ) → slice_index h k < 2 ^ 32) → (k : ℕ)
     → slice_index h k ≡ from_be_bytes w32 (to_be_bytes w32 (slice_index h k))
-word_back h fits k = sym (from_be_bytes-to_be_bytes_4 (slice_index h k) (fits k))
+word_from_its_bytes h fits k = sym (from_be_bytes-to_be_bytes_4 (slice_index h k) (fits k))

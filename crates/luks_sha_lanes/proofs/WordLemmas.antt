@@ -50,11 +50,11 @@ length-digest_bytes h (suc n) =
     let word : length (to_be_bytes w32 (slice_index h n)) ≡ 4 = refl in
     omega (arith, before, word, length-append (digest_bytes h n) (to_be_bytes w32 (slice_index h n)))
 
-pub take_front : (n : ℕ) (xs ys : List ℕ) → length xs ≡ n → take n (xs ++ ys) ≡ xs
-take_front n xs ys h = rw (← h) (take-append_seam xs ys)
+pub take_prefix : (n : ℕ) (xs ys : List ℕ) → length xs ≡ n → take n (xs ++ ys) ≡ xs
+take_prefix n xs ys h = rw (← h) (take-append_seam xs ys)
 
-pub drop_front : (n : ℕ) (xs ys : List ℕ) → length xs ≡ n → drop n (xs ++ ys) ≡ ys
-drop_front n xs ys h = rw (← h) (drop-append_seam xs ys)
+pub drop_prefix : (n : ℕ) (xs ys : List ℕ) → length xs ≡ n → drop n (xs ++ ys) ≡ ys
+drop_prefix n xs ys h = rw (← h) (drop-append_seam xs ys)
 
 -- ---- XOR
 
@@ -178,24 +178,24 @@ two_digests f a b size one two is_a is_b =
     let none : size * 0 ≡ 0 = omega arith in
     let all : size * 1 ≡ size = omega arith in
     rw (is_a, is_b) (below_two (λ j. digest_at size j (f 0 ++ f 1) ≡ f j)
-    (rw none (take_front size (f 0) (f 1) one))
-    (rw (all, drop_front size (f 0) (f 1) one) (take_all size (f 1) (omega arith))))
+    (rw none (take_prefix size (f 0) (f 1) one))
+    (rw (all, drop_prefix size (f 0) (f 1) one) (take_all size (f 1) (omega arith))))
 
 -- ---- digests that are written one after the other
 
-front_alone : (a n : ℕ) (front x y : List ℕ) → a + n ≤ length front
-    → take n (drop a (front ++ x)) ≡ take n (drop a (front ++ y))
-front_alone zero n front x y inside =
-    take-append-le n front x (omega arith) ∙ sym (take-append-le n front y (omega arith))
-front_alone (suc a) n [] x y inside = absurd (omega arith)
-front_alone (suc a) n (b ∷ front) x y inside = front_alone a n front x y (omega arith)
+prefix_alone : (a n : ℕ) (prefix x y : List ℕ) → a + n ≤ length prefix
+    → take n (drop a (prefix ++ x)) ≡ take n (drop a (prefix ++ y))
+prefix_alone zero n prefix x y inside =
+    take-append-le n prefix x (omega arith) ∙ sym (take-append-le n prefix y (omega arith))
+prefix_alone (suc a) n [] x y inside = absurd (omega arith)
+prefix_alone (suc a) n (b ∷ prefix) x y inside = prefix_alone a n prefix x y (omega arith)
 
 -- digest k is the one that was written last
 written_at : (size k : ℕ) (now digest rest : List ℕ) → size * k ≤ length now → length digest ≡ size
     → digest_at size k (take (size * k) now ++ (digest ++ rest)) ≡ digest
 written_at size k now digest rest inside whole =
-    let front : length (take (size * k) now) ≡ size * k = omega (arith, length-take (size * k) now) in
-    rw (drop_front (size * k) (take (size * k) now) (digest ++ rest) front) (take_front size digest rest whole)
+    let prefix : length (take (size * k) now) ≡ size * k = omega (arith, length-take (size * k) now) in
+    rw (drop_prefix (size * k) (take (size * k) now) (digest ++ rest) prefix) (take_prefix size digest rest whole)
 
 -- a digest before it is unchanged
 written_before : (size k j : ℕ) (now rest : List ℕ) → size * k ≤ length now → j < k
@@ -203,8 +203,8 @@ written_before : (size k j : ℕ) (now rest : List ℕ) → size * k ≤ length 
 written_before size k j now rest inside before =
     let place : size * j + size ≤ size * k =
     omega (arith, mul-le-mul_left {m = j + 1} {n = k} size (omega arith)) in
-    let front : length (take (size * k) now) ≡ size * k = omega (arith, length-take (size * k) now) in
-    front_alone (size * j) size (take (size * k) now) rest (drop (size * k) now) (omega arith)
+    let prefix : length (take (size * k) now) ≡ size * k = omega (arith, length-take (size * k) now) in
+    prefix_alone (size * j) size (take (size * k) now) rest (drop (size * k) now) (omega arith)
     ∙ ap (λ (l : List ℕ). digest_at size j l) (take-append-drop (size * k) now)
 
 -- if the digests before number k are those of f and digest k is written, those before number k + 1 are

@@ -12,26 +12,27 @@ chain hash inner outer u zero = u
 chain hash inner outer u (suc n) = hmac_by hash inner outer (chain hash inner outer u n)
 
 -- t with the next n digests after u XORed into it
-unfoldable pub chain_sum : (List ℕ → List ℕ) → List ℕ → List ℕ → List ℕ → List ℕ → ℕ → List ℕ
-chain_sum hash inner outer u t zero = t
-chain_sum hash inner outer u t (suc n) =
-    zip2 bit_xor (chain_sum hash inner outer u t n) (chain hash inner outer u (suc n))
+unfoldable pub chain_xor : (List ℕ → List ℕ) → List ℕ → List ℕ → List ℕ → List ℕ → ℕ → List ℕ
+chain_xor hash inner outer u t zero = t
+chain_xor hash inner outer u t (suc n) =
+    zip2 bit_xor (chain_xor hash inner outer u t n) (chain hash inner outer u (suc n))
 
 -- digest j of digests of `size` bytes each that follow one another
 abbrev pub digest_at : ℕ → ℕ → List ℕ → List ℕ
 digest_at size j bytes = take size (drop (size * j) bytes)
 
--- ---- the same on the words of digests: `behind h d` is the hash value after one block and the digest whose words are
--- ---- d, if it was h after the block
+-- ---- the same on the words of digests: `after_digest h d` is the hash value after one block and the digest whose
+-- ---- words are d, if it was h after the block
 
 -- the words of HMAC of the digest whose words are d, by the hash values inner and outer of the key's two blocks
-unfoldable pub turn : (List ℕ → List ℕ → List ℕ) → List ℕ → List ℕ → List ℕ → List ℕ
-turn behind inner outer d = behind outer (behind inner d)
+unfoldable pub iteration : (List ℕ → List ℕ → List ℕ) → List ℕ → List ℕ → List ℕ → List ℕ
+iteration after_digest inner outer d = after_digest outer (after_digest inner d)
 
 -- the words of the digest after n more iterations
-unfoldable pub turns : (List ℕ → List ℕ → List ℕ) → List ℕ → List ℕ → List ℕ → ℕ → List ℕ
-turns behind inner outer d zero = d
-turns behind inner outer d (suc n) = turn behind inner outer (turns behind inner outer d n)
+unfoldable pub iterations : (List ℕ → List ℕ → List ℕ) → List ℕ → List ℕ → List ℕ → ℕ → List ℕ
+iterations after_digest inner outer d zero = d
+iterations after_digest inner outer d (suc n) =
+    iteration after_digest inner outer (iterations after_digest inner outer d n)
 
 -- the XOR of the first n words of two digests
 unfoldable pub xor_words : ℕ → List ℕ → List ℕ → List ℕ
@@ -40,6 +41,6 @@ xor_words (suc n) x y = xor_words n x y ++ bit_xor (slice_index x n) (slice_inde
 
 -- the m words t with the words of the next n digests XORed into them
 unfoldable pub sums : ℕ → (List ℕ → List ℕ → List ℕ) → List ℕ → List ℕ → List ℕ → List ℕ → ℕ → List ℕ
-sums m behind inner outer d t zero = t
-sums m behind inner outer d t (suc n) =
-    xor_words m (sums m behind inner outer d t n) (turns behind inner outer d (suc n))
+sums m after_digest inner outer d t zero = t
+sums m after_digest inner outer d t (suc n) =
+    xor_words m (sums m after_digest inner outer d t n) (iterations after_digest inner outer d (suc n))

@@ -17,5 +17,5 @@ pub record IsBlock (j : ℕ) (w : List (List ℕ)) (b : List ℕ) : Type 0 where
 
 -- the hash value after one block and the digest whose m words are d, if it was h after the block: the digest and its
 -- padding fill the second block
-unfoldable pub behind : (List ℕ → List ℕ → List ℕ) → ℕ → List ℕ → List ℕ → List ℕ
-behind compress m h d = compress h (digest_bytes d m ++ padding (64 + 4 * m))
+unfoldable pub after_digest : (List ℕ → List ℕ → List ℕ) → ℕ → List ℕ → List ℕ → List ℕ
+after_digest compress m h d = compress h (digest_bytes d m ++ padding (64 + 4 * m))

@@ -3,11 +3,11 @@
 ghost use Rattle.std.specs.Prelude.{◌≡◌, ℕ, ◌+◌, ◌*◌, ◌<◌, ◌≤◌, List, length};
 ghost use Rattle.sha1.specs.Sha1.{compress, initial_hash, sha1};
 ghost use Rattle.sha2.specs.Sha256.{digest_bytes, word_at};
-ghost use Rattle.luks_sha_lanes.specs.Chains.{chain_sum, digest_at};
+ghost use Rattle.luks_sha_lanes.specs.Chains.{chain_xor, digest_at};
 ghost use Rattle.luks_sha_lanes.specs.Lanes.{IsBlock, lane, word};
 
 use crate::block1::compress;
-use crate::turns1::add_turns;
+use crate::iterations1::add_iterations;
 use crate::words::{five, load_be, sixteen};
 use std::simd::prelude::*;
 
@@ -27,14 +27,14 @@ pub fn add_chains<const N: usize>(
     requires last { length last.now ≡ 20 * N }
     requires sums { length sums.old ≡ 20 * N }
     ensures { (j : ℕ) → j < N → digest_at 20 j sums.new
-        ≡ chain_sum sha1 inner.now outer.now (digest_at 20 j last.now)
+        ≡ chain_xor sha1 inner.now outer.now (digest_at 20 j last.now)
         (digest_at 20 j sums.old) count }
 {
     let inside = after_block(inner);
     let outside = after_block(outer);
     let digests = load_digests(last);
     let before = load_digests(sums);
-    let after = add_turns::<N>(&inside, &outside, &digests, count, &before);
+    let after = add_iterations::<N>(&inside, &outside, &digests, count, &before);
     store(&after, sums);
 }
 
@@ -131,7 +131,7 @@ fn lane_word<const N: usize>(x: Simd<u32, N>, j: usize) -> u32
 // Writes the digest whose words are in lane `j`.
 fn store_lane<const N: usize>(x: &[Simd<u32, N>; 5], j: usize, out: &mut [u8])
     requires lane { j < N }
-    requires room { length out.old ≡ 20 }
+    requires capacity { length out.old ≡ 20 }
     ensures { out.new ≡ digest_bytes (lane j x.now) 5 }
 {
     'words: for i in 0..5 {

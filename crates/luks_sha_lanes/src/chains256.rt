@@ -2,12 +2,12 @@
 
 ghost use Rattle.std.specs.Prelude.{◌≡◌, ℕ, ◌+◌, ◌*◌, ◌%◌, ◌^◌, ◌<◌, ◌≤◌, List, length};
 ghost use Rattle.sha2.specs.Sha256.{compress, digest_bytes, initial_hash_256, sha256, word_at};
-ghost use Rattle.luks_sha_lanes.specs.Chains.{chain_sum, digest_at};
+ghost use Rattle.luks_sha_lanes.specs.Chains.{chain_xor, digest_at};
 ghost use Rattle.luks_sha_lanes.specs.Lanes.{IsBlock, lane, word};
 ghost use Rattle.luks_sha_lanes.specs.Lanes256.{AllTwice, IsTwice};
 
 use crate::block256::compress;
-use crate::turns256::add_turns;
+use crate::iterations256::add_iterations;
 use crate::words::load_be;
 use std::simd::prelude::*;
 
@@ -20,14 +20,14 @@ pub fn add_chains(inner: &[u8], outer: &[u8], count: u32, last: &[u8], sums: &mu
     requires last { length last.now ≡ 64 }
     requires sums { length sums.old ≡ 64 }
     ensures { (j : ℕ) → j < 2 → digest_at 32 j sums.new
-        ≡ chain_sum sha256 inner.now outer.now (digest_at 32 j last.now)
+        ≡ chain_xor sha256 inner.now outer.now (digest_at 32 j last.now)
         (digest_at 32 j sums.old) count }
 {
     let inside = after_block(inner);
     let outside = after_block(outer);
     let digests = load_digests(last);
     let before = load_digests(sums);
-    let after = add_turns(&inside, &outside, &digests, count, &before);
+    let after = add_iterations(&inside, &outside, &digests, count, &before);
     let (first, second) = sums.split_at_mut(32);
     store(&after, 0, first);
     store(&after, 1, second);
@@ -142,7 +142,7 @@ fn lane_word(x: u64x2, j: usize) -> u32
 // Writes the digest whose words are in lane `j`.
 fn store(x: &[u64x2; 8], j: usize, out: &mut [u8])
     requires lane { j < 2 }
-    requires room { length out.old ≡ 32 }
+    requires capacity { length out.old ≡ 32 }
     ensures { out.new ≡ digest_bytes (lane j x.now) 8 }
 {
     'words: for i in 0..8 {

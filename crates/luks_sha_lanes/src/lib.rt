@@ -10,6 +10,6 @@ mod block256;
 pub mod chains1;
 pub mod chains256;
 mod constants;
-mod turns1;
-mod turns256;
+mod iterations1;
+mod iterations256;
 mod words;

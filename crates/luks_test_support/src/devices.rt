@@ -91,13 +91,18 @@ pub struct Leaky {
 
 impl Leaky {
     /// A sink with capacity for this many bytes.
-    pub fn new(alloc: Global, room: usize, piece: usize, failing: u64) -> Result<Leaky, AllocError>
+    pub fn new(
+        alloc: Global,
+        capacity: usize,
+        piece: usize,
+        failing: u64,
+    ) -> Result<Leaky, AllocError>
         ensures bytes { IfOk result (λ sink. ⟦<Leaky as Sink>⟧.written sink ≡ Some []) }
         ensures counts { IfOk result (λ sink. ⟦<Leaky as Sink>⟧.counts sink
             ≡ record { failures = 0; needless = 0 }) }
     {
         Ok(Leaky {
-            sink: MemSink::new(alloc, room)?,
+            sink: MemSink::new(alloc, capacity)?,
             piece: piece.max(1),
             failing,
             calls: 0,

@@ -37,15 +37,16 @@ module _ (segment : Segment) (image key plain : List ℕ) (seals : SealsPlain se
   unfolding unit_plain
   plain_again keys =
       ap (λ n. joined (sector_plaintext segment (segment.mode, key) image) (n / sector_len segment))
-      (all_plain segment.offset plain image seals.stands.there segment.size seals.ends)
+      (all_plain segment.offset plain image seals.is_stored.there segment.size seals.ends)
       ∙ units_undone (segment.mode, key) (unit_number segment) (sector_len segment) segment.offset plain image
-      seals.stands keys (sector_blocks segment.sector_size).blocks (sector_plaintext segment (segment.mode, key) image)
+      seals.is_stored keys (sector_blocks segment.sector_size).blocks (sector_plaintext segment (segment.mode, key)
+      image)
       (λ i. refl)
 
   pub ending_again : ending_of segment image ≡ Ok End
   ending_again =
-      let reached : nat_lt (length image) segment.offset ≡ false =
-      le-ltb (length image) segment.offset (omega (arith, seals.stands.there)) in
-      rw reached
-      (ends_well segment.offset plain image seals.stands.there segment.size (sector_len segment) seals.ends
-      seals.stands.whole)
+      let probed : nat_lt (length image) segment.offset ≡ false =
+      le-ltb (length image) segment.offset (omega (arith, seals.is_stored.there)) in
+      rw probed
+      (ends_well segment.offset plain image seals.is_stored.there segment.size (sector_len segment) seals.ends
+      seals.is_stored.whole)

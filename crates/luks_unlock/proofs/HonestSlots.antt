@@ -42,7 +42,7 @@ module _ (passphrase key image : List ℕ) where
       (gives.mode, derived_key gives.kdf passphrase parts.salt parts.iterations parts.area_key_bytes) parts key
       gives.material image some
       (derived_bytes gives.kdf passphrase parts.salt parts.iterations parts.area_key_bytes)
-      gives.is_material gives.stands))
+      gives.is_material gives.is_stored))
 
   -- the key matches its digest
   meets_again : (digest : KeyDigest) → IsDigestOf digest key → matches_digest digest key ≡ true

@@ -8,7 +8,7 @@ use Rattle.luks_open.specs.Opening.{answer_of, first_opening, slot_key, opening_
 use Rattle.luks_open.specs.Order.{entry_at, key_areas_end, order_of}
 use Rattle.luks_open.specs.declared.entry.Entry.{Entry}
 use Rattle.luks_open.specs.declared.opening.Opened.{Opened}
-use Rattle.luks_open.proofs.CallerLemmas.{held_before_payload}
+use Rattle.luks_open.proofs.CallerLemmas.{key_areas_before_payload}
 use Rattle.luks_open.proofs.OrderLemmas.{All-order, IsOf}
 use Rattle.luks_seal.specs.Sealed.{Sealed, SealsKey}
 use Rattle.luks_request.specs.Request.{VolumeRequest}
@@ -71,9 +71,9 @@ module _ (o : VolumeRequest) (image passphrase plain : List ℕ) (honest : IsHon
   held_there : key_areas_end honest.order.slots ≤ length image
   held_there =
       let sealed = honest.sealed in
-      let before = held_before_payload sealed.header sealed.segment o.key_slot o.max_iterations honest.order
+      let before = key_areas_before_payload sealed.header sealed.segment o.key_slot o.max_iterations honest.order
       (is_attached image sealed.header sealed.is_header) sealed.is_segment honest.is_order in
-      omega (arith, before, sealed.payload.stands.there)
+      omega (arith, before, sealed.payload.is_stored.there)
 
   -- the volume is found
   found : volume_outcome (payload_outcome image passphrase) o image passphrase

@@ -1,4 +1,4 @@
-pub mod FrontLemmas
+pub mod PrefixLemmas
 pub mod HonestPayload
 pub mod HonestSlots
 pub mod HonestVolumes

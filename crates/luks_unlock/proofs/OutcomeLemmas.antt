@@ -19,7 +19,7 @@ use Rattle.luks_open.specs.declared.opening.Opened.{Opened}
 use Rattle.luks_report.specs.declared.message.Message.{Message}
 use Rattle.luks_report.specs.declared.message.Message.TheVariants.{Cut, KeyFileLength}
 use Rattle.luks_request.specs.Request.{VolumeRequest}
-use Rattle.luks_runs.proofs.HeaderConsumption.{cost_there}
+use Rattle.luks_runs.proofs.HeaderConsumption.{header_read_len_within}
 use Rattle.luks_runs.specs.RunOutcome.{no_output}
 use Rattle.luks_runs.specs.KeyFile.{max_key_file_len}
 use Rattle.luks_runs.specs.Location.{reader_for}
@@ -57,54 +57,60 @@ module _ (on_opened : OnOpened) (named : Option ℕ) (v : Volume) (image secret 
 -- ---- the loaded area
 
 module _ (image area area' : List ℕ) (i : Option (List ℕ)) (loaded : ℕ)
-    (front : area ≡ take (header_read_len image) image) where
-  pub front_len : length area ≡ header_read_len image
-  front_len = cost_held image area front
+    (prefix : area ≡ take (header_read_len image) image) where
+  pub prefix_length : length area ≡ header_read_len image
+  prefix_length = cost_held image area prefix
 
   -- if `n` more bytes were appended to the area, it has that many more of the image's first bytes
   pub area_more : (n : ℕ) → ConsumedOnto area area' (drop (header_read_len image) image) i n
       → (area' ≡ take (header_read_len image + n) image) × ConsumedExactly image i (header_read_len image + n)
   area_more n grows = (
-    grows.1 ∙ ap (λ l. l ++ take n (drop (header_read_len image) image)) front
+    grows.1 ∙ ap (λ l. l ++ take n (drop (header_read_len image) image)) prefix
         ∙ sym (take-add (header_read_len image) n image),
     record {
-      within = omega (arith, grows.0.within, length-drop (header_read_len image) image, cost_there image);
+      within = omega (arith, grows.0.within, length-drop (header_read_len image) image, header_read_len_within image);
       left = grows.0.left ∙ ap Some (drop-drop n (header_read_len image) image);
     },
   )
 
   module _ (grows : ConsumedOnto area area' (drop (header_read_len image) image) i
       (min (loaded - length area) (length (drop (header_read_len image) image)))) where
-    reached : ℕ
-    reached = header_read_len image + min (loaded - length area) (length (drop (header_read_len image) image))
+    probed : ℕ
+    probed = header_read_len image + min (loaded - length area) (length (drop (header_read_len image) image))
 
-    grown : (length area' ≡ reached) × (reached ≡ max (header_read_len image) (min loaded (length image)))
-    unfolding reached
+    grown : (length area' ≡ probed) × (probed ≡ max (header_read_len image) (min loaded (length image)))
+    unfolding probed
     grown =
         let more = area_more _ grows in (
           ap length more.0
               ∙ length-take-le _ image more.1.within,
-          omega (arith, front_len, length-drop (header_read_len image) image, cost_there image),
+          omega (arith, prefix_length, length-drop (header_read_len image) image, header_read_len_within image),
         )
 
     -- if the area has fewer bytes than were to be loaded, the image ended first, and all of it was consumed
     pub area_cut : length area' < loaded → (length image < loaded) × ConsumedExactly image i (length image)
-    unfolding reached
+    unfolding probed
     area_cut short =
         let more = area_more _ grows in
-        let all : reached ≡ length image = omega (arith, grown.0, grown.1, cost_there image) in
-        (omega (arith, grown.0, grown.1, cost_there image), rw all at more.1)
+        let all : probed ≡ length image = omega (arith, grown.0, grown.1, header_read_len_within image) in
+        (omega (arith, grown.0, grown.1, header_read_len_within image), rw all at more.1)
 
     -- if the area has all bytes that were to be loaded, they are the image's first bytes, and no more were consumed
-    pub area_held : loaded ≤ length area'
+    pub area_loaded : loaded ≤ length area'
         → (loaded ≤ length image) × (length area' ≡ max (header_read_len image) loaded)
         × (area' ≡ take (max (header_read_len image) loaded) image)
         × ConsumedExactly image i (max (header_read_len image) loaded)
-    unfolding reached
-    area_held enough =
+    unfolding probed
+    area_loaded enough =
         let more = area_more _ grows in
-        let there : loaded ≤ length image = omega (arith, grown.0, grown.1, cost_there image, more.1.within) in
-        let all : reached ≡ max (header_read_len image) loaded = omega (arith, grown.1) in
+        let there : loaded ≤ length image = omega (
+          arith,
+          grown.0,
+          grown.1,
+          header_read_len_within image,
+          more.1.within,
+        ) in
+        let all : probed ≡ max (header_read_len image) loaded = omega (arith, grown.1) in
         (there, grown.0 ∙ all, rw all at more.0, rw all at more.1)
 
 -- ---- the outcome on an image
@@ -132,16 +138,16 @@ module _ (location : HeaderLocation) (o : VolumeRequest) (image pass : List ℕ)
 
     -- if the key areas were loaded and trying the key slots has this result, the outcome is that of the result
     pub tried_is : (short : length pass ≤ max_key_file_len) (area area' : List ℕ) (i : Option (List ℕ))
-        (front : area ≡ take (header_read_len image) image)
+        (prefix : area ≡ take (header_read_len image) image)
         (grows : ConsumedOnto area area' (drop (header_read_len image) image) i
         (min (key_areas_end order.slots - length area) (length (drop (header_read_len image) image))))
         (enough : key_areas_end order.slots ≤ length area') (r : Result Opened OpenFault)
         (tried : opening_of order area' pass ≡ r) (on_opened : OnOpened)
         → volume_outcome_by (reader_for location) on_opened o image pass
         ≡ opened_outcome on_opened o.key_slot (volume_with header segment order) image pass r
-    tried_is short area area' i front grows enough r tried on_opened =
+    tried_is short area area' i prefix grows enough r tried on_opened =
         let v = volume_with header segment order in
-        let loaded = area_held image area area' i (key_areas_end order.slots) front grows enough in
+        let loaded = area_loaded image area area' i (key_areas_end order.slots) prefix grows enough in
         let whole : opening_of order image pass ≡ r =
         sym (opening_beginning order (max (header_read_len image) (key_areas_end order.slots)) image pass (omega arith))
         ∙ ap (λ l. opening_of order l pass) (sym loaded.2) ∙ tried in

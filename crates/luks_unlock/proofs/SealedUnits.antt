@@ -39,7 +39,7 @@ unit_within len size i below =
     omega (arith, div-mul-le_self len size)
 
 module _ (cipher : Cipher) (number : ℕ → ℕ) (size place : ℕ) (plain image : List ℕ)
-    (stands : IsStoredEncrypted cipher number size place plain image) where
+    (is_stored : IsStoredEncrypted cipher number size place plain image) where
   unit_len : (i : ℕ) → i < length plain / size → length (at (i * size) size plain) ≡ size
   unit_len i below =
       let inside = unit_within (length plain) size i below in
@@ -50,9 +50,9 @@ module _ (cipher : Cipher) (number : ℕ → ℕ) (size place : ℕ) (plain imag
     unit_undone : (i : ℕ) → i < length plain / size
         → sector_decrypted cipher.0 cipher.1 (number i) (at (place + i * size) size image) ≡ at (i * size) size plain
     unit_undone i below =
-        ap (sector_decrypted cipher.0 cipher.1 (number i)) (stands.units i below)
+        ap (sector_decrypted cipher.0 cipher.1 (number i)) (is_stored.units i below)
         ∙ sector_decrypted-sector_encrypted cipher.0 cipher.1 (number i) (at (i * size) size plain) keys
-        (bytes_take size (drop (i * size) plain) (bytes_drop (i * size) plain stands.bytes))
+        (bytes_take size (drop (i * size) plain) (bytes_drop (i * size) plain is_stored.bytes))
         (ap (λ n. n % 16) (unit_len i below) ∙ blocks)
 
     -- all units of the image decrypt to the plain bytes
@@ -63,7 +63,7 @@ module _ (cipher : Cipher) (number : ℕ → ℕ) (size place : ℕ) (plain imag
         joined_same unit (λ i. at (i * size) size plain) (length plain / size)
         (λ i below. is i ∙ unit_undone i below)
         ∙ joined_units plain size (length plain / size)
-        ∙ take_all (length plain / size * size) plain (omega (arith, whole_units (length plain) size stands.whole))
+        ∙ take_all (length plain / size * size) plain (omega (arith, whole_units (length plain) size is_stored.whole))
 
 -- key material that was made of a key merges to that key
 pub unlocked_again : (af : Hash) (cipher : Cipher) (parts : SlotParts) (key material image : List ℕ)
@@ -71,11 +71,11 @@ pub unlocked_again : (af : Hash) (cipher : Cipher) (parts : SlotParts) (key mate
     → IsStoredEncrypted cipher (λ i. i) 512 parts.area_offset material image
     → unlocked af cipher image parts.area_offset (length key) parts.stripes ≡ key
 unfolding unlocked decrypted_material
-unlocked_again af cipher parts key material image some keys made stands =
+unlocked_again af cipher parts key material image some keys made is_stored =
     let offset = parts.area_offset in
     let stripes = parts.stripes in
     let sectors : joined (material_sector cipher image offset) (length material / 512) ≡ material =
-    units_undone cipher (λ i. i) 512 offset material image stands keys refl (material_sector cipher image offset)
+    units_undone cipher (λ i. i) 512 offset material image is_stored keys refl (material_sector cipher image offset)
     (λ i. let same : offset + 512 * i ≡ offset + i * 512 = omega arith in
     ap (λ place. sector_decrypted cipher.0 cipher.1 i (at place 512 image)) same) in
     let all : joined (material_sector cipher image offset) (need_of (length key) stripes / 512) ≡ material =

@@ -22,7 +22,7 @@ use Rattle.luks_open.specs.declared.fault.OpenFault.TheVariants.{NoSuchSlot as N
 use Rattle.luks_open.specs.declared.fault.OpenFault.TheVariants.{NothingTried as NoneTried, NoKey as NoneOpens, Memory}
 use Rattle.luks_report.specs.Faults.{message_for_header, message_for_opening}
 use Rattle.luks_request.specs.Request.{VolumeRequest}
-use Rattle.luks_runs.proofs.HeaderConsumption.{cost_there, reading_fault}
+use Rattle.luks_runs.proofs.HeaderConsumption.{header_read_len_within, reading_fault}
 use Rattle.luks_unlock.specs.Finding.{AbortsFinding, FindsVolume}
 use Rattle.luks_unlock.specs.Trying.{HitsEndOfAreas}
 use Rattle.luks_unlock.specs.declared.finding.FoundVolume.{FoundVolume}
@@ -35,7 +35,8 @@ use Rattle.luks_report.specs.declared.message.Message.TheVariants.{OutOfMemory, 
 
 -- the loaded area is as long as what reading the header consumes
 pub cost_held : (image area : List ℕ) → area ≡ take (header_read_len image) image → length area ≡ header_read_len image
-cost_held image area front = ap length front ∙ length-take-le (header_read_len image) image (cost_there image)
+cost_held image area prefix = ap length prefix ∙ length-take-le (header_read_len image) image (header_read_len_within
+    image)
 
 -- nothing is consumed from an image of which no bytes remain
 pub none_behind : (area rest : List ℕ) (left : Option (List ℕ)) (most : ℕ) → left ≡ Some rest → rest ≡ []

@@ -40,7 +40,7 @@ pub record HasSlots (o : VolumeRequest) (volume : FoundVolume) : Type 0 where
 pub record FindsVolume (location : HeaderLocation) (o : VolumeRequest) (volume : FoundVolume)
     (before after : Option (List ℕ)) (counts counts' : ReadCounts) : Type 0 where
   pub slots : HasSlots o volume
-  pub front : reader_for location volume.area.bytes ≡ Ok volume.header
+  pub of_area : reader_for location volume.area.bytes ≡ Ok volume.header
   pub area : length volume.area.bytes ≡ header_read_len volume.area.bytes
   pub header : IfKnown before (λ known. (reader_for location known ≡ Ok volume.header)
       × (volume.area.bytes ≡ take (header_read_len known) known)

@@ -12,7 +12,7 @@ use input::{Input, InputFault};
 use luks_cli::execute::{execute, execute_detached};
 use luks_cli::{Command, Message, NOT_OPENED, Report, not_opened_text, plan};
 use luks_io::adapters::{ReadSource, WriteSink};
-use luks_io::ahead::AheadSource;
+use luks_io::ahead::ReadAheadSource;
 use luks_io::sink::put_all;
 use output::{RetryingWriter, stand_in};
 use std::env;
@@ -45,7 +45,7 @@ fn main(rt: HostRuntime) -> ExitCode {
 /// command was not started, or if its output was not all written.
 fn run(rt: &HostRuntime, command: &Command<'_>) -> Result<ExitCode, ExitCode> {
     let image = ReadSource::new(open(rt, Some(command.image()))?);
-    let Ok(mut image) = AheadSource::new(rt.alloc(), BUFFER, image) else {
+    let Ok(mut image) = ReadAheadSource::new(rt.alloc(), BUFFER, image) else {
         return Err(end(rt, Message::OutOfMemory));
     };
     let mut header = ReadSource::new(open(rt, command.header())?);

@@ -1,12 +1,14 @@
 //! `luksCat` over an image that is read ahead: it allows read-ahead for what it needs and no more,
 //! so that what follows the payload remains for the next reader.
 
-use super::runs::{CAT, CAT_DETACHED, DONE, WRITE_FAILED, check_told, report_of, sink, words_of};
+use super::runs::{
+    CAT, CAT_DETACHED, DONE, WRITE_FAILED, check_reported, report_of, sink, words_of,
+};
 use super::same::{assert_in, assert_same_in};
 use super::volume::{
-    NAMES_64_KIB, PASSPHRASE, PLAIN, PLAIN_LEN, changed, front2, payload_of, sealed2,
+    NAMES_64_KIB, PASSPHRASE, PLAIN, PLAIN_LEN, changed, payload_of, prefix2, sealed2,
 };
-use luks_io::ahead::AheadSource;
+use luks_io::ahead::ReadAheadSource;
 use luks_io::memory::{MemSink, MemSource};
 use luks_report::message::Message;
 use luks_report::report::Report;
@@ -14,14 +16,14 @@ use luks_seal_fixtures::bytes::at;
 use luks_test_support::devices::Flaky;
 use std::process::Abort;
 
-// An image that gives all bytes that are requested, and reads up to `room` bytes ahead.
+// An image that gives all bytes that are requested, and reads up to `capacity` bytes ahead.
 fn ahead<'a>(
     rt: &(impl Abort + AllocGlobal),
     image: &'a [u8],
-    room: usize,
-) -> AheadSource<Flaky<'a>> {
+    capacity: usize,
+) -> ReadAheadSource<Flaky<'a>> {
     let below = Flaky::new(image, 0, u64::MAX);
-    AheadSource::new(rt.alloc(), room, below).expect(rt, "room for what is read ahead")
+    ReadAheadSource::new(rt.alloc(), capacity, below).expect(rt, "room for what is read ahead")
 }
 
 // What a run over this image reports.
@@ -29,7 +31,7 @@ fn report_ahead(
     rt: &(impl Abort + AllocGlobal),
     line: &str,
     (header, secret): (&[u8], &[u8]),
-    image: &mut AheadSource<Flaky<'_>>,
+    image: &mut ReadAheadSource<Flaky<'_>>,
     out: &mut MemSink,
 ) -> Report {
     let words = words_of(rt, line);
@@ -39,35 +41,35 @@ fn report_ahead(
 }
 
 /// A run whose image is read ahead.
-struct Taken {
+struct AheadRow {
     line: &'static str,
     /// How many bytes may be read ahead, and the capacity of the output.
-    room: usize,
+    capacity: usize,
     space: usize,
     /// How many bytes of the plaintext are written.
     written: usize,
     /// The status and the message.
-    told: &'static str,
+    reported: &'static str,
     /// How many bytes of the image remain.
     left: usize,
 }
 
 /// Runs over the same image, with different capacities for read-ahead.
 struct Rooms {
-    none: Taken,
-    all: Taken,
-    others: &'static [Taken],
+    none: AheadRow,
+    all: AheadRow,
+    others: &'static [AheadRow],
 }
 
 // A run with this capacity for read-ahead.
-macro_rules! taken {
-    ($room:literal, $written:expr, $left:expr) => {
-        Taken {
+macro_rules! row_of {
+    ($capacity:literal, $written:expr, $left:expr) => {
+        AheadRow {
             line: CAT,
-            room: $room,
+            capacity: $capacity,
             space: 65_536,
             written: $written,
-            told: DONE,
+            reported: DONE,
             left: $left,
         }
     };
@@ -78,15 +80,15 @@ macro_rules! taken {
 macro_rules! rooms {
     ($written:expr, $left:expr) => {
         Rooms {
-            none: taken!(0, $written, $left),
-            all: taken!(65_536, $written, $left),
+            none: row_of!(0, $written, $left),
+            all: row_of!(65_536, $written, $left),
             others: &[
-                taken!(1, $written, $left),
-                taken!(511, $written, $left),
-                taken!(512, $written, $left),
-                taken!(513, $written, $left),
-                taken!(1023, $written, $left),
-                taken!(4096, $written, $left),
+                row_of!(1, $written, $left),
+                row_of!(511, $written, $left),
+                row_of!(512, $written, $left),
+                row_of!(513, $written, $left),
+                row_of!(1023, $written, $left),
+                row_of!(4096, $written, $left),
             ],
         }
     };
@@ -95,12 +97,17 @@ macro_rules! rooms {
 // The run reports the row's message, writes a prefix of the plaintext up to the capacity of the
 // output, and leaves the row's number of bytes of the image. Returns the number of calls of the
 // image.
-fn check_ahead(rt: &(impl Abort + AllocGlobal), header: &[u8], image: &[u8], row: &Taken) -> u64 {
-    let case = (row.line, row.room, image.len(), row.left);
-    let mut image = ahead(rt, image, row.room);
+fn check_ahead(
+    rt: &(impl Abort + AllocGlobal),
+    header: &[u8],
+    image: &[u8],
+    row: &AheadRow,
+) -> u64 {
+    let case = (row.line, row.capacity, image.len(), row.left);
+    let mut image = ahead(rt, image, row.capacity);
     let mut out = sink(rt, row.space);
     let report = report_ahead(rt, row.line, (header, PASSPHRASE), &mut image, &mut out);
-    check_told(rt, &case, &report, row.told);
+    check_reported(rt, &case, &report, row.reported);
     let written = at(out.as_slice(), 0, PLAIN_LEN);
     assert_same_in(rt, &case, written, at(&PLAIN, 0, row.written));
     assert_same_in(rt, &case, image.get_ref().left(), row.left);
@@ -144,7 +151,7 @@ static OF_BEHIND: Rooms = rooms!(PLAIN_LEN, 80_000 - 36_864 - 33_792);
 // own without read-ahead. One payload ends within the bytes that the search for a header has read,
 // and one of 66 sectors ends after them.
 #[test]
-fn no_more_is_taken_than_the_payload(rt: HostRuntime) {
+fn no_more_is_consumed_than_the_payload(rt: HostRuntime) {
     check_size(&rt, "dynamic", &OF_ALL);
     let one = check_size(&rt, "512", &OF_ONE);
     let two = check_size(&rt, "1024", &OF_TWO);
@@ -156,20 +163,20 @@ fn no_more_is_taken_than_the_payload(rt: HostRuntime) {
 
 // A run with a detached header and this capacity for read-ahead.
 macro_rules! beside {
-    ($room:literal) => {
-        Taken {
+    ($capacity:literal) => {
+        AheadRow {
             line: CAT_DETACHED,
-            room: $room,
+            capacity: $capacity,
             space: 4096,
             written: 1024,
-            told: DONE,
+            reported: DONE,
             left: 512,
         }
     };
 }
 
 // The number of calls of the image.
-static ASKED: [(Taken, u64); 5] = [
+static ASKED: [(AheadRow, u64); 5] = [
     (beside!(0), 2),
     (beside!(1), 2),
     (beside!(512), 2),
@@ -180,37 +187,37 @@ static ASKED: [(Taken, u64); 5] = [
 fn check_beside(rt: &(impl Abort + AllocGlobal), header: &[u8], image: &[u8]) {
     for (row, calls) in &ASKED {
         let asked = check_ahead(rt, header, image, row);
-        assert_same_in(rt, &row.room, asked, *calls);
+        assert_same_in(rt, &row.capacity, asked, *calls);
     }
 }
 
 // With a detached header, the payload starts at the image's first byte, and is read in one call if
 // all of it is read ahead.
 #[test]
-fn no_more_is_taken_beside_a_header(rt: HostRuntime) {
+fn no_more_is_consumed_beside_a_header(rt: HostRuntime) {
     let image = sealed2(&rt, "dynamic");
-    check_beside(&rt, &front2(&rt, "0", "1024"), payload_of(&image))
+    check_beside(&rt, &prefix2(&rt, "0", "1024"), payload_of(&image))
 }
 
 // A run whose output has no capacity.
 macro_rules! full {
-    ($room:literal, $left:literal) => {
-        Taken {
+    ($capacity:literal, $left:literal) => {
+        AheadRow {
             line: CAT,
-            room: $room,
+            capacity: $capacity,
             space: 0,
             written: 0,
-            told: WRITE_FAILED,
+            reported: WRITE_FAILED,
             left: $left,
         }
     };
 }
 
-static FULL: [Taken; 3] = [full!(0, 1024), full!(512, 1024), full!(65_536, 512)];
+static FULL: [AheadRow; 3] = [full!(0, 1024), full!(512, 1024), full!(65_536, 512)];
 
 // If a write fails, bytes that were read ahead are lost, but none after the payload.
 #[test]
-fn no_more_is_taken_if_a_write_fails(rt: HostRuntime) {
+fn no_more_is_consumed_if_a_write_fails(rt: HostRuntime) {
     let image = sealed2(&rt, "1024");
     for row in &FULL {
         check_ahead(&rt, &[], &image, row);
@@ -221,7 +228,7 @@ fn no_more_is_taken_if_a_write_fails(rt: HostRuntime) {
 // consumed are written, and the image is not called after that.
 fn check_failed_read(rt: &(impl Abort + AllocGlobal), image: &[u8], call: u64) -> Report {
     let below = Flaky::new(image, 700, call);
-    let mut source = AheadSource::new(rt.alloc(), 1024, below).expect(rt, "room");
+    let mut source = ReadAheadSource::new(rt.alloc(), 1024, below).expect(rt, "room");
     let mut out = sink(rt, 4096);
     let report = report_ahead(rt, CAT, (&[], PASSPHRASE), &mut source, &mut out);
     check_consumed(rt, call, image.len(), source.get_ref(), &out);

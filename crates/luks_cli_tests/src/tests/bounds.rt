@@ -47,11 +47,11 @@ macro_rules! bytes_of {
 // and leaves of the key file: the key slot or the segment is refused right after the header was
 // read, or the key slot is tried.
 macro_rules! number {
-    ($place:ident, $number:literal, $told:ident, $consumed:literal, $unread:literal) => {
+    ($place:ident, $number:literal, $reported:ident, $consumed:literal, $unread:literal) => {
         Row {
             lines: &[TEST],
             changes: &[($place, &bytes_of!($number))],
-            told: $told,
+            reported: $reported,
             consumed: $consumed,
             unread: $unread,
             ..CAT_ROW
@@ -117,11 +117,11 @@ const READ_FAILED: &str = "6 luksrd: read failed\n";
 // A row of `luksCat` of the whole image with these limits: how many bytes of the plaintext are
 // written, what is reported, and how many bytes are consumed of the image and left of the key file.
 macro_rules! limited {
-    ($limits:expr, $written:literal, $told:ident, $consumed:literal, $unread:literal) => {
+    ($limits:expr, $written:literal, $reported:ident, $consumed:literal, $unread:literal) => {
         Row {
             limits: $limits,
             output: Output::Plain($written),
-            told: $told,
+            reported: $reported,
             consumed: $consumed,
             unread: $unread,
             ..CAT_ROW

@@ -2,13 +2,13 @@
 //! failing allocations.
 
 use super::devices::{Pieces, Trial, check_failures, check_pieces, check_truncated};
-use super::headers::{self, FIELDS, Page};
+use super::headers::{self, FIELDS, PrintedText};
 use super::headers2::{self, image2};
 use super::runs::{CAT, CAT_DETACHED, OPENS, TEST, TEST_DETACHED, words_of};
 use super::scarce::check_refusals;
 use super::stripes::{self, FF, MERGE_2, SPLIT_2, ZEROS};
 use super::volume::{
-    AT_START, PASSPHRASE, PLAIN, PLAIN_LEN, SMALL_LEN, changed, front2, payload_of, sealed2, small,
+    AT_START, PASSPHRASE, PLAIN, PLAIN_LEN, SMALL_LEN, changed, payload_of, prefix2, sealed2, small,
 };
 use luks_args::planning::plan;
 use luks_request::command::Command;
@@ -84,20 +84,20 @@ pub(super) fn check_trial(
 }
 
 // The lines print these texts of an image, and leave `left` bytes of it.
-fn check_pages(
+fn check_printed_texts(
     rt: &(impl Abort + AllocGlobal),
     hardship: Hardship,
     (image, piece, left): (&[u8], usize, usize),
-    rows: &[Page],
+    rows: &[PrintedText],
 ) {
-    for (line, page, has_findings) in rows {
+    for (line, shown, has_findings) in rows {
         let trial = Trial {
             line,
             header: &[],
             image,
             secret: &[],
             start: usize::MAX,
-            whole: page.as_bytes(),
+            whole: shown.as_bytes(),
             has_findings: *has_findings,
             left,
         };
@@ -107,9 +107,9 @@ fn check_pages(
 
 fn check_headers(rt: &(impl Abort + AllocGlobal), hardship: Hardship) {
     let first = changed(rt, &[], 592, &FIELDS);
-    check_pages(rt, hardship, (&first, 5, 0), &headers::PAGES);
+    check_printed_texts(rt, hardship, (&first, 5, 0), &headers::PRINTED_TEXTS);
     let second = image2(rt);
-    check_pages(rt, hardship, (&second, 327, 10), &headers2::PAGES)
+    check_printed_texts(rt, hardship, (&second, 327, 10), &headers2::PRINTED_TEXTS)
 }
 
 // The pieces that the devices of a run move if a call fails.
@@ -170,7 +170,7 @@ fn check_detached(rt: &(impl Abort + AllocGlobal), first: Hardship, second: Hard
     let payload = payload_of(&volume);
     let header = changed(rt, &volume, 4608, AT_START);
     check_both(rt, first, &header, payload, BESIDE);
-    check_both(rt, second, &front2(rt, "0", "dynamic"), payload, BESIDE)
+    check_both(rt, second, &prefix2(rt, "0", "dynamic"), payload, BESIDE)
 }
 
 #[test]

@@ -11,11 +11,11 @@ use std::process::Abort;
 // many bytes of the plaintext and reports this. It reads the key file only after it has the header,
 // and leaves this many bytes of it.
 macro_rules! cut {
-    ($len:literal, $written:literal, $told:ident, $unread:literal) => {
+    ($len:literal, $written:literal, $reported:ident, $unread:literal) => {
         Row {
             len: $len,
             output: Output::Plain($written),
-            told: $told,
+            reported: $reported,
             unread: $unread,
             ..CAT_ROW
         }
@@ -117,9 +117,9 @@ fn torn_line(rt: &(impl Abort + AllocGlobal), torn: usize) -> String {
 // A small volume, truncated after `len` bytes of its payload.
 fn check_torn(rt: &(impl Abort + AllocGlobal), image: &[u8], len: usize) {
     let torn = len % 512;
-    let told = torn_line(rt, torn);
+    let reported = torn_line(rt, torn);
     let inputs: Inputs<'_> = [&[], at(image, 0, len.saturating_add(36_864)), PASSPHRASE];
-    let ends = (at(&PLAIN, 0, len - torn), told.as_str());
+    let ends = (at(&PLAIN, 0, len - torn), reported.as_str());
     check(rt, CAT, inputs, ends, (0, 0, 0))
 }
 

@@ -6,7 +6,7 @@ use super::runs::{
     TEST_DETACHED, TORN_511, check,
 };
 use super::volume::{
-    AT_START, Changes, PASSPHRASE, PLAIN, USUAL_LEN, changed, front2, payload_of, usual,
+    AT_START, Changes, PASSPHRASE, PLAIN, USUAL_LEN, changed, payload_of, prefix2, usual,
 };
 use luks_seal_fixtures::bytes::at;
 use std::process::Abort;
@@ -207,10 +207,10 @@ static ROWS: [Row<'static>; 15] = [
 fn check_row<'a>(
     rt: &(impl Abort + AllocGlobal),
     parts: &Parts<'a>,
-    (line, [header, image], secret, (output, told), left): Row<'a>,
+    (line, [header, image], secret, (output, reported), left): Row<'a>,
 ) {
     let inputs: Inputs<'_> = [parts.of(header), parts.of(image), secret];
-    check(rt, line, inputs, (output.bytes(), told), left)
+    check(rt, line, inputs, (output.bytes(), reported), left)
 }
 
 fn check_parts(rt: &(impl Abort + AllocGlobal), parts: &Parts<'_>) {
@@ -234,7 +234,7 @@ const SHORT: &str = "4 luksrd: image ends 512 bytes before the segment does\n";
 
 const CLEAN: Ends<'static> = (b"clean\n", DONE);
 
-const AMISS: Ends<'static> = (b"segment: offset\n", FINDINGS);
+const ONE_FINDING: Ends<'static> = (b"segment: offset\n", FINDINGS);
 
 /// The payload's offset and size as a LUKS2 header has them, how many bytes the image has before
 /// the payload, how many bytes of the plaintext are written, what is reported, how many bytes
@@ -253,19 +253,25 @@ static PLACES: [Place; 6] = [
     (("0", "2048"), 0, (1536, SHORT), (0, 0, 0), CLEAN),
     (("1024", "dynamic"), 1024, (1536, DONE), (0, 0, 0), CLEAN),
     (("4096", "dynamic"), 1024, (0, BEFORE), (0, 0, 0), CLEAN),
-    (("100", "dynamic"), 0, (0, OFFSET), (512, 1536, 13), AMISS),
+    (
+        ("100", "dynamic"),
+        0,
+        (0, OFFSET),
+        (512, 1536, 13),
+        ONE_FINDING,
+    ),
 ];
 
 // The image has the last `before` of the 1,024 bytes that precede the payload.
 fn check_place(
     rt: &(impl Abort + AllocGlobal),
     image: &[u8],
-    ((offset, size), before, (written, told), left, found): Place,
+    ((offset, size), before, (written, reported), left, found): Place,
 ) {
-    let header = front2(rt, offset, size);
+    let header = prefix2(rt, offset, size);
     let image = at(image, 1024usize.saturating_sub(before), 2560);
     let inputs: Inputs<'_> = [header.as_slice(), image, PASSPHRASE];
-    let ends = (at(&PLAIN, 0, written), told);
+    let ends = (at(&PLAIN, 0, written), reported);
     check(rt, CAT_DETACHED, inputs, ends, left);
     let left = (512, image.len(), 13);
     check(rt, "luksCheck --header h i", inputs, found, left)

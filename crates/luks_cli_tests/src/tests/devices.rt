@@ -101,13 +101,13 @@ fn run<'a>(
 
 // No read of the source was needless: none was empty or came after the end was hit, and none came
 // after the failed read.
-fn is_asked_rightly(way: Way, source: &Flaky<'_>) -> bool {
+fn reads_as_needed(way: Way, source: &Flaky<'_>) -> bool {
     let last = source.counts.failures == 0 || source.calls() == way.call.saturating_add(1);
     last && source.counts.ends <= 1 && source.counts.needless == 0
 }
 
 // No write to the output was needless: none was empty, and none came after the failed write.
-fn is_brought_rightly(way: Way, out: &Leaky) -> bool {
+fn writes_as_needed(way: Way, out: &Leaky) -> bool {
     let last = out.failures() == 0 || out.calls() == way.call.saturating_add(1);
     last && out.counts.needless == 0
 }
@@ -115,10 +115,10 @@ fn is_brought_rightly(way: Way, out: &Leaky) -> bool {
 impl Ended<'_> {
     // No call of a device was needless.
     fn is_sparing(&self, way: Way) -> bool {
-        is_asked_rightly(way, &self.header)
-            && is_asked_rightly(way, &self.image)
-            && is_asked_rightly(way, &self.secret)
-            && is_brought_rightly(way, &self.out)
+        reads_as_needed(way, &self.header)
+            && reads_as_needed(way, &self.image)
+            && reads_as_needed(way, &self.secret)
+            && writes_as_needed(way, &self.out)
     }
 
     // Whether a call failed.
@@ -137,12 +137,12 @@ type Moved<'a> = (&'a [u8], usize);
 // consumed are written. After a failed read of another input, nothing is written, and nothing of
 // the payload is consumed. After a failed write, no byte past the current sector was consumed.
 fn check_failed(rt: &impl Abort, way: Way, report: Report, (written, consumed): Moved<'_>) {
-    let told = if way.device == 2 {
+    let reported = if way.device == 2 {
         Message::WriteFailed
     } else {
         Message::ReadFailed
     };
-    assert_in(rt, &way, report == Report::of(told));
+    assert_in(rt, &way, report == Report::of(reported));
     match way.device {
         0 => assert_same_in(rt, &way, written.len(), consumed / 512 * 512),
         2 => assert_in(rt, &way, consumed <= (written.len() / 512 + 1) * 512),

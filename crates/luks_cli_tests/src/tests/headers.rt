@@ -62,19 +62,19 @@ const DUMP: &str = dump!(
 const UUID: &str = "0123456789012345678901234567890123456789\n";
 
 // The finding in that header: one of its slots is damaged.
-const AMISS: &str = "slot 2: state\n";
+const ONE_FINDING: &str = "slot 2: state\n";
 
 const EMPTY: &str = "";
 
 /// A line, the text that it prints, and whether it has findings.
-pub(super) type Page = (&'static str, &'static str, bool);
+pub(super) type PrintedText = (&'static str, &'static str, bool);
 
 /// What each command prints of the header of `FIELDS`.
-pub(super) static PAGES: [Page; 4] = [
+pub(super) static PRINTED_TEXTS: [PrintedText; 4] = [
     ("isLuks i", EMPTY, false),
     ("luksUUID i", UUID, false),
     ("luksDump i", DUMP, false),
-    ("luksCheck i", AMISS, true),
+    ("luksCheck i", ONE_FINDING, true),
 ];
 
 // Texts that are empty, are not ASCII, or contain a newline.
@@ -113,14 +113,14 @@ const NO: &str = "1 ";
 // Lines, changes of the header, its length, and what each line prints and reports. A command on
 // headers reads no second input.
 macro_rules! printed {
-    ($lines:ident, $changes:expr, $len:literal, $page:expr, $told:ident) => {
+    ($lines:ident, $changes:expr, $len:literal, $shown:expr, $reported:ident) => {
         Row {
             lines: $lines,
             len: $len,
             changes: $changes,
             secret: b"secret",
-            output: Output::Text($page),
-            told: $told,
+            output: Output::Text($shown),
+            reported: $reported,
             consumed: 592,
             unread: 6,
             ..CAT_ROW
@@ -135,7 +135,7 @@ static ROWS: [Row<'static>; 25] = [
     printed!(IS, &[], 593, EMPTY, DONE),
     printed!(DUMPS, ODD, 592, ODD_DUMP, DONE),
     printed!(UUIDS, ODD, 592, ODD_UUID, DONE),
-    printed!(CHECKS, &[], 592, AMISS, FINDINGS),
+    printed!(CHECKS, &[], 592, ONE_FINDING, FINDINGS),
     printed!(CHECKS, &[(304, DISABLED)], 592, "clean\n", DONE),
     printed!(IS, &[], 0, EMPTY, NO),
     printed!(BOTH, &[], 0, EMPTY, NOT_LUKS),
@@ -166,7 +166,7 @@ static OF_10: [Row<'static>; 1] = [Row {
     lines: DUMPS,
     limits: (ALL, ALL, 10),
     output: Output::Text("Version: 1"),
-    told: WRITE_FAILED,
+    reported: WRITE_FAILED,
     ..HEADER_ROW
 }];
 
@@ -181,7 +181,7 @@ macro_rules! sought {
         Row {
             lines: IS,
             len: $len,
-            told: NO,
+            reported: NO,
             consumed: $consumed,
             ..HEADER_ROW
         }

@@ -1,6 +1,6 @@
 //! The commands on headers, over LUKS2.
 
-use super::headers::Page;
+use super::headers::PrintedText;
 use super::rows::{HEADER_ROW, Output, Row, check_rows};
 use super::runs::{FINDINGS, NOT_LUKS};
 use luks_test_support::header2::{SIZE, image_of};
@@ -30,7 +30,7 @@ const DUMP: &str = "Version: 2\nHeader: primary\nSequence: 258\nHeader size: 163
     Digest 0: USABLE hash=sha256 iterations=1500 bytes=32 keyslots=7 segments=0\n";
 
 /// What each command prints of the image of `image2`.
-pub(super) static PAGES: [Page; 4] = [
+pub(super) static PRINTED_TEXTS: [PrintedText; 4] = [
     ("isLuks i", "", false),
     ("luksUUID i", UUID, false),
     ("luksDump i", DUMP, false),
@@ -48,12 +48,12 @@ pub(super) fn image2(rt: &(impl Abort + AllocGlobal)) -> Vec<u8> {
 
 // A row with the first `len` bytes of the image, all of which are consumed, and how it ends.
 macro_rules! cut {
-    ($line:literal, $len:expr, $output:literal, $told:ident) => {
+    ($line:literal, $len:expr, $output:literal, $reported:ident) => {
         Row {
             lines: &[$line],
             len: $len,
             output: Output::Text($output),
-            told: $told,
+            reported: $reported,
             ..HEADER_ROW
         }
     };

@@ -69,10 +69,10 @@ const HASH: &str = "1 luksrd: segment refused: hash\n";
 // Bytes at offsets of a header, and what is reported: the cipher's name is at 8, its mode at 40,
 // the hash at 72, and the last byte of the key's length at 111.
 macro_rules! texts {
-    ($changes:expr, $told:ident) => {
+    ($changes:expr, $reported:ident) => {
         Row {
             changes: $changes,
-            ..refused!("", PASSPHRASE, $told, 592, 13)
+            ..refused!("", PASSPHRASE, $reported, 592, 13)
         }
     };
 }

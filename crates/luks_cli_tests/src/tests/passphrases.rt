@@ -96,7 +96,7 @@ const NONE_TRIED: &str =
     "1 luksrd: no key slot can be tried; skipped: 3 (state), 5 (stripes), 7 (stripes)\n";
 
 // A row of a refusal, with these slots changed.
-macro_rules! amiss {
+macro_rules! none_opens {
     ($changes:ident, $($refused:tt)*) => {
         Row {
             changes: $changes,
@@ -109,10 +109,10 @@ static OF_SMALL: [Row<'static>; 7] = [
     opened!("", NEWLINE, 0, 4608),
     written!("", NEWLINE, WHOLE, DONE),
     refused!("", PASSPHRASE, NO_KEY, 4608, 0),
-    amiss!(WRONG_SLOTS, "", b"wrong", NO_KEY_OTHERS, 4608, 0),
-    amiss!(WRONG_SLOTS, "--key-slot 0 ", b"wrong", NO_KEY, 4608, 0),
-    amiss!(WRONG_SLOTS, "--key-slot 3 ", PASSPHRASE, SKIPPED_3, 592, 13),
-    amiss!(NO_SLOTS, "", PASSPHRASE, NONE_TRIED, 592, 13),
+    none_opens!(WRONG_SLOTS, "", b"wrong", NO_KEY_OTHERS, 4608, 0),
+    none_opens!(WRONG_SLOTS, "--key-slot 0 ", b"wrong", NO_KEY, 4608, 0),
+    none_opens!(WRONG_SLOTS, "--key-slot 3 ", PASSPHRASE, SKIPPED_3, 592, 13),
+    none_opens!(NO_SLOTS, "", PASSPHRASE, NONE_TRIED, 592, 13),
 ];
 
 #[test]

@@ -36,7 +36,7 @@ pub(super) struct Row<'a> {
     pub(super) limits: Limits,
     pub(super) output: Output,
     /// The status and the message.
-    pub(super) told: &'a str,
+    pub(super) reported: &'a str,
     /// How many bytes of the image are consumed; `ALL` means all of them.
     pub(super) consumed: usize,
     /// How many bytes of the second input are left.
@@ -51,7 +51,7 @@ pub(super) const CAT_ROW: Row<'static> = Row {
     secret: PASSPHRASE,
     limits: NO_FAULT,
     output: Output::Text(""),
-    told: DONE,
+    reported: DONE,
     consumed: ALL,
     unread: 0,
 };
@@ -65,14 +65,14 @@ pub(super) const HEADER_ROW: Row<'static> = Row {
 /// With these options and this key file, `testPassphrase` and `luksCat` write nothing and report
 /// this. They consume `consumed` bytes of the image and leave `unread` bytes of the key file.
 macro_rules! refused {
-    ($options:literal, $secret:expr, $told:expr, $consumed:expr, $unread:literal) => {
+    ($options:literal, $secret:expr, $reported:expr, $consumed:expr, $unread:literal) => {
         Row {
             lines: &[
                 concat!("testPassphrase --key-file f ", $options, "i"),
                 concat!("luksCat --key-file f ", $options, "i"),
             ],
             secret: $secret,
-            told: $told,
+            reported: $reported,
             consumed: $consumed,
             unread: $unread,
             ..CAT_ROW
@@ -97,12 +97,12 @@ macro_rules! opened {
 /// With these options and this key file, `luksCat` consumes the image, and ends with this output
 /// and message.
 macro_rules! written {
-    ($options:literal, $secret:expr, $output:expr, $told:expr) => {
+    ($options:literal, $secret:expr, $output:expr, $reported:expr) => {
         Row {
             lines: &[concat!("luksCat --key-file f ", $options, "i")],
             secret: $secret,
             output: $output,
-            told: $told,
+            reported: $reported,
             ..CAT_ROW
         }
     };
@@ -122,7 +122,7 @@ fn check_row(rt: &(impl Abort + AllocGlobal), image: &[u8], row: &Row<'_>) {
 fn check_lines(rt: &(impl Abort + AllocGlobal), image: &[u8], row: &Row<'_>) {
     let inputs: Inputs<'_> = [&[], image, row.secret];
     let left = (0, image.len().saturating_sub(row.consumed), row.unread);
-    let ends = (row.output.bytes(), row.told);
+    let ends = (row.output.bytes(), row.reported);
     for line in row.lines {
         check_within(rt, row.limits, line, inputs, ends, left);
     }

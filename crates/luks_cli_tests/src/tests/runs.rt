@@ -71,8 +71,8 @@ pub(super) fn words_of<'a>(rt: &(impl Abort + AllocGlobal), line: &'a str) -> Ve
 }
 
 /// A sink with this capacity.
-pub(super) fn sink(rt: &(impl Abort + AllocGlobal), room: usize) -> MemSink {
-    MemSink::new(rt.alloc(), room).expect(rt, "room for an output")
+pub(super) fn sink(rt: &(impl Abort + AllocGlobal), capacity: usize) -> MemSink {
+    MemSink::new(rt.alloc(), capacity).expect(rt, "room for an output")
 }
 
 /// What a command reports over these devices.
@@ -107,17 +107,17 @@ pub(super) fn report_of<H: Source, I: Source, K: Source, O: Sink>(
 }
 
 /// The report has this status and this message.
-pub(super) fn check_told(
+pub(super) fn check_reported(
     rt: &(impl Abort + AllocGlobal),
     case: &impl Debug,
     report: &Report,
-    told: &str,
+    reported: &str,
 ) {
     let mut line = sink(rt, 2048);
     let status = [b'0'.wrapping_add(report.status), b' '];
     assert_in(rt, case, put_all(&mut line, &status).is_ok());
     assert_in(rt, case, report.message.print(&mut line).is_ok());
-    assert_same_in(rt, case, line.as_slice(), told.as_bytes());
+    assert_same_in(rt, case, line.as_slice(), reported.as_bytes());
 }
 
 /// What a run of this line reports, and how many bytes of its inputs it leaves. Reads of the image
@@ -140,16 +140,16 @@ pub(super) fn run_over(
 /// A run of this line over devices with these limits ends like this, and leaves this many bytes.
 pub(super) fn check_within(
     rt: &(impl Abort + AllocGlobal),
-    (of_image, of_secret, room): Limits,
+    (of_image, of_secret, capacity): Limits,
     line: &str,
     inputs: Inputs<'_>,
-    (output, told): Ends<'_>,
+    (output, reported): Ends<'_>,
     left: Left,
 ) {
-    let case = (line, inputs[1].len(), inputs[2].len(), room);
-    let mut out = sink(rt, room);
+    let case = (line, inputs[1].len(), inputs[2].len(), capacity);
+    let mut out = sink(rt, capacity);
     let (report, lefts) = run_over(rt, line, inputs, (of_image, of_secret), &mut out);
-    check_told(rt, &case, &report, told);
+    check_reported(rt, &case, &report, reported);
     assert_same_in(rt, &case, out.as_slice(), output);
     assert_same_in(rt, &case, lefts, left);
 }

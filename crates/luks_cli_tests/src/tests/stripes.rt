@@ -1,7 +1,7 @@
 //! `afSplit` and `afMerge`, and lines that are not a luksrd command.
 
 use super::runs::{
-    ALL, DONE, Inputs, WRITE_FAILED, check, check_told, check_within, run_over, sink,
+    ALL, DONE, Inputs, WRITE_FAILED, check, check_reported, check_within, run_over, sink,
 };
 use super::same::assert_same_in;
 use luks_args::planning::PlanFault;
@@ -164,7 +164,7 @@ fn joined(rt: &(impl Abort + AllocGlobal), parts: &[&[u8]]) -> Vec<u8> {
     all
 }
 
-fn check_row(rt: &(impl Abort + AllocGlobal), (line, parts, told, left): &Row) {
+fn check_row(rt: &(impl Abort + AllocGlobal), (line, parts, reported, left): &Row) {
     let [image, secret, output] = *parts;
     let image = joined(rt, image);
     let secret = joined(rt, secret);
@@ -175,7 +175,7 @@ fn check_row(rt: &(impl Abort + AllocGlobal), (line, parts, told, left): &Row) {
         rt,
         line,
         inputs,
-        (output.as_slice(), *told),
+        (output.as_slice(), *reported),
         (0, of_image, of_secret),
     )
 }
@@ -197,22 +197,22 @@ fn the_longest_key_is_split(rt: HostRuntime) {
     let mut out = sink(&rt, 4096);
     let inputs: Inputs<'_> = [&[], &LONGEST, &ENOUGH];
     let (report, left) = run_over(&rt, SPLIT_2, inputs, (ALL, ALL), &mut out);
-    check_told(&rt, &"512", &report, DONE);
+    check_reported(&rt, &"512", &report, DONE);
     assert_same_in(&rt, &"512", out.as_slice().len(), 1024);
     assert_same_in(&rt, &"512", left, (0, 0, 88));
 }
 
 // An output of this capacity, and a random stripe with 72 bytes after it.
-fn check_room(rt: &(impl Abort + AllocGlobal), room: usize) {
+fn check_capacity(rt: &(impl Abort + AllocGlobal), capacity: usize) {
     let inputs: Inputs<'_> = [&[], FF, at(&ENOUGH, 0, 100)];
-    let ends = (at(STRIPES, 0, room), WRITE_FAILED);
-    check_within(rt, (ALL, ALL, room), SPLIT_2, inputs, ends, (0, 0, 72));
+    let ends = (at(STRIPES, 0, capacity), WRITE_FAILED);
+    check_within(rt, (ALL, ALL, capacity), SPLIT_2, inputs, ends, (0, 0, 72));
 }
 
 #[test]
 fn stripes_are_written_as_far_as_there_is_room(rt: HostRuntime) {
-    check_room(&rt, 10);
-    check_room(&rt, 30)
+    check_capacity(&rt, 10);
+    check_capacity(&rt, 30)
 }
 
 // The report if memory runs out while the arguments are parsed.
@@ -220,5 +220,5 @@ fn stripes_are_written_as_far_as_there_is_room(rt: HostRuntime) {
 fn a_refused_plan_is_reported(rt: HostRuntime) {
     let report = Report::of_fault(PlanFault::Memory);
     assert_same_in(&rt, &report, report.message, Message::OutOfMemory);
-    check_told(&rt, &report, &report, "3 luksrd: out of memory\n")
+    check_reported(&rt, &report, &report, "3 luksrd: out of memory\n")
 }

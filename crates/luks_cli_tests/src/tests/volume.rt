@@ -229,7 +229,7 @@ fn json_of(
 
 /// Both LUKS2 headers and the key material of a small volume, 33,280 bytes, with these key slots,
 /// the digest's list of their names, and a payload of this size from this offset on.
-pub(super) fn front2_of(
+pub(super) fn prefix2_of(
     rt: &(impl Abort + AllocGlobal),
     slots: (&str, &str),
     place: (&str, &str),
@@ -240,9 +240,9 @@ pub(super) fn front2_of(
 }
 
 /// The same with slot 0 alone.
-pub(super) fn front2(rt: &(impl Abort + AllocGlobal), offset: &str, size: &str) -> Vec<u8> {
+pub(super) fn prefix2(rt: &(impl Abort + AllocGlobal), offset: &str, size: &str) -> Vec<u8> {
     let slots = text_of(rt, &["\"0\":", SLOT]);
-    front2_of(rt, (slots.as_str(), "\"0\""), (offset, size))
+    prefix2_of(rt, (slots.as_str(), "\"0\""), (offset, size))
 }
 
 /// A volume of LUKS2 with a payload of this size: its key material ends at byte 33,280, its payload
@@ -250,7 +250,7 @@ pub(super) fn front2(rt: &(impl Abort + AllocGlobal), offset: &str, size: &str) 
 pub(super) fn sealed2(rt: &(impl Abort + AllocGlobal), size: &str) -> Vec<u8> {
     followed(
         rt,
-        front2(rt, "36864", size),
+        prefix2(rt, "36864", size),
         36_864,
         payload_of(&small(rt)),
     )

@@ -9,7 +9,7 @@ use super::runs::{
 };
 use super::volume::{
     Changes, KEY, NAMES_64_KIB, PASSPHRASE, PLAIN, PLAIN_LEN, SLOT, SMALL_LEN, changed, followed,
-    front2_of, plain_of, sealed2, text_of,
+    plain_of, prefix2_of, sealed2, text_of,
 };
 use luks_kdf::Hash;
 use luks_seal::parameters::{Seal2, Slot2};
@@ -130,7 +130,7 @@ static SLOTS: [Slots; 2] = [
 
 fn check_slots(rt: &(impl Abort + AllocGlobal), (slots, names, rows): &Slots) {
     let slots = text_of(rt, slots);
-    let image = front2_of(rt, (slots.as_str(), names), ("36864", "dynamic"));
+    let image = prefix2_of(rt, (slots.as_str(), names), ("36864", "dynamic"));
     check_rows(rt, &image, rows)
 }
 
@@ -199,12 +199,12 @@ fn a_search_past_the_start_loses_nothing(rt: HostRuntime) {
 const TORN_412: &str = "4 luksrd: image ends inside a sector: 412 bytes left over\n";
 
 // A row for an output of this capacity, which is filled with plaintext.
-macro_rules! room {
-    ($room:literal) => {
+macro_rules! capacity {
+    ($capacity:literal) => {
         Row {
-            limits: (ALL, ALL, $room),
-            output: Output::Plain($room),
-            told: WRITE_FAILED,
+            limits: (ALL, ALL, $capacity),
+            output: Output::Plain($capacity),
+            reported: WRITE_FAILED,
             ..CAT_ROW
         }
     };
@@ -215,15 +215,15 @@ static SEARCHED: [Row<'static>; 9] = [
     opened!("", PASSPHRASE, 0, 38_400),
     written!("", PASSPHRASE, Output::Plain(PLAIN_LEN), DONE),
     refused!("", b"another passphrase", NO_KEY, 38_400, 0),
-    room!(0),
-    room!(511),
-    room!(512),
-    room!(700),
-    room!(1535),
+    capacity!(0),
+    capacity!(511),
+    capacity!(512),
+    capacity!(700),
+    capacity!(1535),
     Row {
         len: 38_300,
         output: Output::Plain(1024),
-        told: TORN_412,
+        reported: TORN_412,
         ..CAT_ROW
     },
 ];

@@ -40,7 +40,7 @@ impl<R: Read> RawReader for R {
 
 /// Reads once, and again while the read is interrupted and a retry remains.
 fn read_patiently<D: RawReader>(device: &mut D, buf: &mut [u8]) -> Result<usize, DeviceFault>
-    ensures told { ReportsFirst read_result (D.answers device.old) max_retries result
+    ensures reported { ReportsFirst read_result (D.answers device.old) max_retries result
         (D.answers device.new) }
     ensures bound { ReadsAtMost result buf.new }
     ensures bytes { ReadConsumes (D.bytes device.old) (D.bytes device.new) result buf.new }

@@ -42,7 +42,7 @@ impl<W: Write> RawWriter for W {
 /// Writes once, and again while the write is interrupted and a retry remains. A write that accepts
 /// nothing has failed. An empty buffer is not written.
 fn write_patiently<D: RawWriter>(device: &mut D, buf: &[u8]) -> Result<usize, DeviceFault>
-    ensures told { 0 < length buf.now
+    ensures reported { 0 < length buf.now
         → ReportsFirst write_result (D.answers device.old) max_retries result
         (D.answers device.new) }
     ensures empty { length buf.now ≡ 0 → (result ≡ Ok 0) × (device.new ≡ device.old) }

@@ -3,7 +3,7 @@
 
 use super::assert_at;
 use luks_io::DeviceFault;
-use luks_io::ahead::AheadSource;
+use luks_io::ahead::ReadAheadSource;
 use luks_io::memory::MemSource;
 use luks_io::source::{Source, fill};
 use luks_test_support::devices::Flaky;
@@ -112,11 +112,11 @@ static ROWS: [Row; 7] = [
 
 // Whether the step goes as its row says.
 fn goes_as_stated(
-    source: &mut AheadSource<Flaky<'_>>,
-    (announced, asked, answer, left, calls): &Step,
+    source: &mut ReadAheadSource<Flaky<'_>>,
+    (allowed, asked, answer, left, calls): &Step,
 ) -> bool {
-    if let Some(count) = announced {
-        source.announce(*count);
+    if let Some(count) = allowed {
+        source.allow_read_ahead(*count);
     }
     let mut buf = [b'-'; 16];
     let got = source.read(&mut buf[..*asked.min(&16)]);
@@ -126,7 +126,7 @@ fn goes_as_stated(
 
 fn check_row(rt: &(impl Abort + AllocGlobal), (name, (piece, failing), steps, last): &Row) {
     let below = Flaky::new(BYTES, *piece, *failing);
-    let mut source = AheadSource::new(rt.alloc(), 4, below).expect(rt, "memory");
+    let mut source = ReadAheadSource::new(rt.alloc(), 4, below).expect(rt, "memory");
     for (i, step) in steps.iter().enumerate() {
         assert_at(rt, name, i, goes_as_stated(&mut source, step));
     }
@@ -136,7 +136,7 @@ fn check_row(rt: &(impl Abort + AllocGlobal), (name, (piece, failing), steps, la
 }
 
 #[test]
-fn requests_what_is_announced_at_once(rt: HostRuntime) {
+fn requests_what_is_allowed_at_once(rt: HostRuntime) {
     for row in &ROWS {
         check_row(&rt, row);
     }
@@ -145,14 +145,14 @@ fn requests_what_is_announced_at_once(rt: HostRuntime) {
 // Checks that all bytes come in pieces of this size, and how often the end is hit.
 fn check_bytes(
     rt: &(impl Abort + AllocGlobal),
-    announced: u64,
-    room: usize,
+    allowed: u64,
+    capacity: usize,
     (piece, ends): (usize, u64),
 ) {
-    let mut source = AheadSource::new(rt.alloc(), room, Flaky::new(BYTES, 0, 99)).expect(
+    let mut source = ReadAheadSource::new(rt.alloc(), capacity, Flaky::new(BYTES, 0, 99)).expect(
         rt, "memory",
     );
-    source.announce(announced);
+    source.allow_read_ahead(allowed);
     let mut buf = [b'-'; 12];
     let mut count = 0;
     for part in buf.chunks_mut(piece.max(1)) {
@@ -166,14 +166,14 @@ fn check_bytes(
 }
 
 #[test]
-fn gives_the_same_whatever_is_announced(rt: HostRuntime) {
+fn gives_the_same_whatever_is_allowed(rt: HostRuntime) {
     let announcements = [0, 1, 2, 3, 4, 5, 6, 7, 8, 9, 10, 11, u64::MAX];
-    for announced in announcements {
-        for room in 0..6 {
-            check_bytes(&rt, announced, room, (1, 2));
-            check_bytes(&rt, announced, room, (12, 1));
+    for allowed in announcements {
+        for capacity in 0..6 {
+            check_bytes(&rt, allowed, capacity, (1, 2));
+            check_bytes(&rt, allowed, capacity, (12, 1));
         }
     }
-    let refused = AheadSource::new(rt.alloc(), usize::MAX, MemSource::new(BYTES));
+    let refused = ReadAheadSource::new(rt.alloc(), usize::MAX, MemSource::new(BYTES));
     assert!(rt; refused.is_err(), "all the memory that there is");
 }

@@ -31,8 +31,8 @@ struct Device {
 }
 
 impl Device {
-    fn answer(&mut self, room: usize) -> io::Result<usize>
-        ensures { IfOk result (λ n. n ≤ room) }
+    fn answer(&mut self, capacity: usize) -> io::Result<usize>
+        ensures { IfOk result (λ n. n ≤ capacity) }
     {
         let Some(((times, answer), later)) = self.script.split_first() else {
             return Err(io::Error::from(ErrorKind::Other));
@@ -43,7 +43,7 @@ impl Device {
             self.script = later;
         }
         match answer {
-            Answer::Moves(piece) => Ok(room.min(*piece)),
+            Answer::Moves(piece) => Ok(capacity.min(*piece)),
             Answer::Interrupted => Err(io::Error::from(ErrorKind::Interrupted)),
             Answer::Refused => Err(io::Error::from(ErrorKind::Other)),
         }

@@ -2,7 +2,7 @@
 //! call of the source below.
 
 use super::assert_at;
-use luks_io::ahead::AheadSource;
+use luks_io::ahead::ReadAheadSource;
 use luks_io::memory::{MemSink, MemSource};
 use luks_io::sink::WriteFault;
 use luks_io::source::Source;
@@ -63,7 +63,7 @@ static ROWS: [Row; 4] = [
 ];
 
 // Whether the next bytes of the source are these, and the source below was called this often.
-fn gives(source: &mut AheadSource<Flaky<'_>>, next: &[u8], calls: u64) -> bool {
+fn gives(source: &mut ReadAheadSource<Flaky<'_>>, next: &[u8], calls: u64) -> bool {
     let mut buf = [b'-'; 16];
     let buf = &mut buf[..next.len().min(16)];
     source.read(buf) == Ok(next.len()) && *buf == *next && source.get_ref().calls() == calls
@@ -73,14 +73,14 @@ fn gives(source: &mut AheadSource<Flaky<'_>>, next: &[u8], calls: u64) -> bool {
 // buffered.
 fn check_row(
     rt: &(impl Abort + AllocGlobal),
-    (name, room, passes, (written, calls, failures), held): &Row,
+    (name, capacity, passes, (written, calls, failures), held): &Row,
 ) {
     let below = Flaky::new(b"abcdefghij", 0, 99);
-    let mut source = AheadSource::new(rt.alloc(), 6, below).expect(rt, "memory");
-    source.announce(8);
+    let mut source = ReadAheadSource::new(rt.alloc(), 6, below).expect(rt, "memory");
+    source.allow_read_ahead(8);
     let is_first = gives(&mut source, b"a", 1);
     assert_at(rt, name, 0, is_first && source.get_ref().left() == 4);
-    let mut sink = Leaky::new(rt.alloc(), *room, 9, 99).expect(rt, "memory");
+    let mut sink = Leaky::new(rt.alloc(), *capacity, 9, 99).expect(rt, "memory");
     for (count, answer) in *passes {
         let got = source.forward_buffered(*count, &Reversed, &mut sink);
         assert_at(rt, name, 1, got == *answer);
@@ -97,7 +97,7 @@ fn check_row(
 }
 
 #[test]
-fn passes_on_what_is_held_and_nothing_else(rt: HostRuntime) {
+fn forwards_what_is_buffered_and_nothing_else(rt: HostRuntime) {
     for row in &ROWS {
         check_row(&rt, row);
     }
@@ -122,8 +122,8 @@ fn sources_that_hold_nothing_pass_nothing_on(rt: HostRuntime) -> Result<(), Fail
         memory.forward_buffered(1, &Reversed, &mut sink).is_none(),
     );
     assert_at(&rt, "memory", 1, memory.left() == b"abc".as_slice());
-    let mut ahead = AheadSource::new(rt.alloc(), 4, Flaky::new(b"abc", 0, 99))?;
-    ahead.announce(3);
+    let mut ahead = ReadAheadSource::new(rt.alloc(), 4, Flaky::new(b"abc", 0, 99))?;
+    ahead.allow_read_ahead(3);
     assert_at(
         &rt,
         "ahead",

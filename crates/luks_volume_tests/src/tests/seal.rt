@@ -1,7 +1,7 @@
 //! What no clause says: whole images compared with those of another program, and that the ranges
 //! are the stated ones.
 
-mod drawn1;
+mod generated1;
 mod images;
 mod memory;
 mod ranges1;

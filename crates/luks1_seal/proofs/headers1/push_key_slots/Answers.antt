@@ -5,7 +5,7 @@ use Rattle.luks1_seal.proofs.headers1.push_key_slots.Goals as goal
 pub slots-preserved : goal.slots-preserved
 unfolding key_slots1_below
 slots-preserved c =
-    let so_far = ap (λ front. front ++ key_slot1_of c.args.seal.now c.slots.number) c.slots.invariant in
+    let so_far = ap (λ prefix. prefix ++ key_slot1_of c.args.seal.now c.slots.number) c.slots.invariant in
     rw (add-one, ← append_assoc) (c.in_ok-push_key_slot.ensures ∙ so_far)
 
 pub returns : goal.returns

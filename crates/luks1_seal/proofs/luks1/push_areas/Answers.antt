@@ -5,7 +5,7 @@ use Rattle.luks1_seal.proofs.luks1.push_areas.Goals as goal
 pub slots-preserved : goal.slots-preserved
 unfolding areas1_below
 slots-preserved c =
-    let so_far = ap (λ front. front ++ area1_of c.args.seal.now c.slots.number) c.slots.invariant in
+    let so_far = ap (λ prefix. prefix ++ area1_of c.args.seal.now c.slots.number) c.slots.invariant in
     rw (add-one, ← append_assoc) (c.in_ok-push_area.ensures ∙ so_far)
 
 pub returns : goal.returns

@@ -2,7 +2,7 @@ use Rattle.std.proofs.Common.{◌∙◌, ◌-◌, Err, false, ap, sym, length, m
 use Rattle.std.specs.Prelude.{not}
 use Rattle.std.proofs.lemmas.Result.{err_from_is_err_and}
 use Rattle.luks_area.specs.Area.{HeaderAreaModel}
-use Rattle.luks2_binary.proofs.FrontLemmas.{ended_is, ended_short, gave_broken, grew_by, grew_none, not_grown}
+use Rattle.luks2_binary.proofs.PrefixLemmas.{ended_is, ended_short, bytes_before_abort, grew_by, grew_none, not_grown}
 use Rattle.luks2_binary.proofs.reading.grow.Goals as goal
 
 pub returns-in_err-extend_to-clause-stopped_below : goal.returns-in_err-extend_to-clause-stopped_below
@@ -19,14 +19,14 @@ pub returns-clause-grew : goal.returns-clause-grew
 returns-clause-grew g c =
     let old = c.args.area.now.bytes in
     let new = c.extend_to.new.self.bytes in
-    let goes = sym c.has_ended.ensures ∙ c.if-has_ended.false in
+    let unended = sym c.has_ended.ensures ∙ c.if-has_ended.false in
     let ended =
-    ended_is c.extend_to.result c.in_ok-extend_to.field-0 _ _ c.in_ok-extend_to.was goes c.extend_to.ensures.ended in
-    rw (goes, ended) (grew_by old new (not c.in_ok-extend_to.field-0) _ _ _ _ _ c.in_ok-extend_to.ensures.loads.kept
+    ended_is c.extend_to.result c.in_ok-extend_to.field-0 _ _ c.in_ok-extend_to.was unended c.extend_to.ensures.ended in
+    rw (unended, ended) (grew_by old new (not c.in_ok-extend_to.field-0) _ _ _ _ _ c.in_ok-extend_to.ensures.loads.kept
     (λ known knows. (
       min (c.args.end - length old) (length known),
-      c.in_ok-extend_to.ensures.taken known knows,
-      ended_short old new known c.in_ok-extend_to.field-0 _ c.args.end (c.in_ok-extend_to.ensures.taken known knows)
+      c.in_ok-extend_to.ensures.consumed known knows,
+      ended_short old new known c.in_ok-extend_to.field-0 _ c.args.end (c.in_ok-extend_to.ensures.consumed known knows)
           c.in_ok-extend_to.ensures.loads.whole,
     ))
     c.in_ok-extend_to.ensures.reads)
@@ -39,11 +39,12 @@ returns-in_err-extend_to-clause-grew g c =
     let p = err_from_is_err_and c.from_residual.result c.from_residual.ensures.1 in
     let old = c.args.area.now.bytes in
     let new = c.extend_to.new.self.bytes in
-    let goes = sym c.has_ended.ensures ∙ c.if-has_ended.false in
+    let unended = sym c.has_ended.ensures ∙ c.if-has_ended.false in
     let stopped = c.in_err-extend_to.ensures in
-    rw (p.1, p.2, stopped.ended, goes) (grew_by old new false _ _ _ _ _ stopped.loads.kept
+    rw (p.1, p.2, stopped.ended, unended) (grew_by old new false _ _ _ _ _ stopped.loads.kept
     (λ known knows.
-    gave_broken (c.args.end - length old) old new known _ c.in_err-extend_to.field-0.0 (stopped.taken known knows))
+    bytes_before_abort (c.args.end - length old) old new known _ c.in_err-extend_to.field-0.0 (stopped.consumed known
+    knows))
     stopped.reads)
 
 pub returns-in_err-extend_to-clause-within : goal.returns-in_err-extend_to-clause-within

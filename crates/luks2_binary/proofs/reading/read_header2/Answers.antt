@@ -1,7 +1,7 @@
 use Rattle.std.proofs.Common.{◌++◌, subst, sym}
 use Rattle.std.proofs.lemmas.Result.{err_from_is_err_and}
-use Rattle.luks2_binary.specs.Front2.{IsPrefixOf}
-use Rattle.luks2_binary.proofs.FrontLemmas.{front_self}
+use Rattle.luks2_binary.specs.Reading2.{IsPrefixOf}
+use Rattle.luks2_binary.proofs.PrefixLemmas.{prefix_of_itself}
 use Rattle.luks2_binary.proofs.SeekingLemmas.{aborts_seeking, answer_is, answered_from, below_cost, consumed_read_len}
 use Rattle.luks2_binary.proofs.SeekingLemmas.{cost_held, fault_answered, hits_end, holds_unloaded, remembers_end}
 use Rattle.luks2_binary.proofs.SeekingLemmas.{seeks_answer}
@@ -17,18 +17,18 @@ returns-in_err-header-clause-seeks g c =
     rw (p.1, p.2) (λ rest knows.
     let holds = holds_unloaded old new rest _ _ _ _ _ _ _ grew knows in
     aborts_seeking old new rest c.choose.new.area.ended _ _ c.in_err-header.ensures.loads.refusals holds grew.longer
-    (below_cost (old ++ rest) old new c.choose.new.area.ended holds.front c.requires.few
-    (c.choose.ensures.loads.within (old ++ rest) holds.front))
-    (λ stops. c.in_err-header.ensures.loads.stopped_below stops (old ++ rest) holds.front))
+    (below_cost (old ++ rest) old new c.choose.new.area.ended holds.prefix c.requires.few
+    (c.choose.ensures.loads.within (old ++ rest) holds.prefix))
+    (λ stops. c.in_err-header.ensures.loads.stopped_below stops (old ++ rest) holds.prefix))
 
 pub returns-in_err-header-clause-answered : goal.returns-in_err-header-clause-answered
 returns-in_err-header-clause-answered g c =
     let p = err_from_is_err_and c.from_residual.result c.from_residual.ensures.1 in
     let new = c.choose.new.area.bytes in
     rw (p.1, p.2)
-    (fault_answered new c.in_err-header.field-0.0 c.in_err-header.ensures.loads.refusals (λ stops image front.
+    (fault_answered new c.in_err-header.field-0.0 c.in_err-header.ensures.loads.refusals (λ stops image prefix.
     c.in_err-header.ensures.loads.stopped_below stops image
-    (subst (λ ended. IsPrefixOf new ended image) (sym c.in_err-header.ensures.loads.before_end) front)))
+    (subst (λ ended. IsPrefixOf new ended image) (sym c.in_err-header.ensures.loads.before_end) prefix)))
 
 -- all that has to be read is loaded
 pub returns-clause-seeks : goal.returns-clause-seeks
@@ -39,21 +39,22 @@ returns-clause-seeks g c rest knows =
     let holds = holds_unloaded old new rest _ _ _ _ _ _ _ grew knows in
     seeks_answer old new rest _ c.in_ok-header.header c.ok_or.result c.ok_or.ensures.value
     (answer_is (old ++ rest) c.in_ok-header.header c.ok_or.result c.ok_or.ensures.value
-    (c.in_ok-header.ensures.chosen (old ++ rest) holds.front))
+    (c.in_ok-header.ensures.chosen (old ++ rest) holds.prefix))
     (consumed_read_len old new rest c.choose.new.area.ended _ holds grew.longer
-    (cost_held (old ++ rest) old new c.choose.new.area.ended holds.front c.requires.few
-    (c.choose.ensures.loads.within (old ++ rest) holds.front)
-    (c.in_ok-header.ensures.loads.complete (old ++ rest) holds.front)))
+    (cost_held (old ++ rest) old new c.choose.new.area.ended holds.prefix c.requires.few
+    (c.choose.ensures.loads.within (old ++ rest) holds.prefix)
+    (c.in_ok-header.ensures.loads.complete (old ++ rest) holds.prefix)))
 
 pub returns-clause-answered : goal.returns-clause-answered
 returns-clause-answered g c =
     let new = c.choose.new.area.bytes in
-    let front = front_self new c.choose.new.area.ended in
+    let prefix = prefix_of_itself new c.choose.new.area.ended in
     answered_from new c.in_ok-header.header c.ok_or.result c.ok_or.ensures.value
-    (answer_is new c.in_ok-header.header c.ok_or.result c.ok_or.ensures.value (c.in_ok-header.ensures.chosen new front))
-    (cost_held new c.args.area.now.bytes new c.choose.new.area.ended front c.requires.few
-    (c.choose.ensures.loads.within new front)
-    (c.in_ok-header.ensures.loads.complete new front))
+    (answer_is new c.in_ok-header.header c.ok_or.result c.ok_or.ensures.value (c.in_ok-header.ensures.chosen new
+    prefix))
+    (cost_held new c.args.area.now.bytes new c.choose.new.area.ended prefix c.requires.few
+    (c.choose.ensures.loads.within new prefix)
+    (c.in_ok-header.ensures.loads.complete new prefix))
 
 pub returns-clause-ended : goal.returns-clause-ended
 returns-clause-ended g c =
@@ -63,12 +64,12 @@ returns-clause-ended g c =
 
 pub returns-in_err-header-clause-kept : goal.returns-in_err-header-clause-kept
 returns-in_err-header-clause-kept g c =
-    let front = front_self c.choose.new.area.bytes c.choose.new.area.ended in
-    let before = c.choose.ensures.grew.fronts c.choose.new.area.bytes front in
+    let prefix = prefix_of_itself c.choose.new.area.bytes c.choose.new.area.ended in
+    let before = c.choose.ensures.grew.prefixes c.choose.new.area.bytes prefix in
     before.begins
 
 pub returns-clause-kept : goal.returns-clause-kept
 returns-clause-kept g c =
-    let front = front_self c.choose.new.area.bytes c.choose.new.area.ended in
-    let before = c.choose.ensures.grew.fronts c.choose.new.area.bytes front in
+    let prefix = prefix_of_itself c.choose.new.area.bytes c.choose.new.area.ended in
+    let before = c.choose.ensures.grew.prefixes c.choose.new.area.bytes prefix in
     before.begins

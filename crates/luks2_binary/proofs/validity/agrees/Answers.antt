@@ -18,7 +18,7 @@ returns c =
     take_all (length header - 512) (drop 512 header) (omega (arith, length-drop 512 header)) in
     let field : take (length header - 448) (drop 448 header) ≡ drop 448 header =
     take_all (length header - 448) (drop 448 header) (omega (arith, length-drop 448 header)) in
-    let long : length out ≡ digest_len c.args.hash = c.digest.auto.out ∙ c.requires.room in
+    let long : length out ≡ digest_len c.args.hash = c.digest.auto.out ∙ c.requires.capacity in
     let sum : out ≡ hash_of c.args.hash (take 448 header ++ no_checksum ++ drop 512 header) =
     c.digest.ensures
     ∙ ap (λ zeros. hash_of c.args.hash (take 448 header ++ zeros ++ take (length header - 512) (drop 512 header)))

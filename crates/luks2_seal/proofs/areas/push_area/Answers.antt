@@ -11,8 +11,8 @@ area_size-size-requires-clause-key c = short_key c.args.seal.now c.requires.fits
 pub stripes_of-requires-clause-some : goal.stripes_of-requires-clause-some
 stripes_of-requires-clause-some c = some_key c.args.seal.now c.requires.fits
 
-pub stripes_of-requires-clause-room : goal.stripes_of-requires-clause-room
-stripes_of-requires-clause-room c = short_key c.args.seal.now c.requires.fits
+pub stripes_of-requires-clause-capacity : goal.stripes_of-requires-clause-capacity
+stripes_of-requires-clause-capacity c = short_key c.args.seal.now c.requires.fits
 
 pub returns : goal.returns
 unfolding area_of

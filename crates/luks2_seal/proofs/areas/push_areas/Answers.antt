@@ -15,7 +15,7 @@ slots-preserved c =
       | in-Some+in_ok-push_area w ↦ search rules
       | in_default w ↦ search rules
     ] in
-    rw (add-one, ← append_assoc) (adds ∙ ap (λ front. front ++ area) c.slots.invariant)
+    rw (add-one, ← append_assoc) (adds ∙ ap (λ prefix. prefix ++ area) c.slots.invariant)
 
 pub returns : goal.returns
 returns c =

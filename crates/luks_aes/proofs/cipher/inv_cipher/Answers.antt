@@ -2,7 +2,7 @@ use Rattle.std.proofs.Common.{◌≡◌, ◌-◌, ap, arith, ◌∙◌, sym, rul
 use Rattle.luks_aes.specs.Aes.{inv_state_after, inv_cipher, add_round_key, inv_shift_rows, inv_sub_bytes}
 use Rattle.luks_aes.specs.Bytes.{IsBytes}
 use Rattle.luks_aes.proofs.CipherLemmas.{inv_round_after}
-use Rattle.luks_aes.proofs.ColumnLemmas.{spelt_state}
+use Rattle.luks_aes.proofs.ColumnLemmas.{state_from_words}
 use Rattle.luks_aes.proofs.Redone.{inv_shift_rows_state, inv_sub_bytes_state}
 use Rattle.luks_aes.proofs.InvMixedLemmas.{round_key_inv_mixed}
 use Rattle.luks_aes.proofs.cipher.inv_cipher.Goals as goal
@@ -24,7 +24,7 @@ loop-round-preserved c =
     let u = c.args.inv_mixed.now in
     let round = c.loop-round.round in
     let bytes : IsBytes w = record { each = λ i. search rules } in
-    let shifted = inv_sub_bytes_state _ (inv_shift_rows_state _ (spelt_state c.loop-round.state)) in (
+    let shifted = inv_sub_bytes_state _ (inv_shift_rows_state _ (state_from_words c.loop-round.state)) in (
       omega arith,
       c.with_round_key-state-in-loop-round.ensures
           ∙ ap (λ s. add_round_key s u (round - 1)) c.inv_mixed_columns-substituted.ensures

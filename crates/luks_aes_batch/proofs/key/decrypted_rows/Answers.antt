@@ -23,12 +23,12 @@ loop-round-init c =
           is.first_key in
           let keyed = c.add_round_key_batch.ensures (cells s) (λ r q. key_byte w (rounds_of key) r
           (column_index q) ⊕ 0x63)
-          (rows_plain s c.args.rows hold all) first.stand in
+          (rows_plain s c.args.rows hold all) first.represented in
           let held = rows_keyed s w (rounds_of key) 0x63 _ (omega arith) all (expansion_bytes key bytes) keyed in
-          let inv_shift_rows_batch = c.inv_shift_rows_batch.ensures _ held.stand in
+          let inv_shift_rows_batch = c.inv_shift_rows_batch.ensures _ held.represented in
           turned_same _ _ _ (λ m. ap (add_round_key (s m) w) (sym rounds)
           ∙ sym (ap (inv_state_after (s m) c.args.rounds w) none))
-          (record { stand = all_as c.new-state.ensures inv_shift_rows_batch });
+          (record { represented = all_as c.new-state.ensures inv_shift_rows_batch });
     }
 
 pub loop-round-preserved : goal.loop-round-preserved
@@ -46,7 +46,7 @@ loop-round-preserved c =
           let between = c.key_between.ensures w (rounds_of key) is.between_keys (omega (arith, rounds)) in
           let after = c.inv_round_batch.ensures _ w (round - 1) (λ m. after_bytes (s m) w nr (nr - round) (all m)
           words) words before
-          (subst (λ (n : ℕ). HasInvMixedKey w n 0x63 (rows_of c.key_between.result.now)) place between).stand in
+          (subst (λ (n : ℕ). HasInvMixedKey w n 0x63 (rows_of c.key_between.result.now)) place between).represented in
           turned_same _ _ _
           (λ m. inv_round_after (s m) w _ nr (nr - round) (nr - (round - 1)) (round - 1) refl (omega arith)
           (omega arith)) after;
@@ -64,4 +64,4 @@ returns c = λ key s is rounds bytes all hold.
     hold_same _ _ 0 _
     (λ m i. add_round_key (inv_sub_bytes (inv_shift_rows (inv_state_after (s m) (rounds i) w (end i)))) w 0)
     (c.last_inv_round_batch.ensures _ w 0 (λ m. after_bytes (s m) w nr (nr - round)
-    (all m) words) words before is.last_key.stand)
+    (all m) words) words before is.last_key.represented)

@@ -5,7 +5,7 @@ use Rattle.luks_aes.specs.Aes.{cell}
 use Rattle.luks_bitslice.specs.BitPlanes.{column_order, column_index}
 use Rattle.luks_aes_batch.proofs.StateLemmas.{four}
 use Rattle.luks_bitslice.proofs.TransposeLemmas.{eight_shown}
-use Rattle.luks_aes_batch.proofs.WayLemmas.{of_one}
+use Rattle.luks_aes_batch.proofs.PackingLemmas.{of_one}
 use Rattle.luks_aes_batch.proofs.packing.broadcast.Goals as goal
 
 pub returns : goal.returns

@@ -1,4 +1,4 @@
-use Rattle.luks_aes_batch.proofs.WayLemmas.{of_group, shows_same}
+use Rattle.luks_aes_batch.proofs.PackingLemmas.{of_group, shows_same}
 use Rattle.luks_aes_batch.proofs.packing.group.Goals as goal
 
 pub returns : goal.returns

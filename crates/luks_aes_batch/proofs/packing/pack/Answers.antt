@@ -5,7 +5,7 @@ use Rattle.luks_bitslice.specs.BitPlanes.{column_order}
 use Rattle.luks_aes_batch.specs.States.{state_byte, block_in}
 use Rattle.luks_aes_batch.proofs.StateLemmas.{four, all_also}
 use Rattle.luks_bitslice.proofs.TransposeLemmas.{eight_shown}
-use Rattle.luks_aes_batch.proofs.WayLemmas.{laid_row, laid_byte}
+use Rattle.luks_aes_batch.proofs.PackingLemmas.{packed_row, laid_byte}
 use Rattle.luks_aes_batch.proofs.packing.pack.Goals as goal
 
 pub returns : goal.returns
@@ -51,8 +51,8 @@ returns c =
     (c.group-g.ensures 3 (omega arith))
     (c.group-h.ensures 3 (omega arith))) in
     record {
-      stand = all_also (λ r q. e r (q % 8) (q / 8)) (state_byte (block_in s) 0) _
+      represented = all_also (λ r q. e r (q % 8) (q / 8)) (state_byte (block_in s) 0) _
           (four (λ r q. e r (q % 8) (q / 8)) _ _ _ _ row0 row1 row2 row3)
           (λ r q small. laid_byte s r q low)
-          (λ r q small inside. laid_row s r q small inside);
+          (λ r q small inside. packed_row s r q small inside);
     }

@@ -4,8 +4,8 @@ use Rattle.std.specs.Int.{bit_at}
 use Rattle.std.proofs.lemmas.Bool.{cases_lt}
 use Rattle.luks_bitslice.specs.BitPlanes.{column_order}
 use Rattle.luks_aes_batch.specs.States.{state_byte}
-use Rattle.luks_aes_batch.proofs.OutLemmas.{placed, same_bits, placed_bits, at_place}
-use Rattle.luks_aes_batch.proofs.WayLemmas.{ordered_below}
+use Rattle.luks_aes_batch.proofs.OutLemmas.{byte_of_rows, same_bits, placed_bits, state_byte_at_index}
+use Rattle.luks_aes_batch.proofs.PackingLemmas.{ordered_below}
 use Rattle.luks_aes_batch.proofs.packing.unpack.Goals as goal
 
 pub loop-g-init : goal.loop-g-init
@@ -25,7 +25,8 @@ loop-g-preserved c =
                 let here : n / 4 ≡ g = omega arith in
                 ap (λ k. slice_index c.put_group.new.batch (16 * k + i)) (sym place)
                 ∙ c.put_group.ensures.written (n % 4) i (omega arith) inside
-                ∙ ap (λ x. placed c.groups-a.result c.groups-b.result c.groups-c.result c.groups-d.result x (n % 4) i)
+                ∙ ap (λ x. byte_of_rows c.groups-a.result c.groups-b.result c.groups-c.result c.groups-d.result x
+                (n % 4) i)
                 (sym here)
           ];
     }
@@ -34,20 +35,20 @@ pub returns : goal.returns
 returns c =
     λ s is n i low inside.
     let l = c.loop-g in
-    let stand = is.stand in
+    let represented = is.represented in
     let p = 4 * (n % 4) + column_order (i / 4) in
     let small = ordered_below (i / 4) in
-    let place = at_place s n i low inside in
+    let place = state_byte_at_index s n i low inside in
     let row = i % 4 in
-    let byte : state_byte s 0 row (8 * p + n / 4) < 256 = (stand.at row (omega arith)).bytes (8 * p + n / 4) in
+    let byte : state_byte s 0 row (8 * p + n / 4) < 256 = (represented.at row (omega arith)).bytes (8 * p + n / 4) in
     same_bits _ _ (l.invariant.bytes.each (16 * n + i)) (omega (arith, byte, place))
     (λ k bit.
     ap (λ x. bit_at x k) (l.invariant.done n i (omega arith) inside)
     ∙ placed_bits (state_byte s 0) c.groups-a.result c.groups-b.result c.groups-c.result c.groups-d.result (n / 4)
     (n % 4) i
-    (λ p k. (c.groups-a.ensures (state_byte s 0 0) (stand.at 0 (omega arith)) (n / 4) (omega arith)).at p k)
-    (λ p k. (c.groups-b.ensures (state_byte s 0 1) (stand.at 1 (omega arith)) (n / 4) (omega arith)).at p k)
-    (λ p k. (c.groups-c.ensures (state_byte s 0 2) (stand.at 2 (omega arith)) (n / 4) (omega arith)).at p k)
-    (λ p k. (c.groups-d.ensures (state_byte s 0 3) (stand.at 3 (omega arith)) (n / 4) (omega arith)).at p k)
+    (λ p k. (c.groups-a.ensures (state_byte s 0 0) (represented.at 0 (omega arith)) (n / 4) (omega arith)).at p k)
+    (λ p k. (c.groups-b.ensures (state_byte s 0 1) (represented.at 1 (omega arith)) (n / 4) (omega arith)).at p k)
+    (λ p k. (c.groups-c.ensures (state_byte s 0 2) (represented.at 2 (omega arith)) (n / 4) (omega arith)).at p k)
+    (λ p k. (c.groups-d.ensures (state_byte s 0 3) (represented.at 3 (omega arith)) (n / 4) (omega arith)).at p k)
     k (omega arith) inside bit
     ∙ ap (λ x. bit_at x k) place)

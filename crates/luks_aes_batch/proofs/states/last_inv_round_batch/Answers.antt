@@ -9,7 +9,7 @@ use Rattle.luks_aes_batch.proofs.states.last_inv_round_batch.Goals as goal
 
 pub returns : goal.returns
 returns c = λ t w n all keys hold kept.
-    let circuit = c.inv_sub_bytes_batch.ensures (λ r q. state_byte t 0x63 r (rotated_index r q)) hold.stand in
+    let circuit = c.inv_sub_bytes_batch.ensures (λ r q. state_byte t 0x63 r (rotated_index r q)) hold.represented in
     let substituted =
     subst (λ (x : List (List (List ℕ))). RepresentRows (cells (λ m. inv_sub_bytes (inv_shift_rows (t m)))) x)
     (sym c.rows.ensures) (rows_substituted t _ all circuit) in

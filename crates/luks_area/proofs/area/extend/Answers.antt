@@ -1,55 +1,56 @@
 use Rattle.std.proofs.Common.{rules, ◌≡◌, ◌-◌, ◌∙◌, ap, sym, length, vec_len, arith}
 use Rattle.std.proofs.lemmas.Grind.{common_steps}
-use Rattle.luks_area.proofs.AreaLemmas.{front_filled, length-room, consumed_all_behind, consumed_behind}
+use Rattle.luks_area.proofs.AreaLemmas.{prefix_filled, length-capacity, consumed_all_behind, consumed_behind}
 use Rattle.luks_area.proofs.area.extend.Goals as goal
 
-pub returns-in-Ok-clause-taken : goal.returns-in-Ok-clause-taken
-returns-in-Ok-clause-taken g c =
-    λ told tells.
+pub returns-in-Ok-clause-consumed : goal.returns-in-Ok-clause-consumed
+returns-in-Ok-clause-consumed g c =
+    λ reported reports.
     let old = c.args.bytes.now.items in
     let n = c.args.end - vec_len c.args.bytes.now in
-    let is-whole = c.deref_mut.ensures.value ∙ c.in_ok-make_room.ensures.ok in
+    let is-whole = c.deref_mut.ensures.value ∙ c.in_ok-ensure_capacity.ensures.ok in
     let is-held = c.len-held.ensures ∙ c.args.bytes.now.ok.0 in
-    let is-len = c.make_room.new.bytes.ok.0 ∙ ap length (sym c.deref_mut.ensures.value) in
+    let is-len = c.ensure_capacity.new.bytes.ok.0 ∙ ap length (sym c.deref_mut.ensures.value) in
     let is =
-    front_filled old c.deref_mut.result.now c.fill.new.buf c.len-held.result n is-whole is-held c.fill.auto.buf _ _
-    c.truncate.new.self.items c.make_room.new.bytes.len c.in-Ok.count
+    prefix_filled old c.deref_mut.result.now c.fill.new.buf c.len-held.result n is-whole is-held c.fill.auto.buf _ _
+    c.truncate.new.self.items c.ensure_capacity.new.bytes.len c.in-Ok.count
     is-len c.in-Ok.ensures.bound c.truncate.ensures.items in
-    consumed_all_behind old c.truncate.new.self.items told c.fill.new.buf _ c.in-Ok.count (length c.fill.new.buf) n is
-    (c.in-Ok.ensures.bytes told tells) (c.in-Ok.ensures.end told tells)
-    (length-room old c.deref_mut.result.now c.fill.new.buf c.len-held.result n is-whole is-held c.fill.auto.buf)
+    consumed_all_behind old c.truncate.new.self.items reported c.fill.new.buf _ c.in-Ok.count (length c.fill.new.buf)
+    n is
+    (c.in-Ok.ensures.bytes reported reports) (c.in-Ok.ensures.end reported reports)
+    (length-capacity old c.deref_mut.result.now c.fill.new.buf c.len-held.result n is-whole is-held c.fill.auto.buf)
 
-pub returns-in-Err-clause-taken : goal.returns-in-Err-clause-taken
-returns-in-Err-clause-taken g c =
-    λ told tells.
+pub returns-in-Err-clause-consumed : goal.returns-in-Err-clause-consumed
+returns-in-Err-clause-consumed g c =
+    λ reported reports.
     let old = c.args.bytes.now.items in
     let n = c.args.end - vec_len c.args.bytes.now in
     let got = c.in-Err.field-0.got in
-    let is-whole = c.deref_mut.ensures.value ∙ c.in_ok-make_room.ensures.ok in
+    let is-whole = c.deref_mut.ensures.value ∙ c.in_ok-ensure_capacity.ensures.ok in
     let is-held = c.len-held.ensures ∙ c.args.bytes.now.ok.0 in
-    let is-len = c.make_room.new.bytes.ok.0 ∙ ap length (sym c.deref_mut.ensures.value) in
+    let is-len = c.ensure_capacity.new.bytes.ok.0 ∙ ap length (sym c.deref_mut.ensures.value) in
     let stops = c.in-Err.ensures.bound in
-    let room : length c.fill.new.buf
-    ≡ n = length-room old c.deref_mut.result.now c.fill.new.buf c.len-held.result n is-whole is-held
+    let capacity : length c.fill.new.buf
+    ≡ n = length-capacity old c.deref_mut.result.now c.fill.new.buf c.len-held.result n is-whole is-held
     c.fill.auto.buf in
     let is =
-    front_filled old c.deref_mut.result.now c.fill.new.buf c.len-held.result n is-whole is-held c.fill.auto.buf _ _
-    c.truncate-in-Err.new.self.items c.make_room.new.bytes.len got
+    prefix_filled old c.deref_mut.result.now c.fill.new.buf c.len-held.result n is-whole is-held c.fill.auto.buf _ _
+    c.truncate-in-Err.new.self.items c.ensure_capacity.new.bytes.len got
     is-len (omega (arith, stops)) c.truncate-in-Err.ensures.items in (
       got,
       omega (arith, stops),
-      consumed_behind old c.truncate-in-Err.new.self.items told c.fill.new.buf _ got is
-          (c.in-Err.ensures.bytes told tells),
+      consumed_behind old c.truncate-in-Err.new.self.items reported c.fill.new.buf _ got is
+          (c.in-Err.ensures.bytes reported reports),
     )
 
 pub returns-in-Err-clause-memory : goal.returns-in-Err-clause-memory
 returns-in-Err-clause-memory g c = search rules
 
-pub returns-in_err-make_room-clause-memory : goal.returns-in_err-make_room-clause-memory
-returns-in_err-make_room-clause-memory g c = search rules
+pub returns-in_err-ensure_capacity-clause-memory : goal.returns-in_err-ensure_capacity-clause-memory
+returns-in_err-ensure_capacity-clause-memory g c = search rules
 
-pub returns-in_err-make_room-clause-taken : goal.returns-in_err-make_room-clause-taken
-returns-in_err-make_room-clause-taken g c = search rules
+pub returns-in_err-ensure_capacity-clause-consumed : goal.returns-in_err-ensure_capacity-clause-consumed
+returns-in_err-ensure_capacity-clause-consumed g c = search rules
 
 pub returns-in-Ok-clause-loads : goal.returns-in-Ok-clause-loads
 returns-in-Ok-clause-loads g c = record {

@@ -1,5 +1,5 @@
 use Rattle.luks_bitslice.proofs.Tables.{planes_carried, sum_carried, both_carried, either_carried, other_carried}
-use Rattle.luks_bitslice.proofs.Tables.{stands_unsubstituted}
+use Rattle.luks_bitslice.proofs.Tables.{represented_inv_sub_bytes}
 use Rattle.luks_bitslice.proofs.circuit.inv_sbox_circuit.Goals as goal
 
 pub returns : goal.returns
@@ -111,4 +111,4 @@ returns c = λ y is.
     let z47 = sum_carried z37 z46 c.xor-z47.ensures in
     let y3 = sum_carried z38 z40 c.xor-y3.ensures in
     let y0 = sum_carried z34 z47 c.xor-y0.ensures in
-    stands_unsubstituted y is.bytes y0 y1 y2 y3 y4 y5 y6 y7
+    represented_inv_sub_bytes y is.bytes y0 y1 y2 y3 y4 y5 y6 y7

@@ -12,7 +12,7 @@ pub loop-i-init : goal.loop-i-init
 unfolding block_before
 loop-i-init c = record {
   bytes = record { each = search rules };
-  vector = record { len = omega arith; bytes = record { each = search rules } };
+  iv = record { len = omega arith; bytes = record { each = search rules } };
   last = refl;
   done = done_none _ _;
 }
@@ -20,16 +20,16 @@ loop-i-init c = record {
 pub loop-i-preserved : goal.loop-i-preserved
 loop-i-preserved c =
     let i = c.loop-i.i in
-    let vector = c.args.vector in
+    let iv = c.args.iv in
     let unit = c.args.unit.now in
     let before = c.loop-i.invariant in
     let same = batch_block unit c.loop-i.unit i before.done.left in
     record {
       bytes = before.bytes;
-      vector = before.vector;
-      last = before_next vector c.loop-i.before unit _ _ i before.last same c.decrypt_batch-next.ensures.next;
+      iv = before.iv;
+      last = before_next iv c.loop-i.before unit _ _ i before.last same c.decrypt_batch-next.ensures.next;
       done = batch_done _ _ _ c.decrypt_batch-next.new.batch i before.done (omega arith) (omega arith)
-          (cbc_unit_batch c.args.key.now vector (32 * i) c.loop-i.before unit _ _ before.last same
+          (cbc_unit_batch c.args.key.now iv (32 * i) c.loop-i.before unit _ _ before.last same
           c.decrypt_batch-next.ensures.value);
     }
 
@@ -39,8 +39,8 @@ loop-j-init c =
     let at : 32 * c.loop-i.i ≡ 32 * (length c.args.unit.now / 512) = omega arith in
     record {
       bytes = before.bytes;
-      vector = before.vector;
-      last = before.last ∙ ap (block_before c.args.vector c.args.unit.now) at;
+      iv = before.iv;
+      last = before.last ∙ ap (block_before c.args.iv c.args.unit.now) at;
       done = done_moved _ _ _ _ _ at before.done;
     }
 
@@ -54,7 +54,7 @@ loop-j-preserved c =
     let held = c.key-block_key.ensures in
     record {
       bytes = before.bytes;
-      vector = before.vector;
+      iv = before.iv;
       last = rw add-one (c.decrypt_link-next.ensures.next ∙ block);
       done = done_more _ _ _ _ j before.done (omega arith) (omega arith)
           (c.decrypt_link-next.ensures.value ∙ (λ i. block_xor (decrypted (held i) (block i)) (last i)));
@@ -71,13 +71,13 @@ pub returns-clause-undoes : goal.returns-clause-undoes
 returns-clause-undoes c plain bytes same is =
     let keys : IsBytes c.args.key.now = rw (← c.key-block_key.ensures) c.holds_bytes.ensures in
     returns-clause-value c
-    ∙ (ap (cbc_decrypted c.args.key.now c.args.vector) is
-    ∙ cbc_decrypted-cbc_encrypted c.args.key.now c.args.vector plain keys c.loop-j.invariant.vector bytes
+    ∙ (ap (cbc_decrypted c.args.key.now c.args.iv) is
+    ∙ cbc_decrypted-cbc_encrypted c.args.key.now c.args.iv plain keys c.loop-j.invariant.iv bytes
     (rw same c.requires))
 
 pub returns-clause-undone : goal.returns-clause-undone
 returns-clause-undone c =
     let keys : IsBytes c.args.key.now = rw (← c.key-block_key.ensures) c.holds_bytes.ensures in
-    ap (cbc_encrypted c.args.key.now c.args.vector) (returns-clause-value c)
-    ∙ cbc_encrypted-cbc_decrypted c.args.key.now c.args.vector c.args.unit.now keys c.loop-j.invariant.vector
+    ap (cbc_encrypted c.args.key.now c.args.iv) (returns-clause-value c)
+    ∙ cbc_encrypted-cbc_decrypted c.args.key.now c.args.iv c.args.unit.now keys c.loop-j.invariant.iv
     c.loop-j.invariant.bytes (omega arith)

@@ -11,17 +11,17 @@ use Rattle.luks_cipher.proofs.cbc.decrypt_chain.Given as goal
 abbrev pub invariant-loop-i : goal.invariant-loop-i
 invariant-loop-i l = record {
   bytes : IsBytes l.fn.unit;
-  vector : IsState l.fn.vector;
-  last : l.before ≡ block_before l.fn.vector l.fn.unit (32 * l.i);
-  done : IsDoneBefore (λ j. block_xor (decrypted l.key (block_at l.fn.unit j)) (block_before l.fn.vector l.fn.unit j))
+  iv : IsState l.fn.iv;
+  last : l.before ≡ block_before l.fn.iv l.fn.unit (32 * l.i);
+  done : IsDoneBefore (λ j. block_xor (decrypted l.key (block_at l.fn.unit j)) (block_before l.fn.iv l.fn.unit j))
       l.fn.unit l.unit (32 * l.i);
 }
 
 abbrev pub invariant-loop-j : goal.invariant-loop-j
 invariant-loop-j l = record {
   bytes : IsBytes l.fn.unit;
-  vector : IsState l.fn.vector;
-  last : l.before ≡ block_before l.fn.vector l.fn.unit l.j;
-  done : IsDoneBefore (λ j. block_xor (decrypted l.key (block_at l.fn.unit j)) (block_before l.fn.vector l.fn.unit j))
+  iv : IsState l.fn.iv;
+  last : l.before ≡ block_before l.fn.iv l.fn.unit l.j;
+  done : IsDoneBefore (λ j. block_xor (decrypted l.key (block_at l.fn.unit j)) (block_before l.fn.iv l.fn.unit j))
       l.fn.unit l.unit l.j;
 }

@@ -8,7 +8,7 @@ pub loop-j-init : goal.loop-j-init
 unfolding chained
 loop-j-init c = record {
   bytes = record { each = search rules };
-  vector = record { len = omega arith; bytes = record { each = search rules } };
+  iv = record { len = omega arith; bytes = record { each = search rules } };
   last = refl;
   done = done_none _ _;
 }
@@ -23,7 +23,7 @@ loop-j-preserved c =
     let value = c.encrypt_link-next.ensures.value ∙ rw (block, last) refl in
     record {
       bytes = before.bytes;
-      vector = before.vector;
+      iv = before.iv;
       last = rw add-one (c.encrypt_link-next.ensures.next ∙ value);
       done = done_more _ _ _ _ j before.done (omega arith) (omega arith) value;
     }
@@ -37,6 +37,6 @@ returns-clause-value c =
 
 pub returns-clause-undone : goal.returns-clause-undone
 returns-clause-undone c =
-    ap (cbc_decrypted c.args.key.now c.args.vector) (returns-clause-value c)
-    ∙ cbc_decrypted-cbc_encrypted c.args.key.now c.args.vector c.args.unit.now c.holds_bytes.ensures
-    c.loop-j.invariant.vector c.loop-j.invariant.bytes (omega arith)
+    ap (cbc_decrypted c.args.key.now c.args.iv) (returns-clause-value c)
+    ∙ cbc_decrypted-cbc_encrypted c.args.key.now c.args.iv c.args.unit.now c.holds_bytes.ensures
+    c.loop-j.invariant.iv c.loop-j.invariant.bytes (omega arith)

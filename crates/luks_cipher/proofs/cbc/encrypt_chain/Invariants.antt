@@ -9,7 +9,7 @@ use Rattle.luks_cipher.proofs.cbc.encrypt_chain.Given as goal
 abbrev pub invariant-loop-j : goal.invariant-loop-j
 invariant-loop-j l = record {
   bytes : IsBytes l.fn.unit;
-  vector : IsState l.fn.vector;
-  last : l.before ≡ chained l.key l.fn.vector l.fn.unit l.j;
-  done : IsDoneBefore (λ j. chained l.key l.fn.vector l.fn.unit (suc j)) l.fn.unit l.unit l.j;
+  iv : IsState l.fn.iv;
+  last : l.before ≡ chained l.key l.fn.iv l.fn.unit l.j;
+  done : IsDoneBefore (λ j. chained l.key l.fn.iv l.fn.unit (suc j)) l.fn.unit l.unit l.j;
 }

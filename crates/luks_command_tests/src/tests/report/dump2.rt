@@ -136,11 +136,11 @@ fn check_dump(rt: &(impl Abort + AllocGlobal), row: &Dump) {
     let json = joined(rt, &json);
     let image = image(rt, [Some(one), Some(other)], json.as_str());
     let header = read(rt, &image);
-    let page = dump_text(rt.alloc(), &header).expect(rt, "memory");
+    let shown = dump_text(rt.alloc(), &header).expect(rt, "memory");
     let wanted = joined(rt, &[VERSION, first, HEADER_LINES, rest[0], rest[1]]);
-    assert_text(rt, page.as_str(), wanted.as_str());
-    let page = uuid_text(rt.alloc(), &header).expect(rt, "memory");
-    assert_text(rt, page.as_str(), UUID);
+    assert_text(rt, shown.as_str(), wanted.as_str());
+    let shown = uuid_text(rt.alloc(), &header).expect(rt, "memory");
+    assert_text(rt, shown.as_str(), UUID);
 }
 
 #[test]
@@ -165,7 +165,7 @@ static FOUND: [([Option<u64>; 2], &str); 5] = [
 ];
 
 #[test]
-fn what_is_amiss_with_two_headers(rt: HostRuntime) {
+fn findings_of_two_headers(rt: HostRuntime) {
     for (numbers, first) in &FOUND {
         let wanted = joined(&rt, &[first, "segment: segments\n"]);
         check_findings(&rt, &image(&rt, *numbers, PLAIN), wanted.as_str());

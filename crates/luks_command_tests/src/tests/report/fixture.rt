@@ -15,8 +15,8 @@ pub fn read(rt: &(impl Abort + AllocGlobal), image: &[u8]) -> Header {
 }
 
 /// Asserts that a text is the expected one.
-pub fn assert_text(rt: &impl Abort, page: &str, wanted: &str) {
-    assert!(rt; page == wanted, "{page}, and not {wanted}");
+pub fn assert_text(rt: &impl Abort, shown: &str, wanted: &str) {
+    assert!(rt; shown == wanted, "{page}, and not {wanted}");
 }
 
 /// The header of an image has these findings, and a check prints them and ends with the message for
@@ -25,12 +25,12 @@ pub fn check_findings(rt: &(impl Abort + AllocGlobal), image: &[u8], wanted: &st
     let header = read(rt, image);
     let found = findings(rt.alloc(), &header).expect(rt, "memory");
     assert_text(rt, found.as_str(), wanted);
-    let (page, message) = if wanted.is_empty() {
+    let (shown, message) = if wanted.is_empty() {
         ("clean\n", Message::Done)
     } else {
         (wanted, Message::Findings)
     };
     let checked = check_text(rt.alloc(), &header).expect(rt, "memory");
-    assert_text(rt, checked.0.as_str(), page);
+    assert_text(rt, checked.0.as_str(), shown);
     assert!(rt; checked.1 == message, "{page}");
 }

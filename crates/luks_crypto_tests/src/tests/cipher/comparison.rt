@@ -12,7 +12,7 @@ fn next(x: u64) -> u64 {
 }
 
 // `length` bytes that are generated from the seed.
-fn drawn(rt: &(impl Abort + AllocGlobal), seed: u64, length: usize) -> Vec<u8> {
+fn generated_bytes(rt: &(impl Abort + AllocGlobal), seed: u64, length: usize) -> Vec<u8> {
     let mut x = seed;
     let mut bytes = Vec::new(rt.alloc());
     for _ in 0..length {
@@ -29,9 +29,9 @@ fn check_unit(
     number: u64,
     length: usize,
 ) {
-    let plain = drawn(rt, number, length);
-    let mut unit = drawn(rt, number, length);
-    let mut other = drawn(rt, number, length);
+    let plain = generated_bytes(rt, number, length);
+    let mut unit = generated_bytes(rt, number, length);
+    let mut other = generated_bytes(rt, number, length);
     cipher.encrypt(rt, number, &mut unit);
     bytewise.unit(true, number, &mut other);
     let is_encrypted = unit == other;
@@ -45,7 +45,7 @@ fn check_unit(
 
 // Checks 1000 units of this length, each under its own number.
 fn check_length(rt: &(impl Abort + AllocGlobal), key_length: usize, length: usize) {
-    let key = drawn(rt, 0x9e37_79b9_7f4a_7c15, key_length);
+    let key = generated_bytes(rt, 0x9e37_79b9_7f4a_7c15, key_length);
     let cipher = Cipher::new(rt, "xts", &key, "");
     let bytewise = Bytewise::new(&key);
     let mut number = 0x0123_4567_89ab_cdef;

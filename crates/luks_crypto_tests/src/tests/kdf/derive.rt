@@ -70,14 +70,14 @@ fn check_lengths(rt: &impl Abort, hash: Hash, want: &[u8]) {
     let size = hash.size();
     assert!(rt; want.len() == 4 * size + 2);
     check(rt, hash, b"password", b"salt", 3, want, 9);
-    check_front(rt, hash, want, size + 1, 6);
+    check_prefix(rt, hash, want, size + 1, 6);
     for len in [size, size - 1, 1] {
-        check_front(rt, hash, want, len, 3);
+        check_prefix(rt, hash, want, len, 3);
     }
 }
 
 // Asserts the derived key of this length, which is a prefix of the whole one.
-fn check_front(rt: &impl Abort, hash: Hash, want: &[u8], len: usize, work: u128) {
+fn check_prefix(rt: &impl Abort, hash: Hash, want: &[u8], len: usize, work: u128) {
     assert!(rt; len <= want.len() / 2);
     check(rt, hash, b"password", b"salt", 3, &want[..2 * len], work);
 }
@@ -180,7 +180,7 @@ fn longest_keys(rt: HostRuntime) {
 fn add_to_mark(mark: &mut [u8; 32], hash: Hash, turns: u32, length: usize)
     requires turns { 1 ≤ turns }
     requires some { 1 ≤ length }
-    requires room { length ≤ 512 }
+    requires capacity { length ≤ 512 }
 {
     let mut key = [0; 512];
     let key = &mut key[..length];

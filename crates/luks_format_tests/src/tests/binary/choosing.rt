@@ -21,7 +21,13 @@ const SECOND: Summary = Ok((Place::Secondary, 16_384, Some(Finding::PrimaryNotVa
 const NEXT: Summary = Ok((Place::Secondary, 32_768, Some(Finding::PrimaryNotValid)));
 
 // Checks the answer for an image, and how many bytes are consumed.
-fn check(rt: &(impl Abort + AllocGlobal), case: usize, image: &[u8], want: Summary, taken: usize) {
+fn check(
+    rt: &(impl Abort + AllocGlobal),
+    case: usize,
+    image: &[u8],
+    want: Summary,
+    consumed: usize,
+) {
     let mut source = MemSource::new(image);
     let summary = match read_from(rt.alloc(), &mut source) {
         Ok((header, _area)) => Ok((header.place, header.size, header.finding)),
@@ -29,7 +35,7 @@ fn check(rt: &(impl Abort + AllocGlobal), case: usize, image: &[u8], want: Summa
     };
     assert_in(rt, case, summary == want);
     let left = source.left().len();
-    assert_in(rt, case, left == image.len().saturating_sub(taken));
+    assert_in(rt, case, left == image.len().saturating_sub(consumed));
 }
 
 // Checks the fields of the header, and the text in its area.
@@ -164,9 +170,9 @@ fn image_with(
 
 #[test]
 fn damaged_and_missing_headers(rt: HostRuntime) {
-    for (i, (headers, changes, len, want, taken)) in ROWS.iter().enumerate() {
+    for (i, (headers, changes, len, want, consumed)) in ROWS.iter().enumerate() {
         let image = image_with(&rt, *len, headers, changes);
-        check(&rt, i, &image, *want, *taken);
+        check(&rt, i, &image, *want, *consumed);
     }
 }
 

@@ -62,7 +62,7 @@ fn check_is_read(rt: &(impl Abort + AllocGlobal), image: &[u8], name: &str, read
 }
 
 // Replaces a header's checksum by the one that the hexadecimal digits spell.
-fn put_sum(header: &mut [u8], hash: Hash, digits: &str) {
+fn put_checksum(header: &mut [u8], hash: Hash, digits: &str) {
     let mut sum = [0; 64];
     let _ = hex::decode_to_slice(digits, &mut sum[..hash.size()]);
     put(header, 448, &sum);
@@ -92,7 +92,7 @@ fn check_extent(rt: &(impl Abort + AllocGlobal), image: &mut [u8], name: &str, h
 fn checksums_of_another_program_agree(rt: HostRuntime) {
     for (hash, name, digits) in &SUMS {
         let mut image = image_named(&rt, *hash, name);
-        put_sum(image.as_mut_slice(), *hash, digits);
+        put_checksum(image.as_mut_slice(), *hash, digits);
         check_whole(&rt, &image, name, *hash);
         check_extent(&rt, image.as_mut_slice(), name, *hash);
     }

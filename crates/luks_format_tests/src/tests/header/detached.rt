@@ -61,16 +61,24 @@ fn check(
         row,
         has_words(&header, attached) & !is_detached(&header),
     );
-    let apart = kept(rt, header.detach());
-    assert_of(rt, row, has_words(apart, detached) & is_detached(apart));
-    assert_of(rt, row, is_there(rt, apart, 0) | (detached[1] == "area"));
+    let without_image = kept(rt, header.detach());
+    assert_of(
+        rt,
+        row,
+        has_words(without_image, detached) & is_detached(without_image),
+    );
+    assert_of(
+        rt,
+        row,
+        is_there(rt, without_image, 0) | (detached[1] == "area"),
+    );
 }
 
 const GOOD: Words = ["none", "usable"];
 
 const FIRST: Words = ["offset", "area"];
 
-const APART: Words = ["none", "area"];
+const DETACHED: Words = ["none", "area"];
 
 type First = (&'static str, Numbers, Words, Words);
 
@@ -80,15 +88,15 @@ type First = (&'static str, Numbers, Words, Words);
 static OF_LUKS1: [First; 10] = [
     ("0", &[(PAYLOAD_OFFSET, 0)], FIRST, GOOD),
     ("1", &[(PAYLOAD_OFFSET, 1)], FIRST, GOOD),
-    ("2", &[(PAYLOAD_OFFSET, 2)], APART, GOOD),
-    ("507", &[(PAYLOAD_OFFSET, 507)], APART, GOOD),
+    ("2", &[(PAYLOAD_OFFSET, 2)], DETACHED, GOOD),
+    ("507", &[(PAYLOAD_OFFSET, 507)], DETACHED, GOOD),
     ("508", &[(PAYLOAD_OFFSET, 508)], GOOD, GOOD),
     ("0xffffffff", &[(PAYLOAD_OFFSET, 0xffff_ffff)], GOOD, GOOD),
     (
         "area 1",
         &[(PAYLOAD_OFFSET, 0), (SLOT_OFFSET, 1)],
         FIRST,
-        APART,
+        DETACHED,
     ),
     (
         "area 2",
@@ -106,7 +114,7 @@ static OF_LUKS1: [First; 10] = [
         "area 65037",
         &[(PAYLOAD_OFFSET, 0), (SLOT_OFFSET, 65_037)],
         FIRST,
-        APART,
+        DETACHED,
     ),
 ];
 
@@ -133,9 +141,9 @@ static OF_LUKS2: [Second; 7] = [
     ("0", WRONG, GOOD),
     ("511", WRONG, WRONG),
     ("32256", WRONG, GOOD),
-    ("32768", APART, GOOD),
+    ("32768", DETACHED, GOOD),
     ("32769", WRONG, WRONG),
-    ("288256", APART, GOOD),
+    ("288256", DETACHED, GOOD),
     ("288768", GOOD, GOOD),
 ];
 

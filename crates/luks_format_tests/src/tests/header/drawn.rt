@@ -29,7 +29,7 @@ fn draw(state: &mut u64, usual: [u32; 4]) -> u32 {
     }
 }
 
-fn drawn_header(state: &mut u64) -> [u8; 592] {
+fn generated_header(state: &mut u64) -> [u8; 592] {
     let mut bytes = volume_header();
     let numbers = [
         (KEY_BYTES, draw(state, [32, 64, 0, 1])),
@@ -86,7 +86,7 @@ fn slots_and_digests_of_any_header_are_reported(rt: HostRuntime) {
     let mut state = 1;
     let mut usable = 0u32;
     for run in 0..2000u32 {
-        usable = usable.saturating_add(usable_of(&rt, &drawn_header(&mut state), run));
+        usable = usable.saturating_add(usable_of(&rt, &generated_header(&mut state), run));
     }
     // Some slots are usable, and some are not.
     assert_row(&rt, usable as usize, (usable > 100) & (usable < 15_900));

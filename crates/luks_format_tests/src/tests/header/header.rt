@@ -187,8 +187,8 @@ static LACKING: [Request; 8] = [
 // Whether the area has the first bytes afterwards, and the others remain in the source.
 fn takes(area: &mut HeaderArea, source: &mut MemSource<'_>, (end, there, held): &Request) -> bool {
     let whole = area.extend_to(source, *end.min(&HeaderArea::MAX_LEN));
-    let (front, rest) = DIGITS.split_at(*held.min(&10));
-    (whole == Ok(*there)) & ([area.as_slice(), source.left()] == [front, rest])
+    let (prefix, rest) = DIGITS.split_at(*held.min(&10));
+    (whole == Ok(*there)) & ([area.as_slice(), source.left()] == [prefix, rest])
 }
 
 fn check_lacking(rt: &(impl Abort + AllocGlobal), rows: &[Request]) {

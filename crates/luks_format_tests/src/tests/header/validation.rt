@@ -304,11 +304,11 @@ fn refusals_have_their_texts(rt: HostRuntime) {
 
 const SKIPPED: VerdictKind = VerdictKind::Skipped(SkipReason::Iterations);
 
-type Judged = (Option<u32>, u8, Option<VerdictKind>);
+type VerdictRow = (Option<u32>, u8, Option<VerdictKind>);
 
 // The limit of iterations, a slot's number, and the verdict on it without its contents. A number
 // that is no slot of the format has nothing to open.
-static JUDGED: [Judged; 7] = [
+static VERDICTS: [VerdictRow; 7] = [
     (None, 0, Some(VerdictKind::Usable(1))),
     (Some(999), 0, Some(SKIPPED)),
     (None, 7, Some(VerdictKind::Disabled)),
@@ -318,7 +318,7 @@ static JUDGED: [Judged; 7] = [
     (None, 255, None),
 ];
 
-fn check_judged(rt: &(impl Abort + AllocGlobal), header: &Header, rows: &[Judged]) {
+fn check_verdict_kinds(rt: &(impl Abort + AllocGlobal), header: &Header, rows: &[VerdictRow]) {
     for (limit, number, want) in rows {
         let is_so = verdict_kind(header, *limit, *number) == *want;
         let there = is_there(rt, header, *number);
@@ -327,9 +327,9 @@ fn check_judged(rt: &(impl Abort + AllocGlobal), header: &Header, rows: &[Judged
 }
 
 #[test]
-fn a_slot_is_judged_by_its_number(rt: HostRuntime) {
+fn a_slot_has_its_verdict_by_number(rt: HostRuntime) {
     let header = first(&rt, &[], &[]);
-    check_judged(&rt, header, &JUDGED);
+    check_verdict_kinds(&rt, header, &VERDICTS);
 }
 
 fn has_numbers(digest: &KeyDigest) -> bool {

@@ -4,7 +4,7 @@ use super::assert_of;
 use super::fixture::with_member;
 use luks_cipher::Mode;
 use luks2_json::encryption::{encryption_mode, is_length_for};
-use luks2_json::list::has_texts;
+use luks2_json::list::has_strings;
 use luks2_json::member::{
     base64_len, base64_member, decimal_member, integer_member, is_named, is_type, string_member,
 };
@@ -160,7 +160,7 @@ static LISTS: [(&str, bool); 9] = [
 fn lists_that_are_texts_alone(rt: HostRuntime) {
     for (value, want) in &LISTS {
         let tree = with_member(&rt, value).tree();
-        let is_so = (has_texts(tree, "x") == *want) & !has_texts(tree, "y");
+        let is_so = (has_strings(tree, "x") == *want) & !has_strings(tree, "y");
         assert_of(&rt, value, is_so);
     }
 }

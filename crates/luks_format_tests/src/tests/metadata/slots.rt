@@ -56,7 +56,7 @@ fn has_values(slot: &Slot) -> bool {
 }
 
 // The number of a slot of the text, a limit on iterations, and the verdict on the slot.
-static JUDGED: [(u8, Option<u32>, &str); 9] = [
+static VERDICTS: [(u8, Option<u32>, &str); 9] = [
     (0, None, "argon2id"),
     (1, None, "not there"),
     (2, None, "usable 1"),
@@ -71,7 +71,7 @@ static JUDGED: [(u8, Option<u32>, &str); 9] = [
 #[test]
 fn the_slots_as_they_are(rt: HostRuntime) {
     let metadata = metadata(&rt, "");
-    for (number, limit, want) in &JUDGED {
+    for (number, limit, want) in &VERDICTS {
         let word = word(verdict_kind(metadata, ATTACHED, *limit, *number));
         assert_answer(&rt, want, word, want);
     }

@@ -3,7 +3,7 @@
 use super::fixture::{BEFORE_X, joined, kept, quoted, read, with_member};
 use super::{assert_answer, assert_of};
 use luks_area::fault::HeaderFault;
-use luks2_json::list::{array_contains, texts_at};
+use luks2_json::list::{array_contains, strings_at};
 use luks2_json::member::{integer_member, string_member};
 use luks2_json::numbered::{has_key_out_of_range, object_numbered};
 use luks2_json::tree::Metadata;
@@ -165,7 +165,7 @@ fn names_that_are_numbers(rt: HostRuntime) {
 
 // Checks that the member is an array of these strings.
 fn check_texts(rt: &(impl Abort + AllocGlobal), metadata: &Metadata, name: &str, wants: &[&str]) {
-    let texts = texts_at(rt.alloc(), metadata.tree(), name).expect(rt, "memory");
+    let texts = strings_at(rt.alloc(), metadata.tree(), name).expect(rt, "memory");
     assert_of(rt, name, texts.as_slice().len() == wants.len());
     for (i, text) in texts.as_slice().iter().enumerate() {
         assert_of(rt, name, wants.get(i).copied() == Some(text.as_str()));

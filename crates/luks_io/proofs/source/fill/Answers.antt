@@ -1,12 +1,12 @@
 use Rattle.std.proofs.Common.{rules}
-use Rattle.luks_io.proofs.Moves.{Consumes-next, took-front, took-kept, took-nothing, took-whole}
+use Rattle.luks_io.proofs.Moves.{Consumes-next, consumed-prefix, consumed-kept, consumed-nothing, consumed-whole}
 use Rattle.luks_io.proofs.source.fill.Goals as goal
 
 pub loop-at-preserved : goal.loop-at-preserved
 loop-at-preserved g c = record {
   within = search rules;
-  taken = Consumes-next _ _ _ c.loop-at.buf c.read.new.buf c.loop-at.at c.in-Ok.n c.loop-at.invariant.within
-      c.in-Ok.ensures.bound.0 c.loop-at.invariant.taken c.in-Ok.ensures.bytes.0;
+  consumed = Consumes-next _ _ _ c.loop-at.buf c.read.new.buf c.loop-at.at c.in-Ok.n c.loop-at.invariant.within
+      c.in-Ok.ensures.bound.0 c.loop-at.invariant.consumed c.in-Ok.ensures.bytes.0;
   reads = search rules;
 }
 
@@ -15,8 +15,8 @@ returns-in-Ok-eq0-clause-bound g c = search rules
 
 pub returns-in-Ok-eq0-clause-bytes : goal.returns-in-Ok-eq0-clause-bytes
 returns-in-Ok-eq0-clause-bytes g c =
-    took-nothing _ _ _ c.loop-at.buf c.read.new.buf c.loop-at.at c.in-Ok-eq0.field-0 c.in-Ok-eq0.field-0-test
-    c.loop-at.invariant.within c.loop-at.invariant.taken c.in-Ok-eq0.ensures.bytes.0
+    consumed-nothing _ _ _ c.loop-at.buf c.read.new.buf c.loop-at.at c.in-Ok-eq0.field-0 c.in-Ok-eq0.field-0-test
+    c.loop-at.invariant.within c.loop-at.invariant.consumed c.in-Ok-eq0.ensures.bytes.0
 
 pub returns-in-Ok-eq0-clause-end : goal.returns-in-Ok-eq0-clause-end
 returns-in-Ok-eq0-clause-end g c = search rules
@@ -26,7 +26,8 @@ returns-in-Err-clause-bound g c = search rules
 
 pub returns-in-Err-clause-bytes : goal.returns-in-Err-clause-bytes
 returns-in-Err-clause-bytes g c =
-    took-kept _ _ _ c.loop-at.buf c.read.new.buf c.loop-at.at c.loop-at.invariant.within c.loop-at.invariant.taken
+    consumed-kept _ _ _ c.loop-at.buf c.read.new.buf c.loop-at.at c.loop-at.invariant.within
+    c.loop-at.invariant.consumed
     c.in-Err.ensures.bytes
 
 pub returns-in-Err-clause-end : goal.returns-in-Err-clause-end
@@ -37,8 +38,9 @@ returns-clause-bound g c = search rules
 
 pub returns-clause-bytes : goal.returns-clause-bytes
 returns-clause-bytes g c =
-    took-front _ _ c.loop-at.buf c.loop-at.at c.loop-at.invariant.within c.loop-at.invariant.taken
+    consumed-prefix _ _ c.loop-at.buf c.loop-at.at c.loop-at.invariant.within c.loop-at.invariant.consumed
 
 pub returns-clause-end : goal.returns-clause-end
 returns-clause-end g c =
-    took-whole _ _ c.loop-at.buf c.loop-at.at c.loop-at.invariant.within c.loop-at-test.false c.loop-at.invariant.taken
+    consumed-whole _ _ c.loop-at.buf c.loop-at.at c.loop-at.invariant.within c.loop-at-test.false
+    c.loop-at.invariant.consumed

@@ -7,7 +7,7 @@ use Rattle.luks_io.proofs.source.fill.Given as goal
 abbrev pub invariant-loop-at : goal.invariant-loop-at
 invariant-loop-at g l = record {
   within : l.at ≤ length l.buf;
-  taken : Consumes (g.S.Source.to_come l.initial.source) (g.S.Source.to_come l.source) (take l.at l.buf);
+  consumed : Consumes (g.S.Source.to_come l.initial.source) (g.S.Source.to_come l.source) (take l.at l.buf);
   reads : Reads false false (g.S.Source.counts l.initial.source) (g.S.Source.counts l.source);
 }
 

@@ -9,7 +9,7 @@ returns-then-not-LONE-clause-key g c = λ pass holds_inner holds_outer is_inner 
     let is_size : c.size-size.result ≡ digest_len h = c.size-size.ensures ∙ ap digest_len c.hash.ensures in
     c.derive_block.ensures.key pass holds_inner holds_outer
     ∙ group_of_one h pass c.args.salt.now c.args.number c.args.iterations g.E.Lanes.WIDTH (length c.args.out.now)
-    (omega arith) c.requires.room
+    (omega arith) c.requires.capacity
 
 pub returns-else-out-size-clause-key : goal.returns-else-out-size-clause-key
 returns-else-out-size-clause-key g c = λ pass holds_inner holds_outer is_inner is_outer.
@@ -18,5 +18,6 @@ returns-else-out-size-clause-key g c = λ pass holds_inner holds_outer is_inner 
     let lanes = has_lanes h g.E.Lanes.WIDTH g.met.E.Lanes.known in
     c.copy_from_slice.ensures.after
     ∙ group_of_digests h pass c.args.salt.now c.args.number c.args.iterations g.E.Lanes.WIDTH (length c.args.out.now)
-    c.div_ceil-count.result c.sum_group.new.t (rw is_size at c.div_ceil-count.ensures) lanes.some_bytes c.requires.room
+    c.div_ceil-count.result c.sum_group.new.t (rw is_size at c.div_ceil-count.ensures) lanes.some_bytes
+    c.requires.capacity
     (c.sum_group.ensures pass holds_inner holds_outer is_inner is_outer)

@@ -14,7 +14,7 @@ returns-clause-split c =
     c.splitter_after-splitter.ensures.start in (
       length random / len,
       whole_stripes len (length random) number.0 (omega arith) number.1 (c.requires.random ∙ number.3),
-      ap (λ (front : List ℕ). front ++ c.last.new.out) c.copy_from_slice.ensures.after
+      ap (λ (prefix : List ℕ). prefix ++ c.last.new.out) c.copy_from_slice.ensures.after
           ∙ ap (λ (back : List ℕ). random ++ back) last,
     )
 

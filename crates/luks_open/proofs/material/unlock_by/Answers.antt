@@ -12,7 +12,7 @@ sectors-init c =
     record {
       len = c.new-splitter.ensures.len;
       before = length-joined_none f;
-      taken = sectors_none c.args.af len (512 / len) f c.new-splitter.result c.new-splitter.ensures.start;
+      absorbed = sectors_none c.args.af len (512 / len) f c.new-splitter.result c.new-splitter.ensures.start;
     }
 
 pub decrypt_sector-requires-clause-there : goal.decrypt_sector-requires-clause-there
@@ -35,12 +35,14 @@ sectors-preserved c =
     let before : length (joined f number) ≡ number * (512 / len) * len =
     c.sectors.invariant.before ∙ whole_sectors number (512 / len) len place.fits in
     record {
-      len = c.take_in.ensures.len;
+      len = c.absorb_stripes.ensures.len;
       before = length-joined_more f number c.decrypt_sector.new.sector c.sectors.invariant.before
           c.decrypt_sector.ensures full;
-      taken = sector_more c.args.af len (512 / len) f number c.decrypt_sector.new.sector c.take_in.new.splitter
+      absorbed = sector_more c.args.af len (512 / len) f number c.decrypt_sector.new.sector
+          c.absorb_stripes.new.splitter
           place.fits c.decrypt_sector.ensures full
-          (c.take_in.ensures.taken c.args.af (joined f number) (number * (512 / len)) before c.sectors.invariant.taken);
+          (c.absorb_stripes.ensures.absorbed c.args.af (joined f number) (number * (512 / len)) before
+          c.sectors.invariant.absorbed);
     }
 
 pub returns : goal.returns
@@ -54,13 +56,13 @@ returns c =
     let full : length sector ≡ 512 = omega arith in
     let at_end : c.sectors.number ≡ whole = omega arith in
     let before : length (joined f whole) ≡ whole * 512 = rw at_end at c.sectors.invariant.before in
-    let taken = rw at_end at c.sectors.invariant.taken in
+    let absorbed = rw at_end at c.sectors.invariant.absorbed in
     let is_last : take (rest * len + len - rest * len) (drop (rest * len) sector)
     ≡ take len (drop (rest * len) sector) =
     ap (λ n. take n (drop (rest * len) sector)) (omega arith) in
     c.last.ensures
     ∙ unlocked_by_last c.args.af c.args.key.now c.args.image.now c.args.offset len c.args.stripes whole rest sector _
-    c.take_in-2.new.splitter place
+    c.absorb_stripes-2.new.splitter place
     before c.decrypt_sector-2.ensures full is_last
-    (c.take_in-2.ensures.taken c.args.af (joined f whole) (whole * (512 / len))
-    (before ∙ whole_sectors whole (512 / len) len place.fits) taken)
+    (c.absorb_stripes-2.ensures.absorbed c.args.af (joined f whole) (whole * (512 / len))
+    (before ∙ whole_sectors whole (512 / len) len place.fits) absorbed)

@@ -34,8 +34,8 @@ returns-in_err-cipher-clause-work c = absurd (never c)
 pub derived-area_key-requires-clause-some : goal.derived-area_key-requires-clause-some
 derived-area_key-requires-clause-some c = search rules
 
-pub derived-area_key-requires-clause-room : goal.derived-area_key-requires-clause-room
-derived-area_key-requires-clause-room c = search rules
+pub derived-area_key-requires-clause-capacity : goal.derived-area_key-requires-clause-capacity
+derived-area_key-requires-clause-capacity c = search rules
 
 pub returns-clause-value : goal.returns-clause-value
 unfolding candidate_of

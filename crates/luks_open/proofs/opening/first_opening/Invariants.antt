@@ -1,6 +1,6 @@
-use Rattle.luks_open.proofs.OpeningLemmas.{GoesOn}
+use Rattle.luks_open.proofs.OpeningLemmas.{NoneOpenedBefore}
 use Rattle.luks_open.proofs.opening.first_opening.Given as goal
 
 -- none of the earlier key slots opened
 abbrev pub invariant-entries : goal.invariant-entries
-invariant-entries l = GoesOn l.entries l.image l.pass l.entry-index l.fn.work l.work
+invariant-entries l = NoneOpenedBefore l.entries l.image l.pass l.entry-index l.fn.work l.work

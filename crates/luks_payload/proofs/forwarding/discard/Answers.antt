@@ -16,7 +16,7 @@ returns-in_err-fill-clause-err g c =
     rw (p.1, p.2) (λ known is. (
       c.args.count - c.pieces.left + c.in_err-fill.field-0.0.got,
       below,
-      consumed_more known _ _ _ _ (c.pieces.invariant.taken known is)
+      consumed_more known _ _ _ _ (c.pieces.invariant.consumed known is)
           (λ rest left. (c.in_err-fill.ensures.bytes rest left).0),
     ))
 
@@ -26,7 +26,7 @@ returns-then-branch-size-clause-err g c known is =
     let sized : length c.fill.new.buf ≡ c.min-size.result = c.fill.auto.buf
     ∙ length-take-le c.min-size.result c.pieces.piece (omega arith) in
     let short : c.in_ok-fill.field-0 < length c.fill.new.buf = omega arith in
-    let next = consumed_all known _ _ _ _ _ (c.pieces.invariant.taken known is)
+    let next = consumed_all known _ _ _ _ _ (c.pieces.invariant.consumed known is)
     (λ rest left. (c.in_ok-fill.ensures.bytes rest left).0) c.in_ok-fill.ensures.end short in
     (omega (arith, next.0), next.1)
 
@@ -42,7 +42,7 @@ pieces-preserved g c =
       reads = reads_more _ _ _ _ (g.S.Source.counts c.fill.new.source) c.pieces.invariant.reads
           (whole_reads _ _ _ _ (omega arith) c.in_ok-fill.ensures.reads);
       few = omega arith;
-      taken = λ known is.
-          consumed_sum known _ _ _ _ _ more (c.pieces.invariant.taken known is)
+      consumed = λ known is.
+          consumed_sum known _ _ _ _ _ more (c.pieces.invariant.consumed known is)
           (λ rest left. (c.in_ok-fill.ensures.bytes rest left).0);
     }

@@ -8,7 +8,7 @@ abbrev pub invariant-pieces : goal.invariant-pieces
 invariant-pieces g l = record {
   reads : Reads false false (g.S.Source.counts l.initial.source) (g.S.Source.counts l.source);
   few : l.left ≤ l.count;
-  taken : IfKnown (g.S.Source.to_come l.initial.source)
+  consumed : IfKnown (g.S.Source.to_come l.initial.source)
       (λ known. ConsumedExactly known (g.S.Source.to_come l.source) (l.count - l.left));
 }
 

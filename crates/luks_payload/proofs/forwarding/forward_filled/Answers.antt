@@ -14,9 +14,9 @@ returns-in_err-put_all-clause-forwards g c =
       known = λ known is.
           let next = c.in_ok-got.ensures.filled_sector known is in
           let unit = unit_filled c.args.cipher.now c.args.number (length c.args.sector.now) c.in_ok-got.got
-          (c.args.front.now ++ known) c.fill_sector.new.sector c.decrypt_unit.new.unit sized full next.bytes
+          (c.args.prefix.now ++ known) c.fill_sector.new.sector c.decrypt_unit.new.unit sized full next.bytes
           c.decrypt_unit.ensures.value in (
-            rw full at next.took,
+            rw full at next.consumption,
             (c.in_err-put_all.field-0.0.written, few, rw (← unit) c.in_err-put_all.ensures.err.1),
           );
       unread = λ is. absurd cc;
@@ -27,11 +27,11 @@ pub returns-clause-forwards : goal.returns-clause-forwards
 returns-clause-forwards g c =
     record {
       most = search rules;
-      taken = search rules;
+      consumed = search rules;
       written = λ whole known is.
           let next = c.in_ok-got.ensures.filled_sector known is in
           let unit = unit_filled c.args.cipher.now c.args.number (length c.args.sector.now) c.in_ok-got.got
-          (c.args.front.now ++ known) c.fill_sector.new.sector c.decrypt_unit.new.unit c.fill_sector.auto.sector whole
+          (c.args.prefix.now ++ known) c.fill_sector.new.sector c.decrypt_unit.new.unit c.fill_sector.auto.sector whole
           next.bytes c.decrypt_unit.ensures.value in
           rw (whole, ← unit) c.in_ok-put_all.ensures.ok;
       whole = λ whole.

@@ -4,15 +4,15 @@ use Rattle.luks_verdict.proofs.SectorLemmas.{sector_blocks}
 use Rattle.luks_payload.specs.SectorEffects.{max_sectors}
 use Rattle.luks_payload.specs.Plain.{sector_len}
 use Rattle.luks_payload.proofs.ForwardingLemmas.{short_reads, whole_reads}
-use Rattle.luks_payload.proofs.StepLemmas.{adds_sector, broken_reads, broken_writes, may_be_torn, may_break}
-use Rattle.luks_payload.proofs.StepLemmas.{steps_at_limit, steps_broken, steps_torn, takes_sector, torn_reads}
+use Rattle.luks_payload.proofs.StepLemmas.{sector_appended, broken_reads, broken_writes, may_be_torn, may_break}
+use Rattle.luks_payload.proofs.StepLemmas.{steps_at_limit, step_aborted, steps_torn, sector_consumed, torn_reads}
 use Rattle.luks_payload.proofs.StepLemmas.{torn_writes, torn_writes_nothing, writes_no_sector}
 use Rattle.luks_payload.proofs.pump.next_sector.Goals as goal
 
 pub returns-then-count-limit-clause-run : goal.returns-then-count-limit-clause-run
-returns-then-count-limit-clause-run g c image few stands =
+returns-then-count-limit-clause-run g c image few positioned =
     let full : c.args.count ≡ max_sectors c.args.segment.now = omega arith in
-    steps_at_limit c.args.segment.now image c.args.count c.args.front.now _ stands c.args.cipher.now
+    steps_at_limit c.args.segment.now image c.args.count c.args.prefix.now _ positioned c.args.cipher.now
     (g.O.Sink.written c.args.sink.now) (g.O.Sink.written c.args.sink.now) full few
 
 pub returns-in_err-got : goal.returns-in_err-got
@@ -22,17 +22,17 @@ returns-in_err-got g c =
     let most = (sector_blocks c.args.segment.now.sector_size).short in
     let sized : length (take c.bytes-size.result c.args.buffer.now) ≡ sector_len c.args.segment.now =
     length-take-le c.bytes-size.result c.args.buffer.now (omega arith) ∙ c.bytes-size.ensures in
-    let broken = c.in_err-got.ensures in
-    let only = broken.forwards.only in
+    let aborted = c.in_err-got.ensures in
+    let only = aborted.forwards.only in
     rw (p.1, p.2) (record {
       limit = λ full. absurd (omega arith);
       only = may_break c.args.segment.now c.args.count _ only;
-      run = λ image few stands.
-          steps_broken c.args.segment.now image c.args.count c.args.front.now _ stands c.args.cipher.now _ _ _ _ below
-          (rw (sized, c.number.ensures) at broken.forwards.known);
-      writes_sectors = writes_no_sector c.args.segment.now c.args.count _ only _ _ broken.forwards.unread;
-      reads = broken_reads c.args.segment.now c.args.count _ only _ _ broken.reads;
-      writes = broken_writes c.args.segment.now c.args.count _ only _ _ broken.writes;
+      run = λ image few positioned.
+          step_aborted c.args.segment.now image c.args.count c.args.prefix.now _ positioned c.args.cipher.now _ _ _ _
+          below (rw (sized, c.number.ensures) at aborted.forwards.known);
+      writes_sectors = writes_no_sector c.args.segment.now c.args.count _ only _ _ aborted.forwards.unread;
+      reads = broken_reads c.args.segment.now c.args.count _ only _ _ aborted.reads;
+      writes = broken_writes c.args.segment.now c.args.count _ only _ _ aborted.writes;
     })
 
 pub returns-then-got-size : goal.returns-then-got-size
@@ -50,9 +50,9 @@ returns-then-got-size g c =
     record {
       limit = λ full. absurd (omega arith);
       only = may_be_torn s n got _ below is torn;
-      run = λ image few stands.
-          steps_torn s image n c.args.front.now _ stands c.args.cipher.now _ _ _ _ got below
-          (rw sized at some.forwards.taken) torn is;
+      run = λ image few positioned.
+          steps_torn s image n c.args.prefix.now _ positioned c.args.cipher.now _ _ _ _ got below
+          (rw sized at some.forwards.consumed) torn is;
       writes_sectors = torn_writes_nothing s n got _ below is _ _ (some.forwards.torn (omega arith));
       reads = torn_reads s n got _ below is _ _ (short_reads _ _ _ _ (omega arith) some.reads);
       writes = torn_writes s n got _ below is _ _ some.writes;
@@ -70,10 +70,10 @@ returns g c =
     record {
       limit = λ full. absurd (omega arith);
       only = below;
-      run = λ image few stands. (
-        takes_sector c.args.segment.now image c.args.count c.args.front.now _ stands _ below
-            (λ rest is. rw got at (some.forwards.taken rest is).1),
-        adds_sector c.args.segment.now image c.args.count c.args.front.now _ stands c.args.cipher.now _ _
+      run = λ image few positioned. (
+        sector_consumed c.args.segment.now image c.args.count c.args.prefix.now _ positioned _ below
+            (λ rest is. rw got at (some.forwards.consumed rest is).1),
+        sector_appended c.args.segment.now image c.args.count c.args.prefix.now _ positioned c.args.cipher.now _ _
             (rw (c.number.ensures, got) at (some.forwards.written full)),
       );
       writes_sectors = rw (c.number.ensures, sized) at (some.forwards.whole full);

@@ -9,11 +9,11 @@ returns-in_err-header-clause-run g c =
     rw (p.1, p.2) (λ known is.
     runs_without_header c.args.location (printout_text c.args.printout)
     (printout_message c.args.printout) known _ _ _ _ c.in_err-header.field-0.0
-    (c.in_err-header.ensures.broken known is))
+    (c.in_err-header.ensures.aborted known is))
 
 pub returns-clause-run : goal.returns-clause-run
 returns-clause-run g c known is =
-    let read = c.in_ok-header.ensures.taken known is in
+    let read = c.in_ok-header.ensures.consumed known is in
     runs_with_text c.args.location (printout_text c.args.printout)
     (printout_message c.args.printout) known _ _ _ read.0 read.2 _ _
     c.print_text.ensures.run

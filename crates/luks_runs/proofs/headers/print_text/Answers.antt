@@ -1,6 +1,6 @@
 use Rattle.std.proofs.Common.{◌∙◌}
 use Rattle.std.proofs.lemmas.Result.{err_from_is_err_and}
-use Rattle.luks_runs.proofs.HeaderRuns.{told_may_end, told_prints, told_unfailed}
+use Rattle.luks_runs.proofs.HeaderRuns.{printout_message_allowed, printout_written, printout_message_not_write}
 use Rattle.luks_runs.proofs.headers.print_text.Goals as goal
 
 pub returns-in_err-put_all-clause-run : goal.returns-in_err-put_all-clause-run
@@ -12,13 +12,14 @@ returns-in_err-put_all-clause-run g c =
 
 pub returns-clause-run : goal.returns-clause-run
 returns-clause-run g c =
-    rw (c.ended.ensures, c.in_ok-text.ensures.told) (told_prints c.args.printout c.args.header.now _ _ _
+    rw (c.ended.ensures, c.in_ok-text.ensures.reported) (printout_written c.args.printout c.args.header.now _ _ _
     (c.as_bytes.ensures.value ∙ c.in_ok-text.ensures.text) c.in_ok-put_all.ensures.ok)
 
 pub returns-clause-only : goal.returns-clause-only
-returns-clause-only g c = rw (c.ended.ensures, c.in_ok-text.ensures.told) (told_may_end c.args.printout _)
+returns-clause-only g c = rw (c.ended.ensures, c.in_ok-text.ensures.reported) (printout_message_allowed
+    c.args.printout _)
 
 pub returns-clause-writes : goal.returns-clause-writes
 returns-clause-writes g c =
-    rw (c.ended.ensures, c.in_ok-text.ensures.told, told_unfailed c.args.printout c.args.header.now)
+    rw (c.ended.ensures, c.in_ok-text.ensures.reported, printout_message_not_write c.args.printout c.args.header.now)
     c.in_ok-put_all.ensures.writes

@@ -2,7 +2,7 @@ use Rattle.std.proofs.Common.{◌+◌, ap, arith, inl, inr, refl}
 use Rattle.std.proofs.lemmas.Result.{err_from_is_err_and}
 use Rattle.luks_io.proofs.CountsLemmas.{no_writes, reads_more, writes_more}
 use Rattle.luks_runs.proofs.PayloadLemmas.{few_sectors, forwarding_aborts, forwarding_ends, forwarding_more}
-use Rattle.luks_runs.proofs.PayloadLemmas.{forwarding_start, reads_announced}
+use Rattle.luks_runs.proofs.PayloadLemmas.{forwarding_start, reads_with_ahead_allowed}
 use Rattle.luks_runs.proofs.payload.write_payload.Goals as goal
 
 pub sectors-init : goal.sectors-init
@@ -13,12 +13,12 @@ sectors-init g c =
       cipher = made.cipher;
       count = made.count;
       running = elim made.state [ inl before ↦ rw before.0 refl | inr within ↦ rw within refl ];
-      reads = reads_announced c.args.segment _ _ _ c.announce.ensures.counts
-          (rw c.bytes_needed.ensures at c.announce.ensures.ahead);
+      reads = reads_with_ahead_allowed c.args.segment _ _ _ c.allow_read_ahead.ensures.counts
+          (rw c.bytes_needed.ensures at c.allow_read_ahead.ensures.ahead);
       writes = no_writes _;
-      forwarding = λ whole few front took.
-          forwarding_start _ whole _ _ _ made.count (rw (← made.segment) at made.early) made.state made.reach
-          (made.stands whole _ front took);
+      forwarding = λ whole few prefix consumption.
+          forwarding_start _ whole _ _ _ made.count (rw (← made.segment) at made.early) made.state made.consumed_to
+          (made.positioned whole _ prefix consumption);
     }
 
 pub sectors-preserved : goal.sectors-preserved
@@ -32,9 +32,9 @@ sectors-preserved g c =
       running = refl;
       reads = reads_more _ _ _ _ _ so_far.reads (step.reads so_far.running);
       writes = writes_more _ _ _ _ so_far.writes (step.writes so_far.running);
-      forwarding = λ whole few front took.
-          let forwarding = so_far.forwarding whole few front took in
-          forwarding_more _ whole _ _ _ _ _ _ forwarding (step.run whole few forwarding.stands);
+      forwarding = λ whole few prefix consumption.
+          let forwarding = so_far.forwarding whole few prefix consumption in
+          forwarding_more _ whole _ _ _ _ _ _ forwarding (step.run whole few forwarding.positioned);
     })
 
 pub returns-in_err-step-clause-run : goal.returns-in_err-step-clause-run
@@ -42,23 +42,24 @@ returns-in_err-step-clause-run g c =
     let p = err_from_is_err_and c.from_residual.result c.from_residual.ensures.1 in
     let so_far = c.sectors.invariant in
     let step = c.in_err-step.ensures in
-    rw (p.1, p.2, ← so_far.segment, ← so_far.cipher, ← c.announce.ensures.bytes) (λ whole few front took.
-    let forwarding = so_far.forwarding whole few front took in
+    rw (p.1, p.2, ← so_far.segment, ← so_far.cipher, ← c.allow_read_ahead.ensures.bytes)
+    (λ whole few prefix consumption.
+    let forwarding = so_far.forwarding whole few prefix consumption in
     forwarding_aborts _ whole _ _ _ _ _ _ forwarding _ _ _ (λ same. ap g.O.Sink.written same) step.writes_sectors
-    (step.run whole few forwarding.stands))
+    (step.run whole few forwarding.positioned))
 
 pub returns-in-End-clause-run : goal.returns-in-End-clause-run
 returns-in-End-clause-run g c =
     let so_far = c.sectors.invariant in
     let step = rw c.in-End.is at c.in_ok-step.ensures in
-    rw (← so_far.segment, ← so_far.cipher, ← c.announce.ensures.bytes) (λ whole few front took.
-    let forwarding = so_far.forwarding whole few front took in
-    forwarding_ends _ whole _ _ _ _ _ _ forwarding (step.run whole few forwarding.stands)
+    rw (← so_far.segment, ← so_far.cipher, ← c.allow_read_ahead.ensures.bytes) (λ whole few prefix consumption.
+    let forwarding = so_far.forwarding whole few prefix consumption in
+    forwarding_ends _ whole _ _ _ _ _ _ forwarding (step.run whole few forwarding.positioned)
     (ap g.O.Sink.written step.writes_sectors))
 
 pub returns-clause-run : goal.returns-clause-run
-returns-clause-run g c whole few front took =
+returns-clause-run g c whole few prefix consumption =
     let so_far = c.sectors.invariant in
-    let forwarding = so_far.forwarding whole few front (rw (← c.announce.ensures.bytes) at took) in
+    let forwarding = so_far.forwarding whole few prefix (rw (← c.allow_read_ahead.ensures.bytes) at consumption) in
     let all = few_sectors c.sectors.pump.segment whole few in
     absurd (omega (arith, forwarding.few, so_far.count))

@@ -2,7 +2,7 @@ use Rattle.std.proofs.Common.{◌≡◌, ◌∙◌, sym, arith, rules}
 use Rattle.std.proofs.lemmas.Result.{err_from_is_err_and}
 use Rattle.luks_io.proofs.CountsLemmas.{no_reads, no_writes}
 use Rattle.luks_kdf.proofs.StripesLemmas.{chain_more, chain_start}
-use Rattle.luks_runs.proofs.StripeLemmas.{is_stripe, passed_more, passed_none, stops_at}
+use Rattle.luks_runs.proofs.StripeLemmas.{is_stripe, forwarded_one_more, forwarded_no_stripes, stops_at}
 use Rattle.luks_runs.proofs.stripes.forward_stripes.Goals as goal
 
 pub stripes-init : goal.stripes-init
@@ -10,14 +10,14 @@ stripes-init g c = record {
   reads = no_reads _;
   writes = no_writes _;
   len = c.new-splitter.ensures.len;
-  passed = λ bytes is. (chain_start _ _ bytes _ c.new-splitter.ensures.start, passed_none bytes _ _ _ is);
+  forwarded = λ bytes is. (chain_start _ _ bytes _ c.new-splitter.ensures.start, forwarded_no_stripes bytes _ _ _ is);
 }
 
 pub returns-in_err-forward_stripe-clause-err : goal.returns-in_err-forward_stripe-clause-err
 returns-in_err-forward_stripe-clause-err g c =
     let p = err_from_is_err_and c.from_residual.result c.from_residual.ensures.1 in
     rw (p.1, p.2) (λ bytes is. rw c.forward_stripe.auto.stripe
-    (stops_at bytes _ _ _ _ _ (c.stripes.invariant.passed bytes is).1 _ _ _ _ c.stripes-test.true
+    (stops_at bytes _ _ _ _ _ (c.stripes.invariant.forwarded bytes is).1 _ _ _ _ c.stripes-test.true
     (rw c.forward_stripe.auto.stripe at c.in_err-forward_stripe.ensures.err)))
 
 pub stripes-preserved : goal.stripes-preserved
@@ -27,16 +27,16 @@ stripes-preserved g c =
       reads = search rules;
       writes = search rules;
       len = c.stripe.ensures.len ∙ c.stripes.invariant.len ∙ sym c.forward_stripe.auto.stripe;
-      passed = λ bytes is.
-          let passed = c.stripes.invariant.passed bytes is in
-          let here = next _ passed.1.took.left in
+      forwarded = λ bytes is.
+          let forwarded = c.stripes.invariant.forwarded bytes is in
+          let here = next _ forwarded.1.consumption.left in
           rw c.forward_stripe.auto.stripe (
             c.stripe.ensures.next
-                ∙ chain_more _ _ bytes _ _ c.forward_stripe.new.stripe passed.0 (is_stripe bytes _ _ _ here.0),
-            passed_more bytes _ _ _ _ _ passed.1 _ _ here.1,
+                ∙ chain_more _ _ bytes _ _ c.forward_stripe.new.stripe forwarded.0 (is_stripe bytes _ _ _ here.0),
+            forwarded_one_more bytes _ _ _ _ _ forwarded.1 _ _ here.1,
           );
     }
 
 pub returns-clause-ok : goal.returns-clause-ok
 returns-clause-ok g c bytes is =
-    let all : c.stripes.counter ≡ c.args.count = omega arith in rw all at (c.stripes.invariant.passed bytes is)
+    let all : c.stripes.counter ≡ c.args.count = omega arith in rw all at (c.stripes.invariant.forwarded bytes is)

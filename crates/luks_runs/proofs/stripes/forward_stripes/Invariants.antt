@@ -11,7 +11,7 @@ invariant-stripes g l = record {
   reads : Reads false false (g.R.Source.counts l.initial.random) (g.R.Source.counts l.random);
   writes : Writes false (g.O.Sink.counts l.initial.out) (g.O.Sink.counts l.out);
   len : length l.splitter.block ≡ length l.stripe;
-  passed : IfKnown (g.R.Source.to_come l.initial.random)
+  forwarded : IfKnown (g.R.Source.to_come l.initial.random)
       (λ known. (l.splitter ≡ chain_after l.fn.hash (length l.stripe) known l.counter)
       × ForwardedBytes known (g.R.Source.to_come l.random) (g.O.Sink.written l.initial.out) (g.O.Sink.written l.out)
       (l.counter * length l.stripe) (l.counter * length l.stripe));

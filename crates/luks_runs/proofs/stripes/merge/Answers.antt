@@ -13,13 +13,14 @@ returns-in_err-put_all-clause-run g c =
     let m = c.args.merging.now in
     let failed = c.in_err-put_all.ensures.err in
     rw (p.1, p.2) (λ bytes is.
-    let taken = c.in_ok-read_merged_key.ensures.ok bytes is in
-    runs_without_key m.hash m.stripes.count m.key_bytes.bytes bytes _ _ _ c.read_merged_key.new.key taken.1 taken.0 _
+    let consumed = c.in_ok-read_merged_key.ensures.ok bytes is in
+    runs_without_key m.hash m.stripes.count m.key_bytes.bytes bytes _ _ _ c.read_merged_key.new.key consumed.1
+    consumed.0 _
     failed.0 failed.1)
 
 pub returns-clause-run : goal.returns-clause-run
 returns-clause-run g c bytes is =
     let m = c.args.merging.now in
-    let taken = c.in_ok-read_merged_key.ensures.ok bytes is in
-    runs_to_end m.hash m.stripes.count m.key_bytes.bytes bytes _ _ _ c.read_merged_key.new.key taken.1 taken.0
+    let consumed = c.in_ok-read_merged_key.ensures.ok bytes is in
+    runs_to_end m.hash m.stripes.count m.key_bytes.bytes bytes _ _ _ c.read_merged_key.new.key consumed.1 consumed.0
     c.in_ok-put_all.ensures.ok

@@ -1,6 +1,6 @@
 use Rattle.std.proofs.Common.{◌≡◌, ◌∙◌, length, take_all, arith}
 use Rattle.std.proofs.lemmas.Result.{err_from_is_err_and}
-use Rattle.luks_io.proofs.Consuming.{took-all}
+use Rattle.luks_io.proofs.Consuming.{consumed-all}
 use Rattle.luks_runs.proofs.stripes.read_key.Goals as goal
 
 pub returns-in_err-len-clause-err : goal.returns-in_err-len-clause-err
@@ -16,5 +16,5 @@ returns-clause-key g c key is =
     let whole : c.in_ok-len.len ≡ length key = omega (arith, c.in_ok-len.ensures.end key is) in (
       whole,
       next.1 ∙ take_all c.in_ok-len.len key (omega arith),
-      took-all key _ c.in_ok-len.len (omega arith) next.0.left,
+      consumed-all key _ c.in_ok-len.len (omega arith) next.0.left,
     )

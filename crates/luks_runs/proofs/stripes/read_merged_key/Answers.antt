@@ -16,8 +16,8 @@ returns-in_err-read_stripe-clause-err g c =
     let next = rw (c.read_stripe.auto.stripe ∙ stripe) at c.in_err-read_stripe.ensures.err in
     let below : m.stripes.count - 1 + 1 ≤ m.stripes.count = omega arith in
     rw (p.1, p.2) (λ bytes is.
-    let taken = rw (stripe, c.get.ensures) at (c.in_ok-splitter.ensures.ok bytes is) in
-    stops_at bytes _ _ _ taken.1 _ _ _ (mul-le-mul_right _ below) next)
+    let consumed = rw (stripe, c.get.ensures) at (c.in_ok-splitter.ensures.ok bytes is) in
+    stops_at bytes _ _ _ consumed.1 _ _ _ (mul-le-mul_right _ below) next)
 
 pub returns-clause-ok : goal.returns-clause-ok
 returns-clause-ok g c bytes is =
@@ -27,11 +27,11 @@ returns-clause-ok g c bytes is =
     let stripe : length c.read_stripes.new.stripe ≡ m.key_bytes.bytes =
     c.read_stripes.auto.stripe ∙ length-take-le _ _ (omega arith) ∙ c.requires in
     let next = rw (c.read_stripe.auto.stripe ∙ stripe) at c.in_ok-read_stripe.ensures.ok in
-    let taken = rw (stripe, c.get.ensures) at (c.in_ok-splitter.ensures.ok bytes is) in
-    let more = stripe_more bytes _ _ _ taken.1 _ c.read_stripe.new.stripe next in
+    let consumed = rw (stripe, c.get.ensures) at (c.in_ok-splitter.ensures.ok bytes is) in
+    let more = stripe_more bytes _ _ _ consumed.1 _ c.read_stripe.new.stripe next in
     let whole : m.stripes.count - 1 + 1 ≡ m.stripes.count = omega arith in
     let all = rw whole at more.0 in (
       key_merged m.hash m.stripes.count m.key_bytes.bytes bytes _ c.read_stripe.new.stripe c.last.new.out
-          (omega arith) (omega arith) all.within taken.0 more.1 c.last.ensures,
+          (omega arith) (omega arith) all.within consumed.0 more.1 c.last.ensures,
       all,
     )

@@ -9,7 +9,7 @@ abbrev pub invariant-stripes : goal.invariant-stripes
 invariant-stripes g l = record {
   reads : Reads false false (g.S.Source.counts l.initial.stripes) (g.S.Source.counts l.stripes);
   len : length l.splitter.block ≡ length l.stripe;
-  taken : IfKnown (g.S.Source.to_come l.initial.stripes)
+  consumed : IfKnown (g.S.Source.to_come l.initial.stripes)
       (λ known. (l.splitter ≡ chain_after l.fn.hash (length l.stripe) known l.counter)
       × ConsumedExactly known (g.S.Source.to_come l.stripes) (l.counter * length l.stripe));
 }

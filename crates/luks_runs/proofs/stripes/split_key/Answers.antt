@@ -9,8 +9,8 @@ returns-in_err-splitter-clause-run g c =
     let key = c.args.key.now in
     let stripe : length c.forward_stripes.new.stripe ≡ length key =
     c.forward_stripes.auto.stripe ∙ length-take-le (length key) _ (omega arith) in
-    rw (p.1, p.2) (λ left took bytes known.
-    runs_without_stripes _ _ key bytes left _ _ _ c.requires.0 c.requires.1 took _
+    rw (p.1, p.2) (λ left consumption bytes known.
+    runs_without_stripes _ _ key bytes left _ _ _ c.requires.0 c.requires.1 consumption _
     (rw (stripe, c.get.ensures) at (c.in_err-splitter.ensures.err bytes known)))
 
 pub returns-in_err-put_all-clause-run : goal.returns-in_err-put_all-clause-run
@@ -19,19 +19,19 @@ returns-in_err-put_all-clause-run g c =
     let key = c.args.key.now in
     let stripe : length c.forward_stripes.new.stripe ≡ length key =
     c.forward_stripes.auto.stripe ∙ length-take-le (length key) _ (omega arith) in
-    rw (p.1, p.2) (λ left took bytes known.
-    let passed = rw (stripe, c.get.ensures) at (c.in_ok-splitter.ensures.ok bytes known) in
-    let last = last_stripe _ _ key bytes _ passed.0 passed.1.took.within c.last.new.out c.last.ensures in
-    runs_without_last _ _ key bytes left _ _ _ c.requires.0 c.requires.1 took c.last.new.out passed.1 last _
+    rw (p.1, p.2) (λ left consumption bytes known.
+    let forwarded = rw (stripe, c.get.ensures) at (c.in_ok-splitter.ensures.ok bytes known) in
+    let last = last_stripe _ _ key bytes _ forwarded.0 forwarded.1.consumption.within c.last.new.out c.last.ensures in
+    runs_without_last _ _ key bytes left _ _ _ c.requires.0 c.requires.1 consumption c.last.new.out forwarded.1 last _
     c.in_err-put_all.field-0.0.written c.in_err-put_all.ensures.err.0
     (c.last.auto.out ∙ stripe) c.in_err-put_all.ensures.err.1)
 
 pub returns-clause-run : goal.returns-clause-run
-returns-clause-run g c left took bytes known =
+returns-clause-run g c left consumption bytes known =
     let key = c.args.key.now in
     let stripe : length c.forward_stripes.new.stripe ≡ length key =
     c.forward_stripes.auto.stripe ∙ length-take-le (length key) _ (omega arith) in
-    let passed = rw (stripe, c.get.ensures) at (c.in_ok-splitter.ensures.ok bytes known) in
-    let last = last_stripe _ _ key bytes _ passed.0 passed.1.took.within c.last.new.out c.last.ensures in
-    runs_to_end _ _ key bytes left _ _ _ c.requires.0 c.requires.1 took c.last.new.out passed.1 last _
+    let forwarded = rw (stripe, c.get.ensures) at (c.in_ok-splitter.ensures.ok bytes known) in
+    let last = last_stripe _ _ key bytes _ forwarded.0 forwarded.1.consumption.within c.last.new.out c.last.ensures in
+    runs_to_end _ _ key bytes left _ _ _ c.requires.0 c.requires.1 consumption c.last.new.out forwarded.1 last _
     c.in_ok-put_all.ensures.ok

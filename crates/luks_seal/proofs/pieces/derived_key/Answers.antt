@@ -1,6 +1,6 @@
 use Rattle.std.proofs.Common.{◌∙◌, ap, arith}
 use Rattle.luks_kdf.specs.Pbkdf2.{derived_key}
-use Rattle.luks_kdf.proofs.BytesLemmas.{take_front}
+use Rattle.luks_kdf.proofs.BytesLemmas.{take_prefix}
 use Rattle.luks_seal.proofs.PieceLemmas.{written_len}
 use Rattle.luks_seal.proofs.pieces.derived_key.Goals as goal
 
@@ -9,15 +9,15 @@ pbkdf2-requires-clause-some c =
     let len = c.in_ok-key.ensures.len in
     omega (arith, len)
 
-pub pbkdf2-requires-clause-room : goal.pbkdf2-requires-clause-room
-pbkdf2-requires-clause-room c =
+pub pbkdf2-requires-clause-capacity : goal.pbkdf2-requires-clause-capacity
+pbkdf2-requires-clause-capacity c =
     let len = c.in_ok-key.ensures.len in
     omega (arith, len)
 
 pub returns-clause-value : goal.returns-clause-value
 returns-clause-value c =
     let len = c.in_ok-key.ensures.len in
-    take_front _ _ _ (omega arith)
+    take_prefix _ _ _ (omega arith)
     ∙ c.pbkdf2.ensures.key
     ∙ ap (derived_key c.args.hash c.args.password.now c.args.salt.now c.args.iterations) (omega (arith, len))
 

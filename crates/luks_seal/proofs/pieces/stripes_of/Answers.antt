@@ -1,5 +1,5 @@
 use Rattle.std.proofs.Common.{◌∙◌, arith}
-use Rattle.luks_kdf.proofs.BytesLemmas.{take_front}
+use Rattle.luks_kdf.proofs.BytesLemmas.{take_prefix}
 use Rattle.luks_seal.proofs.PieceLemmas.{split_is, written_len}
 use Rattle.luks_seal.proofs.pieces.stripes_of.Goals as goal
 
@@ -12,7 +12,7 @@ pub returns-clause-value : goal.returns-clause-value
 returns-clause-value c =
     let split = split_is c.args.hash c.args.random.now c.args.key.now _ c.args.count c.requires.some c.requires.random
     c.af_split.ensures.split in
-    take_front _ _ _ (omega arith) ∙ split
+    take_prefix _ _ _ (omega arith) ∙ split
 
 pub returns-clause-len : goal.returns-clause-len
 returns-clause-len c =

@@ -8,13 +8,13 @@ returns-in_err-header-clause-err g c =
     let p = err_from_is_err_and c.from_residual.result c.from_residual.ensures.1 in
     rw (p.1, p.2) (λ known is.
     aborts_without_header c.args.location _ known _ _ _ c.in_err-header.field-0.0
-    (c.in_err-header.ensures.broken known is))
+    (c.in_err-header.ensures.aborted known is))
 
 pub returns-in_err-segment-clause-err : goal.returns-in_err-segment-clause-err
 returns-in_err-segment-clause-err g c =
     let p = err_from_is_err_and c.from_residual-in_err-segment.result c.from_residual-in_err-segment.ensures.1 in
     rw (p.1, p.2) (λ known is.
-    let read = c.in_ok-header.ensures.taken known is in
+    let read = c.in_ok-header.ensures.consumed known is in
     aborts_without_slots c.args.location (volume_request c.args.opening.now) known _ c.in_ok-header.header read.0 read.2
     _ c.in_err-segment.ensures.err)
 
@@ -23,8 +23,8 @@ returns-clause-found g c =
     let read = c.in_ok-header.ensures in
     record {
       slots = record { segment = c.in_ok-segment.ensures.segment; order = c.in_ok-segment.ensures.order };
-      front = read.front;
+      of_area = read.of_area;
       area = read.only;
-      header = read.taken;
+      header = read.consumed;
       loaded = read.loaded;
     }

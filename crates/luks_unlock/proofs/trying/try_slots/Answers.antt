@@ -14,7 +14,7 @@ returns-in_err-extend_to-clause-run g c =
     inl (
       c.in_err-extend_to.field-0.0,
       refl,
-      rw c.held_end-end.ensures.value at (c.in_err-extend_to.ensures.taken rest there),
+      rw c.held_end-end.ensures.value at (c.in_err-extend_to.ensures.consumed rest there),
     ))
 
 pub returns-then-not-branch-clause-run : goal.returns-then-not-branch-clause-run
@@ -22,7 +22,7 @@ returns-then-not-branch-clause-run g c rest there nothing =
     let end = c.held_end-end.ensures.value in
     let whole = c.in_ok-extend_to.ensures.loads.whole in
     let few = short_from_not_whole c.in_ok-extend_to.field-0 _ _ whole c.if-not-branch.true in
-    inr (rw end at (c.in_ok-extend_to.ensures.taken rest there), inl (refl, rw end at few))
+    inr (rw end at (c.in_ok-extend_to.ensures.consumed rest there), inl (refl, rw end at few))
 
 pub open-requires-clause-loaded : goal.open-requires-clause-loaded
 open-requires-clause-loaded g c =
@@ -31,7 +31,7 @@ open-requires-clause-loaded g c =
 pub returns-in-Ok-clause-run : goal.returns-in-Ok-clause-run
 returns-in-Ok-clause-run g c rest there nothing =
     let end = c.held_end-end.ensures.value in (
-      rw end at (c.in_ok-extend_to.ensures.taken rest there),
+      rw end at (c.in_ok-extend_to.ensures.consumed rest there),
       rw end at (c.in_ok-extend_to.ensures.loads.whole.0 c.if-not-branch.false),
       c.new.ensures.segment,
       rw (c.new.ensures.slot, c.new.ensures.key) (sym c.in-Ok.ensures.value),
@@ -41,7 +41,7 @@ pub returns-in-Err-clause-run : goal.returns-in-Err-clause-run
 returns-in-Err-clause-run g c = rw (c.of_opening.ensures, c.named_slot.ensures) (λ rest there nothing.
     let end = c.held_end-end.ensures.value in
     inr (
-      rw end at (c.in_ok-extend_to.ensures.taken rest there),
+      rw end at (c.in_ok-extend_to.ensures.consumed rest there),
       inr (
         c.in-Err.fault,
         refl,

@@ -121,7 +121,7 @@ fn first_answer(
 
 // Each run that runs out of memory reports that.
 #[test]
-fn memory_is_answered_where_it_is_refused(rt: HostRuntime) {
+fn out_of_memory_is_reported_by_order(rt: HostRuntime) {
     let header = header(&rt);
     for (named, slots) in [(None, 3), (Some(5), 1)] {
         let (answer, refused) = {

@@ -6,7 +6,7 @@ use luks_cipher::{Mode, SectorCipher};
 use luks_header::sector_size::SectorSize;
 use luks_header::segment::{Segment, SegmentParts};
 use luks_io::DeviceFault;
-use luks_io::ahead::AheadSource;
+use luks_io::ahead::ReadAheadSource;
 use luks_io::sink::{Sink, WriteFault};
 use luks_io::source::{Source, fill};
 use luks_io::transform::Transform;
@@ -32,11 +32,11 @@ pub fn kept<'a, T: Drop + 'a>(rt: &(impl Abort + AllocGlobal), value: T) -> &'a 
 /// number fails.
 pub fn sink_of(
     rt: &(impl Abort + AllocGlobal),
-    room: usize,
+    capacity: usize,
     piece: usize,
     bad_write: u64,
 ) -> &'static mut Leaky {
-    let sink = Leaky::new(rt.alloc(), room, piece, bad_write);
+    let sink = Leaky::new(rt.alloc(), capacity, piece, bad_write);
     kept(rt, sink.expect(rt, "memory"))
 }
 
@@ -103,7 +103,7 @@ pub struct Way {
     /// How many bytes are loaded before the source is called.
     pub held: usize,
     /// How many bytes the source can buffer.
-    pub room: usize,
+    pub capacity: usize,
     /// How many bytes the source below gives at once, or all if it is 0.
     pub piece: usize,
     /// Which read of the source below fails.
@@ -123,7 +123,7 @@ pub type End = (u32, Result<Step, VolumeFault>, usize, usize);
 #[derive(Clone, Copy, Debug)]
 pub struct Outcome {
     pub end: End,
-    pub passed: u32,
+    pub forwarded: u32,
     pub is_sound: bool,
 }
 
@@ -131,7 +131,7 @@ pub struct Outcome {
 #[derive(Drop)]
 struct Passing<S> {
     source: S,
-    passed: u32,
+    forwarded: u32,
 }
 
 impl<S: Source> Source for Passing<S> {
@@ -143,8 +143,8 @@ impl<S: Source> Source for Passing<S> {
         self.source.read(buf)
     }
 
-    fn announce(&mut self, count: u64) {
-        self.source.announce(count);
+    fn allow_read_ahead(&mut self, count: u64) {
+        self.source.allow_read_ahead(count);
     }
 
     fn forward_buffered<C: Transform, O: Sink>(
@@ -155,7 +155,7 @@ impl<S: Source> Source for Passing<S> {
     ) -> Option<Result<(), WriteFault>> {
         let answer = self.source.forward_buffered(count, transform, sink);
         if answer.is_some() {
-            self.passed = self.passed.saturating_add(1);
+            self.forwarded = self.forwarded.saturating_add(1);
         }
         answer
     }
@@ -185,14 +185,17 @@ pub fn run_pieces(
     run_pump(pump, source, sink)
 }
 
-type Held<'a> = Passing<AheadSource<Flaky<'a>>>;
+type Held<'a> = Passing<ReadAheadSource<Flaky<'a>>>;
 
 // A source of these bytes, which may all be read ahead.
 fn source_of<'a>(rt: &(impl Abort + AllocGlobal), bytes: &'a [u8], way: &Way) -> Held<'a> {
     let below = Flaky::new(bytes, way.piece, way.bad_read);
-    let source = AheadSource::new(rt.alloc(), way.room, below).expect(rt, "memory");
-    let mut source = Passing { source, passed: 0 };
-    source.announce(u64::MAX);
+    let source = ReadAheadSource::new(rt.alloc(), way.capacity, below).expect(rt, "memory");
+    let mut source = Passing {
+        source,
+        forwarded: 0,
+    };
+    source.allow_read_ahead(u64::MAX);
     source
 }
 
@@ -201,7 +204,7 @@ fn pump_of<'a>(rt: &impl Abort, segment: Segment, first: &'a [u8]) -> Pump<'a> {
     if first.is_empty() {
         Pump::new(segment, key(rt), 0)
     } else {
-        Pump::with_front(segment, key(rt), &first[first.len().min(1000)..])
+        Pump::with_loaded(segment, key(rt), &first[first.len().min(1000)..])
     }
 }
 
@@ -249,10 +252,10 @@ pub fn run(
     let mut pump = pump_of(rt, segment, first);
     let (sectors, last) = run_held(&mut pump, &mut source, sink);
     let is_over = is_over(&mut pump, &mut source, sink, last);
-    let taken = image.len().saturating_sub(left_in(&mut source));
+    let consumed = image.len().saturating_sub(left_in(&mut source));
     Outcome {
-        end: (sectors, last, taken, sink.as_slice().len()),
-        passed: source.passed,
+        end: (sectors, last, consumed, sink.as_slice().len()),
+        forwarded: source.forwarded,
         is_sound: is_over & plain.starts_with(sink.as_slice()),
     }
 }

@@ -113,10 +113,10 @@ static SHAPES: [Shape; 13] = [
 ];
 
 // The way in which nothing fails.
-fn way_of((room, piece, sink_piece): Shape) -> Way {
+fn way_of((capacity, piece, sink_piece): Shape) -> Way {
     Way {
         held: 0,
-        room,
+        capacity,
         piece,
         bad_read: NEVER,
         sink_piece,
@@ -131,11 +131,11 @@ fn check_payload(
 ) {
     let volume = volume_of(rt, *sector_size, units);
     let segment = segment_of(rt, *sector_size, *iv_tweak, *size);
-    for (len, sectors, last, taken) in *rows {
+    for (len, sectors, last, consumed) in *rows {
         let image = &volume.image[..*len.min(&volume.image.len())];
         let written = (*sectors as usize).saturating_mul(sector_size.bytes());
         for shape in &SHAPES {
-            let end = (*sectors, *last, *taken, written);
+            let end = (*sectors, *last, *consumed, written);
             check_run(rt, segment, (image, volume.plain), way_of(*shape), end);
         }
     }
@@ -152,9 +152,9 @@ fn payloads_end_as_they_are_truncated(rt: HostRuntime) {
 /// many bytes these are, how many sectors are forwarded, the answer that ends it, and where the
 /// source is left if that is not after the loaded bytes. The run ends like that for each of these
 /// numbers of loaded bytes.
-type Front = (SectorSize, Option<u64>, [u64; 3], Row, &'static [usize]);
+type Prefix = (SectorSize, Option<u64>, [u64; 3], Row, &'static [usize]);
 
-static FRONTS: [Front; 5] = [
+static PREFIXES: [Prefix; 5] = [
     (
         SectorSize::B512,
         None,
@@ -192,10 +192,10 @@ static FRONTS: [Front; 5] = [
     ),
 ];
 
-fn check_front(rt: &(impl Abort + AllocGlobal), (sector_size, size, units, row, helds): &Front) {
+fn check_prefix(rt: &(impl Abort + AllocGlobal), (sector_size, size, units, row, helds): &Prefix) {
     let volume = volume_of(rt, *sector_size, units);
     let segment = segment_of(rt, *sector_size, 5, *size);
-    let (len, sectors, last, taken) = *row;
+    let (len, sectors, last, consumed) = *row;
     let image = &volume.image[..len.min(volume.image.len())];
     let written = (sectors as usize).saturating_mul(sector_size.bytes());
     for held in *helds {
@@ -203,15 +203,15 @@ fn check_front(rt: &(impl Abort + AllocGlobal), (sector_size, size, units, row, 
             held: *held,
             ..way_of((0, 513, 700))
         };
-        let end = (sectors, last, taken.max(*held), written);
+        let end = (sectors, last, consumed.max(*held), written);
         check_run(rt, segment, (image, volume.plain), way, end);
     }
 }
 
 #[test]
-fn what_is_held_is_passed_on_first(rt: HostRuntime) {
-    for front in &FRONTS {
-        check_front(&rt, front);
+fn buffered_bytes_are_forwarded_first(rt: HostRuntime) {
+    for prefix in &PREFIXES {
+        check_prefix(&rt, prefix);
     }
 }
 
@@ -269,10 +269,10 @@ fn failed_writes_are_reported_from_then_on(rt: HostRuntime) {
     let volume = volume_of(&rt, SectorSize::B512, &UNITS_512);
     let segment = segment_of(&rt, SectorSize::B512, 5, None);
     for (bad_write, end) in &BAD_WRITES {
-        for (room, piece, _) in &SHAPES {
+        for (capacity, piece, _) in &SHAPES {
             let way = Way {
                 bad_write: *bad_write,
-                ..way_of((*room, *piece, 200))
+                ..way_of((*capacity, *piece, 200))
             };
             check_run(&rt, segment, (volume.image, volume.plain), way, *end);
         }
@@ -292,14 +292,14 @@ static PASSED: [(usize, usize, u32); 8] = [
 ];
 
 #[test]
-fn sectors_that_are_held_are_passed_on(rt: HostRuntime) {
+fn buffered_sectors_are_forwarded(rt: HostRuntime) {
     let volume = volume_of(&rt, SectorSize::B512, &UNITS_512);
     let segment = segment_of(&rt, SectorSize::B512, 5, None);
-    for (room, piece, passed) in &PASSED {
-        let way = way_of((*room, *piece, 200));
+    for (capacity, piece, forwarded) in &PASSED {
+        let way = way_of((*capacity, *piece, 200));
         let outcome = run(&rt, segment, (volume.image, volume.plain), way);
         let is_whole = outcome.end == (3, Ok(Step::End), 2536, 1536);
-        let is_so = is_whole & (outcome.passed == *passed);
+        let is_so = is_whole & (outcome.forwarded == *forwarded);
         assert_outcome(&rt, volume.image.len(), &way, &outcome, is_so);
     }
 }

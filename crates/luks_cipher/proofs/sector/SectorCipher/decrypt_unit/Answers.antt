@@ -1,7 +1,7 @@
 use Rattle.std.proofs.Common.{◌∙◌, sym}
 use Rattle.luks_aes.specs.Aes.{encrypted}
 use Rattle.luks_cipher.specs.Cbc.{cbc_decrypted, cbc_encrypted}
-use Rattle.luks_cipher.proofs.ChainsUndone.{to_vector, from_vector}
+use Rattle.luks_cipher.proofs.ChainsUndone.{to_iv, from_vector}
 use Rattle.luks_cipher.proofs.sector.SectorCipher.decrypt_unit.Goals as goal
 
 pub returns-in-CbcEssivSha256-clause-undone : goal.returns-in-CbcEssivSha256-clause-undone
@@ -9,15 +9,15 @@ returns-in-CbcEssivSha256-clause-undone c =
     let view = c.self.view_is in
     let arm = c.in-CbcEssivSha256.is in
     let digest = rw arm at c.self.invariant.digest in
-    let vector = c.encrypt_block.ensures.value ∙ (λ i. encrypted (digest i) (c.number_block-vector.ensures i)) in
-    rw (← view, arm) (from_vector cbc_encrypted _ _ _ _ _ vector c.decrypt_chain.ensures.undone)
+    let iv = c.encrypt_block.ensures.value ∙ (λ i. encrypted (digest i) (c.number_block-iv.ensures i)) in
+    rw (← view, arm) (from_vector cbc_encrypted _ _ _ _ _ iv c.decrypt_chain.ensures.undone)
 
 pub returns-in-CbcPlain64-clause-value : goal.returns-in-CbcPlain64-clause-value
 returns-in-CbcPlain64-clause-value c =
     let view = c.self.view_is in
     let arm = c.in-CbcPlain64.is in
     rw (← view, arm)
-    (to_vector cbc_decrypted _ _ _ _ _ c.number_block.ensures c.decrypt_chain-in-CbcPlain64.ensures.value)
+    (to_iv cbc_decrypted _ _ _ _ _ c.number_block.ensures c.decrypt_chain-in-CbcPlain64.ensures.value)
 
 pub returns-in-CbcPlain64-clause-undone : goal.returns-in-CbcPlain64-clause-undone
 returns-in-CbcPlain64-clause-undone c =
@@ -32,9 +32,9 @@ returns-in-CbcEssivSha256-clause-undoes c =
     let view = c.self.view_is in
     let arm = c.in-CbcEssivSha256.is in
     let digest = rw arm at c.self.invariant.digest in
-    let vector = c.encrypt_block.ensures.value ∙ (λ i. encrypted (digest i) (c.number_block-vector.ensures i)) in
+    let iv = c.encrypt_block.ensures.value ∙ (λ i. encrypted (digest i) (c.number_block-iv.ensures i)) in
     rw (← view, arm) (λ plain bytes same is.
-    c.decrypt_chain.ensures.undoes plain bytes same (to_vector cbc_encrypted _ _ _ _ _ (sym vector) is))
+    c.decrypt_chain.ensures.undoes plain bytes same (to_iv cbc_encrypted _ _ _ _ _ (sym iv) is))
 
 pub returns-in-CbcPlain64-clause-undoes : goal.returns-in-CbcPlain64-clause-undoes
 returns-in-CbcPlain64-clause-undoes c =
@@ -42,4 +42,4 @@ returns-in-CbcPlain64-clause-undoes c =
     let arm = c.in-CbcPlain64.is in
     rw (← view, arm) (λ plain bytes same is.
     c.decrypt_chain-in-CbcPlain64.ensures.undoes plain bytes same
-    (to_vector cbc_encrypted _ _ _ _ _ (sym c.number_block.ensures) is))
+    (to_iv cbc_encrypted _ _ _ _ _ (sym c.number_block.ensures) is))

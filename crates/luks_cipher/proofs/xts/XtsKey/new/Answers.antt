@@ -16,12 +16,12 @@ pair_length : (a b : ℕ) → a + b ≡ 32 ⊎ a + b ≡ 64 → IsTrue (is_xts_k
 pair_length a b (inl is) = rw is refl
 pair_length a b (inr is) = rw is refl
 
-key_pair : (key front back first second : List ℕ) → length key ≡ 32 ⊎ length key ≡ 64 → IsBytes key
-    → front ≡ take (length key / 2) key → back ≡ drop (length key / 2) key → length front ≡ length key / 2
-    → length back + length key / 2 ≡ length key → first ≡ front → second ≡ back → IsKeyPair first second
-key_pair key front back first second long all is_front is_back front_long back_long same also =
+key_pair : (key prefix back first second : List ℕ) → length key ≡ 32 ⊎ length key ≡ 64 → IsBytes key
+    → prefix ≡ take (length key / 2) key → back ≡ drop (length key / 2) key → length prefix ≡ length key / 2
+    → length back + length key / 2 ≡ length key → first ≡ prefix → second ≡ back → IsKeyPair first second
+key_pair key prefix back first second long all is_prefix is_back prefix_long back_long same also =
     let half : length back ≡ length key / 2 = elim long [ inl is ↦ omega arith | inr is ↦ omega arith ] in
-    let a : length first ≡ length key / 2 = ap length same ∙ front_long in
+    let a : length first ≡ length key / 2 = ap length same ∙ prefix_long in
     let b : length second ≡ length key / 2 = ap length also ∙ half in
     let sum : length first + length second ≡ length key = elim long [
       | inl is ↦ omega (arith, a, b)
@@ -32,7 +32,7 @@ key_pair key front back first second long all is_front is_back front_long back_l
       same_length = a ∙ sym b;
       key_length = pair_length (length first) (length second)
           (elim long [ inl is ↦ inl (sum ∙ is) | inr is ↦ inr (sum ∙ is) ]);
-      data_bytes = rw (same, is_front) (bytes_take (length key / 2) key all);
+      data_bytes = rw (same, is_prefix) (bytes_take (length key / 2) key all);
       tweak_bytes = rw (also, is_back) (bytes_drop (length key / 2) key all);
     }
 

@@ -3,46 +3,48 @@ use Rattle.luks_runs.specs.HeaderOutcome.{printout_text, printout_message}
 use Rattle.luks_runs.specs.HeaderReading.{detached_header_of}
 use Rattle.luks_runs.specs.Run.{AnyPace, result_message}
 use Rattle.luks_runs.specs.declared.headers.Printout.TheVariants.{Uuid, Dump, Check}
-use Rattle.luks_cli.proofs.CallLemmas.{calls_apart, calls_of_image, calls_of_is_luks, none_read}
+use Rattle.luks_cli.proofs.CallLemmas.{detached_calls_without_payload, calls_of_image, calls_of_is_luks, none_read}
 use Rattle.luks_cli.specs.CommandRun.{ReadsOnce}
-use Rattle.luks_cli.proofs.DetachedRuns.{no_payload_for_answer, no_payload_for_text, no_payload_for_slot, runs_apart}
+use Rattle.luks_cli.proofs.DetachedRuns.{no_payload_for_is_luks, no_payload_for_text, no_payload_for_slot}
+use Rattle.luks_cli.proofs.DetachedRuns.{detached_runs_without_payload}
 use Rattle.luks_cli.proofs.execute.detached.execute_detached.Goals as goal
 
 pub returns-in-IsLuks : goal.returns-in-IsLuks
 returns-in-IsLuks g c = rw (c.report.ensures, c.in-IsLuks.is) (record {
   run = λ file there known payload pass secret counted.
-      runs_apart AnyPace _ _ _ _ _ (no_payload_for_answer file) (c.is_luks.ensures.run _ file there);
+      detached_runs_without_payload AnyPace _ _ _ _ _ (no_payload_for_is_luks file) (c.is_luks.ensures.run _ file
+      there);
   report = record { only = c.is_luks.ensures.only; status = refl };
   unneeded = λ _. refl;
   untouched = λ _. refl;
   reads_first = λ _ _. refl;
-  calls = calls_apart ReadsOnce _ _ _ _ _ _ _ _ (none_read _)
+  calls = detached_calls_without_payload ReadsOnce _ _ _ _ _ _ _ _ (none_read _)
       (calls_of_is_luks (result_message c.is_luks.result) _ _ _ _ _ c.is_luks.ensures.only c.is_luks.ensures.reads.1);
 })
 
 pub returns-in-LuksUuid : goal.returns-in-LuksUuid
 returns-in-LuksUuid g c = rw (c.report-in-LuksUuid.ensures, c.in-LuksUuid.is) (record {
   run = λ file there known payload pass secret counted.
-      runs_apart AnyPace _ _ _ _ _ (no_payload_for_text detached_header_of (printout_text Uuid)
+      detached_runs_without_payload AnyPace _ _ _ _ _ (no_payload_for_text detached_header_of (printout_text Uuid)
       (printout_message Uuid) file) (c.print.ensures.run file there);
   report = record { only = c.print.ensures.only; status = refl };
   unneeded = λ _. refl;
   untouched = λ _. refl;
   reads_first = λ _. c.print.ensures.reads_first;
-  calls = calls_apart ReadsOnce _ _ _ _ _ _ _ _ (none_read _)
+  calls = detached_calls_without_payload ReadsOnce _ _ _ _ _ _ _ _ (none_read _)
       (calls_of_image (result_message c.print.result) _ _ _ _ _ _ c.print.ensures.reads.1 c.print.ensures.writes);
 })
 
 pub returns-in-LuksDump : goal.returns-in-LuksDump
 returns-in-LuksDump g c = rw (c.report-in-LuksDump.ensures, c.in-LuksDump.is) (record {
   run = λ file there known payload pass secret counted.
-      runs_apart AnyPace _ _ _ _ _ (no_payload_for_text detached_header_of (printout_text Dump)
+      detached_runs_without_payload AnyPace _ _ _ _ _ (no_payload_for_text detached_header_of (printout_text Dump)
       (printout_message Dump) file) (c.print-in-LuksDump.ensures.run file there);
   report = record { only = c.print-in-LuksDump.ensures.only; status = refl };
   unneeded = λ _. refl;
   untouched = λ _. refl;
   reads_first = λ _. c.print-in-LuksDump.ensures.reads_first;
-  calls = calls_apart ReadsOnce _ _ _ _ _ _ _ _ (none_read _)
+  calls = detached_calls_without_payload ReadsOnce _ _ _ _ _ _ _ _ (none_read _)
       (calls_of_image (result_message c.print-in-LuksDump.result) _ _ _ _ _ _
       c.print-in-LuksDump.ensures.reads.1 c.print-in-LuksDump.ensures.writes);
 })
@@ -50,13 +52,13 @@ returns-in-LuksDump g c = rw (c.report-in-LuksDump.ensures, c.in-LuksDump.is) (r
 pub returns-in-LuksCheck : goal.returns-in-LuksCheck
 returns-in-LuksCheck g c = rw (c.report-in-LuksCheck.ensures, c.in-LuksCheck.is) (record {
   run = λ file there known payload pass secret counted.
-      runs_apart AnyPace _ _ _ _ _ (no_payload_for_text detached_header_of (printout_text Check)
+      detached_runs_without_payload AnyPace _ _ _ _ _ (no_payload_for_text detached_header_of (printout_text Check)
       (printout_message Check) file) (c.print-in-LuksCheck.ensures.run file there);
   report = record { only = c.print-in-LuksCheck.ensures.only; status = refl };
   unneeded = λ _. refl;
   untouched = λ _. refl;
   reads_first = λ _. c.print-in-LuksCheck.ensures.reads_first;
-  calls = calls_apart ReadsOnce _ _ _ _ _ _ _ _ (none_read _)
+  calls = detached_calls_without_payload ReadsOnce _ _ _ _ _ _ _ _ (none_read _)
       (calls_of_image (result_message c.print-in-LuksCheck.result) _ _ _ _ _ _
       c.print-in-LuksCheck.ensures.reads.1 c.print-in-LuksCheck.ensures.writes);
 })
@@ -64,13 +66,13 @@ returns-in-LuksCheck g c = rw (c.report-in-LuksCheck.ensures, c.in-LuksCheck.is)
 pub returns-in-TestPassphrase : goal.returns-in-TestPassphrase
 returns-in-TestPassphrase g c = rw (c.report-in-TestPassphrase.ensures, c.in-TestPassphrase.is) (record {
   run = λ file there known payload pass secret counted.
-      runs_apart AnyPace _ _ _ _ _ (no_payload_for_slot detached_header_of _ file pass)
+      detached_runs_without_payload AnyPace _ _ _ _ _ (no_payload_for_slot detached_header_of _ file pass)
       (c.test_passphrase.ensures.run file there pass secret);
   report = record { only = c.test_passphrase.ensures.only; status = refl };
   unneeded = λ needs. c.test_passphrase.ensures.unneeded needs.0 needs.1 needs.2;
   untouched = λ _. refl;
   reads_first = λ _. c.test_passphrase.ensures.reads_first;
-  calls = calls_apart ReadsOnce _ _ _ _ _ _ _ _ (none_read _) c.test_passphrase.ensures.calls;
+  calls = detached_calls_without_payload ReadsOnce _ _ _ _ _ _ _ _ (none_read _) c.test_passphrase.ensures.calls;
 })
 
 pub returns-in-LuksCat : goal.returns-in-LuksCat

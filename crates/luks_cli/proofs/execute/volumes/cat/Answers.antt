@@ -6,21 +6,21 @@ use Rattle.luks_runs.specs.Payload.{max_needed}
 use Rattle.luks_runs.specs.Run.{result_message}
 use Rattle.luks_unlock.specs.Volume.{slot_outcome}
 use Rattle.luks_cli.proofs.CallLemmas.{calls_unopened, calls_without_payload, no_more_ahead, none_failed, payload_after}
-use Rattle.luks_cli.proofs.OpenedRuns.{never_memory, never_read, runs_loaded, runs_passed, unread_is}
+use Rattle.luks_cli.proofs.OpenedRuns.{never_memory, never_read, runs_loaded, runs_forwarded, unread_is}
 use Rattle.luks_cli.proofs.execute.volumes.cat.Goals as goal
 
 pub returns-clause-run : goal.returns-clause-run
 returns-clause-run g c known is pass has counted =
     let u = c.in_ok-unlocked.ensures.ok known is pass has in
-    let passed = rw c.as_slice-loaded.ensures.value at (c.write_plain-2.ensures.run known counted) in
-    runs_passed _ known pass _ _ _ _ _ u _ _ _ (result_message c.write_plain-2.result)
-    (never_memory _ c.write_plain-2.ensures.only) (passed u.front u.image_consumed)
+    let forwarded = rw c.as_slice-loaded.ensures.value at (c.write_plain-2.ensures.run known counted) in
+    runs_forwarded _ known pass _ _ _ _ _ u _ _ _ (result_message c.write_plain-2.result)
+    (never_memory _ c.write_plain-2.ensures.only) (forwarded u.prefix u.image_consumed)
 
 pub returns-clause-calls : goal.returns-clause-calls
 returns-clause-calls g c =
     let unlocked = c.in_ok-unlocked.ensures in
     let segment = c.in_ok-unlocked.unlocked.volume.segment in
-    let goes = sym c.has_ended.ensures ∙ c.if-has_ended.false in
+    let unended = sym c.has_ended.ensures ∙ c.if-has_ended.false in
     let reads = rw c.as_slice-loaded.ensures.value at c.write_plain-2.ensures.reads in
     record {
       in_image = true;
@@ -33,7 +33,7 @@ returns-clause-calls g c =
               (g.I.Source.counts c.args.image.now).ahead)
               (sym (u.outcome (slot_outcome pass))),
         )),
-        (reads.0, payload_after _ _ segment _ _ _ _ (rw goes at unlocked.loaded.reads) reads.1),
+        (reads.0, payload_after _ _ segment _ _ _ _ (rw unended at unlocked.loaded.reads) reads.1),
       );
       secret_reads = none_failed _ _ _ unlocked.counts.secret_reads;
       out_writes = c.write_plain-2.ensures.writes;
@@ -54,11 +54,11 @@ returns-then-has_ended-clause-run g c known is pass has counted =
     let u = unlocked.ok known is pass has in
     let ended = sym c.has_ended.ensures ∙ c.if-has_ended.true in
     let unread = never_read (result_message c.write_plain.result) c.write_plain.ensures.reads.1.failures in
-    let passed = rw c.as_slice-loaded.ensures.value at (c.write_plain.ensures.run known counted) in
+    let forwarded = rw c.as_slice-loaded.ensures.value at (c.write_plain.ensures.run known counted) in
     let source = ap (λ (m : MemSourceModel). Some m.left) c.new.ensures in
     runs_loaded _ known pass _ _ _ _ _ u _ _ _ (result_message c.write_plain.result)
     (unlocked.loaded.emptied ended known is) (never_memory _ c.write_plain.ensures.only)
-    (unread_is (result_message c.write_plain.result) unread) (λ consumed. passed u.front (rw source consumed))
+    (unread_is (result_message c.write_plain.result) unread) (λ consumed. forwarded u.prefix (rw source consumed))
 
 pub returns-then-has_ended-clause-calls : goal.returns-then-has_ended-clause-calls
 returns-then-has_ended-clause-calls g c =

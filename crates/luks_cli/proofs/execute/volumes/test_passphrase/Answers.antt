@@ -3,7 +3,7 @@ use Rattle.std.proofs.Common.{true}
 use Rattle.luks_unlock.specs.Volume.{slot_outcome}
 use Rattle.luks_runs.specs.Run.{AnyPace, result_message}
 use Rattle.luks_cli.proofs.CallLemmas.{calls_unopened, none_failed}
-use Rattle.luks_cli.proofs.OpenedRuns.{runs_at, runs_slot, slot_message, slot_reads_nothing, takes_slot}
+use Rattle.luks_cli.proofs.OpenedRuns.{runs_at, runs_slot, slot_message, slot_reads_nothing, slot_consumes_loaded}
 use Rattle.luks_cli.proofs.execute.volumes.test_passphrase.Goals as goal
 
 pub returns-in_err-unlocked-clause-run : goal.returns-in_err-unlocked-clause-run
@@ -11,7 +11,7 @@ returns-in_err-unlocked-clause-run g c =
     let p = err_from_is_err_and c.from_residual.result c.from_residual.ensures.1 in
     rw (p.1, p.2) (λ known is pass has.
     runs_at _ AnyPace _ _ _ _ _ (λ image secret output is. tt)
-    (c.in_err-unlocked.ensures.err known is pass has (slot_outcome pass) (takes_slot pass) _))
+    (c.in_err-unlocked.ensures.err known is pass has (slot_outcome pass) (slot_consumes_loaded pass) _))
 
 pub returns-clause-run : goal.returns-clause-run
 returns-clause-run g c known is pass has =

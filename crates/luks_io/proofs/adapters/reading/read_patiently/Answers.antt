@@ -3,25 +3,26 @@ use Rattle.luks_io.specs.CallOutcomes.{read_result}
 use Rattle.luks_io.proofs.Reporting.{reports_again, reports_failed, reports_last, reports_moved}
 use Rattle.luks_io.proofs.adapters.reading.read_patiently.Goals as goal
 
-pub returns-in-Moved-clause-told : goal.returns-in-Moved-clause-told
-returns-in-Moved-clause-told g c =
-    c.tries.invariant.told _ _
+pub returns-in-Moved-clause-reported : goal.returns-in-Moved-clause-reported
+returns-in-Moved-clause-reported g c =
+    c.tries.invariant.reported _ _
     (reports_moved read_result _ _ c.tries.tries c.in-Moved.count _ refl c.in-Moved.ensures.next)
 
 pub tries-preserved : goal.tries-preserved
 tries-preserved g c = record {
-  told = λ told after rest. c.tries.invariant.told told after
-      (reports_again read_result _ _ told after c.tries.tries (omega arith) c.in-Interrupted.ensures.next rest);
+  reported = λ reported after rest. c.tries.invariant.reported reported after
+      (reports_again read_result _ _ reported after c.tries.tries (omega arith) c.in-Interrupted.ensures.next rest);
   kept = search rules;
 }
 
-pub returns-in-Interrupted-2-clause-told : goal.returns-in-Interrupted-2-clause-told
-returns-in-Interrupted-2-clause-told g c =
-    c.tries.invariant.told _ _ (reports_last read_result _ _ c.tries.tries (omega arith) c.in-Interrupted.ensures.next)
+pub returns-in-Interrupted-2-clause-reported : goal.returns-in-Interrupted-2-clause-reported
+returns-in-Interrupted-2-clause-reported g c =
+    c.tries.invariant.reported _ _ (reports_last read_result _ _ c.tries.tries (omega arith)
+    c.in-Interrupted.ensures.next)
 
-pub returns-in-Failed-clause-told : goal.returns-in-Failed-clause-told
-returns-in-Failed-clause-told g c =
-    c.tries.invariant.told _ _ (reports_failed read_result _ _ c.tries.tries c.in-Failed.ensures.next)
+pub returns-in-Failed-clause-reported : goal.returns-in-Failed-clause-reported
+returns-in-Failed-clause-reported g c =
+    c.tries.invariant.reported _ _ (reports_failed read_result _ _ c.tries.tries c.in-Failed.ensures.next)
 
 pub tries-init : goal.tries-init
 tries-init g c = search rules

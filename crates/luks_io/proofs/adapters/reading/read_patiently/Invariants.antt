@@ -8,9 +8,9 @@ use Rattle.luks_io.proofs.adapters.reading.read_patiently.Given as goal
 -- the calls so far were interrupted: they consumed nothing, and the result reported from here on is that of all calls
 abbrev pub invariant-tries : goal.invariant-tries
 invariant-tries g l = record {
-  told : (told : Result ℕ DeviceFault) (after : Option (List CallOutcome)) →
-      ReportsFirst read_result (g.D.RawReader.answers l.device) l.tries told after
-      → ReportsFirst read_result (g.D.RawReader.answers l.initial.device) l.initial.tries told after;
+  reported : (reported : Result ℕ DeviceFault) (after : Option (List CallOutcome)) →
+      ReportsFirst read_result (g.D.RawReader.answers l.device) l.tries reported after
+      → ReportsFirst read_result (g.D.RawReader.answers l.initial.device) l.initial.tries reported after;
   kept : Keeps (g.D.RawReader.bytes l.initial.device) (g.D.RawReader.bytes l.device);
 }
 

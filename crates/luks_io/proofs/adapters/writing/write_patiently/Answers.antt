@@ -6,37 +6,38 @@ use Rattle.luks_io.proofs.adapters.writing.write_patiently.Goals as goal
 
 pub tries-preserved : goal.tries-preserved
 tries-preserved g c = record {
-  told = λ told after rest. c.tries.invariant.told told after
-      (reports_again write_result _ _ told after c.tries.tries (omega arith) c.in-Interrupted.ensures.next rest);
+  reported = λ reported after rest. c.tries.invariant.reported reported after
+      (reports_again write_result _ _ reported after c.tries.tries (omega arith) c.in-Interrupted.ensures.next rest);
   kept = search rules;
 }
 
-pub returns-in-Interrupted-2-clause-told : goal.returns-in-Interrupted-2-clause-told
-returns-in-Interrupted-2-clause-told g c some =
-    c.tries.invariant.told _ _ (reports_last write_result _ _ c.tries.tries (omega arith) c.in-Interrupted.ensures.next)
+pub returns-in-Interrupted-2-clause-reported : goal.returns-in-Interrupted-2-clause-reported
+returns-in-Interrupted-2-clause-reported g c some =
+    c.tries.invariant.reported _ _ (reports_last write_result _ _ c.tries.tries (omega arith)
+    c.in-Interrupted.ensures.next)
 
-pub returns-in-Failed-clause-told : goal.returns-in-Failed-clause-told
-returns-in-Failed-clause-told g c some =
-    c.tries.invariant.told _ _ (reports_failed write_result _ _ c.tries.tries c.in-Failed.ensures.next)
+pub returns-in-Failed-clause-reported : goal.returns-in-Failed-clause-reported
+returns-in-Failed-clause-reported g c some =
+    c.tries.invariant.reported _ _ (reports_failed write_result _ _ c.tries.tries c.in-Failed.ensures.next)
 
-pub returns-in-Moved-eq0-clause-told : goal.returns-in-Moved-eq0-clause-told
-returns-in-Moved-eq0-clause-told g c some =
+pub returns-in-Moved-eq0-clause-reported : goal.returns-in-Moved-eq0-clause-reported
+returns-in-Moved-eq0-clause-reported g c some =
     let none : write_result c.in-Moved-eq0.field-0 ≡ Err record {} = rw c.in-Moved-eq0.field-0-test refl in
-    c.tries.invariant.told _ _
+    c.tries.invariant.reported _ _
     (reports_moved write_result _ _ c.tries.tries c.in-Moved-eq0.field-0 _ none c.in-Moved-eq0.ensures.next)
 
-pub returns-in-Moved-clause-told : goal.returns-in-Moved-clause-told
-returns-in-Moved-clause-told g c some =
+pub returns-in-Moved-clause-reported : goal.returns-in-Moved-clause-reported
+returns-in-Moved-clause-reported g c some =
     let moved : write_result c.in-Moved.count
     ≡ Ok c.in-Moved.count = rw (ne_eqb c.in-Moved.count 0 c.in-Moved.count-test.1) refl in
-    c.tries.invariant.told _ _
+    c.tries.invariant.reported _ _
     (reports_moved write_result _ _ c.tries.tries c.in-Moved.count _ moved c.in-Moved.ensures.next)
 
 pub tries-init : goal.tries-init
 tries-init g c = search rules
 
-pub returns-then-is_empty-clause-told : goal.returns-then-is_empty-clause-told
-returns-then-is_empty-clause-told g c = search rules
+pub returns-then-is_empty-clause-reported : goal.returns-then-is_empty-clause-reported
+returns-then-is_empty-clause-reported g c = search rules
 
 pub returns-then-is_empty-clause-empty : goal.returns-then-is_empty-clause-empty
 returns-then-is_empty-clause-empty g c = search rules

@@ -8,9 +8,9 @@ use Rattle.luks_io.proofs.adapters.writing.write_patiently.Given as goal
 -- the calls so far were interrupted: they wrote nothing, and the result reported from here on is that of all calls
 abbrev pub invariant-tries : goal.invariant-tries
 invariant-tries g l = record {
-  told : (told : Result ℕ DeviceFault) (after : Option (List CallOutcome)) →
-      ReportsFirst write_result (g.D.RawWriter.answers l.device) l.tries told after
-      → ReportsFirst write_result (g.D.RawWriter.answers l.initial.device) l.initial.tries told after;
+  reported : (reported : Result ℕ DeviceFault) (after : Option (List CallOutcome)) →
+      ReportsFirst write_result (g.D.RawWriter.answers l.device) l.tries reported after
+      → ReportsFirst write_result (g.D.RawWriter.answers l.initial.device) l.initial.tries reported after;
   kept : Keeps (g.D.RawWriter.bytes l.initial.device) (g.D.RawWriter.bytes l.device);
 }
 

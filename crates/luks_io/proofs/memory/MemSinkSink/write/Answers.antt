@@ -17,8 +17,8 @@ returns-then-not-is_empty-clause-bytes c = search rules
 pub returns-then-not-is_empty-clause-count : goal.returns-then-not-is_empty-clause-count
 returns-then-not-is_empty-clause-count c = search rules
 
-pub returns-then-not-is_empty-clause-room : goal.returns-then-not-is_empty-clause-room
-returns-then-not-is_empty-clause-room c = search rules
+pub returns-then-not-is_empty-clause-capacity : goal.returns-then-not-is_empty-clause-capacity
+returns-then-not-is_empty-clause-capacity c = search rules
 
 pub returns-then-not-is_empty-clause-full : goal.returns-then-not-is_empty-clause-full
 returns-then-not-is_empty-clause-full c = search rules
@@ -35,8 +35,8 @@ returns-clause-bytes c = grind (arith, common_steps)
 pub returns-clause-count : goal.returns-clause-count
 returns-clause-count c = search rules
 
-pub returns-clause-room : goal.returns-clause-room
-returns-clause-room c = search rules
+pub returns-clause-capacity : goal.returns-clause-capacity
+returns-clause-capacity c = search rules
 
 pub returns-clause-full : goal.returns-clause-full
 returns-clause-full c = search rules

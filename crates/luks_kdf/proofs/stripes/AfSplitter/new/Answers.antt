@@ -6,4 +6,4 @@ use Rattle.luks_kdf.proofs.stripes.AfSplitter.new.Goals as goal
 pub returns-clause-start : goal.returns-clause-start
 returns-clause-start c =
     let with_block : List ℕ → AfSplitterModel = λ block. record { hash = c.args.hash; block = block } in
-    ap with_block (take-replicate c.args.len 512 0 c.requires.room)
+    ap with_block (take-replicate c.args.len 512 0 c.requires.capacity)

@@ -1,6 +1,6 @@
 use Rattle.std.proofs.Common.{◌≡◌, ◌∙◌, ap, length, arith}
 use Rattle.std.proofs.lemmas.List.{length-take}
-use Rattle.luks_kdf.proofs.BytesLemmas.{take_front}
+use Rattle.luks_kdf.proofs.BytesLemmas.{take_prefix}
 use Rattle.luks_open.specs.Candidate.{unlocked}
 use Rattle.luks_open.proofs.key.Key.unlock.Goals as goal
 
@@ -8,7 +8,7 @@ pub returns-clause-key : goal.returns-clause-key
 returns-clause-key c =
     let cut = length-take c.self.inside.len c.self.inside.bytes in
     let whole : length c.unlock.new.out ≡ c.self.inside.len = omega (arith, cut) in
-    take_front c.self.inside.len c.unlock.new.out _ whole
+    take_prefix c.self.inside.len c.unlock.new.out _ whole
     ∙ (c.unlock.ensures
     ∙ ap (λ bytes. unlocked c.args.af c.args.key.now c.args.image.now c.args.offset (length bytes) c.args.stripes)
     c.self.view_is)

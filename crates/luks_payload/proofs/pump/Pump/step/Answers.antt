@@ -12,39 +12,39 @@ pub returns-in_err-skip-clause-run : goal.returns-in_err-skip-clause-run
 returns-in_err-skip-clause-run g c =
     let p = err_from_is_err_and c.from_residual.result c.from_residual.ensures.1 in
     let was = c.args.self.now in
-    rw (p.1, p.2) (λ image few stands.
-    steps_unskipped was.segment was.cipher was.consumed was.count was.front image _ _ _ _ was.state _ _ stands
+    rw (p.1, p.2) (λ image few positioned.
+    steps_unskipped was.segment was.cipher was.consumed was.count was.prefix image _ _ _ _ was.state _ _ positioned
     c.in_err-skip.ensures.again c.in_err-skip.ensures.fresh
-    (λ first. c.in_err-skip.ensures.run image first stands))
+    (λ first. c.in_err-skip.ensures.run image first positioned))
 
 pub returns-in_err-skip-clause-reads : goal.returns-in_err-skip-clause-reads
 returns-in_err-skip-clause-reads g c =
     let p = err_from_is_err_and c.from_residual.result c.from_residual.ensures.1 in
     let was = c.args.self.now in
-    let broken = c.in_err-skip.ensures in
+    let aborted = c.in_err-skip.ensures in
     rw (p.1, p.2) (λ running.
-    unskipped_reads was.segment was.count _ (broken.only (was_before was.state _ _ broken.again running)) _ _
-    (broken.reads running))
+    unskipped_reads was.segment was.count _ (aborted.only (was_before was.state _ _ aborted.again running)) _ _
+    (aborted.reads running))
 
 pub returns-in_err-skip-clause-writes : goal.returns-in_err-skip-clause-writes
 returns-in_err-skip-clause-writes g c =
     let p = err_from_is_err_and c.from_residual.result c.from_residual.ensures.1 in
     let was = c.args.self.now in
-    let broken = c.in_err-skip.ensures in
+    let aborted = c.in_err-skip.ensures in
     rw (p.1, p.2) (λ running.
-    unskipped_writes was.segment was.count _ (broken.only (was_before was.state _ _ broken.again running)) _)
+    unskipped_writes was.segment was.count _ (aborted.only (was_before was.state _ _ aborted.again running)) _)
 
 pub returns-clause-run : goal.returns-clause-run
-returns-clause-run g c image few stands =
+returns-clause-run g c image few positioned =
     let was = c.args.self.now in
     let skip = c.in_ok-skip.ensures in
     let now = c.self.view_is ∙ skip.pump in
-    steps_skipped was.segment was.cipher was.consumed was.count was.front image _ _ _ _ _ _ was.state _ stands
+    steps_skipped was.segment was.cipher was.consumed was.count was.prefix image _ _ _ _ _ _ was.state _ positioned
     (subst (λ (p : PumpModel). p.consumed ≤ p.segment.offset) now c.self.invariant.0)
-    skip.again (λ same. ap g.S.Source.to_come same) skip.fresh (λ first. skip.run image first stands)
+    skip.again (λ same. ap g.S.Source.to_come same) skip.fresh (λ first. skip.run image first positioned)
     (subst (λ (p : PumpModel).
-    PositionedAt image p.front (sector_start p.segment p.count) (g.S.Source.to_come c.skip.new.source)
-    → StepEffect p.segment p.cipher p.count (sector_start p.segment p.count + length p.front) image
+    PositionedAt image p.prefix (sector_start p.segment p.count) (g.S.Source.to_come c.skip.new.source)
+    → StepEffect p.segment p.cipher p.count (sector_start p.segment p.count + length p.prefix) image
     c.next_sector-answer.result (g.S.Source.to_come c.next_sector-answer.new.source) (g.O.Sink.written c.args.sink.now)
     (g.O.Sink.written c.next_sector-answer.new.sink)) now (c.next_sector-answer.ensures.run image few))
 

@@ -1,7 +1,0 @@
-use Rattle.std.proofs.Common.{◌≡◌, map, string_bytes, take}
-use Rattle.luks2_json.specs.List.{texts_among}
-use Rattle.luks2_json.proofs.list.texts_among.Given as goal
-use Rattle.serde_json.specs.View.{items_view}
-
-abbrev pub invariant-loop-value : goal.invariant-loop-value
-invariant-loop-value l = map string_bytes l.names.items ≡ texts_among (items_view (take l.value-index l.values))

@@ -1,0 +1,225 @@
+-- The first 33,554,432 bytes of an image decide how it is opened. A header area never has more.
+use Rattle.std.proofs.Common.{◌≡◌, ◌∙◌, ℕ, ◌≤◌, List, [], ◌∷◌, Result, Ok, Err, Bool}
+use Rattle.std.proofs.Common.{true, false, inl, inr, ap, sym, refl, take, take_all, length, length-take-le, max, arith}
+use Rattle.std.specs.List.{AllByRecursion}
+use Rattle.std.specs.Prelude.{ok_or, if◌then◌else◌}
+use Rattle.std.proofs.lemmas.Bool.{cases_lt, le-ltb}
+use Rattle.std.proofs.lemmas.List.{take-take}
+use Rattle.luks_area.specs.Area.{max_area_len}
+use Rattle.luks_area.specs.declared.fault.HeaderFault.{HeaderFault}
+use Rattle.luks_area.specs.declared.fault.HeaderFault.TheVariants.{NotLuks}
+use Rattle.luks1_header.specs.Header1.{is_luks1}
+use Rattle.luks2_binary.proofs.AgreeLemmas.{probe_fit, probe_unfit}
+use Rattle.luks2_binary.proofs.ChoiceLemmas.{probe_other, probe_primary}
+use Rattle.luks2_binary.proofs.JsonLemmas.{json_beginning}
+use Rattle.luks2_binary.proofs.SearchLemmas.{search_len_is}
+use Rattle.luks2_binary.proofs.StableLemmas.{stable_by}
+use Rattle.luks2_binary.proofs.ValidLemmas.{fits_parts, size_range, valid_range}
+use Rattle.luks2_binary.proofs.WalkLemmas.{furthest}
+use Rattle.luks2_binary.specs.Choice2.{binary_at, fits, header2_of, is_valid}
+use Rattle.luks2_binary.specs.ReadLen2.{header2_read_len, probe2_len, probe_end}
+use Rattle.luks2_binary.specs.Reading2.{IsPrefixOf}
+use Rattle.luks2_binary.specs.Header2.{sizes}
+use Rattle.luks2_binary.specs.Text2.{json_text_of}
+use Rattle.luks2_binary.specs.declared.header.Header2.{Header2}
+use Rattle.luks2_json.specs.Tree.{tree_of}
+use Rattle.luks_header.proofs.HeldLemmas.{begins_longer}
+use Rattle.luks_header.specs.Header.{header_read_len, header_of, with_metadata, with_text}
+use Rattle.luks_open.proofs.CallerLemmas.{opening_beginning}
+use Rattle.luks_open.proofs.OrderLemmas.{key_areas_end-within}
+use Rattle.luks_open.specs.Opening.{opening_of}
+use Rattle.luks_open.specs.Order.{key_areas_end}
+use Rattle.luks_open.specs.declared.fault.OpenFault.{OpenFault}
+use Rattle.luks_open.specs.declared.opening.Opened.{Opened}
+use Rattle.luks_report.specs.declared.message.Message.{Message}
+use Rattle.luks_request.specs.Request.{VolumeRequest}
+use Rattle.luks_runs.specs.HeaderReading.{as_detached}
+use Rattle.luks_runs.specs.Location.{reader_for}
+use Rattle.luks_runs.specs.declared.location.HeaderLocation.{HeaderLocation}
+use Rattle.luks_runs.specs.declared.location.HeaderLocation.TheVariants.{Attached, Detached}
+use Rattle.luks_unlock.specs.Volume.{OnOpened, Volume, found_outcome, opened_outcome, outcome_after, volume_by}
+use Rattle.luks_unlock.specs.Volume.{volume_in_header, volume_outcome_by}
+
+-- ---- the end of the search for a LUKS2 header
+
+module _ (image : List ℕ) where
+  probe_by : (place : ℕ) (b : Bool) → fits image place ≡ b → place ≤ 4194304 → probe_end image place ≤ 8388608
+  probe_by place true is near =
+      let size = size_range place (binary_at image place) (fits_parts image place is).1 in
+      omega (arith, probe_fit image place is, size.1)
+  probe_by place false is near = omega (arith, probe_unfit image place is)
+
+  probe_near : (place : ℕ) → place ≤ 4194304 → probe_end image place ≤ 8388608
+  probe_near place = probe_by place (fits image place) refl
+
+furthest_by : (b : Bool) (here rest most : ℕ) → here ≤ most → rest ≤ most → max here (if b then 0 else rest) ≤ most
+furthest_by true here rest most near far = omega arith
+furthest_by false here rest most near far = omega arith
+
+furthest_within : (valid : ℕ → Bool) (probe : ℕ → ℕ) (most : ℕ) (places : List ℕ)
+    → AllByRecursion (λ place. probe place ≤ most) places → furthest valid probe places ≤ most
+unfolding furthest
+furthest_within valid probe most [] all = omega arith
+furthest_within valid probe most (place ∷ places) all =
+    furthest_by (valid place) (probe place) (furthest valid probe places) most all.0
+    (furthest_within valid probe most places all.1)
+
+search_within : (image : List ℕ) → furthest (is_valid image) (probe_end image) sizes ≤ 8388608
+unfolding sizes
+search_within image =
+    furthest_within (is_valid image) (probe_end image) 8388608 _ (
+      probe_near image 16384 (omega arith),
+      (
+        probe_near image 32768 (omega arith),
+        (
+          probe_near image 65536 (omega arith),
+          (
+            probe_near image 131072 (omega arith),
+            (
+              probe_near image 262144 (omega arith),
+              (
+                probe_near image 524288 (omega arith),
+                (
+                  probe_near image 1048576 (omega arith),
+                  (
+                    probe_near image 2097152 (omega arith),
+                    (probe_near image 4194304 (omega arith), tt),
+                  ),
+                ),
+              ),
+            ),
+          ),
+        ),
+      ),
+    )
+
+-- the search for a LUKS2 header stays within the first 8 MiB
+probe2_within : (image : List ℕ) → probe2_len image ≤ 8388608
+probe2_within image = by (is_valid image 0) refl where
+  by : (b : Bool) → is_valid image 0 ≡ b → probe2_len image ≤ 8388608
+  by true is = omega (arith, probe_primary image is, (valid_range image 0 is).2)
+  by false is =
+      omega (
+        arith,
+        probe_other image is,
+        search_len_is image,
+        search_within image,
+        probe_near image 0 (omega arith),
+      )
+
+-- ---- the header of the first bytes
+
+module _ (image : List ℕ) (n : ℕ) (far : 8388608 ≤ n) where
+  prefix_of : n ≤ length image → IsPrefixOf (take n image) false image
+  prefix_of more =
+      let long = length-take-le n image more in
+      record { begins = ap (λ k. take k image) long; within = omega (arith, long); ends = λ wrong. absurd (cc) }
+
+  prefix2 : n ≤ length image
+      → (header2_of (take n image) ≡ header2_of image) × (header2_read_len (take n image) ≡ header2_read_len image)
+  unfolding header2_of header2_read_len
+  prefix2 more =
+      let long = length-take-le n image more in
+      let within = probe2_within image in
+      let same = stable_by (take n image) image (prefix_of more) (is_valid image 0) refl (omega (arith, long)) in
+      (ap (λ chosen. ok_or chosen NotLuks) same.0, omega (arith, same.1, long))
+
+  text_prefix : n ≤ length image → (header : Header2) → header2_of image ≡ Ok header
+      → json_text_of (take n image) header ≡ json_text_of image header
+  unfolding header2_read_len
+  text_prefix more header found =
+      let same = prefix2 more in
+      let within = probe2_within image in
+      let cut : take (header2_read_len (take n image)) (take n image) ≡ take (header2_read_len image) image =
+      ap (λ k. take k (take n image)) same.1 ∙ take-take (header2_read_len image) n image (omega arith) in
+      sym (json_beginning (take n image) header (same.0 ∙ found))
+      ∙ ap (λ bytes. json_text_of bytes header) cut
+      ∙ json_beginning image header found
+
+  with_text_prefix : n ≤ length image → (r : Result Header2 HeaderFault) → header2_of image ≡ r
+      → with_text (take n image) r ≡ with_text image r
+  with_text_prefix more (Ok header) is =
+      ap (λ text. with_metadata header (tree_of text)) (text_prefix more header is)
+  with_text_prefix more (Err fault) is = refl
+
+  header_by : n ≤ length image → is_luks1 (take n image) ≡ is_luks1 image → (b : Bool) → is_luks1 image ≡ b
+      → (header_of (take n image) ≡ header_of image) × (header_read_len (take n image) ≡ header_read_len image)
+  unfolding header_of header_read_len
+  header_by more begins true is =
+      let long = length-take-le n image more in
+      let short = le-ltb (length (take n image)) 592 (omega (arith, long)) in
+      let shorter = le-ltb (length image) 592 (omega arith) in
+      (rw (begins, is, short, shorter, take-take 592 n image (omega arith)) refl, rw (begins, is) (omega (arith, long)))
+  header_by more begins false is =
+      let same = prefix2 more in (
+        rw (begins, is, same.0) (with_text_prefix more (header2_of image) refl),
+        rw (begins, is) same.1,
+      )
+
+  -- the first bytes of an image have the header of the whole image, and reading it consumes as many bytes
+  pub header_prefix : (header_of (take n image) ≡ header_of image)
+      × (header_read_len (take n image) ≡ header_read_len image)
+  header_prefix = elim (cases_lt n (length image)) [
+    | inl more ↦
+        (let long = length-take-le n image (omega arith) in
+        header_by (omega arith)
+        (sym (begins_longer (take n image) image (omega (arith, long)) (ap (λ k. take k image) long)))
+        (is_luks1 image) refl)
+    | inr all ↦ (let same = take_all n image all in (ap header_of same, ap header_read_len same))
+  ]
+
+-- ---- opening by the first bytes
+
+module _ (location : HeaderLocation) (o : VolumeRequest) (image pass : List ℕ) (n : ℕ) (far : max_area_len ≤ n)
+    (on_opened : OnOpened) where
+  opened_prefix : (v : Volume) (r : Result Opened OpenFault)
+      → opened_outcome on_opened o.key_slot v (take n image) pass r
+      ≡ opened_outcome on_opened o.key_slot v image pass r
+  opened_prefix v (Ok opened) =
+      ap (λ cost. on_opened v.segment opened (max cost (key_areas_end v.order.slots)))
+      (header_prefix image n (omega arith)).1
+  opened_prefix v (Err fault) = rw (header_prefix image n (omega arith)).1 refl
+
+  found_prefix : n ≤ length image → (v : Volume)
+      → found_outcome on_opened o.key_slot v (take n image) pass ≡ found_outcome on_opened o.key_slot v image pass
+  unfolding found_outcome
+  found_prefix more v =
+      let long = length-take-le n image more in
+      let within = key_areas_end-within v.order.slots in
+      let all = le-ltb (length (take n image)) (key_areas_end v.order.slots) (omega (arith, long)) in
+      let whole = le-ltb (length image) (key_areas_end v.order.slots) (omega arith) in
+      let opening = opening_beginning v.order n image pass (omega arith) in
+      let cost = (header_prefix image n (omega arith)).1 in
+      rw (all, whole, cost, opening, opened_prefix v (opening_of v.order image pass)) refl
+
+  after_prefix : n ≤ length image → (r : Result Volume Message)
+      → outcome_after on_opened o.key_slot (take n image) pass r ≡ outcome_after on_opened o.key_slot image pass r
+  after_prefix more (Ok v) = found_prefix more v
+  after_prefix more (Err message) = rw (header_prefix image n (omega arith)).1 refl
+
+  reading_prefix : reader_for location (take n image) ≡ reader_for location image
+  reading_prefix = by location where
+    by : (location : HeaderLocation) → reader_for location (take n image) ≡ reader_for location image
+    by Attached = (header_prefix image n (omega arith)).0
+    by Detached = ap as_detached (header_prefix image n (omega arith)).0
+
+  -- a command has the same outcome on the first bytes of an image as on all of it
+  pub outcome_prefix : volume_outcome_by (reader_for location) on_opened o (take n image) pass
+      ≡ volume_outcome_by (reader_for location) on_opened o image pass
+  unfolding volume_outcome_by volume_by
+  outcome_prefix = elim (cases_lt n (length image)) [
+    | inl more ↦
+        ap (λ r. outcome_after on_opened o.key_slot (take n image) pass (volume_in_header o r)) reading_prefix
+        ∙ after_prefix (omega arith) (volume_in_header o (reader_for location image))
+    | inr all ↦ ap (λ bytes. volume_outcome_by (reader_for location) on_opened o bytes pass) (take_all n image all)
+  ]
+
+-- a command has the same outcome on images with the same first bytes
+pub outcome_decided : (location : HeaderLocation) (o : VolumeRequest) (a b pass : List ℕ) (on_opened : OnOpened)
+    → take max_area_len a ≡ take max_area_len b
+    → volume_outcome_by (reader_for location) on_opened o a pass
+    ≡ volume_outcome_by (reader_for location) on_opened o b pass
+outcome_decided location o a b pass on_opened same =
+    sym (outcome_prefix location o a pass max_area_len (omega arith) on_opened)
+    ∙ ap (λ bytes. volume_outcome_by (reader_for location) on_opened o bytes pass) same
+    ∙ outcome_prefix location o b pass max_area_len (omega arith) on_opened
