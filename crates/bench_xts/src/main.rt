@@ -59,10 +59,10 @@ fn time<R: Runtime>(rt: &R, mode: Mode, way: Way, length: usize, count: u64) -> 
     let mut sector = vec![in rt.alloc(); 0u8; length]?;
     let start = Instant::now(rt)?;
     work(&cipher, way, &mut sector, count);
-    let consumption = start.elapsed(rt)?.as_nanos();
+    let elapsed = start.elapsed(rt)?.as_nanos();
     let total = (length as u128).saturating_mul(u128::from(count));
     let left = sector.first().copied().unwrap_or(0);
-    eprintln!(rt; "{total} {took} {left}")
+    eprintln!(rt; "{total} {elapsed} {left}")
 }
 
 fn main(rt: HostRuntime) -> io::Result<()> {

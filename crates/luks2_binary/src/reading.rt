@@ -5,7 +5,7 @@ ghost use Rattle.std.specs.Prelude.{length, max, take, IsTrue, Ok, IfOk, IfErr, 
 ghost use Rattle.std.specs.Prelude.{OnOk, Some, option_and_then};
 ghost use Rattle.luks_io.specs.Devices.{IfKnown};
 ghost use Rattle.luks_io.specs.Counts.{Reads};
-ghost use Rattle.luks_area.specs.Area.{is_read, max_area_len};
+ghost use Rattle.luks_area.specs.Area.{is_read_fault, max_area_len};
 ghost use Rattle.luks2_binary.specs.Choice2.{chosen2_of, found_at, least_valid};
 ghost use Rattle.luks2_binary.specs.ReadLen2.{probe2_len, probe_end, search_len};
 ghost use Rattle.luks2_binary.specs.Reading2.{AnsweredFrom, Extended, LoadedFor, OfEach};
@@ -32,7 +32,7 @@ fn grow<S: Source>(area: &mut HeaderArea, source: &mut S, end: usize) -> Result<
     ensures stopped_below { IfErr result (λ fault.
         fault ≡ HeaderFault.Memory → length area.new.bytes < end) }
     ensures grew { Extended area.old.bytes area.new.bytes area.old.ended area.new.ended
-        (S.to_come source.old) (S.to_come source.new) (is_read result)
+        (S.to_come source.old) (S.to_come source.new) (is_read_fault result)
         (S.counts source.old) (S.counts source.new) }
     ensures refusals { IfErr result (λ fault.
         (fault ≡ HeaderFault.Read) ⊎ (fault ≡ HeaderFault.Memory)) }
@@ -58,7 +58,7 @@ fn header_at<S: Source>(
     ensures loads { LoadedFor (λ image. probe_end image place) result area.old.bytes area.new.bytes
         area.old.ended area.new.ended }
     ensures grew { Extended area.old.bytes area.new.bytes area.old.ended area.new.ended
-        (S.to_come source.old) (S.to_come source.new) (is_read result)
+        (S.to_come source.old) (S.to_come source.new) (is_read_fault result)
         (S.counts source.old) (S.counts source.new) }
 {
     if !grow(area, source, place + BINARY_LEN)? {
@@ -80,7 +80,7 @@ fn search<S: Source>(area: &mut HeaderArea, source: &mut S) -> Result<Option<Hea
     ensures loads { LoadedFor search_len result area.old.bytes area.new.bytes
         area.old.ended area.new.ended }
     ensures grew { Extended area.old.bytes area.new.bytes area.old.ended area.new.ended
-        (S.to_come source.old) (S.to_come source.new) (is_read result)
+        (S.to_come source.old) (S.to_come source.new) (is_read_fault result)
         (S.counts source.old) (S.counts source.new) }
 {
     for place in places() {
@@ -101,7 +101,7 @@ fn choose<S: Source>(area: &mut HeaderArea, source: &mut S) -> Result<Option<Hea
     ensures loads { LoadedFor probe2_len result area.old.bytes area.new.bytes
         area.old.ended area.new.ended }
     ensures grew { Extended area.old.bytes area.new.bytes area.old.ended area.new.ended
-        (S.to_come source.old) (S.to_come source.new) (is_read result)
+        (S.to_come source.old) (S.to_come source.new) (is_read_fault result)
         (S.counts source.old) (S.counts source.new) }
 {
     let Some(size) = header_at(area, source, 0)? else {
@@ -135,7 +135,7 @@ pub fn read_header2<S: Source>(
     // Whether or not the source knows its bytes:
     ensures answered { AnsweredFrom area.new.bytes result }
     ensures kept { take (length area.old.bytes) area.new.bytes ≡ area.old.bytes }
-    ensures reads { Reads (is_read result)
+    ensures reads { Reads (is_read_fault result)
         (not area.old.ended && hits_eof result area.new.bytes)
         (S.counts source.old) (S.counts source.new) }
     ensures ended { RecordsEnd (hits_eof result area.new.bytes) area.old area.new

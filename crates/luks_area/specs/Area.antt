@@ -39,9 +39,9 @@ pub record Loads (end : ℕ) (held held' : List ℕ) (answer : Result Bool Heade
   pub refusals : IfErr answer (λ fault. (fault ≡ Read) ⊎ (fault ≡ Memory))
 
 -- a failed read is reported
-abbrev pub is_read : {T : Type 0} → Result T HeaderFault → Bool
-is_read (Err Read) = true
-is_read _ = false
+abbrev pub is_read_fault : {T : Type 0} → Result T HeaderFault → Bool
+is_read_fault (Err Read) = true
+is_read_fault _ = false
 
 -- an image is reported to end before all requested bytes
 abbrev pub is_truncated : Result Bool HeaderFault → Bool

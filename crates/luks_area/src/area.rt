@@ -4,7 +4,8 @@ ghost use Rattle.std.specs.Prelude.{◌≡◌, ◌-◌, ◌<◌, ◌≤◌, ◌+
 ghost use Rattle.std.specs.Prelude.{OnErr, Ok, Err, length, max, replicate, vec_capacity, vec_len};
 ghost use Rattle.luks_io.specs.Devices.{IfKnown};
 ghost use Rattle.luks_io.specs.Counts.{Reads};
-ghost use Rattle.luks_area.specs.Area.{ConsumesUpTo, Loads, is_read, is_truncated, max_area_len};
+ghost use Rattle.luks_area.specs.Area.{ConsumesUpTo, Loads, is_read_fault, is_truncated};
+ghost use Rattle.luks_area.specs.Area.{max_area_len};
 
 use crate::fault::HeaderFault;
 use luks_io::source::{ReadFault, Source, fill};
@@ -62,7 +63,7 @@ impl HeaderArea {
 
     /// Loads further bytes of the image from the source until there are `end`, and returns whether
     /// there are: `Ok(false)` means that the image ended first, and all of it is loaded. Nothing is
-    /// read if so many are loaded already.
+    /// read if that many are loaded already.
     ///
     /// # Errors
     ///
@@ -80,7 +81,7 @@ impl HeaderArea {
             → (result ≡ Ok true) × (self.new ≡ self.old) × (source.new ≡ source.old) }
         ensures memory { result ≡ Err HeaderFault.Memory
             → (self.new ≡ self.old) × (source.new ≡ source.old) }
-        ensures reads { Reads (is_read result) (is_truncated result)
+        ensures reads { Reads (is_read_fault result) (is_truncated result)
             (S.counts source.old) (S.counts source.new) }
         ensures ended { self.new.ended ≡ (if is_truncated result then true else self.old.ended) }
     {
@@ -122,7 +123,7 @@ fn extend<S: Source>(bytes: &mut Vec<u8>, source: &mut S, end: usize) -> Result<
     ensures loads { Loads end bytes.old.items bytes.new.items result }
     ensures memory { result ≡ Err HeaderFault.Memory
         → (bytes.new.items ≡ bytes.old.items) × (source.new ≡ source.old) }
-    ensures reads { Reads (is_read result) (is_truncated result)
+    ensures reads { Reads (is_read_fault result) (is_truncated result)
         (S.counts source.old) (S.counts source.new) }
 {
     let held = bytes.len();

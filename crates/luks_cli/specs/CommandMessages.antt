@@ -6,8 +6,6 @@ use Rattle.luks_runs.specs.RunMessages.{CheckMessage, IsLuksMessage, MergeMessag
 use Rattle.luks_runs.specs.RunMessages.{SplitMessage}
 use Rattle.luks_report.specs.declared.message.Message.{Message}
 use Rattle.luks_report.specs.declared.message.Message.TheVariants.{Done, WriteFailed}
-use Rattle.luks_report.specs.Report.{report_of}
-use Rattle.luks_report.specs.declared.report.Report.{Report}
 use Rattle.luks_unlock.specs.OpeningMessages.{OpeningMessage}
 
 -- the messages that a command may end with, whatever its devices do
@@ -20,8 +18,3 @@ MayReport (test_passphrase o) message = OpeningMessage message ⊎ (message ≡ 
 MayReport (luks_cat o) message = OpeningMessage message ⊎ PayloadMessage message
 MayReport (af_split s) message = SplitMessage message
 MayReport (af_merge m) message = MergeMessage message
-
--- the report of a command: one of its messages, with the status of that message
-pub record Reports (request : Request) (report : Report) : Type 0 where
-  pub only : MayReport request report.message
-  pub status : report ≡ report_of report.message

@@ -1,4 +1,4 @@
--- The effects of the parts of the commands on volumes on their devices.
+-- What the commands on volumes consume, and how promptly they are aborted.
 use Rattle.std.specs.Prelude.{◌≡◌, ◌⊎◌, ℕ, ◌+◌, ◌-◌, ◌*◌, ◌/◌, ◌<◌, ◌≤◌, List, length, max}
 use Rattle.luks_header.specs.Header.{header_read_len}
 use Rattle.luks_verdict.specs.declared.segment.Segment.{Segment}

@@ -6,8 +6,7 @@ ghost use Rattle.luks_runs.specs.Run.{result_message};
 ghost use Rattle.luks_cli.specs.CommandRun.{CountsCalls, NeedsNoSecret};
 ghost use Rattle.luks_cli.specs.CommandRun.{ReadsFirst, ReadsImage, RunsAsStated};
 ghost use Rattle.luks_cli.specs.Honest.{WritesPlain};
-ghost use Rattle.luks_cli.specs.CommandMessages.{Reports};
-ghost use Rattle.luks_report.specs.Report.{report_of};
+ghost use Rattle.luks_cli.specs.CommandMessages.{MayReport};
 
 pub use detached::execute_detached;
 use luks_io::sink::Sink;
@@ -29,10 +28,10 @@ mod volumes;
 /// What is written, reported and consumed of both inputs is one function of the command and of the
 /// bytes that the inputs give. If an allocation, a read or a write fails, what was written is a
 /// prefix of that output, and no input was consumed further than specified; a failed read or write
-/// is reported exactly if one failed. If a write failed, not all of the output is written. A
-/// command that has no second input leaves that source as it is. So does a command whose run is
-/// ended by the header, the segment, the order of the key slots or the length of a key, if the
-/// image knows its bytes. Except for `luksCat` and `afSplit`, nothing is written if a read fails.
+/// is reported exactly if one failed. If a write failed, not all of the output is written. The
+/// second input's source is unchanged if the command has no second input, or if the image knows its
+/// bytes and the header, the segment, the order of the key slots or the length of a key ends the
+/// run. Except for `luksCat` and `afSplit`, nothing is written if a read fails.
 ///
 /// No device is called needlessly: no read goes into an empty buffer or follows one that failed or
 /// hit the end, and no write is empty or follows one that failed. The end of each input is hit at
@@ -63,7 +62,7 @@ pub fn execute<I: Source, K: Source, O: Sink>(
     ensures honest { WritesPlain (request_of command.now) result.message
         (I.to_come image.old) (K.to_come secret.old)
         (O.written out.old) (O.written out.new) }
-    ensures report { Reports (request_of command.now) result }
+    ensures only { MayReport (request_of command.now) result.message }
     ensures unneeded { NeedsNoSecret (request_of command.now) (I.to_come image.old)
         → secret.new ≡ secret.old }
     ensures reads_first { ReadsFirst (request_of command.now) → result.message ≡ Message.ReadFailed
@@ -96,7 +95,7 @@ pub fn execute<I: Source, K: Source, O: Sink>(
 
 /// The report of a run that succeeded, or ended with this message.
 fn report(run: Result<(), Message>) -> Report
-    ensures { result ≡ report_of (result_message run) }
+    ensures { result.message ≡ result_message run }
 {
     match run {
         Ok(()) => Report::of(Message::Done),

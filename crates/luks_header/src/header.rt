@@ -4,7 +4,7 @@ ghost use Rattle.std.specs.Prelude.{◌≡◌, ◌++◌, Bool, Some, Ok, Err, If
 ghost use Rattle.std.specs.Prelude.{[], length, take, true, false};
 ghost use Rattle.luks_io.specs.Devices.{ConsumedExactly, IfKnown};
 ghost use Rattle.luks_io.specs.Counts.{Reads};
-ghost use Rattle.luks_area.specs.Area.{is_read};
+ghost use Rattle.luks_area.specs.Area.{is_read_fault};
 ghost use Rattle.luks1_header.specs.Header1.{is_luks1};
 ghost use Rattle.luks2_binary.specs.Reading2.{ConsumedReadLen};
 ghost use Rattle.luks_header.specs.Header.{AbortsReadingBehind, AbortsReading, bounds2_of};
@@ -86,7 +86,7 @@ pub fn read_header<S: Source>(
     ensures held { IfOk result (λ read. header_of read.1.bytes ≡ Ok read.0) }
     ensures only { IfOk result (λ read. length read.1.bytes ≡ header_read_len read.1.bytes) }
     ensures reads { (ended : Bool)
-        × Reads (is_read result) ended (S.counts source.old) (S.counts source.new)
+        × Reads (is_read_fault result) ended (S.counts source.old) (S.counts source.new)
         × IfOk result (λ read. read.1.ended ≡ ended) }
     ensures ended { IfOk result (λ read. (read.1.ended ≡ falls_short read.1.bytes)
         × (read.1.ended ≡ true
@@ -126,7 +126,7 @@ fn read2<S: Source>(
         (S.counts source.old).ends (S.counts source.new).ends fault)) }
     ensures held { IfOk result (λ header. (header_of area.new.bytes ≡ Ok header)
         × (length area.new.bytes ≡ header_read_len area.new.bytes)) }
-    ensures reads { Reads (is_read result) area.new.ended
+    ensures reads { Reads (is_read_fault result) area.new.ended
         (S.counts source.old) (S.counts source.new) }
     ensures ended { IfOk result (λ header. area.new.ended ≡ falls_short area.new.bytes) }
     ensures emptied { area.new.ended ≡ true

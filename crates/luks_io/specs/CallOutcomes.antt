@@ -19,11 +19,11 @@ GivesNext before answer after = (known : List CallOutcome) → before ≡ Some k
 abbrev pub max_retries : ℕ
 max_retries = 100
 
--- the result of a read that moved so many bytes
+-- the result of a read that moved `count` bytes
 abbrev pub read_result : ℕ → Result ℕ DeviceFault
 read_result count = Ok count
 
--- the result of a write that moved so many bytes, of a buffer that is not empty
+-- the result of a write that moved `count` bytes, of a buffer that is not empty
 abbrev pub write_result : ℕ → Result ℕ DeviceFault
 write_result count = if count == 0 then Err record {} else Ok count
 

@@ -40,7 +40,7 @@ pub trait Source {
         ensures ahead { (counts self.new).ahead ≤ max count (counts self.old).ahead }
     {}
 
-    /// Forwards the next `count` bytes, transformed, to the sink, if the source has so many
+    /// Forwards the next `count` bytes, transformed, to the sink, if the source has that many
     /// buffered. They are consumed, whether or not the write fails. `None` means that nothing was
     /// done; the caller then reads the bytes.
     fn forward_buffered<C: Transform, O: Sink>(

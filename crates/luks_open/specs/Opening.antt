@@ -42,7 +42,7 @@ answer_of None skipped = Err (NoKey skipped)
 unfoldable pub opening_of : OrderModel → List ℕ → List ℕ → Result Opened OpenFault
 opening_of order image pass = answer_of (first_opening order.slots image pass) order.skipped
 
--- the number of HMAC evaluations with which PBKDF2 derives so many bytes
+-- the number of HMAC evaluations with which PBKDF2 derives `bytes` bytes
 abbrev pub evaluations : Option Hash → ℕ → ℕ → ℕ
 evaluations (Some hash) iterations bytes = iterations * div_ceil bytes (digest_len hash)
 evaluations None iterations bytes = 0

@@ -91,8 +91,8 @@ fn first_opening(entries: &[Entry], image: &[u8], pass: &[u8], work: &mut Work) 
         → All (λ entry. is_mode_key_length mode entry.slot.parts.key_bytes ≡ true) entries.now
         → IfSome result (λ opened. is_mode_key_length mode (length opened.key) ≡ true) }
 {
-    // The clause of `count` says that the count is within its range. It is thus capped already if
-    // there are no key slots.
+    // The clause of `count` says that the count is within its range, so without key slots it is
+    // already capped.
     let _before = work.count();
     'entries: for entry in entries {
         if let Some(key) = key(entry, image, pass, work) {

@@ -55,14 +55,14 @@ pub record FilledSector (len : ℕ) (prefix known : List ℕ) (left' : Option (L
 -- forwarding a sector of `len` bytes was aborted
 abbrev pub AbortsInSector : Cipher → ℕ → ℕ → List ℕ → List ℕ → Option (List ℕ) → Option (List ℕ) → Option (List ℕ)
     → VolumeFault → Type 0
-AbortsInSector cipher number len prefix known left before after Read = ConsumedFewer known left (len - length prefix)
-AbortsInSector cipher number len prefix known left before after Write =
-    ConsumedExactly known left (len - length prefix)
+AbortsInSector cipher number len prefix known left' before after Read = ConsumedFewer known left' (len - length prefix)
+AbortsInSector cipher number len prefix known left' before after Write =
+    ConsumedExactly known left' (len - length prefix)
     × ((count : ℕ) × (count < len)
     × Appended before after (take count (unit_plain cipher number (take len (prefix ++ known)))))
-AbortsInSector cipher number len prefix known left before after CutBeforePayload = ⊥
-AbortsInSector cipher number len prefix known left before after (Tail _) = ⊥
-AbortsInSector cipher number len prefix known left before after (Short _) = ⊥
+AbortsInSector cipher number len prefix known left' before after CutBeforePayload = ⊥
+AbortsInSector cipher number len prefix known left' before after (Tail _) = ⊥
+AbortsInSector cipher number len prefix known left' before after (Short _) = ⊥
 
 -- the sector with this unit number, which starts with the bytes of `prefix`, was consumed, and was written if it is
 -- whole: it has `got` bytes

@@ -1,5 +1,4 @@
 pub mod CheckOutput
 pub mod Faults
-pub mod Report
 pub mod Texts
 pub use Rattle.luks_dump.specs.Dump

@@ -1,5 +1,8 @@
 //! How a run ended, for the program that ran it.
 
+ghost use Rattle.std.specs.Prelude.{◌≡◌};
+ghost use Rattle.luks_report.specs.Texts.{status_of};
+
 use crate::message::Message;
 use luks_args::planning::PlanFault;
 
@@ -11,16 +14,16 @@ pub struct Report {
     pub status: u8,
     /// What is printed on standard error.
     pub message: Message,
+    /// The status is that of the message.
+    pub ghost of_message: { status ≡ status_of message },
 }
 
 impl Report {
-    ghost use Rattle.std.specs.Prelude.{◌≡◌};
     ghost use Rattle.luks_report.specs.Faults.{message_for_plan};
-    ghost use Rattle.luks_report.specs.Report.{report_of};
 
     /// The report of a run that ended with this message.
     pub fn of(message: Message) -> Report
-        ensures { result ≡ report_of message }
+        ensures { result.message ≡ message }
     {
         let status = message.status();
         Report { status, message }
@@ -28,7 +31,7 @@ impl Report {
 
     /// The report if the arguments gave no command.
     pub fn of_fault(fault: PlanFault) -> Report
-        ensures { result ≡ report_of (message_for_plan fault) }
+        ensures { result.message ≡ message_for_plan fault }
     {
         match fault {
             PlanFault::Usage => Report::of(Message::Usage),

@@ -9,6 +9,7 @@ use Rattle.luks_runs.specs.HeaderReading.{HeaderReader, detached_header_of}
 use Rattle.luks_runs.specs.declared.location.HeaderLocation.{HeaderLocation}
 use Rattle.luks_runs.specs.declared.location.HeaderLocation.TheVariants.{Attached, Detached}
 
+-- how the header at this location is read
 abbrev pub reader_for : HeaderLocation → HeaderReader
 reader_for Attached = header_of
 reader_for Detached = detached_header_of

@@ -13,30 +13,31 @@ use Rattle.luks_report.specs.declared.message.Message.{Message}
 use Rattle.luks_report.specs.declared.message.Message.TheVariants.{Done, ReadFailed, WriteFailed}
 
 -- the most bytes that are requested of any image to forward a payload of this size from this offset on, if its first
--- `loaded` bytes are loaded: those after them, up to the payload's end
+-- `loaded_len` bytes are loaded: those after them, up to the payload's end
 abbrev pub max_needed : Option ℕ → ℕ → ℕ → ℕ
-max_needed size offset loaded = payload_end_in size offset max_count - loaded
+max_needed size offset loaded_len = payload_end_in size offset max_count - loaded_len
 
 -- the counts of the image, for which read-ahead is allowed as far as forwarding its payload needs it, if its first
--- `loaded` bytes are loaded
+-- `loaded_len` bytes are loaded
 abbrev pub with_payload_ahead : Segment → ℕ → ReadCounts → ReadCounts
-with_payload_ahead s loaded counts = with_ahead (max (max_needed s.size s.offset loaded) counts.ahead) counts
+with_payload_ahead s loaded_len counts = with_ahead (max (max_needed s.size s.offset loaded_len) counts.ahead) counts
 
--- forwarding the payload of an image, of which `loaded` bytes were consumed before, ended with this message: the
+-- forwarding the payload of an image, of which `loaded_len` bytes were consumed before, ended with this message: the
 -- plaintext was all written and consumed, or forwarding was aborted within a sector
 abbrev pub ForwardsPayload : Segment → Cipher → List ℕ → ℕ → Option (List ℕ) → Option (List ℕ) → Option (List ℕ)
     → Message → Type 0
-ForwardsPayload s cipher image loaded left before after ReadFailed =
+ForwardsPayload s cipher image loaded_len left before after ReadFailed =
     (place : ℕ) × (count : ℕ) × (count ≡ (place - s.offset) / sector_len s) × (count ≤ sectors_of s image)
     × (place ≤ payload_end_of s image)
     × ConsumedExactly image left place × Appended before after (take (count * sector_len s) (plain_of s cipher image))
-ForwardsPayload s cipher image loaded left before after WriteFailed =
+ForwardsPayload s cipher image loaded_len left before after WriteFailed =
     (count : ℕ) × (written : ℕ) × (count < sectors_of s image) × (written < sector_len s)
     × (sector_start s (count + 1) ≤ payload_end_of s image)
-    × ConsumedExactly image left (max loaded (sector_start s (count + 1)))
+    × ConsumedExactly image left (max loaded_len (sector_start s (count + 1)))
     × Appended before after (take (count * sector_len s + written) (plain_of s cipher image))
-ForwardsPayload s cipher image loaded left before after message =
-    (message ≡ message_at_end (ending_of s image)) × ConsumedExactly image left (max loaded (payload_end_of s image))
+ForwardsPayload s cipher image loaded_len left before after message =
+    (message ≡ message_at_end (ending_of s image)) × ConsumedExactly image left
+    (max loaded_len (payload_end_of s image))
     × Appended before after (plain_of s cipher image)
 
 -- the same for every image shorter than 2^64 bytes that starts with these loaded bytes, if the source has the rest

@@ -33,44 +33,44 @@ IsPrefixLen WriteFailed output stated = output < stated
 IsPrefixLen _ output stated = output ≤ stated
 
 -- an aborted run: its output is a prefix of the specified one, and no input was consumed further than specified
-pub record Aborted (is_prompt' : Promptness) (o : Outcome) (message : Message)
+pub record Aborted (pace : Promptness) (outcome : Outcome) (message : Message)
     (ConsumedImage ConsumedSecret : ℕ → Type 0)
     (Wrote : List ℕ → Type 0) : Type 0 where
   pub image_consumed : ℕ
   pub secret_consumed : ℕ
   pub output_len : ℕ
-  pub image_within : image_consumed ≤ o.image_consumed
-  pub secret_within : secret_consumed ≤ o.secret_consumed
-  pub output_within : IsPrefixLen message output_len (length o.output)
+  pub image_within : image_consumed ≤ outcome.image_consumed
+  pub secret_within : secret_consumed ≤ outcome.secret_consumed
+  pub output_within : IsPrefixLen message output_len (length outcome.output)
   pub is_silent : IsSilent message output_len
-  pub is_prompt : is_prompt' message image_consumed secret_consumed output_len
+  pub is_prompt : pace message image_consumed secret_consumed output_len
   pub image : ConsumedImage image_consumed
   pub secret : ConsumedSecret secret_consumed
-  pub output : Wrote (take output_len o.output)
+  pub output : Wrote (take output_len outcome.output)
 
 -- a run that was not aborted: the specified message, output and bytes consumed
-pub record Completed (o : Outcome) (message : Message) (ConsumedImage ConsumedSecret : ℕ → Type 0)
+pub record Completed (outcome : Outcome) (message : Message) (ConsumedImage ConsumedSecret : ℕ → Type 0)
     (Wrote : List ℕ → Type 0) : Type 0 where
-  pub as_specified : message ≡ o.message
-  pub image : ConsumedImage o.image_consumed
-  pub secret : ConsumedSecret o.secret_consumed
-  pub output : Wrote o.output
+  pub as_specified : message ≡ outcome.message
+  pub image : ConsumedImage outcome.image_consumed
+  pub secret : ConsumedSecret outcome.secret_consumed
+  pub output : Wrote outcome.output
 
 -- the run has this outcome, or was aborted on the way to it
 abbrev pub RunMatches : Promptness → Outcome → Message → (ℕ → Type 0) → (ℕ → Type 0) → (List ℕ → Type 0) → Type 0
-RunMatches is_prompt o message ConsumedImage ConsumedSecret Wrote =
-    MatchBool (aborts message) (Aborted is_prompt o message ConsumedImage ConsumedSecret Wrote)
-    (Completed o message ConsumedImage ConsumedSecret Wrote)
+RunMatches pace outcome message ConsumedImage ConsumedSecret Wrote =
+    MatchBool (aborts message) (Aborted pace outcome message ConsumedImage ConsumedSecret Wrote)
+    (Completed outcome message ConsumedImage ConsumedSecret Wrote)
 
 -- the run has this outcome, with the payload in another image than the header: it consumes as many bytes of the
 -- payload's image as specified, or no more than that if it is aborted
-pub record DetachedRunMatches (is_prompt' : ℕ → Promptness) (o : Outcome) (message : Message)
+pub record DetachedRunMatches (pace : ℕ → Promptness) (outcome : Outcome) (message : Message)
     (ConsumedImage ConsumedPayload ConsumedSecret : ℕ → Type 0) (Wrote : List ℕ → Type 0) : Type 0 where
   pub payload_consumed : ℕ
-  pub payload_within : MatchBool (aborts message) (payload_consumed ≤ o.payload_consumed)
-      (payload_consumed ≡ o.payload_consumed)
+  pub payload_within : MatchBool (aborts message) (payload_consumed ≤ outcome.payload_consumed)
+      (payload_consumed ≡ outcome.payload_consumed)
   pub payload : ConsumedPayload payload_consumed
-  pub run : RunMatches (is_prompt' payload_consumed) o message ConsumedImage ConsumedSecret Wrote
+  pub run : RunMatches (pace payload_consumed) outcome message ConsumedImage ConsumedSecret Wrote
 
 -- nothing is consumed of an input that a command does not have
 abbrev pub ConsumedNothing : ℕ → Type 0

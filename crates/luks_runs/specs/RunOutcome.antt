@@ -2,8 +2,9 @@
 use Rattle.std.specs.Prelude.{ℕ, List, []}
 use Rattle.luks_report.specs.declared.message.Message.{Message}
 
--- the output, the message, and how many bytes are consumed of both inputs: of the image, or of the file with a detached
--- header, and of the second input; and, with a detached header, of the payload's image
+-- the output, the message, and how many bytes are consumed of each input. `image_consumed` counts the input that is
+-- read first: the image, the file with a detached header, the key, or the stripes. `payload_consumed` counts the
+-- payload's image if the header is detached; otherwise it is 0, since the payload is in the image that was counted
 pub record Outcome : Type 0 where
   pub output : List ℕ
   pub message : Message

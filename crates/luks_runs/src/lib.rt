@@ -1,5 +1,5 @@
-//! The parts of runs that need no key: what a run is, the commands on headers and stripes, the key
-//! file, and forwarding the payload.
+//! The parts of runs, except for opening a volume: what a run is, the commands on headers and
+//! stripes, the key file, and forwarding the payload.
 #![tactic(auto)]
 
 pub mod headers;

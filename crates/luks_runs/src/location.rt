@@ -3,7 +3,7 @@
 ghost use Rattle.std.specs.Prelude.{◌≡◌, Bool, Ok, IfOk, IfErr, length, take};
 ghost use Rattle.luks_io.specs.Counts.{Reads};
 ghost use Rattle.luks_io.specs.Devices.{ConsumedExactly, IfKnown};
-ghost use Rattle.luks_area.specs.Area.{is_read};
+ghost use Rattle.luks_area.specs.Area.{is_read_fault};
 ghost use Rattle.luks_header.specs.Header.{AbortsReading, header_read_len};
 ghost use Rattle.luks_runs.specs.Location.{LoadedFrom, reader_for};
 
@@ -38,7 +38,7 @@ pub fn read_header_at<S: Source>(
     ensures of_area { IfOk result (λ read. reader_for location read.1.bytes ≡ Ok read.0) }
     ensures only { IfOk result (λ read. length read.1.bytes ≡ header_read_len read.1.bytes) }
     ensures reads { (ended : Bool)
-        × Reads (is_read result) ended (S.counts source.old) (S.counts source.new) }
+        × Reads (is_read_fault result) ended (S.counts source.old) (S.counts source.new) }
     ensures loaded { IfOk result (λ read. LoadedFrom read.1 (S.to_come source.old)
         (S.to_come source.new) (S.counts source.old) (S.counts source.new)) }
 {

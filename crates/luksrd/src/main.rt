@@ -19,7 +19,7 @@ use std::env;
 use std::io::{BufWriter, ErrorKind, Write};
 use std::process::ExitCode;
 
-/// The capacity in bytes of the buffers for the image and for the output.
+/// The capacity in bytes of the buffers for inputs and for the output.
 const BUFFER: usize = 65536;
 
 fn main(rt: HostRuntime) -> ExitCode {
@@ -41,7 +41,7 @@ fn main(rt: HostRuntime) -> ExitCode {
 }
 
 /// Opens the inputs and runs the command over them: the image is opened first, then a detached
-/// header's file, then the second input. The result is the exit status either way: an error if the
+/// header's file, then the second input. The result is the exit status either way: `Err` if the
 /// command was not started, or if its output was not all written.
 fn run(rt: &HostRuntime, command: &Command<'_>) -> Result<ExitCode, ExitCode> {
     let image = ReadSource::new(open(rt, Some(command.image()))?);
@@ -97,7 +97,7 @@ fn report_fault(rt: &HostRuntime, fault: InputFault, name: &str) -> ExitCode {
     ExitCode::from(NOT_OPENED)
 }
 
-/// Ends a run with this message.
+/// Prints this message and returns its exit status.
 fn end(rt: &HostRuntime, message: Message) -> ExitCode {
     print_report(rt, &Report::of(message))
 }

@@ -5,7 +5,7 @@ ghost use Rattle.luks_request.specs.Request.{has_header_file, request_of};
 ghost use Rattle.luks_cli.specs.Detached.{CountsCallsDetached, NeedsNoPayload};
 ghost use Rattle.luks_cli.specs.Detached.{NeedsNoSecretDetached, ReadsDetachedImage, RunsDetached};
 ghost use Rattle.luks_cli.specs.CommandRun.{ReadsFirst};
-ghost use Rattle.luks_cli.specs.CommandMessages.{Reports};
+ghost use Rattle.luks_cli.specs.CommandMessages.{MayReport};
 
 use super::{report, volumes};
 use luks_io::sink::Sink;
@@ -37,7 +37,7 @@ pub fn execute_detached<H: Source, I: Source, K: Source, O: Sink>(
     ensures run { RunsDetached (request_of command.now) result.message
         (H.to_come header.old) (H.to_come header.new) (I.to_come image.old) (I.to_come image.new)
         (K.to_come secret.old) (K.to_come secret.new) (O.written out.old) (O.written out.new) }
-    ensures report { Reports (request_of command.now) result }
+    ensures only { MayReport (request_of command.now) result.message }
     ensures unneeded { NeedsNoSecretDetached (request_of command.now) (H.to_come header.old)
         → secret.new ≡ secret.old }
     ensures untouched { NeedsNoPayload (request_of command.now) result.message

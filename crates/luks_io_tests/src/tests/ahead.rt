@@ -161,7 +161,7 @@ fn check_bytes(
     let all = count == 10 && buf == *b"abcdefghij--" && source.get_ref().counts.ends == ends;
     assert!(rt;
         all,
-        "{announced} announced, room for {room}, in pieces of {piece}"
+        "{allowed} allowed ahead, capacity {capacity}, pieces of {piece}"
     );
 }
 

@@ -9,7 +9,7 @@ pub returns-in-IsLuks : goal.returns-in-IsLuks
 returns-in-IsLuks g c = rw (c.report.ensures, c.in-IsLuks.is) (record {
   run = search rules;
   honest = search rules;
-  report = record { only = c.is_luks.ensures.only; status = refl };
+  only = c.is_luks.ensures.only;
   unneeded = λ _. refl;
   reads_first = λ _ _. refl;
   calls = calls_of_is_luks (result_message c.is_luks.result) _ _ _ _ _ c.is_luks.ensures.only c.is_luks.ensures.reads.1;
@@ -19,7 +19,7 @@ pub returns-in-LuksUuid : goal.returns-in-LuksUuid
 returns-in-LuksUuid g c = rw (c.report-in-LuksUuid.ensures, c.in-LuksUuid.is) (record {
   run = search rules;
   honest = search rules;
-  report = record { only = c.print.ensures.only; status = refl };
+  only = c.print.ensures.only;
   unneeded = λ _. refl;
   reads_first = λ _. c.print.ensures.reads_first;
   calls = calls_of_image (result_message c.print.result) _ _ _ _ _ _ c.print.ensures.reads.1 c.print.ensures.writes;
@@ -29,7 +29,7 @@ pub returns-in-LuksDump : goal.returns-in-LuksDump
 returns-in-LuksDump g c = rw (c.report-in-LuksDump.ensures, c.in-LuksDump.is) (record {
   run = search rules;
   honest = search rules;
-  report = record { only = c.print-in-LuksDump.ensures.only; status = refl };
+  only = c.print-in-LuksDump.ensures.only;
   unneeded = λ _. refl;
   reads_first = λ _. c.print-in-LuksDump.ensures.reads_first;
   calls = calls_of_image (result_message c.print-in-LuksDump.result) _ _ _ _ _ _
@@ -40,7 +40,7 @@ pub returns-in-LuksCheck : goal.returns-in-LuksCheck
 returns-in-LuksCheck g c = rw (c.report-in-LuksCheck.ensures, c.in-LuksCheck.is) (record {
   run = search rules;
   honest = search rules;
-  report = record { only = c.print-in-LuksCheck.ensures.only; status = refl };
+  only = c.print-in-LuksCheck.ensures.only;
   unneeded = λ _. refl;
   reads_first = λ _. c.print-in-LuksCheck.ensures.reads_first;
   calls = calls_of_image (result_message c.print-in-LuksCheck.result) _ _ _ _ _ _
@@ -51,7 +51,7 @@ pub returns-in-TestPassphrase : goal.returns-in-TestPassphrase
 returns-in-TestPassphrase g c = rw (c.report-in-TestPassphrase.ensures, c.in-TestPassphrase.is) (record {
   run = search rules;
   honest = search rules;
-  report = record { only = c.test_passphrase.ensures.only; status = refl };
+  only = c.test_passphrase.ensures.only;
   unneeded = λ needs. c.test_passphrase.ensures.unneeded needs.0 needs.1 needs.2;
   reads_first = λ _. c.test_passphrase.ensures.reads_first;
   calls = c.test_passphrase.ensures.calls;
@@ -62,7 +62,7 @@ returns-in-LuksCat g c = rw (c.report-in-LuksCat.ensures, c.in-LuksCat.is) (reco
   run = search rules;
   honest = writes_plain (luks_cat (volume_request c.in-LuksCat.opening)) (result_message c.cat.result) _ _ _ _ _ _
       c.cat.ensures.run;
-  report = record { only = c.cat.ensures.only; status = refl };
+  only = c.cat.ensures.only;
   unneeded = λ needs. c.cat.ensures.unneeded needs.0 needs.1 needs.2;
   reads_first = λ wrong. absurd wrong;
   calls = c.cat.ensures.calls;
@@ -72,7 +72,7 @@ pub returns-in-AfSplit : goal.returns-in-AfSplit
 returns-in-AfSplit g c = rw (c.report-in-AfSplit.ensures, c.in-AfSplit.is) (record {
   run = search rules;
   honest = search rules;
-  report = record { only = c.split.ensures.only; status = refl };
+  only = c.split.ensures.only;
   unneeded = λ needs. c.split.ensures.unneeded needs.0 needs.1 needs.2;
   reads_first = λ wrong. absurd wrong;
   calls = calls_of_split (result_message c.split.result) _ _ _ _ _ _ c.split.ensures.reads c.split.ensures.writes;
@@ -82,7 +82,7 @@ pub returns-in-AfMerge : goal.returns-in-AfMerge
 returns-in-AfMerge g c = rw (c.report-in-AfMerge.ensures, c.in-AfMerge.is) (record {
   run = search rules;
   honest = search rules;
-  report = record { only = c.merge.ensures.only; status = refl };
+  only = c.merge.ensures.only;
   unneeded = λ _. refl;
   reads_first = λ _. c.merge.ensures.reads_first;
   calls = calls_of_image (result_message c.merge.result) _ _ _ _ _ _ c.merge.ensures.reads c.merge.ensures.writes;

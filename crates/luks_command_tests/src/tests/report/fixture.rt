@@ -16,7 +16,7 @@ pub fn read(rt: &(impl Abort + AllocGlobal), image: &[u8]) -> Header {
 
 /// Asserts that a text is the expected one.
 pub fn assert_text(rt: &impl Abort, shown: &str, wanted: &str) {
-    assert!(rt; shown == wanted, "{page}, and not {wanted}");
+    assert!(rt; shown == wanted, "{shown}, and not {wanted}");
 }
 
 /// The header of an image has these findings, and a check prints them and ends with the message for
@@ -32,5 +32,5 @@ pub fn check_findings(rt: &(impl Abort + AllocGlobal), image: &[u8], wanted: &st
     };
     let checked = check_text(rt.alloc(), &header).expect(rt, "memory");
     assert_text(rt, checked.0.as_str(), shown);
-    assert!(rt; checked.1 == message, "{page}");
+    assert!(rt; checked.1 == message, "{shown}");
 }

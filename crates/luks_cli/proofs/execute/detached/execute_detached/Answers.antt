@@ -14,7 +14,7 @@ returns-in-IsLuks g c = rw (c.report.ensures, c.in-IsLuks.is) (record {
   run = λ file there known payload pass secret counted.
       detached_runs_without_payload AnyPace _ _ _ _ _ (no_payload_for_is_luks file) (c.is_luks.ensures.run _ file
       there);
-  report = record { only = c.is_luks.ensures.only; status = refl };
+  only = c.is_luks.ensures.only;
   unneeded = λ _. refl;
   untouched = λ _. refl;
   reads_first = λ _ _. refl;
@@ -27,7 +27,7 @@ returns-in-LuksUuid g c = rw (c.report-in-LuksUuid.ensures, c.in-LuksUuid.is) (r
   run = λ file there known payload pass secret counted.
       detached_runs_without_payload AnyPace _ _ _ _ _ (no_payload_for_text detached_header_of (printout_text Uuid)
       (printout_message Uuid) file) (c.print.ensures.run file there);
-  report = record { only = c.print.ensures.only; status = refl };
+  only = c.print.ensures.only;
   unneeded = λ _. refl;
   untouched = λ _. refl;
   reads_first = λ _. c.print.ensures.reads_first;
@@ -40,7 +40,7 @@ returns-in-LuksDump g c = rw (c.report-in-LuksDump.ensures, c.in-LuksDump.is) (r
   run = λ file there known payload pass secret counted.
       detached_runs_without_payload AnyPace _ _ _ _ _ (no_payload_for_text detached_header_of (printout_text Dump)
       (printout_message Dump) file) (c.print-in-LuksDump.ensures.run file there);
-  report = record { only = c.print-in-LuksDump.ensures.only; status = refl };
+  only = c.print-in-LuksDump.ensures.only;
   unneeded = λ _. refl;
   untouched = λ _. refl;
   reads_first = λ _. c.print-in-LuksDump.ensures.reads_first;
@@ -54,7 +54,7 @@ returns-in-LuksCheck g c = rw (c.report-in-LuksCheck.ensures, c.in-LuksCheck.is)
   run = λ file there known payload pass secret counted.
       detached_runs_without_payload AnyPace _ _ _ _ _ (no_payload_for_text detached_header_of (printout_text Check)
       (printout_message Check) file) (c.print-in-LuksCheck.ensures.run file there);
-  report = record { only = c.print-in-LuksCheck.ensures.only; status = refl };
+  only = c.print-in-LuksCheck.ensures.only;
   unneeded = λ _. refl;
   untouched = λ _. refl;
   reads_first = λ _. c.print-in-LuksCheck.ensures.reads_first;
@@ -68,7 +68,7 @@ returns-in-TestPassphrase g c = rw (c.report-in-TestPassphrase.ensures, c.in-Tes
   run = λ file there known payload pass secret counted.
       detached_runs_without_payload AnyPace _ _ _ _ _ (no_payload_for_slot detached_header_of _ file pass)
       (c.test_passphrase.ensures.run file there pass secret);
-  report = record { only = c.test_passphrase.ensures.only; status = refl };
+  only = c.test_passphrase.ensures.only;
   unneeded = λ needs. c.test_passphrase.ensures.unneeded needs.0 needs.1 needs.2;
   untouched = λ _. refl;
   reads_first = λ _. c.test_passphrase.ensures.reads_first;
@@ -79,7 +79,7 @@ pub returns-in-LuksCat : goal.returns-in-LuksCat
 returns-in-LuksCat g c = rw (c.report-in-LuksCat.ensures, c.in-LuksCat.is) (record {
   run = λ file there known payload pass secret counted.
       c.cat_detached.ensures.run file there known payload pass secret counted;
-  report = record { only = c.cat_detached.ensures.only; status = refl };
+  only = c.cat_detached.ensures.only;
   unneeded = λ needs. c.cat_detached.ensures.unneeded needs.0 needs.1 needs.2;
   untouched = c.cat_detached.ensures.before_key;
   reads_first = λ wrong. absurd wrong;
