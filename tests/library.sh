@@ -73,7 +73,7 @@ block() {
     sed -n "/^\`\`\`$1\$/,/^\`\`\`\$/p" "$sources/docs/LIBRARY.md" | sed '1d;$d'
 }
 example=$sources/crates/example_read
-same 'the example in Rattle' "$(sed -n '/^\/\/\/ The bytes of a sector/,/^}/p' "$example/src/main.rt")" "$(block rust)"
+same 'the example in Rattle' "$(sed -n '/^\/\/\/ The 512 bytes of the first sector/,/^}/p' "$example/src/main.rt")" "$(block rust)"
 block c >first.c
 gcc -std=c11 -D_GNU_SOURCE -Wall -Wextra -Werror -o first first.c "${words[@]}" || exit 1
 cp "$example/data/disk.img" .

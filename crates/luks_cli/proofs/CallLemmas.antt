@@ -30,8 +30,8 @@ pub calls_of_image : (message : Message) (ended : Bool) (image image' secret : R
     → CountsCalls ReadsOnce message image image' secret secret out out'
 calls_of_image message ended image image' secret out out' reads writes =
     record {
-      in_image = true;
-      image_reads = (ended, reads);
+      in_input = true;
+      input_reads = (ended, reads);
       secret_reads = (false, no_reads secret);
       out_writes = writes;
     }
@@ -48,8 +48,8 @@ pub calls_of_split : (message : Message) (key key' random random' : ReadCounts) 
     → ReadsForSplit message key key' random random' → Writes (is_run_write_failure message) out out'
     → CountsCalls ReadsOnce message key key' random random' out out'
 calls_of_split message key key' random random' out out' reads writes = record {
-  in_image = reads.in_key;
-  image_reads = (_, reads.key);
+  in_input = reads.in_key;
+  input_reads = (_, reads.key);
   secret_reads = (_, reads.random);
   out_writes = writes;
 }
@@ -65,21 +65,21 @@ unwritten _ only = refl
 pub reads_of_image : (message : Message) (ended : Bool) (image image' secret : ReadCounts)
     → Reads (is_run_read_failure message) ended image image' → CountsReads message image image' secret secret
 reads_of_image message ended image image' secret reads =
-    record { in_image = true; image_reads = (ended, reads); secret_reads = (false, no_reads secret) }
+    record { in_input = true; input_reads = (ended, reads); secret_reads = (false, no_reads secret) }
 
 -- the second input alone was read
 pub reads_of_secret : (message : Message) (ended : Bool) (image secret secret' : ReadCounts)
     → Reads (is_run_read_failure message) ended secret secret' → CountsReads message image image secret secret'
 reads_of_secret message ended image secret secret' reads =
-    record { in_image = false; image_reads = (false, no_reads image); secret_reads = (ended, reads) }
+    record { in_input = false; input_reads = (false, no_reads image); secret_reads = (ended, reads) }
 
 -- the start of the image was read before; if that hit the image's end, the image was not read again
 pub reads_before : (message : Message) (ended : Bool) (image image' image'' secret secret' : ReadCounts)
     → Reads false ended image image' → (ended ≡ true → image'' ≡ image')
     → CountsReads message image' image'' secret secret' → CountsReads message image image'' secret secret'
 reads_before message ended image image' image'' secret secret' first kept then = record {
-  in_image = then.in_image;
-  image_reads = reads_on _ ended then.image_reads.0 image image' image'' first kept then.image_reads.1;
+  in_input = then.in_input;
+  input_reads = reads_on _ ended then.input_reads.0 image image' image'' first kept then.input_reads.1;
   secret_reads = then.secret_reads;
 }
 
@@ -95,8 +95,8 @@ pub calls_unopened : (message : Message) (image image' secret secret' : ReadCoun
     → OpeningMessage message → CountsReads message image image' secret secret'
     → CountsCalls ReadsOnce message image image' secret secret' out out
 calls_unopened message image image' secret secret' out only counts = record {
-  in_image = counts.in_image;
-  image_reads = counts.image_reads;
+  in_input = counts.in_input;
+  input_reads = counts.input_reads;
   secret_reads = counts.secret_reads;
   out_writes = rw (unwritten message only) (no_writes out);
 }
@@ -138,8 +138,8 @@ pub calls_without_payload : (o : VolumeRequest) (known known_secret : Option (Li
     → CountsCalls ReadsOnce message image image' secret secret' out out'
     → CountsCalls (ReadsPayload (CatAllows o known known_secret)) message image image' secret secret' out out'
 calls_without_payload o known known_secret message image image' secret secret' out out' calls = record {
-  in_image = calls.in_image;
-  image_reads = no_more_ahead o known known_secret _ image image' calls.image_reads;
+  in_input = calls.in_input;
+  input_reads = no_more_ahead o known known_secret _ image image' calls.input_reads;
   secret_reads = calls.secret_reads;
   out_writes = calls.out_writes;
 }
@@ -152,10 +152,10 @@ pub detached_calls_without_payload : (ReadsIt : Bool → ReadCounts → ReadCoun
     → CountsCalls ReadsOnce message header header' secret secret' out out'
     → CountsCallsDetached ReadsIt message header header' image image secret secret' out out'
 detached_calls_without_payload ReadsIt message header header' image secret secret' out out' none calls = record {
-  in_image = false;
-  in_header = calls.in_image;
-  header_reads = calls.image_reads;
-  image_reads = none;
+  in_payload = false;
+  in_header = calls.in_input;
+  header_reads = calls.input_reads;
+  payload_reads = none;
   secret_reads = calls.secret_reads;
   out_writes = calls.out_writes;
 }

@@ -196,17 +196,17 @@ module _ (o : VolumeRequest) (file image pass : List ℕ) (segment : Segment) (o
         payload_within = omega (arith, forwarded.4);
         payload = forwarded.5;
         run = record {
-          image_consumed = length loaded;
+          input_consumed = length loaded;
           secret_consumed = length pass;
           output_len = count * sector_len segment;
-          image_within = omega arith;
+          input_within = omega arith;
           secret_within = omega arith;
           output_within = omega (arith, plain_len segment image (segment.mode, opened.key));
           is_silent = tt;
           is_prompt = λ other is passes.
               rw (same_segment_by detached_header_of file segment other u.has is)
               (ap (λ n. n * sector_len segment) forwarded.2);
-          image = u.image_consumed;
+          input = u.input_consumed;
           secret = u.secret_consumed;
           output = forwarded.6;
         };
@@ -220,16 +220,16 @@ module _ (o : VolumeRequest) (file image pass : List ℕ) (segment : Segment) (o
         payload_within = omega (arith, forwarded.4);
         payload = forwarded.5;
         run = record {
-          image_consumed = length loaded;
+          input_consumed = length loaded;
           secret_consumed = length pass;
           output_len = count * sector_len segment + written;
-          image_within = omega arith;
+          input_within = omega arith;
           secret_within = omega arith;
           output_within = omega (arith, plain_len segment image (segment.mode, opened.key), within.span);
           is_silent = tt;
           is_prompt = λ other is. rw (same_segment_by detached_header_of file segment other u.has is, within.row)
               (omega arith);
-          image = u.image_consumed;
+          input = u.input_consumed;
           secret = u.secret_consumed;
           output = forwarded.6;
         };
@@ -242,7 +242,7 @@ module _ (o : VolumeRequest) (file image pass : List ℕ) (segment : Segment) (o
         payload = subst (ConsumedExactly image i') all forwarded.1;
         run = record {
           as_specified = forwarded.0;
-          image = u.image_consumed;
+          input = u.input_consumed;
           secret = u.secret_consumed;
           output = forwarded.2;
         };

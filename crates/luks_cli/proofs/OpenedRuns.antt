@@ -37,27 +37,27 @@ slot_consumes_loaded secret = record {
 
 -- a run that is prompt in one sense is also prompt in every sense that follows from it
 pub runs_at : (is_prompt is_prompt' : Promptness) (out : Outcome) (message : Message)
-    (ConsumedImage ConsumedSecret : ℕ → Type 0) (Wrote : List ℕ → Type 0)
+    (ConsumedInput ConsumedSecret : ℕ → Type 0) (Wrote : List ℕ → Type 0)
     → ((image secret output : ℕ) → is_prompt message image secret output → is_prompt' message image secret output)
-    → RunMatches is_prompt out message ConsumedImage ConsumedSecret Wrote
-    → RunMatches is_prompt' out message ConsumedImage ConsumedSecret Wrote
-runs_at is_prompt is_prompt' out message ConsumedImage ConsumedSecret Wrote follows = either (aborts message)
+    → RunMatches is_prompt out message ConsumedInput ConsumedSecret Wrote
+    → RunMatches is_prompt' out message ConsumedInput ConsumedSecret Wrote
+runs_at is_prompt is_prompt' out message ConsumedInput ConsumedSecret Wrote follows = either (aborts message)
   where
     either : (b : Bool)
-        → MatchBool b (Aborted is_prompt out message ConsumedImage ConsumedSecret Wrote)
-        (Completed out message ConsumedImage ConsumedSecret Wrote)
-        → MatchBool b (Aborted is_prompt' out message ConsumedImage ConsumedSecret Wrote)
-        (Completed out message ConsumedImage ConsumedSecret Wrote)
+        → MatchBool b (Aborted is_prompt out message ConsumedInput ConsumedSecret Wrote)
+        (Completed out message ConsumedInput ConsumedSecret Wrote)
+        → MatchBool b (Aborted is_prompt' out message ConsumedInput ConsumedSecret Wrote)
+        (Completed out message ConsumedInput ConsumedSecret Wrote)
     either true run = record {
-      image_consumed = run.image_consumed;
+      input_consumed = run.input_consumed;
       secret_consumed = run.secret_consumed;
       output_len = run.output_len;
-      image_within = run.image_within;
+      input_within = run.input_within;
       secret_within = run.secret_within;
       output_within = run.output_within;
       is_silent = run.is_silent;
-      is_prompt = follows run.image_consumed run.secret_consumed run.output_len run.is_prompt;
-      image = run.image;
+      is_prompt = follows run.input_consumed run.secret_consumed run.output_len run.is_prompt;
+      input = run.input;
       secret = run.secret;
       output = run.output;
     }
@@ -73,23 +73,23 @@ module _ (location : HeaderLocation) (o : VolumeRequest) (image pass : List ℕ)
       (ConsumedExactly image i) (ConsumedExactly pass s)
       (Appended w w')
   runs_slot w w' Done reported = rw (u.outcome (slot_outcome pass))
-      (record { as_specified = refl; image = u.image_consumed; secret = u.secret_consumed; output = reported })
+      (record { as_specified = refl; input = u.input_consumed; secret = u.secret_consumed; output = reported })
   runs_slot w w' WriteFailed reported = rw (u.outcome (slot_outcome pass)) (record {
-    image_consumed = length loaded;
+    input_consumed = length loaded;
     secret_consumed = length pass;
     output_len = reported.0;
-    image_within = omega arith;
+    input_within = omega arith;
     secret_within = omega arith;
     output_within = reported.1;
     is_silent = tt;
     is_prompt = tt;
-    image = u.image_consumed;
+    input = u.input_consumed;
     secret = u.secret_consumed;
     output = reported.2;
   })
   runs_slot w w' OutOfMemory reported = rw (reported, u.outcome (slot_outcome pass))
       (aborted_unwritten (length loaded) (length pass) refl (omega arith) tt (omega arith) (omega arith)
-      u.image_consumed u.secret_consumed)
+      u.input_consumed u.secret_consumed)
   runs_slot w w' _ reported = absurd reported
 
 -- a write failed within the line
@@ -171,17 +171,17 @@ module _ (o : VolumeRequest) (image pass : List ℕ) (segment : Segment) (opened
         let span : count * sector_len segment
         ≤ sectors_of segment image * sector_len segment = mul-le-mul_right (sector_len segment) whole in
         rw (u.outcome (payload_outcome image pass)) (record {
-          image_consumed = place;
+          input_consumed = place;
           secret_consumed = length pass;
           output_len = count * sector_len segment;
-          image_within = omega (arith, forwarded.4);
+          input_within = omega (arith, forwarded.4);
           secret_within = omega arith;
           output_within = omega (arith, plain_len segment image (segment.mode, opened.key));
           is_silent = tt;
           is_prompt = λ other is passes.
               rw (same_segment_by header_of image segment other u.has is) (ap (λ n. n * sector_len segment)
               forwarded.2);
-          image = forwarded.5;
+          input = forwarded.5;
           secret = u.secret_consumed;
           output = forwarded.6;
         })
@@ -190,22 +190,22 @@ module _ (o : VolumeRequest) (image pass : List ℕ) (segment : Segment) (opened
         let written = forwarded.1 in
         let within = positioned_within segment image count written forwarded.2 forwarded.3 in
         rw (u.outcome (payload_outcome image pass)) (record {
-          image_consumed = max (length loaded) (sector_start segment (count + 1));
+          input_consumed = max (length loaded) (sector_start segment (count + 1));
           secret_consumed = length pass;
           output_len = count * sector_len segment + written;
-          image_within = omega (arith, forwarded.4);
+          input_within = omega (arith, forwarded.4);
           secret_within = omega arith;
           output_within = omega (arith, plain_len segment image (segment.mode, opened.key), within.span);
           is_silent = tt;
           is_prompt = λ other is. rw (same_segment_by header_of image segment other u.has is, within.row)
               (omega (arith, u.no_further refl));
-          image = forwarded.5;
+          input = forwarded.5;
           secret = u.secret_consumed;
           output = forwarded.6;
         })
     runs_forwarded message never forwarded =
         rw (u.outcome (payload_outcome image pass)) (record
-        { as_specified = forwarded.0; image = forwarded.1; secret = u.secret_consumed; output = forwarded.2 })
+        { as_specified = forwarded.0; input = forwarded.1; secret = u.secret_consumed; output = forwarded.2 })
 
   -- all of the image is loaded, and its payload was forwarded from there
   pub runs_loaded : (left w w' : Option (List ℕ)) (message : Message) → i ≡ Some [] → message ≢ OutOfMemory
@@ -217,7 +217,7 @@ module _ (o : VolumeRequest) (image pass : List ℕ) (segment : Segment) (opened
       (ConsumedExactly pass s) (Appended w w')
   runs_loaded left w w' message none never unread forwards =
       let consumed = subst (λ (rest : Option (List ℕ)). ConsumedExactly image rest (length loaded)) none
-      u.image_consumed in
+      u.input_consumed in
       let rest : Some [] ≡ Some (drop (length loaded) image) = consumed.left in
       let same : [] ≡ drop (length loaded) image = cc in
       let all : length image ≤ length loaded = omega (arith, ap length same, length-drop (length loaded) image) in

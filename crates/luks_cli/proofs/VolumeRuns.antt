@@ -60,7 +60,7 @@ ends_unwritten location image pass ReadFailed i s w a b other prompt ti ts =
     aborted_unwritten a b tt (omega arith) prompt (omega arith) (omega arith) ti ts
 ends_unwritten location image pass WriteFailed i s w a b other prompt ti ts = absurd (other refl)
 ends_unwritten location image pass _ i s w a b other prompt ti ts =
-    record { as_specified = refl; image = ti; secret = ts; output = adds-none w }
+    record { as_specified = refl; input = ti; secret = ts; output = adds-none w }
 
 -- no fault of opening has the message of a failed write
 fault_not_write_failed : (named : Option ℕ) (fault : OpenFault) → message_for_opening named fault ≢ WriteFailed
@@ -80,7 +80,7 @@ never_written message only same = absurd (rw same at only)
 module _ (on_opened : OnOpened) (named : Option ℕ) (v : Volume) (image secret : List ℕ)
     (takes : ConsumesLoaded secret on_opened) where
   opened_within : (r : Result Opened OpenFault)
-      → (loaded_for image v ≤ (opened_outcome on_opened named v image secret r).image_consumed)
+      → (loaded_for image v ≤ (opened_outcome on_opened named v image secret r).input_consumed)
       × (length secret ≤ (opened_outcome on_opened named v image secret r).secret_consumed)
   opened_within (Ok opened) = (
     takes.loaded v.segment opened (loaded_for image v),
@@ -90,7 +90,7 @@ module _ (on_opened : OnOpened) (named : Option ℕ) (v : Volume) (image secret 
 
   -- a key file that is not too long is consumed whole, and of the image at least the bytes that were loaded
   area_within : length secret ≤ max_key_file_len
-      → (min (length image) (loaded_for image v) ≤ (found_outcome on_opened named v image secret).image_consumed)
+      → (min (length image) (loaded_for image v) ≤ (found_outcome on_opened named v image secret).input_consumed)
       × (length secret ≤ (found_outcome on_opened named v image secret).secret_consumed)
   area_within short = elim (cases_lt (length image) (key_areas_end v.order.slots)) [
     | inl few ↦ rw (found_cut on_opened named v image secret short few) (omega arith, omega arith)
@@ -100,7 +100,7 @@ module _ (on_opened : OnOpened) (named : Option ℕ) (v : Volume) (image secret 
   ]
 
   -- at least the header is consumed, and at least as much of the key file as is ever read of it
-  found_within : (header_read_len image ≤ (found_outcome on_opened named v image secret).image_consumed)
+  found_within : (header_read_len image ≤ (found_outcome on_opened named v image secret).input_consumed)
       × (min (length secret) (max_key_file_len + 1) ≤ (found_outcome on_opened named v image secret).secret_consumed)
   found_within = elim (cases_lt max_key_file_len (length secret)) [
     | inl long ↦ rw (found_long on_opened named v image secret long) (omega arith, omega arith)
@@ -120,12 +120,12 @@ module _ (location : HeaderLocation) (o : VolumeRequest) (image pass : List ℕ)
 
   module _ (on_opened : OnOpened) (takes : ConsumesLoaded pass on_opened) where
     header_read_len_consumed : header_read_len image
-        ≤ (volume_outcome_by (reader_for location) on_opened o image pass).image_consumed
+        ≤ (volume_outcome_by (reader_for location) on_opened o image pass).input_consumed
     unfolding volume_outcome_by
     header_read_len_consumed = after (volume_by (reader_for location) o image)
       where
         after : (r : Result Volume Message)
-            → header_read_len image ≤ (outcome_after on_opened o.key_slot image pass r).image_consumed
+            → header_read_len image ≤ (outcome_after on_opened o.key_slot image pass r).input_consumed
         after (Ok v) = (found_within on_opened o.key_slot v image pass takes).0
         after (Err message) = omega arith
 
@@ -279,7 +279,7 @@ module _ (location : HeaderLocation) (o : VolumeRequest) (image pass : List ℕ)
             has_header = omega (arith, loaded.1);
             no_further = λ attached. omega (arith, loaded.1, loaded_before_payload attached);
             prefix = rw (← loaded.1) at loaded.2;
-            image_consumed = rw (← loaded.1) at loaded.3;
+            input_consumed = rw (← loaded.1) at loaded.3;
             secret_consumed = key_file_consumed;
           }
 

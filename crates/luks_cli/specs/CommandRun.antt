@@ -91,7 +91,7 @@ abbrev pub CatAllows : VolumeRequest → Option (List ℕ) → Option (List ℕ)
 CatAllows o image secret ahead most =
     IfKnown image
     (λ known. IfKnown secret (λ passphrase.
-    AllowsPayload (HasSegment known) (volume_outcome (slot_outcome passphrase) o known passphrase).image_consumed
+    AllowsPayload (HasSegment known) (volume_outcome (slot_outcome passphrase) o known passphrase).input_consumed
     ahead most))
 
 -- what a command adds to the counts of its image: only `luksCat` reads a payload
@@ -99,12 +99,12 @@ abbrev pub ReadsImage : Request → Option (List ℕ) → Option (List ℕ) → 
 ReadsImage (luks_cat o) image secret = ReadsPayload (CatAllows o image secret)
 ReadsImage _ image secret = ReadsOnce
 
--- what a run that reads the image in this way adds to the counts of its devices: a failure of the image or of the
+-- what a run that reads its first input in this way adds to the counts of its devices: a failure of that or of the
 -- second input if a read failed, one of the output if a write failed, at most one end of each input, and no needless
 -- call
 pub record CountsCalls (ReadsIt : Bool → ReadCounts → ReadCounts → Type 0) (message : Message)
-    (image image' secret secret' : ReadCounts) (out out' : WriteCounts) : Type 0 where
-  pub in_image : Bool
-  pub image_reads : ReadsIt (in_image && is_run_read_failure message) image image'
-  pub secret_reads : ReadsOnce (not in_image && is_run_read_failure message) secret secret'
+    (input input' secret secret' : ReadCounts) (out out' : WriteCounts) : Type 0 where
+  pub in_input : Bool
+  pub input_reads : ReadsIt (in_input && is_run_read_failure message) input input'
+  pub secret_reads : ReadsOnce (not in_input && is_run_read_failure message) secret secret'
   pub out_writes : Writes (is_run_write_failure message) out out'

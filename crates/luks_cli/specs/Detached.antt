@@ -97,9 +97,9 @@ ReadsDetachedImage request header secret = ReadsOnce
 -- read failed, one of the output if a write failed, at most one end of each input, and no needless call
 pub record CountsCallsDetached (ReadsIt : Bool → ReadCounts → ReadCounts → Type 0) (message : Message)
     (header header' image image' secret secret' : ReadCounts) (out out' : WriteCounts) : Type 0 where
-  pub in_image : Bool
+  pub in_payload : Bool
   pub in_header : Bool
-  pub header_reads : ReadsOnce (not in_image && (in_header && is_run_read_failure message)) header header'
-  pub image_reads : ReadsIt (in_image && is_run_read_failure message) image image'
-  pub secret_reads : ReadsOnce (not in_image && (not in_header && is_run_read_failure message)) secret secret'
+  pub header_reads : ReadsOnce (not in_payload && (in_header && is_run_read_failure message)) header header'
+  pub payload_reads : ReadsIt (in_payload && is_run_read_failure message) image image'
+  pub secret_reads : ReadsOnce (not in_payload && (not in_header && is_run_read_failure message)) secret secret'
   pub out_writes : Writes (is_run_write_failure message) out out'

@@ -25,9 +25,9 @@ use Rattle.luks_runs.specs.declared.location.HeaderLocation.TheVariants.{Attache
 
 -- opening was aborted: with an attached header it was as prompt as `luksCat`, and with a detached one it wrote nothing
 abbrev pub PromptOpening : HeaderLocation → List ℕ → Message → ℕ → ℕ → ℕ → Type 0
-PromptOpening Attached image message image_consumed secret_consumed output =
-    PromptCat image message image_consumed secret_consumed output
-PromptOpening Detached image message image_consumed secret_consumed output = output ≡ 0
+PromptOpening Attached image message input_consumed secret_consumed output =
+    PromptCat image message input_consumed secret_consumed output
+PromptOpening Detached image message input_consumed secret_consumed output = output ≡ 0
 
 -- the volume was not opened, for this reason: nothing was written, and the run matches the outcome of whatever is done
 -- with an opened volume
@@ -48,7 +48,7 @@ pub record Unlocks (location : HeaderLocation) (o : VolumeRequest) (image secret
   pub has_header : header_read_len image ≤ length loaded
   pub no_further : location ≡ Attached → length loaded ≤ max (header_read_len image) segment.offset
   pub prefix : loaded ≡ take (length loaded) image
-  pub image_consumed : ConsumedExactly image image' (length loaded)
+  pub input_consumed : ConsumedExactly image image' (length loaded)
   pub secret_consumed : ConsumedExactly secret secret' (length secret)
 
 -- whether a volume that was found was opened by the passphrase in the key file. The key file is read whole before the
@@ -63,10 +63,10 @@ OpensVolume named segment order pass area area' rest left secret' result =
 
 -- what opening a volume, or a part of that, adds to the counts of both inputs: a failure of one of them if a read
 -- failed, at most one end of each, and no needless read
-pub record CountsReads (message : Message) (image image' secret secret' : ReadCounts) : Type 0 where
-  pub in_image : Bool
-  pub image_reads : ReadsOnce (in_image && is_run_read_failure message) image image'
-  pub secret_reads : ReadsOnce (not in_image && is_run_read_failure message) secret secret'
+pub record CountsReads (message : Message) (input input' secret secret' : ReadCounts) : Type 0 where
+  pub in_input : Bool
+  pub input_reads : ReadsOnce (in_input && is_run_read_failure message) input input'
+  pub secret_reads : ReadsOnce (not in_input && is_run_read_failure message) secret secret'
 
 -- the key slot that opened was reported: its line was written, or a write failed within it, or memory for it ran out
 abbrev pub ReportsSlot : ℕ → Option (List ℕ) → Option (List ℕ) → Message → Type 0

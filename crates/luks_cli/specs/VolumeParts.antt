@@ -15,7 +15,7 @@ use Rattle.luks_unlock.specs.Volume.{OnOpened}
 -- whatever is done with a volume consumes at least the bytes of its image that are loaded, and the whole key file
 pub record ConsumesLoaded (secret : List ℕ) (on_opened : OnOpened) : Type 0 where
   pub loaded : (segment : Segment) (opened : Opened) (loaded : ℕ)
-      → loaded ≤ (on_opened segment opened loaded).image_consumed
+      → loaded ≤ (on_opened segment opened loaded).input_consumed
   pub whole : (segment : Segment) (opened : Opened) (loaded : ℕ)
       → (on_opened segment opened loaded).secret_consumed ≡ length secret
 
@@ -37,9 +37,9 @@ PromptForwarding s header_len _ consumed output = Unit {0}
 
 -- `luksCat` was aborted, and forwarding the image's payload was prompt
 abbrev pub PromptCat : List ℕ → Message → ℕ → ℕ → ℕ → Type 0
-PromptCat image message image_consumed secret_consumed output =
+PromptCat image message input_consumed secret_consumed output =
     (segment : Segment) → HasSegment image segment → PromptForwarding segment
-    (header_read_len image) message image_consumed output
+    (header_read_len image) message input_consumed output
 
 -- `luksCat` with a detached header was aborted, and forwarding the payload's image was prompt; of that image nothing is
 -- consumed for a header

@@ -88,23 +88,23 @@ module _ (location : HeaderLocation) (text : Header → List ℕ) (message_for :
         (Appended w w')
     runs_with_text OutOfMemory w' same = rw same runs_without_text
     runs_with_text WriteFailed w' part = rw print_found (record {
-      image_consumed = header_read_len image;
+      input_consumed = header_read_len image;
       secret_consumed = 0;
       output_len = part.0;
-      image_within = omega arith;
+      input_within = omega arith;
       secret_within = omega arith;
       output_within = part.1;
       is_silent = tt;
       is_prompt = tt;
-      image = left;
+      input = left;
       secret = refl;
       output = part.2;
     })
     runs_with_text ReadFailed w' lost = absurd lost
     runs_with_text _ w' all =
-        rw print_found (record { as_specified = all.0; image = left; secret = refl; output = all.1 })
+        rw print_found (record { as_specified = all.0; input = left; secret = refl; output = all.1 })
 
-  print_read_len : (print_outcome_by (reader_for location) text message_for image).image_consumed ≡ header_read_len
+  print_read_len : (print_outcome_by (reader_for location) text message_for image).input_consumed ≡ header_read_len
       image
   unfolding print_outcome_by
   print_read_len = refl
@@ -121,13 +121,13 @@ module _ (location : HeaderLocation) (text : Header → List ℕ) (message_for :
       (ConsumedExactly image i) ConsumedNothing (Appended w w)
   runs_without_header ends ends' NoLuks stop =
       rw (print_none NoLuks stop.0) (record
-      { as_specified = refl; image = stop.1.0; secret = refl; output = adds-none w })
+      { as_specified = refl; input = stop.1.0; secret = refl; output = adds-none w })
   runs_without_header ends ends' IsCut stop =
       rw (print_none IsCut stop.0) (record
-      { as_specified = refl; image = stop.1.0; secret = refl; output = adds-none w })
+      { as_specified = refl; input = stop.1.0; secret = refl; output = adds-none w })
   runs_without_header ends ends' NoJson stop =
       rw (print_none NoJson stop.0) (record
-      { as_specified = refl; image = stop.1.0; secret = refl; output = adds-none w })
+      { as_specified = refl; input = stop.1.0; secret = refl; output = adds-none w })
   runs_without_header ends ends' Read stop =
       let some = stop.0 in
       aborted_unwritten some.0 0 tt (omega arith) tt (omega (arith, some.1, print_read_len)) (omega arith) some.2 refl
@@ -136,7 +136,7 @@ module _ (location : HeaderLocation) (text : Header → List ℕ) (message_for :
       aborted_unwritten some.0 0 refl (omega arith) tt (omega (arith, some.1, print_read_len)) (omega arith) some.2 refl
 
 module _ (image : List ℕ) (i w : Option (List ℕ)) where
-  is_luks_read_len : (is_luks_outcome image).image_consumed ≡ header_read_len image
+  is_luks_read_len : (is_luks_outcome image).input_consumed ≡ header_read_len image
   unfolding is_luks_outcome
   is_luks_read_len = refl
 
@@ -151,7 +151,7 @@ module _ (image : List ℕ) (i w : Option (List ℕ)) where
       → RunMatches AnyPace (is_luks_outcome image) Done (ConsumedExactly image i) ConsumedNothing (Appended w w)
   is_luks_found header found left =
       rw (asked (Ok header) found) (record
-      { as_specified = refl; image = left; secret = refl; output = adds-none w })
+      { as_specified = refl; input = left; secret = refl; output = adds-none w })
 
   -- `isLuks` of an image without a readable header, or if reading the header failed
   pub is_luks_refused : (ends ends' : ℕ) (fault : HeaderFault) → AbortsReading image i ends ends' fault
@@ -159,13 +159,13 @@ module _ (image : List ℕ) (i w : Option (List ℕ)) where
       (ConsumedExactly image i) ConsumedNothing (Appended w w)
   is_luks_refused ends ends' NoLuks stop =
       rw (asked (Err NoLuks) stop.0) (record
-      { as_specified = refl; image = stop.1.0; secret = refl; output = adds-none w })
+      { as_specified = refl; input = stop.1.0; secret = refl; output = adds-none w })
   is_luks_refused ends ends' IsCut stop =
       rw (asked (Err IsCut) stop.0) (record
-      { as_specified = refl; image = stop.1.0; secret = refl; output = adds-none w })
+      { as_specified = refl; input = stop.1.0; secret = refl; output = adds-none w })
   is_luks_refused ends ends' NoJson stop =
       rw (asked (Err NoJson) stop.0) (record
-      { as_specified = refl; image = stop.1.0; secret = refl; output = adds-none w })
+      { as_specified = refl; input = stop.1.0; secret = refl; output = adds-none w })
   is_luks_refused ends ends' Read stop =
       let some = stop.0 in
       aborted_unwritten some.0 0 tt (omega arith) tt (omega (arith, some.1, is_luks_read_len)) (omega arith) some.2 refl

@@ -65,7 +65,7 @@ module _ (h : Hash) (count len : ℕ) (bytes : List ℕ) where
 
   -- merging consumes at least as many bytes as are both needed and there
   merge_consumes_within : (consumed : ℕ) → consumed ≤ count * len → consumed ≤ length bytes
-      → consumed ≤ (merge_outcome h count len bytes).image_consumed
+      → consumed ≤ (merge_outcome h count len bytes).input_consumed
   unfolding merge_outcome
   merge_consumes_within consumed needed there = grind (arith, nat_tests)
 
@@ -76,7 +76,7 @@ pub runs_without_stripes : (h : Hash) (count len : ℕ) (bytes : List ℕ) (mess
     (Appended w w)
 runs_without_stripes h count len bytes FewStripes s w stop =
     rw (stripes_few h count len bytes stop.0) (record
-    { as_specified = refl; image = stop.1; secret = refl; output = adds-none w })
+    { as_specified = refl; input = stop.1; secret = refl; output = adds-none w })
 runs_without_stripes h count len bytes ReadFailed s w stop =
     aborted_unwritten stop.0 0 tt (omega arith) tt (merge_consumes_within h count len bytes stop.0 stop.1 stop.2.within)
     (omega arith) stop.2 refl
@@ -89,22 +89,22 @@ module _ (h : Hash) (count len : ℕ) (bytes : List ℕ) (s w w' : Option (List 
   pub runs_to_end : Appended w w' key → Completed (merge_outcome h count len bytes) Done
       (ConsumedExactly bytes s) ConsumedNothing (Appended w w')
   runs_to_end a = rw (stripes_enough h count len bytes p.within, ← key_is)
-      (record { as_specified = refl; image = p; secret = refl; output = a })
+      (record { as_specified = refl; input = p; secret = refl; output = a })
 
   -- a write failed within the key
   pub runs_without_key : (n : ℕ) → n < length key → Appended w w' (take n key)
       → Aborted AnyPace (merge_outcome h count len bytes) WriteFailed (ConsumedExactly bytes s) ConsumedNothing
       (Appended w w')
   runs_without_key n within a = rw (stripes_enough h count len bytes p.within, ← key_is) (record {
-    image_consumed = count * len;
+    input_consumed = count * len;
     secret_consumed = 0;
     output_len = n;
-    image_within = omega arith;
+    input_within = omega arith;
     secret_within = omega arith;
     output_within = omega arith;
     is_silent = tt;
     is_prompt = tt;
-    image = p;
+    input = p;
     secret = refl;
     output = a;
   })

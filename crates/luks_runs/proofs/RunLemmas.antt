@@ -7,20 +7,20 @@ use Rattle.luks_runs.specs.RunOutcome.{Outcome}
 use Rattle.luks_runs.specs.Run.{Aborted, IsPrefixLen, IsSilent, Promptness}
 
 pub aborted_unwritten : {is_prompt : Promptness} {o : Outcome} {message : Message}
-    {ConsumedImage ConsumedSecret : ℕ → Type 0} {w : Option (List ℕ)} (image secret : ℕ)
-    → IsSilent message 0 → IsPrefixLen message 0 (length o.output) → is_prompt message image secret 0
-    → image ≤ o.image_consumed → secret ≤ o.secret_consumed → ConsumedImage image → ConsumedSecret secret
-    → Aborted is_prompt o message ConsumedImage ConsumedSecret (Appended w w)
-aborted_unwritten {w} image secret silent begins prompt image_within secret_within of_image of_secret = record {
-  image_consumed = image;
+    {ConsumedInput ConsumedSecret : ℕ → Type 0} {w : Option (List ℕ)} (input secret : ℕ)
+    → IsSilent message 0 → IsPrefixLen message 0 (length o.output) → is_prompt message input secret 0
+    → input ≤ o.input_consumed → secret ≤ o.secret_consumed → ConsumedInput input → ConsumedSecret secret
+    → Aborted is_prompt o message ConsumedInput ConsumedSecret (Appended w w)
+aborted_unwritten {w} input secret silent begins prompt input_within secret_within of_input of_secret = record {
+  input_consumed = input;
   secret_consumed = secret;
   output_len = 0;
-  image_within = image_within;
+  input_within = input_within;
   secret_within = secret_within;
   output_within = begins;
   is_silent = silent;
   is_prompt = prompt;
-  image = of_image;
+  input = of_input;
   secret = of_secret;
   output = adds-none w;
 }

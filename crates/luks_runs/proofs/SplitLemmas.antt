@@ -41,7 +41,7 @@ module _ (h : Hash) (count : ℕ) (key random : List ℕ) where
       ≡ false = grind (arith, nat_tests) in rw none refl
 
   -- the outcome allows c bytes of the key to be consumed, if the key has them and c is at most 513
-  split_consumes_key : (c : ℕ) → c ≤ min (length key) 513 → c ≤ (split_outcome h count key random).image_consumed
+  split_consumes_key : (c : ℕ) → c ≤ min (length key) 513 → c ≤ (split_outcome h count key random).input_consumed
   unfolding split_outcome split_key_outcome
   split_consumes_key c few = grind (arith, nat_tests)
 
@@ -69,7 +69,7 @@ pub runs_without_key : (h : Hash) (count : ℕ) (key random : List ℕ) (message
     (Appended w w)
 runs_without_key h count key random KeyLength k r w refused is =
     rw (key_refused h count key random refused.0) (record
-    { as_specified = refl; image = refused.1; secret = consumed-none random r is; output = adds-none w })
+    { as_specified = refl; input = refused.1; secret = consumed-none random r is; output = adds-none w })
 runs_without_key h count key random ReadFailed k r w failed is =
     aborted_unwritten failed.0 0 tt (omega arith) (simp (zero-div, zero-mul))
     (split_consumes_key h count key random failed.0 failed.1) (omega arith) failed.2 (consumed-none random r is)
@@ -117,7 +117,7 @@ may_forward h count key random j consumed written some within there below fits f
 
 module _ (h : Hash) (count : ℕ) (key random : List ℕ) (k r b w : Option (List ℕ)) (some : 1 ≤ length key)
     (capacity : length key ≤ 512) (consumption : ConsumedExactly key k (length key)) where
-  key_whole : length key ≤ (split_key_outcome h count key random).image_consumed
+  key_whole : length key ≤ (split_key_outcome h count key random).input_consumed
   unfolding split_key_outcome
   key_whole = grind (arith, nat_tests)
 
@@ -131,15 +131,15 @@ module _ (h : Hash) (count : ℕ) (key random : List ℕ) (k r b w : Option (Lis
       (Appended b w)
   split_aborted message consumed written silent may begins prompt p =
       rw (key_allowed h count key random some capacity) (record {
-        image_consumed = length key;
+        input_consumed = length key;
         secret_consumed = consumed;
         output_len = written;
-        image_within = key_whole;
+        input_within = key_whole;
         secret_within = may.within;
         output_within = begins;
         is_silent = silent;
         is_prompt = prompt;
-        image = consumption;
+        input = consumption;
         secret = p.consumption;
         output = rw may.begins p.added;
       })
@@ -155,7 +155,7 @@ module _ (h : Hash) (count : ℕ) (key random : List ℕ) (k r b w : Option (Lis
       let few : length random < (count - 1) * length key = omega arith in
       let whole : length random / length key ≡ stop.0 = div-eq_of_lt-le (length key) stop.2 stop.3 in
       rw (key_allowed h count key random some capacity, random_few h count key random few, whole)
-      (record { as_specified = refl; image = consumption; secret = stop.4.consumption; output = stop.4.added })
+      (record { as_specified = refl; input = consumption; secret = stop.4.consumption; output = stop.4.added })
   runs_without_stripes ReadFailed stop =
       let below : stop.0 + 1 ≤ count - 1 = omega (arith, stop.2) in
       let span : (stop.0 + 1) * length key ≤ (count - 1) * length key = mul-le-mul_right (length key) below in
@@ -191,7 +191,7 @@ module _ (h : Hash) (count : ℕ) (key random : List ℕ) (k r b w : Option (Lis
         rw (key_allowed h count key random some capacity, random_enough h count key random there, ← last_is)
         (record {
           as_specified = refl;
-          image = consumption;
+          input = consumption;
           secret = p.consumption;
           output = adds-more b w w' (take ((count - 1) * length key) random) last p.added a;
         })
@@ -210,15 +210,15 @@ module _ (h : Hash) (count : ℕ) (key random : List ℕ) (k r b w : Option (Lis
         let row : (needed + n) / length key ≡ count - 1 = div-eq_of_lt-le (length key) (omega arith) (omega arith) in
         rw (key_allowed h count key random some capacity, random_enough h count key random p.consumption.within)
         (record {
-          image_consumed = length key;
+          input_consumed = length key;
           secret_consumed = needed;
           output_len = needed + n;
-          image_within = omega arith;
+          input_within = omega arith;
           secret_within = omega arith;
           output_within = rw (← last_is) (omega arith);
           is_silent = tt;
           is_prompt = rw row (omega arith);
-          image = consumption;
+          input = consumption;
           secret = p.consumption;
           output = rw (← last_is, begin) (adds-more b w w' prefix (take n last) p.added a);
         })

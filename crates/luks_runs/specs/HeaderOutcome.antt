@@ -55,7 +55,7 @@ unfoldable pub print_outcome_by : HeaderReader → (Header → List ℕ) → (He
 print_outcome_by read text message_for image = record {
   output = printed text (read image);
   message = message_printing message_for (read image);
-  image_consumed = header_read_len image;
+  input_consumed = header_read_len image;
   secret_consumed = 0;
   payload_consumed = 0;
 }

@@ -1,5 +1,5 @@
 -- The effects of a run on its devices, and what it still satisfies if it is aborted. Each device is treated by itself:
--- a run consumes this many bytes of the image and of the second input, and writes this output; what that means for a
+-- a run consumes this many bytes of the first and of the second input, and writes this output; what that means for a
 -- device is a separate fact.
 use Rattle.std.specs.Prelude.{◌≡◌, ℕ, ◌<◌, ◌≤◌, List, length, take, Bool, true, false, MatchBool, Result, Ok, Err}
 use Rattle.luks_runs.specs.RunOutcome.{Outcome}
@@ -13,7 +13,7 @@ aborts ReadFailed = true
 aborts WriteFailed = true
 aborts _ = false
 
--- how promptly a run was aborted: a fact about its message, the bytes of the image and of the second input that it
+-- how promptly a run was aborted: a fact about its message, the bytes of the first and of the second input that it
 -- consumed, and the length of its output
 abbrev pub Promptness : Type 1
 Promptness = Message → ℕ → ℕ → ℕ → Type 0
@@ -34,43 +34,43 @@ IsPrefixLen _ output stated = output ≤ stated
 
 -- an aborted run: its output is a prefix of the specified one, and no input was consumed further than specified
 pub record Aborted (pace : Promptness) (outcome : Outcome) (message : Message)
-    (ConsumedImage ConsumedSecret : ℕ → Type 0)
+    (ConsumedInput ConsumedSecret : ℕ → Type 0)
     (Wrote : List ℕ → Type 0) : Type 0 where
-  pub image_consumed : ℕ
+  pub input_consumed : ℕ
   pub secret_consumed : ℕ
   pub output_len : ℕ
-  pub image_within : image_consumed ≤ outcome.image_consumed
+  pub input_within : input_consumed ≤ outcome.input_consumed
   pub secret_within : secret_consumed ≤ outcome.secret_consumed
   pub output_within : IsPrefixLen message output_len (length outcome.output)
   pub is_silent : IsSilent message output_len
-  pub is_prompt : pace message image_consumed secret_consumed output_len
-  pub image : ConsumedImage image_consumed
+  pub is_prompt : pace message input_consumed secret_consumed output_len
+  pub input : ConsumedInput input_consumed
   pub secret : ConsumedSecret secret_consumed
   pub output : Wrote (take output_len outcome.output)
 
 -- a run that was not aborted: the specified message, output and bytes consumed
-pub record Completed (outcome : Outcome) (message : Message) (ConsumedImage ConsumedSecret : ℕ → Type 0)
+pub record Completed (outcome : Outcome) (message : Message) (ConsumedInput ConsumedSecret : ℕ → Type 0)
     (Wrote : List ℕ → Type 0) : Type 0 where
   pub as_specified : message ≡ outcome.message
-  pub image : ConsumedImage outcome.image_consumed
+  pub input : ConsumedInput outcome.input_consumed
   pub secret : ConsumedSecret outcome.secret_consumed
   pub output : Wrote outcome.output
 
 -- the run has this outcome, or was aborted on the way to it
 abbrev pub RunMatches : Promptness → Outcome → Message → (ℕ → Type 0) → (ℕ → Type 0) → (List ℕ → Type 0) → Type 0
-RunMatches pace outcome message ConsumedImage ConsumedSecret Wrote =
-    MatchBool (aborts message) (Aborted pace outcome message ConsumedImage ConsumedSecret Wrote)
-    (Completed outcome message ConsumedImage ConsumedSecret Wrote)
+RunMatches pace outcome message ConsumedInput ConsumedSecret Wrote =
+    MatchBool (aborts message) (Aborted pace outcome message ConsumedInput ConsumedSecret Wrote)
+    (Completed outcome message ConsumedInput ConsumedSecret Wrote)
 
 -- the run has this outcome, with the payload in another image than the header: it consumes as many bytes of the
 -- payload's image as specified, or no more than that if it is aborted
 pub record DetachedRunMatches (pace : ℕ → Promptness) (outcome : Outcome) (message : Message)
-    (ConsumedImage ConsumedPayload ConsumedSecret : ℕ → Type 0) (Wrote : List ℕ → Type 0) : Type 0 where
+    (ConsumedInput ConsumedPayload ConsumedSecret : ℕ → Type 0) (Wrote : List ℕ → Type 0) : Type 0 where
   pub payload_consumed : ℕ
   pub payload_within : MatchBool (aborts message) (payload_consumed ≤ outcome.payload_consumed)
       (payload_consumed ≡ outcome.payload_consumed)
   pub payload : ConsumedPayload payload_consumed
-  pub run : RunMatches (pace payload_consumed) outcome message ConsumedImage ConsumedSecret Wrote
+  pub run : RunMatches (pace payload_consumed) outcome message ConsumedInput ConsumedSecret Wrote
 
 -- nothing is consumed of an input that a command does not have
 abbrev pub ConsumedNothing : ℕ → Type 0

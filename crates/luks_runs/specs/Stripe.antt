@@ -27,14 +27,14 @@ split_key_outcome hash count key random =
     then record {
       output = split_stripes hash count key (take needed random);
       message = Done;
-      image_consumed = length key;
+      input_consumed = length key;
       secret_consumed = needed;
       payload_consumed = 0;
     }
     else record {
       output = take (length random / length key * length key) random;
       message = FewRandomBytes;
-      image_consumed = length key;
+      input_consumed = length key;
       secret_consumed = length random;
       payload_consumed = 0;
     }
@@ -54,7 +54,7 @@ merge_outcome hash count key_bytes image =
     then record {
       output = merged hash key_bytes (take needed image);
       message = Done;
-      image_consumed = needed;
+      input_consumed = needed;
       secret_consumed = 0;
       payload_consumed = 0;
     }

@@ -67,7 +67,7 @@ abbrev pub slot_outcome : List ℕ → OnOpened
 slot_outcome secret segment opened loaded = record {
   output = opened_line opened.slot;
   message = Done;
-  image_consumed = loaded;
+  input_consumed = loaded;
   secret_consumed = length secret;
   payload_consumed = 0;
 }
@@ -77,7 +77,7 @@ abbrev pub payload_outcome : List ℕ → List ℕ → OnOpened
 payload_outcome image secret segment opened loaded = record {
   output = plain_of segment (segment.mode, opened.key) image;
   message = message_at_end (ending_of segment image);
-  image_consumed = max loaded (payload_end_of segment image);
+  input_consumed = max loaded (payload_end_of segment image);
   secret_consumed = length secret;
   payload_consumed = 0;
 }
@@ -87,7 +87,7 @@ abbrev pub detached_payload_outcome : List ℕ → List ℕ → OnOpened
 detached_payload_outcome image secret segment opened loaded = record {
   output = plain_of segment (segment.mode, opened.key) image;
   message = message_at_end (ending_of segment image);
-  image_consumed = loaded;
+  input_consumed = loaded;
   secret_consumed = length secret;
   payload_consumed = payload_end_of segment image;
 }

@@ -14,7 +14,7 @@ returns-clause-run g c known is pass has counted =
     let u = c.in_ok-unlocked.ensures.ok known is pass has in
     let forwarded = rw c.as_slice-loaded.ensures.value at (c.write_plain-2.ensures.run known counted) in
     runs_forwarded _ known pass _ _ _ _ _ u _ _ _ (result_message c.write_plain-2.result)
-    (never_memory _ c.write_plain-2.ensures.only) (forwarded u.prefix u.image_consumed)
+    (never_memory _ c.write_plain-2.ensures.only) (forwarded u.prefix u.input_consumed)
 
 pub returns-clause-calls : goal.returns-clause-calls
 returns-clause-calls g c =
@@ -23,13 +23,13 @@ returns-clause-calls g c =
     let unended = sym c.has_ended.ensures ∙ c.if-has_ended.false in
     let reads = rw c.as_slice-loaded.ensures.value at c.write_plain-2.ensures.reads in
     record {
-      in_image = true;
-      image_reads = (
+      in_input = true;
+      input_reads = (
         _,
         (λ known is pass has. let u = unlocked.ok known is pass has in inr (
           segment,
           u.has,
-          ap (λ (o : Outcome). max (max_needed segment.size segment.offset o.image_consumed)
+          ap (λ (o : Outcome). max (max_needed segment.size segment.offset o.input_consumed)
               (g.I.Source.counts c.args.image.now).ahead)
               (sym (u.outcome (slot_outcome pass))),
         )),
@@ -65,8 +65,8 @@ returns-then-has_ended-clause-calls g c =
     let counts = c.in_ok-unlocked.ensures.counts in
     let unread = never_read (result_message c.write_plain.result) c.write_plain.ensures.reads.1.failures in
     record {
-      in_image = true;
-      image_reads = rw unread (no_more_ahead _ _ _ _ _ _ (none_failed _ _ _ counts.image_reads));
+      in_input = true;
+      input_reads = rw unread (no_more_ahead _ _ _ _ _ _ (none_failed _ _ _ counts.input_reads));
       secret_reads = none_failed _ _ _ counts.secret_reads;
       out_writes = c.write_plain.ensures.writes;
     }

@@ -40,10 +40,10 @@ pub returns-clause-calls : goal.returns-clause-calls
 returns-clause-calls g c =
     let unlocked = c.in_ok-unlocked.ensures in
     record {
-      in_image = true;
+      in_payload = true;
       in_header = false;
-      header_reads = none_failed _ _ _ unlocked.counts.image_reads;
-      image_reads = (
+      header_reads = none_failed _ _ _ unlocked.counts.input_reads;
+      payload_reads = (
         _,
         (λ file there pass has. inr (_, (unlocked.ok file there pass has).has, refl)),
         c.write_plain.ensures.reads,

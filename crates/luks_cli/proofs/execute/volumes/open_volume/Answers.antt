@@ -30,8 +30,8 @@ pub returns-clause-counts : goal.returns-clause-counts
 returns-clause-counts g c =
     let passphrase = c.in_ok-passphrase.ensures.reads in
     record {
-      in_image = true;
-      image_reads = (_, c.try_slots.ensures.reads.1);
+      in_input = true;
+      input_reads = (_, c.try_slots.ensures.reads.1);
       secret_reads = (passphrase.0, passphrase.1);
     }
 

@@ -41,8 +41,8 @@ returns-clause-calls g c =
     c.report_slot.ensures.reported in
     let counts = c.in_ok-unlocked.ensures.counts in
     record {
-      in_image = true;
-      image_reads = rw not_read (none_failed _ _ _ counts.image_reads);
+      in_input = true;
+      input_reads = rw not_read (none_failed _ _ _ counts.input_reads);
       secret_reads = none_failed _ _ _ counts.secret_reads;
       out_writes = c.report_slot.ensures.writes;
     }
