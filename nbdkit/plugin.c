@@ -1,4 +1,4 @@
-/* nbdkit-luksrd-plugin: the plain text of a LUKS1 or LUKS2 volume as a network block device.
+/* nbdkit-luksrd-plugin: the plaintext of a LUKS1 or LUKS2 volume as a network block device.
  *
  * This is glue: it reads files and calls luksrd's library (luksrd.h), whose functions are proved to
  * meet their contracts. The glue itself is tested, not proved. */
@@ -92,7 +92,7 @@ static struct nbdkit_plugin plugin = {
   .name = "luksrd",
   .version = VERSION,
   .longname = "luksrd: LUKS1 and LUKS2 volumes",
-  .description = "Serves the plain text of a LUKS1 or LUKS2 volume, read-only.",
+  .description = "Serves the plaintext of a LUKS1 or LUKS2 volume, read-only.",
   .config_help =
       "file=IMAGE            (required) The image of the volume, a file or a block device.\n"
       "key-file=FILE         The file whose bytes are the passphrase, all of them.\n"

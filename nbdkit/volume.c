@@ -57,7 +57,7 @@ static void report(const char *name, const struct luksrd_message *message)
   nbdkit_error("%s: %.*s", name, (int)message->len, (const char *)message->text);
 }
 
-/* Gets the length of the plain text, and reports an incomplete image: it is served all the same, as
+/* Gets the length of the plaintext, and reports an incomplete image: it is served all the same, as
  * far as it goes. */
 static void measure(struct volume *volume, uint64_t image_len)
 {

@@ -1,4 +1,4 @@
-/* An open volume, and any part of its plain text. */
+/* An open volume, and any part of its plaintext. */
 #ifndef LUKSRD_NBDKIT_VOLUME_H
 #define LUKSRD_NBDKIT_VOLUME_H
 
@@ -11,7 +11,7 @@
 struct volume {
   const char *name; /* of the image */
   int fd;           /* of the image, or -1 */
-  uint64_t len;     /* the number of bytes of plain text that are served: whole sectors */
+  uint64_t len;     /* the number of bytes of plaintext that are served: whole sectors */
   struct luksrd_volume opened;
 };
 
@@ -19,7 +19,7 @@ struct volume {
  * -1 and reports why not. */
 int open_volume(struct volume *volume, struct parameters *parameters);
 
-/* Puts `count` bytes of plain text from `offset` on, which are within the volume, into the buffer.
+/* Puts `count` bytes of plaintext from `offset` on, which are within the volume, into the buffer.
  * Returns 0; or -1 and reports why not, and then the buffer is zeroed. */
 int read_plain(const struct volume *volume, uint8_t *to, uint32_t count, uint64_t offset);
 

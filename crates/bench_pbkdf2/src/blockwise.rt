@@ -16,13 +16,13 @@ const INNER_PAD: u8 = 0x36;
 const OUTER_PAD: u8 = 0x5C;
 
 /// Fills `out` with the key, and returns the number of evaluations of HMAC.
-pub(crate) fn by_sha1(pass: &[u8], salt: &[u8], turns: u32, out: &mut [u8]) -> u128 {
-    derive::<Sha1>(pass, salt, turns, out)
+pub(crate) fn by_sha1(pass: &[u8], salt: &[u8], iterations: u32, out: &mut [u8]) -> u128 {
+    derive::<Sha1>(pass, salt, iterations, out)
 }
 
 /// Fills `out` with the key, and returns the number of evaluations of HMAC.
-pub(crate) fn by_sha256(pass: &[u8], salt: &[u8], turns: u32, out: &mut [u8]) -> u128 {
-    derive::<Sha256>(pass, salt, turns, out)
+pub(crate) fn by_sha256(pass: &[u8], salt: &[u8], iterations: u32, out: &mut [u8]) -> u128 {
+    derive::<Sha256>(pass, salt, iterations, out)
 }
 
 trait Hasher: Drop {
@@ -128,13 +128,13 @@ fn after_block<H: Hasher>(key: &[u8], pad: u8) -> H {
     hasher
 }
 
-fn derive<H: Hasher>(pass: &[u8], salt: &[u8], turns: u32, out: &mut [u8]) -> u128 {
+fn derive<H: Hasher>(pass: &[u8], salt: &[u8], iterations: u32, out: &mut [u8]) -> u128 {
     let keyed = Keyed::<H>::new(pass);
     let mut count = 0u128;
     let mut number = 0u32;
     for block in out.chunks_mut(H::SIZE.max(1)) {
         number = number.wrapping_add(1);
-        derive_block(&keyed, salt, number, turns, block, &mut count);
+        derive_block(&keyed, salt, number, iterations, block, &mut count);
     }
     count
 }
@@ -143,7 +143,7 @@ fn derive_block<H: Hasher>(
     keyed: &Keyed<H>,
     salt: &[u8],
     number: u32,
-    turns: u32,
+    iterations: u32,
     out: &mut [u8],
     count: &mut u128,
 ) {
@@ -156,7 +156,7 @@ fn derive_block<H: Hasher>(
     first.absorb(salt);
     first.absorb(&number.to_be_bytes());
     add_next(keyed, first, u, t, count);
-    for _ in 1..turns {
+    for _ in 1..iterations {
         let mut next = keyed.inner.copy();
         next.absorb(u);
         add_next(keyed, next, u, t, count);

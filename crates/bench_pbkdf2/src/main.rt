@@ -43,19 +43,25 @@ fn main(rt: HostRuntime) -> io::Result<()> {
     let Some(hash) = Hash::from_name(name.as_str()) else {
         return Ok(());
     };
-    let turns = number.as_str().parse::<u32>().unwrap_or(0);
+    let iterations = number.as_str().parse::<u32>().unwrap_or(0);
     for word in words {
         let length = word.as_str().parse::<usize>().unwrap_or(0);
-        if turns > 0 && length > 0 && length <= MAX_KEY {
-            measure(&rt, way.as_str(), hash, turns, length)?;
+        if iterations > 0 && length > 0 && length <= MAX_KEY {
+            measure(&rt, way.as_str(), hash, iterations, length)?;
         }
     }
     Ok(())
 }
 
 // Derives one key of this length in this way, and writes its cost.
-fn measure(rt: &HostRuntime, way: &str, hash: Hash, turns: u32, length: usize) -> io::Result<()>
-    requires turns { 1 ≤ turns }
+fn measure(
+    rt: &HostRuntime,
+    way: &str,
+    hash: Hash,
+    iterations: u32,
+    length: usize,
+) -> io::Result<()>
+    requires iterations { 1 ≤ iterations }
     requires some { 1 ≤ length }
     requires capacity { length ≤ MAX_KEY }
 {
@@ -65,11 +71,11 @@ fn measure(rt: &HostRuntime, way: &str, hash: Hash, turns: u32, length: usize) -
     let start = rt.process_cpu_time()?;
     let count = match (way, hash) {
         ("luks_kdf", _) => {
-            pbkdf2(hash, PASS, SALT, turns, key, &mut work);
+            pbkdf2(hash, PASS, SALT, iterations, key, &mut work);
             work.count()
         }
-        ("blockwise", Hash::Sha1) => blockwise::by_sha1(PASS, SALT, turns, key),
-        ("blockwise", Hash::Sha256) => blockwise::by_sha256(PASS, SALT, turns, key),
+        ("blockwise", Hash::Sha1) => blockwise::by_sha1(PASS, SALT, iterations, key),
+        ("blockwise", Hash::Sha256) => blockwise::by_sha256(PASS, SALT, iterations, key),
         _ => return Ok(()),
     };
     let elapsed = rt.process_cpu_time()?.saturating_sub(start);

@@ -7,7 +7,7 @@ use Rattle.luks_kdf.specs.declared.hash.Hash.{Hash}
 use Rattle.luks_verdict.specs.Segment.{segment_by, segment_from}
 use Rattle.luks_verdict.specs.declared.refusal.SegmentFault.{SegmentFault}
 use Rattle.luks_verdict.specs.declared.refusal.SegmentFault.TheVariants.{Encryption, KeyBytes, Offset}
-use Rattle.luks_verdict.specs.declared.refusal.SegmentFault.TheVariants.{Hash as UnknownHash}
+use Rattle.luks_verdict.specs.declared.refusal.SegmentFault.TheVariants.{Hash as SegmentHash}
 use Rattle.luks_verdict.specs.declared.segment.Segment.{Segment}
 use Rattle.luks_verdict.proofs.MadeLemmas.{refused_or-fault, refused_or-none, refused_or-ok}
 use Rattle.luks_verdict.proofs.TableLemmas.{first_not}
@@ -37,9 +37,9 @@ IsReadable-none header none =
     let last : List (Bool × SegmentFault) = (overlaps_header1 header, Offset) ∷ [] in
     let third : List (Bool × SegmentFault) = (not (is_key_length1 (mode1_of header) header.key_bytes), KeyBytes)
     ∷ last in
-    let mode = first_not (is_none (mode1_of header)) Encryption ((is_none (hash1_of header), UnknownHash) ∷ third)
+    let mode = first_not (is_none (mode1_of header)) Encryption ((is_none (hash1_of header), SegmentHash) ∷ third)
     none in
-    let hash = first_not (is_none (hash1_of header)) UnknownHash third mode.1 in
+    let hash = first_not (is_none (hash1_of header)) SegmentHash third mode.1 in
     let key = first_not (not (is_key_length1 (mode1_of header) header.key_bytes)) KeyBytes last hash.1 in
     let offset = first_not (overlaps_header1 header) Offset [] key.1 in
     record {

@@ -4,7 +4,7 @@ use Rattle.std.proofs.Common.{Some, None, arith}
 use Rattle.std.specs.Prelude.{if◌then◌else◌, option_map, option_and_then, slice_get}
 use Rattle.std.proofs.lemmas.Bool.Decides.{nat_tests}
 use Rattle.std.proofs.lemmas.Option.{same_Some}
-use Rattle.luks_area.specs.Area.{max_area_len}
+use Rattle.luks_area.specs.Area.{max_loaded_len}
 use Rattle.luks_verdict.specs.Digest.{has_no_usable_digest}
 use Rattle.luks_verdict.specs.Rule.{exceeds, iterations_out_of_range, is_in_range, area_out_of_range}
 use Rattle.luks_verdict.specs.Rule.{stripes_out_of_range, need_of}
@@ -16,22 +16,22 @@ use Rattle.luks_verdict.specs.declared.digest.KeyDigest.{KeyDigest}
 use Rattle.luks_verdict.specs.declared.refusal.SkipReason.{SkipReason}
 use Rattle.luks_verdict.specs.declared.refusal.SkipReason.TheVariants.{State, Stripes, Iterations, Area, Digest}
 use Rattle.luks_verdict.specs.declared.slot.Slot.{Slot}
-use Rattle.luks_verdict.specs.declared.slot.Verdict.TheVariants.{Usable, Disabled as Unused}
-use Rattle.luks_verdict.specs.declared.slot.VerdictKind.TheVariants.{Usable as Open}
+use Rattle.luks_verdict.specs.declared.slot.Verdict.TheVariants.{Usable, Disabled as VerdictDisabled}
+use Rattle.luks_verdict.specs.declared.slot.VerdictKind.TheVariants.{Usable as KindUsable}
 use Rattle.luks1_header.specs.Slot1.{digest1_of, hash1_of, is_damaged, is_disabled, area1_out_of_range, mode1_of}
 use Rattle.luks1_header.specs.Slot1.{payload1_start, reason1_of, slot1_at, slot1_of, slot_parts1_of, verdict1_at}
 use Rattle.luks1_header.specs.Slot1.{verdict1_of}
 use Rattle.luks1_header.specs.declared.header.Header1.{Header1}
-use Rattle.luks1_header.specs.declared.header.KeySlot.{KeySlot}
+use Rattle.luks1_header.specs.declared.header.StoredSlot.{StoredSlot}
 
 -- none of these reasons to skip a slot applies
-record NoReason (header : Header1) (limit : Option ℕ) (slot : KeySlot) : Type 0 where
+record NoReason (header : Header1) (limit : Option ℕ) (slot : StoredSlot) : Type 0 where
   stripes : stripes_out_of_range slot.stripes ≡ false
   iterations : iterations_out_of_range limit slot.iterations ≡ false
   area : area1_out_of_range header slot ≡ false
   digest : has_no_usable_digest limit (digest1_of header) ≡ false
 
-no_reason : (header : Header1) (limit : Option ℕ) (slot : KeySlot) → reason1_of header limit slot ≡ None
+no_reason : (header : Header1) (limit : Option ℕ) (slot : StoredSlot) → reason1_of header limit slot ≡ None
     → NoReason header limit slot
 unfolding reason1_of
 no_reason header limit slot none =
@@ -46,14 +46,14 @@ no_reason header limit slot none =
     record { stripes = stripes.0; iterations = iterations.0; area = area.0; digest = digest.0 }
 
 -- key material that is in range ends at or before the payload's start, if that is known, and within the longest area
-placed : (header : Header1) (slot : KeySlot) → area1_out_of_range header slot ≡ false
+placed : (header : Header1) (slot : StoredSlot) → area1_out_of_range header slot ≡ false
     → (exceeds (payload1_start header) (512 * slot.offset + need_of header.key_bytes slot.stripes) ≡ false)
-    × (512 * slot.offset + need_of header.key_bytes slot.stripes ≤ max_area_len)
+    × (512 * slot.offset + need_of header.key_bytes slot.stripes ≤ max_loaded_len)
 unfolding area1_out_of_range area_out_of_range
 placed header slot is = (grind (arith, nat_tests), grind (arith, nat_tests))
 
 -- if there is no reason to skip a slot, its numbers are in range
-range_of : (header : Header1) (limit : Option ℕ) (slot : KeySlot) → NoReason header limit slot
+range_of : (header : Header1) (limit : Option ℕ) (slot : StoredSlot) → NoReason header limit slot
     → are_in_range (slot_parts1_of header slot) ≡ true
 unfolding is_in_range iterations_out_of_range stripes_out_of_range slot_parts1_of
 range_of header limit slot none =
@@ -63,7 +63,7 @@ range_of header limit slot none =
     grind (arith, nat_tests)
 
 -- if there is no reason to skip a slot, there is what is needed to open it
-pub slot_there : (header : Header1) (limit : Option ℕ) (slot : KeySlot) → reason1_of header limit slot ≡ None
+pub slot_there : (header : Header1) (limit : Option ℕ) (slot : StoredSlot) → reason1_of header limit slot ≡ None
     → (is : are_in_range (slot_parts1_of header slot) ≡ true)
     × (slot1_of header slot ≡ Some (slot_of (slot_parts1_of header slot) is))
 unfolding slot1_of
@@ -72,9 +72,9 @@ slot_there header limit slot none =
     (is, slot_from-yes (slot_parts1_of header slot) is)
 
 -- the kind of verdict on a slot that is not disabled and that there is no reason to skip: it can be tried
-pub usable_verdict : (header : Header1) (limit : Option ℕ) (slot : KeySlot) → is_disabled slot.state ≡ false
+pub usable_verdict : (header : Header1) (limit : Option ℕ) (slot : StoredSlot) → is_disabled slot.state ≡ false
     → reason1_of header limit slot ≡ None
-    → verdict_kind_of (verdict1_of header limit slot) ≡ Open 1
+    → verdict_kind_of (verdict1_of header limit slot) ≡ KindUsable 1
 unfolding verdict1_of slot_of slot_parts1_of
 usable_verdict header limit slot enabled none =
     let there = slot_there header limit slot none in
@@ -94,7 +94,7 @@ pub record IsOf (header : Header1) (usable : Slot) : Type 0 where
   pub digest : (digest : KeyDigest) × (digest1_of header ≡ Some digest)
 
 -- if the verdict is that a slot can be tried, there is no reason to skip it, and this is what is needed to open it
-of_verdict : (header : Header1) (limit : Option ℕ) (slot : KeySlot) (usable : Slot)
+of_verdict : (header : Header1) (limit : Option ℕ) (slot : StoredSlot) (usable : Slot)
     → verdict1_of header limit slot ≡ Usable usable
     → (reason1_of header limit slot ≡ None) × (slot1_of header slot ≡ Some usable)
 unfolding verdict1_of
@@ -103,14 +103,14 @@ of_verdict header limit slot usable is =
   where
     of_all : (disabled : Bool) (reason : Option SkipReason) → reason1_of header limit slot ≡ reason
         → (made : Option Slot) → slot1_of header slot ≡ made
-        → (if disabled then Unused else verdict_by reason made) ≡ Usable usable
+        → (if disabled then VerdictDisabled else verdict_by reason made) ≡ Usable usable
         → (reason1_of header limit slot ≡ None) × (slot1_of header slot ≡ Some usable)
     of_all true reason r made m h = absurd cc
     of_all false (Some reason) r made m h = absurd cc
     of_all false None r (Some made) m h = (r, cc)
     of_all false None r None m h = absurd cc
 
-usable_is : (header : Header1) (limit : Option ℕ) (slot : KeySlot) (usable : Slot)
+usable_is : (header : Header1) (limit : Option ℕ) (slot : StoredSlot) (usable : Slot)
     → verdict1_of header limit slot ≡ Usable usable → IsOf header usable
 unfolding slot_of slot_parts1_of
 usable_is header limit slot usable is =
@@ -135,7 +135,7 @@ pub slot_usable_at : (header : Header1) (limit : Option ℕ) (number : ℕ) (usa
 unfolding verdict1_at slot1_at
 slot_usable_at header limit number usable is = of_slot (slice_get header.slots number) is
   where
-    of_slot : (slot : Option KeySlot) → option_map (verdict1_of header limit) slot ≡ Some (Usable usable)
+    of_slot : (slot : Option StoredSlot) → option_map (verdict1_of header limit) slot ≡ Some (Usable usable)
         → IsOf header usable × (option_and_then (slot1_of header) slot ≡ Some usable)
     of_slot None h = absurd cc
     of_slot (Some slot) h =

@@ -2,7 +2,7 @@
 use Rattle.std.specs.Prelude.{ℕ, ◌+◌, ◌*◌, ◌==◌, Bool, false, List, [], ◌∷◌, bytes_eq, map, if◌then◌else◌}
 use Rattle.luks_area.specs.Fields.{at, be32, text_of}
 use Rattle.luks1_header.specs.declared.header.Header1.{Header1}
-use Rattle.luks1_header.specs.declared.header.KeySlot.{KeySlot}
+use Rattle.luks1_header.specs.declared.header.StoredSlot.{StoredSlot}
 use Rattle.luks1_header.specs.declared.header.SlotState.{SlotState}
 use Rattle.luks1_header.specs.declared.header.SlotState.TheVariants.{Enabled, Disabled, Damaged}
 
@@ -23,7 +23,7 @@ abbrev pub slot_state : ℕ → SlotState
 slot_state n = if n == 0x00ac71f3 then Enabled else if n == 0x0000dead then Disabled else Damaged n
 
 -- the key slot that 48 bytes encode
-unfoldable pub key_slot_of : List ℕ → KeySlot
+unfoldable pub key_slot_of : List ℕ → StoredSlot
 key_slot_of bytes = record {
   state = slot_state (be32 (at 0 4 bytes));
   iterations = be32 (at 4 4 bytes);
@@ -33,7 +33,7 @@ key_slot_of bytes = record {
 }
 
 -- the eight key slots of a header, 48 bytes each from byte 208 on
-unfoldable pub key_slots_of : List ℕ → List KeySlot
+unfoldable pub key_slots_of : List ℕ → List StoredSlot
 key_slots_of bytes = map (λ i. key_slot_of (at (208 + 48 * i) 48 bytes)) (0 ∷ 1 ∷ 2 ∷ 3 ∷ 4 ∷ 5 ∷ 6 ∷ 7 ∷ [])
 
 -- the header that 592 bytes encode. It is read as an attached one

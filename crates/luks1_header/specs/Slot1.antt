@@ -16,10 +16,10 @@ use Rattle.luks_verdict.specs.declared.refusal.SkipReason.TheVariants.{State, St
 use Rattle.luks_verdict.specs.declared.slot.Slot.{Slot}
 use Rattle.luks_verdict.specs.declared.slot.SlotParts.{SlotParts}
 use Rattle.luks_verdict.specs.declared.slot.Verdict.{Verdict}
-use Rattle.luks_verdict.specs.declared.slot.Verdict.TheVariants.{Disabled as Unused}
+use Rattle.luks_verdict.specs.declared.slot.Verdict.TheVariants.{Disabled as VerdictDisabled}
 use Rattle.luks1_header.specs.Header1.{header1_len}
 use Rattle.luks1_header.specs.declared.header.Header1.{Header1}
-use Rattle.luks1_header.specs.declared.header.KeySlot.{KeySlot}
+use Rattle.luks1_header.specs.declared.header.StoredSlot.{StoredSlot}
 use Rattle.luks1_header.specs.declared.header.SlotState.{SlotState}
 use Rattle.luks1_header.specs.declared.header.SlotState.TheVariants.{Enabled, Disabled, Damaged}
 
@@ -61,13 +61,13 @@ unfoldable pub payload1_start : Header1 → Option ℕ
 payload1_start header = if header.detached then None else Some (512 * header.payload_offset)
 
 -- the key material of a slot does not fit. Its area has exactly the bytes that it needs
-unfoldable pub area1_out_of_range : Header1 → KeySlot → Bool
+unfoldable pub area1_out_of_range : Header1 → StoredSlot → Bool
 area1_out_of_range header slot =
     area_out_of_range header1_len (payload1_start header) (512 * slot.offset)
     (need_of header.key_bytes slot.stripes) (need_of header.key_bytes slot.stripes)
 
 -- the first reason to skip a slot that is not disabled
-unfoldable pub reason1_of : Header1 → Option ℕ → KeySlot → Option SkipReason
+unfoldable pub reason1_of : Header1 → Option ℕ → StoredSlot → Option SkipReason
 reason1_of header limit slot = first_match (
     (is_damaged slot.state, State)
     ∷ (stripes_out_of_range slot.stripes, Stripes)
@@ -77,7 +77,7 @@ reason1_of header limit slot = first_match (
     ∷ [])
 
 -- the parts of a slot. The key of its key material is as long as the volume key
-unfoldable pub slot_parts1_of : Header1 → KeySlot → SlotParts
+unfoldable pub slot_parts1_of : Header1 → StoredSlot → SlotParts
 slot_parts1_of header slot = record {
   priority = 1;
   kdf_hash = hash1_of header;
@@ -93,13 +93,13 @@ slot_parts1_of header slot = record {
 }
 
 -- what is needed to open a slot, if its numbers are in range
-unfoldable pub slot1_of : Header1 → KeySlot → Option Slot
+unfoldable pub slot1_of : Header1 → StoredSlot → Option Slot
 slot1_of header slot = slot_from (slot_parts1_of header slot)
 
 -- the verdict on a slot
-unfoldable pub verdict1_of : Header1 → Option ℕ → KeySlot → Verdict
+unfoldable pub verdict1_of : Header1 → Option ℕ → StoredSlot → Verdict
 verdict1_of header limit slot =
-    if is_disabled slot.state then Unused else verdict_by (reason1_of header limit slot) (slot1_of header slot)
+    if is_disabled slot.state then VerdictDisabled else verdict_by (reason1_of header limit slot) (slot1_of header slot)
 
 -- the verdict on the slot of this number, 0 to 7
 unfoldable pub verdict1_at : Header1 → Option ℕ → ℕ → Option Verdict

@@ -35,14 +35,14 @@ pub struct Header1 {
     /// The volume's UUID.
     pub uuid: FixedText<40>,
     /// The key slots.
-    pub slots: [KeySlot; 8],
+    pub slots: [StoredSlot; 8],
     /// Whether the header is detached. No header stores this: it is read as an attached one.
     pub detached: bool,
 }
 
 /// A key slot, as it is stored.
 #[derive(Clone, Copy, PartialEq, Eq, Debug)]
-pub struct KeySlot {
+pub struct StoredSlot {
     /// Whether it is in use.
     pub state: SlotState,
     /// The iterations of PBKDF2, which derives its key from a passphrase.
@@ -88,11 +88,11 @@ pub fn is_header1(image: &[u8]) -> bool
 }
 
 #[tactic(auto, unfolding(crate::specs::Header1::key_slot_of))]
-fn key_slot(bytes: &[u8]) -> KeySlot
+fn key_slot(bytes: &[u8]) -> StoredSlot
     requires { length bytes.now ≡ 48 }
     ensures { result ≡ key_slot_of bytes.now }
 {
-    KeySlot {
+    StoredSlot {
         state: SlotState::from_number(number_at(bytes, 0)),
         iterations: number_at(bytes, 4),
         salt: bytes_at(bytes, 8),
@@ -102,7 +102,7 @@ fn key_slot(bytes: &[u8]) -> KeySlot
 }
 
 // The eight key slots of a header.
-fn key_slots(bytes: &[u8]) -> [KeySlot; 8]
+fn key_slots(bytes: &[u8]) -> [StoredSlot; 8]
     requires { length bytes.now ≡ 592 }
     ensures { result ≡ key_slots_of bytes.now }
 {

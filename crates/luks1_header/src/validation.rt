@@ -9,7 +9,7 @@ ghost use Rattle.luks1_header.specs.Slot1.{digest1_of, hash1_of, is_disabled, ar
 ghost use Rattle.luks1_header.specs.Slot1.{mode1_of, payload1_start, reason1_of, slot1_at};
 ghost use Rattle.luks1_header.specs.Slot1.{slot1_of, verdict1_at, verdict1_of};
 
-use crate::header::{HEADER1_LEN, Header1, KeySlot, SlotState};
+use crate::header::{HEADER1_LEN, Header1, SlotState, StoredSlot};
 use luks_cipher::Mode;
 use luks_kdf::Hash;
 use luks_verdict::bytes::HeaderBytes;
@@ -59,7 +59,7 @@ impl Header1 {
 }
 
 // The offset in bytes of a sector of 512 bytes.
-fn place(sector: u32) -> u64
+fn sector_offset(sector: u32) -> u64
     ensures { result ≡ 512 * sector }
 {
     512 * u64::from(sector)
@@ -67,25 +67,25 @@ fn place(sector: u32) -> u64
 
 // Where the payload starts, if the header is attached.
 #[tactic(auto, unfolding(crate::specs::Slot1::payload1_start))]
-fn payload(header: &Header1) -> Option<u64>
+fn payload1_start(header: &Header1) -> Option<u64>
     ensures { result ≡ payload1_start header.now }
 {
     if header.detached {
         None
     } else {
-        Some(place(header.payload_offset))
+        Some(sector_offset(header.payload_offset))
     }
 }
 
 // Whether the key material of a slot starts inside the header, or ends past the payload's start or
 // past byte 33,554,432.
 #[tactic(auto, unfolding(crate::specs::Slot1::area1_out_of_range))]
-fn area1_out_of_range(header: &Header1, slot: &KeySlot) -> bool
+fn area1_out_of_range(header: &Header1, slot: &StoredSlot) -> bool
     ensures { result ≡ area1_out_of_range header.now slot.now }
 {
     let need = need(header.key_bytes, slot.stripes);
-    let payload = payload(header);
-    area_out_of_range(HEADER_END, payload, place(slot.offset), need, need)
+    let payload = payload1_start(header);
+    area_out_of_range(HEADER_END, payload, sector_offset(slot.offset), need, need)
 }
 
 // Whether there is no usable digest, or its iterations are out of range.
@@ -98,7 +98,7 @@ fn no_usable_digest1(header: &Header1, limit: Option<u32>) -> bool
 
 // The first reason to skip a slot.
 #[tactic(auto, unfolding(crate::specs::Slot1::reason1_of))]
-fn reason(header: &Header1, limit: Option<u32>, slot: &KeySlot) -> Option<SkipReason>
+fn reason(header: &Header1, limit: Option<u32>, slot: &StoredSlot) -> Option<SkipReason>
     ensures { result ≡ reason1_of header.now limit slot.now }
 {
     if matches!(slot.state, SlotState::Damaged(_)) {
@@ -125,7 +125,7 @@ fn disabled(state: SlotState) -> bool
 
 // The verdict on a slot, without what is needed to open it.
 #[tactic(auto, unfolding(crate::specs::Slot1::verdict1_of))]
-fn slot_verdict_kind(header: &Header1, limit: Option<u32>, slot: &KeySlot) -> VerdictKind
+fn slot_verdict_kind(header: &Header1, limit: Option<u32>, slot: &StoredSlot) -> VerdictKind
     ensures { result ≡ verdict_kind_of (verdict1_of header.now limit slot.now) }
 {
     if disabled(slot.state) {
@@ -151,7 +151,7 @@ pub fn verdict_kind(header: &Header1, limit: Option<u32>, number: u8) -> Option<
 
 // What is needed to open a slot, if its numbers are in range.
 #[tactic(auto, unfolding(crate::specs::Slot1::slot1_of, crate::specs::Slot1::slot_parts1_of))]
-fn usable(alloc: Global, header: &Header1, slot: &KeySlot) -> Result<Option<Slot>, AllocError>
+fn slot1_of(alloc: Global, header: &Header1, slot: &StoredSlot) -> Result<Option<Slot>, AllocError>
     ensures { IfOk result (λ usable. usable ≡ slot1_of header.now slot.now) }
 {
     let parts = SlotParts {
@@ -163,7 +163,7 @@ fn usable(alloc: Global, header: &Header1, slot: &KeySlot) -> Result<Option<Slot
         stripes: slot.stripes,
         key_bytes: header.key_bytes,
         area_key_bytes: header.key_bytes,
-        area_offset: place(slot.offset),
+        area_offset: sector_offset(slot.offset),
         area_size: need(header.key_bytes, slot.stripes),
         area_mode: header.mode(),
     };
@@ -176,7 +176,7 @@ pub fn slot(alloc: Global, header: &Header1, number: u8) -> Result<Option<Slot>,
     ensures { IfOk result (λ usable. usable ≡ slot1_at header.now number) }
 {
     match header.slots.get(usize::from(number)) {
-        Some(slot) => usable(alloc, header, slot),
+        Some(slot) => slot1_of(alloc, header, slot),
         None => Ok(None),
     }
 }
@@ -200,7 +200,7 @@ pub fn digest(alloc: Global, header: &Header1) -> Result<Option<KeyDigest>, Allo
 fn overlaps_header1(header: &Header1) -> bool
     ensures { result ≡ overlaps_header1 header.now }
 {
-    !header.detached && place(header.payload_offset) < HEADER_END
+    !header.detached && sector_offset(header.payload_offset) < HEADER_END
 }
 
 // The first fault of the segment.
@@ -230,7 +230,7 @@ pub fn segment(header: &Header1) -> Result<Segment, SegmentFault>
         return Err(fault);
     }
     let parts = SegmentParts {
-        offset: Some(place(header.payload_offset)),
+        offset: Some(sector_offset(header.payload_offset)),
         size: Some(None),
         iv_tweak: Some(0),
         sector_size: Some(SectorSize::B512),

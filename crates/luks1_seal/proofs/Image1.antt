@@ -11,14 +11,14 @@ use Rattle.luks_seal.proofs.SectorLemmas.{piece_at}
 use Rattle.luks_seal.proofs.SlicingLemmas.{at_at, at_within_second, at_first, at_padded, at_second}
 use Rattle.luks1_seal.specs.Layout1.{area1_of, area_sectors_of, areas1_below, header1_bytes, image1_of, material1_of}
 use Rattle.luks1_seal.specs.Layout1.{payload1_bytes, slot1_numbered}
-use Rattle.luks1_seal.specs.Ranges1.{AreParameters, FitsSlot}
+use Rattle.luks1_seal.specs.Ranges1.{AreParameters1, FitsSlot1}
 use Rattle.luks1_seal.specs.Typed1.{AreTyped1}
 use Rattle.luks1_seal.proofs.Layout1Lemmas.{areas_fit, areas_joined, length-area1, length-areas1, length-before_payload}
 use Rattle.luks1_seal.proofs.Layout1Lemmas.{length-prefix1, length-header1, length-image1, length-material1}
 use Rattle.luks1_seal.proofs.Layout1Lemmas.{length-payload1}
 use Rattle.luks1_seal.proofs.Read1.{header1_start_bytes}
 
-module _ (p : Seal1) (fits : AreParameters p) (typed : AreTyped1 p) where
+module _ (p : Seal1) (fits : AreParameters1 p) (typed : AreTyped1 p) where
   -- bytes before the end of the areas are bytes of the header and the areas
   before_payload : (place len : ℕ) → place + len ≤ length (header1_bytes p ++ areas1_below p 8)
       → at place len (image1_of p) ≡ at place len (header1_bytes p ++ areas1_below p 8)
@@ -80,7 +80,7 @@ module _ (p : Seal1) (fits : AreParameters p) (typed : AreTyped1 p) where
       ∙ piece_at (area1_of p) (area_sectors_of p * 512) 8 number (λ j below. length-area1 p fits typed j) low
 
   module _ (number : ℕ) (slot : Slot1) (found : slot1_numbered number p.slots.now ≡ Some slot) (low : number < 8)
-      (of_slot : FitsSlot ((p.stripes - 1) * length p.key.now) slot) where
+      (of_slot : FitsSlot1 ((p.stripes - 1) * length p.key.now) slot) where
     -- an area begins with the slot's key material
     area_begins : at 0 ((length p.key.now * p.stripes + 511) / 512 * 512) (area1_of p number) ≡ material1_of p slot
     unfolding area1_of

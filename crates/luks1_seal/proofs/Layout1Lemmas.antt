@@ -23,7 +23,7 @@ use Rattle.luks_seal.proofs.SlicingLemmas.{length-padded}
 use Rattle.luks1_seal.specs.Layout1.{area1_of, area_key1_of, area_sectors_of, areas1_below, digest1_fields, fields1_of}
 use Rattle.luks1_seal.specs.Layout1.{header1_bytes, image1_of, key_slot1_of, key_slots1_below, material1_of, middle1_of}
 use Rattle.luks1_seal.specs.Layout1.{payload1_bytes, slot1_numbered, start1_of, state1_of}
-use Rattle.luks1_seal.specs.Ranges1.{AreParameters, FitsSlot}
+use Rattle.luks1_seal.specs.Ranges1.{AreParameters1, FitsSlot1}
 use Rattle.luks1_seal.specs.Typed1.{AreTyped1, IsTypedSlot1}
 use Rattle.luks1_seal.proofs.Slots1.{found_slot}
 
@@ -65,7 +65,7 @@ length-middle1 p =
     let key = to_be_bytes w32 (length p.key.now) in
     omega (arith, length-append (hash ++ sectors) key, length-append hash sectors, length-hash_name p.hash)
 
-module _ (p : Seal1) (fits : AreParameters p) (typed : AreTyped1 p) where
+module _ (p : Seal1) (fits : AreParameters1 p) (typed : AreTyped1 p) where
   pub length-digest1 : length (digest1_fields p) ≡ 56
   unfolding digest1_fields
   length-digest1 =
@@ -135,7 +135,7 @@ module _ (p : Seal1) (fits : AreParameters p) (typed : AreTyped1 p) where
   -- ---- the areas
 
   -- each slot has as many random bytes as its stripes need
-  pub random_stripes1 : (slot : Slot1) → FitsSlot ((p.stripes - 1) * length p.key.now) slot
+  pub random_stripes1 : (slot : Slot1) → FitsSlot1 ((p.stripes - 1) * length p.key.now) slot
       → AreRandomStripes p.key.now p.stripes slot.random.now
   random_stripes1 slot of_slot = record {
     some = fits.counts.0;
@@ -144,7 +144,7 @@ module _ (p : Seal1) (fits : AreParameters p) (typed : AreTyped1 p) where
     len = of_slot.2;
   }
 
-  pub length-material1 : (slot : Slot1) → FitsSlot ((p.stripes - 1) * length p.key.now) slot
+  pub length-material1 : (slot : Slot1) → FitsSlot1 ((p.stripes - 1) * length p.key.now) slot
       → length (material1_of p slot) ≡ (length p.key.now * p.stripes + 511) / 512 * 512
   unfolding material1_of
   length-material1 slot of_slot =
@@ -153,7 +153,7 @@ module _ (p : Seal1) (fits : AreParameters p) (typed : AreTyped1 p) where
       (length-stripes_of p.hash p.key.now p.stripes slot.random.now (random_stripes1 slot of_slot))
 
   length-area1_at : (found : Option Slot1)
-      → ((slot : Slot1) → found ≡ Some slot → FitsSlot ((p.stripes - 1) * length p.key.now) slot)
+      → ((slot : Slot1) → found ≡ Some slot → FitsSlot1 ((p.stripes - 1) * length p.key.now) slot)
       → length (padded (area_sectors_of p * 512) (option_map_or (material1_of p) found [])) ≡ area_sectors_of p * 512
   length-area1_at None of_slot = length-padded (area_sectors_of p * 512) [] (omega arith)
   length-area1_at (Some slot) of_slot =
@@ -165,7 +165,7 @@ module _ (p : Seal1) (fits : AreParameters p) (typed : AreTyped1 p) where
   length-area1 number =
       length-area1_at (slot1_numbered number p.slots.now)
       (λ slot is.
-      (found_slot (FitsSlot ((p.stripes - 1) * length p.key.now)) number p.slots.now slot fits.slots is).0)
+      (found_slot (FitsSlot1 ((p.stripes - 1) * length p.key.now)) number p.slots.now slot fits.slots is).0)
 
   pub areas_joined : (n : ℕ) → areas1_below p n ≡ joined (area1_of p) n
   unfolding areas1_below joined

@@ -18,7 +18,7 @@ use Rattle.luks_kdf.specs.declared.hash.Hash.TheVariants.{Sha1, Sha224, Sha256, 
 use Rattle.luks_kdf.proofs.Pbkdf2Lemmas.{length-derived_key}
 use Rattle.luks1_header.specs.Header1.{key_slot_of, key_slots_of, header1_of as read_header1}
 use Rattle.luks1_header.specs.declared.header.Header1.{Header1}
-use Rattle.luks1_header.specs.declared.header.KeySlot.{KeySlot}
+use Rattle.luks1_header.specs.declared.header.StoredSlot.{StoredSlot}
 use Rattle.luks1_header.specs.declared.header.SlotState.TheVariants.{Enabled}
 use Rattle.luks_seal.specs.Pieces.{padded}
 use Rattle.luks_seal.specs.declared.parameters.Seal1.{Seal1}
@@ -27,7 +27,7 @@ use Rattle.luks_seal.proofs.SectorLemmas.{piece_at}
 use Rattle.luks_seal.proofs.SlicingLemmas.{at_within_second, at_first, at_second}
 use Rattle.luks1_seal.specs.Layout1.{area_sectors_of, digest1_fields, fields1_of, key_slot1_of, key_slots1_below}
 use Rattle.luks1_seal.specs.Layout1.{middle1_of, slot1_numbered, start1_of, state1_of}
-use Rattle.luks1_seal.specs.Ranges1.{AreParameters}
+use Rattle.luks1_seal.specs.Ranges1.{AreParameters1}
 use Rattle.luks1_seal.specs.Typed1.{AreTyped1}
 use Rattle.luks1_seal.proofs.Layout1Lemmas.{key_slots_joined, length-cipher_name, length-digest1, length-fields1}
 use Rattle.luks1_seal.proofs.Layout1Lemmas.{length-hash_name, length-key_slot1, length-middle1, length-mode_name}
@@ -62,7 +62,7 @@ hash_read Sha512 = refl
 -- ---- a key slot
 
 -- a key slot that is read has the values of a slot in use
-pub record IsKeySlot (slot : Slot1) (place count : ℕ) (read : KeySlot) : Type 0 where
+pub record IsKeySlot (slot : Slot1) (place count : ℕ) (read : StoredSlot) : Type 0 where
   pub state : read.state ≡ Enabled
   pub iterations : read.iterations ≡ slot.iterations
   pub salt : read.salt ≡ slot.salt
@@ -129,7 +129,7 @@ pub record IsRead1 (p : Seal1) (header : Header1) : Type 0 where
 abbrev pub header1_start_bytes : Seal1 → List ℕ
 header1_start_bytes p = fields1_of p ++ key_slots1_below p 8
 
-module _ (p : Seal1) (fits : AreParameters p) (typed : AreTyped1 p) where
+module _ (p : Seal1) (fits : AreParameters1 p) (typed : AreTyped1 p) where
   -- bytes before the key slots are bytes of the fields
   in_fields : (place len : ℕ) → place + len ≤ 208 → at place len (header1_start_bytes p) ≡ at place len (fields1_of p)
   in_fields place len inside =

@@ -1,4 +1,4 @@
--- The image of a volume of LUKS1 is a sealed volume of its key, its passphrases and its plain text.
+-- The image of a volume of LUKS1 is a sealed volume of its key, its passphrases and its plaintext.
 use Rattle.std.proofs.Common.{◌≡◌, ◌∙◌, ℕ, ◌+◌, ◌-◌, ◌*◌, ◌<◌, true, List, [], ◌∷◌, length, Some, None, Ok, refl, ap}
 use Rattle.std.proofs.Common.{arith, get_or}
 use Rattle.std.specs.Prelude.{bytes_eq, option_map}
@@ -14,7 +14,7 @@ use Rattle.luks_verdict.specs.declared.sector_size.SectorSize.TheVariants.{B512}
 use Rattle.luks1_header.specs.Header1.{is_luks1, key_slot_of, header1_of as read_header1}
 use Rattle.luks1_header.specs.Slot1.{digest_parts1_of, slot_parts1_of, verdict1_at, verdict1_of}
 use Rattle.luks1_header.specs.declared.header.Header1.{Header1}
-use Rattle.luks1_header.specs.declared.header.KeySlot.{KeySlot}
+use Rattle.luks1_header.specs.declared.header.StoredSlot.{StoredSlot}
 use Rattle.luks_header.specs.HeaderDigests.{digest_for}
 use Rattle.luks_header.specs.Header.{header_of}
 use Rattle.luks_header.specs.HeaderSegment.{segment_of}
@@ -28,7 +28,7 @@ use Rattle.luks_seal.proofs.SectorLemmas.{sectors_are_stored}
 use Rattle.luks1_seal.specs.Layout1.{area_key1_of, area_sectors_of, image1_of, key_slot1_of, material1_of}
 use Rattle.luks1_seal.specs.Layout1.{payload1_bytes, slot1_numbered, start1_of}
 use Rattle.luks1_seal.specs.Passphrases1.{passphrases1_of}
-use Rattle.luks1_seal.specs.Ranges1.{AreParameters, FitsSlot}
+use Rattle.luks1_seal.specs.Ranges1.{AreParameters1, FitsSlot1}
 use Rattle.luks1_seal.specs.Typed1.{AreTyped1, IsTypedSlot1}
 use Rattle.luks1_seal.proofs.Image1.{image_header, image_material, image_payload, material_within}
 use Rattle.luks1_seal.proofs.Verdicts1.{digest1_is, digest1_of_key, digest_usable, hash1_is, mode1_is, payload_starts}
@@ -37,7 +37,7 @@ use Rattle.luks1_seal.proofs.Layout1Lemmas.{random_stripes1, length-prefix1, len
 use Rattle.luks1_seal.proofs.Read1.{IsKeySlot, IsRead1, header1_start_bytes, header1_is, in_start, key_slot1_is}
 use Rattle.luks1_seal.proofs.Slots1.{numbered_itself}
 
-module _ (p : Seal1) (fits : AreParameters p) (typed : AreTyped1 p) where
+module _ (p : Seal1) (fits : AreParameters1 p) (typed : AreTyped1 p) where
   -- ---- the header
 
   begins : is_luks1 (image1_of p) ≡ true
@@ -64,7 +64,7 @@ module _ (p : Seal1) (fits : AreParameters p) (typed : AreTyped1 p) where
   -- ---- a key slot
 
   module _ (slot : Slot1) (found : slot1_numbered slot.number p.slots.now ≡ Some slot)
-      (of_slot : FitsSlot ((p.stripes - 1) * length p.key.now) slot) (of_types : IsTypedSlot1 slot) where
+      (of_slot : FitsSlot1 ((p.stripes - 1) * length p.key.now) slot) (of_types : IsTypedSlot1 slot) where
     low : slot.number < 8
     low = omega (arith, of_slot.0)
 
@@ -73,7 +73,7 @@ module _ (p : Seal1) (fits : AreParameters p) (typed : AreTyped1 p) where
     stored_is = key_slot1_is p fits typed slot.number slot found of_types.salt of_types.iterations low
 
     -- a key slot that is read back gives the key
-    gives1 : (header : Header1) (stored : KeySlot) → IsRead1 p header
+    gives1 : (header : Header1) (stored : StoredSlot) → IsRead1 p header
         → IsKeySlot slot (8 + slot.number * area_sectors_of p) p.stripes stored
         → GivesKey (slot_parts1_of header stored) slot.passphrase.now p.key.now (image1_of p)
     unfolding slot_parts1_of need_of material1_of area_key1_of

@@ -7,7 +7,7 @@ use Rattle.std.proofs.lemmas.Bool.Decides.{nat_tests}
 use Rattle.std.proofs.lemmas.Option.{none-some, same_Some}
 use Rattle.luks_seal.specs.declared.parameters.Slot1.{Slot1}
 use Rattle.luks1_seal.specs.Layout1.{slot1_numbered}
-use Rattle.luks1_seal.specs.Ranges1.{AreDistinct}
+use Rattle.luks1_seal.specs.Ranges1.{AreDistinct1}
 
 all_rest : (P : Slot1 → Type 0) (slot : Slot1) (slots : List Slot1) → All P (slot ∷ slots) → All P slots
 all_rest P slot slots all = λ k d below. all (suc k) d (omega arith)
@@ -29,7 +29,7 @@ found_slot P number (first ∷ slots) slot all is =
     by false other is_later later = later is_later
 
 -- each slot is found by its number
-pub numbered_itself : (slots : List Slot1) → AreDistinct slots
+pub numbered_itself : (slots : List Slot1) → AreDistinct1 slots
     → All (λ slot. slot1_numbered slot.number slots ≡ Some slot) slots
 numbered_itself [] distinct k d below = absurd (omega arith)
 numbered_itself (first ∷ slots) distinct zero d below =

@@ -24,14 +24,14 @@ use Rattle.luks1_header.specs.Slot1.{digest1_of, digest_parts1_of, hash1_of, is_
 use Rattle.luks1_header.specs.Slot1.{area1_out_of_range}
 use Rattle.luks1_header.specs.Slot1.{mode1_of, payload1_start, reason1_of, slot_parts1_of, verdict1_of}
 use Rattle.luks1_header.specs.declared.header.Header1.{Header1}
-use Rattle.luks1_header.specs.declared.header.KeySlot.{KeySlot}
+use Rattle.luks1_header.specs.declared.header.StoredSlot.{StoredSlot}
 use Rattle.luks1_header.proofs.SegmentLemmas.{segment1-none}
 use Rattle.luks1_header.proofs.SlotLemmas.{slot_there}
 use Rattle.luks_seal.specs.Sealed.{IsDigestOf}
 use Rattle.luks_seal.specs.declared.parameters.Seal1.{Seal1}
 use Rattle.luks_seal.specs.declared.parameters.Slot1.{Slot1}
 use Rattle.luks1_seal.specs.Layout1.{area_sectors_of}
-use Rattle.luks1_seal.specs.Ranges1.{AreParameters}
+use Rattle.luks1_seal.specs.Ranges1.{AreParameters1}
 use Rattle.luks1_seal.specs.Typed1.{AreTyped1}
 use Rattle.luks1_seal.proofs.Read1.{IsKeySlot, IsRead1}
 
@@ -48,7 +48,7 @@ hash_by_name Sha256 = refl
 hash_by_name Sha384 = refl
 hash_by_name Sha512 = refl
 
-module _ (p : Seal1) (header : Header1) (fits : AreParameters p) (typed : AreTyped1 p) (read : IsRead1 p header) where
+module _ (p : Seal1) (header : Header1) (fits : AreParameters1 p) (typed : AreTyped1 p) (read : IsRead1 p header) where
   pub mode1_is : mode1_of header ≡ Some p.mode
   unfolding mode1_of
   mode1_is = rw (read.cipher_name, read.cipher_mode) (mode_by_name p.mode)
@@ -112,7 +112,7 @@ module _ (p : Seal1) (header : Header1) (fits : AreParameters p) (typed : AreTyp
 
   -- ---- a key slot
 
-  module _ (slot : Slot1) (number : ℕ) (stored : KeySlot)
+  module _ (slot : Slot1) (number : ℕ) (stored : StoredSlot)
       (is : IsKeySlot slot (8 + number * area_sectors_of p) p.stripes stored) (low : number < 8)
       (some : 1 ≤ slot.iterations) (few : slot.iterations < 2 ^ 32) where
     striped : stripes_out_of_range stored.stripes ≡ false
@@ -148,9 +148,9 @@ module _ (p : Seal1) (header : Header1) (fits : AreParameters p) (typed : AreTyp
         let starts = le-ltb (512 * stored.offset) 592 (omega (arith, is.offset)) in
         let whole = le-ltb need need (omega arith) in
         let before = le-ltb (512 * header.payload_offset) (512 * stored.offset + need) (omega (arith, capacity)) in
-        let held = le-ltb 33554432 (512 * stored.offset + need)
+        let loadable = le-ltb 33554432 (512 * stored.offset + need)
         (omega (arith, capacity, payload_starts, fits.counts.4)) in
-        rw (read.attached, starts, whole, before, held) refl
+        rw (read.attached, starts, whole, before, loadable) refl
 
     digested : has_no_usable_digest None (digest1_of header) ≡ false
     unfolding digest1_of digest_parts1_of iterations_out_of_range

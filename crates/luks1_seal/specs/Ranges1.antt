@@ -9,28 +9,28 @@ abbrev pub area_sectors : ℕ → ℕ → ℕ
 area_sectors key stripes = (key * stripes + 4095) / 4096 * 8
 
 -- the counts are in their ranges, and the payload begins after the areas of eight slots
-abbrev pub FitsCounts : Seal1 → Type 0
-FitsCounts p = (1 ≤ p.stripes) × (p.stripes ≤ 4000) × (1 ≤ p.digest_iterations)
+abbrev pub FitsCounts1 : Seal1 → Type 0
+FitsCounts1 p = (1 ≤ p.stripes) × (p.stripes ≤ 4000) × (1 ≤ p.digest_iterations)
     × (8 + 8 * area_sectors (length p.key.now) p.stripes ≤ p.payload_sectors) × (p.payload_sectors ≤ 65536)
 
--- a plain text of this length is whole sectors of 512 bytes, and is not too long
-abbrev pub FitsPlain : ℕ → Type 0
-FitsPlain len = (len % 512 ≡ 0) × (len ≤ max_plain_len)
+-- a plaintext of this length is whole sectors of 512 bytes, and is not too long
+abbrev pub FitsPlain1 : ℕ → Type 0
+FitsPlain1 len = (len % 512 ≡ 0) × (len ≤ max_plain_len)
 
 -- one slot of a volume whose slots have this many random bytes each
-abbrev pub FitsSlot : ℕ → Slot1 → Type 0
-FitsSlot random slot = (slot.number ≤ 7) × (1 ≤ slot.iterations) × (length slot.random.now ≡ random)
+abbrev pub FitsSlot1 : ℕ → Slot1 → Type 0
+FitsSlot1 random slot = (slot.number ≤ 7) × (1 ≤ slot.iterations) × (length slot.random.now ≡ random)
 
 -- no two slots have the same number
-abbrev pub AreDistinct : List Slot1 → Type 0
-AreDistinct [] = Unit {0}
-AreDistinct (slot ∷ slots) = All (λ other. other.number ≢ slot.number) slots × AreDistinct slots
+abbrev pub AreDistinct1 : List Slot1 → Type 0
+AreDistinct1 [] = Unit {0}
+AreDistinct1 (slot ∷ slots) = All (λ other. other.number ≢ slot.number) slots × AreDistinct1 slots
 
 -- the parameters are all in their ranges
-pub record AreParameters (p : Seal1) : Type 0 where
+pub record AreParameters1 (p : Seal1) : Type 0 where
   pub key : FitsKey p.mode (length p.key.now)
-  pub counts : FitsCounts p
+  pub counts : FitsCounts1 p
   pub uuid : FitsText 40 p.uuid.now
-  pub plain : FitsPlain (length p.plain.now)
-  pub slots : All (FitsSlot ((p.stripes - 1) * length p.key.now)) p.slots.now
-  pub distinct : AreDistinct p.slots.now
+  pub plain : FitsPlain1 (length p.plain.now)
+  pub slots : All (FitsSlot1 ((p.stripes - 1) * length p.key.now)) p.slots.now
+  pub distinct : AreDistinct1 p.slots.now

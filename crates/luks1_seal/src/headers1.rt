@@ -5,9 +5,9 @@ ghost use Rattle.std.specs.Prelude.{option_copied};
 ghost use Rattle.luks1_seal.specs.Layout1.{digest1_fields, fields1_of, header1_bytes, key_slot1_of};
 ghost use Rattle.luks1_seal.specs.Layout1.{key_slots1_below, middle1_of, slot1_numbered, start1_of};
 ghost use Rattle.luks1_seal.specs.Layout1.{state1_of};
-ghost use Rattle.luks1_seal.specs.Ranges1.{AreParameters, FitsSlot};
+ghost use Rattle.luks1_seal.specs.Ranges1.{AreParameters1, FitsSlot1};
 
-use crate::ranges::area_of;
+use crate::ranges::area_sectors;
 use luks_seal::parameters::{Seal1, Slot1};
 use luks_seal::pieces::{derived_key, padded, push_padded};
 use std::alloc::{AllocError, Global};
@@ -20,10 +20,10 @@ const DISABLED: u32 = 0x0000_dead;
 
 /// The slot of this number, if it is in use.
 pub(crate) fn slot1_numbered<'a>(seal: &Seal1<'a>, number: u32) -> Option<&'a Slot1<'a>>
-    requires { AreParameters seal.now }
+    requires { AreParameters1 seal.now }
     ensures value { option_copied result ≡ slot1_numbered number seal.now.slots.now }
     ensures fits { IfSome result
-        (λ slot. FitsSlot ((seal.now.stripes - 1) * length seal.now.key.now) slot.now) }
+        (λ slot. FitsSlot1 ((seal.now.stripes - 1) * length seal.now.key.now) slot.now) }
 {
     for slot in seal.slots {
         if slot.number == number {
@@ -46,7 +46,7 @@ fn push_start(alloc: Global, header: &mut Vec<u8>, seal: &Seal1<'_>) -> Result<(
 /// Adds `hash-spec`, `payload-offset` and `key-bytes`.
 #[tactic(auto, unfolding(crate::specs::Layout1::middle1_of))]
 fn push_middle(alloc: Global, header: &mut Vec<u8>, seal: &Seal1<'_>) -> Result<(), AllocError>
-    requires { AreParameters seal.now }
+    requires { AreParameters1 seal.now }
     ensures { OnOk result (header.new.items ≡ header.old.items ++ middle1_of seal.now) }
 {
     push_padded(alloc, header, seal.hash.name().as_bytes(), 32)?;
@@ -57,7 +57,7 @@ fn push_middle(alloc: Global, header: &mut Vec<u8>, seal: &Seal1<'_>) -> Result<
 /// Adds `mk-digest`, `mk-digest-salt` and `mk-digest-iter`.
 #[tactic(auto, unfolding(crate::specs::Layout1::digest1_fields))]
 fn push_digest(alloc: Global, header: &mut Vec<u8>, seal: &Seal1<'_>) -> Result<(), AllocError>
-    requires { AreParameters seal.now }
+    requires { AreParameters1 seal.now }
     ensures { OnOk result (header.new.items ≡ header.old.items ++ digest1_fields seal.now) }
 {
     let digest = derived_key(
@@ -76,7 +76,7 @@ fn push_digest(alloc: Global, header: &mut Vec<u8>, seal: &Seal1<'_>) -> Result<
 /// Adds the header up to the key slots.
 #[tactic(auto, unfolding(crate::specs::Layout1::fields1_of))]
 fn push_fields(alloc: Global, header: &mut Vec<u8>, seal: &Seal1<'_>) -> Result<(), AllocError>
-    requires { AreParameters seal.now }
+    requires { AreParameters1 seal.now }
     ensures { OnOk result (header.new.items ≡ header.old.items ++ fields1_of seal.now) }
 {
     push_start(alloc, header, seal)?;
@@ -111,7 +111,7 @@ fn push_state(
     seal: &Seal1<'_>,
     number: u32,
 ) -> Result<(), AllocError>
-    requires { AreParameters seal.now }
+    requires { AreParameters1 seal.now }
     ensures { OnOk result (header.new.items
         ≡ header.old.items ++ state1_of (slot1_numbered number seal.now.slots.now)) }
 {
@@ -129,11 +129,11 @@ fn push_key_slot(
     seal: &Seal1<'_>,
     number: u32,
 ) -> Result<(), AllocError>
-    requires fits { AreParameters seal.now }
+    requires fits { AreParameters1 seal.now }
     requires number { number < 8 }
     ensures { OnOk result (header.new.items ≡ header.old.items ++ key_slot1_of seal.now number) }
 {
-    let start = 8 + number * area_of(seal.key.len(), seal.stripes);
+    let start = 8 + number * area_sectors(seal.key.len(), seal.stripes);
     push_state(alloc, header, seal, number)?;
     header.extend_from_slice(&start.to_be_bytes())?;
     header.extend_from_slice(&seal.stripes.to_be_bytes())
@@ -142,7 +142,7 @@ fn push_key_slot(
 /// Adds the eight key slots.
 #[tactic(auto, unfolding(crate::specs::Layout1::key_slots1_below))]
 fn push_key_slots(alloc: Global, header: &mut Vec<u8>, seal: &Seal1<'_>) -> Result<(), AllocError>
-    requires { AreParameters seal.now }
+    requires { AreParameters1 seal.now }
     ensures { OnOk result (header.new.items ≡ header.old.items ++ key_slots1_below seal.now 8) }
 {
     'slots: for number in 0..8 {
@@ -154,7 +154,7 @@ fn push_key_slots(alloc: Global, header: &mut Vec<u8>, seal: &Seal1<'_>) -> Resu
 /// The header with its eight key slots, and zeros to sector 8.
 #[tactic(auto, unfolding(crate::specs::Layout1::header1_bytes))]
 pub(crate) fn header1_bytes(alloc: Global, seal: &Seal1<'_>) -> Result<Vec<u8>, AllocError>
-    requires { AreParameters seal.now }
+    requires { AreParameters1 seal.now }
     ensures { IfOk result (λ header. header.items ≡ header1_bytes seal.now) }
 {
     let mut header = Vec::new(alloc);

@@ -7,14 +7,14 @@ ghost use Rattle.luks_seal.specs.Sealed.{Sealed};
 ghost use Rattle.luks1_seal.specs.Layout1.{area1_of, area_key1_of, areas1_below, image1_of};
 ghost use Rattle.luks1_seal.specs.Layout1.{material1_of, payload1_bytes, slot1_numbered};
 ghost use Rattle.luks1_seal.specs.Passphrases1.{passphrases1_of};
-ghost use Rattle.luks1_seal.specs.Ranges1.{AreParameters, FitsSlot};
+ghost use Rattle.luks1_seal.specs.Ranges1.{AreParameters1, FitsSlot1};
 
 use crate::headers1::{header1_bytes, slot1_numbered};
-use crate::ranges::{are_parameters, area_of};
+use crate::ranges::{are_parameters, area_sectors};
 use crate::typed::typed1;
 use luks_seal::parameters::{Seal1, SealFault, Slot1};
 use luks_seal::pieces::{
-    cipher_of, derived_key, encrypted, encrypted_material, padded, push_padded, stripes_of,
+    cipher_with, derived_key, encrypted, encrypted_material, padded, push_padded, stripes_of,
 };
 use luks_verdict::sector_size::SectorSize;
 use std::alloc::{AllocError, Global};
@@ -22,8 +22,8 @@ use std::alloc::{AllocError, Global};
 /// The key that encrypts a slot's area.
 #[tactic(auto, unfolding(crate::specs::Layout1::area_key1_of))]
 fn area_key_of(alloc: Global, seal: &Seal1<'_>, slot: &Slot1<'_>) -> Result<Vec<u8>, AllocError>
-    requires fits { AreParameters seal.now }
-    requires slot { FitsSlot ((seal.now.stripes - 1) * length seal.now.key.now) slot.now }
+    requires fits { AreParameters1 seal.now }
+    requires slot { FitsSlot1 ((seal.now.stripes - 1) * length seal.now.key.now) slot.now }
     ensures value { IfOk result (λ key. key.items ≡ area_key1_of seal.now slot.now) }
     ensures len { IfOk result (λ key. length key.items ≡ length seal.now.key.now) }
 {
@@ -40,8 +40,8 @@ fn area_key_of(alloc: Global, seal: &Seal1<'_>, slot: &Slot1<'_>) -> Result<Vec<
 /// A slot's key material.
 #[tactic(auto, unfolding(crate::specs::Layout1::material1_of))]
 fn slot_material(alloc: Global, seal: &Seal1<'_>, slot: &Slot1<'_>) -> Result<Vec<u8>, AllocError>
-    requires fits { AreParameters seal.now }
-    requires slot { FitsSlot ((seal.now.stripes - 1) * length seal.now.key.now) slot.now }
+    requires fits { AreParameters1 seal.now }
+    requires slot { FitsSlot1 ((seal.now.stripes - 1) * length seal.now.key.now) slot.now }
     ensures { IfOk result (λ material. material.items ≡ material1_of seal.now slot.now) }
 {
     let area_key = area_key_of(alloc, seal, slot)?;
@@ -51,7 +51,7 @@ fn slot_material(alloc: Global, seal: &Seal1<'_>, slot: &Slot1<'_>) -> Result<Ve
 
 /// The key material of the slot of this number, or no bytes if it is not in use.
 fn material_at(alloc: Global, seal: &Seal1<'_>, number: u32) -> Result<Vec<u8>, AllocError>
-    requires { AreParameters seal.now }
+    requires { AreParameters1 seal.now }
     ensures { IfOk result (λ material. material.items
         ≡ option_map_or (material1_of seal.now) (slot1_numbered number seal.now.slots.now) []) }
 {
@@ -69,18 +69,18 @@ fn push_area(
     seal: &Seal1<'_>,
     number: u32,
 ) -> Result<(), AllocError>
-    requires { AreParameters seal.now }
+    requires { AreParameters1 seal.now }
     ensures { OnOk result (image.new.items ≡ image.old.items ++ area1_of seal.now number) }
 {
     let material = material_at(alloc, seal, number)?;
-    let sectors = area_of(seal.key.len(), seal.stripes);
+    let sectors = area_sectors(seal.key.len(), seal.stripes);
     push_padded(alloc, image, &material, sectors as usize * 512)
 }
 
 /// Adds the areas of all eight slots.
 #[tactic(auto, unfolding(crate::specs::Layout1::areas1_below))]
 fn push_areas(alloc: Global, image: &mut Vec<u8>, seal: &Seal1<'_>) -> Result<(), AllocError>
-    requires { AreParameters seal.now }
+    requires { AreParameters1 seal.now }
     ensures { OnOk result (image.new.items ≡ image.old.items ++ areas1_below seal.now 8) }
 {
     'slots: for number in 0..8 {
@@ -92,17 +92,17 @@ fn push_areas(alloc: Global, image: &mut Vec<u8>, seal: &Seal1<'_>) -> Result<()
 /// The payload.
 #[tactic(auto, unfolding(crate::specs::Layout1::payload1_bytes))]
 fn payload_of(alloc: Global, seal: &Seal1<'_>) -> Result<Vec<u8>, AllocError>
-    requires { AreParameters seal.now }
+    requires { AreParameters1 seal.now }
     ensures { IfOk result (λ payload. payload.items ≡ payload1_bytes seal.now) }
 {
-    let cipher = cipher_of(seal.mode, seal.key);
+    let cipher = cipher_with(seal.mode, seal.key);
     encrypted(alloc, &cipher, 0, 1, SectorSize::B512, seal.plain)
 }
 
 /// The image of a volume whose parameters are in their ranges.
 #[tactic(auto, unfolding(crate::specs::Layout1::image1_of))]
 fn image_of(alloc: Global, seal: &Seal1<'_>) -> Result<Vec<u8>, AllocError>
-    requires { AreParameters seal.now }
+    requires { AreParameters1 seal.now }
     ensures { IfOk result (λ image. image.items ≡ image1_of seal.now) }
 {
     let mut prefix = header1_bytes(alloc, seal)?;
@@ -124,7 +124,7 @@ fn image_of(alloc: Global, seal: &Seal1<'_>) -> Result<Vec<u8>, AllocError>
 /// [`Parameters`](SealFault::Parameters) if a parameter is out of range, before any memory is
 /// allocated; otherwise [`Memory`](SealFault::Memory) if memory runs out.
 pub fn seal1(alloc: Global, seal: &Seal1<'_>) -> Result<Vec<u8>, SealFault>
-    ensures answer { SealAnswer (AreParameters seal.now) result }
+    ensures answer { SealAnswer (AreParameters1 seal.now) result }
     ensures image { IfOk result (λ image. image.items ≡ image1_of seal.now) }
     ensures sealed { IfOk result (λ image.
         Sealed image.items (passphrases1_of seal.now) seal.now.key.now seal.now.plain.now) }

@@ -1,14 +1,14 @@
 //! Whether the parameters of a volume of LUKS1 are in their ranges.
 
 ghost use Rattle.std.specs.Prelude.{◌≡◌, ◌≢◌, ◌*◌, ◌-◌, ◌<◌, ◌≤◌, ◌↔◌, ℕ, All, length, IsTrue};
-ghost use Rattle.luks1_seal.specs.Ranges1.{AreDistinct, AreParameters, FitsCounts, FitsPlain};
-ghost use Rattle.luks1_seal.specs.Ranges1.{FitsSlot, area_sectors};
+ghost use Rattle.luks1_seal.specs.Ranges1.{AreDistinct1, AreParameters1, FitsCounts1, FitsPlain1};
+ghost use Rattle.luks1_seal.specs.Ranges1.{FitsSlot1, area_sectors};
 
 use luks_seal::parameters::{Seal1, Slot1};
 use luks_seal::ranges::fits_text;
 
 /// The sectors of 512 bytes that a slot's stripes need, rounded up to a multiple of 8.
-pub(super) fn area_of(key: usize, stripes: u32) -> u32
+pub(super) fn area_sectors(key: usize, stripes: u32) -> u32
     requires key { key ≤ 64 }
     requires stripes { stripes ≤ 4000 }
     ensures value { result ≡ area_sectors key stripes }
@@ -20,32 +20,32 @@ pub(super) fn area_of(key: usize, stripes: u32) -> u32
 /// The counts are in their ranges, and the payload begins after the areas of eight slots.
 pub(super) fn fits_counts(seal: &Seal1<'_>) -> bool
     requires { length seal.now.key.now ≤ 64 }
-    ensures { IsTrue result ↔ FitsCounts seal.now }
+    ensures { IsTrue result ↔ FitsCounts1 seal.now }
 {
     if seal.stripes < 1 || seal.stripes > 4000 {
         return false;
     }
-    let start = 8 + 8 * area_of(seal.key.len(), seal.stripes);
+    let start = 8 + 8 * area_sectors(seal.key.len(), seal.stripes);
     seal.digest_iterations >= 1 && start <= seal.payload_sectors && seal.payload_sectors <= 65536
 }
 
-/// A plain text of this length is whole sectors of 512 bytes, and is not too long.
+/// A plaintext of this length is whole sectors of 512 bytes, and is not too long.
 pub(super) fn fits_plain(len: usize) -> bool
-    ensures { IsTrue result ↔ FitsPlain len }
+    ensures { IsTrue result ↔ FitsPlain1 len }
 {
     len % 512 == 0 && len <= 8_388_608
 }
 
 /// One slot of a volume whose slots have this many random bytes each.
 pub(super) fn fits_slot(random: usize, slot: &Slot1<'_>) -> bool
-    ensures { IsTrue result ↔ FitsSlot random slot.now }
+    ensures { IsTrue result ↔ FitsSlot1 random slot.now }
 {
     slot.number <= 7 && slot.iterations >= 1 && slot.random.len() == random
 }
 
 /// Each of these slots fits.
 fn fit_slots(random: usize, slots: &[Slot1<'_>]) -> bool
-    ensures { IsTrue result ↔ All (FitsSlot random) slots.now }
+    ensures { IsTrue result ↔ All (FitsSlot1 random) slots.now }
 {
     slots.iter().all(|slot| fits_slot(random, slot))
 }
@@ -59,7 +59,7 @@ fn is_free(number: u32, slots: &[Slot1<'_>]) -> bool
 
 /// No two slots have the same number.
 fn are_distinct(slots: &[Slot1<'_>]) -> bool
-    ensures { IsTrue result ↔ AreDistinct slots.now }
+    ensures { IsTrue result ↔ AreDistinct1 slots.now }
 {
     match slots {
         [] => true,
@@ -70,7 +70,7 @@ fn are_distinct(slots: &[Slot1<'_>]) -> bool
 /// All parameters are in their ranges.
 #[tactic(auto, using(luks_cipher::proofs::ModeLemmas::longest_mode_key))]
 pub(super) fn are_parameters(seal: &Seal1<'_>) -> bool
-    ensures { IsTrue result ↔ AreParameters seal.now }
+    ensures { IsTrue result ↔ AreParameters1 seal.now }
 {
     if !seal.mode.has_key_length(seal.key.len()) || !fits_counts(seal) {
         return false;

@@ -13,51 +13,51 @@ use Rattle.luks2_binary.specs.Reading2.{IsPrefixOf, valid_size}
 use Rattle.luks2_binary.proofs.PrefixLemmas.{short_from_not}
 use Rattle.luks2_binary.proofs.ValidLemmas.{unfit-is_valid}
 
-module _ (held : List ℕ) (ended : Bool) (image : List ℕ) (prefix : IsPrefixOf held ended image) where
+module _ (loaded : List ℕ) (ended : Bool) (image : List ℕ) (prefix : IsPrefixOf loaded ended image) where
   -- loaded bytes are the image's
-  pub at-prefix : (place n : ℕ) → place + n ≤ length held → at place n held ≡ at place n image
+  pub at-prefix : (place n : ℕ) → place + n ≤ length loaded → at place n loaded ≡ at place n image
   at-prefix place n within =
-      let split : length held ≡ place + (length held - place) = omega arith in
+      let split : length loaded ≡ place + (length loaded - place) = omega arith in
       ap (λ l. take n (drop place l)) (sym prefix.begins)
       ∙ ap (λ m. take n (drop place (take m image))) split
-      ∙ ap (take n) (drop-take place (length held - place) image)
-      ∙ take-take n (length held - place) (drop place image) (omega arith)
+      ∙ ap (take n) (drop-take place (length loaded - place) image)
+      ∙ take-take n (length loaded - place) (drop place image) (omega arith)
 
   -- if a binary header's length is loaded, a header fits the loaded bytes if and only if it fits the image
-  pub fits-prefix : (place : ℕ) → place + 4096 ≤ length held → fits held place ≡ fits image place
+  pub fits-prefix : (place : ℕ) → place + 4096 ≤ length loaded → fits loaded place ≡ fits image place
   unfolding fits
   fits-prefix place within =
       rw (
-        le-leb (place + 4096) (length held) within,
+        le-leb (place + 4096) (length loaded) within,
         le-leb (place + 4096) (length image) (omega (arith, prefix.within)),
         at-prefix place 4096 within,
       ) refl
 
   -- a header that fits and is loaded whole is valid in the loaded bytes if and only if it is valid in the image
-  valid-whole : (place : ℕ) → place + 4096 ≤ length held → fits image place ≡ true
-      → place + size_at image place ≤ length held → is_valid held place ≡ is_valid image place
+  valid-whole : (place : ℕ) → place + 4096 ≤ length loaded → fits image place ≡ true
+      → place + size_at image place ≤ length loaded → is_valid loaded place ≡ is_valid image place
   unfolding is_valid
   valid-whole place within fit whole =
       rw (
         fits-prefix place within,
         fit,
         at-prefix place 4096 within,
-        le-leb (place + size_at image place) (length held) whole,
+        le-leb (place + size_at image place) (length loaded) whole,
         le-leb (place + size_at image place) (length image) (omega (arith, prefix.within)),
         at-prefix place (size_at image place) whole,
       ) refl
 
-  valid-by : (place : ℕ) (fit : Bool) → fits image place ≡ fit → place + 4096 ≤ length held
-      → (fits image place ≡ true → place + size_at image place ≤ length held)
-      → is_valid held place ≡ is_valid image place
+  valid-by : (place : ℕ) (fit : Bool) → fits image place ≡ fit → place + 4096 ≤ length loaded
+      → (fits image place ≡ true → place + size_at image place ≤ length loaded)
+      → is_valid loaded place ≡ is_valid image place
   valid-by place true is within whole = valid-whole place within is (whole is)
   valid-by place false is within whole =
-      unfit-is_valid held place (fits-prefix place within ∙ is) ∙ sym (unfit-is_valid image place is)
+      unfit-is_valid loaded place (fits-prefix place within ∙ is) ∙ sym (unfit-is_valid image place is)
 
   -- a header that is loaded whole, or does not fit, is valid in the loaded bytes if and only if it is in the image
-  pub valid-prefix : (place : ℕ) → place + 4096 ≤ length held
-      → (fits image place ≡ true → place + size_at image place ≤ length held)
-      → is_valid held place ≡ is_valid image place
+  pub valid-prefix : (place : ℕ) → place + 4096 ≤ length loaded
+      → (fits image place ≡ true → place + size_at image place ≤ length loaded)
+      → is_valid loaded place ≡ is_valid image place
   valid-prefix place = valid-by place (fits image place) refl
 
 -- a header is not valid if the image ends before it does
@@ -87,13 +87,14 @@ unfolding probe_end
 probe_fit image place is = rw is refl
 
 -- if fewer bytes are loaded than were requested, the image is loaded whole
-pub whole_image : (held : List ℕ) (ended : Bool) (image : List ℕ) (whole : Bool) (end : ℕ) → IsPrefixOf held ended image
-    → (IsTrue whole ↔ (end ≤ length held)) → (ended ≡ false → end ≤ length held) → whole ≡ false
-    → (image ≡ held) × (length held < end)
-whole_image held true image whole end prefix iff complete is =
-    (prefix.ends refl, short_from_not whole end (length held) iff (ap not is))
-whole_image held false image whole end prefix iff complete is =
-    (let short = short_from_not whole end (length held) iff (ap not is) in absurd (omega (arith, complete refl)))
+pub whole_image : (loaded : List ℕ) (ended : Bool) (image : List ℕ) (whole : Bool) (end : ℕ)
+    → IsPrefixOf loaded ended image
+    → (IsTrue whole ↔ (end ≤ length loaded)) → (ended ≡ false → end ≤ length loaded) → whole ≡ false
+    → (image ≡ loaded) × (length loaded < end)
+whole_image loaded true image whole end prefix iff complete is =
+    (prefix.ends refl, short_from_not whole end (length loaded) iff (ap not is))
+whole_image loaded false image whole end prefix iff complete is =
+    (let short = short_from_not whole end (length loaded) iff (ap not is) in absurd (omega (arith, complete refl)))
 
 -- a test whose answer is `None` does not hold
 pub none_fails : (b : Bool) (n : ℕ) → None ≡ (if b then Some n else None) → b ≡ false
@@ -105,10 +106,10 @@ pub some_holds : (b : Bool) (size n : ℕ) → Some size ≡ (if b then Some n e
 some_holds true size n is = (refl, cc)
 some_holds false size n is = absurd (cc)
 
-module _ (held : List ℕ) (ended : Bool) (image bytes : List ℕ) (place : ℕ) (prefix : IsPrefixOf held ended image)
-    (is : bytes ≡ held) (there : place + 4096 ≤ length held) where
+module _ (loaded : List ℕ) (ended : Bool) (image bytes : List ℕ) (place : ℕ) (prefix : IsPrefixOf loaded ended image)
+    (is : bytes ≡ loaded) (there : place + 4096 ≤ length loaded) where
   fits-bytes : fits bytes place ≡ fits image place
-  fits-bytes = ap (λ l. fits l place) is ∙ fits-prefix held ended image prefix place there
+  fits-bytes = ap (λ l. fits l place) is ∙ fits-prefix loaded ended image prefix place there
 
   -- if no header fits the loaded bytes, none fits the image
   pub unfit_here : None ≡ (if fits bytes place then Some (size_at bytes place) else None) → fits image place ≡ false
@@ -120,7 +121,7 @@ module _ (held : List ℕ) (ended : Bool) (image bytes : List ℕ) (place : ℕ)
   fit_here size some =
       let one = some_holds (fits bytes place) size (size_at bytes place) some in (
         sym fits-bytes ∙ one.0,
-        one.1 ∙ ap (λ l. size_at l place) is ∙ ap size_in (at-prefix held ended image prefix place 4096 there),
+        one.1 ∙ ap (λ l. size_at l place) is ∙ ap size_in (at-prefix loaded ended image prefix place 4096 there),
       )
 
 then_some_is : (b : Bool) (n : ℕ) → then_some b n ≡ (if b then Some n else None)
@@ -128,10 +129,11 @@ then_some_is true n = refl
 then_some_is false n = refl
 
 -- for a header that is loaded whole, the loaded bytes give the same length as the image, or none if it is not valid
-pub valid_here : (held : List ℕ) (ended : Bool) (image bytes : List ℕ) (place size : ℕ) → IsPrefixOf held ended image
-    → bytes ≡ held → place + 4096 ≤ length held → size ≡ size_at image place → place + size ≤ length held
+pub valid_here : (loaded : List ℕ) (ended : Bool) (image bytes : List ℕ) (place size : ℕ)
+    → IsPrefixOf loaded ended image
+    → bytes ≡ loaded → place + 4096 ≤ length loaded → size ≡ size_at image place → place + size ≤ length loaded
     → then_some (is_valid bytes place) size ≡ valid_size image place
-valid_here held ended image bytes place size prefix is there long whole =
+valid_here loaded ended image bytes place size prefix is there long whole =
     let valid : is_valid bytes place ≡ is_valid image place = ap (λ l. is_valid l place) is
-    ∙ valid-prefix held ended image prefix place there (λ fit. omega (arith, long, whole)) in
+    ∙ valid-prefix loaded ended image prefix place there (λ fit. omega (arith, long, whole)) in
     rw (valid, long) (then_some_is (is_valid image place) (size_at image place))

@@ -12,11 +12,12 @@ use Rattle.luks2_binary.specs.Choice2.{least_valid, size_at}
 use Rattle.luks2_binary.specs.ReadLen2.{header2_read_len, probe2_len, probe_end}
 use Rattle.luks2_binary.specs.Header2.{binary_len, checksum_hash_in, header2_from, sequence_in, size_in, sizes}
 use Rattle.luks2_binary.specs.Text2.{json_area_of, json_text_of, header_offset}
-use Rattle.luks2_binary.specs.declared.header.Finding.{Finding}
-use Rattle.luks2_binary.specs.declared.header.Finding.TheVariants.{PrimaryNotValid, SecondaryNotValid, SequencesDiffer}
+use Rattle.luks2_binary.specs.declared.header.PairFinding.{PairFinding}
+use Rattle.luks2_binary.specs.declared.header.PairFinding.TheVariants.{PrimaryNotValid, SecondaryNotValid}
+use Rattle.luks2_binary.specs.declared.header.PairFinding.TheVariants.{SequencesDiffer}
 use Rattle.luks2_binary.specs.declared.header.Header2.{Header2}
-use Rattle.luks2_binary.specs.declared.header.Place.{Place}
-use Rattle.luks2_binary.specs.declared.header.Place.TheVariants.{Primary, Secondary}
+use Rattle.luks2_binary.specs.declared.header.HeaderRole.{HeaderRole}
+use Rattle.luks2_binary.specs.declared.header.HeaderRole.TheVariants.{Primary, Secondary}
 use Rattle.luks2_binary.proofs.AgreeLemmas.{probe_fit}
 use Rattle.luks2_binary.proofs.ChoiceLemmas.{chosen_other, chosen_primary, probe_other, probe_primary}
 use Rattle.luks2_binary.proofs.SearchLemmas.{least_is, search_len_is}
@@ -37,21 +38,21 @@ first_is valid probe (here ∷ places) place is = by (valid here) refl (first_is
       (ap valid (sym same) ∙ e, omega (arith, ap probe same))
   by false e behind = (let rest = behind (rw e at is) in (rest.0, rw e (omega (arith, rest.1))))
 
--- a header that was made from bytes has this place, the length that they give, and is attached
-made_of : (place : Place) (finding : Option Finding) (binary : List ℕ) (header : Header2)
-    → header2_from place finding binary ≡ Some header
-    → (header.place ≡ place) × (header.size ≡ size_in binary) × (header.detached ≡ false)
+-- a header that was made from bytes has this role, the length that they give, and is attached
+made_of : (role : HeaderRole) (finding : Option PairFinding) (binary : List ℕ) (header : Header2)
+    → header2_from role finding binary ≡ Some header
+    → (header.role ≡ role) × (header.size ≡ size_in binary) × (header.detached ≡ false)
 unfolding header2_from
-made_of place finding binary header is = by (checksum_hash_in binary) refl where
+made_of role finding binary header is = by (checksum_hash_in binary) refl where
   by : (known : Option Hash) → checksum_hash_in binary ≡ known
-      → (header.place ≡ place) × (header.size ≡ size_in binary) × (header.detached ≡ false)
+      → (header.role ≡ role) × (header.size ≡ size_in binary) × (header.detached ≡ false)
   by (Some hash) e = (let made = rw e at is in (cc, cc, cc))
   by None e = absurd (let made = rw e at is in cc)
 
 -- a header is at this offset of the image, is valid there, is within the bytes that are to be read, and is attached
 record HasHeaderAt (image : List ℕ) (header : Header2) (place : ℕ) : Type 0 where
   pub valid : is_valid image place ≡ true
-  pub here : header_offset header.place header.size ≡ place
+  pub here : header_offset header.role header.size ≡ place
   pub size : header.size ≡ size_at image place
   pub probed : place + header.size ≤ probe2_len image
   pub attached : header.detached ≡ false
@@ -62,7 +63,7 @@ sequence_at image place = sequence_in (binary_at image place)
 
 module _ (image : List ℕ) (header : Header2) where
   -- a primary header is at the image's start
-  primary_header_at : (finding : Option Finding) → is_valid image 0 ≡ true
+  primary_header_at : (finding : Option PairFinding) → is_valid image 0 ≡ true
       → header2_from Primary finding (binary_at image 0) ≡ Some header → HasHeaderAt image header 0
   primary_header_at finding valid is =
       let made = made_of Primary finding (binary_at image 0) header is in
@@ -75,7 +76,7 @@ module _ (image : List ℕ) (header : Header2) where
       }
 
   -- a secondary header is at the offset that is its own length
-  secondary_header_at : (finding : Option Finding) (place : ℕ) → is_valid image place ≡ true → (place ≡ 0 → ⊥)
+  secondary_header_at : (finding : Option PairFinding) (place : ℕ) → is_valid image place ≡ true → (place ≡ 0 → ⊥)
       → place + place ≤ probe2_len image
       → header2_from Secondary finding (binary_at image place) ≡ Some header → HasHeaderAt image header place
   secondary_header_at finding place valid some probe is =
@@ -163,7 +164,7 @@ read_attached image header is = (located image header is).1.attached
 
 -- a header ends, with its JSON area, within the bytes that were read to choose it
 pub json_within : (image : List ℕ) (header : Header2) → header2_of image ≡ Ok header
-    → header_offset header.place header.size + binary_len + (header.size - binary_len) ≤ header2_read_len image
+    → header_offset header.role header.size + binary_len + (header.size - binary_len) ≤ header2_read_len image
 unfolding header2_read_len
 json_within image header is =
     let it = located image header is in
@@ -175,6 +176,6 @@ pub json_beginning : (image : List ℕ) (header : Header2) → header2_of image 
     → json_text_of (take (header2_read_len image) image) header ≡ json_text_of image header
 unfolding json_text_of json_area_of
 json_beginning image header is =
-    let place = header_offset header.place header.size + binary_len in
+    let place = header_offset header.role header.size + binary_len in
     ap text_of (at_beginning place (header.size - binary_len) (header2_read_len image) image
     (json_within image header is))

@@ -10,7 +10,7 @@ use Rattle.luks_io.specs.Devices.{counted}
 use Rattle.luks_io.specs.Counts.{Reads}
 use Rattle.luks_io.proofs.CountsLemmas.{no_reads, reads_more}
 use Rattle.luks_io.specs.declared.counts.ReadCounts.{ReadCounts}
-use Rattle.luks_area.specs.Area.{AbortsConsuming, ConsumedOnto, is_truncated}
+use Rattle.luks_area.specs.Area.{AbortsConsuming, ConsumedOnto, loading_hits_end}
 use Rattle.luks_area.specs.declared.fault.HeaderFault.{HeaderFault}
 use Rattle.luks_area.specs.declared.fault.HeaderFault.TheVariants.{NotLuks, Cut, Json, Read, Memory}
 use Rattle.luks2_binary.specs.Reading2.{Extended, LoadedPrefixOf, IsPrefixOf}
@@ -82,9 +82,9 @@ grew_by old new ended' left left' failed' counts counts' kept gave reads = recor
 }
 
 -- without a call nothing changes
-pub grew_none : (held : List ℕ) (ended : Bool) (left : Option (List ℕ)) (counts : ReadCounts)
-    → Extended held held ended ended left left false counts counts
-grew_none held ended left counts = record {
+pub grew_none : (loaded : List ℕ) (ended : Bool) (left : Option (List ℕ)) (counts : ReadCounts)
+    → Extended loaded loaded ended ended left left false counts counts
+grew_none loaded ended left counts = record {
   prefixes = λ image prefix. prefix;
   longer = omega arith;
   holds = λ image holds. holds;
@@ -98,7 +98,7 @@ grew_none held ended left counts = record {
 
 -- an area records whether the image's end was hit
 pub ended_is : (r : Result Bool HeaderFault) (whole old new : Bool) → r ≡ Ok whole → old ≡ false
-    → new ≡ cond (is_truncated r) true old → new ≡ not whole
+    → new ≡ cond (loading_hits_end r) true old → new ≡ not whole
 ended_is r true old new is unended e = rw (is, unended) at e
 ended_is r false old new is unended e = rw is at e
 
@@ -166,9 +166,9 @@ grew_more a b c e e1 e2 l l1 l2 failed' n n1 n2 first then = record {
 }
 
 -- the loaded bytes are a prefix of themselves
-pub prefix_of_itself : (held : List ℕ) (ended : Bool) → IsPrefixOf held ended held
-prefix_of_itself held ended = record {
-  begins = take_all (length held) held (omega arith);
+pub prefix_of_itself : (loaded : List ℕ) (ended : Bool) → IsPrefixOf loaded ended loaded
+prefix_of_itself loaded ended = record {
+  begins = take_all (length loaded) loaded (omega arith);
   within = omega arith;
   ends = λ _. refl;
 }
@@ -179,11 +179,11 @@ not_ended true ended' stays unended = absurd (let wrong = stays refl in cc)
 not_ended false ended' stays unended = refl
 
 -- if the end was hit in one of two calls, fewer bytes are loaded than were to be read
-pub end_hit_joined : (image held held' : List ℕ) (e e1 e2 : Bool) (near far most : ℕ) → IsPrefixOf held e1 image
-    → IsPrefixOf held' e2 image → (e ≡ false → e1 ≡ true → length held < near)
-    → (e1 ≡ false → e2 ≡ true → length held' < far) → near ≤ most → far ≤ most → e ≡ false → e2 ≡ true
-    → length held' < most
-end_hit_joined image held held' e true e2 near far most first then end_hit end_hit' below below' unended found =
+pub end_hit_joined : (image loaded loaded' : List ℕ) (e e1 e2 : Bool) (near far most : ℕ) → IsPrefixOf loaded e1 image
+    → IsPrefixOf loaded' e2 image → (e ≡ false → e1 ≡ true → length loaded < near)
+    → (e1 ≡ false → e2 ≡ true → length loaded' < far) → near ≤ most → far ≤ most → e ≡ false → e2 ≡ true
+    → length loaded' < most
+end_hit_joined image loaded loaded' e true e2 near far most first then end_hit end_hit' below below' unended found =
     omega (arith, end_hit unended refl, ap length (first.ends refl), ap length (then.ends found))
-end_hit_joined image held held' e false e2 near far most first then end_hit end_hit' below below' unended found =
+end_hit_joined image loaded loaded' e false e2 near far most first then end_hit end_hit' below below' unended found =
     omega (arith, end_hit' refl found)

@@ -11,9 +11,9 @@ use Rattle.luks2_binary.specs.Choice2.{binary_at, found_at, is_tried, is_valid, 
 use Rattle.luks2_binary.specs.ReadLen2.{probe_end, search_len}
 use Rattle.luks2_binary.specs.Reading2.{IsPrefixOf, valid_size}
 use Rattle.luks2_binary.specs.Header2.{header2_from, sizes}
-use Rattle.luks2_binary.specs.declared.header.Finding.TheVariants.{PrimaryNotValid}
+use Rattle.luks2_binary.specs.declared.header.PairFinding.TheVariants.{PrimaryNotValid}
 use Rattle.luks2_binary.specs.declared.header.Header2.{Header2}
-use Rattle.luks2_binary.specs.declared.header.Place.TheVariants.{Secondary}
+use Rattle.luks2_binary.specs.declared.header.HeaderRole.TheVariants.{Secondary}
 use Rattle.luks2_binary.proofs.AgreeLemmas.{at-prefix}
 use Rattle.luks2_binary.proofs.PrefixLemmas.{end_hit_joined}
 use Rattle.luks2_binary.proofs.ValidLemmas.{valid_range}
@@ -24,15 +24,15 @@ abbrev pub ahead : List ℕ → ℕ → ℕ
 ahead image k = furthest (is_valid image) (probe_end image) (drop k sizes)
 
 -- none of the first k offsets has a valid header, and the bytes that are read to check them are loaded
-pub record Searched (image old held : List ℕ) (ended : Bool) (k : ℕ) : Type 0 where
+pub record Searched (image old loaded : List ℕ) (ended : Bool) (k : ℕ) : Type 0 where
   pub place : first_valid (is_valid image) sizes ≡ first_valid (is_valid image) (drop k sizes)
-  pub within : length held ≤ max (length old) (ahead image 0)
-  pub complete : ended ≡ false → ahead image 0 ≤ max (length held) (ahead image k)
+  pub within : length loaded ≤ max (length old) (ahead image 0)
+  pub complete : ended ≡ false → ahead image 0 ≤ max (length loaded) (ahead image k)
   pub behind : ahead image k ≤ ahead image 0
 
 -- before the first offset
-pub searched_none : (image held : List ℕ) (ended : Bool) → Searched image held held ended 0
-searched_none image held ended = record {
+pub searched_none : (image loaded : List ℕ) (ended : Bool) → Searched image loaded loaded ended 0
+searched_none image loaded ended = record {
   place = refl;
   within = omega arith;
   complete = λ unended. omega arith;
@@ -49,10 +49,10 @@ unfolding search_len is_tried
 search_len_is image = (let one = are_one (is_valid image) (probe_end image) in sym one.1)
 
 -- at offset number k of the list of offsets
-module _ (image old held held' : List ℕ) (ended ended' : Bool) (k : ℕ) (items : List ℕ) (are : items ≡ sizes)
-    (inside : k < length items) (so_far : Searched image old held ended k)
-    (longer : length held ≤ length held') (stays : ended ≡ true → ended' ≡ true)
-    (within : length held' ≤ max (length held) (probe_end image (get_or items k 0))) where
+module _ (image old loaded loaded' : List ℕ) (ended ended' : Bool) (k : ℕ) (items : List ℕ) (are : items ≡ sizes)
+    (inside : k < length items) (so_far : Searched image old loaded ended k)
+    (longer : length loaded ≤ length loaded') (stays : ended ≡ true → ended' ≡ true)
+    (within : length loaded' ≤ max (length loaded) (probe_end image (get_or items k 0))) where
   abbrev pub place : ℕ
   place = get_or items k 0
 
@@ -77,8 +77,8 @@ module _ (image old held held' : List ℕ) (ended ended' : Bool) (k : ℕ) (item
   probed_last holds = rw (here, holds) (omega arith)
 
   -- no valid header is here: the search continues
-  pub searched_on : is_valid image place ≡ false → (ended' ≡ false → probe_end image place ≤ length held')
-      → Searched image old held' ended' (k + 1)
+  pub searched_on : is_valid image place ≡ false → (ended' ≡ false → probe_end image place ≤ length loaded')
+      → Searched image old loaded' ended' (k + 1)
   unfolding first_valid
   searched_on fails complete = rw add-one record {
     place = so_far.place ∙ rw (here, fails) refl;
@@ -101,16 +101,16 @@ module _ (image old held held' : List ℕ) (ended ended' : Bool) (k : ℕ) (item
     by false e = omega (arith, probed e, so_far.behind, search_len_is image)
 
   -- no more bytes are loaded than the search reads
-  pub searched_within : length held' ≤ max (length old) (search_len image)
+  pub searched_within : length loaded' ≤ max (length old) (search_len image)
   searched_within = omega (arith, probe_below, so_far.within, within, search_len_is image)
 
   -- if the end was hit by now, fewer bytes are loaded than the search reads
-  pub end_hit_here : (before : Bool) → IsPrefixOf held ended image → IsPrefixOf held' ended' image
-      → (before ≡ false → ended ≡ true → length held < search_len image)
-      → (ended ≡ false → ended' ≡ true → length held' < probe_end image place)
-      → before ≡ false → ended' ≡ true → length held' < search_len image
+  pub end_hit_here : (before : Bool) → IsPrefixOf loaded ended image → IsPrefixOf loaded' ended' image
+      → (before ≡ false → ended ≡ true → length loaded < search_len image)
+      → (ended ≡ false → ended' ≡ true → length loaded' < probe_end image place)
+      → before ≡ false → ended' ≡ true → length loaded' < search_len image
   end_hit_here before prefix prefix' end_hit end_hit' =
-      end_hit_joined image held held' before ended ended' (search_len image) (probe_end image place)
+      end_hit_joined image loaded loaded' before ended ended' (search_len image) (probe_end image place)
       (search_len image) prefix prefix' end_hit end_hit' (omega arith) probe_below
 
   -- a valid header is here: the search ends
@@ -118,8 +118,8 @@ module _ (image old held held' : List ℕ) (ended ended' : Bool) (k : ℕ) (item
   unfolding first_valid
   searched_place holds = so_far.place ∙ rw (here, holds) refl
 
-  pub searched_complete : is_valid image place ≡ true → (ended' ≡ false → probe_end image place ≤ length held')
-      → ended' ≡ false → search_len image ≤ length held'
+  pub searched_complete : is_valid image place ≡ true → (ended' ≡ false → probe_end image place ≤ length loaded')
+      → ended' ≡ false → search_len image ≤ length loaded'
   searched_complete holds complete unended =
       omega (
         arith,
@@ -156,21 +156,22 @@ place_range k inside =
     leb-true (get_or sizes k 0) 4194304 (AllPass-from_list_all (λ size. nat_le size 4194304) sizes refl k 0 inside)
 
 -- the header that was found is that of the lowest valid offset
-pub found_least : (held : List ℕ) (ended : Bool) (image bytes : List ℕ) (place : ℕ) (header : Option Header2)
-    → IsPrefixOf held ended image → bytes ≡ held → is_valid held place ≡ true
+pub found_least : (loaded : List ℕ) (ended : Bool) (image bytes : List ℕ) (place : ℕ) (header : Option Header2)
+    → IsPrefixOf loaded ended image → bytes ≡ loaded → is_valid loaded place ≡ true
     → header ≡ header2_from Secondary (Some PrimaryNotValid) (binary_at bytes place)
     → first_valid (is_valid image) sizes ≡ Some place
     → header ≡ option_and_then (found_at image) (least_valid image)
-found_least held ended image bytes place header prefix is valid made first =
-    let range = valid_range held place valid in
+found_least loaded ended image bytes place header prefix is valid made first =
+    let range = valid_range loaded place valid in
     let same : binary_at bytes place ≡ binary_at image place = ap (λ l. at place 4096 l) is
-    ∙ at-prefix held ended image prefix place 4096 range.0 in
+    ∙ at-prefix loaded ended image prefix place 4096 range.0 in
     made ∙ ap (header2_from Secondary (Some PrimaryNotValid)) same
     ∙ sym (ap (option_and_then (found_at image)) (least_is image ∙ first))
 
 -- if no offset remains, none has a valid header
-pub searched_all : (image old held : List ℕ) (ended : Bool) (k : ℕ) → Searched image old held ended k → length sizes ≤ k
+pub searched_all : (image old loaded : List ℕ) (ended : Bool) (k : ℕ)
+    → Searched image old loaded ended k → length sizes ≤ k
     → (first_valid (is_valid image) sizes ≡ None) × (ahead image k ≡ 0)
 unfolding first_valid furthest
-searched_all image old held ended k so_far end =
+searched_all image old loaded ended k so_far end =
     let none = drop_all k sizes end in (so_far.place ∙ rw none refl, rw none refl)

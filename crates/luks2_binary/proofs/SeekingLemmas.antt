@@ -11,9 +11,10 @@ use Rattle.luks_area.specs.declared.fault.HeaderFault.{HeaderFault}
 use Rattle.luks_area.specs.declared.fault.HeaderFault.TheVariants.{NotLuks, Cut, Json, Read, Memory}
 use Rattle.luks2_binary.specs.Choice2.{chosen2_of, header2_of}
 use Rattle.luks2_binary.specs.ReadLen2.{header2_read_len, probe2_len}
-use Rattle.luks2_binary.specs.Reading2.{AbortsSearching, AnsweredFrom, ConsumedReadLen, Extended, LoadedPrefixOf}
-use Rattle.luks2_binary.specs.Reading2.{IsPrefixOf, FallsShort, CoversProbe, RecordsEnd, SearchesHeader2, StaysBelow}
-use Rattle.luks2_binary.specs.Reading2.{hits_eof, unloaded}
+use Rattle.luks2_binary.specs.Reading2.{FindsNoHeader2, AnsweredFrom, ConsumedReadLen, Extended, LoadedPrefixOf}
+use Rattle.luks2_binary.specs.Reading2.{IsPrefixOf, EndsBelowProbe, CoversProbe, RecordsEnd, SearchesHeader2}
+use Rattle.luks2_binary.specs.Reading2.{StaysBelow}
+use Rattle.luks2_binary.specs.Reading2.{search_hits_end, unloaded}
 use Rattle.luks2_binary.proofs.PrefixLemmas.{prefix_of_itself}
 use Rattle.std.proofs.lemmas.Bool.{le-ltb, lt-ltb}
 use Rattle.luks2_binary.specs.declared.header.Header2.{Header2}
@@ -27,9 +28,9 @@ module _ (image old new : List ℕ) (ended : Bool) (prefix : IsPrefixOf new ende
   below_cost = omega (arith, probe_some image, within, prefix.within)
 
   -- exactly as many bytes are loaded as are read for the header if the search was finished
-  pub cost_held : (ended ≡ false → probe2_len image ≤ length new) → length new ≡ header2_read_len image
+  pub loaded_read_len : (ended ≡ false → probe2_len image ≤ length new) → length new ≡ header2_read_len image
   unfolding header2_read_len
-  cost_held complete = by ended refl where
+  loaded_read_len complete = by ended refl where
     by : (b : Bool) → ended ≡ b → length new ≡ header2_read_len image
     by true e = omega (arith, probe_some image, within, ap length (prefix.ends e))
     by false e = omega (arith, probe_some image, within, complete e, prefix.within)
@@ -53,11 +54,11 @@ holds_start old rest ended left unended is = record {
 }
 
 -- if the image's end was hit, no bytes remain in its source
-pub nothing_behind : (image held : List ℕ) (ended : Bool) (left : Option (List ℕ)) → LoadedPrefixOf image held ended
+pub nothing_behind : (image loaded : List ℕ) (ended : Bool) (left : Option (List ℕ)) → LoadedPrefixOf image loaded ended
     left
     → ended ≡ true → left ≡ Some []
-nothing_behind image held ended left holds is =
-    holds.behind ∙ ap Some (drop_all (length held) image (omega (arith, ap length (holds.prefix.ends is))))
+nothing_behind image loaded ended left holds is =
+    holds.behind ∙ ap Some (drop_all (length loaded) image (omega (arith, ap length (holds.prefix.ends is))))
 
 module _ (old new rest : List ℕ) (ended : Bool) (left' : Option (List ℕ)) where
   -- the consumed bytes were appended to the loaded ones
@@ -89,7 +90,7 @@ module _ (old new rest : List ℕ) (ended : Bool) (left' : Option (List ℕ)) wh
       → LoadedPrefixOf (old ++ rest) new ended left' → length old ≤ length new → length new ≤ header2_read_len
       (old ++ rest)
       → (fault ≡ Memory → length new < probe2_len (old ++ rest))
-      → AbortsSearching (old ++ rest) old new rest left' fault
+      → FindsNoHeader2 (old ++ rest) old new rest left' fault
   aborts_seeking Read which holds longer within stopped_below =
       (length new - length old, omega arith, consumed_count holds longer)
   aborts_seeking Memory which holds longer within stopped_below =
@@ -106,20 +107,20 @@ seeks_answer old new rest left' (Some header) answer is known consumed = rw is (
 seeks_answer old new rest left' None answer is known consumed = rw is (known ∙ is, consumed)
 
 -- the loaded bytes have the header that was answered, or none
-pub answered_from : (held : List ℕ) (chosen : Option Header2) (answer : Result Header2 HeaderFault)
-    → answer ≡ ok_or chosen NotLuks → header2_of held ≡ answer → length held ≡ header2_read_len held
-    → AnsweredFrom held answer
-answered_from held (Some header) answer is known long = rw is (known ∙ is, long)
-answered_from held None answer is known long = rw is (known ∙ is, long)
+pub answered_from : (loaded : List ℕ) (chosen : Option Header2) (answer : Result Header2 HeaderFault)
+    → answer ≡ ok_or chosen NotLuks → header2_of loaded ≡ answer → length loaded ≡ header2_read_len loaded
+    → AnsweredFrom loaded answer
+answered_from loaded (Some header) answer is known long = rw is (known ∙ is, long)
+answered_from loaded None answer is known long = rw is (known ∙ is, long)
 
 -- a failure claims nothing about the header of the image
-pub fault_answered : (held : List ℕ) (fault : HeaderFault) → (fault ≡ Read) ⊎ (fault ≡ Memory)
-    → (fault ≡ Memory → StaysBelow held false probe2_len) → AnsweredFrom held (Err fault)
-fault_answered held Read which stopped_below = tt
-fault_answered held Memory which stopped_below = stopped_below refl
-fault_answered held NotLuks which stopped_below = absurd (elim which [ inl e ↦ cc | inr e ↦ cc ])
-fault_answered held Cut which stopped_below = absurd (elim which [ inl e ↦ cc | inr e ↦ cc ])
-fault_answered held Json which stopped_below = absurd (elim which [ inl e ↦ cc | inr e ↦ cc ])
+pub fault_answered : (loaded : List ℕ) (fault : HeaderFault) → (fault ≡ Read) ⊎ (fault ≡ Memory)
+    → (fault ≡ Memory → StaysBelow loaded false probe2_len) → AnsweredFrom loaded (Err fault)
+fault_answered loaded Read which stopped_below = tt
+fault_answered loaded Memory which stopped_below = stopped_below refl
+fault_answered loaded NotLuks which stopped_below = absurd (elim which [ inl e ↦ cc | inr e ↦ cc ])
+fault_answered loaded Cut which stopped_below = absurd (elim which [ inl e ↦ cc | inr e ↦ cc ])
+fault_answered loaded Json which stopped_below = absurd (elim which [ inl e ↦ cc | inr e ↦ cc ])
 
 -- the bytes behind the loaded ones, whether or not the image's end was hit before
 pub holds_unloaded : (old new rest : List ℕ) (ended ended' : Bool) (left left' : Option (List ℕ)) (failed' : Bool)
@@ -140,14 +141,14 @@ holds_unloaded old new rest true ended' left left' failed' counts counts' grew i
 
 -- the image's end was hit exactly if fewer bytes are loaded than are to be read
 pub hits_end : (new : List ℕ) (ended ended' : Bool) (chosen : Option Header2) (answer : Result Header2 HeaderFault)
-    → answer ≡ ok_or chosen NotLuks → FallsShort new ended ended' probe2_len → CoversProbe new ended' probe2_len
-    → ended ≡ false → ended' ≡ hits_eof answer new
+    → answer ≡ ok_or chosen NotLuks → EndsBelowProbe new ended ended' probe2_len → CoversProbe new ended' probe2_len
+    → ended ≡ false → ended' ≡ search_hits_end answer new
 hits_end new ended ended' chosen answer is end_hit complete unended = by_answer chosen is where
   by_end : (b : Bool) → ended' ≡ b → b ≡ nat_lt (length new) (probe2_len new)
   by_end true e = sym (lt-ltb (length new) (probe2_len new) (end_hit new (prefix_of_itself new ended') unended e))
   by_end false e = sym (le-ltb (length new) (probe2_len new) (complete new (prefix_of_itself new ended') e))
 
-  by_answer : (o : Option Header2) → answer ≡ ok_or o NotLuks → ended' ≡ hits_eof answer new
+  by_answer : (o : Option Header2) → answer ≡ ok_or o NotLuks → ended' ≡ search_hits_end answer new
   by_answer (Some header) e = rw e (by_end ended' refl)
   by_answer None e = rw e (by_end ended' refl)
 

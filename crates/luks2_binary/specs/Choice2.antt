@@ -9,9 +9,10 @@ use Rattle.luks_area.specs.declared.fault.HeaderFault.TheVariants.{NotLuks}
 use Rattle.luks2_binary.specs.Checksum2.{checksum_matches}
 use Rattle.luks2_binary.specs.Header2.{binary_len, checksum_hash_in, header2_from, hdr_offset_in, sequence_in, size_in}
 use Rattle.luks2_binary.specs.Header2.{sizes}
-use Rattle.luks2_binary.specs.declared.header.Finding.TheVariants.{PrimaryNotValid, SecondaryNotValid, SequencesDiffer}
+use Rattle.luks2_binary.specs.declared.header.PairFinding.TheVariants.{PrimaryNotValid, SecondaryNotValid}
+use Rattle.luks2_binary.specs.declared.header.PairFinding.TheVariants.{SequencesDiffer}
 use Rattle.luks2_binary.specs.declared.header.Header2.{Header2}
-use Rattle.luks2_binary.specs.declared.header.Place.TheVariants.{Primary, Secondary}
+use Rattle.luks2_binary.specs.declared.header.HeaderRole.TheVariants.{Primary, Secondary}
 
 -- the first bytes of a header at this offset: LUKS at the image's start and SKUL elsewhere, BA BE, and the version 2 in
 -- two bytes
@@ -20,8 +21,9 @@ beginning_at place =
     if place == 0 then 0x4c ∷ 0x55 ∷ 0x4b ∷ 0x53 ∷ 0xba ∷ 0xbe ∷ 0x00 ∷ 0x02 ∷ []
     else 0x53 ∷ 0x4b ∷ 0x55 ∷ 0x4c ∷ 0xba ∷ 0xbe ∷ 0x00 ∷ 0x02 ∷ []
 
--- these 4096 bytes are a binary header for this offset: they have its magic bytes and version, one of the nine lengths,
--- which is the offset of a secondary header, the offset itself, and a hash function that is known
+-- these 4096 bytes are a binary header for this offset: they begin with the magic bytes and version for this offset,
+-- and state one of the nine lengths, this offset and a known hash function; of a secondary header, length and offset
+-- are equal
 unfoldable pub is_binary_of : ℕ → List ℕ → Bool
 is_binary_of place binary =
     bytes_eq (at 0 8 binary) (beginning_at place)

@@ -3,9 +3,9 @@ use Rattle.std.specs.Prelude.{ℕ, ◌*◌, false, List, [], ◌∷◌, Option, 
 use Rattle.luks_area.specs.Fields.{at, be64, text_of}
 use Rattle.luks_kdf.specs.Hash.{hash_named}
 use Rattle.luks_kdf.specs.declared.hash.Hash.{Hash}
-use Rattle.luks2_binary.specs.declared.header.Finding.{Finding}
+use Rattle.luks2_binary.specs.declared.header.PairFinding.{PairFinding}
 use Rattle.luks2_binary.specs.declared.header.Header2.{Header2}
-use Rattle.luks2_binary.specs.declared.header.Place.{Place}
+use Rattle.luks2_binary.specs.declared.header.HeaderRole.{HeaderRole}
 
 -- the length of a binary header in bytes. Its JSON area follows it
 abbrev pub binary_len : ℕ
@@ -33,10 +33,10 @@ unfoldable pub hdr_offset_in : List ℕ → ℕ
 hdr_offset_in binary = be64 (at 256 8 binary)
 
 -- the header that 4096 bytes encode, if the hash function is known. It is read as an attached one
-unfoldable pub header2_from : Place → Option Finding → List ℕ → Option Header2
-header2_from place finding binary =
+unfoldable pub header2_from : HeaderRole → Option PairFinding → List ℕ → Option Header2
+header2_from role finding binary =
     option_map (λ hash. record {
-      place = place;
+      role = role;
       size = size_in binary;
       sequence = sequence_in binary;
       label = text_of (at 24 48 binary);

@@ -3,8 +3,8 @@ use Rattle.std.specs.Prelude.{ℕ, ◌+◌, ◌*◌, if◌then◌else◌, List, 
 use Rattle.luks2_binary.specs.Choice2.{fits, is_tried, is_valid, size_at}
 use Rattle.luks2_binary.specs.Header2.{binary_len, sizes}
 
--- the end of the bytes that are read to check an offset: a binary header's length, and, if one fits, its whole length.
--- At one of the nine offsets the latter end is twice the offset
+-- where the bytes end that are read to check an offset: with the binary header, and, if that fits, with the whole
+-- header. At one of the nine offsets the latter end is twice the offset
 unfoldable pub probe_end : List ℕ → ℕ → ℕ
 probe_end image place = max (place + binary_len) (if fits image place then place + size_at image place else 0)
 

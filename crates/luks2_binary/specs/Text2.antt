@@ -3,17 +3,17 @@ use Rattle.std.specs.Prelude.{ℕ, ◌+◌, ◌-◌, List}
 use Rattle.luks_area.specs.Fields.{at, text_of}
 use Rattle.luks2_binary.specs.Header2.{binary_len}
 use Rattle.luks2_binary.specs.declared.header.Header2.{Header2}
-use Rattle.luks2_binary.specs.declared.header.Place.{Place}
-use Rattle.luks2_binary.specs.declared.header.Place.TheVariants.{Primary, Secondary}
+use Rattle.luks2_binary.specs.declared.header.HeaderRole.{HeaderRole}
+use Rattle.luks2_binary.specs.declared.header.HeaderRole.TheVariants.{Primary, Secondary}
 
 -- the offset of the header of this length, in bytes: a secondary one is right behind the primary
-abbrev pub header_offset : Place → ℕ → ℕ
+abbrev pub header_offset : HeaderRole → ℕ → ℕ
 header_offset Primary size = 0
 header_offset Secondary size = size
 
 -- the JSON area behind the binary header
 unfoldable pub json_area_of : List ℕ → Header2 → List ℕ
-json_area_of image header = at (header_offset header.place header.size + binary_len) (header.size - binary_len) image
+json_area_of image header = at (header_offset header.role header.size + binary_len) (header.size - binary_len) image
 
 -- the JSON text of a header, which ends before the first zero byte or with its JSON area
 unfoldable pub json_text_of : List ℕ → Header2 → List ℕ

@@ -4,21 +4,21 @@ ghost use Rattle.std.specs.Prelude.{◌≡◌, ◌≤◌, true};
 ghost use Rattle.luks2_binary.specs.Choice2.{with_valid_primary, binary_at, is_valid, size_at};
 ghost use Rattle.luks2_binary.specs.Header2.{header2_from};
 
-use crate::header::{Finding, Header2, Place, sequence_in};
+use crate::header::{Header2, HeaderRole, PairFinding, sequence_in};
 use crate::validity::{binary_at, is_valid};
 
 /// The valid header in these bytes at an offset.
 pub(crate) fn valid_header(
     bytes: &[u8],
     start: usize,
-    place: Place,
-    finding: Option<Finding>,
+    role: HeaderRole,
+    finding: Option<PairFinding>,
 ) -> Option<Header2>
     requires valid { is_valid bytes.now start ≡ true }
     requires range { start ≤ 4194304 }
-    ensures { result ≡ header2_from place finding (binary_at bytes.now start) }
+    ensures { result ≡ header2_from role finding (binary_at bytes.now start) }
 {
-    Header2::from_bytes(place, finding, binary_at(bytes, start))
+    Header2::from_bytes(role, finding, binary_at(bytes, start))
 }
 
 /// The header of an image whose primary one is valid and of this length: the secondary one if that
@@ -31,7 +31,12 @@ pub(crate) fn with_valid_primary(bytes: &[u8], size: usize) -> Option<Header2>
     ensures { result ≡ with_valid_primary bytes.now }
 {
     if !is_valid(bytes, size) {
-        return valid_header(bytes, 0, Place::Primary, Some(Finding::SecondaryNotValid));
+        return valid_header(
+            bytes,
+            0,
+            HeaderRole::Primary,
+            Some(PairFinding::SecondaryNotValid),
+        );
     }
     let primary = sequence_in(binary_at(bytes, 0));
     let secondary = sequence_in(binary_at(bytes, size));
@@ -39,12 +44,17 @@ pub(crate) fn with_valid_primary(bytes: &[u8], size: usize) -> Option<Header2>
         valid_header(
             bytes,
             size,
-            Place::Secondary,
-            Some(Finding::SequencesDiffer),
+            HeaderRole::Secondary,
+            Some(PairFinding::SequencesDiffer),
         )
     } else if secondary < primary {
-        valid_header(bytes, 0, Place::Primary, Some(Finding::SequencesDiffer))
+        valid_header(
+            bytes,
+            0,
+            HeaderRole::Primary,
+            Some(PairFinding::SequencesDiffer),
+        )
     } else {
-        valid_header(bytes, 0, Place::Primary, None)
+        valid_header(bytes, 0, HeaderRole::Primary, None)
     }
 }

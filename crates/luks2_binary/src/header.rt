@@ -1,13 +1,12 @@
 //! The binary header of LUKS2 (LUKS2 On-Disk Format Specification 1.1, section 2.1).
 
-ghost use Rattle.std.specs.Prelude.{◌≡◌, ◌≤◌, ◌==◌, length, position};
-ghost use Rattle.luks_area.specs.Fields.{at, text_of};
+ghost use Rattle.std.specs.Prelude.{◌≡◌, ◌≤◌, length};
 ghost use Rattle.luks2_binary.specs.Header2.{end2_of, checksum_hash_in, header2_from};
 ghost use Rattle.luks2_binary.specs.Header2.{hdr_offset_in, sequence_in, size_in};
 ghost use Rattle.luks2_binary.specs.Text2.{json_text_of};
 
-use luks_area::field::{bytes_at, number64_at, text_at};
-use luks_area::text::FixedText;
+use luks_area::field::{bytes_at, number64_at, slice_at, text_at};
+use luks_area::text::{FixedText, text_before_zero};
 use luks_kdf::Hash;
 
 /// The length of a binary header in bytes. Its JSON area follows it.
@@ -15,16 +14,16 @@ pub const BINARY_LEN: usize = 4096;
 
 /// Which of the two headers of an image.
 #[derive(Clone, Copy, PartialEq, Eq, Debug)]
-pub enum Place {
+pub enum HeaderRole {
     /// The one at the image's start.
     Primary,
-    /// The one right behind it, at the offset of its own length.
+    /// The one after it, at the offset of its own length.
     Secondary,
 }
 
-/// What is wrong with the two headers of an image that has one.
+/// What is wrong with the two headers of an image, although it has a valid one.
 #[derive(Clone, Copy, PartialEq, Eq, Debug)]
-pub enum Finding {
+pub enum PairFinding {
     /// The primary header is not valid; the secondary one was found by the search.
     PrimaryNotValid,
     /// The primary header is valid, and the secondary one is not.
@@ -33,11 +32,12 @@ pub enum Finding {
     SequencesDiffer,
 }
 
-/// The fields of a header, as they are stored, and whether it is detached.
+/// The fields of a header, as they are stored. Its role, the finding and whether it is detached are
+/// not stored.
 #[derive(Drop, Debug)]
 pub struct Header2 {
     /// Which of the two headers it is.
-    pub place: Place,
+    pub role: HeaderRole,
     /// The length of the header and its JSON area in bytes, 16,384 to 4,194,304.
     pub size: u32,
     /// The number that increases with each change of the header.
@@ -53,7 +53,7 @@ pub struct Header2 {
     /// The volume's subsystem, a second label.
     pub subsystem: FixedText<48>,
     /// What is wrong with the two headers, if anything.
-    pub finding: Option<Finding>,
+    pub finding: Option<PairFinding>,
     /// Whether the header is detached. No header stores this: it is read as an attached one.
     pub detached: bool,
 }
@@ -98,17 +98,17 @@ impl Header2 {
     /// The header that the 4,096 bytes encode, or `None` if the hash function of its checksum is
     /// not known.
     pub(crate) fn from_bytes(
-        place: Place,
-        finding: Option<Finding>,
+        role: HeaderRole,
+        finding: Option<PairFinding>,
         binary: &[u8],
     ) -> Option<Header2>
         requires whole { 4096 ≤ length binary.now }
         requires sized { size_in binary.now ≤ 4194304 }
-        ensures { result ≡ header2_from place finding binary.now }
+        ensures { result ≡ header2_from role finding binary.now }
     {
         let hash = checksum_hash_in(binary)?;
         Some(Header2 {
-            place,
+            role,
             size: size_in(binary) as u32,
             sequence: sequence_in(binary),
             label: text_at(binary, 24),
@@ -136,32 +136,10 @@ impl Header2 {
         ensures { result.now ≡ json_text_of image.now self.now }
     {
         let size = self.size as usize;
-        let start = match self.place {
-            Place::Primary => 0,
-            Place::Secondary => size,
+        let start = match self.role {
+            HeaderRole::Primary => 0,
+            HeaderRole::Secondary => size,
         };
-        text_before_zero(range(image, start + BINARY_LEN, size.saturating_sub(BINARY_LEN)))
+        text_before_zero(slice_at(image, start + BINARY_LEN, size.saturating_sub(BINARY_LEN)))
     }
-}
-
-// The `len` bytes from `start` on, or as many of them as there are.
-fn range(bytes: &[u8], start: usize, len: usize) -> &[u8]
-    ensures { result.now ≡ at start len bytes.now }
-{
-    let rest = &bytes[start.min(bytes.len())..];
-    &rest[..len.min(rest.len())]
-}
-
-// The bytes before the first zero byte, or all of them.
-fn text_before_zero(area: &[u8]) -> &[u8]
-    ensures { result.now ≡ text_of area.now }
-{
-    &area[..first_zero(area).unwrap_or(area.len())]
-}
-
-// The index of the first zero byte, if there is one.
-fn first_zero(bytes: &[u8]) -> Option<usize>
-    ensures { result ≡ position (λ b. b == 0) bytes.now }
-{
-    bytes.iter().position(|byte| *byte == 0)
 }

@@ -5,15 +5,15 @@ ghost use Rattle.std.specs.Prelude.{length, max, take, IsTrue, Ok, IfOk, IfErr, 
 ghost use Rattle.std.specs.Prelude.{OnOk, Some, option_and_then};
 ghost use Rattle.luks_io.specs.Devices.{IfKnown};
 ghost use Rattle.luks_io.specs.Counts.{Reads};
-ghost use Rattle.luks_area.specs.Area.{is_read_fault, max_area_len};
+ghost use Rattle.luks_area.specs.Area.{is_read_fault, max_loaded_len};
 ghost use Rattle.luks2_binary.specs.Choice2.{chosen2_of, found_at, least_valid};
 ghost use Rattle.luks2_binary.specs.ReadLen2.{probe2_len, probe_end, search_len};
 ghost use Rattle.luks2_binary.specs.Reading2.{AnsweredFrom, Extended, LoadedFor, OfEach};
-ghost use Rattle.luks2_binary.specs.Reading2.{RecordsEnd, SearchesHeader2, hits_eof};
+ghost use Rattle.luks2_binary.specs.Reading2.{RecordsEnd, SearchesHeader2, search_hits_end};
 ghost use Rattle.luks2_binary.specs.Reading2.{unloaded, valid_size};
 
 use crate::choice::{valid_header, with_valid_primary};
-use crate::header::{BINARY_LEN, Finding, Header2, Place};
+use crate::header::{BINARY_LEN, Header2, HeaderRole, PairFinding};
 use crate::validity::{fitting_size, is_valid, places};
 use luks_area::area::HeaderArea;
 use luks_area::fault::HeaderFault;
@@ -22,7 +22,7 @@ use luks_io::source::Source;
 // Loads `end` bytes of the image in all, if it has them, and returns whether it does. The source is
 // not read again after the image's end was hit.
 fn grow<S: Source>(area: &mut HeaderArea, source: &mut S, end: usize) -> Result<bool, HeaderFault>
-    requires { end ≤ max_area_len }
+    requires { end ≤ max_loaded_len }
     ensures whole { IfOk result (λ whole. IsTrue whole ↔ (end ≤ length area.new.bytes)) }
     ensures complete { OnOk result (area.new.ended ≡ false → end ≤ length area.new.bytes) }
     ensures within { length area.new.bytes ≤ max (length area.old.bytes) end }
@@ -34,7 +34,7 @@ fn grow<S: Source>(area: &mut HeaderArea, source: &mut S, end: usize) -> Result<
     ensures grew { Extended area.old.bytes area.new.bytes area.old.ended area.new.ended
         (S.to_come source.old) (S.to_come source.new) (is_read_fault result)
         (S.counts source.old) (S.counts source.new) }
-    ensures refusals { IfErr result (λ fault.
+    ensures only { IfErr result (λ fault.
         (fault ≡ HeaderFault.Read) ⊎ (fault ≡ HeaderFault.Memory)) }
 {
     if area.has_ended() {
@@ -45,7 +45,7 @@ fn grow<S: Source>(area: &mut HeaderArea, source: &mut S, end: usize) -> Result<
 
 // The length of the header at an offset, if a valid one is there. As much of the image is consumed
 // as must be read to know that.
-fn header_at<S: Source>(
+fn valid_size<S: Source>(
     area: &mut HeaderArea,
     source: &mut S,
     place: usize,
@@ -85,10 +85,10 @@ fn search<S: Source>(area: &mut HeaderArea, source: &mut S) -> Result<Option<Hea
 {
     for place in places() {
         let place = *place as usize;
-        if header_at(area, source, place)?.is_some() {
+        if valid_size(area, source, place)?.is_some() {
             let bytes = area.as_slice();
-            let finding = Some(Finding::PrimaryNotValid);
-            return Ok(valid_header(bytes, place, Place::Secondary, finding));
+            let finding = Some(PairFinding::PrimaryNotValid);
+            return Ok(valid_header(bytes, place, HeaderRole::Secondary, finding));
         }
     }
     Ok(None)
@@ -104,7 +104,7 @@ fn choose<S: Source>(area: &mut HeaderArea, source: &mut S) -> Result<Option<Hea
         (S.to_come source.old) (S.to_come source.new) (is_read_fault result)
         (S.counts source.old) (S.counts source.new) }
 {
-    let Some(size) = header_at(area, source, 0)? else {
+    let Some(size) = valid_size(area, source, 0)? else {
         return search(area, source);
     };
     grow(area, source, 2 * size)?;
@@ -136,9 +136,9 @@ pub fn read_header2<S: Source>(
     ensures answered { AnsweredFrom area.new.bytes result }
     ensures kept { take (length area.old.bytes) area.new.bytes ≡ area.old.bytes }
     ensures reads { Reads (is_read_fault result)
-        (not area.old.ended && hits_eof result area.new.bytes)
+        (not area.old.ended && search_hits_end result area.new.bytes)
         (S.counts source.old) (S.counts source.new) }
-    ensures ended { RecordsEnd (hits_eof result area.new.bytes) area.old area.new
+    ensures ended { RecordsEnd (search_hits_end result area.new.bytes) area.old area.new
         (S.to_come source.old) (S.to_come source.new) }
 {
     let header = choose(area, source)?;

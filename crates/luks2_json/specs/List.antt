@@ -29,17 +29,17 @@ strings_among no_items = []
 strings_among (item value rest) = cons_option (as_str value) (strings_among rest)
 
 -- the items of the array under this name
-abbrev pub list_at : List ℕ → Data → Option Items
-list_at name owner = option_and_then as_array (get name owner)
+abbrev pub array_at : List ℕ → Data → Option Items
+array_at name owner = option_and_then as_array (get name owner)
 
 -- there is an array under this name, and all its items are strings
 unfoldable pub has_strings : List ℕ → Data → Bool
-has_strings name owner = unwrap_or (option_map (all_items is_text) (list_at name owner)) false
+has_strings name owner = unwrap_or (option_map (all_items is_text) (array_at name owner)) false
 
 -- there is an array under this name, and it contains the string
 unfoldable pub array_contains : List ℕ → List ℕ → Data → Bool
-array_contains name text owner = unwrap_or (option_map (any_item (is_the_string text)) (list_at name owner)) false
+array_contains name text owner = unwrap_or (option_map (any_item (is_the_string text)) (array_at name owner)) false
 
 -- the strings in the array under this name
 unfoldable pub strings_at : List ℕ → Data → List (List ℕ)
-strings_at name owner = unwrap_or (option_map strings_among (list_at name owner)) []
+strings_at name owner = unwrap_or (option_map strings_among (array_at name owner)) []

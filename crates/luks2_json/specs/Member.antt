@@ -37,12 +37,12 @@ unfoldable pub base64_member : List ℕ → Data → Option (List ℕ)
 base64_member name owner = option_and_then (decoded_of standard) (string_member name owner)
 
 -- the string under this name is the expected one
-unfoldable pub is_named : List ℕ → List ℕ → Data → Bool
-is_named name expected owner = unwrap_or (option_map (bytes_eq expected) (string_member name owner)) false
+unfoldable pub string_is : List ℕ → List ℕ → Data → Bool
+string_is name expected owner = unwrap_or (option_map (bytes_eq expected) (string_member name owner)) false
 
 -- the member `type` is this string
 abbrev pub is_type : List ℕ → Data → Bool
-is_type expected owner = is_named (codes "type") expected owner
+is_type expected owner = string_is (codes "type") expected owner
 
 -- the object has a member with this name, of any type
 abbrev pub has : List ℕ → Data → Bool

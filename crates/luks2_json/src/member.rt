@@ -4,7 +4,7 @@
 ghost use Rattle.std.specs.Prelude.{◌≡◌, List, ℕ, length, option_map, IfOk};
 ghost use Rattle.std.specs.Char.{is_ascii_digit};
 ghost use Rattle.std.specs.List.{list_all};
-ghost use Rattle.luks2_json.specs.Member.{base64_member, decimal_of, decimal_member, is_named};
+ghost use Rattle.luks2_json.specs.Member.{base64_member, decimal_of, decimal_member, string_is};
 ghost use Rattle.luks2_json.specs.Member.{is_type, string_member as text_of, integer_member};
 ghost use Rattle.serde_json.specs.View.{view};
 
@@ -29,9 +29,9 @@ pub fn string_member<'v>(object: &'v Value, name: &str) -> Option<&'v str>
 }
 
 /// The string under this name is the expected one.
-#[tactic(auto, unfolding(crate::specs::Member::is_named))]
-pub fn is_named(object: &Value, name: &str, expected: &str) -> bool
-    ensures { result ≡ is_named name.now expected.now (view object.now) }
+#[tactic(auto, unfolding(crate::specs::Member::string_is))]
+pub fn string_is(object: &Value, name: &str, expected: &str) -> bool
+    ensures { result ≡ string_is name.now expected.now (view object.now) }
 {
     match string_member(object, name) {
         Some(text) => expected == text,
@@ -43,7 +43,7 @@ pub fn is_named(object: &Value, name: &str, expected: &str) -> bool
 pub fn is_type(object: &Value, expected: &str) -> bool
     ensures { result ≡ is_type expected.now (view object.now) }
 {
-    is_named(object, "type", expected)
+    string_is(object, "type", expected)
 }
 
 // Each byte of the string is a decimal digit.

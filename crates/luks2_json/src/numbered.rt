@@ -2,7 +2,8 @@
 
 ghost use Rattle.std.specs.Prelude.{◌≡◌, bytes_eq, decimal, not, option_map, string_bytes};
 ghost use Rattle.luks_verdict.specs.Rule.{max_slots};
-ghost use Rattle.luks2_json.specs.Numbered.{any_name, is_number_below, object_numbered, has_key_out_of_range};
+ghost use Rattle.luks2_json.specs.Numbered.{any_name, is_number_below, object_numbered};
+ghost use Rattle.luks2_json.specs.Numbered.{has_key_out_of_range};
 ghost use Rattle.serde_json.specs.View.{members_view, view as data_of};
 
 use crate::tree::Metadata;

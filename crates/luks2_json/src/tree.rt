@@ -52,7 +52,7 @@ fn complete(tree: &Value) -> bool
 fn fault_of(error: serde_json::Error) -> HeaderFault
     ensures memory { (result ≡ HeaderFault.Memory) ↔ IsMemory error }
     ensures json { (result ≡ HeaderFault.Json) ↔ (¬ IsMemory error) }
-    ensures refusals { (result ≡ HeaderFault.Json) ⊎ (result ≡ HeaderFault.Memory) }
+    ensures only { (result ≡ HeaderFault.Json) ⊎ (result ≡ HeaderFault.Memory) }
 {
     if error.is_memory() {
         HeaderFault::Memory
@@ -85,7 +85,7 @@ impl Metadata {
         ensures ok { IfOk result (λ metadata. tree_of text.now ≡ Some metadata) }
         ensures json { result ≡ Err HeaderFault.Json → tree_of text.now ≡ None }
         ensures memory { result ≡ Err HeaderFault.Memory → 0 < length text.now }
-        ensures refusals { IfErr result (λ fault.
+        ensures only { IfErr result (λ fault.
             (fault ≡ HeaderFault.Json) ⊎ (fault ≡ HeaderFault.Memory)) }
     {
         match Value::from_slice(alloc, text) {

@@ -9,15 +9,15 @@ use Rattle.std.specs.Result.{result_ok}
 use Rattle.std.proofs.lemmas.Map.Text.{is_eq-slice_cmp}
 use Rattle.std.proofs.lemmas.Bool.{ne_eqb}
 use Rattle.luks2_metadata.specs.Segment2.{are_none, fault2_of, has_requirement, is_empty_array, made2, offset_of}
-use Rattle.luks2_metadata.specs.Segment2.{only_member, payload2_of, payload_mode2_of, segment2_of, segment_faults}
-use Rattle.luks2_metadata.specs.Segment2.{segment_parts2_of, segment_value, overlaps_headers2, starts_wrong}
+use Rattle.luks2_metadata.specs.Segment2.{only_member, payload2_start, payload_mode2_of, segment2_of, segment_faults}
+use Rattle.luks2_metadata.specs.Segment2.{segment_parts2_of, segment_value, overlaps_headers2, offset_is_wrong}
 use Rattle.luks2_metadata.specs.Segment2.{the_segment}
 use Rattle.luks2_metadata.specs.declared.bounds.Bounds.{Bounds}
 use Rattle.luks_cipher.specs.declared.mode.Mode.{Mode}
 use Rattle.luks_verdict.proofs.MadeLemmas.{refused_or-fault, refused_or-none, refused_or-ok}
 use Rattle.luks_verdict.proofs.TableLemmas.{none_holds}
 use Rattle.luks_verdict.specs.Evidence.{evidence_if}
-use Rattle.luks_verdict.specs.SectorSize.{are_sectors}
+use Rattle.luks_verdict.specs.SectorSize.{has_whole_sectors}
 use Rattle.luks_verdict.specs.Segment.{segment_by, segment_from, segment_of_all}
 use Rattle.luks_verdict.specs.Table.{first_match}
 use Rattle.luks_verdict.specs.declared.refusal.SegmentFault.{SegmentFault}
@@ -138,23 +138,24 @@ offset_made : (offset : Option ℕ) (size : Option (Option ℕ)) (iv_tweak : Opt
     → offset ≡ Some segment.offset
 unfolding segment_by
 offset_made (Some offset) (Some size) (Some iv_tweak) (Some sector_size) (Some mode) segment is =
-    let made = mapped (segment_by offset size iv_tweak sector_size mode) (evidence_if (are_sectors size sector_size))
+    let made = mapped (segment_by offset size iv_tweak sector_size mode)
+    (evidence_if (has_whole_sectors size sector_size))
     segment is in
     ap (λ (s : Segment). Some s.offset) made.1
 offset_made _ _ _ _ _ segment is = absurd cc
 
 -- with an attached header, a payload with a valid offset starts after the header
-starts_right : (bounds : Bounds) (offset : ℕ) → starts_wrong bounds (Some offset) ≡ false → bounds.detached ≡ false
+starts_right : (bounds : Bounds) (offset : ℕ) → offset_is_wrong bounds (Some offset) ≡ false → bounds.detached ≡ false
     → bounds.end ≤ offset
-unfolding starts_wrong overlaps_headers2
+unfolding offset_is_wrong overlaps_headers2
 starts_right bounds offset is attached =
     let right : (nat_lt offset bounds.end || not (offset % 512 == 0)) ≡ false = rw attached at is in
     grind (arith, nat_tests)
 
 -- with an attached header, key areas are checked against the segment's offset
 payload_starts : (tree : Data) (bounds : Bounds) (segment : Segment) → segment2_of tree bounds ≡ Ok segment
-    → bounds.detached ≡ false → payload2_of tree bounds ≡ Some segment.offset
-unfolding payload2_of
+    → bounds.detached ≡ false → payload2_start tree bounds ≡ Some segment.offset
+unfolding payload2_start
 payload_starts tree bounds segment is attached =
     let offset_in : Result Segment SegmentFault → Option ℕ =
     λ read. option_map (λ (s : Segment). s.offset) (result_ok read) in
@@ -164,22 +165,22 @@ payload_starts tree bounds segment is attached =
 -- a segment that is not refused has the mode that key slots are checked against; with an attached header, it also has
 -- the offset that they are checked against, and starts after the header
 pub record IsSegment2 (tree : Data) (bounds : Bounds) (segment : Segment) : Type 0 where
-  pub start : bounds.detached ≡ false → payload2_of tree bounds ≡ Some segment.offset
+  pub start : bounds.detached ≡ false → payload2_start tree bounds ≡ Some segment.offset
   pub mode : payload_mode2_of tree bounds ≡ Some segment.mode
   pub after_header : bounds.detached ≡ false → bounds.end ≤ segment.offset
 
 pub segment2-ok : (tree : Data) (bounds : Bounds) (segment : Segment) → segment2_of tree bounds ≡ Ok segment
     → IsSegment2 tree bounds segment
-unfolding segment2_of payload2_of payload_mode2_of fault2_of segment_from segment_parts2_of
+unfolding segment2_of payload2_start payload_mode2_of fault2_of segment_from segment_parts2_of
 segment2-ok tree bounds segment is =
     let made = refused_or-ok (fault2_of tree bounds) (segment_from (segment_parts2_of (segment_value tree)))
     (made2 tree bounds) segment is in
     let all = none_holds ((has_requirement tree, Requirement) ∷ (is_none (the_segment tree), Segments)
     ∷ segment_faults bounds (segment_value tree)) made.0 in
     let offset : offset_of (segment_value tree) ≡ Some segment.offset = offset_made _ _ _ _ _ segment made.1 in
-    let wrong : starts_wrong bounds (offset_of (segment_value tree)) ≡ false = all.1.1.1.1.1.1.1.0 in
+    let wrong : offset_is_wrong bounds (offset_of (segment_value tree)) ≡ false = all.1.1.1.1.1.1.1.0 in
     record {
       start = payload_starts tree bounds segment is;
       mode = rw is refl;
-      after_header = starts_right bounds segment.offset (subst (λ o. starts_wrong bounds o ≡ false) offset wrong);
+      after_header = starts_right bounds segment.offset (subst (λ o. offset_is_wrong bounds o ≡ false) offset wrong);
     }

@@ -4,7 +4,7 @@ use Rattle.std.specs.Prelude.{◌&&◌, ◌||◌, nat_lt, not, codes, is_none, o
 use Rattle.std.proofs.lemmas.Bool.Decides.{nat_tests}
 use Rattle.std.proofs.lemmas.Bool.{ltb-false}
 use Rattle.std.proofs.lemmas.Option.{same_Some}
-use Rattle.luks_area.specs.Area.{max_area_len}
+use Rattle.luks_area.specs.Area.{max_loaded_len}
 use Rattle.luks_cipher.specs.declared.mode.Mode.{Mode}
 use Rattle.luks_cipher.proofs.ModeLemmas.{longest_mode_key}
 use Rattle.luks_verdict.specs.Digest.{has_no_usable_digest}
@@ -16,7 +16,7 @@ use Rattle.luks_verdict.specs.declared.refusal.SkipReason.{SkipReason}
 use Rattle.luks_verdict.specs.declared.digest.KeyDigest.{KeyDigest}
 use Rattle.luks_verdict.specs.declared.slot.Slot.{Slot}
 use Rattle.luks_verdict.specs.declared.slot.Verdict.TheVariants.{Usable}
-use Rattle.luks_verdict.specs.declared.slot.VerdictKind.TheVariants.{Usable as Open}
+use Rattle.luks_verdict.specs.declared.slot.VerdictKind.TheVariants.{Usable as KindUsable}
 use Rattle.luks_kdf.specs.declared.hash.Hash.{Hash}
 use Rattle.luks_cipher.specs.Sector.{is_mode_key_length}
 use Rattle.luks2_json.specs.Numbered.{object_numbered}
@@ -26,12 +26,12 @@ use Rattle.luks2_json.specs.Encryption.{is_length_for}
 use Rattle.luks2_json.specs.Member.{is_type}
 use Rattle.luks2_metadata.specs.Digest2.{digest2_for}
 use Rattle.luks2_metadata.specs.declared.bounds.Bounds.{Bounds}
-use Rattle.luks2_metadata.specs.Segment2.{payload2_of, payload_mode2_of}
+use Rattle.luks2_metadata.specs.Segment2.{payload2_start, payload_mode2_of}
 use Rattle.luks2_metadata.specs.Slot2.{slot_reasons, af_hash_of, are_key_sizes, area_key_size_of, area_mode_of}
 use Rattle.luks2_metadata.specs.Slot2.{area_offset_of, area_size_of, has_members, has_unknown_hash, is_kdf_type}
 use Rattle.luks2_metadata.specs.Slot2.{area2_out_of_range, iterations_of_slot, kdf_hash_of, key_size_of, priority_of}
 use Rattle.luks2_metadata.specs.Slot2.{reason2_of}
-use Rattle.luks2_metadata.specs.Slot2.{slot2_at, slot2_of, slot_parts2_of, stripes_member, verdict2_at, verdict2_of}
+use Rattle.luks2_metadata.specs.Slot2.{slot2_at, slot2_of, slot_parts2_of, stripe_count_of, verdict2_at, verdict2_of}
 use Rattle.serde_json.specs.Data.{Data}
 
 -- ---- key lengths
@@ -67,9 +67,9 @@ pub record NoReason (tree : Data) (bounds : Bounds) (limit : Option ℕ) (number
   pub hash : has_unknown_hash slot ≡ false
   pub encryption : is_none (area_mode_of slot) ≡ false
   pub key_size : not (are_key_sizes (payload_mode2_of tree bounds) slot) ≡ false
-  pub stripes : stripes_out_of_range (stripes_member slot) ≡ false
+  pub stripes : stripes_out_of_range (stripe_count_of slot) ≡ false
   pub iterations : iterations_out_of_range limit (iterations_of_slot slot) ≡ false
-  pub area : area2_out_of_range bounds.end (payload2_of tree bounds) slot ≡ false
+  pub area : area2_out_of_range bounds.end (payload2_start tree bounds) slot ≡ false
   pub digest : has_no_usable_digest limit (digest2_for tree number) ≡ false
 
 pub no_reason : (tree : Data) (bounds : Bounds) (limit : Option ℕ) (number : ℕ) (slot : Data)
@@ -148,7 +148,7 @@ slot_there tree bounds limit number slot none =
 -- the verdict on such a slot, without what is needed to open it
 pub usable_verdict : (tree : Data) (bounds : Bounds) (limit : Option ℕ) (number : ℕ) (slot : Data)
     → reason2_of tree bounds limit number slot ≡ None
-    → verdict_kind_of (verdict2_of tree bounds limit number slot) ≡ Open (unwrap_or (priority_of slot) 0)
+    → verdict_kind_of (verdict2_of tree bounds limit number slot) ≡ KindUsable (unwrap_or (priority_of slot) 0)
 unfolding verdict2_of slot_of slot_parts2_of
 usable_verdict tree bounds limit number slot none =
     let there = slot_there tree bounds limit number slot none in
@@ -157,7 +157,7 @@ usable_verdict tree bounds limit number slot none =
 -- a slot's iterations, its stripes and the lengths of its keys fit into four bytes
 pub record IsSmall (slot : Data) : Type 0 where
   pub iterations : iterations_of_slot slot ≤ max_iteration_count
-  pub stripes : stripes_member slot ≤ 4000
+  pub stripes : stripe_count_of slot ≤ 4000
   pub key : key_size_of slot ≤ 64
   pub area_key : area_key_size_of slot ≤ 64
 
@@ -174,7 +174,7 @@ small_of tree bounds number slot none =
     (true_from_not (are_key_sizes (payload_mode2_of tree bounds) slot) no.key_size) in
     record {
       iterations = iterations_few None (iterations_of_slot slot) no.iterations;
-      stripes = stripes_few (stripes_member slot) no.stripes;
+      stripes = stripes_few (stripe_count_of slot) no.stripes;
       key = keys.1;
       area_key = keys.0;
     }
@@ -191,7 +191,7 @@ pub record IsOf2 (tree : Data) (bounds : Bounds) (number : ℕ) (usable : Slot) 
       × (is_mode_key_length mode usable.parts.area_key_bytes ≡ true)
   pub volume_key : is_length_for (payload_mode2_of tree bounds) usable.parts.key_bytes ≡ true
   pub after_header : bounds.end ≤ usable.parts.area_offset
-  pub before_payload : exceeds (payload2_of tree bounds) (material_end usable) ≡ false
+  pub before_payload : exceeds (payload2_start tree bounds) (material_end usable) ≡ false
   pub digest : (digest : KeyDigest) × (digest2_for tree number ≡ Some digest)
 
 neither : (a b : Bool) → (a || b) ≡ false → (a ≡ false) × (b ≡ false)
@@ -217,7 +217,7 @@ area_in_range_bounds : (start : ℕ) (payload : Option ℕ) (offset size need : 
 unfolding area_out_of_range
 area_in_range_bounds start payload offset size need is =
     let past = neither (nat_lt offset start || nat_lt size need || exceeds payload (offset + need))
-    (nat_lt max_area_len (offset + need)) is in
+    (nat_lt max_loaded_len (offset + need)) is in
     let before = neither (nat_lt offset start || nat_lt size need) (exceeds payload (offset + need)) past.0 in
     let capacity = neither (nat_lt offset start) (nat_lt size need) before.0 in
     (ltb-false offset start capacity.0, before.1)
@@ -240,8 +240,8 @@ usable_is tree bounds limit number slot usable is =
     let same : usable ≡ slot_of (slot_parts2_of slot) there.0 = same_Some _ _ (sym verdict.1 ∙ there.1) in
     let hashes = known_hashes slot no.hash in
     let sizes = both _ _ (true_from_not _ no.key_size) in
-    let place = area_in_range_bounds bounds.end (payload2_of tree bounds) (area_offset_of slot) (area_size_of slot)
-    (need_of (key_size_of slot) (stripes_member slot)) no.area in
+    let place = area_in_range_bounds bounds.end (payload2_start tree bounds) (area_offset_of slot) (area_size_of slot)
+    (need_of (key_size_of slot) (stripe_count_of slot)) no.area in
     let known : IsOf2 tree bounds number (slot_of (slot_parts2_of slot) there.0) = record {
       kdf = hashes.0;
       af = hashes.1;

@@ -7,7 +7,7 @@ use Rattle.std.specs.Result.{result_ok}
 use Rattle.std.proofs.lemmas.Bool.{and_parts}
 use Rattle.luks_cipher.specs.declared.mode.Mode.{Mode}
 use Rattle.luks_verdict.specs.Evidence.{evidence_if}
-use Rattle.luks_verdict.specs.SectorSize.{are_sectors}
+use Rattle.luks_verdict.specs.SectorSize.{has_whole_sectors}
 use Rattle.luks_verdict.specs.Segment.{refused_or, segment_by, segment_from, segment_of_all}
 use Rattle.luks_verdict.specs.Table.{first_match}
 use Rattle.luks_verdict.proofs.TableLemmas.{none_holds}
@@ -19,7 +19,7 @@ use Rattle.luks_verdict.specs.declared.sector_size.SectorSize.TheVariants.{B512,
 use Rattle.luks_verdict.specs.declared.segment.Segment.{Segment}
 use Rattle.luks_verdict.specs.declared.segment.SegmentParts.{SegmentParts}
 use Rattle.luks2_metadata.specs.declared.bounds.Bounds.{Bounds}
-use Rattle.luks2_json.specs.Member.{decimal_member, has, is_named, is_type, string_member, integer_member, in_member}
+use Rattle.luks2_json.specs.Member.{decimal_member, has, string_is, is_type, string_member, integer_member, in_member}
 use Rattle.luks2_json.specs.Encryption.{encryption_mode}
 use Rattle.serde_json.specs.Data.{Data, null, Items, no_items, item, Members, no_members, member}
 use Rattle.serde_json.specs.Find.{as_array, as_object, get}
@@ -72,7 +72,7 @@ offset_of segment = decimal_member (codes "offset") segment
 
 -- the segment's length in bytes, or `Some None` if it goes to the image's end
 unfoldable pub size_member : Data → Option (Option ℕ)
-size_member segment = if is_named (codes "size") (codes "dynamic") segment then Some None
+size_member segment = if string_is (codes "size") (codes "dynamic") segment then Some None
     else option_map (λ bytes. Some bytes) (decimal_member (codes "size") segment)
 
 -- the unit number of the segment's first sector
@@ -117,14 +117,14 @@ unfoldable pub overlaps_headers2 : Bounds → ℕ → Bool
 overlaps_headers2 bounds offset = not bounds.detached && nat_lt offset bounds.end
 
 -- the segment has no offset, or starts inside an attached header or not at a multiple of 512 bytes
-unfoldable pub starts_wrong : Bounds → Option ℕ → Bool
-starts_wrong bounds None = true
-starts_wrong bounds (Some offset) = overlaps_headers2 bounds offset || not (offset % 512 == 0)
+unfoldable pub offset_is_wrong : Bounds → Option ℕ → Bool
+offset_is_wrong bounds None = true
+offset_is_wrong bounds (Some offset) = overlaps_headers2 bounds offset || not (offset % 512 == 0)
 
 -- the segment's length or sector size is missing, or its length is fixed and not a multiple of the sector size
-unfoldable pub is_torn : Option (Option ℕ) → Option Sector → Bool
-is_torn (Some size) (Some sector_size) = not (are_sectors size sector_size)
-is_torn _ _ = true
+unfoldable pub size_is_wrong : Option (Option ℕ) → Option Sector → Bool
+size_is_wrong (Some size) (Some sector_size) = not (has_whole_sectors size sector_size)
+size_is_wrong _ _ = true
 
 -- the possible faults of a segment that exists, in a header with these bounds
 abbrev pub segment_faults : Bounds → Data → List (Bool × SegmentFault)
@@ -134,8 +134,8 @@ segment_faults bounds segment =
     ∷ (has (codes "integrity") segment, Integrity)
     ∷ (is_none (mode2_of segment), Encryption)
     ∷ (is_none (sector_size_of segment), SectorSize)
-    ∷ (starts_wrong bounds (offset_of segment), Offset)
-    ∷ (is_torn (size_member segment) (sector_size_of segment), Size)
+    ∷ (offset_is_wrong bounds (offset_of segment), Offset)
+    ∷ (size_is_wrong (size_member segment) (sector_size_of segment), Size)
     ∷ []
 
 -- the first fault of the header's segment
@@ -166,11 +166,11 @@ made_of_test false make holds none = cc
 -- parts that are all present make a segment, if its length is whole sectors or not fixed
 made_of_parts : (offset : Option ℕ) (size : Option (Option ℕ)) (iv_tweak : Option ℕ) (sector_size : Option Sector)
     (mode : Option Mode) → is_some offset ≡ true → is_some size ≡ true → is_some iv_tweak ≡ true
-    → is_none sector_size ≡ false → is_none mode ≡ false → is_torn size sector_size ≡ false
+    → is_none sector_size ≡ false → is_none mode ≡ false → size_is_wrong size sector_size ≡ false
     → segment_of_all offset size iv_tweak sector_size mode ≢ None
-unfolding is_torn
+unfolding size_is_wrong
 made_of_parts (Some offset) (Some size) (Some iv_tweak) (Some sector_size) (Some mode) o s i z m whole =
-    made_of_test (are_sectors size sector_size) (segment_by offset size iv_tweak sector_size mode) whole
+    made_of_test (has_whole_sectors size sector_size) (segment_by offset size iv_tweak sector_size mode) whole
 made_of_parts _ _ _ _ _ o s i z m whole = absurd cc
 
 -- a valid segment of type crypt has its members
@@ -207,8 +207,8 @@ segment2_of tree bounds =
 
 -- where the payload starts, if the header is attached and the segment is not refused. Key material ends there at the
 -- latest
-unfoldable pub payload2_of : Data → Bounds → Option ℕ
-payload2_of tree bounds =
+unfoldable pub payload2_start : Data → Bounds → Option ℕ
+payload2_start tree bounds =
     if bounds.detached then None else option_map (λ segment. segment.offset) (result_ok (segment2_of tree bounds))
 
 -- the mode of the payload, if the segment is not refused

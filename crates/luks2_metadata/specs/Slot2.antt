@@ -9,7 +9,7 @@ use Rattle.luks_verdict.specs.Slot.{verdict_by, slot_from}
 use Rattle.luks_verdict.specs.Table.{first_match}
 use Rattle.luks_verdict.specs.declared.refusal.SkipReason.{SkipReason}
 use Rattle.luks_verdict.specs.declared.refusal.SkipReason.TheVariants.{Kind, Member, Argon2i, Argon2id, Kdf}
-use Rattle.luks_verdict.specs.declared.refusal.SkipReason.TheVariants.{Hash as UnknownHash, Encryption, KeySize}
+use Rattle.luks_verdict.specs.declared.refusal.SkipReason.TheVariants.{Hash as SkipHash, Encryption, KeySize}
 use Rattle.luks_verdict.specs.declared.refusal.SkipReason.TheVariants.{Stripes, Iterations, Area, Digest}
 use Rattle.luks_verdict.specs.declared.slot.Slot.{Slot}
 use Rattle.luks_verdict.specs.declared.slot.SlotParts.{SlotParts}
@@ -21,13 +21,13 @@ use Rattle.luks2_metadata.specs.Digest2.{digest2_for}
 use Rattle.luks2_json.specs.Encryption.{is_length_for, encryption_mode}
 use Rattle.luks2_json.specs.Numbered.{object_numbered}
 use Rattle.luks2_metadata.specs.declared.bounds.Bounds.{Bounds}
-use Rattle.luks2_metadata.specs.Segment2.{payload2_of, payload_mode2_of}
+use Rattle.luks2_metadata.specs.Segment2.{payload2_start, payload_mode2_of}
 use Rattle.serde_json.specs.Data.{Data}
 use Rattle.serde_json.specs.Find.{get}
 
 -- ---- members and their kinds
 
--- the priority of a slot: 0, 1 or 2, and 1 if it has none
+-- the priority of a slot: 0, 1 or 2, and 1 if it has none; `None` for any other value
 abbrev pub priority_if_present : Option Data → Data → Option ℕ
 priority_if_present None slot = Some 1
 priority_if_present (Some _) slot =
@@ -71,7 +71,7 @@ has_members slot =
     && passes (codes "area") is_area slot
     && passes (codes "kdf") is_kdf slot
 
--- ---- values of the members (0 or no bytes if they are missing)
+-- ---- values of the members (0, no bytes or `None` if missing)
 
 -- the slot's key derivation function is of this type
 abbrev pub is_kdf_type : List ℕ → Data → Bool
@@ -89,8 +89,8 @@ salt_of slot = unwrap_or (option_map salt_in (get (codes "kdf") slot)) []
 abbrev pub af_hash_of : Data → Option Hash
 af_hash_of slot = in_member (codes "af") hash_member slot
 
-abbrev pub stripes_member : Data → ℕ
-stripes_member slot = unwrap_or (in_member (codes "af") (integer_member (codes "stripes")) slot) 0
+abbrev pub stripe_count_of : Data → ℕ
+stripe_count_of slot = unwrap_or (in_member (codes "af") (integer_member (codes "stripes")) slot) 0
 
 -- the length in bytes of the volume key
 abbrev pub key_size_of : Data → ℕ
@@ -126,7 +126,7 @@ are_key_sizes payload_mode slot =
 unfoldable pub area2_out_of_range : ℕ → Option ℕ → Data → Bool
 area2_out_of_range end payload slot =
     area_out_of_range end payload (area_offset_of slot) (area_size_of slot)
-    (need_of (key_size_of slot) (stripes_member slot))
+    (need_of (key_size_of slot) (stripe_count_of slot))
 
 -- the reasons to skip the slot of this number, in a header with these bounds
 abbrev pub slot_reasons : Data → Bounds → Option ℕ → ℕ → Data → List (Bool × SkipReason)
@@ -136,12 +136,12 @@ slot_reasons tree bounds limit number slot =
     ∷ (is_kdf_type (codes "argon2i") slot, Argon2i)
     ∷ (is_kdf_type (codes "argon2id") slot, Argon2id)
     ∷ (not (is_kdf_type (codes "pbkdf2") slot), Kdf)
-    ∷ (has_unknown_hash slot, UnknownHash)
+    ∷ (has_unknown_hash slot, SkipHash)
     ∷ (is_none (area_mode_of slot), Encryption)
     ∷ (not (are_key_sizes (payload_mode2_of tree bounds) slot), KeySize)
-    ∷ (stripes_out_of_range (stripes_member slot), Stripes)
+    ∷ (stripes_out_of_range (stripe_count_of slot), Stripes)
     ∷ (iterations_out_of_range limit (iterations_of_slot slot), Iterations)
-    ∷ (area2_out_of_range bounds.end (payload2_of tree bounds) slot, Area)
+    ∷ (area2_out_of_range bounds.end (payload2_start tree bounds) slot, Area)
     ∷ (has_no_usable_digest limit (digest2_for tree number), Digest)
     ∷ []
 
@@ -159,7 +159,7 @@ slot_parts2_of slot = record {
   iterations = iterations_of_slot slot;
   salt = salt_of slot;
   af_hash = af_hash_of slot;
-  stripes = stripes_member slot;
+  stripes = stripe_count_of slot;
   key_bytes = key_size_of slot;
   area_key_bytes = area_key_size_of slot;
   area_offset = area_offset_of slot;

@@ -10,7 +10,7 @@ ghost use Rattle.serde_json.specs.View.{view as data_of};
 use itoa::Buffer;
 use luks_verdict::bytes::HeaderBytes;
 use luks_verdict::digest::{DigestParts, KeyDigest};
-use luks_verdict::rule::{MAX_ITERATIONS, MAX_SLOTS, usable_digest};
+use luks_verdict::rule::{MAX_ITERATION_COUNT, MAX_SLOTS, usable_digest};
 use luks2_json::derivation::{bytes_in, hash_member, iterations_in, salt_in};
 use luks2_json::list::{Names, array_contains, has_strings, strings_at};
 use luks2_json::member::{base64_len, integer_member, is_type};
@@ -72,14 +72,14 @@ fn is_of_slot(digest: &Value, number: u8) -> bool
 
 // The digest, if it is usable.
 #[tactic(auto, unfolding(crate::specs::Digest2::digest2_of))]
-fn usable(alloc: Global, digest: &Value) -> Result<Option<KeyDigest>, AllocError>
+fn digest2_of(alloc: Global, digest: &Value) -> Result<Option<KeyDigest>, AllocError>
     ensures { IfOk result (λ key. key ≡ digest2_of (data_of digest.now)) }
 {
     if !is_digest(digest) {
         return Ok(None);
     }
     let iterations = iterations_in(digest);
-    if MAX_ITERATIONS < iterations {
+    if MAX_ITERATION_COUNT < iterations {
         return Ok(None);
     }
     let parts = DigestParts {
@@ -107,7 +107,7 @@ fn usable_iterations(digest: &Value) -> Option<u32>
 
 // The digest with a number, if it is usable and belongs to the key slot.
 #[tactic(auto, unfolding(crate::specs::Digest2::own_digest, crate::specs::Digest2::own_digest_at))]
-fn of_slot_at(
+fn own_digest_at(
     alloc: Global,
     tree: &Value,
     slot: u8,
@@ -116,14 +116,14 @@ fn of_slot_at(
     ensures { IfOk result (λ key. key ≡ own_digest_at (data_of tree.now) slot number) }
 {
     match object_numbered(tree, "digests", number) {
-        Some(digest) if is_of_slot(digest, slot) => usable(alloc, digest),
+        Some(digest) if is_of_slot(digest, slot) => digest2_of(alloc, digest),
         _ => Ok(None),
     }
 }
 
 // The iterations of the digest with a number, if it is usable and belongs to the key slot.
 #[tactic(auto, unfolding(crate::specs::Digest2::own_digest, crate::specs::Digest2::own_digest_at))]
-fn iterations_of_slot_at(tree: &Value, slot: u8, number: u8) -> Option<u32>
+fn own_iterations_at(tree: &Value, slot: u8, number: u8) -> Option<u32>
     ensures { result
         ≡ option_map iterations_of_digest (own_digest_at (data_of tree.now) slot number) }
 {
@@ -143,7 +143,7 @@ pub fn digest_for(
     ensures { IfOk result (λ key. key ≡ digest2_for metadata.now number) }
 {
     for digest in 0..MAX_SLOTS {
-        let found = of_slot_at(alloc, metadata.tree(), number, digest)?;
+        let found = own_digest_at(alloc, metadata.tree(), number, digest)?;
         if found.is_some() {
             return Ok(found);
         }
@@ -152,11 +152,11 @@ pub fn digest_for(
 }
 
 /// The iterations of that digest. This allocates nothing.
-pub(crate) fn iterations_for(tree: &Value, number: u8) -> Option<u32>
+pub(crate) fn digest_iterations_for(tree: &Value, number: u8) -> Option<u32>
     ensures { result ≡ option_map iterations_of_digest (digest2_for (data_of tree.now) number) }
 {
     for digest in 0..MAX_SLOTS {
-        let found = iterations_of_slot_at(tree, number, digest);
+        let found = own_iterations_at(tree, number, digest);
         if found.is_some() {
             return found;
         }
@@ -169,7 +169,7 @@ pub(crate) fn iterations_for(tree: &Value, number: u8) -> Option<u32>
 fn listed(alloc: Global, digest: &Value) -> Result<Option<Digest>, AllocError>
     ensures { IfOk result (λ listed. listed ≡ listed_of (data_of digest.now)) }
 {
-    let Some(key) = usable(alloc, digest)? else {
+    let Some(key) = digest2_of(alloc, digest)? else {
         return Ok(None);
     };
     Ok(Some(Digest {

@@ -3,11 +3,12 @@
 ghost use Rattle.std.specs.Prelude.{◌≡◌, option_map};
 ghost use Rattle.luks_verdict.specs.Table.{first_match};
 ghost use Rattle.luks2_metadata.specs.Segment2.{has_none_of, has_requirement, has_segment_members};
-ghost use Rattle.luks2_metadata.specs.Segment2.{is_empty_array, is_segment, is_torn, mode2_of};
-ghost use Rattle.luks2_metadata.specs.Segment2.{payload2_of, payload_mode2_of, requires_nothing};
+ghost use Rattle.luks2_metadata.specs.Segment2.{is_empty_array, is_segment, size_is_wrong};
+ghost use Rattle.luks2_metadata.specs.Segment2.{mode2_of};
+ghost use Rattle.luks2_metadata.specs.Segment2.{payload2_start, payload_mode2_of, requires_nothing};
 ghost use Rattle.luks2_metadata.specs.Segment2.{sector_size_of, sector_size_with, segment2_of};
 ghost use Rattle.luks2_metadata.specs.Segment2.{segment_faults, segment_parts2_of, size_member};
-ghost use Rattle.luks2_metadata.specs.Segment2.{overlaps_headers2, starts_wrong, the_segment};
+ghost use Rattle.luks2_metadata.specs.Segment2.{overlaps_headers2, offset_is_wrong, the_segment};
 ghost use Rattle.serde_json.specs.View.{view as data_of};
 
 use crate::bounds::Bounds;
@@ -16,7 +17,7 @@ use luks_verdict::refusal::SegmentFault;
 use luks_verdict::sector_size::SectorSize;
 use luks_verdict::segment::{Segment, SegmentParts};
 use luks2_json::encryption::encryption_mode;
-use luks2_json::member::{decimal_member, integer_member, is_named, is_type, string_member};
+use luks2_json::member::{decimal_member, integer_member, is_type, string_is, string_member};
 use luks2_json::tree::Metadata;
 use serde_json::Value;
 
@@ -82,7 +83,7 @@ fn the_segment(tree: &Value) -> Option<&Value>
 fn size(segment: &Value) -> Option<Option<u64>>
     ensures { result ≡ size_member (data_of segment.now) }
 {
-    if is_named(segment, "size", "dynamic") {
+    if string_is(segment, "size", "dynamic") {
         return Some(None);
     }
     Some(Some(decimal_member(segment, "size")?))
@@ -146,9 +147,9 @@ fn overlaps_headers2(bounds: Bounds, offset: u64) -> bool
 }
 
 // The segment has no offset, or starts inside an attached header or not at a multiple of 512 bytes.
-#[tactic(auto, unfolding(crate::specs::Segment2::starts_wrong))]
-fn starts_wrong(bounds: Bounds, offset: Option<u64>) -> bool
-    ensures { result ≡ starts_wrong bounds offset }
+#[tactic(auto, unfolding(crate::specs::Segment2::offset_is_wrong))]
+fn offset_is_wrong(bounds: Bounds, offset: Option<u64>) -> bool
+    ensures { result ≡ offset_is_wrong bounds offset }
 {
     match offset {
         Some(offset) => overlaps_headers2(bounds, offset) || offset % 512 != 0,
@@ -158,9 +159,9 @@ fn starts_wrong(bounds: Bounds, offset: Option<u64>) -> bool
 
 // The segment's length or sector size is missing, or its length is fixed and not a multiple of the
 // sector size.
-#[tactic(auto, unfolding(crate::specs::Segment2::is_torn))]
-fn is_torn(size: Option<Option<u64>>, sector_size: Option<SectorSize>) -> bool
-    ensures { result ≡ is_torn size sector_size }
+#[tactic(auto, unfolding(crate::specs::Segment2::size_is_wrong))]
+fn size_is_wrong(size: Option<Option<u64>>, sector_size: Option<SectorSize>) -> bool
+    ensures { result ≡ size_is_wrong size sector_size }
 {
     let (Some(size), Some(sector_size)) = (size, sector_size) else {
         return true;
@@ -185,9 +186,9 @@ fn fault(segment: &Value, bounds: Bounds) -> Option<SegmentFault>
         Some(SegmentFault::Encryption)
     } else if sector_size(segment).is_none() {
         Some(SegmentFault::SectorSize)
-    } else if starts_wrong(bounds, decimal_member(segment, "offset")) {
+    } else if offset_is_wrong(bounds, decimal_member(segment, "offset")) {
         Some(SegmentFault::Offset)
-    } else if is_torn(size(segment), sector_size(segment)) {
+    } else if size_is_wrong(size(segment), sector_size(segment)) {
         Some(SegmentFault::Size)
     } else {
         None
@@ -235,9 +236,9 @@ pub fn segment(metadata: &Metadata, bounds: Bounds) -> Result<Segment, SegmentFa
 }
 
 /// Where the payload starts, if the header is attached and the segment is not refused.
-#[tactic(auto, unfolding(crate::specs::Segment2::payload2_of))]
-pub fn payload(tree: &Value, bounds: Bounds) -> Option<u64>
-    ensures { result ≡ payload2_of (data_of tree.now) bounds }
+#[tactic(auto, unfolding(crate::specs::Segment2::payload2_start))]
+pub fn payload2_start(tree: &Value, bounds: Bounds) -> Option<u64>
+    ensures { result ≡ payload2_start (data_of tree.now) bounds }
 {
     if bounds.detached {
         return None;

@@ -8,16 +8,17 @@ ghost use Rattle.luks2_metadata.specs.Digest2.{digest2_for};
 ghost use Rattle.luks2_metadata.specs.Slot2.{af_hash_of, are_key_sizes, area_key_size_of};
 ghost use Rattle.luks2_metadata.specs.Slot2.{area_mode_of, area_offset_of, area_size_of};
 ghost use Rattle.luks2_metadata.specs.Slot2.{has_unknown_hash, is_kdf_type, area2_out_of_range};
-ghost use Rattle.luks2_metadata.specs.Slot2.{iterations_of_slot, kdf_hash_of, key_size_of, reason2_of};
+ghost use Rattle.luks2_metadata.specs.Slot2.{iterations_of_slot, kdf_hash_of, key_size_of};
+ghost use Rattle.luks2_metadata.specs.Slot2.{reason2_of};
 ghost use Rattle.luks2_metadata.specs.Slot2.{salt_of, slot2_at, slot2_of, slot_parts2_of};
-ghost use Rattle.luks2_metadata.specs.Slot2.{stripes_member, verdict2_at, verdict2_of};
+ghost use Rattle.luks2_metadata.specs.Slot2.{stripe_count_of, verdict2_at, verdict2_of};
 ghost use Rattle.serde_json.specs.View.{view as data_of};
 
 mod members;
 
 use crate::bounds::Bounds;
-use crate::digest::iterations_for;
-use crate::payload::{payload, payload_mode};
+use crate::digest::digest_iterations_for;
+use crate::payload::{payload_mode, payload2_start};
 use luks_cipher::Mode;
 use luks_kdf::Hash;
 use luks_verdict::bytes::HeaderBytes;
@@ -79,7 +80,7 @@ fn af_hash(slot: &Value) -> Option<Hash>
 
 // How many stripes the key material has, or 0 if that is missing.
 fn stripes(slot: &Value) -> u64
-    ensures { result ≡ stripes_member (data_of slot.now) }
+    ensures { result ≡ stripe_count_of (data_of slot.now) }
 {
     match slot.get("af") {
         Some(af) => integer_member(af, "stripes").unwrap_or(0),
@@ -152,7 +153,7 @@ fn are_key_sizes(payload_mode: Option<Mode>, slot: &Value) -> bool
 #[tactic(auto, unfolding(crate::specs::Slot2::area2_out_of_range))]
 fn area2_out_of_range(header_end: u64, payload: Option<u64>, slot: &Value) -> bool
     requires short { key_size_of (data_of slot.now) ≤ 64 }
-    requires few { stripes_member (data_of slot.now) ≤ 4000 }
+    requires few { stripe_count_of (data_of slot.now) ≤ 4000 }
     ensures { result ≡ area2_out_of_range header_end payload (data_of slot.now) }
 {
     let need = need(key_size(slot) as u32, stripes(slot) as u32);
@@ -170,7 +171,7 @@ fn area2_out_of_range(header_end: u64, payload: Option<u64>, slot: &Value) -> bo
 fn has_no_usable_digest(tree: &Value, limit: Option<u32>, number: u8) -> bool
     ensures { result ≡ has_no_usable_digest limit (digest2_for (data_of tree.now) number) }
 {
-    match iterations_for(tree, number) {
+    match digest_iterations_for(tree, number) {
         Some(iterations) => iterations_out_of_range(limit, u64::from(iterations)),
         None => true,
     }
@@ -207,7 +208,7 @@ fn reason(
         Some(SkipReason::Stripes)
     } else if iterations_out_of_range(limit, iterations(slot)) {
         Some(SkipReason::Iterations)
-    } else if area2_out_of_range(bounds.end, payload(tree, bounds), slot) {
+    } else if area2_out_of_range(bounds.end, payload2_start(tree, bounds), slot) {
         Some(SkipReason::Area)
     } else if has_no_usable_digest(tree, limit, number) {
         Some(SkipReason::Digest)
@@ -253,7 +254,7 @@ pub fn verdict_kind(
 #[tactic(auto, unfolding(crate::specs::Slot2::slot_parts2_of))]
 fn parts(alloc: Global, slot: &Value) -> Result<SlotParts, AllocError>
     requires iterations { iterations_of_slot (data_of slot.now) ≤ max_iteration_count }
-    requires stripes { stripes_member (data_of slot.now) ≤ 4000 }
+    requires stripes { stripe_count_of (data_of slot.now) ≤ 4000 }
     requires key { key_size_of (data_of slot.now) ≤ 64 }
     requires area_key { area_key_size_of (data_of slot.now) ≤ 64 }
     ensures { IfOk result (λ parts. parts ≡ slot_parts2_of (data_of slot.now)) }
@@ -276,7 +277,7 @@ fn parts(alloc: Global, slot: &Value) -> Result<SlotParts, AllocError>
 // What is needed to open a slot, unless there is a reason to skip it other than a limit on
 // iterations.
 #[tactic(auto, unfolding(crate::specs::Slot2::slot2_of))]
-fn usable(
+fn slot2_of(
     alloc: Global,
     tree: &Value,
     bounds: Bounds,
@@ -304,7 +305,7 @@ pub fn slot(
     ensures { IfOk result (λ usable. usable ≡ slot2_at metadata.now bounds number) }
 {
     match object_numbered(metadata.tree(), "keyslots", number) {
-        Some(slot) => usable(alloc, metadata.tree(), bounds, number, slot),
+        Some(slot) => slot2_of(alloc, metadata.tree(), bounds, number, slot),
         None => Ok(None),
     }
 }

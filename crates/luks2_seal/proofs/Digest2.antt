@@ -14,7 +14,7 @@ use Rattle.luks_verdict.specs.declared.digest.KeyDigest.{KeyDigest}
 use Rattle.luks_verdict.proofs.MadeLemmas.{digest_from-yes}
 use Rattle.luks2_json.specs.Derivation.{hash_member, iterations_in, salt_in}
 use Rattle.luks2_json.specs.List.{has_strings, array_contains}
-use Rattle.luks2_json.specs.Member.{base64_member, is_named, string_member, integer_member}
+use Rattle.luks2_json.specs.Member.{base64_member, string_is, string_member, integer_member}
 use Rattle.luks2_json.specs.Numbered.{object_numbered}
 use Rattle.luks2_json.proofs.NumberedLemmas.{lowest_found, lowest_none}
 use Rattle.luks2_metadata.specs.Digest2.{digest2_for, digest2_of, digest_parts2_of, is_digest2, is_of_slot, own_digest}
@@ -67,7 +67,7 @@ module _ (p : Seal2) (fits : AreParameters2 p) (typed : AreTyped2 p) where
   keyslots_said = names_texts p 32
 
   is_said : is_digest2 (digest_object p) ≡ true
-  unfolding is_digest2 has_strings digest_object is_named string_member integer_member
+  unfolding is_digest2 has_strings digest_object string_is string_member integer_member
   is_said = rw (keyslots_said, hash_said, salt_said, value_said) refl
 
   parts_said : digest_parts2_of (digest_object p) ≡ digest_parts p

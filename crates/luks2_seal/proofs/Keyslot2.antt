@@ -4,7 +4,7 @@ use Rattle.std.specs.Prelude.{codes}
 use Rattle.std.proofs.lemmas.Bool.{le-leb}
 use Rattle.luks_verdict.specs.declared.slot.SlotParts.{SlotParts}
 use Rattle.luks2_json.specs.Derivation.{hash_member, iterations_in, salt_in}
-use Rattle.luks2_json.specs.Member.{base64_member, decimal_member, is_named, string_member, integer_member}
+use Rattle.luks2_json.specs.Member.{base64_member, decimal_member, string_is, string_member, integer_member}
 use Rattle.luks2_metadata.specs.Slot2.{af_hash_of, area_mode_of, has_members, is_af, is_area, is_kdf, is_pbkdf2}
 use Rattle.luks2_metadata.specs.Slot2.{kdf_hash_of, priority_of, slot_parts2_of}
 use Rattle.luks_seal.specs.declared.parameters.Seal2.{Seal2}
@@ -22,7 +22,7 @@ pub record IsPlaced (p : Seal2) (slot : Slot2) : Type 0 where
   pub numbered : slot_numbered slot.number p.slots.now ≡ Some slot
   pub behind : 2 * p.hdr_size ≤ area_start p slot.number
   pub before : area_start p slot.number + area_size (length p.key.now) slot.stripes ≤ p.offset
-  pub held : p.offset ≤ 33554432
+  pub loadable : p.offset ≤ 33554432
 
 -- the parts that the key slot is made from
 abbrev pub parts_of : Seal2 → Slot2 → SlotParts
@@ -45,12 +45,12 @@ module _ (p : Seal2) (slot : Slot2) (placed : IsPlaced p slot) where
 
   offset_said : decimal_member (codes "offset") (area_object p slot) ≡ Some (area_start p slot.number)
   unfolding area_object decimal_member string_member
-  offset_said = decimal_read (area_start p slot.number) (omega (arith, placed.before, placed.held))
+  offset_said = decimal_read (area_start p slot.number) (omega (arith, placed.before, placed.loadable))
 
   size_said : decimal_member (codes "size") (area_object p slot) ≡ Some (area_size (length p.key.now) slot.stripes)
   unfolding area_object decimal_member string_member
   size_said =
-      decimal_read (area_size (length p.key.now) slot.stripes) (omega (arith, placed.before, placed.held))
+      decimal_read (area_size (length p.key.now) slot.stripes) (omega (arith, placed.before, placed.loadable))
 
   mode_said : area_mode_of (keyslot_object p slot) ≡ Some p.area_mode
   unfolding keyslot_object area_object string_member
@@ -79,15 +79,15 @@ module _ (p : Seal2) (slot : Slot2) (placed : IsPlaced p slot) where
   -- ---- kinds
 
   af_is : is_af (af_object slot) ≡ true
-  unfolding is_af af_object is_named string_member integer_member
+  unfolding is_af af_object string_is string_member integer_member
   af_is = refl
 
   area_is : is_area (area_object p slot) ≡ true
-  unfolding is_area area_object is_named string_member integer_member
+  unfolding is_area area_object string_is string_member integer_member
   area_is = rw (offset_said, size_said) refl
 
   kdf_is : is_kdf (kdf_object slot) ≡ true
-  unfolding is_kdf is_pbkdf2 kdf_object is_named string_member integer_member
+  unfolding is_kdf is_pbkdf2 kdf_object string_is string_member integer_member
   kdf_is = rw salt_said refl
 
   pub members_said : has_members (keyslot_object p slot) ≡ true

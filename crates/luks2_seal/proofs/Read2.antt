@@ -16,7 +16,7 @@ use Rattle.luks2_binary.specs.Choice2.{is_valid, size_at}
 use Rattle.luks2_binary.specs.Header2.{checksum_hash_in, header2_from, sequence_in, size_in}
 use Rattle.luks2_binary.specs.Text2.{json_area_of, json_text_of}
 use Rattle.luks2_binary.specs.declared.header.Header2.{Header2}
-use Rattle.luks2_binary.specs.declared.header.Place.TheVariants.{Primary}
+use Rattle.luks2_binary.specs.declared.header.HeaderRole.TheVariants.{Primary}
 use Rattle.luks2_json.specs.Tree.{has_objects, tree_of, value_of}
 use Rattle.luks_header.specs.Header.{bounds2_of, header_of as read_header}
 use Rattle.luks_header.specs.declared.header.Header.TheVariants.{V2}
@@ -97,7 +97,7 @@ module _ (p : Seal2) (fit : AreParameters2 p) (json : FitsJson p) (back : ReadsB
   header_is =
       let binary = binary_at (image2_of p) 0 in
       record {
-        place = Primary;
+        role = Primary;
         size = size_in binary;
         sequence = sequence_in binary;
         label = text_of (at 24 48 binary);

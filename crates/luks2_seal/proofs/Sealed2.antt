@@ -1,4 +1,4 @@
--- The image of a volume of LUKS2 is a sealed volume of its key, its passphrases and its plain text.
+-- The image of a volume of LUKS2 is a sealed volume of its key, its passphrases and its plaintext.
 use Rattle.std.proofs.Common.{◌≡◌, ◌∙◌, ℕ, ◌+◌, Bool, true, false, List, length, Some, None, refl, sym, subst, ap}
 use Rattle.std.proofs.Common.{arith, get_or, ◌/◌}
 use Rattle.std.proofs.lemmas.List.Elements.{All-map}
@@ -54,7 +54,7 @@ module _ (p : Seal2) (fits : AreParameters2 p) (json : FitsJson p) (back : Reads
       numbered = found;
       behind = area_after_headers p fits json typed slot of_slot found;
       before = omega (arith, area_before p fits json typed slot of_slot found, fits.offset.2);
-      held = fits.offset.1;
+      loadable = fits.offset.1;
     }
 
     gives2 : GivesKey (parts_of p slot) slot.passphrase.now p.key.now (image2_of p)

@@ -6,16 +6,17 @@ use Rattle.std.specs.Char.{is_ascii_digit}
 use Rattle.std.specs.List.{list_all}
 use Rattle.std.proofs.lemmas.Bool.{eq-eqb, false_from_ne_true, le-ltb}
 use Rattle.std.proofs.lemmas.Slice.Eq.{bytes_eq-Decides}
-use Rattle.luks_verdict.specs.SectorSize.{are_sectors, bytes_of}
+use Rattle.luks_verdict.specs.SectorSize.{has_whole_sectors, bytes_of}
 use Rattle.luks_verdict.specs.Segment.{segment_by, segment_from}
 use Rattle.luks_verdict.specs.declared.sector_size.SectorSize.{SectorSize}
 use Rattle.luks_verdict.specs.declared.sector_size.SectorSize.TheVariants.{B512, B1024, B2048, B4096}
 use Rattle.luks_verdict.specs.declared.segment.Segment.{Segment}
 use Rattle.luks_verdict.proofs.MadeLemmas.{segment_of_all-yes}
-use Rattle.luks2_json.specs.Member.{decimal_of, decimal_member, is_named, string_member, integer_member}
-use Rattle.luks2_metadata.specs.Segment2.{fault2_of, has_requirement, has_segment_members, is_segment, is_torn}
+use Rattle.luks2_json.specs.Member.{decimal_of, decimal_member, string_is, string_member, integer_member}
+use Rattle.luks2_metadata.specs.Segment2.{fault2_of, has_requirement, has_segment_members, is_segment, size_is_wrong}
 use Rattle.luks2_metadata.specs.Segment2.{iv_tweak_of, mode2_of, offset_of, sector_size_of, sector_size_with}
-use Rattle.luks2_metadata.specs.Segment2.{segment2_of, segment_parts2_of, size_member, overlaps_headers2, starts_wrong}
+use Rattle.luks2_metadata.specs.Segment2.{segment2_of, segment_parts2_of, size_member, overlaps_headers2}
+use Rattle.luks2_metadata.specs.Segment2.{offset_is_wrong}
 use Rattle.luks2_metadata.specs.Segment2.{the_segment}
 use Rattle.luks2_metadata.specs.declared.bounds.Bounds.{Bounds}
 use Rattle.luks2_metadata.proofs.SegmentLemmas.{said-there, segment2-none}
@@ -58,7 +59,7 @@ sector_size_read B2048 = refl
 sector_size_read B4096 = refl
 
 whole_size : (fixed : Bool) (len : ℕ) (size : SectorSize) → len % bytes_of size ≡ 0
-    → are_sectors (fixed_size fixed len) size ≡ true
+    → has_whole_sectors (fixed_size fixed len) size ≡ true
 whole_size true len size whole = eq-eqb (len % bytes_of size) 0 whole
 whole_size false len size whole = refl
 
@@ -70,7 +71,7 @@ module _ (p : Seal2) (fits : AreParameters2 p) (typed : AreTyped2 p) where
   offset_said = decimal_read p.offset (omega (arith, fits.offset.1))
 
   size_said : size_member (segment_object p) ≡ Some (fixed_size p.fixed (length p.plain.now))
-  unfolding size_member is_named segment_object decimal_member string_member
+  unfolding size_member string_is segment_object decimal_member string_member
   size_said = size_read p.fixed (length p.plain.now) (omega (arith, fits.plain.1))
 
   iv_tweak_said : iv_tweak_of (segment_object p) ≡ Some p.iv_tweak
@@ -85,7 +86,7 @@ module _ (p : Seal2) (fits : AreParameters2 p) (typed : AreTyped2 p) where
   unfolding mode2_of segment_object string_member
   mode_said = mode_read p.mode
 
-  pub whole : are_sectors (fixed_size p.fixed (length p.plain.now)) p.sector_size ≡ true
+  pub whole : has_whole_sectors (fixed_size p.fixed (length p.plain.now)) p.sector_size ≡ true
   whole = whole_size p.fixed (length p.plain.now) p.sector_size fits.plain.0
 
   -- ---- no fault
@@ -98,8 +99,8 @@ module _ (p : Seal2) (fits : AreParameters2 p) (typed : AreTyped2 p) where
   unfolding has_requirement metadata_of config_object
   requires_none = refl
 
-  starts_right : starts_wrong (bounds_of p) (Some p.offset) ≡ false
-  unfolding starts_wrong overlaps_headers2 area_start
+  starts_right : offset_is_wrong (bounds_of p) (Some p.offset) ≡ false
+  unfolding offset_is_wrong overlaps_headers2 area_start
   starts_right =
       let rises = start_rises p 0 32 in
       let behind : 2 * p.hdr_size ≤ p.offset = omega (arith, rises, fits.offset.2) in
@@ -107,7 +108,7 @@ module _ (p : Seal2) (fits : AreParameters2 p) (typed : AreTyped2 p) where
       rw (le-ltb p.offset (2 * p.hdr_size) behind, eq-eqb (p.offset % 512) 0 whole) refl
 
   is_said : is_segment (segment_object p) ≡ true
-  unfolding is_segment has_segment_members is_named string_member segment_object integer_member
+  unfolding is_segment has_segment_members string_is string_member segment_object integer_member
   is_said = rw (offset_said, size_said, iv_tweak_said) refl
 
   -- the segment
@@ -115,7 +116,7 @@ module _ (p : Seal2) (fits : AreParameters2 p) (typed : AreTyped2 p) where
   segment_is = segment_by p.offset (fixed_size p.fixed (length p.plain.now)) p.iv_tweak p.sector_size p.mode whole
 
   no_fault : fault2_of (metadata_of p) (bounds_of p) ≡ None
-  unfolding fault2_of is_torn is_named segment_object string_member
+  unfolding fault2_of size_is_wrong string_is segment_object string_member
   no_fault =
       rw (requires_none, is_there, is_said, mode_said, sector_size_said, offset_said, starts_right, size_said, whole)
       refl

@@ -3,7 +3,7 @@ use Rattle.std.proofs.Common.{◌≡◌, ◌∙◌, ◌+◌, ◌*◌, ◌<◌, �
 use Rattle.std.specs.Prelude.{◌&&◌, ◌||◌, codes, is_none}
 use Rattle.std.proofs.lemmas.Bool.{lt-ltb}
 use Rattle.std.proofs.lemmas.Bool.Decides.{nat_tests}
-use Rattle.luks_area.specs.Area.{max_area_len}
+use Rattle.luks_area.specs.Area.{max_loaded_len}
 use Rattle.luks_verdict.specs.Digest.{digest_of, has_no_usable_digest}
 use Rattle.luks_verdict.specs.Rule.{iterations_out_of_range, area_out_of_range, stripes_out_of_range, need_of}
 use Rattle.luks_verdict.specs.Segment.{segment_by}
@@ -13,13 +13,13 @@ use Rattle.luks_verdict.specs.declared.slot.SlotParts.{SlotParts}
 use Rattle.luks_verdict.specs.declared.slot.Verdict.TheVariants.{Usable}
 use Rattle.luks_verdict.proofs.MadeLemmas.{slot_from-yes}
 use Rattle.luks2_json.specs.Encryption.{is_length_for}
-use Rattle.luks2_json.specs.Member.{is_named, string_member}
+use Rattle.luks2_json.specs.Member.{string_is, string_member}
 use Rattle.luks2_json.specs.Numbered.{object_numbered}
 use Rattle.luks2_metadata.specs.Digest2.{digest2_for}
-use Rattle.luks2_metadata.specs.Segment2.{payload2_of, payload_mode2_of}
+use Rattle.luks2_metadata.specs.Segment2.{payload2_start, payload_mode2_of}
 use Rattle.luks2_metadata.specs.Slot2.{are_key_sizes, area_mode_of, has_unknown_hash, area2_out_of_range}
 use Rattle.luks2_metadata.specs.Slot2.{iterations_of_slot}
-use Rattle.luks2_metadata.specs.Slot2.{reason2_of, slot2_of, slot_parts2_of, stripes_member, verdict2_at, verdict2_of}
+use Rattle.luks2_metadata.specs.Slot2.{reason2_of, slot2_of, slot_parts2_of, stripe_count_of, verdict2_at, verdict2_of}
 use Rattle.luks2_metadata.proofs.SegmentLemmas.{segment2-ok}
 use Rattle.luks2_metadata.proofs.SlotLemmas.{no_reason, range_of}
 use Rattle.luks_seal.specs.declared.parameters.Seal2.{Seal2}
@@ -50,9 +50,9 @@ unfolding need_of
 need_fits key stripes = omega arith
 
 well_placed : (start payload offset size need : ℕ) → start ≤ offset → need ≤ size → offset + size ≤ payload
-    → payload ≤ max_area_len → area_out_of_range start (Some payload) offset size need ≡ false
+    → payload ≤ max_loaded_len → area_out_of_range start (Some payload) offset size need ≡ false
 unfolding area_out_of_range
-well_placed start payload offset size need behind capacity before held = grind (arith, nat_tests)
+well_placed start payload offset size need behind capacity before loadable = grind (arith, nat_tests)
 
 module _ (p : Seal2) (fits : AreParameters2 p) (typed : AreTyped2 p) (slot : Slot2) (placed : IsPlaced p slot) where
   -- ---- the values that the slot is checked against
@@ -62,7 +62,7 @@ module _ (p : Seal2) (fits : AreParameters2 p) (typed : AreTyped2 p) (slot : Slo
   payload_mode =
       (segment2-ok (metadata_of p) (bounds_of p) (segment_is p fits typed) (segment_read p fits typed)).mode
 
-  payload_start : payload2_of (metadata_of p) (bounds_of p) ≡ Some p.offset
+  payload_start : payload2_start (metadata_of p) (bounds_of p) ≡ Some p.offset
   unfolding segment_is segment_by
   payload_start =
       (segment2-ok (metadata_of p) (bounds_of p) (segment_is p fits typed) (segment_read p fits typed)).start refl
@@ -91,7 +91,7 @@ module _ (p : Seal2) (fits : AreParameters2 p) (typed : AreTyped2 p) (slot : Slo
       && is_length_for (Some p.mode) parts.key_bytes) (parts_said p slot placed)
       ∙ rw (fits.keys.0, fits.keys.1) refl)
 
-  striped : stripes_out_of_range (stripes_member (keyslot_object p slot)) ≡ false
+  striped : stripes_out_of_range (stripe_count_of (keyslot_object p slot)) ≡ false
   unfolding slot_parts2_of
   striped =
       ap (λ (parts : SlotParts). stripes_out_of_range parts.stripes) (parts_said p slot placed)
@@ -103,7 +103,7 @@ module _ (p : Seal2) (fits : AreParameters2 p) (typed : AreTyped2 p) (slot : Slo
       ap (λ (parts : SlotParts). iterations_out_of_range None parts.iterations) (parts_said p slot placed)
       ∙ within_limits slot.iterations placed.fits.2 placed.typed.iterations
 
-  area_fits : area2_out_of_range (2 * p.hdr_size) (payload2_of (metadata_of p) (bounds_of p)) (keyslot_object p slot)
+  area_fits : area2_out_of_range (2 * p.hdr_size) (payload2_start (metadata_of p) (bounds_of p)) (keyslot_object p slot)
       ≡ false
   unfolding area2_out_of_range slot_parts2_of
   area_fits =
@@ -112,11 +112,11 @@ module _ (p : Seal2) (fits : AreParameters2 p) (typed : AreTyped2 p) (slot : Slo
       (need_of parts.key_bytes parts.stripes)) (parts_said p slot placed)
       ∙ well_placed (2 * p.hdr_size) p.offset (area_start p slot.number) (area_size (length p.key.now) slot.stripes)
       (need_of (length p.key.now) slot.stripes) placed.behind (need_fits (length p.key.now) slot.stripes) placed.before
-      placed.held)
+      placed.loadable)
 
   -- no reason to skip the slot holds
   no_reasons : reason2_of (metadata_of p) (bounds_of p) None slot.number (keyslot_object p slot) ≡ None
-  unfolding reason2_of is_named string_member keyslot_object kdf_object
+  unfolding reason2_of string_is string_member keyslot_object kdf_object
   no_reasons =
       rw (members_said p slot placed, hashes_known, mode_known, keys_fit, striped, counted, area_fits, digested) refl
 

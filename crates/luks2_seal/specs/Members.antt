@@ -2,7 +2,7 @@
 use Rattle.std.specs.Prelude.{ℕ, List, [], ◌∷◌}
 use Rattle.std.specs.Borrow.{Bor}
 use Rattle.serde_json.specs.Data.{Data, Members, number, put, string, unsigned}
-use Rattle.luks2_seal.specs.Metadata2.{base64_value, decimal_value, encryption_text}
+use Rattle.luks2_seal.specs.Metadata2.{base64_value, decimal_value, encryption_value}
 use Rattle.luks2_seal.specs.declared.members.Content.{Content}
 use Rattle.luks2_seal.specs.declared.members.Content.TheVariants.{Text, Number, Decimal, Bytes, Encryption}
 
@@ -12,7 +12,7 @@ data_of (Text text) = string text.now
 data_of (Number n) = number (unsigned n)
 data_of (Decimal n) = decimal_value n
 data_of (Bytes bytes) = base64_value bytes.now
-data_of (Encryption mode) = encryption_text mode
+data_of (Encryption mode) = encryption_value mode
 
 -- an object's members, with these added
 abbrev pub with_members : List (Bor (List ℕ) × Content) → Members → Members

@@ -33,8 +33,8 @@ abbrev pub base64_value : List ℕ → Data
 base64_value bytes = string (encode_of standard bytes)
 
 -- how sectors are encrypted: AES in this mode
-abbrev pub encryption_text : Mode → Data
-encryption_text mode = string (codes "aes-" ++ mode_name mode)
+abbrev pub encryption_value : Mode → Data
+encryption_value mode = string (codes "aes-" ++ mode_name mode)
 
 -- how the key is split into stripes
 unfoldable pub af_object : Slot2 → Data
@@ -47,7 +47,7 @@ af_object slot = object (members (
 -- where the key material is, and how it is encrypted
 unfoldable pub area_object : Seal2 → Slot2 → Data
 area_object p slot = object (members (
-    (codes "encryption", encryption_text p.area_mode)
+    (codes "encryption", encryption_value p.area_mode)
     ∷ (codes "key_size", number (unsigned p.area_key_size))
     ∷ (codes "offset", decimal_value (area_start p slot.number))
     ∷ (codes "size", decimal_value (area_size (length p.key.now) slot.stripes))
@@ -109,7 +109,7 @@ size_value false len = string (codes "dynamic")
 -- where the payload is, and how it is encrypted
 unfoldable pub segment_object : Seal2 → Data
 segment_object p = object (members (
-    (codes "encryption", encryption_text p.mode)
+    (codes "encryption", encryption_value p.mode)
     ∷ (codes "iv_tweak", decimal_value p.iv_tweak)
     ∷ (codes "offset", decimal_value p.offset)
     ∷ (codes "sector_size", number (unsigned (bytes_of p.sector_size)))

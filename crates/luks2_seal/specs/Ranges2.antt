@@ -21,7 +21,7 @@ FitKeys p = FitsKey p.mode (length p.key.now) × FitsKey p.area_mode p.area_key_
 abbrev pub FitTexts : Seal2 → Type 0
 FitTexts p = FitsText 40 p.uuid.now × FitsText 48 p.label.now × FitsText 48 p.subsystem.now
 
--- a plain text of this length is whole sectors, and is not too long
+-- a plaintext of this length is whole sectors, and is not too long
 abbrev pub FitsPlain2 : ℕ → ℕ → Type 0
 FitsPlain2 sector len = (len % sector ≡ 0) × (len ≤ max_plain_len)
 

@@ -14,7 +14,7 @@ use crate::metadata::json_of;
 use crate::ranges2::are_parameters2;
 use crate::typed2::typed2;
 use luks_seal::parameters::{Seal2, SealFault};
-use luks_seal::pieces::{cipher_of, encrypted, padded};
+use luks_seal::pieces::{cipher_with, encrypted, padded};
 use luks_seal::ranges::fits_text;
 use std::alloc::{AllocError, Global};
 
@@ -24,7 +24,7 @@ fn payload_of(alloc: Global, seal: &Seal2<'_>) -> Result<Vec<u8>, AllocError>
     requires { AreParameters2 seal.now }
     ensures { IfOk result (λ payload. payload.items ≡ payload_of seal.now) }
 {
-    let cipher = cipher_of(seal.mode, seal.key);
+    let cipher = cipher_with(seal.mode, seal.key);
     let step = (seal.sector_size.bytes() / 512) as u64;
     encrypted(
         alloc,

@@ -4,7 +4,7 @@ ghost use Rattle.std.specs.Prelude.{◌≡◌, IfOk, OnOk};
 ghost use Rattle.serde_json.specs.Data.{no_members, object, put};
 ghost use Rattle.serde_json.specs.View.{members_view, view};
 ghost use Rattle.luks2_seal.specs.Members.{data_of, with_members};
-ghost use Rattle.luks2_seal.specs.Metadata2.{base64_value, decimal_value, encryption_text};
+ghost use Rattle.luks2_seal.specs.Metadata2.{base64_value, decimal_value, encryption_value};
 
 use base64::engine::general_purpose::STANDARD;
 use luks_cipher::Mode;
@@ -41,8 +41,8 @@ fn base64_value(alloc: Global, bytes: &[u8]) -> Result<Value, AllocError>
 }
 
 /// How sectors are encrypted.
-fn encryption_text(alloc: Global, mode: Mode) -> Result<Value, AllocError>
-    ensures { IfOk result (λ value. view value ≡ encryption_text mode) }
+fn encryption_value(alloc: Global, mode: Mode) -> Result<Value, AllocError>
+    ensures { IfOk result (λ value. view value ≡ encryption_value mode) }
 {
     let mut text = String::from_str(alloc, "aes-")?;
     text.push_str(mode.name())?;
@@ -58,7 +58,7 @@ fn value_of(alloc: Global, content: Content<'_>) -> Result<Value, AllocError>
         Content::Number(number) => Ok(Value::from(number)),
         Content::Decimal(number) => decimal_value(alloc, number),
         Content::Bytes(bytes) => base64_value(alloc, bytes),
-        Content::Encryption(mode) => encryption_text(alloc, mode),
+        Content::Encryption(mode) => encryption_value(alloc, mode),
     }
 }
 

@@ -39,7 +39,7 @@ fn fit_texts(seal: &Seal2<'_>) -> bool
     fits_text(40, seal.uuid) && fits_text(48, seal.label) && fits_text(48, seal.subsystem)
 }
 
-/// A plain text of this length is whole sectors, and is not too long.
+/// A plaintext of this length is whole sectors, and is not too long.
 fn fits_plain(sector: SectorSize, len: usize) -> bool
     ensures { IsTrue result ↔ FitsPlain2 (bytes_of sector) len }
 {

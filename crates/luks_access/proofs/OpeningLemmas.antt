@@ -2,13 +2,14 @@
 use Rattle.std.proofs.Common.{◌≡◌, ◌≢◌, ℕ, ◌≤◌, inl, inr, List, Option, Some, None, Result, Ok, Err, ◌∙◌, ap, sym}
 use Rattle.std.proofs.Common.{refl, subst, take, drop, length, ◌-◌, ◌%◌, Bool, true, false}
 use Rattle.std.specs.Prelude.{◌==◌, nat_lt, if◌then◌else◌}
-use Rattle.luks_area.specs.declared.fault.HeaderFault.TheVariants.{NotLuks as NoLuks, Cut as IsCut, Json as NoJson}
-use Rattle.luks_area.specs.declared.fault.HeaderFault.TheVariants.{Read as LostRead, Memory as NoMemory}
+use Rattle.luks_area.specs.declared.fault.HeaderFault.TheVariants.{NotLuks as HeaderNotLuks, Cut as HeaderCut}
+use Rattle.luks_area.specs.declared.fault.HeaderFault.TheVariants.{Json as HeaderJson}
+use Rattle.luks_area.specs.declared.fault.HeaderFault.TheVariants.{Read as HeaderRead, Memory as HeaderMemory}
 use Rattle.luks_area.specs.declared.fault.HeaderFault.{HeaderFault}
 use Rattle.luks_header.specs.Header.{header_read_len}
 use Rattle.luks_header.specs.HeaderSegment.{segment_of}
 use Rattle.luks_header.specs.declared.header.Header.{Header}
-use Rattle.luks_open.specs.Order.{OrderModel, key_areas_end, order_of}
+use Rattle.luks_open.specs.Order.{OrderModel, key_material_end, order_of}
 use Rattle.luks_report.specs.Faults.{message_at_end}
 use Rattle.luks_report.specs.declared.message.Message.{Message}
 use Rattle.luks_report.specs.declared.message.Message.TheVariants.{Done, KeyFileLength, OutOfMemory, ReadFailed}
@@ -24,18 +25,20 @@ use Rattle.luks_runs.specs.declared.location.HeaderLocation.TheVariants.{Attache
 use Rattle.luks_unlock.proofs.HonestVolumes.{unsealed}
 use Rattle.luks_unlock.proofs.OutcomeLemmas.{area_cut, found_cut, found_is, found_long, outcome_is, tried_is}
 use Rattle.luks_unlock.proofs.OutcomeLemmas.{volume_with}
-use Rattle.luks_unlock.specs.Finding.{AbortsFinding}
+use Rattle.luks_unlock.specs.Found.{FindsNoVolume}
 use Rattle.luks_unlock.specs.OpeningMessages.{OpeningMessage}
 use Rattle.luks_unlock.specs.Trying.{TriesSlots, opened_of}
 use Rattle.luks_unlock.specs.declared.unlocked.UnlockedVolume.{UnlockedVolume}
-use Rattle.luks_unlock.specs.Volume.{OnOpened, detached_payload_outcome, loaded_for, payload_outcome, outcome_after}
+use Rattle.luks_unlock.specs.Volume.{OnOpened, detached_payload_outcome, unlock_read_len, payload_outcome}
+use Rattle.luks_unlock.specs.Volume.{outcome_after}
 use Rattle.luks_unlock.specs.Volume.{volume_by, volume_in_header, volume_in_segment, volume_outcome_by}
 use Rattle.luks_verdict.specs.declared.refusal.SegmentFault.{SegmentFault}
 use Rattle.luks_verdict.specs.declared.segment.Segment.{Segment}
-use Rattle.luks_payload.specs.Plain.{ending_of, ending_of_len, payload_len, sector_len}
+use Rattle.luks_payload.specs.Plain.{ending_of, ending_of_len, bytes_from_start, sector_len}
 use Rattle.luks_payload.specs.declared.fault.VolumeFault.{VolumeFault}
-use Rattle.luks_payload.specs.declared.fault.VolumeFault.TheVariants.{CutBeforePayload as IsCutBefore, Tail as HasTail}
-use Rattle.luks_payload.specs.declared.fault.VolumeFault.TheVariants.{Short as IsShort}
+use Rattle.luks_payload.specs.declared.fault.VolumeFault.TheVariants.{CutBeforePayload as VolumeCutBeforePayload}
+use Rattle.luks_payload.specs.declared.fault.VolumeFault.TheVariants.{Tail as VolumeTail}
+use Rattle.luks_payload.specs.declared.fault.VolumeFault.TheVariants.{Short as VolumeShort}
 use Rattle.luks_payload.specs.declared.state.Step.{Step}
 use Rattle.luks_payload.specs.declared.state.Step.TheVariants.{End}
 use Rattle.luks_access.specs.Opens.{HasOptions, IsCatOf, IsOnlyAborted, IsPlainOf, Opens, Refuses}
@@ -88,7 +91,7 @@ module _ (options : Options) (o : VolumeRequest) (image pass : List ℕ) (i : Op
     (has : HasOptions o options) where
   -- no volume was found
   pub refused_unfound : (message : Message) → aborts message ≡ false
-      → AbortsFinding (reader_for options.location) o image i message → Refuses options image pass message
+      → FindsNoVolume (reader_for options.location) o image i message → Refuses options image pass message
   refused_unfound OutOfMemory never stop = cc
   refused_unfound ReadFailed never stop = cc
   refused_unfound WriteFailed never stop = cc
@@ -104,20 +107,20 @@ module _ (options : Options) (o : VolumeRequest) (image pass : List ℕ) (i : Op
     refused_slots : (short : length pass ≤ max_key_file_len) (message : Message) → aborts message ≡ false
         → TriesSlots o.key_slot segment order pass area area' (drop (header_read_len image) image) i (Err message)
         → Refuses options image pass message
-    refused_slots short message never (inl (LostRead, is, lost)) = cc
-    refused_slots short message never (inl (NoMemory, is, lost)) = cc
-    refused_slots short message never (inl (NoLuks, is, lost)) = absurd lost
-    refused_slots short message never (inl (IsCut, is, lost)) = absurd lost
-    refused_slots short message never (inl (NoJson, is, lost)) = absurd lost
+    refused_slots short message never (inl (HeaderRead, is, lost)) = cc
+    refused_slots short message never (inl (HeaderMemory, is, lost)) = cc
+    refused_slots short message never (inl (HeaderNotLuks, is, lost)) = absurd lost
+    refused_slots short message never (inl (HeaderCut, is, lost)) = absurd lost
+    refused_slots short message never (inl (HeaderJson, is, lost)) = absurd lost
     refused_slots short message never (inr (grows, inl (is, few))) =
         let v = volume_with header segment order in
-        let cut = area_cut image area area' i (key_areas_end order.slots) prefix grows few in
+        let cut = area_cut image area area' i (key_material_end order.entries) prefix grows few in
         rw is (refused_by options o image pass _ (length image) (length pass) has
         (λ on_opened. found_is options.location o image pass header segment order found is_segment ordered on_opened
         ∙ found_cut on_opened o.key_slot v image pass short cut.0))
     refused_slots short message never (inr (grows, inr (fault, is, enough, tried))) =
         let v = volume_with header segment order in
-        rw is (refused_by options o image pass _ (loaded_for image v) (length pass) has
+        rw is (refused_by options o image pass _ (unlock_read_len image v) (length pass) has
         (λ on_opened. tried_is options.location o image pass header segment order found is_segment ordered short area
         area' i prefix grows enough (Err fault) tried on_opened))
 
@@ -140,12 +143,12 @@ module _ (options : Options) (o : VolumeRequest) (image pass : List ℕ) (i : Op
     opened_by opened (inl (short, (grows, enough, same, tried))) =
         let v = volume_with header segment order in
         record {
-          loaded = loaded_for image v;
+          loaded = unlock_read_len image v;
           outcome = λ p of_p on_opened.
               same_options options p o of_p has (reader_for options.location) on_opened image pass
               ∙ tried_is options.location o image pass header segment order found is_segment ordered short area area'
               i prefix grows enough (Ok (opened_of opened)) tried on_opened
-              ∙ ap (λ s. on_opened s (opened_of opened) (loaded_for image v)) (sym same);
+              ∙ ap (λ s. on_opened s (opened_of opened) (unlock_read_len image v)) (sym same);
         }
     opened_by opened (inr (long, is)) = cc
 
@@ -172,13 +175,13 @@ cat_of options header pass v opens o image has =
     cat_by o header image pass v opens.loaded options.location (opens.outcome o has)
 
 -- if the message at a payload's end is `Done`, the payload is whole
-by_tail : (b : Bool) (n : ℕ) → message_at_end (if b then Ok End else Err (HasTail n)) ≡ Done
-    → (if b then Ok End else Err (HasTail n)) ≡ Ok End
+by_tail : (b : Bool) (n : ℕ) → message_at_end (if b then Ok End else Err (VolumeTail n)) ≡ Done
+    → (if b then Ok End else Err (VolumeTail n)) ≡ Ok End
 by_tail true n well = refl
 by_tail false n well = cc
 
-by_size : (b : Bool) (n : ℕ) → message_at_end (if b then Err (IsShort n) else Ok End) ≡ Done
-    → (if b then Err (IsShort n) else Ok End) ≡ Ok End
+by_size : (b : Bool) (n : ℕ) → message_at_end (if b then Err (VolumeShort n) else Ok End) ≡ Done
+    → (if b then Err (VolumeShort n) else Ok End) ≡ Ok End
 by_size true n well = cc
 by_size false n well = refl
 
@@ -188,14 +191,15 @@ ends_within None sector len well = by_tail (len % sector == 0) (len % sector) we
 ends_within (Some size) sector len well = by_size (nat_lt len size) (size - len) well
 
 by_start : (b : Bool) (r : Result Step VolumeFault) → (message_at_end r ≡ Done → r ≡ Ok End)
-    → message_at_end (if b then Err IsCutBefore else r) ≡ Done → (if b then Err IsCutBefore else r) ≡ Ok End
+    → message_at_end (if b then Err VolumeCutBeforePayload else r) ≡ Done
+    → (if b then Err VolumeCutBeforePayload else r) ≡ Ok End
 by_start true r ends well = cc
 by_start false r ends well = ends well
 
 ends_whole : (s : Segment) (image : List ℕ) → message_at_end (ending_of s image) ≡ Done → ending_of s image ≡ Ok End
 ends_whole s image well =
-    by_start (nat_lt (length image) s.offset) (ending_of_len s.size (sector_len s) (payload_len s image))
-    (ends_within s.size (sector_len s) (payload_len s image)) well
+    by_start (nat_lt (length image) s.offset) (ending_of_len s.size (sector_len s) (bytes_from_start s image))
+    (ends_within s.size (sector_len s) (bytes_from_start s image)) well
 
 -- the plaintext of an honestly sealed volume is the text that was sealed, and it is whole
 pub plain_of_honest : (options : Options) (image pass : List ℕ) (v : UnlockedVolume) → Opens options image pass v

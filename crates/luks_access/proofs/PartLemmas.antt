@@ -8,7 +8,7 @@ use Rattle.luks_cipher.specs.Sector.{Cipher, sector_decrypted}
 use Rattle.luks_cipher.specs.Xts.{joined}
 use Rattle.luks_kdf.proofs.BytesLemmas.{take_prefix, drop_prefix}
 use Rattle.luks_verdict.specs.declared.segment.Segment.{Segment}
-use Rattle.luks_payload.specs.Plain.{payload_len, plain_of, sector_len, sector_plaintext, sector_start, sectors_of}
+use Rattle.luks_payload.specs.Plain.{bytes_from_start, plain_of, sector_len, sector_plaintext, sector_start, sectors_of}
 use Rattle.luks_payload.specs.Plain.{unit_number, unit_plain, payload_bytes}
 use Rattle.luks_verdict.proofs.SectorLemmas.{sector_blocks}
 use Rattle.luks_payload.proofs.SectorLemmas.{one_more_fits}
@@ -120,12 +120,12 @@ module _ (s : Segment) (cipher : Cipher) (image : List ℕ) where
   -- a sector of the payload has its full length
   len_of : (j : ℕ) → j < sectors_of s image → length (sector_plaintext s cipher image j) ≡ sector_len s
   len_of j low =
-      let all = one_more_fits j (payload_bytes s.size (payload_len s image)) (sector_len s) low in
-      let within = within_len s.size (payload_len s image) in
+      let all = one_more_fits j (payload_bytes s.size (bytes_from_start s image)) (sector_len s) low in
+      let within = within_len s.size (bytes_from_start s image) in
       let blocks = (sector_blocks s.sector_size).blocks in
       let piece : length (take (sector_len s) (drop (sector_start s j) image)) ≡ sector_len s =
       length-take-le (sector_len s) (drop (sector_start s j) image)
-      (there s.offset (j * sector_len s) (sector_len s) (payload_bytes s.size (payload_len s image)) (length image)
+      (there s.offset (j * sector_len s) (sector_len s) (payload_bytes s.size (bytes_from_start s image)) (length image)
       (length (drop (sector_start s j) image)) (sector_blocks s.sector_size).long all within
       (length-drop (sector_start s j) image)) in
       unit_len cipher (unit_number s j) (take (sector_len s) (drop (sector_start s j) image))

@@ -14,7 +14,7 @@ use Rattle.luks_verdict.specs.declared.sector_size.SectorSize.TheVariants.{B512,
 use Rattle.luks_verdict.specs.declared.segment.Segment.{Segment}
 use Rattle.luks_cipher.specs.Sector.{Cipher}
 use Rattle.luks_payload.specs.Plain.{plain_of, sector_len, payload_bytes}
-use Rattle.luks_access.specs.Range.{IsRangeOf, ReadsRange, text_len}
+use Rattle.luks_access.specs.Range.{IsRangeOf, ReadsRange, plaintext_len}
 use Rattle.luks_access.specs.declared.fault.RangeFault.{RangeFault}
 use Rattle.luks_access.specs.declared.fault.RangeFault.TheVariants.{PastEnd, Read, Shorter}
 
@@ -113,7 +113,7 @@ text_is_long s cipher image image_len len long is =
 -- reading a range, if `len` is the length of the image's plaintext
 module _ (s : Segment) (cipher : Cipher) (len : ℕ) (image : Option (List ℕ)) (fails : Bool) (offset : ℕ)
     (bytes : List ℕ) (long : (known : List ℕ) → image ≡ Some known → len ≡ length (plain_of s cipher known)) where
-  all_of : (known : List ℕ) → image ≡ Some known → text_len s known ≡ len
+  all_of : (known : List ℕ) → image ≡ Some known → plaintext_len s known ≡ len
   all_of known is = sym (long known is ∙ plain_len s known cipher)
 
   pub range_read : (result : Result (Unit {0}) RangeFault) → ReadsRange s cipher len image fails offset result bytes

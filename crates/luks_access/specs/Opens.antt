@@ -10,7 +10,7 @@ use Rattle.luks_runs.specs.HeaderReading.{detached_header_of}
 use Rattle.luks_runs.specs.Location.{reader_for}
 use Rattle.luks_runs.specs.declared.location.HeaderLocation.{HeaderLocation}
 use Rattle.luks_runs.specs.declared.location.HeaderLocation.TheVariants.{Attached, Detached}
-use Rattle.luks_unlock.specs.Honest.{IsHonest}
+use Rattle.luks_unlock.specs.Honest.{OpensHonest}
 use Rattle.luks_unlock.specs.Trying.{opened_of}
 use Rattle.luks_unlock.specs.declared.unlocked.UnlockedVolume.{UnlockedVolume}
 use Rattle.luks_unlock.specs.Volume.{OnOpened, detached_payload_outcome, payload_outcome, volume_outcome}
@@ -72,10 +72,10 @@ IsCatOf options header pass v =
 abbrev pub IsPlainOf : Options → List ℕ → List ℕ → UnlockedVolume → Type 0
 IsPlainOf options image pass v =
     (o : VolumeRequest) (plain : List ℕ) → options.location ≡ Attached → HasOptions o options
-    → IsHonest o image pass plain → (plaintext_of v image ≡ plain) × (ending_of v.segment image ≡ Ok End)
+    → OpensHonest o image pass plain → (plaintext_of v image ≡ plain) × (ending_of v.segment image ≡ Ok End)
 
 -- such a volume is refused only if memory ran out, or a read or a write failed
 abbrev pub IsOnlyAborted : Options → List ℕ → List ℕ → Message → Type 0
 IsOnlyAborted options image pass message =
     (o : VolumeRequest) (plain : List ℕ) → options.location ≡ Attached → HasOptions o options
-    → aborts message ≡ false → IsHonest o image pass plain → ⊥
+    → aborts message ≡ false → OpensHonest o image pass plain → ⊥

@@ -14,20 +14,21 @@ abbrev pub range_fault : ReadAtFault → RangeFault
 range_fault Failed = Read
 range_fault Ended = Shorter
 
--- the text has these bytes from this offset on
+-- the plaintext has these bytes from this offset on
 abbrev pub IsRangeOf : List ℕ → ℕ → List ℕ → Type 0
 IsRangeOf text offset bytes = bytes ≡ take (length bytes) (drop offset text)
 
 -- the length of an image's plaintext: all whole sectors of the payload
-abbrev pub text_len : Segment → List ℕ → ℕ
-text_len s image = sectors_of s image * sector_len s
+abbrev pub plaintext_len : Segment → List ℕ → ℕ
+plaintext_len s image = sectors_of s image * sector_len s
 
 -- how reading a range within a plaintext of `len` bytes ends: a read failed, if reads may fail; otherwise an image that
 -- knows its bytes, and has a plaintext of that length, gives that range and does not end before it
 abbrev pub ReadsRange : Segment → Cipher → ℕ → Option (List ℕ) → Bool → ℕ → Result (Unit {0}) RangeFault → List ℕ
     → Type 0
 ReadsRange s cipher len image fails offset (Ok _) bytes =
-    IfKnown image (λ known. text_len s known ≡ len → IsRangeOf (plain_of s cipher known) offset bytes)
+    IfKnown image (λ known. plaintext_len s known ≡ len → IsRangeOf (plain_of s cipher known) offset bytes)
 ReadsRange s cipher len image fails offset (Err PastEnd) bytes = ⊥
 ReadsRange s cipher len image fails offset (Err Read) bytes = fails ≡ true
-ReadsRange s cipher len image fails offset (Err Shorter) bytes = IfKnown image (λ known. text_len s known ≡ len → ⊥)
+ReadsRange s cipher len image fails offset (Err Shorter) bytes =
+    IfKnown image (λ known. plaintext_len s known ≡ len → ⊥)

@@ -3,26 +3,19 @@
 ghost use Rattle.std.specs.Prelude.{◌≡◌, ◌+◌, ◌*◌, ◌-◌, ◌/◌, ◌%◌, ◌<◌, ◌≤◌, ◌^◌, List, ℕ, Err};
 ghost use Rattle.std.specs.Prelude.{if◌then◌else◌, length, nat_lt};
 ghost use Rattle.luks_verdict.specs.SectorSize.{bytes_of};
-ghost use Rattle.luks_payload.specs.Plain.{ending_of_len, sector_len, unit_number, payload_bytes};
+ghost use Rattle.luks_payload.specs.Plain.{ending_of_len, sector_len, payload_bytes};
 ghost use Rattle.luks_access.specs.Sectors.{AreStored, plain_at, plain_in};
 
 use luks_cipher::SectorCipher;
 use luks_header::segment::Segment;
 use luks_payload::fault::VolumeFault;
+use luks_payload::sector::unit_number;
 use luks_payload::state::Step;
 use luks_verdict::sector_size::SectorSize;
 
-/// The data unit number of a sector. LUKS counts in units of 512 bytes, and wraps at 2^64.
-fn unit_number(segment: &Segment, sector: u64) -> u64
-    ensures { result ≡ unit_number segment.now sector }
-{
-    let units = (segment.sector_size.bytes() / 512) as u64;
-    segment.iv_tweak.wrapping_add(sector.wrapping_mul(units))
-}
-
 /// The length in bytes of a payload's plaintext: all its whole sectors. The payload is in an image
 /// of `image_len` bytes, from `offset` on, and its size may be fixed.
-pub fn text_len(offset: u64, size: Option<u64>, sector_size: SectorSize, image_len: u64) -> u64
+pub fn plaintext_len(offset: u64, size: Option<u64>, sector_size: SectorSize, image_len: u64) -> u64
     ensures value { result ≡ payload_bytes size (image_len - offset) / bytes_of sector_size
         * bytes_of sector_size }
     ensures within { result ≤ image_len - offset }

@@ -41,8 +41,8 @@ impl<'a, I: ReadAt> Source for ImageSource<'a, I> {
 
     ghost counts = { λ s. s.counts };
 
-    /// Fills the buffer with the remaining bytes, as far as there are any. It fails if the image
-    /// has become shorter.
+    /// Fills the buffer with the remaining bytes, as far as there are any. It fails if a read of
+    /// the image fails or the image has become shorter.
     fn read(&mut self, buf: &mut [u8]) -> Result<usize, DeviceFault> {
         let left = self.image.len().saturating_sub(self.at);
         let count = left.min(buf.len() as u64) as usize;

@@ -6,7 +6,7 @@ ghost use Rattle.luks_io.specs.Counts.{Reads};
 ghost use Rattle.luks_io.specs.Devices.{IfKnown};
 ghost use Rattle.luks_request.specs.Request.{volume_request};
 ghost use Rattle.luks_runs.specs.Run.{aborts, is_run_read_failure, result_message};
-ghost use Rattle.luks_unlock.specs.Finding.{HasSlots};
+ghost use Rattle.luks_unlock.specs.Found.{MatchesHeader};
 ghost use Rattle.luks_unlock.specs.OpeningMessages.{OpeningMessage};
 ghost use Rattle.luks_unlock.specs.Trying.{CountsTrials};
 ghost use Rattle.luks_payload.specs.Plain.{ending_of, sector_len};
@@ -19,7 +19,7 @@ use crate::fault::RangeFault;
 use crate::image::ReadAt;
 use crate::options::{Options, opening};
 use crate::range::read_range;
-use crate::sectors::{payload_ending, text_len};
+use crate::sectors::{payload_ending, plaintext_len};
 use crate::source::ImageSource;
 use luks_cipher::SectorCipher;
 use luks_header::segment::Segment;
@@ -29,7 +29,7 @@ use luks_payload::fault::VolumeFault;
 use luks_payload::state::Step;
 use luks_report::message::Message;
 use luks_request::command::VolumeArgs;
-use luks_unlock::finding::{FoundVolume, find_volume};
+use luks_unlock::found::{FoundVolume, find_volume};
 use luks_unlock::trying::try_slots;
 use luks_unlock::unlocked::UnlockedVolume;
 use std::alloc::Global;
@@ -66,7 +66,7 @@ fn unlock<S: Source>(
     pass: &[u8],
     work: &mut Work,
 ) -> Result<UnlockedVolume, Message>
-    requires { HasSlots (volume_request opening.now) found }
+    requires { MatchesHeader (volume_request opening.now) found }
     ensures run { IfKnown (S.to_come source.old) (λ rest. (found.area.ended ≡ true → rest ≡ [])
         → (loaded : List ℕ) × UnlocksVolume (volume_request opening.now).key_slot found.segment
         found.order pass.now found.area.bytes loaded rest (S.to_come source.new) result) }
@@ -170,7 +170,7 @@ impl Volume {
         ensures multiple { result % sector_len self.now.segment ≡ 0 }
     {
         let segment = &self.unlocked.segment;
-        text_len(segment.offset, segment.size, segment.sector_size, image_len)
+        plaintext_len(segment.offset, segment.size, segment.sector_size, image_len)
     }
 
     /// How the payload ends in an image of `image_len` bytes, as `luksCat` reports it.
@@ -229,7 +229,7 @@ impl Volume {
     }
 }
 
-/// Whether `count` bytes from this offset on are within a text of `len` bytes.
+/// Whether `count` bytes from this offset on are within a plaintext of `len` bytes.
 fn is_within(len: u64, offset: u64, count: usize) -> bool
     ensures { result ≡ nat_le (offset + count) len }
 {

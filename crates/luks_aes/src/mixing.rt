@@ -1,5 +1,5 @@
 //! SubBytes and MixColumns of a column in one step, and the inverse of both, by tables (FIPS 197,
-//! 5.1.3 and 5.3.3). A column is a word of 32 bits whose lowest byte is in row 0.
+//! 5.1.1, 5.1.3, 5.3.2 and 5.3.3). A column is a word of 32 bits whose lowest byte is in row 0.
 
 ghost use Rattle.std.specs.Prelude.{◌≡◌, ℕ, ◌<◌, [], ◌∷◌, slice_index};
 ghost use Rattle.std.specs.Int.{w32, to_le_bytes};

@@ -48,14 +48,14 @@ sum_byte : (a b c d : ℕ) → a < 256 → b < 256 → c < 256 → d < 256 → c
 sum_byte a b c d p q r s = xor_byte _ d (xor_byte _ b (xor_byte a c p r) q) s
 
 -- `even_of` as an XOR of doubled bytes, and its doubling
-abbrev even_in : ℕ → ℕ → ℕ → ℕ → ℕ
-even_in a b c d = column_bytes_xor (times_x a) (times_x b) (times_x c) (times_x d) ⊕ (a ⊕ c)
+abbrev even_in_doublings : ℕ → ℕ → ℕ → ℕ → ℕ
+even_in_doublings a b c d = column_bytes_xor (times_x a) (times_x b) (times_x c) (times_x d) ⊕ (a ⊕ c)
 
-even_is : (a b c d : ℕ) → a < 256 → b < 256 → c < 256 → d < 256 → even_of a b c d ≡ even_in a b c d
+even_is : (a b c d : ℕ) → a < 256 → b < 256 → c < 256 → d < 256 → even_of a b c d ≡ even_in_doublings a b c d
 even_is a b c d p q r s = ap (λ n. n ⊕ (a ⊕ c)) (column_bytes_xor_doubled a b c d p q r s)
 
 even_doubled : (a b c d : ℕ) → a < 256 → b < 256 → c < 256 → d < 256
-    → times_x (even_in a b c d) ≡ even_in (times_x a) (times_x b) (times_x c) (times_x d)
+    → times_x (even_in_doublings a b c d) ≡ even_in_doublings (times_x a) (times_x b) (times_x c) (times_x d)
 even_doubled a b c d p q r s =
     let ta = times_x_byte a p in
     let tb = times_x_byte b q in
@@ -68,28 +68,28 @@ even_doubled a b c d p q r s =
 
 -- `step_of` as an XOR of doubled bytes, and its doubling
 abbrev step_in_doublings : ℕ → ℕ → ℕ → ℕ → ℕ
-step_in_doublings a b c d = (even_in (times_x a) (times_x b) (times_x c) (times_x d) ⊕ a) ⊕ b
+step_in_doublings a b c d = (even_in_doublings (times_x a) (times_x b) (times_x c) (times_x d) ⊕ a) ⊕ b
 
-next_is : (a b c d : ℕ) → a < 256 → b < 256 → c < 256 → d < 256 → step_of a b c d ≡ step_in_doublings a b c d
-next_is a b c d p q r s =
+step_is : (a b c d : ℕ) → a < 256 → b < 256 → c < 256 → d < 256 → step_of a b c d ≡ step_in_doublings a b c d
+step_is a b c d p q r s =
     ap (λ n. (times_x n ⊕ a) ⊕ b) (even_is a b c d p q r s)
     ∙ ap (λ n. (n ⊕ a) ⊕ b) (even_doubled a b c d p q r s)
 
-even_byte : (a b c d : ℕ) → a < 256 → b < 256 → c < 256 → d < 256 → even_in a b c d < 256
+even_byte : (a b c d : ℕ) → a < 256 → b < 256 → c < 256 → d < 256 → even_in_doublings a b c d < 256
 even_byte a b c d p q r s =
     xor_byte _ _ (sum_byte _ _ _ _ (times_x_byte a p) (times_x_byte b q) (times_x_byte c r) (times_x_byte d s))
     (xor_byte a c p r)
 
-next_doubled : (a b c d : ℕ) → a < 256 → b < 256 → c < 256 → d < 256
+step_doubled : (a b c d : ℕ) → a < 256 → b < 256 → c < 256 → d < 256
     → times_x (step_in_doublings a b c d) ≡ step_in_doublings (times_x a) (times_x b) (times_x c) (times_x d)
-next_doubled a b c d p q r s =
+step_doubled a b c d p q r s =
     let ta = times_x_byte a p in
     let tb = times_x_byte b q in
     let tc = times_x_byte c r in
     let td = times_x_byte d s in
     let e = even_byte (times_x a) (times_x b) (times_x c) (times_x d) ta tb tc td in
-    times_x_xor (even_in (times_x a) (times_x b) (times_x c) (times_x d) ⊕ a) b (xor_byte _ a e p) q
-    ∙ (λ i. times_x_xor (even_in (times_x a) (times_x b) (times_x c) (times_x d)) a e p i ⊕ times_x b)
+    times_x_xor (even_in_doublings (times_x a) (times_x b) (times_x c) (times_x d) ⊕ a) b (xor_byte _ a e p) q
+    ∙ (λ i. times_x_xor (even_in_doublings (times_x a) (times_x b) (times_x c) (times_x d)) a e p i ⊕ times_x b)
     ∙ (λ i. (even_doubled (times_x a) (times_x b) (times_x c) (times_x d) ta tb tc td i ⊕ times_x a) ⊕ times_x b)
 
 -- ---- XORs of doublings of four bytes: a0 is a byte, a1 its doubling, and so on up to a3, and likewise for b, c and d
@@ -119,7 +119,7 @@ fourth_terms a0 a1 a2 a3 b0 b1 b2 b3 c0 c1 c2 c3 d0 d1 d2 d3 = same_from_bits _ 
 pub first_row : (a b c d : ℕ) → a < 256 → b < 256 → c < 256 → d < 256
     → (times_x (step_of a b c d) ⊕ column_bytes_xor a b c d) ⊕ a ≡ inv_mixed a b c d
 first_row a b c d p q r s =
-    ap (λ n. (n ⊕ column_bytes_xor a b c d) ⊕ a) (ap times_x (next_is a b c d p q r s) ∙ next_doubled a b c d p q r s)
+    ap (λ n. (n ⊕ column_bytes_xor a b c d) ⊕ a) (ap times_x (step_is a b c d p q r s) ∙ step_doubled a b c d p q r s)
     ∙ first_terms a (times_x a) (times_x (times_x a)) (times_x (times_x (times_x a))) b (times_x b)
     (times_x (times_x b)) (times_x (times_x (times_x b)))
     c (times_x c) (times_x (times_x c)) (times_x (times_x (times_x c))) d (times_x d) (times_x (times_x d))
@@ -129,7 +129,7 @@ first_row a b c d p q r s =
 pub second_row : (a b c d : ℕ) → a < 256 → b < 256 → c < 256 → d < 256
     → inv_mixed a b c d ⊕ step_of a b c d ≡ inv_mixed b c d a
 second_row a b c d p q r s =
-    (λ i. in_doublings a b c d p q r s i ⊕ next_is a b c d p q r s i)
+    (λ i. in_doublings a b c d p q r s i ⊕ step_is a b c d p q r s i)
     ∙ second_terms a (times_x a) (times_x (times_x a)) (times_x (times_x (times_x a))) b (times_x b)
     (times_x (times_x b)) (times_x (times_x (times_x b)))
     c (times_x c) (times_x (times_x c)) (times_x (times_x (times_x c))) d (times_x d) (times_x (times_x d))

@@ -163,11 +163,11 @@ rows_plain t rows hold all =
     all_also _ (cells t) rows hold.represented (λ r q low. (all (block_index q)).each (r + 4 * column_index q))
     (λ r q low inside. xor_zero_r (cells t r q))
 
-pub hold_same : (s t : ℕ → List ℕ) (k : ℕ) (rows : List (List (List ℕ))) → ((m : ℕ) → s m ≡ t m)
+pub states_same : (s t : ℕ → List ℕ) (k : ℕ) (rows : List (List (List ℕ))) → ((m : ℕ) → s m ≡ t m)
     → RepresentStates s k rows
     → RepresentStates t k rows
-hold_same s t k rows same hold = subst (λ (f : ℕ → List ℕ). RepresentStates f k rows) (λ i m. same m i) hold
+states_same s t k rows same hold = subst (λ (f : ℕ → List ℕ). RepresentStates f k rows) (λ i m. same m i) hold
 
-pub turned_same : (s t : ℕ → List ℕ) (rows : List (List (List ℕ))) → ((m : ℕ) → s m ≡ t m) → RepresentRotated s rows
+pub rotated_same : (s t : ℕ → List ℕ) (rows : List (List (List ℕ))) → ((m : ℕ) → s m ≡ t m) → RepresentRotated s rows
     → RepresentRotated t rows
-turned_same s t rows same hold = subst (λ (f : ℕ → List ℕ). RepresentRotated f rows) (λ i m. same m i) hold
+rotated_same s t rows same hold = subst (λ (f : ℕ → List ℕ). RepresentRotated f rows) (λ i m. same m i) hold

@@ -1,9 +1,9 @@
 //! AES decryption of a batch of 32 blocks, without tables.
 //!
 //! [`BatchKey`] decrypts 512 bytes at once. The state is bitsliced: vectors of 128 bits have the
-//! bits of all 32 blocks, and the S-box is a circuit of gates on them, so decryption reads no
-//! table. [`BatchKey::new`] does: it expands the key by the tables of `luks_aes`, at addresses that
-//! depend on the key. Nothing here allocates memory, and no key is wiped.
+//! bits of all 32 blocks, and the inverse S-box is a circuit of gates on them, so decryption reads
+//! no table. [`BatchKey::new`] does: it expands the key by the tables of `luks_aes`, at addresses
+//! that depend on the key. Nothing here allocates memory, and no key is wiped.
 #![tactic(auto)]
 
 mod key;

@@ -7,30 +7,33 @@ use Rattle.std.proofs.Math.Seq.{take-append_seam, take-append-add}
 use Rattle.luks_io.specs.Devices.{ConsumedInto}
 use Rattle.luks_area.specs.Area.{ConsumedOnto}
 
-module _ (old whole buf : List ℕ) (held n : ℕ) (is-whole : whole ≡ old ++ replicate n 0) (is-held : held ≡ length old)
-    (kept : length buf ≡ length (take (length whole - held) (drop held whole))) where
+module _ (old whole buf : List ℕ) (loaded n : ℕ) (is-whole : whole ≡ old ++ replicate n 0)
+    (is-loaded : loaded ≡ length old)
+    (kept : length buf ≡ length (take (length whole - loaded) (drop loaded whole))) where
   -- the buffer that a source fills is as long as the appended zeros
   pub length-capacity : length buf ≡ n
   length-capacity =
-      kept ∙ ap length (take_all (length whole - held) (drop held whole) (omega (arith, length-drop held whole)))
+      kept ∙ ap length (take_all (length whole - loaded) (drop loaded whole) (omega (arith, length-drop loaded whole)))
       ∙ (let all : length whole ≡ length old + n = ap length is-whole ∙ length-append old (replicate n 0)
       ∙ ap (λ k. length old + k) (length-replicate n 0) in
-      omega (arith, length-drop held whole))
+      omega (arith, length-drop loaded whole))
 
   -- after a source has filled the buffer, the list starts with the bytes loaded before and then those that were read
   pub prefix_filled : (rest more new : List ℕ) (len count : ℕ) → len ≡ length whole → count ≤ length buf
-      → new ≡ take (held + count) (take len (take held whole ++ (buf ++ rest) ++ more)) → new ≡ old ++ take count buf
+      → new ≡ take (loaded + count) (take len (take loaded whole ++ (buf ++ rest) ++ more))
+      → new ≡ old ++ take count buf
   prefix_filled rest more new len count is-len few is =
-      let prefix : take held whole ≡ old = ap (take held) is-whole ∙ ap (λ k. take k (old ++ replicate n 0)) is-held
+      let prefix : take loaded whole ≡ old =
+      ap (take loaded) is-whole ∙ ap (λ k. take k (old ++ replicate n 0)) is-loaded
       ∙ take-append_seam old (replicate n 0) in
       let all : length whole ≡ length old + n = ap length is-whole ∙ length-append old (replicate n 0)
       ∙ ap (λ k. length old + k) (length-replicate n 0) in
       let capacity = length-capacity in
-      is ∙ take-take (held + count) len (take held whole ++ (buf ++ rest) ++ more) (omega arith)
-      ∙ take-append-le (held + count) (take held whole ++ (buf ++ rest)) more
-      (omega (arith, ap length prefix, length-append (take held whole) (buf ++ rest), length-append buf rest))
-      ∙ ap (λ l. take (held + count) (l ++ (buf ++ rest))) prefix
-      ∙ ap (λ k. take (k + count) (old ++ (buf ++ rest))) is-held
+      is ∙ take-take (loaded + count) len (take loaded whole ++ (buf ++ rest) ++ more) (omega arith)
+      ∙ take-append-le (loaded + count) (take loaded whole ++ (buf ++ rest)) more
+      (omega (arith, ap length prefix, length-append (take loaded whole) (buf ++ rest), length-append buf rest))
+      ∙ ap (λ l. take (loaded + count) (l ++ (buf ++ rest))) prefix
+      ∙ ap (λ k. take (k + count) (old ++ (buf ++ rest))) is-loaded
       ∙ take-append-add old (buf ++ rest) count
       ∙ ap (λ l. old ++ l) (take-append-le count buf rest few)
 

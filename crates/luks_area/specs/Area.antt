@@ -5,9 +5,9 @@ use Rattle.luks_io.specs.Devices.{ConsumedExactly}
 use Rattle.luks_area.specs.declared.fault.HeaderFault.{HeaderFault}
 use Rattle.luks_area.specs.declared.fault.HeaderFault.TheVariants.{Read, Memory}
 
--- the largest number of bytes in an area: 32 MiB
-abbrev pub max_area_len : ℕ
-max_area_len = 33554432
+-- the largest number of bytes of an image that are loaded: 32 MiB
+abbrev pub max_loaded_len : ℕ
+max_loaded_len = 33554432
 
 -- the start of an image: the loaded bytes, and whether the image's end was hit behind them
 pub record HeaderAreaModel : Type 0 where
@@ -16,27 +16,28 @@ pub record HeaderAreaModel : Type 0 where
 
 -- the first `count` of a source's remaining bytes were consumed, and appended to those already loaded
 abbrev pub ConsumedOnto : List ℕ → List ℕ → List ℕ → Option (List ℕ) → ℕ → Type 0
-ConsumedOnto held held' known left count = ConsumedExactly known left count × (held' ≡ held ++ take count known)
+ConsumedOnto loaded loaded' known left count = ConsumedExactly known left count × (loaded' ≡ loaded ++ take count known)
 
 -- consuming up to `most` bytes was aborted: by a failed read before the last of them, or at the start because memory
 -- ran out
 abbrev pub AbortsConsuming : ℕ → List ℕ → List ℕ → List ℕ → Option (List ℕ) → HeaderFault → Type 0
-AbortsConsuming most held held' known left Read = (count : ℕ) × (count < most)
-    × ConsumedOnto held held' known left count
-AbortsConsuming most held held' known left Memory = ConsumedOnto held held' known left 0
-AbortsConsuming most held held' known left _ = ⊥
+AbortsConsuming most loaded loaded' known left Read = (count : ℕ) × (count < most)
+    × ConsumedOnto loaded loaded' known left count
+AbortsConsuming most loaded loaded' known left Memory = ConsumedOnto loaded loaded' known left 0
+AbortsConsuming most loaded loaded' known left _ = ⊥
 
--- up to `most` bytes of a source were consumed, or its end was hit before, or this was aborted
+-- `most` bytes of a source were consumed, or all if there are fewer, or this was aborted
 abbrev pub ConsumesUpTo : ℕ → List ℕ → List ℕ → List ℕ → Option (List ℕ) → Result Bool HeaderFault → Type 0
-ConsumesUpTo most held held' known left (Ok whole) = ConsumedOnto held held' known left (min most (length known))
-ConsumesUpTo most held held' known left (Err fault) = AbortsConsuming most held held' known left fault
+ConsumesUpTo most loaded loaded' known left (Ok whole) =
+    ConsumedOnto loaded loaded' known left (min most (length known))
+ConsumesUpTo most loaded loaded' known left (Err fault) = AbortsConsuming most loaded loaded' known left fault
 
 -- bytes were appended to those already loaded, up to `end` in all, and the answer says whether there are so many
-pub record Loads (end : ℕ) (held held' : List ℕ) (answer : Result Bool HeaderFault) : Type 0 where
-  pub whole : IfOk answer (λ whole. IsTrue whole ↔ (end ≤ length held'))
-  pub within : length held' ≤ max (length held) end
-  pub kept : take (length held) held' ≡ held
-  pub refusals : IfErr answer (λ fault. (fault ≡ Read) ⊎ (fault ≡ Memory))
+pub record Loads (end : ℕ) (loaded loaded' : List ℕ) (answer : Result Bool HeaderFault) : Type 0 where
+  pub whole : IfOk answer (λ whole. IsTrue whole ↔ (end ≤ length loaded'))
+  pub within : length loaded' ≤ max (length loaded) end
+  pub kept : take (length loaded) loaded' ≡ loaded
+  pub only : IfErr answer (λ fault. (fault ≡ Read) ⊎ (fault ≡ Memory))
 
 -- a failed read is reported
 abbrev pub is_read_fault : {T : Type 0} → Result T HeaderFault → Bool
@@ -44,6 +45,6 @@ is_read_fault (Err Read) = true
 is_read_fault _ = false
 
 -- an image is reported to end before all requested bytes
-abbrev pub is_truncated : Result Bool HeaderFault → Bool
-is_truncated (Ok whole) = not whole
-is_truncated (Err _) = false
+abbrev pub loading_hits_end : Result Bool HeaderFault → Bool
+loading_hits_end (Ok whole) = not whole
+loading_hits_end (Err _) = false

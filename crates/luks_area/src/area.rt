@@ -4,8 +4,8 @@ ghost use Rattle.std.specs.Prelude.{◌≡◌, ◌-◌, ◌<◌, ◌≤◌, ◌+
 ghost use Rattle.std.specs.Prelude.{OnErr, Ok, Err, length, max, replicate, vec_capacity, vec_len};
 ghost use Rattle.luks_io.specs.Devices.{IfKnown};
 ghost use Rattle.luks_io.specs.Counts.{Reads};
-ghost use Rattle.luks_area.specs.Area.{ConsumesUpTo, Loads, is_read_fault, is_truncated};
-ghost use Rattle.luks_area.specs.Area.{max_area_len};
+ghost use Rattle.luks_area.specs.Area.{ConsumesUpTo, Loads, is_read_fault, loading_hits_end};
+ghost use Rattle.luks_area.specs.Area.{max_loaded_len};
 
 use crate::fault::HeaderFault;
 use luks_io::source::{ReadFault, Source, fill};
@@ -13,8 +13,9 @@ use std::alloc::{AllocError, Global};
 use std::marker::Model;
 
 /// The first bytes of an image, at most [`HeaderArea::MAX_LEN`] of them.
-/// It keeps the allocator that it was made with. A clause sees the bytes, and whether the image's
-/// end was hit behind them.
+///
+/// An area keeps the allocator that it was made with. A clause sees the bytes, and whether the
+/// image's end was hit behind them.
 #[derive(Drop)]
 pub struct HeaderArea {
     bytes: Vec<u8>,
@@ -23,13 +24,13 @@ pub struct HeaderArea {
 
 impl Model for HeaderArea {
     ghost use Rattle.std.specs.Prelude.{◌≤◌, vec_len};
-    ghost use Rattle.luks_area.specs.Area.{HeaderAreaModel, max_area_len};
+    ghost use Rattle.luks_area.specs.Area.{HeaderAreaModel, max_loaded_len};
 
     ghost Value = { HeaderAreaModel };
 
     ghost view = { λ area. record { bytes = area.bytes.items; ended = area.ended } };
 
-    ghost invariant = { λ area. vec_len area.bytes ≤ max_area_len };
+    ghost invariant = { λ area. vec_len area.bytes ≤ max_loaded_len };
 }
 
 impl HeaderArea {
@@ -49,7 +50,7 @@ impl HeaderArea {
     /// The loaded bytes.
     pub fn as_slice(&self) -> &[u8]
         ensures value { result.now ≡ self.now.bytes }
-        ensures within { length self.now.bytes ≤ max_area_len }
+        ensures within { length self.now.bytes ≤ max_loaded_len }
     {
         self.bytes.as_slice()
     }
@@ -70,7 +71,7 @@ impl HeaderArea {
     /// After [`HeaderFault::Read`] the area has the bytes that were consumed before the read
     /// failed; after [`HeaderFault::Memory`] nothing was consumed. There are no other faults.
     pub fn extend_to<S: Source>(&mut self, source: &mut S, end: usize) -> Result<bool, HeaderFault>
-        requires { end ≤ max_area_len }
+        requires { end ≤ max_loaded_len }
         ensures consumed { IfKnown (S.to_come source.old) (λ known.
             ConsumesUpTo (end - length self.old.bytes) self.old.bytes self.new.bytes known
             (S.to_come source.new) result) }
@@ -81,9 +82,10 @@ impl HeaderArea {
             → (result ≡ Ok true) × (self.new ≡ self.old) × (source.new ≡ source.old) }
         ensures memory { result ≡ Err HeaderFault.Memory
             → (self.new ≡ self.old) × (source.new ≡ source.old) }
-        ensures reads { Reads (is_read_fault result) (is_truncated result)
+        ensures reads { Reads (is_read_fault result) (loading_hits_end result)
             (S.counts source.old) (S.counts source.new) }
-        ensures ended { self.new.ended ≡ (if is_truncated result then true else self.old.ended) }
+        ensures ended { self.new.ended
+            ≡ (if loading_hits_end result then true else self.old.ended) }
     {
         if end <= self.bytes.len() || extend(&mut self.bytes, source, end)? {
             return Ok(true);
@@ -104,7 +106,7 @@ fn reserve(bytes: &mut Vec<u8>, end: usize) -> Result<(), AllocError>
 }
 
 // Appends zeros until there are `end` bytes.
-fn ensure_capacity(bytes: &mut Vec<u8>, end: usize) -> Result<(), AllocError>
+fn append_zeros(bytes: &mut Vec<u8>, end: usize) -> Result<(), AllocError>
     requires { vec_len bytes.old ≤ end }
     ensures ok { OnOk result (bytes.new.items
         ≡ bytes.old.items ++ replicate (end - vec_len bytes.old) 0) }
@@ -123,18 +125,18 @@ fn extend<S: Source>(bytes: &mut Vec<u8>, source: &mut S, end: usize) -> Result<
     ensures loads { Loads end bytes.old.items bytes.new.items result }
     ensures memory { result ≡ Err HeaderFault.Memory
         → (bytes.new.items ≡ bytes.old.items) × (source.new ≡ source.old) }
-    ensures reads { Reads (is_read_fault result) (is_truncated result)
+    ensures reads { Reads (is_read_fault result) (loading_hits_end result)
         (S.counts source.old) (S.counts source.new) }
 {
-    let held = bytes.len();
-    ensure_capacity(bytes, end)?;
-    match fill(source, &mut bytes[held..]) {
+    let loaded = bytes.len();
+    append_zeros(bytes, end)?;
+    match fill(source, &mut bytes[loaded..]) {
         Ok(count) => {
-            bytes.truncate(held + count);
-            Ok(held + count == end)
+            bytes.truncate(loaded + count);
+            Ok(loaded + count == end)
         }
         Err(ReadFault { got }) => {
-            bytes.truncate(held + got);
+            bytes.truncate(loaded + got);
             Err(HeaderFault::Read)
         }
     }

@@ -31,8 +31,8 @@ abbrev pub header_file_in : List Row → Option Text
 header_file_in rows = text_in (codes "header") rows
 
 -- the hash function that `--hash` names
-unfoldable pub hash_option : List Row → Option Hash
-hash_option rows = text_in (codes "hash") rows >>= hash_named
+unfoldable pub hash_in : List Row → Option Hash
+hash_in rows = text_in (codes "hash") rows >>= hash_named
 
 -- the number of `--stripes`
 unfoldable pub stripes_in : List Row → Option ℕ
@@ -42,11 +42,11 @@ stripes_in rows = text_in (codes "stripes") rows >>= number_within 1 4000
 unfoldable pub key_bytes_in : List Row → Option ℕ
 key_bytes_in rows = text_in (codes "key-bytes") rows >>= number_within 1 512
 
--- the number of `--key-slot`, if it is given
+-- `Some None` if `--key-slot` is left out; otherwise its number, if in range
 unfoldable pub key_slot_in : List Row → Option (Option ℕ)
 key_slot_in rows = optional_within 0 31 (text_in (codes "key-slot") rows)
 
--- the number of `--max-iterations`, if it is given
+-- `Some None` if `--max-iterations` is left out; otherwise its number, if in range
 unfoldable pub max_iterations_in : List Row → Option (Option ℕ)
 max_iterations_in rows = optional_within 1 4294967295 (text_in (codes "max-iterations") rows)
 
@@ -71,7 +71,7 @@ volume_args_in rows = do
 
 abbrev pub split_args_in : List Row → Option SplitRequest
 split_args_in rows = do
-  hash ← hash_option rows
+  hash ← hash_in rows
   stripes ← stripes_in rows
   random ← text_in (codes "random") rows
   key ← input_in rows
@@ -79,7 +79,7 @@ split_args_in rows = do
 
 abbrev pub merge_args_in : List Row → Option MergeRequest
 merge_args_in rows = do
-  hash ← hash_option rows
+  hash ← hash_in rows
   stripes ← stripes_in rows
   key_bytes ← key_bytes_in rows
   stripes_file ← input_in rows
@@ -108,8 +108,8 @@ request_in (name, rows) =
     else (if bytes_eq name (codes "afMerge") then option_map af_merge (merge_args_in rows)
     else header_request_in name rows)))
 
-abbrev pub with_distinct_inputs : Request → Option Request
-with_distinct_inputs request = if reuses_stdin request then None else Some request
+abbrev pub unless_stdin_reused : Request → Option Request
+unless_stdin_reused request = if reuses_stdin request then None else Some request
 
 -- nothing is found if there is a fault
 abbrev pub unless_faulty : {A : Type 0} → Kinds → Option A → Option A
@@ -121,11 +121,11 @@ unfoldable pub subcommand_in : List Text → Option (Text × List Row)
 subcommand_in words = unless_faulty (fault_of luksrd words) (subcommand_of luksrd words)
 
 -- the request of the arguments after the program's name, if they are a luksrd command
-abbrev pub command_of : List Text → Option Request
-command_of words = do
+abbrev pub request_of_words : List Text → Option Request
+request_of_words words = do
   found ← subcommand_in words
   request ← request_in found
-  with_distinct_inputs request
+  unless_stdin_reused request
 
 -- every error of `clap` is a fault of the arguments, except running out of memory
 abbrev pub fault_for : ErrorKind → PlanFault

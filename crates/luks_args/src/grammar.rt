@@ -2,7 +2,8 @@
 
 ghost use Rattle.std.specs.Prelude.{◌≡◌, ◌∷◌, ◌++◌, [], IfOk, List, OnOk, codes, false};
 ghost use Rattle.clap.specs.Words.{App, Shape, app_of, rule_of, with_rule};
-ghost use Rattle.luks_args.specs.Grammar.{AreReadAs, BuildsApp, IsReadAs, af_merge_shape, af_split_shape};
+ghost use Rattle.luks_args.specs.Grammar.{AreReadAs, BuildsApp, IsReadAs, af_merge_shape};
+ghost use Rattle.luks_args.specs.Grammar.{af_split_shape};
 ghost use Rattle.luks_args.specs.Grammar.{alone, header_command, header_option, input, luksrd};
 ghost use Rattle.luks_args.specs.Grammar.{luksrd_shapes, option, other_shapes, program, required};
 ghost use Rattle.luks_args.specs.Grammar.{volume_command};

@@ -1,4 +1,4 @@
-//! Bitsliced AES: eight vectors of 128 bits have the bit planes of 128 bytes.
+//! Bitsliced AES: eight vectors of 128 bits are the bit planes of 128 bytes.
 //!
 //! The steps of the inverse cipher on bit planes, gate by gate, and the transposition of bytes to
 //! bit planes and back. Nothing here allocates memory, and no address depends on a key or on data.

@@ -14,7 +14,7 @@ use Rattle.luks_cipher.specs.declared.mode.Mode.{Mode}
 use Rattle.luks_cipher.specs.declared.mode.Mode.TheVariants.{XtsPlain64, XtsPlain, CbcEssivSha256, CbcPlain64}
 use Rattle.luks_verdict.specs.Evidence.{evidence_if}
 use Rattle.luks_verdict.specs.Segment.{segment_by, segment_from, segment_of_all}
-use Rattle.luks_verdict.specs.SectorSize.{AreWhole, are_sectors, bytes_of}
+use Rattle.luks_verdict.specs.SectorSize.{HasWholeSectors, has_whole_sectors, bytes_of}
 use Rattle.luks_verdict.specs.declared.sector_size.SectorSize.{SectorSize}
 use Rattle.luks_verdict.specs.declared.sector_size.SectorSize.TheVariants.{B512, B1024, B2048, B4096}
 use Rattle.luks_verdict.specs.declared.segment.Segment.{Segment}
@@ -46,7 +46,7 @@ module _ (offset : ℕ) (size : Option ℕ) (iv : ℕ) (z : SectorSize) (mode : 
     pub sector_is : s.sector_size ≡ z
     pub mode_is : s.mode ≡ mode
 
-  made_by : (is : are_sectors size z ≡ true) → segment_by offset size iv z mode is ≡ s → IsOf
+  made_by : (is : has_whole_sectors size z ≡ true) → segment_by offset size iv z mode is ≡ s → IsOf
   unfolding segment_by
   made_by is same = record {
     offset_is = sym (ap (λ (t : Segment). t.offset) same);
@@ -56,13 +56,13 @@ module _ (offset : ℕ) (size : Option ℕ) (iv : ℕ) (z : SectorSize) (mode : 
     mode_is = sym (ap (λ (t : Segment). t.mode) same);
   }
 
-  made_where : (w : Option (are_sectors size z ≡ true))
+  made_where : (w : Option (has_whole_sectors size z ≡ true))
       → option_map (segment_by offset size iv z mode) w ≡ Some s → IsOf
   made_where (Some is) made = made_by is (same_Some _ s made)
   made_where None made = absurd (cc)
 
   made_of : segment_of_all (Some offset) (Some size) (Some iv) (Some z) (Some mode) ≡ Some s → IsOf
-  made_of made = made_where (evidence_if (are_sectors size z)) made
+  made_of made = made_where (evidence_if (has_whole_sectors size z)) made
 
 -- evidence is missing only if the test fails
 no_evidence : (b : Bool) → evidence_if b ≡ None → b ≡ false
@@ -70,20 +70,22 @@ no_evidence true none = absurd (none-some _ (sym none))
 no_evidence false none = refl
 
 -- a length of whole sectors passes the test
-whole_are : (size : Option ℕ) (z : SectorSize) → AreWhole size z → are_sectors size z ≡ true
+whole_are : (size : Option ℕ) (z : SectorSize) → HasWholeSectors size z → has_whole_sectors size z ≡ true
 whole_are None z whole = refl
 whole_are (Some bytes) z whole = ap (λ n. n == 0) (whole bytes refl)
 
 module _ (offset : ℕ) (size : Option ℕ) (iv : ℕ) (z : SectorSize) (mode : Mode) where
-  lost : (w : Option (are_sectors size z ≡ true)) → option_map (segment_by offset size iv z mode) w ≡ None → w ≡ None
+  lost : (w : Option (has_whole_sectors size z ≡ true))
+      → option_map (segment_by offset size iv z mode) w ≡ None → w ≡ None
   lost (Some is) none = absurd (none-some _ (sym none))
   lost None none = refl
 
   -- if the length passes the test, a segment is made
-  some_made : are_sectors size z ≡ true
+  some_made : has_whole_sectors size z ≡ true
       → segment_of_all (Some offset) (Some size) (Some iv) (Some z) (Some mode) ≡ None → ⊥
   some_made are none =
-      false≢true (sym (no_evidence (are_sectors size z) (lost (evidence_if (are_sectors size z)) none)) ∙ are)
+      false≢true (sym (no_evidence (has_whole_sectors size z)
+      (lost (evidence_if (has_whole_sectors size z)) none)) ∙ are)
 
 -- the segment of a struct's fields, with this sector size and mode
 abbrev made_in : LuksrdVolume → Option SectorSize → Option Mode → Option Segment
@@ -117,7 +119,7 @@ module _ (c : LuksrdVolume) (v : UnlockedVolume) (stored : Stores c v) where
   pub some_segment : None ≡ segment_in c → ⊥
   some_segment none =
       some_made c.offset (size_stored_in c) c.iv_tweak v.segment.sector_size v.segment.mode
-      (ap (λ size. are_sectors size v.segment.sector_size) stored_size
+      (ap (λ size. has_whole_sectors size v.segment.sector_size) stored_size
       ∙ whole_are v.segment.size v.segment.sector_size v.segment.whole_sectors)
       (sym made_again ∙ sym none)
 

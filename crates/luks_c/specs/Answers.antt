@@ -4,7 +4,7 @@ use Rattle.std.specs.Prelude.{List, take, Option, None, Some, Result, Ok, Err}
 use Rattle.luks_access.specs.Opens.{Opens, Refuses}
 use Rattle.luks_unlock.specs.declared.unlocked.UnlockedVolume.{UnlockedVolume}
 use Rattle.luks_access.specs.declared.options.Options.{Options}
-use Rattle.luks_area.specs.Area.{max_area_len}
+use Rattle.luks_area.specs.Area.{max_loaded_len}
 use Rattle.luks_cipher.specs.Sector.{is_mode_key_length}
 use Rattle.luks_report.specs.Faults.{message_for_payload}
 use Rattle.luks_report.specs.declared.message.Message.{Message}
@@ -28,7 +28,7 @@ use Rattle.luks_c.specs.declared.volume.LuksrdVolume.{LuksrdVolume}
 -- the image starts with these bytes, as far as a header area can reach: both have the same first 33,554,432 bytes, or
 -- are the same if there are fewer
 abbrev pub BeginsAs : List ℕ → List ℕ → Type 0
-BeginsAs image header = take max_area_len image ≡ take max_area_len header
+BeginsAs image header = take max_loaded_len image ≡ take max_loaded_len header
 
 -- a volume was opened: the struct holds it, and `luksCat` opens the same one for each image that starts with these
 -- bytes

@@ -17,7 +17,7 @@ pub(crate) const BAD_VOLUME: u32 = 16;
 /// The bytes are not whole sectors, or the sector numbers are too large.
 pub(crate) const BAD_RANGE: u32 = 17;
 
-/// The number of a refusal or of an ending. Any other message gets that of "out of memory".
+/// The number of success, a refusal or an ending. Any other message gets that of "out of memory".
 pub(crate) fn code_of(message: &Message) -> u32
     ensures { result ≡ code_for message.now }
 {

@@ -23,7 +23,7 @@ use crate::message::LuksrdMessage;
 use crate::options::{LuksrdOptions, options_in};
 use crate::volume::LuksrdVolume;
 use luks_access::Message;
-use luks_access::sectors::{decrypt_sectors, payload_ending, text_len};
+use luks_access::sectors::{decrypt_sectors, payload_ending, plaintext_len};
 use luks_access::volume::Volume;
 use luks_io::memory::MemSource;
 use luks_payload::fault::VolumeFault;
@@ -98,7 +98,7 @@ pub extern "C" fn luksrd_len(volume: &LuksrdVolume, image_len: u64) -> u64
 {
     match volume::sector_size(volume) {
         Some(sector_size) => {
-            text_len(volume.offset, volume::size(volume), sector_size, image_len)
+            plaintext_len(volume.offset, volume::size(volume), sector_size, image_len)
         }
         None => 0,
     }
@@ -147,7 +147,8 @@ fn bytes_of(fault: VolumeFault) -> u64
     }
 }
 
-/// Whether `len` bytes are whole sectors of this size, with numbers below 2^64 from `first` on.
+/// Whether `len` bytes are whole sectors of this size, from number `first` on, and the number after
+/// that of the last one is below 2^64.
 fn is_range(sector_size: SectorSize, first: u64, len: usize) -> bool
     ensures value { result ≡ is_range sector_size first len }
     ensures whole { result ≡ true → len % bytes_of sector_size ≡ 0 }

@@ -5,7 +5,7 @@ ghost use Rattle.luks_c.specs.Message.{StoresMessage, StoresText};
 
 use luks_access::Message;
 
-/// The length of the longest sentence in bytes.
+/// The capacity for a sentence in bytes: more than any sentence needs.
 const CAPACITY: usize = 1016;
 
 /// The exit status of `luksrd luksCat`, and the line that it prints, without its newline.

@@ -18,13 +18,13 @@ use Rattle.luks_verdict.specs.declared.segment.Segment.{Segment}
 use Rattle.luks_verdict.specs.declared.slot.Slot.{Slot}
 use Rattle.luks_verdict.specs.declared.slot.Verdict.{Verdict}
 use Rattle.luks_verdict.specs.declared.slot.Verdict.TheVariants.{Usable, Disabled, Skipped}
-use Rattle.luks_check.specs.Findings2.{header_finding}
+use Rattle.luks_check.specs.Findings2.{pair_finding_line}
 use Rattle.luks_dump.specs.DumpLine.{field}
 
 -- the finding about the two headers of LUKS2, compared with each other. LUKS1 has one header
-abbrev pub place_finding : Header → List ℕ
-place_finding (V1 header) = []
-place_finding (V2 header tree) = header_finding header.finding
+abbrev pub pair_finding : Header → List ℕ
+pair_finding (V1 header) = []
+pair_finding (V2 header tree) = pair_finding_line header.finding
 
 -- the finding about the names of key slots: one is out of range
 abbrev pub name_finding : Header → List ℕ
@@ -33,14 +33,15 @@ name_finding header =
 
 -- the findings in the header itself
 unfoldable pub header_findings : Header → List ℕ
-header_findings header = place_finding header ++ name_finding header
+header_findings header = pair_finding header ++ name_finding header
 
 -- the finding about the segment: its fault
 abbrev pub segment_finding : Result Segment SegmentFault → List ℕ
 segment_finding (Ok segment) = []
 segment_finding (Err fault) = field (codes "segment") (fault_text fault)
 
--- whether a skipped key slot is a finding. A slot that uses Argon2 is not: it is in order, but luksrd cannot open it
+-- whether a skipped key slot is a finding. A slot that uses Argon2 is not: luksrd cannot open it, and does not check
+-- the rest of it
 abbrev pub is_finding : SkipReason → Bool
 is_finding State = true
 is_finding Kind = true

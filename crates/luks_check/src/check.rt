@@ -4,7 +4,7 @@ ghost use Rattle.std.specs.Prelude.{◌≡◌, ◌++◌, IfOk, OnOk, string_byte
 ghost use Rattle.luks_header.specs.HeaderSegment.{segment_of};
 ghost use Rattle.luks_check.specs.Findings.{do_overlap, findings_of, header_findings, is_finding};
 ghost use Rattle.luks_check.specs.Findings.{name_finding, overlap, overlaps, overlaps_with};
-ghost use Rattle.luks_check.specs.Findings.{place_finding, segment_finding, skip_finding};
+ghost use Rattle.luks_check.specs.Findings.{pair_finding, segment_finding, skip_finding};
 ghost use Rattle.luks_check.specs.Findings.{slot_finding, slot_findings};
 
 use luks_dump::field::push_field;
@@ -36,14 +36,14 @@ fn push_header(lines: &mut String, header: &Header) -> Result<(), AllocError>
     ensures { OnOk result
         (string_bytes lines.new ≡ string_bytes lines.old ++ header_findings header.now) }
 {
-    push_place(lines, header)?;
+    push_pair(lines, header)?;
     push_names(lines, header)
 }
 
 // Adds the finding about the two headers of LUKS2.
-fn push_place(lines: &mut String, header: &Header) -> Result<(), AllocError>
+fn push_pair(lines: &mut String, header: &Header) -> Result<(), AllocError>
     ensures { OnOk result
-        (string_bytes lines.new ≡ string_bytes lines.old ++ place_finding header.now) }
+        (string_bytes lines.new ≡ string_bytes lines.old ++ pair_finding header.now) }
 {
     match header {
         Header::V1(_) => Ok(()),

@@ -117,9 +117,9 @@ pub to_iv : (f : List ℕ → List ℕ → List ℕ → List ℕ) (key v w unit 
     → new ≡ f key w unit
 to_iv f key v w unit new same is = is ∙ ap (λ x. f key x unit) same
 
-pub from_vector : (f : List ℕ → List ℕ → List ℕ → List ℕ) (key v w unit old : List ℕ) → v ≡ w → f key v unit ≡ old
+pub from_iv : (f : List ℕ → List ℕ → List ℕ → List ℕ) (key v w unit old : List ℕ) → v ≡ w → f key v unit ≡ old
     → f key w unit ≡ old
-from_vector f key v w unit old same is = sym (ap (λ x. f key x unit) same) ∙ is
+from_iv f key v w unit old same is = sym (ap (λ x. f key x unit) same) ∙ is
 
 -- the same chain under an equal key
 pub to_key : (f : List ℕ → List ℕ → List ℕ → List ℕ) (key other v unit new : List ℕ) → key ≡ other

@@ -9,7 +9,7 @@ unfoldable pub block_before : List ℕ → List ℕ → ℕ → List ℕ
 block_before iv unit zero = iv
 block_before iv unit (suc j) = block_at unit j
 
--- the IV if j is 0, and otherwise cipher block j - 1 of the plain data unit
+-- the IV if j is 0, and otherwise cipher block j - 1, computed from the plain data unit
 unfoldable pub chained : List ℕ → List ℕ → List ℕ → ℕ → List ℕ
 chained key iv unit zero = iv
 chained key iv unit (suc j) = encrypted key (block_xor (block_at unit j) (chained key iv unit j))

@@ -17,7 +17,7 @@ use Rattle.luks_runs.specs.RunMessages.{IsLuksMessage}
 use Rattle.luks_runs.specs.StripeParts.{ReadsForSplit}
 use Rattle.luks_unlock.proofs.VolumeLemmas.{reads_on}
 use Rattle.luks_unlock.specs.OpeningMessages.{OpeningMessage}
-use Rattle.luks_unlock.specs.Trying.{HitsEndOfAreas}
+use Rattle.luks_unlock.specs.Trying.{HitsMaterialEof}
 use Rattle.luks_verdict.specs.declared.segment.Segment.{Segment}
 use Rattle.luks_cli.specs.CommandRun.{CatAllows, CountsCalls, ReadsOnce, ReadsPayload}
 use Rattle.luks_cli.specs.Detached.{CountsCallsDetached}
@@ -86,7 +86,7 @@ reads_before message ended image image' image'' secret secret' first kept then =
 -- the key areas were read, or a read of them failed; if a key slot opened, the image did not end within them
 pub within_areas : {T : Type 0} (result : Result T Message) (Same : Type 0) (ended : Bool) (image image' : ReadCounts)
     → IfOk result (λ _. Same) → Reads (is_run_read_failure (result_message result)) ended image image'
-    → HitsEndOfAreas (result_message result) ended → IfOk result (λ _. Same × Reads false false image image')
+    → HitsMaterialEof (result_message result) ended → IfOk result (λ _. Same × Reads false false image image')
 within_areas (Ok value) Same ended image image' same reads none = (same, rw none at reads)
 within_areas (Err message) Same ended image image' same reads none = tt
 

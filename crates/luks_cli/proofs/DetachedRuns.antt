@@ -9,13 +9,14 @@ use Rattle.luks_header.specs.Header.{header_read_len}
 use Rattle.luks_header.specs.declared.header.Header.{Header}
 use Rattle.luks_verdict.specs.declared.segment.Segment.{Segment}
 use Rattle.luks_open.specs.Opening.{opening_of}
-use Rattle.luks_open.specs.Order.{key_areas_end}
+use Rattle.luks_open.specs.Order.{key_material_end}
 use Rattle.luks_open.specs.declared.fault.OpenFault.{OpenFault}
 use Rattle.luks_open.specs.declared.opening.Opened.{Opened}
 use Rattle.luks_payload.specs.Plain.{ending_of, payload_end_of, sector_len, sector_start, sectors_of}
 use Rattle.luks_payload.specs.declared.fault.VolumeFault.{VolumeFault}
-use Rattle.luks_payload.specs.declared.fault.VolumeFault.TheVariants.{CutBeforePayload as IsCutBefore, Tail as HasTail}
-use Rattle.luks_payload.specs.declared.fault.VolumeFault.TheVariants.{Short as IsShort, Read, Write}
+use Rattle.luks_payload.specs.declared.fault.VolumeFault.TheVariants.{CutBeforePayload as VolumeCutBeforePayload}
+use Rattle.luks_payload.specs.declared.fault.VolumeFault.TheVariants.{Tail as VolumeTail}
+use Rattle.luks_payload.specs.declared.fault.VolumeFault.TheVariants.{Short as VolumeShort, Read, Write}
 use Rattle.luks_payload.specs.declared.state.Step.{Step}
 use Rattle.luks_request.specs.Request.{VolumeRequest}
 use Rattle.luks_report.specs.Faults.{message_at_end}
@@ -58,7 +59,7 @@ module _ (Q : Outcome → Type 0) (on_opened : OnOpened) (named : Option ℕ) (f
   of_found v =
       let tried = opened_outcome on_opened named v file pass (opening_of v.order file pass) in
       let cut = no_output Cut (length file) (length pass) in
-      let is_cut = nat_lt (length file) (key_areas_end v.order.slots) in
+      let is_cut = nat_lt (length file) (key_material_end v.order.entries) in
       either (nat_lt max_key_file_len (length pass)) (no_output KeyFileLength (header_read_len file)
       (max_key_file_len + 1))
       (if is_cut then cut else tried) (none KeyFileLength (header_read_len file) (max_key_file_len + 1))
@@ -87,9 +88,9 @@ no_payload_for_slot read o file pass =
 -- the end of a payload has no message that opening may end with, unless the run was aborted
 at_end : (e : Result Step VolumeFault) → OpeningMessage (message_at_end e) → aborts (message_at_end e) ≡ false → ⊥
 at_end (Ok step) opening well = opening
-at_end (Err IsCutBefore) opening well = opening
-at_end (Err (HasTail n)) opening well = opening
-at_end (Err (IsShort n)) opening well = opening
+at_end (Err VolumeCutBeforePayload) opening well = opening
+at_end (Err (VolumeTail n)) opening well = opening
+at_end (Err (VolumeShort n)) opening well = opening
 at_end (Err Read) opening well = cc
 at_end (Err Write) opening well = opening
 
@@ -111,7 +112,7 @@ pub detached_payload_consumes_loaded : (image pass : List ℕ) → ConsumesLoade
 detached_payload_consumes_loaded image pass =
     record { loaded = λ segment opened loaded. omega arith; whole = λ segment opened loaded. refl }
 
--- ---- runs that consume nothing of it
+-- ---- runs that consume nothing of the payload's image
 
 pub detached_runs_without_payload : (is_prompt : Promptness) (out : Outcome) (message : Message)
     (ConsumedHeader ConsumedSecret : ℕ → Type 0)

@@ -22,9 +22,9 @@ use Rattle.luks_runs.specs.Payload.{ForwardsPayload}
 use Rattle.luks_cli.specs.VolumeParts.{PromptCat, ConsumesLoaded}
 use Rattle.luks_runs.specs.RunMessages.{PayloadMessage}
 use Rattle.luks_request.specs.Request.{VolumeRequest}
-use Rattle.luks_runs.specs.Run.{Aborted, Completed, Promptness, RunMatches, AnyPace, aborts, is_run_read_failure}
+use Rattle.luks_runs.specs.Run.{Aborted, Completed, Promptness, RunMatches, AnyPromptness, aborts, is_run_read_failure}
 use Rattle.luks_unlock.specs.OpeningMessages.{OpeningMessage}
-use Rattle.luks_cli.specs.Unlocking.{ReportsSlot, Unlocks}
+use Rattle.luks_cli.specs.Unlocking.{WritesOpenedLine, Unlocks}
 use Rattle.luks_report.specs.Texts.{opened_line}
 use Rattle.luks_report.specs.declared.message.Message.{Message}
 use Rattle.luks_report.specs.declared.message.Message.TheVariants.{Done, OutOfMemory, ReadFailed, WriteFailed}
@@ -67,9 +67,9 @@ runs_at is_prompt is_prompt' out message ConsumedInput ConsumedSecret Wrote foll
 
 module _ (location : HeaderLocation) (o : VolumeRequest) (image pass : List ℕ) (segment : Segment) (opened : Opened)
     (loaded : List ℕ) (i s : Option (List ℕ)) (u : Unlocks location o image pass segment opened loaded i s) where
-  -- the key slot was reported, or its line was not all written
-  pub runs_slot : (w w' : Option (List ℕ)) (message : Message) → ReportsSlot opened.slot w w' message
-      → RunMatches AnyPace (volume_outcome_by (reader_for location) (slot_outcome pass) o image pass) message
+  -- the line about the key slot was written, whole or in part, or memory for it ran out
+  pub runs_slot : (w w' : Option (List ℕ)) (message : Message) → WritesOpenedLine opened.slot w w' message
+      → RunMatches AnyPromptness (volume_outcome_by (reader_for location) (slot_outcome pass) o image pass) message
       (ConsumedExactly image i) (ConsumedExactly pass s)
       (Appended w w')
   runs_slot w w' Done reported = rw (u.outcome (slot_outcome pass))
@@ -93,21 +93,21 @@ module _ (location : HeaderLocation) (o : VolumeRequest) (image pass : List ℕ)
   runs_slot w w' _ reported = absurd reported
 
 -- a write failed within the line
-pub reported_in_part : (slot : ℕ) (w w' : Option (List ℕ)) (line : List ℕ) → line ≡ opened_line slot
-    → (n : ℕ) → n < length line → Appended w w' (take n line) → ReportsSlot slot w w' WriteFailed
-reported_in_part slot w w' line is n within added = rw (← is) (n, within, added)
+pub line_in_part : (slot : ℕ) (w w' : Option (List ℕ)) (line : List ℕ) → line ≡ opened_line slot
+    → (n : ℕ) → n < length line → Appended w w' (take n line) → WritesOpenedLine slot w w' WriteFailed
+line_in_part slot w w' line is n within added = rw (← is) (n, within, added)
 
--- reporting the key slot ends with one of these messages
-pub slot_message : (slot : ℕ) (w w' : Option (List ℕ)) (message : Message) → ReportsSlot slot w w' message
+-- writing the line about the key slot ends with one of these messages
+pub slot_message : (slot : ℕ) (w w' : Option (List ℕ)) (message : Message) → WritesOpenedLine slot w w' message
     → OpeningMessage message ⊎ (message ≡ Done ⊎ message ≡ WriteFailed)
 slot_message slot w w' Done reported = inr (inl refl)
 slot_message slot w w' WriteFailed reported = inr (inr refl)
 slot_message slot w w' OutOfMemory reported = inl tt
 slot_message slot w w' _ reported = absurd reported
 
--- reporting the key slot reads nothing
+-- writing the line about the key slot reads nothing
 pub slot_reads_nothing : (slot : ℕ) (w w' : Option (List ℕ)) (message : Message)
-    → ReportsSlot slot w w' message → is_run_read_failure message ≡ false
+    → WritesOpenedLine slot w w' message → is_run_read_failure message ≡ false
 slot_reads_nothing slot w w' Done reported = refl
 slot_reads_nothing slot w w' WriteFailed reported = refl
 slot_reads_nothing slot w w' OutOfMemory reported = refl

@@ -8,14 +8,14 @@ use Rattle.luks_header.specs.declared.header.Header.{Header}
 use Rattle.luks_header.proofs.KnownLemmas.{is_attached}
 use Rattle.luks_verdict.specs.declared.segment.Segment.{Segment}
 use Rattle.luks_open.proofs.CallerLemmas.{key_areas_before_payload}
-use Rattle.luks_open.specs.Order.{OrderModel, key_areas_end, order_of}
+use Rattle.luks_open.specs.Order.{OrderModel, key_material_end, order_of}
 use Rattle.luks_payload.specs.Plain.{sector_len}
 use Rattle.luks_report.specs.declared.message.Message.{Message}
 use Rattle.luks_report.specs.declared.message.Message.TheVariants.{Cut, ReadFailed, WriteFailed}
 use Rattle.luks_runs.specs.HeaderReading.{HeaderReader}
 use Rattle.luks_runs.specs.Location.{reader_for}
 use Rattle.luks_cli.specs.Unlocking.{PromptOpening}
-use Rattle.luks_unlock.specs.Finding.{HasSegment, HasSegmentBy}
+use Rattle.luks_unlock.specs.Found.{HasSegment, HasSegmentBy}
 use Rattle.luks_cli.specs.VolumeParts.{PromptCat}
 use Rattle.luks_runs.specs.declared.location.HeaderLocation.{HeaderLocation}
 use Rattle.luks_runs.specs.declared.location.HeaderLocation.TheVariants.{Attached, Detached}
@@ -87,7 +87,7 @@ prompt_before_payload Detached image message a b segment has early = refl
 pub material_before_payload : (location : HeaderLocation) (image : List ℕ) (header : Header) (segment : Segment)
     (named limit : Option ℕ)
     (order : OrderModel) → reader_for location image ≡ Ok header → segment_of header ≡ Ok segment
-    → order_of header named limit ≡ Ok order → location ≡ Attached → key_areas_end order.slots ≤ segment.offset
+    → order_of header named limit ≡ Ok order → location ≡ Attached → key_material_end order.entries ≤ segment.offset
 material_before_payload Attached image header segment named limit order found is_segment ordered attached =
     key_areas_before_payload header segment named limit order (is_attached image header found) is_segment ordered
 material_before_payload Detached image header segment named limit order found is_segment ordered attached = cc

@@ -8,13 +8,14 @@ use Rattle.luks_header.specs.Header.{header_read_len}
 use Rattle.luks_header.specs.HeaderSegment.{segment_of}
 use Rattle.luks_header.specs.declared.header.Header.{Header}
 use Rattle.luks_area.specs.declared.fault.HeaderFault.{HeaderFault}
-use Rattle.luks_area.specs.declared.fault.HeaderFault.TheVariants.{Read as LostRead, Memory as NoMemory}
+use Rattle.luks_area.specs.declared.fault.HeaderFault.TheVariants.{Read as HeaderRead, Memory as HeaderMemory}
 use Rattle.luks_verdict.specs.declared.segment.Segment.{Segment}
 use Rattle.luks_open.specs.Opening.{opening_of}
-use Rattle.luks_open.specs.Order.{OrderModel, key_areas_end, order_of}
+use Rattle.luks_open.specs.Order.{OrderModel, key_material_end, order_of}
 use Rattle.luks_open.specs.declared.fault.OpenFault.{OpenFault}
-use Rattle.luks_open.specs.declared.fault.OpenFault.TheVariants.{NoSuchSlot as NotThere, Disabled, NamedSkipped}
-use Rattle.luks_open.specs.declared.fault.OpenFault.TheVariants.{NothingTried as NoneTried, NoKey as NoneOpens, Memory}
+use Rattle.luks_open.specs.declared.fault.OpenFault.TheVariants.{NoSuchSlot as OpenNoSuchSlot, Disabled, NamedSkipped}
+use Rattle.luks_open.specs.declared.fault.OpenFault.TheVariants.{NothingTried as OpenNothingTried, NoKey as OpenNoKey}
+use Rattle.luks_open.specs.declared.fault.OpenFault.TheVariants.{Memory}
 use Rattle.luks_open.specs.declared.opening.Opened.{Opened}
 use Rattle.luks_cli.proofs.PromptLemmas.{material_before_payload, prompt_before_payload, prompt_in_header}
 use Rattle.luks_cli.proofs.PromptLemmas.{prompt_refused}
@@ -34,9 +35,9 @@ use Rattle.luks_cli.specs.VolumeParts.{ConsumesLoaded}
 use Rattle.luks_unlock.specs.OpeningMessages.{OpeningMessage}
 use Rattle.luks_unlock.specs.Trying.{TriesSlots, opened_of}
 use Rattle.luks_unlock.specs.declared.unlocked.UnlockedVolume.{UnlockedVolume}
-use Rattle.luks_cli.specs.Unlocking.{OpensVolume, Unlocks, PromptOpening}
-use Rattle.luks_unlock.specs.Finding.{AbortsFinding}
-use Rattle.luks_unlock.specs.Volume.{Volume, loaded_for, volume_by}
+use Rattle.luks_cli.specs.Unlocking.{UnlockEffect, Unlocks, PromptOpening}
+use Rattle.luks_unlock.specs.Found.{FindsNoVolume}
+use Rattle.luks_unlock.specs.Volume.{Volume, unlock_read_len, volume_by}
 use Rattle.luks_runs.specs.Location.{reader_for}
 use Rattle.luks_runs.specs.declared.location.HeaderLocation.{HeaderLocation}
 use Rattle.luks_runs.specs.declared.location.HeaderLocation.TheVariants.{Attached}
@@ -64,11 +65,11 @@ ends_unwritten location image pass _ i s w a b other prompt ti ts =
 
 -- no fault of opening has the message of a failed write
 fault_not_write_failed : (named : Option ℕ) (fault : OpenFault) → message_for_opening named fault ≢ WriteFailed
-fault_not_write_failed named NotThere h = cc
+fault_not_write_failed named OpenNoSuchSlot h = cc
 fault_not_write_failed named Disabled h = cc
 fault_not_write_failed named (NamedSkipped reason) h = cc
-fault_not_write_failed named (NoneTried skipped) h = cc
-fault_not_write_failed named (NoneOpens skipped) h = cc
+fault_not_write_failed named (OpenNothingTried skipped) h = cc
+fault_not_write_failed named (OpenNoKey skipped) h = cc
 fault_not_write_failed named Memory h = cc
 
 -- no message of opening is that of a failed write
@@ -80,19 +81,19 @@ never_written message only same = absurd (rw same at only)
 module _ (on_opened : OnOpened) (named : Option ℕ) (v : Volume) (image secret : List ℕ)
     (takes : ConsumesLoaded secret on_opened) where
   opened_within : (r : Result Opened OpenFault)
-      → (loaded_for image v ≤ (opened_outcome on_opened named v image secret r).input_consumed)
+      → (unlock_read_len image v ≤ (opened_outcome on_opened named v image secret r).input_consumed)
       × (length secret ≤ (opened_outcome on_opened named v image secret r).secret_consumed)
   opened_within (Ok opened) = (
-    takes.loaded v.segment opened (loaded_for image v),
-    omega (arith, takes.whole v.segment opened (loaded_for image v)),
+    takes.loaded v.segment opened (unlock_read_len image v),
+    omega (arith, takes.whole v.segment opened (unlock_read_len image v)),
   )
   opened_within (Err fault) = (omega arith, omega arith)
 
   -- a key file that is not too long is consumed whole, and of the image at least the bytes that were loaded
   area_within : length secret ≤ max_key_file_len
-      → (min (length image) (loaded_for image v) ≤ (found_outcome on_opened named v image secret).input_consumed)
+      → (min (length image) (unlock_read_len image v) ≤ (found_outcome on_opened named v image secret).input_consumed)
       × (length secret ≤ (found_outcome on_opened named v image secret).secret_consumed)
-  area_within short = elim (cases_lt (length image) (key_areas_end v.order.slots)) [
+  area_within short = elim (cases_lt (length image) (key_material_end v.order.entries)) [
     | inl few ↦ rw (found_cut on_opened named v image secret short few) (omega arith, omega arith)
     | inr enough ↦
         let all = opened_within (opening_of v.order image secret) in
@@ -131,7 +132,7 @@ module _ (location : HeaderLocation) (o : VolumeRequest) (image pass : List ℕ)
 
     -- no volume was found, or reading the header failed
     pub runs_without_volume : (message : Message) → OpeningMessage message
-        → AbortsFinding (reader_for location) o image i message
+        → FindsNoVolume (reader_for location) o image i message
         → s ≡ Some pass
         → Matches on_opened message
     runs_without_volume OutOfMemory only stop whole =
@@ -161,7 +162,8 @@ module _ (location : HeaderLocation) (o : VolumeRequest) (image pass : List ℕ)
     outcome_found on_opened =
         found_is location o image pass header segment order found is_segment ordered on_opened
 
-    loaded_before_payload : location ≡ Attached → loaded_for image volume ≤ max (header_read_len image) segment.offset
+    loaded_before_payload : location ≡ Attached
+        → unlock_read_len image volume ≤ max (header_read_len image) segment.offset
     unfolding volume
     loaded_before_payload attached = omega (
       arith,
@@ -199,22 +201,22 @@ module _ (location : HeaderLocation) (o : VolumeRequest) (image pass : List ℕ)
         (prefix : area ≡ take (header_read_len image) image) where
       -- the key areas could not be read
       runs_without_area : (on_opened : OnOpened) (takes : ConsumesLoaded pass on_opened) (fault : HeaderFault)
-          → AbortsConsuming (key_areas_end order.slots - length area) area area' (drop
+          → AbortsConsuming (key_material_end order.entries - length area) area area' (drop
           (header_read_len image) image) i fault
           → Matches on_opened (message_for_header fault)
       unfolding volume
-      runs_without_area on_opened takes LostRead stop =
-          let more = area_more image area area' i (key_areas_end order.slots) prefix stop.0 stop.2 in
+      runs_without_area on_opened takes HeaderRead stop =
+          let more = area_more image area area' i (key_material_end order.entries) prefix stop.0 stop.2 in
           let few : header_read_len image + stop.0
-          ≤ loaded_for image volume =
-          omega (arith, stop.1, prefix_length image area area' i (key_areas_end order.slots) prefix) in
+          ≤ unlock_read_len image volume =
+          omega (arith, stop.1, prefix_length image area area' i (key_material_end order.entries) prefix) in
           let within = area_within on_opened o.key_slot volume image pass takes short in
           rw (outcome_found on_opened)
           (aborted_unwritten (header_read_len image + stop.0) (length pass) tt (omega arith)
           (prompt_before_payload location image ReadFailed (header_read_len image + stop.0) (length pass) segment
           (header, found, is_segment) (λ attached. omega (arith, few, loaded_before_payload attached)))
           (omega (arith, within.0, more.1.within, few)) within.1 more.1 key_file_consumed)
-      runs_without_area on_opened takes NoMemory stop =
+      runs_without_area on_opened takes HeaderMemory stop =
           let within = found_within on_opened o.key_slot volume image pass takes in
           let whole = area_within on_opened o.key_slot volume image pass takes short in
           rw (outcome_found on_opened)
@@ -224,18 +226,18 @@ module _ (location : HeaderLocation) (o : VolumeRequest) (image pass : List ℕ)
       runs_without_area on_opened takes _ stop = absurd stop
 
       module _ (grows : ConsumedOnto area area' (drop (header_read_len image) image) i
-          (min (key_areas_end order.slots - length area) (length (drop (header_read_len image) image)))) where
+          (min (key_material_end order.entries - length area) (length (drop (header_read_len image) image)))) where
         -- the image ended within them
-        runs_cut : (on_opened : OnOpened) → length area' < key_areas_end order.slots
+        runs_cut : (on_opened : OnOpened) → length area' < key_material_end order.entries
             → Matches on_opened Cut
         unfolding volume
         runs_cut on_opened few =
-            let cut = area_cut image area area' i (key_areas_end order.slots) prefix grows few in
+            let cut = area_cut image area area' i (key_material_end order.entries) prefix grows few in
             rw (outcome_found on_opened, found_cut on_opened o.key_slot volume image pass short cut.0)
             (ends_unwritten location image pass Cut i s w (length image) (length pass) (λ h. cc)
             (prompt_refused location image (length image) (length pass)) cut.1 key_file_consumed)
 
-        module _ (enough : key_areas_end order.slots ≤ length area') (r : Result Opened OpenFault)
+        module _ (enough : key_material_end order.entries ≤ length area') (r : Result Opened OpenFault)
             (tried : opening_of order area' pass ≡ r) where
           outcome_tried : (on_opened : OnOpened)
               → volume_outcome_by (reader_for location) on_opened o image pass
@@ -248,30 +250,30 @@ module _ (location : HeaderLocation) (o : VolumeRequest) (image pass : List ℕ)
 
       -- no key slot opens
       runs_unopened : (grows : ConsumedOnto area area' (drop (header_read_len image) image) i
-          (min (key_areas_end order.slots - length area) (length (drop (header_read_len image) image))))
-          → (enough : key_areas_end order.slots ≤ length area') (fault : OpenFault)
+          (min (key_material_end order.entries - length area) (length (drop (header_read_len image) image))))
+          → (enough : key_material_end order.entries ≤ length area') (fault : OpenFault)
           (tried : opening_of order area' pass ≡ Err fault) (on_opened : OnOpened)
           → Matches on_opened (message_for_opening o.key_slot fault)
       unfolding volume
       runs_unopened grows enough fault tried on_opened =
-          let loaded = area_loaded image area area' i (key_areas_end order.slots) prefix grows enough in
+          let loaded = area_loaded image area area' i (key_material_end order.entries) prefix grows enough in
           rw (outcome_tried grows enough (Err fault) tried on_opened)
-          (ends_unwritten location image pass (message_for_opening o.key_slot fault) i s w (loaded_for image volume)
-          (length pass)
+          (ends_unwritten location image pass (message_for_opening o.key_slot fault) i s w
+          (unlock_read_len image volume) (length pass)
           (fault_not_write_failed o.key_slot fault)
-          (prompt_before_payload location image (message_for_opening o.key_slot fault) (loaded_for image volume)
+          (prompt_before_payload location image (message_for_opening o.key_slot fault) (unlock_read_len image volume)
           (length pass)
           segment (header, found, is_segment) loaded_before_payload) loaded.3 key_file_consumed)
 
       -- a key slot opens
       unlocks : (grows : ConsumedOnto area area' (drop (header_read_len image) image) i
-          (min (key_areas_end order.slots - length area) (length (drop (header_read_len image) image))))
-          → (enough : key_areas_end order.slots ≤ length area') (opened : Opened)
+          (min (key_material_end order.entries - length area) (length (drop (header_read_len image) image))))
+          → (enough : key_material_end order.entries ≤ length area') (opened : Opened)
           (tried : opening_of order area' pass ≡ Ok opened)
           → Unlocks location o image pass segment opened area' i s
       unfolding volume
       unlocks grows enough opened tried =
-          let loaded = area_loaded image area area' i (key_areas_end order.slots) prefix grows enough in
+          let loaded = area_loaded image area area' i (key_material_end order.entries) prefix grows enough in
           record {
             outcome = λ on_opened. outcome_tried grows enough (Ok opened) tried on_opened
                 ∙ ap (on_opened segment opened) (sym loaded.1);
@@ -304,7 +306,7 @@ module _ (location : HeaderLocation) (o : VolumeRequest) (image pass : List ℕ)
         (left : ConsumedExactly image (Some (drop (header_read_len image) image))
         (header_read_len image))
         (message : Message)
-        → OpensVolume o.key_slot segment order pass area area' (drop (header_read_len image) image) i s (Err message)
+        → UnlockEffect o.key_slot segment order pass area area' (drop (header_read_len image) image) i s (Err message)
         → Matches on_opened message
     runs_without_key area area' prefix on_opened takes left message (inl (short, key_file_consumed, tried)) =
         runs_without_slot short key_file_consumed area area' prefix on_opened takes message tried
@@ -315,7 +317,7 @@ module _ (location : HeaderLocation) (o : VolumeRequest) (image pass : List ℕ)
     -- the volume was opened
     pub unlocks_volume : (area area' : List ℕ) (prefix : area ≡ take (header_read_len image) image)
         (opened : UnlockedVolume)
-        → OpensVolume o.key_slot segment order pass area area' (drop (header_read_len image) image) i s (Ok opened)
+        → UnlockEffect o.key_slot segment order pass area area' (drop (header_read_len image) image) i s (Ok opened)
         → Unlocks location o image pass opened.segment (opened_of opened) area' i s
     unlocks_volume area area' prefix opened (inl (short, key_file_consumed, tried)) =
         rw tried.2 (unlocks short key_file_consumed area area' prefix tried.0 tried.1 (opened_of opened) tried.3)

@@ -8,11 +8,11 @@ use Rattle.luks_cli.specs.VolumeParts.{PromptCat}
 use Rattle.luks_request.specs.Request.{Request, VolumeRequest, test_passphrase, luks_cat, af_split}
 use Rattle.luks_cli.specs.Outcome.{outcome_of}
 use Rattle.luks_runs.specs.Payload.{max_needed}
-use Rattle.luks_runs.specs.Run.{Promptness, RunMatches, ConsumedNothing, AnyPace}
+use Rattle.luks_runs.specs.Run.{Promptness, RunMatches, ConsumedNothing, AnyPromptness}
 use Rattle.luks_runs.specs.Run.{is_run_read_failure, is_run_write_failure}
 use Rattle.luks_runs.specs.Stripe.{max_key_len}
 use Rattle.luks_runs.specs.StripeParts.{PromptSplit}
-use Rattle.luks_unlock.specs.Finding.{HasSegment}
+use Rattle.luks_unlock.specs.Found.{HasSegment}
 use Rattle.luks_unlock.specs.Volume.{slot_outcome, volume_of, volume_outcome}
 use Rattle.luks_verdict.specs.declared.segment.Segment.{Segment}
 use Rattle.luks_report.specs.declared.message.Message.{Message}
@@ -21,7 +21,7 @@ use Rattle.luks_report.specs.declared.message.Message.{Message}
 abbrev pub promptness_of : Request → List ℕ → Promptness
 promptness_of (luks_cat o) image = PromptCat image
 promptness_of (af_split s) image = PromptSplit (length image)
-promptness_of _ image = AnyPace
+promptness_of _ image = AnyPromptness
 
 -- the second input of a command knows its bytes, if there is one
 abbrev pub KnowsSecret : Request → Option (List ℕ) → List ℕ → Type 0
@@ -42,8 +42,8 @@ abbrev pub IsCounted : Request → List ℕ → Type 0
 IsCounted (luks_cat o) image = length image < 2 ^ 64
 IsCounted _ image = Unit {0}
 
--- if the inputs of a command know their bytes and are not too long to be counted, the run has the outcome that is
--- specified for those bytes
+-- if the inputs of a command know their bytes, and the image is not too long to be counted, the run has the outcome
+-- that is specified for those bytes, or was aborted on the way to it
 abbrev pub RunsAsStated : Request → Message → Option (List ℕ) → Option (List ℕ) → Option (List ℕ) → Option (List ℕ)
     → Option (List ℕ) → Option (List ℕ) → Type 0
 RunsAsStated request message image image' secret secret' written written' =
@@ -62,8 +62,8 @@ ReadsFirst _ = Unit {0}
 abbrev pub Knows : Option (List ℕ) → (List ℕ → Type 0) → Type 0
 Knows device Holds = (known : List ℕ) × (device ≡ Some known) × Holds known
 
--- the command has no second input, or needs none of it: the header, the segment, the order of the key slots or the
--- key's length ends the run
+-- the command has no second input, or needs none of it: the header, the segment, the order of the key slots or, for
+-- `afSplit`, the length of the key to be split ends the run
 abbrev pub NeedsNoSecret : Request → Option (List ℕ) → Type 0
 NeedsNoSecret (test_passphrase o) image = Knows image (λ known. is_err (volume_of o known) ≡ true)
 NeedsNoSecret (luks_cat o) image = Knows image (λ known. is_err (volume_of o known) ≡ true)
@@ -104,6 +104,7 @@ ReadsImage _ image secret = ReadsOnce
 -- call
 pub record CountsCalls (ReadsIt : Bool → ReadCounts → ReadCounts → Type 0) (message : Message)
     (input input' secret secret' : ReadCounts) (out out' : WriteCounts) : Type 0 where
+  -- if a read failed, it was one of the first input
   pub in_input : Bool
   pub input_reads : ReadsIt (in_input && is_run_read_failure message) input input'
   pub secret_reads : ReadsOnce (not in_input && is_run_read_failure message) secret secret'

@@ -13,11 +13,11 @@ use Rattle.luks_runs.specs.RunOutcome.{Outcome}
 use Rattle.luks_runs.specs.HeaderOutcome.{is_luks_outcome, print_outcome_by, always_done}
 use Rattle.luks_cli.specs.Outcome.{outcome_of}
 use Rattle.luks_runs.specs.HeaderReading.{detached_header_of}
-use Rattle.luks_runs.specs.Run.{Promptness, DetachedRunMatches, ConsumedNothing, AnyPace}
+use Rattle.luks_runs.specs.Run.{Promptness, DetachedRunMatches, ConsumedNothing, AnyPromptness}
 use Rattle.luks_runs.specs.Run.{is_run_read_failure, is_run_write_failure}
 use Rattle.luks_cli.specs.CommandRun.{AllowsPayload, IsCounted, Knows, KnowsSecret, ConsumedOfSecret, ReadsOnce}
 use Rattle.luks_cli.specs.CommandRun.{ReadsPayload}
-use Rattle.luks_unlock.specs.Finding.{HasSegmentBy}
+use Rattle.luks_unlock.specs.Found.{HasSegmentBy}
 use Rattle.luks_unlock.specs.OpeningMessages.{OpeningMessage}
 use Rattle.luks_unlock.specs.Volume.{detached_payload_outcome, slot_outcome, volume_by, volume_outcome_by}
 use Rattle.luks_cli.specs.VolumeParts.{PromptDetachedCat}
@@ -36,22 +36,23 @@ detached_outcome_of (luks_cat o) file image secret =
 -- the commands on stripes have no header
 detached_outcome_of request file image secret = outcome_of request image secret
 
--- how promptly a command ends if it is aborted after it consumed `payload_consumed` bytes of the image
+-- how promptly a command ends if it is aborted after it consumed `payload_consumed` bytes of the payload's image
 abbrev pub detached_promptness_of : Request → List ℕ → ℕ → Promptness
 detached_promptness_of (luks_cat o) file payload_consumed = PromptDetachedCat file payload_consumed
-detached_promptness_of request file payload_consumed = AnyPace
+detached_promptness_of request file payload_consumed = AnyPromptness
 
--- the image knows its bytes, if the command reads any of it
+-- the payload's image knows its bytes, if the command reads any of it
 abbrev pub KnowsPayload : Request → Option (List ℕ) → List ℕ → Type 0
 KnowsPayload (luks_cat o) device image = device ≡ Some image
 KnowsPayload request device image = Unit {0}
 
--- what was consumed of the image
+-- what was consumed of the payload's image
 abbrev pub ConsumedOfPayload : Request → List ℕ → Option (List ℕ) → ℕ → Type 0
 ConsumedOfPayload (luks_cat o) image left = ConsumedExactly image left
 ConsumedOfPayload request image left = ConsumedNothing
 
--- if the inputs of a command know their bytes, the run has the outcome that is specified for those bytes
+-- if the inputs of a command know their bytes, and the payload's image is not too long to be counted, the run has the
+-- outcome that is specified for those bytes, or was aborted on the way to it
 abbrev pub RunsDetached : Request → Message → Option (List ℕ) → Option (List ℕ) → Option (List ℕ) → Option (List ℕ)
     → Option (List ℕ) → Option (List ℕ) → Option (List ℕ) → Option (List ℕ) → Type 0
 RunsDetached request message header header' image image' secret secret' written written' =
@@ -73,11 +74,12 @@ NeedsNoSecretDetached (luks_cat o) header =
     Knows header (λ file. is_err (volume_by detached_header_of o file) ≡ true)
 NeedsNoSecretDetached request header = Unit {0}
 
--- the run ended before a key was found, with a message of opening, but not a failed read, which may be the payload's
+-- the run ended before a key was found, with a message of opening other than a failed read, since that read may be the
+-- payload's
 abbrev pub EndsWithoutKey : Message → Type 0
 EndsWithoutKey message = OpeningMessage message × (is_run_read_failure message ≡ false)
 
--- the image is not read: only `luksCat` reads it, and only after a key was found
+-- the payload's image is not read: only `luksCat` reads it, and only after a key was found
 abbrev pub NeedsNoPayload : Request → Message → Type 0
 NeedsNoPayload (luks_cat o) message = EndsWithoutKey message
 NeedsNoPayload request message = Unit {0}
@@ -89,15 +91,17 @@ DetachedCatAllows header secret ahead most =
     (λ file. IfKnown secret (λ passphrase. AllowsPayload (HasSegmentBy detached_header_of file) 0 ahead most))
 
 -- what a command adds to the counts of its payload's image: only `luksCat` reads one
-abbrev pub ReadsDetachedImage : Request → Option (List ℕ) → Option (List ℕ) → Bool → ReadCounts → ReadCounts → Type 0
-ReadsDetachedImage (luks_cat o) header secret = ReadsPayload (DetachedCatAllows header secret)
-ReadsDetachedImage request header secret = ReadsOnce
+abbrev pub ReadsPayloadImage : Request → Option (List ℕ) → Option (List ℕ) → Bool → ReadCounts → ReadCounts → Type 0
+ReadsPayloadImage (luks_cat o) header secret = ReadsPayload (DetachedCatAllows header secret)
+ReadsPayloadImage request header secret = ReadsOnce
 
--- what a run that reads the image in this way adds to the counts of its devices: a failure of one of its inputs if a
--- read failed, one of the output if a write failed, at most one end of each input, and no needless call
+-- what a run that reads the payload's image in this way adds to the counts of its devices: a failure of one of its
+-- inputs if a read failed, one of the output if a write failed, at most one end of each input, and no needless call
 pub record CountsCallsDetached (ReadsIt : Bool → ReadCounts → ReadCounts → Type 0) (message : Message)
     (header header' image image' secret secret' : ReadCounts) (out out' : WriteCounts) : Type 0 where
+  -- if a read failed, it was one of the payload's image
   pub in_payload : Bool
+  -- if a read failed, but not one of the payload's image, it was one of the header's file
   pub in_header : Bool
   pub header_reads : ReadsOnce (not in_payload && (in_header && is_run_read_failure message)) header header'
   pub payload_reads : ReadsIt (in_payload && is_run_read_failure message) image image'

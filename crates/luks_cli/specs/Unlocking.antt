@@ -14,7 +14,7 @@ use Rattle.luks_report.specs.declared.message.Message.TheVariants.{Done, OutOfMe
 use Rattle.luks_runs.specs.KeyFile.{NoKeyFileRead, max_key_file_len}
 use Rattle.luks_runs.specs.Location.{reader_for}
 use Rattle.luks_runs.specs.Run.{RunMatches, is_run_read_failure}
-use Rattle.luks_unlock.specs.Finding.{HasSegmentBy}
+use Rattle.luks_unlock.specs.Found.{HasSegmentBy}
 use Rattle.luks_unlock.specs.Trying.{TriesSlots}
 use Rattle.luks_unlock.specs.Volume.{OnOpened, volume_outcome_by}
 use Rattle.luks_unlock.specs.declared.unlocked.UnlockedVolume.{UnlockedVolume}
@@ -29,11 +29,11 @@ PromptOpening Attached image message input_consumed secret_consumed output =
     PromptCat image message input_consumed secret_consumed output
 PromptOpening Detached image message input_consumed secret_consumed output = output ≡ 0
 
--- the volume was not opened, for this reason: nothing was written, and the run matches the outcome of whatever is done
--- with an opened volume
-abbrev pub EndsUnopened : HeaderLocation → VolumeRequest → List ℕ → List ℕ → Message → Option (List ℕ)
+-- the volume was not opened, and the message says why: nothing was written, and the run matches the specified outcome,
+-- whatever the command would do with an open volume
+abbrev pub EndsLocked : HeaderLocation → VolumeRequest → List ℕ → List ℕ → Message → Option (List ℕ)
     → Option (List ℕ) → Type 0
-EndsUnopened location o image secret message image' secret' =
+EndsLocked location o image secret message image' secret' =
     (on_opened : OnOpened) → ConsumesLoaded secret on_opened → (written : Option (List ℕ))
     → RunMatches (PromptOpening location image) (volume_outcome_by (reader_for location) on_opened o image secret)
     message (ConsumedExactly image image') (ConsumedExactly secret secret') (Appended written written)
@@ -51,11 +51,11 @@ pub record Unlocks (location : HeaderLocation) (o : VolumeRequest) (image secret
   pub input_consumed : ConsumedExactly image image' (length loaded)
   pub secret_consumed : ConsumedExactly secret secret' (length secret)
 
--- whether a volume that was found was opened by the passphrase in the key file. The key file is read whole before the
--- key slots are tried; if it cannot be, nothing more of the image is consumed
-abbrev pub OpensVolume : Option ℕ → Segment → OrderModel → List ℕ → List ℕ → List ℕ → List ℕ → Option (List ℕ)
+-- the effect of trying to open a volume that was found, under the passphrase in the key file. The key file is read
+-- whole before the key slots are tried; if it cannot be, nothing more of the image is consumed
+abbrev pub UnlockEffect : Option ℕ → Segment → OrderModel → List ℕ → List ℕ → List ℕ → List ℕ → Option (List ℕ)
     → Option (List ℕ) → Result UnlockedVolume Message → Type 0
-OpensVolume named segment order pass area area' rest left secret' result =
+UnlockEffect named segment order pass area area' rest left secret' result =
     ((length pass ≤ max_key_file_len) × ConsumedExactly pass secret' (length pass)
     × TriesSlots named segment order pass area area' rest left result)
     ⊎ ((message : Message) × (result ≡ Err message) × NoKeyFileRead pass secret' message × (area' ≡ area)
@@ -68,10 +68,10 @@ pub record CountsReads (message : Message) (input input' secret secret' : ReadCo
   pub input_reads : ReadsOnce (in_input && is_run_read_failure message) input input'
   pub secret_reads : ReadsOnce (not in_input && is_run_read_failure message) secret secret'
 
--- the key slot that opened was reported: its line was written, or a write failed within it, or memory for it ran out
-abbrev pub ReportsSlot : ℕ → Option (List ℕ) → Option (List ℕ) → Message → Type 0
-ReportsSlot slot written written' Done = Appended written written' (opened_line slot)
-ReportsSlot slot written written' WriteFailed = (count : ℕ) × (count < length (opened_line slot))
+-- the line about the key slot that opened was written, or a write failed within it, or memory for it ran out
+abbrev pub WritesOpenedLine : ℕ → Option (List ℕ) → Option (List ℕ) → Message → Type 0
+WritesOpenedLine slot written written' Done = Appended written written' (opened_line slot)
+WritesOpenedLine slot written written' WriteFailed = (count : ℕ) × (count < length (opened_line slot))
     × Appended written written' (take count (opened_line slot))
-ReportsSlot slot written written' OutOfMemory = written' ≡ written
-ReportsSlot slot written written' _ = ⊥
+WritesOpenedLine slot written written' OutOfMemory = written' ≡ written
+WritesOpenedLine slot written written' _ = ⊥

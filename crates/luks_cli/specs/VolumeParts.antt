@@ -7,7 +7,7 @@ use Rattle.luks_payload.specs.Plain.{sector_len, sector_start}
 use Rattle.luks_report.specs.declared.message.Message.{Message}
 use Rattle.luks_report.specs.declared.message.Message.TheVariants.{ReadFailed, WriteFailed}
 use Rattle.luks_runs.specs.HeaderReading.{detached_header_of}
-use Rattle.luks_unlock.specs.Finding.{HasSegment, HasSegmentBy}
+use Rattle.luks_unlock.specs.Found.{HasSegment, HasSegmentBy}
 use Rattle.luks_unlock.specs.Volume.{OnOpened}
 
 -- ---- opening
@@ -21,12 +21,13 @@ pub record ConsumesLoaded (secret : List ℕ) (on_opened : OnOpened) : Type 0 wh
 
 -- ---- the payload
 
--- the header ends before the payload starts, or more than the header was consumed. Both can fail only if the size in a
--- damaged primary header reaches into the payload
+-- the bytes read for the header end at or before the payload's start, or more than they were consumed. Both can fail
+-- only if a damaged primary header has a size that reaches past the payload's start, and no byte past that size was
+-- consumed
 abbrev pub IsPastHeader : Segment → ℕ → ℕ → Type 0
 IsPastHeader s header_len consumed = (header_len ≤ s.offset) ⊎ (header_len < consumed)
 
--- forwarding a payload is aborted: if a write fails, no byte of the image past the sector of the last byte written was
+-- forwarding a payload is aborted: if a write fails, no byte of the image past the sector in which it failed was
 -- consumed, except for the header's; if a read fails, the output is the whole sectors that were consumed
 abbrev pub PromptForwarding : Segment → ℕ → Message → ℕ → ℕ → Type 0
 PromptForwarding s header_len WriteFailed consumed output =
@@ -41,8 +42,8 @@ PromptCat image message input_consumed secret_consumed output =
     (segment : Segment) → HasSegment image segment → PromptForwarding segment
     (header_read_len image) message input_consumed output
 
--- `luksCat` with a detached header was aborted, and forwarding the payload's image was prompt; of that image nothing is
--- consumed for a header
+-- `luksCat` with a detached header was aborted, and forwarding the payload was prompt; of its image nothing is consumed
+-- for a header
 abbrev pub PromptDetachedCat : List ℕ → ℕ → Message → ℕ → ℕ → ℕ → Type 0
 PromptDetachedCat file payload_consumed message header_consumed secret_consumed output =
     (segment : Segment) → HasSegmentBy detached_header_of file segment

@@ -30,24 +30,25 @@ mod volumes;
 /// prefix of that output, and no input was consumed further than specified; a failed read or write
 /// is reported exactly if one failed. If a write failed, not all of the output is written. The
 /// second input's source is unchanged if the command has no second input, or if the image knows its
-/// bytes and the header, the segment, the order of the key slots or the length of a key ends the
-/// run. Except for `luksCat` and `afSplit`, nothing is written if a read fails.
+/// bytes and the header, the segment, the order of the key slots or, for `afSplit`, the length of
+/// the key to be split ends the run. Except for `luksCat` and `afSplit`, nothing is written if a
+/// read fails.
 ///
-/// No device is called needlessly: no read goes into an empty buffer or follows one that failed or
-/// hit the end, and no write is empty or follows one that failed. The end of each input is hit at
-/// most once. No command but `luksCat` allows read-ahead, and `luksCat` allows it up to the
-/// payload's end and no further, if both inputs know their bytes.
+/// No device is called needlessly: no read goes into a buffer without capacity or follows one that
+/// failed or hit the end, and no write is empty or follows one that failed. The end of each input
+/// is hit at most once. No command but `luksCat` allows read-ahead: every other command consumes
+/// just what it requests, also from a pipe. `luksCat` allows it up to the payload's end and no
+/// further, if both inputs know their bytes.
 ///
 /// `luksCat` writes the plaintext of an honestly sealed volume if the passphrase has at most
 /// 8,388,608 bytes and is that of a key slot which is tried, no slot tried before gives another
 /// key, the image is shorter than 2^64 bytes, both inputs know their bytes, and no allocation, read
 /// or write fails.
 ///
-/// `luksCat` allows read-ahead for the bytes of the image that it will request, and writes each
-/// sector as it comes. If a write fails, nothing past the current sector was consumed, except for
-/// the header. If a read fails, all whole sectors that were consumed are written, unless a damaged
-/// primary header reaches into the payload. All this holds for images shorter than 2^64 bytes.
-/// Every other command consumes just what it requests, also from a pipe.
+/// `luksCat` writes each sector as it comes. If a write fails, nothing past the current sector was
+/// consumed, except for the header. If a read fails, all whole sectors that were consumed are
+/// written, unless a damaged primary header reaches into the payload. All this holds for images
+/// shorter than 2^64 bytes.
 pub fn execute<I: Source, K: Source, O: Sink>(
     alloc: Global,
     command: &Command<'_>,

@@ -2,12 +2,12 @@
 use Rattle.std.specs.Prelude.{ℕ, List}
 use Rattle.luks_header.specs.declared.header.Header.{Header}
 use Rattle.luks_header.specs.declared.header.Header.TheVariants.{V1, V2}
-use Rattle.luks_dump.specs.Dump1.{dump1_of, uuid_line}
+use Rattle.luks_dump.specs.Dump1.{dump1_of, uuid1_line}
 use Rattle.luks_dump.specs.Dump2.{dump2_of, uuid2_line}
 
 -- the text that `luksUUID` prints
 abbrev pub uuid_of : Header → List ℕ
-uuid_of (V1 header) = uuid_line header
+uuid_of (V1 header) = uuid1_line header
 uuid_of (V2 header tree) = uuid2_line header
 
 -- the text that `luksDump` prints

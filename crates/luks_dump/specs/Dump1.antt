@@ -4,7 +4,7 @@ use Rattle.std.specs.Fmt.{decimal}
 use Rattle.std.specs.Int.{to_be_bytes, w32}
 use Rattle.hex.specs.Hex.{encode_lower}
 use Rattle.luks1_header.specs.declared.header.Header1.{Header1}
-use Rattle.luks1_header.specs.declared.header.KeySlot.{KeySlot}
+use Rattle.luks1_header.specs.declared.header.StoredSlot.{StoredSlot}
 use Rattle.luks1_header.specs.declared.header.SlotState.{SlotState}
 use Rattle.luks1_header.specs.declared.header.SlotState.TheVariants.{Enabled, Disabled, Damaged}
 use Rattle.luks_dump.specs.Escaping.{escaped}
@@ -18,21 +18,21 @@ enabled_text iterations salt offset stripes =
     ++ codes " offset=" ++ decimal offset ++ codes " stripes=" ++ decimal stripes
 
 -- the text of a key slot in this state
-unfoldable pub state_text : KeySlot → SlotState → List ℕ
+unfoldable pub state_text : StoredSlot → SlotState → List ℕ
 state_text slot Enabled = enabled_text slot.iterations (encode_lower slot.salt) slot.offset slot.stripes
 state_text slot Disabled = codes "DISABLED"
 state_text slot (Damaged number) = codes "DAMAGED state=" ++ encode_lower (to_be_bytes w32 number)
 
 -- the text of a key slot
-abbrev pub slot_text : KeySlot → List ℕ
+abbrev pub slot_text : StoredSlot → List ℕ
 slot_text slot = state_text slot slot.state
 
 -- the line of the key slot with this number
-unfoldable pub slot1_line : ℕ → KeySlot → List ℕ
+unfoldable pub slot1_line : ℕ → StoredSlot → List ℕ
 slot1_line number slot = field (codes "Slot " ++ decimal number) (slot_text slot)
 
 -- the lines of key slots, the first of which has this number
-unfoldable pub slot1_lines : ℕ → List KeySlot → List ℕ
+unfoldable pub slot1_lines : ℕ → List StoredSlot → List ℕ
 slot1_lines number [] = []
 slot1_lines number (slot ∷ slots) = slot1_line number slot ++ slot1_lines (suc number) slots
 
@@ -62,5 +62,5 @@ unfoldable pub dump1_of : Header1 → List ℕ
 dump1_of h = text1_lines h ++ number_lines h ++ slot1_lines 0 h.slots
 
 -- the line with the UUID alone
-unfoldable pub uuid_line : Header1 → List ℕ
-uuid_line h = escaped h.uuid ++ 10 ∷ []
+unfoldable pub uuid1_line : Header1 → List ℕ
+uuid1_line h = escaped h.uuid ++ 10 ∷ []

@@ -15,8 +15,8 @@ use Rattle.luks_verdict.specs.declared.slot.SlotParts.{SlotParts}
 use Rattle.luks_verdict.specs.declared.slot.Verdict.{Verdict}
 use Rattle.luks_verdict.specs.declared.slot.Verdict.TheVariants.{Usable, Disabled, Skipped}
 use Rattle.luks2_binary.specs.declared.header.Header2.{Header2}
-use Rattle.luks2_binary.specs.declared.header.Place.{Place}
-use Rattle.luks2_binary.specs.declared.header.Place.TheVariants.{Primary, Secondary}
+use Rattle.luks2_binary.specs.declared.header.HeaderRole.{HeaderRole}
+use Rattle.luks2_binary.specs.declared.header.HeaderRole.TheVariants.{Primary, Secondary}
 use Rattle.luks2_metadata.specs.Digest2.{digests2_of}
 use Rattle.luks2_metadata.specs.Segment2.{segment2_of}
 use Rattle.luks2_metadata.specs.Slot2.{verdict2_at}
@@ -30,15 +30,15 @@ use Rattle.luks_dump.specs.DumpLine.{field}
 -- ---- the binary header
 
 -- which of the two headers it is
-abbrev pub place_text : Place → List ℕ
-place_text Primary = codes "primary"
-place_text Secondary = codes "secondary"
+abbrev pub role_text : HeaderRole → List ℕ
+role_text Primary = codes "primary"
+role_text Secondary = codes "secondary"
 
 -- the lines from the version to the header's length in bytes
-unfoldable pub place_lines : Header2 → List ℕ
-place_lines h =
+unfoldable pub role_lines : Header2 → List ℕ
+role_lines h =
     field (codes "Version") (codes "2")
-    ++ field (codes "Header") (place_text h.place)
+    ++ field (codes "Header") (role_text h.role)
     ++ field (codes "Sequence") (decimal h.sequence)
     ++ field (codes "Header size") (decimal h.size)
 
@@ -144,7 +144,7 @@ digest_lines digests = flat_map digest_line digests
 -- the dump of a header
 unfoldable pub dump2_of : Header2 → Data → List ℕ
 dump2_of h tree =
-    place_lines h
+    role_lines h
     ++ text2_lines h
     ++ slot2_lines tree (bounds2_of h)
     ++ segment_line (segment2_of tree (bounds2_of h))

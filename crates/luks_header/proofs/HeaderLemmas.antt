@@ -15,11 +15,11 @@ use Rattle.luks2_binary.specs.ReadLen2.{header2_read_len, probe2_len}
 use Rattle.luks2_binary.specs.Reading2.{ConsumedUpToReadLen, ConsumedReadLen, ConsumedBeforeProbe2}
 use Rattle.luks2_binary.proofs.AbsentLemmas.{cost_least, cost_short, none_short}
 use Rattle.luks2_binary.proofs.ChoiceLemmas.{probe_some}
-use Rattle.luks_header.specs.Header.{AbortsReadingBehind, AbortsReading, ConsumedHeaderLen, header_read_len}
+use Rattle.luks_header.specs.Header.{ReadsNoHeaderBehind, ReadsNoHeader, ConsumedHeaderLen, header_read_len}
 use Rattle.luks_header.specs.Header.{falls_short, header_of, probe_len}
 use Rattle.luks_header.specs.declared.header.Header.{Header}
 use Rattle.luks_header.specs.declared.header.Header.TheVariants.{V1}
-use Rattle.luks_header.proofs.HeldLemmas.{cost_other, header_missing, probe_other}
+use Rattle.luks_header.proofs.LoadedLemmas.{cost_other, header_missing, probe_other}
 
 -- reading the header consumes at least 592 bytes of an image, or all of a shorter one
 pub some_cost : (image : List ℕ) → min 592 (length image) ≤ header_read_len image
@@ -74,7 +74,7 @@ header_of-cut area is short =
 -- if consuming bytes onto an empty area was aborted, reading the header was aborted
 pub aborts_reading : (area area' image : List ℕ) (left : Option (List ℕ)) (ends ends' : ℕ) (fault : HeaderFault)
     → area ≡ [] → AbortsConsuming (592 - length area) area area' image left fault → ends' ≡ ends
-    → AbortsReading image left ends ends' fault
+    → ReadsNoHeader image left ends ends' fault
 aborts_reading area area' image left ends ends' Read none (count, below, consumption) same =
     ((count, omega (arith, consumption.0.within, some_cost image), consumption.0), same)
 aborts_reading area area' image left ends ends' Memory none consumption same =
@@ -230,16 +230,16 @@ module _ (area image : List ℕ) (left : Option (List ℕ))
 
     -- if reading the bytes behind the first ones was aborted, reading the header was aborted
     pub rest_reading_aborted : (ends before ends' : ℕ) (fault : HeaderFault) → before ≡ ends
-        → AbortsReadingBehind (area ++ drop 592 image) area area' (drop 592 image) left' before ends' fault
-        → AbortsReading image left' ends ends' fault
+        → ReadsNoHeaderBehind (area ++ drop 592 image) area area' (drop 592 image) left' before ends' fault
+        → ReadsNoHeader image left' ends ends' fault
     rest_reading_aborted ends before ends' fault same breaks =
-        let at_first = subst (λ e. AbortsReadingBehind (area ++ drop 592 image) area area' (drop 592 image) left' e
+        let at_first = subst (λ e. ReadsNoHeaderBehind (area ++ drop 592 image) area area' (drop 592 image) left' e
         ends' fault)
         same breaks in
-        by fault (subst (λ l. AbortsReadingBehind l area area' (drop 592 image) left' ends ends' fault) whole at_first)
+        by fault (subst (λ l. ReadsNoHeaderBehind l area area' (drop 592 image) left' ends ends' fault) whole at_first)
       where
-        by : (fault : HeaderFault) → AbortsReadingBehind image area area' (drop 592 image) left' ends ends' fault
-            → AbortsReading image left' ends ends' fault
+        by : (fault : HeaderFault) → ReadsNoHeaderBehind image area area' (drop 592 image) left' ends ends' fault
+            → ReadsNoHeader image left' ends ends' fault
         by Read (consumption, same) = (consumed_below consumption, same)
         by Memory (inl (consumption, same)) =
             inl (consumed_early consumption, same, λ is. absurd (let no = image_other in cc))
@@ -257,7 +257,7 @@ below_cost2 image count few within = omega (arith, few, within)
 
 -- if memory ran out, no more bytes were consumed than are read for the header
 pub memory_below : (image : List ℕ) (left : Option (List ℕ)) (ends ends' : ℕ)
-    → AbortsReading image left ends ends' Memory → ConsumedAtMost image left (header_read_len image)
+    → ReadsNoHeader image left ends ends' Memory → ConsumedAtMost image left (header_read_len image)
 unfolding header_read_len probe_len
 memory_below image left ends ends' (inl ((count, few, consumption), same, none)) = by (is_luks1 image) refl where
   by : (b : Bool) → is_luks1 image ≡ b → ConsumedAtMost image left (header_read_len image)

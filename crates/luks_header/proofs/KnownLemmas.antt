@@ -26,7 +26,7 @@ use Rattle.luks2_binary.proofs.JsonLemmas.{read_attached}
 use Rattle.luks2_json.specs.Encryption.{is_length_for}
 use Rattle.luks2_json.specs.Tree.{tree_of}
 use Rattle.serde_json.specs.Data.{Data}
-use Rattle.luks2_metadata.specs.Segment2.{payload2_of, payload_mode2_of}
+use Rattle.luks2_metadata.specs.Segment2.{payload2_start, payload_mode2_of}
 use Rattle.luks2_metadata.proofs.SegmentLemmas.{segment2-ok}
 use Rattle.luks2_metadata.proofs.SlotLemmas.{usable2_at}
 use Rattle.luks_verdict.specs.Rule.{exceeds}
@@ -149,5 +149,5 @@ before_payload (V1 header) segment limit number slot attached is_segment is =
     (slot_usable_at header limit number slot is).0.before_payload
 before_payload (V2 header tree) segment limit number slot attached is_segment is =
     let read = segment2-ok tree (bounds2_of header) segment is_segment in
-    ends_before (payload2_of tree (bounds2_of header)) segment.offset (material_end slot) (read.start attached)
+    ends_before (payload2_start tree (bounds2_of header)) segment.offset (material_end slot) (read.start attached)
     (usable2_at tree (bounds2_of header) limit number slot is).0.before_payload

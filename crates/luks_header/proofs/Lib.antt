@@ -1,3 +1,3 @@
 pub mod HeaderLemmas
-pub mod HeldLemmas
+pub mod LoadedLemmas
 pub mod KnownLemmas

@@ -75,25 +75,26 @@ ConsumedBeforeProbe image left ends ends' = ConsumedFewer image left (probe_len 
 abbrev pub HasHeader2 : List ℕ → Type 0
 HasHeader2 image = (header : Header2) × (is_luks1 image ≡ false) × (header2_of image ≡ Ok header)
 
--- reading the header was aborted: by a failed read at any point, or for lack of memory, either during the search or,
--- with a binary LUKS2 header, for the tree of its JSON text; any other fault is the image's
-abbrev pub AbortsReading : List ℕ → Option (List ℕ) → ℕ → ℕ → HeaderFault → Type 0
-AbortsReading image left ends ends' Read = ConsumedAtMost image left (header_read_len image) × (ends' ≡ ends)
-AbortsReading image left ends ends' Memory =
+-- no header was read, for this reason: a read failed, at any point; memory ran out, either during the search or, with a
+-- binary LUKS2 header, for the tree of its JSON text; or the image has none, which is any other fault
+abbrev pub ReadsNoHeader : List ℕ → Option (List ℕ) → ℕ → ℕ → HeaderFault → Type 0
+ReadsNoHeader image left ends ends' Read = ConsumedAtMost image left (header_read_len image) × (ends' ≡ ends)
+ReadsNoHeader image left ends ends' Memory =
     ConsumedBeforeProbe image left ends ends' ⊎ (HasHeader2 image × ConsumedHeaderLen image left ends ends')
-AbortsReading image left ends ends' fault = (header_of image ≡ Err fault) × ConsumedHeaderLen image left ends ends'
+ReadsNoHeader image left ends ends' fault = (header_of image ≡ Err fault) × ConsumedHeaderLen image left ends ends'
 
--- like `ConsumedHeaderLen`, for an image of which some bytes were loaded before and further ones were appended to them
+-- like `ConsumedHeaderLen`, but only for an image that does not start as LUKS1: some of its bytes were loaded before,
+-- and further ones were appended to them
 abbrev pub ConsumedHeaderLenBehind : List ℕ → List ℕ → List ℕ → List ℕ → Option (List ℕ) → ℕ → ℕ → Type 0
-ConsumedHeaderLenBehind image held held' rest left ends ends' = ConsumedReadLen image held held' rest left
+ConsumedHeaderLenBehind image loaded loaded' rest left ends ends' = ConsumedReadLen image loaded loaded' rest left
     × (ends' ≡ counted (falls_short image) ends)
 
--- like `AbortsReading`, for such an image
-abbrev pub AbortsReadingBehind : List ℕ → List ℕ → List ℕ → List ℕ → Option (List ℕ) → ℕ → ℕ → HeaderFault → Type 0
-AbortsReadingBehind image held held' rest left ends ends' Read =
-    ConsumedUpToReadLen image held held' rest left × (ends' ≡ ends)
-AbortsReadingBehind image held held' rest left ends ends' Memory =
-    (ConsumedBeforeProbe2 image held held' rest left × (ends' ≡ ends))
-    ⊎ (HasHeader2 image × ConsumedHeaderLenBehind image held held' rest left ends ends')
-AbortsReadingBehind image held held' rest left ends ends' fault =
-    (header_of image ≡ Err fault) × ConsumedHeaderLenBehind image held held' rest left ends ends'
+-- like `ReadsNoHeader`, for such an image
+abbrev pub ReadsNoHeaderBehind : List ℕ → List ℕ → List ℕ → List ℕ → Option (List ℕ) → ℕ → ℕ → HeaderFault → Type 0
+ReadsNoHeaderBehind image loaded loaded' rest left ends ends' Read =
+    ConsumedUpToReadLen image loaded loaded' rest left × (ends' ≡ ends)
+ReadsNoHeaderBehind image loaded loaded' rest left ends ends' Memory =
+    (ConsumedBeforeProbe2 image loaded loaded' rest left × (ends' ≡ ends))
+    ⊎ (HasHeader2 image × ConsumedHeaderLenBehind image loaded loaded' rest left ends ends')
+ReadsNoHeaderBehind image loaded loaded' rest left ends ends' fault =
+    (header_of image ≡ Err fault) × ConsumedHeaderLenBehind image loaded loaded' rest left ends ends'

@@ -7,15 +7,15 @@ ghost use Rattle.luks_io.specs.Counts.{Reads};
 ghost use Rattle.luks_area.specs.Area.{is_read_fault};
 ghost use Rattle.luks1_header.specs.Header1.{is_luks1};
 ghost use Rattle.luks2_binary.specs.Reading2.{ConsumedReadLen};
-ghost use Rattle.luks_header.specs.Header.{AbortsReadingBehind, AbortsReading, bounds2_of};
+ghost use Rattle.luks_header.specs.Header.{ReadsNoHeaderBehind, ReadsNoHeader, bounds2_of};
 ghost use Rattle.luks_header.specs.Header.{header_read_len, detached_of, falls_short, header_of};
 
 use luks_area::area::HeaderArea;
 use luks_area::fault::HeaderFault;
 use luks_io::source::Source;
 use luks1_header::header::{HEADER1_LEN, is_header1};
-pub use luks1_header::header::{Header1, KeySlot, SlotState};
-pub use luks2_binary::header::{Finding, Header2, Place};
+pub use luks1_header::header::{Header1, SlotState, StoredSlot};
+pub use luks2_binary::header::{Header2, HeaderRole, PairFinding};
 use luks2_binary::reading::read_header2;
 pub use luks2_json::tree::Metadata;
 pub use luks2_metadata::bounds::Bounds;
@@ -76,15 +76,15 @@ pub fn read_header<S: Source>(
     ensures consumed { IfOk result (λ read. IfKnown (S.to_come source.old) (λ image.
         (header_of image ≡ Ok read.0) × (read.1.bytes ≡ take (header_read_len image) image)
         × ConsumedExactly image (S.to_come source.new) (header_read_len image))) }
-    ensures aborted { IfErr result (λ fault. IfKnown (S.to_come source.old) (λ image.
-        AbortsReading image (S.to_come source.new) (S.counts source.old).ends
+    ensures no_header { IfErr result (λ fault. IfKnown (S.to_come source.old) (λ image.
+        ReadsNoHeader image (S.to_come source.new) (S.counts source.old).ends
         (S.counts source.new).ends fault)) }
     ensures memory { IfKnown (S.to_come source.old) (λ image. is_luks1 image ≡ true
         → result ≡ Err HeaderFault.Memory → source.new ≡ source.old) }
 
     // Whether or not the source knows its bytes:
-    ensures held { IfOk result (λ read. header_of read.1.bytes ≡ Ok read.0) }
-    ensures only { IfOk result (λ read. length read.1.bytes ≡ header_read_len read.1.bytes) }
+    ensures of_area { IfOk result (λ read. header_of read.1.bytes ≡ Ok read.0) }
+    ensures whole_area { IfOk result (λ read. length read.1.bytes ≡ header_read_len read.1.bytes) }
     ensures reads { (ended : Bool)
         × Reads (is_read_fault result) ended (S.counts source.old) (S.counts source.new)
         × IfOk result (λ read. read.1.ended ≡ ended) }
@@ -120,11 +120,11 @@ fn read2<S: Source>(
         (header_of (area.old.bytes ++ rest) ≡ Ok header)
         × ConsumedReadLen (area.old.bytes ++ rest) area.old.bytes area.new.bytes rest
         (S.to_come source.new))) }
-    ensures aborted { IfErr result (λ fault. IfKnown (S.to_come source.old) (λ rest.
-        AbortsReadingBehind (area.old.bytes ++ rest) area.old.bytes area.new.bytes rest
+    ensures no_header { IfErr result (λ fault. IfKnown (S.to_come source.old) (λ rest.
+        ReadsNoHeaderBehind (area.old.bytes ++ rest) area.old.bytes area.new.bytes rest
         (S.to_come source.new)
         (S.counts source.old).ends (S.counts source.new).ends fault)) }
-    ensures held { IfOk result (λ header. (header_of area.new.bytes ≡ Ok header)
+    ensures of_area { IfOk result (λ header. (header_of area.new.bytes ≡ Ok header)
         × (length area.new.bytes ≡ header_read_len area.new.bytes)) }
     ensures reads { Reads (is_read_fault result) area.new.ended
         (S.counts source.old) (S.counts source.new) }

@@ -12,17 +12,17 @@ use Rattle.luks_io.proofs.Moves.{consumed-prefix}
 use Rattle.luks_io.proofs.Consuming.{consumed-none}
 
 -- the first buffered bytes are copied to the start of a buffer, and the others stay buffered
-pub copies_out_first : (held buf piece : List ℕ) (start end count : ℕ) → length piece ≡ count → count ≤ end - start
-    → piece ≡ take count (drop start held)
-    → take (end - start) (drop start held)
-    ≡ take count (piece ++ drop count buf) ++ take (end - (start + count)) (drop (start + count) held)
-copies_out_first held buf piece start end count long few is =
+pub copies_out_first : (buffered buf piece : List ℕ) (start end count : ℕ) → length piece ≡ count → count ≤ end - start
+    → piece ≡ take count (drop start buffered)
+    → take (end - start) (drop start buffered)
+    ≡ take count (piece ++ drop count buf) ++ take (end - (start + count)) (drop (start + count) buffered)
+copies_out_first buffered buf piece start end count long few is =
     let all : end - start ≡ count + (end - (start + count)) = omega arith in
-    let prefix : take count (piece ++ drop count buf) ≡ take count (drop start held) =
+    let prefix : take count (piece ++ drop count buf) ≡ take count (drop start buffered) =
     ap (λ n. take n (piece ++ drop count buf)) (sym long) ∙ take-append_seam piece (drop count buf) ∙ is in
-    ap (λ n. take n (drop start held)) all ∙ take-add count (end - (start + count)) (drop start held)
-    ∙ ap (λ l. take count (drop start held) ++ take (end - (start + count)) l) (drop-drop count start held)
-    ∙ ap (λ l. l ++ take (end - (start + count)) (drop (start + count) held)) (sym prefix)
+    ap (λ n. take n (drop start buffered)) all ∙ take-add count (end - (start + count)) (drop start buffered)
+    ∙ ap (λ l. take count (drop start buffered) ++ take (end - (start + count)) l) (drop-drop count start buffered)
+    ∙ ap (λ l. l ++ take (end - (start + count)) (drop (start + count) buffered)) (sym prefix)
 
 kept_known : (a b : Option (List ℕ)) → Keeps a b → IfKnown a (λ known. b ≡ Some known)
 kept_known None b kept known is = absurd cc
@@ -86,12 +86,12 @@ pub stays_buffered : (items buf : List ℕ) (len start end count : ℕ) → coun
 stays_buffered items buf len start end count few inside long long' behind =
     let piece = take count (drop start items) in
     let rest = take (end - (start + count)) (drop (start + count) buf) in
-    let held = piece_first items buf start end count few behind in
+    let buffered = piece_first items buf start end count few behind in
     let skipped : drop count (piece ++ rest) ≡ rest =
     ap (λ n. drop n (piece ++ rest)) (sym (piece_length items len start end count few inside long))
     ∙ drop-append_seam piece rest in
     ap (λ l. take (end - (start + count)) (drop (start + count) l)) (all_of items buf len long')
-    ∙ sym (ap (λ l. drop count l) held ∙ skipped)
+    ∙ sym (ap (λ l. drop count l) buffered ∙ skipped)
 
 -- a piece of a buffer was forwarded, and the bytes behind it stay buffered
 pub forwards_buffered : (items buf : List ℕ) (len start end count : ℕ) (below before after : Option (List ℕ))

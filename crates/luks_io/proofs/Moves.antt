@@ -22,7 +22,7 @@ Appends-next a b c xs at n p q =
     subst (Appends a c) (sym (take-add at n xs))
     (Appends-trans a b c (take at xs) (take n (drop at xs)) p (subst (λ l. Appends b c (take n l)) (rest_of xs at) q))
 
--- the first `at` bytes of a buffer stay, and its rest becomes `ys`
+-- the first `at` bytes of a buffer, with `ys` behind them: the first at + n bytes end with the first n of `ys`
 prefix_of : (xs ys rest : List ℕ) (at n : ℕ) → at ≤ length xs → n ≤ length ys
     → take (at + n) (take at xs ++ (ys ++ rest)) ≡ take at xs ++ take n ys
 prefix_of xs ys rest at n within few =

@@ -35,7 +35,7 @@ with_ahead count counts = record {
   ahead = count;
 }
 
--- the number of bytes that are allowed to be read ahead after `count` buffered ones were forwarded, or none
+-- the number of bytes that are allowed to be read ahead after `count` buffered ones, or none of them, were forwarded
 abbrev pub left_ahead : {A : Type 0} → Option A → ℕ → ℕ → ℕ
 left_ahead (Some _) count ahead = ahead - count
 left_ahead None count ahead = ahead

@@ -46,7 +46,7 @@ abbrev pub counted : Bool → ℕ → ℕ
 counted true count = saturating_inc count
 counted false count = count
 
--- a read hit the end: it gave nothing to a buffer of `capacity` bytes that was not empty
+-- a read hit the end: it gave no bytes to a buffer of `capacity` bytes, and `capacity` is not 0
 abbrev pub is_end : {E : Type 0} → Result ℕ E → ℕ → Bool
 is_end (Ok count) capacity = count == 0 && nat_lt 0 capacity
 is_end (Err _) capacity = false
@@ -56,6 +56,6 @@ abbrev pub is_short_read : {E : Type 0} → Result ℕ E → ℕ → Bool
 is_short_read (Ok count) asked = nat_lt count asked
 is_short_read (Err _) asked = false
 
--- a sink accepted between one byte and all of a buffer that has any, and none of an empty one
+-- a sink accepted between one byte and all of a buffer that has any, and none of an empty one, unless the write failed
 abbrev pub AcceptsSome : {E : Type 0} → Result ℕ E → List ℕ → Type 0
 AcceptsSome r buf = MatchResult r (λ n. (n ≤ length buf) × (0 < length buf → 0 < n)) (λ _. Unit {0})

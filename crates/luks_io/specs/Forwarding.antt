@@ -28,5 +28,5 @@ is_aborted (Some (Err _)) = true
 
 -- the bytes that stay buffered
 abbrev pub buffered_after : Option (Result (Unit {0}) WriteFault) → ℕ → List ℕ → List ℕ
-buffered_after None count held = held
-buffered_after (Some _) count held = drop count held
+buffered_after None count buffered = buffered
+buffered_after (Some _) count buffered = drop count buffered

@@ -43,7 +43,7 @@ impl<S> Model for ReadAheadSource<S> {
     ghost view = { λ a.
         record {
           source = a.source;
-          held = slice_range a.buffer.items a.start a.end;
+          buffered = slice_range a.buffer.items a.start a.end;
           capacity = vec_len a.buffer;
           counts = a.counts;
         } };
@@ -80,7 +80,7 @@ impl<S: Source + Drop> ReadAheadSource<S> {
     pub fn new(alloc: Global, capacity: usize, source: S) -> Result<ReadAheadSource<S>, AllocError>
         ensures { IfOk result (λ a. a ≡ record {
           source = source;
-          held = [];
+          buffered = [];
           capacity = capacity;
           counts = unread;
         }) }
@@ -120,18 +120,18 @@ impl<S: Source> ReadAheadSource<S> {
     fn refill(&mut self, count: usize) -> Result<usize, DeviceFault>
         requires capacity { count ≤ self.old.capacity }
         requires allowed { count ≤ self.old.counts.ahead }
-        requires empty { self.old.held ≡ [] }
-        ensures held { MatchResult result (λ n. (n ≤ count) × (length self.new.held ≡ n))
-            (λ _. self.new.held ≡ self.old.held) }
+        requires empty { self.old.buffered ≡ [] }
+        ensures buffered { MatchResult result (λ n. (n ≤ count) × (length self.new.buffered ≡ n))
+            (λ _. self.new.buffered ≡ self.old.buffered) }
         ensures bytes { MatchResult result
-            (λ n. Consumes (S.to_come self.old.source) (S.to_come self.new.source) self.new.held
+            (λ n. Consumes (S.to_come self.old.source) (S.to_come self.new.source) self.new.buffered
             × (n ≡ 0 → 0 < count → IsAtEnd (S.to_come self.new.source)))
             (λ _. Keeps (S.to_come self.old.source) (S.to_come self.new.source)) }
         ensures below { S.counts self.new.source
             ≡ after_read result count (S.counts self.old.source) }
         ensures leaves { self.new ≡ record self.old {
           source = self.new.source;
-          held = self.new.held;
+          buffered = self.new.buffered;
         } }
     {
         self.start = 0;
@@ -143,11 +143,11 @@ impl<S: Source> ReadAheadSource<S> {
 
     /// Copies out as many of the buffered bytes as fit, and returns how many.
     fn copy_out(&mut self, buf: &mut [u8]) -> usize
-        ensures count { result ≡ min (length buf.old) (length self.old.held) }
+        ensures count { result ≡ min (length buf.old) (length self.old.buffered) }
         ensures len { length buf.new ≡ length buf.old }
-        ensures bytes { self.old.held ≡ take result buf.new ++ self.new.held }
-        ensures leaves { self.new ≡ record self.old { held = self.new.held } }
-        ensures allowed { length self.new.held ≤ self.old.counts.ahead - result }
+        ensures bytes { self.old.buffered ≡ take result buf.new ++ self.new.buffered }
+        ensures leaves { self.new ≡ record self.old { buffered = self.new.buffered } }
+        ensures allowed { length self.new.buffered ≤ self.old.counts.ahead - result }
     {
         let (start, end) = (self.start, self.end);
         let count = buf.len().min(end - start);
@@ -164,7 +164,7 @@ impl<S> ReadAheadSource<S> {
         answer: Result<usize, DeviceFault>,
         capacity: usize,
     ) -> Result<usize, DeviceFault>
-        requires { length self.old.held ≤ self.old.counts.ahead - given answer }
+        requires { length self.old.buffered ≤ self.old.counts.ahead - given answer }
         ensures value { result ≡ answer }
         ensures counts { self.new
             ≡ record self.old { counts = after_read answer capacity self.old.counts } }
@@ -176,12 +176,12 @@ impl<S> ReadAheadSource<S> {
 impl<S: Source> ReadAheadSource<S> {
     /// Copies out as many of the buffered bytes as fit, and counts that as a read.
     fn hand_out(&mut self, buf: &mut [u8]) -> Result<usize, DeviceFault>
-        ensures value { result ≡ Ok (min (length buf.old) (length self.old.held)) }
+        ensures value { result ≡ Ok (min (length buf.old) (length self.old.buffered)) }
         ensures len { length buf.new ≡ length buf.old }
-        ensures bytes { self.old.held
-            ≡ take (min (length buf.old) (length self.old.held)) buf.new ++ self.new.held }
+        ensures bytes { self.old.buffered
+            ≡ take (min (length buf.old) (length self.old.buffered)) buf.new ++ self.new.buffered }
         ensures leaves { self.new ≡ record self.old {
-          held = self.new.held;
+          buffered = self.new.buffered;
           counts = after_read result (length buf.old) self.old.counts;
         } }
     {
@@ -193,7 +193,7 @@ impl<S: Source> ReadAheadSource<S> {
 impl<S: Source> Source for ReadAheadSource<S> {
     ghost use Rattle.std.specs.Io.KnownBytes.{prepend_known};
 
-    ghost to_come = { λ a. prepend_known a.held (S.to_come a.source) };
+    ghost to_come = { λ a. prepend_known a.buffered (S.to_come a.source) };
 
     ghost counts = { λ a. a.counts };
 
@@ -202,8 +202,8 @@ impl<S: Source> Source for ReadAheadSource<S> {
     /// whichever is more.
     fn read(&mut self, buf: &mut [u8]) -> Result<usize, DeviceFault>
         ensures bound { ReadsAtMost result buf.new }
-        ensures bytes { ReadConsumes (prepend_known self.old.held (S.to_come self.old.source))
-            (prepend_known self.new.held (S.to_come self.new.source)) result buf.new }
+        ensures bytes { ReadConsumes (prepend_known self.old.buffered (S.to_come self.old.source))
+            (prepend_known self.new.buffered (S.to_come self.new.source)) result buf.new }
         ensures counts { self.new.counts ≡ after_read result (length buf.new) self.old.counts }
         ensures reads { Reads (is_err result) (is_end result (length buf.new))
             (S.counts self.old.source) (S.counts self.new.source) }
@@ -229,9 +229,9 @@ impl<S: Source> Source for ReadAheadSource<S> {
     /// Allows read-ahead for the next `count` bytes, including those that are buffered.
     fn allow_read_ahead(&mut self, count: u64)
         ensures leaves { self.new ≡ record self.old {
-          counts = with_ahead (max count (length self.old.held)) self.old.counts;
+          counts = with_ahead (max count (length self.old.buffered)) self.old.counts;
         } }
-        ensures allowed { length self.old.held ≤ self.old.counts.ahead }
+        ensures allowed { length self.old.buffered ≤ self.old.counts.ahead }
     {
         self.counts.ahead = count.max((self.end - self.start) as u64);
     }
@@ -246,15 +246,16 @@ impl<S: Source> Source for ReadAheadSource<S> {
         requires { C.accepts transform.now count }
         ensures forwards { ForwardEffect result ((self.new ≡ self.old) × (sink.new ≡ sink.old))
             count
-            (C.transformed transform.now) (prepend_known self.old.held (S.to_come self.old.source))
-            (prepend_known self.new.held (S.to_come self.new.source))
+            (C.transformed transform.now)
+            (prepend_known self.old.buffered (S.to_come self.old.source))
+            (prepend_known self.new.buffered (S.to_come self.new.source))
             (O.written sink.old) (O.written sink.new) }
         ensures counts { self.new.counts
             ≡ with_ahead (left_ahead result count self.old.counts.ahead) self.old.counts }
         ensures writes { Writes (is_aborted result) (O.counts sink.old) (O.counts sink.new) }
-        ensures enough { is_some result ≡ nat_le count (length self.old.held) }
+        ensures enough { is_some result ≡ nat_le count (length self.old.buffered) }
         ensures leaves { self.new ≡ record self.old {
-          held = buffered_after result count self.old.held;
+          buffered = buffered_after result count self.old.buffered;
           counts = self.new.counts;
         } }
     {

@@ -79,8 +79,8 @@ impl<'a> Source for MemSource<'a> {
     }
 }
 
-/// Writes into memory that was allocated beforehand. It accepts what still fits; a write to a full
-/// sink fails.
+/// Writes into memory that was allocated beforehand. It accepts what still fits; a write of any
+/// bytes to a full sink fails.
 #[derive(Drop)]
 pub struct MemSink {
     bytes: Vec<u8>,

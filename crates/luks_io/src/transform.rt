@@ -1,6 +1,7 @@
 //! Transformations of bytes on their way from a source to a sink.
 
-ghost use Rattle.std.specs.Prelude.{◌≡◌, ◌<◌, ◌≤◌, ◌+◌, ℕ, List, length, take, drop, is_err, OnOk, IfErr};
+ghost use Rattle.std.specs.Prelude.{◌≡◌, ◌<◌, ◌≤◌, ◌+◌, ℕ, List, length, take, drop, is_err};
+ghost use Rattle.std.specs.Prelude.{OnOk, IfErr};
 ghost use Rattle.luks_io.specs.Devices.{Appended};
 ghost use Rattle.luks_io.specs.Counts.{Writes};
 

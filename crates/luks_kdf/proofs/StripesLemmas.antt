@@ -10,8 +10,8 @@ use Rattle.std.specs.Int.{div_ceil, to_be_bytes, w32}
 use Rattle.luks_kdf.specs.declared.hash.Hash.{Hash}
 use Rattle.luks_kdf.specs.Bytes.{joined, xor}
 use Rattle.luks_kdf.specs.Hash.{hash_of, digest_len}
-use Rattle.luks_kdf.specs.Stripes.{AfSplitterModel, IsSplit, chain_after, chain_of, diffused}
-use Rattle.luks_kdf.specs.Stripes.{diffused_piece, extended, merged, piece_of, stripe_at}
+use Rattle.luks_kdf.specs.Stripes.{AfSplitterModel, IsSplit, splitter_after, splitter_block, diffused}
+use Rattle.luks_kdf.specs.Stripes.{diffused_piece, splitter_with, merged, piece_of, stripe_at}
 use Rattle.luks_kdf.proofs.BytesLemmas.{cut_part, drop_prefix, joined_more, length-xor, xor-undone}
 use Rattle.luks_kdf.proofs.HashLemmas.{length-hash_of, digest_sizes}
 
@@ -102,15 +102,15 @@ length-stripe_at len stripes i there =
     length-take-le len (drop (i * len) stripes) (omega (arith, length-drop (i * len) stripes))
 
 -- the block d keeps the length of the key
-pub length-chain_of : (h : Hash) (len : ℕ) (stripes : List ℕ) (i : ℕ) → i * len ≤ length stripes
-    → length (chain_of h len stripes i) ≡ len
-unfolding chain_of
-length-chain_of h len stripes zero there = length-replicate len 0
-length-chain_of h len stripes (suc i) there =
-    let before = length-chain_of h len stripes i (omega arith) in
+pub length-splitter_block : (h : Hash) (len : ℕ) (stripes : List ℕ) (i : ℕ) → i * len ≤ length stripes
+    → length (splitter_block h len stripes i) ≡ len
+unfolding splitter_block
+length-splitter_block h len stripes zero there = length-replicate len 0
+length-splitter_block h len stripes (suc i) there =
+    let before = length-splitter_block h len stripes i (omega arith) in
     let next = length-stripe_at len stripes i there in
-    length-diffused h (xor (chain_of h len stripes i) (stripe_at len stripes i))
-    ∙ (length-xor (chain_of h len stripes i) (stripe_at len stripes i) (before ∙ sym next) ∙ before)
+    length-diffused h (xor (splitter_block h len stripes i) (stripe_at len stripes i))
+    ∙ (length-xor (splitter_block h len stripes i) (stripe_at len stripes i) (before ∙ sym next) ∙ before)
 
 -- a stripe, and the block d, depend on no byte that comes later
 pub stripe_at-append : (len : ℕ) (xs ys : List ℕ) (i : ℕ) → suc i * len ≤ length xs
@@ -121,15 +121,15 @@ stripe_at-append len xs ys i there =
     ap (take len) (drop-append-le (i * len) xs ys start)
     ∙ take-append-le len (drop (i * len) xs) ys (omega (arith, length-drop (i * len) xs))
 
-pub chain_of-append : (h : Hash) (len : ℕ) (xs ys : List ℕ) (i : ℕ) → i * len ≤ length xs
-    → chain_of h len (xs ++ ys) i ≡ chain_of h len xs i
-unfolding chain_of
-chain_of-append h len xs ys zero there = refl
-chain_of-append h len xs ys (suc i) there =
-    let before = chain_of-append h len xs ys i (omega arith) in
+pub splitter_block-append : (h : Hash) (len : ℕ) (xs ys : List ℕ) (i : ℕ) → i * len ≤ length xs
+    → splitter_block h len (xs ++ ys) i ≡ splitter_block h len xs i
+unfolding splitter_block
+splitter_block-append h len xs ys zero there = refl
+splitter_block-append h len xs ys (suc i) there =
+    let before = splitter_block-append h len xs ys i (omega arith) in
     let next = stripe_at-append len xs ys i there in
     ap (λ d. diffused h (xor d (stripe_at len (xs ++ ys) i))) before
-    ∙ ap (λ s. diffused h (xor (chain_of h len xs i) s)) next
+    ∙ ap (λ s. diffused h (xor (splitter_block h len xs i) s)) next
 
 -- the stripe after i stripes is the last one
 pub stripe_at-last : (len : ℕ) (xs last : List ℕ) (i : ℕ) → length xs ≡ i * len → length last ≡ len
@@ -141,31 +141,31 @@ stripe_at-last len xs last i before whole =
 -- the key that n stripes merge to, from their number n
 pub merged_by_number : (h : Hash) (len : ℕ) (stripes : List ℕ) (n : ℕ) → 0 < len
     → length stripes ≡ n * len
-    → merged h len stripes ≡ xor (chain_of h len stripes (n - 1)) (stripe_at len stripes (n - 1))
+    → merged h len stripes ≡ xor (splitter_block h len stripes (n - 1)) (stripe_at len stripes (n - 1))
 unfolding merged
 merged_by_number h len stripes n some whole =
     let number : length stripes / len ≡ n = ap (λ m. m / len) whole ∙ mul-div_cancel n some in
-    ap (λ m. xor (chain_of h len stripes (m - 1)) (stripe_at len stripes (m - 1))) number
+    ap (λ m. xor (splitter_block h len stripes (m - 1)) (stripe_at len stripes (m - 1))) number
 
 -- the key that stripes merge to, from the last stripe and those before it
 pub merged_push : (h : Hash) (len : ℕ) (before last : List ℕ) (i : ℕ) → 0 < len
     → length before ≡ i * len → length last ≡ len
-    → merged h len (before ++ last) ≡ xor (chain_of h len before i) last
+    → merged h len (before ++ last) ≡ xor (splitter_block h len before i) last
 merged_push h len before last i some whole one =
     let all : length (before ++ last) ≡ (i + 1) * len = omega (arith, length-append before last) in
     let one_less : i + 1 - 1 ≡ i = omega arith in
     merged_by_number h len (before ++ last) (i + 1) some all
-    ∙ (ap (λ m. xor (chain_of h len (before ++ last) m) (stripe_at len (before ++ last) m)) one_less
-    ∙ (ap (λ d. xor d (stripe_at len (before ++ last) i)) (chain_of-append h len before last i (omega arith))
-    ∙ ap (xor (chain_of h len before i)) (stripe_at-last len before last i whole one)))
+    ∙ (ap (λ m. xor (splitter_block h len (before ++ last) m) (stripe_at len (before ++ last) m)) one_less
+    ∙ (ap (λ d. xor d (stripe_at len (before ++ last) i)) (splitter_block-append h len before last i (omega arith))
+    ∙ ap (xor (splitter_block h len before i)) (stripe_at-last len before last i whole one)))
 
 -- with the last stripe of a split, all stripes merge to the key
 merged_last : (h : Hash) (len : ℕ) (random key : List ℕ) (before : ℕ) → 0 < len → length key ≡ len
     → length random ≡ before * len
-    → merged h len (random ++ xor (chain_of h len random before) key) ≡ key
+    → merged h len (random ++ xor (splitter_block h len random before) key) ≡ key
 merged_last h len random key before some is_len whole =
-    let d = chain_of h len random before in
-    let length_d : length d ≡ len = length-chain_of h len random before (omega arith) in
+    let d = splitter_block h len random before in
+    let length_d : length d ≡ len = length-splitter_block h len random before (omega arith) in
     let length_last : length (xor d key) ≡ len = length-xor d key (length_d ∙ sym is_len) ∙ length_d in
     merged_push h len random (xor d key) before some whole length_last
     ∙ xor-undone d key (length_d ∙ sym is_len)
@@ -176,29 +176,29 @@ pub merged_split : (h : Hash) (random key stripes : List ℕ) → 0 < length key
 merged_split h random key stripes some split =
     ap (merged h (length key)) split.2 ∙ merged_last h (length key) random key split.0 some refl split.1
 
--- the chain after one more stripe
+-- the value of a splitter after one more stripe
 pub chain_more : (h : Hash) (len : ℕ) (stripes : List ℕ) (i : ℕ) (chain : AfSplitterModel) (stripe : List ℕ)
-    → chain ≡ chain_after h len stripes i → stripe ≡ stripe_at len stripes i
-    → extended chain stripe ≡ chain_after h len stripes (i + 1)
-unfolding chain_of
+    → chain ≡ splitter_after h len stripes i → stripe ≡ stripe_at len stripes i
+    → splitter_with chain stripe ≡ splitter_after h len stripes (i + 1)
+unfolding splitter_block
 chain_more h len stripes i chain stripe is_chain is_stripe =
     rw add-one
-    (ap (λ (c : AfSplitterModel). extended c stripe) is_chain
-    ∙ ap (λ (s : List ℕ). extended (chain_after h len stripes i) s) is_stripe)
+    (ap (λ (c : AfSplitterModel). splitter_with c stripe) is_chain
+    ∙ ap (λ (s : List ℕ). splitter_with (splitter_after h len stripes i) s) is_stripe)
 
--- the chain before any stripe
+-- the value of a splitter before any stripe
 pub chain_start : (h : Hash) (len : ℕ) (stripes : List ℕ) (chain : AfSplitterModel)
-    → chain ≡ record { hash = h; block = replicate len 0 } → chain ≡ chain_after h len stripes 0
-unfolding chain_of
+    → chain ≡ record { hash = h; block = replicate len 0 } → chain ≡ splitter_after h len stripes 0
+unfolding splitter_block
 chain_start h len stripes chain start = start
 
--- the chain after a stripe that is appended to those before it
+-- the value of a splitter after a stripe that is appended to those before it
 pub chain_push : (h : Hash) (len : ℕ) (before stripe : List ℕ) (i : ℕ) (chain : AfSplitterModel)
-    → length before ≡ i * len → length stripe ≡ len → chain ≡ chain_after h len before i
-    → extended chain stripe ≡ chain_after h len (before ++ stripe) (i + 1)
+    → length before ≡ i * len → length stripe ≡ len → chain ≡ splitter_after h len before i
+    → splitter_with chain stripe ≡ splitter_after h len (before ++ stripe) (i + 1)
 chain_push h len before stripe i chain whole one is_chain =
     let with_block : List ℕ → AfSplitterModel = λ block. record { hash = h; block = block } in
-    let longer = ap with_block (sym (chain_of-append h len before stripe i (omega arith))) in
+    let longer = ap with_block (sym (splitter_block-append h len before stripe i (omega arith))) in
     chain_more h len (before ++ stripe) i chain stripe (is_chain ∙ longer)
     (sym (stripe_at-last len before stripe i whole one))
 
@@ -230,4 +230,4 @@ IsSplit-unique h random key stripes other some one two =
     sym (mul-div_cancel one.0 some)
     ∙ (ap (λ b. b / length key) (sym one.1 ∙ two.1) ∙ mul-div_cancel two.0 some) in
     one.2
-    ∙ (ap (λ n. random ++ xor (chain_of h (length key) random n) key) number ∙ sym two.2)
+    ∙ (ap (λ n. random ++ xor (splitter_block h (length key) random n) key) number ∙ sym two.2)

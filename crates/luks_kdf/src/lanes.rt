@@ -104,7 +104,7 @@ pub(crate) fn derive_in_lanes<E: Lanes>(
     out: &mut [u8],
     work: &mut Work,
 )
-    requires turns { 1 ≤ iterations }
+    requires iterations { 1 ≤ iterations }
     requires some { 1 ≤ length out.old }
     requires capacity { length out.old ≤ 512 }
     ensures key { out.new ≡ derived_key E.function pass.now salt.now iterations (length out.old) }
@@ -141,7 +141,7 @@ fn derive_group<E: Lanes>(
     out: &mut [u8],
     work: &mut Work,
 )
-    requires turns { 1 ≤ iterations }
+    requires iterations { 1 ≤ iterations }
     requires number { number + E.WIDTH < 2 ^ 32 }
     requires some { 1 ≤ length out.old }
     requires capacity { length out.old ≤ E.WIDTH * digest_len E.function }
@@ -177,7 +177,7 @@ fn sum_group<E: Lanes>(
     iterations: u32,
     t: &mut [u8],
 )
-    requires turns { 1 ≤ iterations }
+    requires iterations { 1 ≤ iterations }
     requires number { number + count < 2 ^ 32 }
     requires count { count ≤ E.WIDTH }
     requires capacity { length t.old ≡ E.WIDTH * digest_len E.function }

@@ -4,8 +4,8 @@ ghost use Rattle.std.specs.Prelude.{◌≡◌, ◌+◌, ◌*◌, ◌≤◌, ◌+
 ghost use Rattle.std.specs.Int.{to_be_bytes, w32};
 ghost use Rattle.luks_kdf.specs.Bytes.{xor};
 ghost use Rattle.luks_kdf.specs.Hash.{hash_of, digest_len};
-ghost use Rattle.luks_kdf.specs.Stripes.{AreStripes, AfSplitterModel, IsSplit, chain_after};
-ghost use Rattle.luks_kdf.specs.Stripes.{diffused, extended, merged};
+ghost use Rattle.luks_kdf.specs.Stripes.{AreStripes, AfSplitterModel, IsSplit, splitter_after};
+ghost use Rattle.luks_kdf.specs.Stripes.{diffused, splitter_with, merged};
 
 use crate::Hash;
 use crate::bytes::xor_into;
@@ -53,7 +53,7 @@ impl AfSplitter {
     /// Absorbs the next stripe, which is not the last.
     pub fn stripe(&mut self, stripe: &[u8])
         requires { length stripe.now ≡ length self.old.block }
-        ensures next { self.new ≡ extended self.old stripe.now }
+        ensures next { self.new ≡ splitter_with self.old stripe.now }
         ensures len { length self.new.block ≡ length self.old.block }
     {
         let hash = self.hash;
@@ -105,7 +105,7 @@ fn splitter_after(hash: Hash, len: usize, stripes: &[u8], count: usize) -> AfSpl
     requires some { 1 ≤ len }
     requires capacity { len ≤ 512 }
     requires there { count * len ≤ length stripes.now }
-    ensures start { result ≡ chain_after hash len stripes.now count }
+    ensures start { result ≡ splitter_after hash len stripes.now count }
     ensures len { length result.block ≡ len }
 {
     let mut splitter = AfSplitter::new(hash, len);

@@ -16,20 +16,21 @@ use Rattle.luks_verdict.specs.Slot.{material_end}
 use Rattle.luks_header.specs.declared.header.Header.{Header}
 use Rattle.luks_verdict.specs.declared.segment.Segment.{Segment}
 use Rattle.luks_header.proofs.KnownLemmas.{before_payload}
-use Rattle.luks_open.specs.Candidate.{candidate_by, candidate_of, decrypted_material, material_sector, unlocked}
+use Rattle.luks_open.specs.Candidate.{candidate_by, candidate_of, decrypted_material, material_sector, recovered}
 use Rattle.luks_open.specs.Opening.{first_opening, if_matches_digest, slot_key, opened_or, opening_of, answer_of}
-use Rattle.luks_open.specs.Order.{OrderModel, key_areas_end, order_of}
+use Rattle.luks_open.specs.Order.{OrderModel, key_material_end, order_of}
 use Rattle.luks_open.specs.declared.entry.Entry.{Entry}
 use Rattle.luks_open.specs.declared.opening.Opened.{Opened}
-use Rattle.luks_open.proofs.OrderLemmas.{All-key_areas_end, All-order, IsOf, key_areas_end-le}
+use Rattle.luks_open.proofs.OrderLemmas.{All-key_material_end, All-order, IsOf, key_material_end-le}
 
 -- with an attached header, the key material of all key slots to be tried ends at or before the payload's start
 pub key_areas_before_payload : (header : Header) (segment : Segment) (named limit : Option ℕ) (order : OrderModel)
     → is_detached header ≡ false
     → segment_of header ≡ Ok segment
-    → order_of header named limit ≡ Ok order → key_areas_end order.slots ≤ segment.offset
+    → order_of header named limit ≡ Ok order → key_material_end order.entries ≤ segment.offset
 key_areas_before_payload header segment named limit order attached is_segment is_order =
-    key_areas_end-le segment.offset order.slots (of_entries order.slots (All-order header named limit order is_order))
+    key_material_end-le segment.offset order.entries
+    (of_entries order.entries (All-order header named limit order is_order))
   where
     of_entries : (entries : List Entry) → AllByRecursion (IsOf header limit) entries
         → AllByRecursion (λ (entry : Entry). material_end entry.slot ≤ segment.offset) entries
@@ -40,12 +41,12 @@ key_areas_before_payload header segment named limit order attached is_segment is
     )
 
 -- key material that ends at or before offset n gives the same key from the first n bytes alone
-unlocked_beginning : (af : Hash) (cipher : Cipher) (image : List ℕ) (offset key_bytes stripes n : ℕ)
+recovered_beginning : (af : Hash) (cipher : Cipher) (image : List ℕ) (offset key_bytes stripes n : ℕ)
     → offset + need_of key_bytes stripes ≤ n
-    → unlocked af cipher (take n image) offset key_bytes stripes
-    ≡ unlocked af cipher image offset key_bytes stripes
-unfolding unlocked decrypted_material
-unlocked_beginning af cipher image offset key_bytes stripes n before =
+    → recovered af cipher (take n image) offset key_bytes stripes
+    ≡ recovered af cipher image offset key_bytes stripes
+unfolding recovered decrypted_material
+recovered_beginning af cipher image offset key_bytes stripes n before =
     let sectors : (i : ℕ) → i < need_of key_bytes stripes / 512
     → material_sector cipher (take n image) offset i ≡ material_sector cipher image offset i =
     λ i below. ap (sector_decrypted cipher.0 cipher.1 i) (at_beginning (offset + 512 * i) 512 n image (omega arith)) in
@@ -65,7 +66,7 @@ key_beginning entry n image pass before =
         ≡ candidate_by kdf af mode entry.slot.parts image pass
     of_read (Some kdf) (Some af) (Some mode) =
         let parts = entry.slot.parts in
-        ap Some (unlocked_beginning af
+        ap Some (recovered_beginning af
         (mode, derived_key kdf pass parts.salt parts.iterations parts.area_key_bytes) image
         parts.area_offset parts.key_bytes parts.stripes n before)
     of_read (Some kdf) (Some af) None = refl
@@ -73,12 +74,12 @@ key_beginning entry n image pass before =
     of_read None af mode = refl
 
 -- the bytes of the image behind the key material do not change what a passphrase opens
-pub opening_beginning : (order : OrderModel) (n : ℕ) (image pass : List ℕ) → key_areas_end order.slots ≤ n
+pub opening_beginning : (order : OrderModel) (n : ℕ) (image pass : List ℕ) → key_material_end order.entries ≤ n
     → opening_of order (take n image) pass ≡ opening_of order image pass
 unfolding opening_of first_opening
 opening_beginning order n image pass loaded =
     ap (λ (first : Option Opened). answer_of first order.skipped)
-    (of_entries order.slots (All-key_areas_end n order.slots loaded))
+    (of_entries order.entries (All-key_material_end n order.entries loaded))
   where
     of_entries : (entries : List Entry) → AllByRecursion (λ (entry : Entry). material_end entry.slot ≤ n) entries
         → first_opening entries (take n image) pass ≡ first_opening entries image pass

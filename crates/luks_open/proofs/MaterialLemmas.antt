@@ -9,10 +9,10 @@ use Rattle.luks_cipher.specs.Sector.{Cipher, is_key_length}
 use Rattle.luks_cipher.specs.Xts.{joined}
 use Rattle.luks_kdf.specs.declared.hash.Hash.{Hash}
 use Rattle.luks_kdf.specs.Bytes.{xor}
-use Rattle.luks_kdf.specs.Stripes.{AfSplitterModel, chain_after, extended, merged}
+use Rattle.luks_kdf.specs.Stripes.{AfSplitterModel, splitter_after, splitter_with, merged}
 use Rattle.luks_kdf.proofs.StripesLemmas.{chain_push, chain_start, merged_push}
 use Rattle.luks_verdict.specs.Rule.{need_of}
-use Rattle.luks_open.specs.Candidate.{decrypted_material, material_sector, unlocked}
+use Rattle.luks_open.specs.Candidate.{decrypted_material, material_sector, recovered}
 
 -- a key is 16, 32 or 64 bytes long
 one_of_three : (len : ℕ) → is_key_length len ≡ true → (len ≡ 16) ⊎ (len ≡ 32) ⊎ (len ≡ 64)
@@ -81,8 +81,8 @@ in_sectors len stripes whole rest is some is_whole is_rest = of_len (one_of_thre
 pub chain_more_stripes : (h : Hash) (len : ℕ) (before stripes stripe : List ℕ) (number i : ℕ) (chain : AfSplitterModel)
     → (i + 1) * len ≤ length stripes
     → length before ≡ number * len → stripe ≡ take len (drop (i * len) stripes)
-    → chain ≡ chain_after h len (before ++ take (i * len) stripes) (number + i)
-    → extended chain stripe ≡ chain_after h len (before ++ take ((i + 1) * len) stripes) (number + (i + 1))
+    → chain ≡ splitter_after h len (before ++ take (i * len) stripes) (number + i)
+    → splitter_with chain stripe ≡ splitter_after h len (before ++ take ((i + 1) * len) stripes) (number + (i + 1))
 chain_more_stripes h len before stripes stripe number i chain there whole is_stripe is =
     let prefix = take (i * len) stripes in
     let one : length stripe ≡ len = ap length is_stripe
@@ -96,8 +96,8 @@ chain_more_stripes h len before stripes stripe number i chain there whole is_str
     ∙ (sym (take-add (i * len) len stripes) ∙ ap (λ n. take n stripes) (next i len))) in
     let count : number + i + 1 ≡ number + (i + 1) = omega arith in
     chain_push h len (before ++ prefix) stripe (number + i) chain all one is
-    ∙ (ap (λ s. chain_after h len s (number + i + 1)) further
-    ∙ ap (λ n. chain_after h len (before ++ take ((i + 1) * len) stripes) n) count)
+    ∙ (ap (λ s. splitter_after h len s (number + i + 1)) further
+    ∙ ap (λ n. splitter_after h len (before ++ take ((i + 1) * len) stripes) n) count)
   where
     next : (i len : ℕ) → i * len + len ≡ (i + 1) * len
     next i len = omega arith
@@ -147,7 +147,7 @@ whole_sectors number in_sector len fits = ap (λ n. number * n) (sym fits) ∙ s
 -- the chain before any sector
 pub sectors_none : (h : Hash) (len in_sector : ℕ) (f : ℕ → List ℕ) (chain : AfSplitterModel)
     → chain ≡ record { hash = h; block = replicate len 0 }
-    → chain ≡ chain_after h len (joined f 0) (0 * in_sector)
+    → chain ≡ splitter_after h len (joined f 0) (0 * in_sector)
 sectors_none h len in_sector f chain start =
     let nothing : 0 * in_sector ≡ 0 = omega arith in
     rw nothing (chain_start h len (joined f 0) chain start)
@@ -155,30 +155,30 @@ sectors_none h len in_sector f chain start =
 -- the chain after one more sector
 pub sector_more : (h : Hash) (len in_sector : ℕ) (f : ℕ → List ℕ) (i : ℕ) (sector : List ℕ) (chain : AfSplitterModel)
     → in_sector * len ≡ 512 → sector ≡ f i → length sector ≡ 512
-    → chain ≡ chain_after h len (joined f i ++ take (in_sector * len) sector) (i * in_sector + in_sector)
-    → chain ≡ chain_after h len (joined f (i + 1)) ((i + 1) * in_sector)
+    → chain ≡ splitter_after h len (joined f i ++ take (in_sector * len) sector) (i * in_sector + in_sector)
+    → chain ≡ splitter_after h len (joined f (i + 1)) ((i + 1) * in_sector)
 unfolding joined
 sector_more h len in_sector f i sector chain fits is whole h_is =
     let all : take (in_sector * len) sector ≡ f i = ap (λ n. take n sector) fits
     ∙ (take_all 512 sector (omega arith) ∙ is) in
     let count : i * in_sector + in_sector ≡ suc i * in_sector = omega arith in
     rw add-one (h_is
-    ∙ (ap (λ s. chain_after h len (joined f i ++ s) (i * in_sector + in_sector)) all
-    ∙ ap (λ n. chain_after h len (joined f i ++ f i) n) count))
+    ∙ (ap (λ s. splitter_after h len (joined f i ++ s) (i * in_sector + in_sector)) all
+    ∙ ap (λ n. splitter_after h len (joined f i ++ f i) n) count))
 
 -- the key that key material holds, computed from the chain before the last stripe
-pub unlocked_by_last : (h : Hash) (key : Cipher) (image : List ℕ) (offset len stripes whole rest : ℕ) (sector last :
+pub recovered_by_last : (h : Hash) (key : Cipher) (image : List ℕ) (offset len stripes whole rest : ℕ) (sector last :
     List ℕ)
     (chain : AfSplitterModel)
     → AreInSectors len stripes whole rest
     → length (joined (material_sector key image offset) whole) ≡ whole * 512
     → sector ≡ material_sector key image offset whole → length sector ≡ 512
     → last ≡ take len (drop (rest * len) sector)
-    → chain ≡ chain_after h len (joined (material_sector key image offset) whole ++ take (rest * len) sector)
+    → chain ≡ splitter_after h len (joined (material_sector key image offset) whole ++ take (rest * len) sector)
     (whole * (512 / len) + rest)
-    → xor chain.block last ≡ unlocked h key image offset len stripes
-unfolding unlocked decrypted_material
-unlocked_by_last h key image offset len stripes whole rest sector last chain place before is_sector full is_last
+    → xor chain.block last ≡ recovered h key image offset len stripes
+unfolding recovered decrypted_material
+recovered_by_last h key image offset len stripes whole rest sector last chain place before is_sector full is_last
     is_chain =
     let f = material_sector key image offset in
     let prefix = joined f whole ++ take (rest * len) sector in

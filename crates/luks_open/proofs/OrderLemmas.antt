@@ -6,7 +6,7 @@ use Rattle.std.specs.List.{AllByRecursion}
 use Rattle.std.proofs.lemmas.Bool.{eq-eqb}
 use Rattle.std.proofs.lemmas.List.{drop_more}
 use Rattle.std.proofs.lemmas.Option.{same_Some}
-use Rattle.luks_area.specs.Area.{max_area_len}
+use Rattle.luks_area.specs.Area.{max_loaded_len}
 use Rattle.luks_verdict.specs.Rule.{max_slots}
 use Rattle.luks_verdict.specs.Slot.{material_end, verdict_kind_of}
 use Rattle.luks_verdict.specs.Table.{ascending}
@@ -15,14 +15,14 @@ use Rattle.luks_verdict.specs.declared.refusal.SkipReason.{SkipReason}
 use Rattle.luks_verdict.specs.declared.slot.Slot.{Slot}
 use Rattle.luks_verdict.specs.declared.slot.Verdict.{Verdict}
 use Rattle.luks_verdict.specs.declared.slot.Verdict.TheVariants.{Usable, Disabled, Skipped}
-use Rattle.luks_verdict.specs.declared.slot.VerdictKind.TheVariants.{Usable as Open}
+use Rattle.luks_verdict.specs.declared.slot.VerdictKind.TheVariants.{Usable as KindUsable}
 use Rattle.luks_verdict.proofs.VerdictLemmas.{usable_from_open}
 use Rattle.luks_verdict.proofs.TableLemmas.{AllByRecursion-append, All-ascending}
 use Rattle.luks_header.specs.HeaderDigests.{digest_for}
 use Rattle.luks_header.specs.SlotVerdicts.{verdict_at}
 use Rattle.luks_header.specs.declared.header.Header.{Header}
 use Rattle.luks_header.proofs.KnownLemmas.{digest_of_usable}
-use Rattle.luks_open.specs.Order.{OrderModel, entries_of, entry_at, entry_of, key_areas_end, order_of, skipped_at}
+use Rattle.luks_open.specs.Order.{OrderModel, entries_of, entry_at, entry_of, key_material_end, order_of, skipped_at}
 use Rattle.luks_open.specs.Order.{order_of_all, order_of_named, unless_none, usable_at, usable_with_priority}
 use Rattle.luks_open.specs.declared.entry.Entry.{Entry}
 
@@ -86,15 +86,15 @@ usable_at-some header limit priority number entry is = of_verdict (verdict_at he
 
 -- if an order is made from entries, it has exactly these
 order-unless_none : (entries : List Entry) (skipped : List (ℕ × SkipReason)) (order : OrderModel)
-    → unless_none entries skipped ≡ Ok order → entries ≡ order.slots
+    → unless_none entries skipped ≡ Ok order → entries ≡ order.entries
 order-unless_none [] skipped order is = absurd cc
 order-unless_none (entry ∷ entries) skipped order is =
-    let same : record { slots = entry ∷ entries; skipped = skipped }
-    ≡ order = cc in ap (λ (t : OrderModel). t.slots) same
+    let same : record { entries = entry ∷ entries; skipped = skipped }
+    ≡ order = cc in ap (λ (t : OrderModel). t.entries) same
 
 -- all entries of an order are ones of the header
 pub All-order : (header : Header) (named limit : Option ℕ) (order : OrderModel) → order_of header named limit ≡ Ok order
-    → AllByRecursion (IsOf header limit) order.slots
+    → AllByRecursion (IsOf header limit) order.entries
 unfolding order_of order_of_all
 All-order header None limit order is =
     subst (AllByRecursion (IsOf header limit))
@@ -110,14 +110,14 @@ All-order header (Some number) limit order is = of_verdict (verdict_at header li
     of_entry (Some entry) e = (entry_at-some header limit number entry e, tt)
 
     of_verdict : (verdict : Option Verdict) → order_of_named (entry_at header limit number) verdict ≡ Ok order
-        → AllByRecursion (IsOf header limit) order.slots
+        → AllByRecursion (IsOf header limit) order.entries
     of_verdict None h = absurd cc
     of_verdict (Some Disabled) h = absurd cc
     of_verdict (Some (Skipped reason)) h = absurd cc
     of_verdict (Some (Usable slot)) h =
-        let alone : OrderModel = record { slots = entries_of (entry_at header limit number); skipped = [] } in
+        let alone : OrderModel = record { entries = entries_of (entry_at header limit number); skipped = [] } in
         let same : alone ≡ order = cc in
-        subst (λ (t : OrderModel). AllByRecursion (IsOf header limit) t.slots) same
+        subst (λ (t : OrderModel). AllByRecursion (IsOf header limit) t.entries) same
         (of_entry (entry_at header limit number) refl)
 
 -- ---- headers with a key slot to try
@@ -130,7 +130,7 @@ some_tried (entry ∷ entries) skipped some = refl
 
 -- a key slot whose verdict is that it can be tried with this priority has an entry of this priority
 pub usable_there : (header : Header) (limit : Option ℕ) (priority number : ℕ)
-    → option_map verdict_kind_of (verdict_at header limit number) ≡ Some (Open priority)
+    → option_map verdict_kind_of (verdict_at header limit number) ≡ Some (KindUsable priority)
     → IsSome (usable_at header limit priority number)
 usable_there header limit priority number is =
     let usable = usable_from_open (verdict_at header limit number) priority is in
@@ -140,33 +140,34 @@ usable_there header limit priority number is =
 -- ---- the end of the last key material
 
 -- all key material ends at or before an offset if and only if that of each key slot does
-pub key_areas_end-le : (most : ℕ) (entries : List Entry)
-    → AllByRecursion (λ (entry : Entry). material_end entry.slot ≤ most) entries → key_areas_end entries ≤ most
-unfolding key_areas_end
-key_areas_end-le most [] all = omega arith
-key_areas_end-le most (entry ∷ entries) all = omega (arith, key_areas_end-le most entries all.1, all.0)
+pub key_material_end-le : (most : ℕ) (entries : List Entry)
+    → AllByRecursion (λ (entry : Entry). material_end entry.slot ≤ most) entries → key_material_end entries ≤ most
+unfolding key_material_end
+key_material_end-le most [] all = omega arith
+key_material_end-le most (entry ∷ entries) all = omega (arith, key_material_end-le most entries all.1, all.0)
 
-pub All-key_areas_end : (most : ℕ) (entries : List Entry) → key_areas_end entries ≤ most
+pub All-key_material_end : (most : ℕ) (entries : List Entry) → key_material_end entries ≤ most
     → AllByRecursion (λ (entry : Entry). material_end entry.slot ≤ most) entries
-unfolding key_areas_end
-All-key_areas_end most [] all = tt
-All-key_areas_end most (entry ∷ entries) all = (omega arith, All-key_areas_end most entries (omega arith))
+unfolding key_material_end
+All-key_material_end most [] all = tt
+All-key_material_end most (entry ∷ entries) all = (omega arith, All-key_material_end most entries (omega arith))
 
 -- key material that can be used ends within the bytes that can be loaded of an image
-pub key_areas_end-within : (entries : List Entry) → key_areas_end entries ≤ max_area_len
-unfolding key_areas_end
-key_areas_end-within [] = omega arith
-key_areas_end-within (entry ∷ entries) = omega (arith, key_areas_end-within entries, entry.slot.in_range.held)
+pub key_material_end-within : (entries : List Entry) → key_material_end entries ≤ max_loaded_len
+unfolding key_material_end
+key_material_end-within [] = omega arith
+key_material_end-within (entry ∷ entries) = omega (arith, key_material_end-within entries, entry.slot.in_range.loadable)
 
 -- the remaining key material ends where that of the next key slot or of those after it ends, whichever is later
-pub key_areas_end-drop : (entries : List Entry) (i : ℕ) (entry : Entry) → i < length entries
+pub key_material_end-drop : (entries : List Entry) (i : ℕ) (entry : Entry) → i < length entries
     → entry ≡ get_or entries i entry
-    → key_areas_end (drop i entries) ≡ max (material_end entry.slot) (key_areas_end (drop (i + 1) entries))
-unfolding key_areas_end
-key_areas_end-drop entries i entry there is =
-    ap key_areas_end (drop_more entries i entry there) ∙ ap (λ (e : Entry). key_areas_end (e ∷ drop (i + 1) entries))
+    → key_material_end (drop i entries) ≡ max (material_end entry.slot) (key_material_end (drop (i + 1) entries))
+unfolding key_material_end
+key_material_end-drop entries i entry there is =
+    ap key_material_end (drop_more entries i entry there)
+    ∙ ap (λ (e : Entry). key_material_end (e ∷ drop (i + 1) entries))
     (sym is)
 
-pub key_areas_end-nil : key_areas_end [] ≡ 0
-unfolding key_areas_end
-key_areas_end-nil = refl
+pub key_material_end-nil : key_material_end [] ≡ 0
+unfolding key_material_end
+key_material_end-nil = refl

@@ -9,19 +9,20 @@ use Rattle.luks_verdict.specs.declared.segment.Segment.{Segment}
 use Rattle.luks_header.specs.HeaderSegment.{segment_of}
 use Rattle.luks_header.specs.declared.header.Header.{Header}
 use Rattle.luks_header.proofs.KnownLemmas.{known_usable}
-use Rattle.luks_open.specs.Order.{OrderModel, key_areas_end, order_of}
+use Rattle.luks_open.specs.Order.{OrderModel, key_material_end, order_of}
 use Rattle.luks_open.specs.Trial.{IsTriable}
 use Rattle.luks_open.specs.declared.entry.Entry.{Entry}
-use Rattle.luks_open.proofs.OrderLemmas.{All-key_areas_end, All-order, IsOf}
+use Rattle.luks_open.proofs.OrderLemmas.{All-key_material_end, All-order, IsOf}
 
 -- the key slots to be tried are triable if their key material is loaded
 pub All-IsTriable : (header : Header) (segment : Segment) (named limit : Option ℕ) (order : OrderModel) (loaded : ℕ)
     → segment_of header ≡ Ok segment
-    → order_of header named limit ≡ Ok order → key_areas_end order.slots ≤ loaded
-    → All (λ (entry : Entry). IsTriable loaded entry.slot) order.slots
+    → order_of header named limit ≡ Ok order → key_material_end order.entries ≤ loaded
+    → All (λ (entry : Entry). IsTriable loaded entry.slot) order.entries
 All-IsTriable header segment named limit order loaded is_segment is_order there =
-    All-from_recursion (λ (entry : Entry). IsTriable loaded entry.slot) order.slots
-    (of_entries order.slots (All-order header named limit order is_order) (All-key_areas_end loaded order.slots there))
+    All-from_recursion (λ (entry : Entry). IsTriable loaded entry.slot) order.entries
+    (of_entries order.entries (All-order header named limit order is_order)
+    (All-key_material_end loaded order.entries there))
   where
     of_entry : (entry : Entry) → IsOf header limit entry → material_end entry.slot ≤ loaded
         → IsTriable loaded entry.slot
@@ -44,10 +45,10 @@ All-IsTriable header segment named limit order loaded is_segment is_order there 
 -- the volume keys of the key slots to be tried have lengths that the segment's mode allows
 pub All-volume_key : (header : Header) (segment : Segment) (named limit : Option ℕ) (order : OrderModel)
     → segment_of header ≡ Ok segment → order_of header named limit ≡ Ok order
-    → All (λ (entry : Entry). is_mode_key_length segment.mode entry.slot.parts.key_bytes ≡ true) order.slots
+    → All (λ (entry : Entry). is_mode_key_length segment.mode entry.slot.parts.key_bytes ≡ true) order.entries
 All-volume_key header segment named limit order is_segment is_order =
     All-from_recursion (λ (entry : Entry). is_mode_key_length segment.mode entry.slot.parts.key_bytes ≡ true)
-    order.slots (of_entries order.slots (All-order header named limit order is_order))
+    order.entries (of_entries order.entries (All-order header named limit order is_order))
   where
     of_entries : (entries : List Entry) → AllByRecursion (IsOf header limit) entries
         → AllByRecursion (λ (entry : Entry). is_mode_key_length segment.mode entry.slot.parts.key_bytes ≡ true) entries

@@ -23,15 +23,15 @@ unfoldable pub decrypted_material : Cipher → List ℕ → ℕ → ℕ → List
 decrypted_material cipher image offset need = joined (material_sector cipher image offset) (need / 512)
 
 -- the key that key material holds: its first stripes, of `key_bytes` bytes each, merged
-unfoldable pub unlocked : Hash → Cipher → List ℕ → ℕ → ℕ → ℕ → List ℕ
-unlocked af cipher image offset key_bytes stripes =
+unfoldable pub recovered : Hash → Cipher → List ℕ → ℕ → ℕ → ℕ → List ℕ
+recovered af cipher image offset key_bytes stripes =
     merged af key_bytes (take (key_bytes * stripes) (decrypted_material cipher image offset
     (need_of key_bytes stripes)))
 
 -- the key that a key slot's material holds under a passphrase, with these hash functions and this mode
 abbrev pub candidate_by : Option Hash → Option Hash → Option Mode → SlotParts → List ℕ → List ℕ → Option (List ℕ)
 candidate_by (Some kdf) (Some af) (Some mode) parts image pass =
-    Some (unlocked af (mode, derived_key kdf pass parts.salt parts.iterations parts.area_key_bytes) image
+    Some (recovered af (mode, derived_key kdf pass parts.salt parts.iterations parts.area_key_bytes) image
     parts.area_offset parts.key_bytes parts.stripes)
 candidate_by _ _ _ parts image pass = None
 

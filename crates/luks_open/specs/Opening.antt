@@ -13,7 +13,7 @@ use Rattle.luks_open.specs.declared.fault.OpenFault.{OpenFault}
 use Rattle.luks_open.specs.declared.fault.OpenFault.TheVariants.{NoKey}
 use Rattle.luks_open.specs.declared.opening.Opened.{Opened}
 
--- a candidate that matches the digest is the volume key
+-- the candidate, if it matches the digest
 abbrev pub if_matches_digest : KeyDigest → Option (List ℕ) → Option (List ℕ)
 if_matches_digest digest None = None
 if_matches_digest digest (Some key) = if matches_digest digest key then Some key else None
@@ -40,7 +40,7 @@ answer_of None skipped = Err (NoKey skipped)
 
 -- the first of the key slots to be tried that a passphrase opens, or the fault if it opens none
 unfoldable pub opening_of : OrderModel → List ℕ → List ℕ → Result Opened OpenFault
-opening_of order image pass = answer_of (first_opening order.slots image pass) order.skipped
+opening_of order image pass = answer_of (first_opening order.entries image pass) order.skipped
 
 -- the number of HMAC evaluations with which PBKDF2 derives `bytes` bytes
 abbrev pub evaluations : Option Hash → ℕ → ℕ → ℕ
@@ -61,4 +61,4 @@ tried_of (entry ∷ entries) image pass = entry
 
 -- the evaluations of HMAC that opening costs: those of all key slots that are tried
 unfoldable pub work_of : OrderModel → List ℕ → List ℕ → ℕ
-work_of order image pass = sum_by evaluations_of (tried_of order.slots image pass)
+work_of order image pass = sum_by evaluations_of (tried_of order.entries image pass)

@@ -7,7 +7,7 @@ use Rattle.luks_verdict.specs.Table.{ascending}
 use Rattle.luks_verdict.specs.declared.digest.KeyDigest.{KeyDigest}
 use Rattle.luks_verdict.specs.declared.refusal.SkipReason.{SkipReason}
 use Rattle.luks_verdict.specs.declared.slot.Verdict.{Verdict}
-use Rattle.luks_verdict.specs.declared.slot.Verdict.TheVariants.{Usable, Skipped, Disabled as Unused}
+use Rattle.luks_verdict.specs.declared.slot.Verdict.TheVariants.{Usable, Skipped, Disabled as VerdictDisabled}
 use Rattle.luks_header.specs.HeaderDigests.{digest_for}
 use Rattle.luks_header.specs.SlotVerdicts.{verdict_at}
 use Rattle.luks_header.specs.declared.header.Header.{Header}
@@ -19,7 +19,7 @@ use Rattle.luks_open.specs.declared.fault.OpenFault.TheVariants.{Memory}
 -- the key slots to be tried, and those that are skipped
 pub record OrderModel : Type 0 where
   -- the key slots with their numbers and digests, in the order in which they are tried
-  pub slots : List Entry
+  pub entries : List Entry
   -- the key slots that were skipped, by ascending number; empty if a key slot was named
   pub skipped : List (ℕ × SkipReason)
 
@@ -35,10 +35,11 @@ entry_at header limit number = entry_of number (verdict_at header limit number) 
 -- this entry, if the key slot has this priority
 abbrev pub usable_with_priority : ℕ → Option Entry → Option Verdict → Option Entry
 usable_with_priority priority entry (Some (Usable slot)) = if slot.parts.priority == priority then entry else None
-usable_with_priority priority entry (Some Unused) = None
+usable_with_priority priority entry (Some VerdictDisabled) = None
 usable_with_priority priority entry (Some (Skipped reason)) = None
 usable_with_priority priority entry None = None
 
+-- the entry of the key slot of this number, if it can be tried and has this priority
 abbrev pub usable_at : Header → Option ℕ → ℕ → ℕ → Option Entry
 usable_at header limit priority number =
     usable_with_priority priority (entry_at header limit number)
@@ -47,17 +48,18 @@ usable_at header limit priority number =
 -- the number of a key slot and the reason why it is skipped, if it is
 abbrev pub skipped_with_reason : ℕ → Option Verdict → Option (ℕ × SkipReason)
 skipped_with_reason number (Some (Usable slot)) = None
-skipped_with_reason number (Some Unused) = None
+skipped_with_reason number (Some VerdictDisabled) = None
 skipped_with_reason number (Some (Skipped reason)) = Some (number, reason)
 skipped_with_reason number None = None
 
+-- the number of this key slot and the reason why it is skipped, if it is
 abbrev pub skipped_at : Header → Option ℕ → ℕ → Option (ℕ × SkipReason)
 skipped_at header limit number = skipped_with_reason number (verdict_at header limit number)
 
 -- the order that tries these key slots, or the fault if there are none
 abbrev pub unless_none : List Entry → List (ℕ × SkipReason) → Result OrderModel OpenFault
 unless_none [] skipped = Err (NothingTried skipped)
-unless_none (entry ∷ entries) skipped = Ok record { slots = entry ∷ entries; skipped = skipped }
+unless_none (entry ∷ entries) skipped = Ok record { entries = entry ∷ entries; skipped = skipped }
 
 -- the order if no key slot is named: those of priority 2, then those of priority 1, each by ascending number
 unfoldable pub order_of_all : Header → Option ℕ → Result OrderModel OpenFault
@@ -73,8 +75,8 @@ entries_of None = []
 -- the order if a key slot with this verdict is named: it alone is tried, whatever its priority
 abbrev pub order_of_named : Option Entry → Option Verdict → Result OrderModel OpenFault
 order_of_named entry None = Err NoSuchSlot
-order_of_named entry (Some (Usable slot)) = Ok record { slots = entries_of entry; skipped = [] }
-order_of_named entry (Some Unused) = Err Disabled
+order_of_named entry (Some (Usable slot)) = Ok record { entries = entries_of entry; skipped = [] }
+order_of_named entry (Some VerdictDisabled) = Err Disabled
 order_of_named entry (Some (Skipped reason)) = Err (NamedSkipped reason)
 
 -- the key slots of a header to be tried, by the named key slot and the limit on iterations, or why there are none
@@ -88,6 +90,6 @@ IsOrMemory stated answer =
     MatchResult answer (λ value. stated ≡ Ok value) (λ fault. (fault ≡ Memory) ⊎ (stated ≡ Err fault))
 
 -- the end of the last key material of these key slots
-unfoldable pub key_areas_end : List Entry → ℕ
-key_areas_end [] = 0
-key_areas_end (entry ∷ entries) = max (material_end entry.slot) (key_areas_end entries)
+unfoldable pub key_material_end : List Entry → ℕ
+key_material_end [] = 0
+key_material_end (entry ∷ entries) = max (material_end entry.slot) (key_material_end entries)

@@ -6,7 +6,7 @@ ghost use Rattle.luks_cipher.specs.Sector.{is_key_length};
 ghost use Rattle.luks_kdf.specs.Hash.{digest_len};
 ghost use Rattle.luks_kdf.specs.Pbkdf2.{capped, derived_key};
 ghost use Rattle.luks_verdict.specs.Rule.{max_stripes, need_of};
-ghost use Rattle.luks_open.specs.Candidate.{unlocked};
+ghost use Rattle.luks_open.specs.Candidate.{recovered};
 
 use crate::material;
 use luks_cipher::SectorCipher;
@@ -45,7 +45,7 @@ impl Key {
 
     // Writes the key that PBKDF2 derives from a passphrase or a candidate key.
     fn derive(&mut self, hash: Hash, secret: &[u8], salt: &[u8], iterations: u32, work: &mut Work)
-        requires turns { 1 ≤ iterations }
+        requires iterations { 1 ≤ iterations }
         requires some { 1 ≤ length self.old }
         ensures key { self.new ≡ derived_key hash secret.now salt.now iterations (length self.old) }
         ensures work { work.new ≡ capped (work.old
@@ -57,17 +57,17 @@ impl Key {
     }
 
     // Writes the volume key that the key material from `offset` on holds.
-    fn unlock(&mut self, af: Hash, key: &SectorCipher, image: &[u8], offset: usize, stripes: usize)
+    fn recover(&mut self, af: Hash, key: &SectorCipher, image: &[u8], offset: usize, stripes: usize)
         requires key_bytes { is_key_length (length self.old) ≡ true }
         requires some { 1 ≤ stripes }
         requires few { stripes ≤ max_stripes }
         requires there { offset + need_of (length self.old) stripes ≤ length image.now }
-        ensures key { self.new ≡ unlocked af key.now image.now offset (length self.old) stripes }
+        ensures key { self.new ≡ recovered af key.now image.now offset (length self.old) stripes }
         ensures len { length self.new ≡ length self.old }
     {
         let len = self.len;
         let bytes = &mut self.bytes[..len];
-        material::unlock(af, key, image, offset, stripes, bytes);
+        material::recover(af, key, image, offset, stripes, bytes);
     }
 
     /// The key of `len` bytes that PBKDF2 derives from a passphrase or from a candidate key.
@@ -79,7 +79,7 @@ impl Key {
         len: usize,
         work: &mut Work,
     ) -> Key
-        requires turns { 1 ≤ iterations }
+        requires iterations { 1 ≤ iterations }
         requires some { 1 ≤ len }
         requires capacity { len ≤ 64 }
         ensures key { result ≡ derived_key hash secret.now salt.now iterations len }
@@ -91,7 +91,7 @@ impl Key {
     }
 
     /// The volume key of `len` bytes that the key material from `offset` on holds.
-    pub(crate) fn unlocked(
+    pub(crate) fn recovered(
         af: Hash,
         key: &SectorCipher,
         image: &[u8],
@@ -103,11 +103,11 @@ impl Key {
         requires some { 1 ≤ stripes }
         requires few { stripes ≤ max_stripes }
         requires there { offset + need_of len stripes ≤ length image.now }
-        ensures key { result ≡ unlocked af key.now image.now offset len stripes }
+        ensures key { result ≡ recovered af key.now image.now offset len stripes }
         ensures len { length result ≡ len }
     {
         let mut volume_key = Key::blank(len);
-        volume_key.unlock(af, key, image, offset, stripes);
+        volume_key.recover(af, key, image, offset, stripes);
         volume_key
     }
 

@@ -4,9 +4,9 @@
 ghost use Rattle.std.specs.Prelude.{◌≡◌, ◌+◌, ◌*◌, ◌≤◌, ◌++◌, List, ℕ, true, length, take};
 ghost use Rattle.luks_cipher.specs.Sector.{is_key_length};
 ghost use Rattle.luks_kdf.specs.declared.hash.Hash.{Hash as AnyHash};
-ghost use Rattle.luks_kdf.specs.Stripes.{chain_after};
+ghost use Rattle.luks_kdf.specs.Stripes.{splitter_after};
 ghost use Rattle.luks_verdict.specs.Rule.{max_stripes, need_of};
-ghost use Rattle.luks_open.specs.Candidate.{material_sector, unlocked};
+ghost use Rattle.luks_open.specs.Candidate.{material_sector, recovered};
 
 use luks_cipher::SectorCipher;
 use luks_kdf::{AfSplitter, Hash};
@@ -31,9 +31,9 @@ fn absorb_stripes(splitter: &mut AfSplitter, stripes: &[u8], len: usize, count: 
     requires there { count * len ≤ length stripes.now }
     ensures absorbed { (hash : AnyHash) (before : List ℕ) (number : ℕ)
         → length before ≡ number * len
-        → splitter.old ≡ chain_after hash len before number
+        → splitter.old ≡ splitter_after hash len before number
         → splitter.new
-        ≡ chain_after hash len (before ++ take (count * len) stripes.now) (number + count) }
+        ≡ splitter_after hash len (before ++ take (count * len) stripes.now) (number + count) }
     ensures len { length splitter.new.block ≡ len }
 {
     'stripes: for i in 0..count {
@@ -41,9 +41,9 @@ fn absorb_stripes(splitter: &mut AfSplitter, stripes: &[u8], len: usize, count: 
     }
 }
 
-// Merges the stripes in the key material into the key that they hold, as `unlock` below does. It
+// Merges the stripes in the key material into the key that they hold, as `recover` below does. It
 // decrypts one sector at a time into `sector`.
-fn unlock_by(
+fn recover_by(
     af: Hash,
     key: &SectorCipher,
     image: &[u8],
@@ -57,7 +57,7 @@ fn unlock_by(
     requires some { 1 ≤ stripes }
     requires few { stripes ≤ max_stripes }
     requires there { offset + need_of (length out.old) stripes ≤ length image.now }
-    ensures { out.new ≡ unlocked af key.now image.now offset (length out.old) stripes }
+    ensures { out.new ≡ recovered af key.now image.now offset (length out.old) stripes }
 {
     let len = out.len();
     let in_sector = SECTOR / len;
@@ -76,7 +76,7 @@ fn unlock_by(
 
 /// Decrypts the key material from `offset` on, and writes the key that its stripes hold. Each
 /// stripe is as long as `out`.
-pub(crate) fn unlock(
+pub(crate) fn recover(
     af: Hash,
     key: &SectorCipher,
     image: &[u8],
@@ -88,8 +88,8 @@ pub(crate) fn unlock(
     requires some { 1 ≤ stripes }
     requires few { stripes ≤ max_stripes }
     requires there { offset + need_of (length out.old) stripes ≤ length image.now }
-    ensures { out.new ≡ unlocked af key.now image.now offset (length out.old) stripes }
+    ensures { out.new ≡ recovered af key.now image.now offset (length out.old) stripes }
 {
     let mut sector = [0; SECTOR];
-    unlock_by(af, key, image, offset, stripes, &mut sector, out);
+    recover_by(af, key, image, offset, stripes, &mut sector, out);
 }

@@ -10,7 +10,7 @@ ghost use Rattle.luks_verdict.specs.declared.segment.Segment.{Segment};
 ghost use Rattle.luks_open.specs.Candidate.{candidate_of};
 ghost use Rattle.luks_open.specs.Opening.{evaluations, evaluations_of, first_opening, slot_key};
 ghost use Rattle.luks_open.specs.Opening.{opening_of, tried_of, work_of};
-ghost use Rattle.luks_open.specs.Order.{key_areas_end, order_of};
+ghost use Rattle.luks_open.specs.Order.{key_material_end, order_of};
 ghost use Rattle.luks_open.specs.Trial.{IsTriable};
 
 use crate::digest::key_matches_digest;
@@ -55,7 +55,7 @@ fn candidate(slot: &Slot, image: &[u8], pass: &[u8], work: &mut Work) -> Option<
         work,
     );
     let cipher = SectorCipher::new(mode, area_key.as_slice())?;
-    Some(Key::unlocked(
+    Some(Key::recovered(
         af,
         &cipher,
         image,
@@ -65,9 +65,9 @@ fn candidate(slot: &Slot, image: &[u8], pass: &[u8], work: &mut Work) -> Option<
     ))
 }
 
-// The volume key that a key slot gives under a passphrase.
+// The volume key that a key slot gives under a passphrase, if the slot opens.
 #[tactic(auto, unfolding(crate::specs::Opening::slot_key, crate::specs::Opening::evaluations_of))]
-fn key(entry: &Entry, image: &[u8], pass: &[u8], work: &mut Work) -> Option<Key>
+fn slot_key(entry: &Entry, image: &[u8], pass: &[u8], work: &mut Work) -> Option<Key>
     requires { IsTriable (length image.now) entry.now.slot }
     ensures value { result ≡ slot_key entry.now image.now pass.now }
     ensures work { work.new ≡ capped (work.old + evaluations_of entry.now) }
@@ -95,7 +95,7 @@ fn first_opening(entries: &[Entry], image: &[u8], pass: &[u8], work: &mut Work) 
     // already capped.
     let _before = work.count();
     'entries: for entry in entries {
-        if let Some(key) = key(entry, image, pass, work) {
+        if let Some(key) = slot_key(entry, image, pass, work) {
             return Some(Opened {
                 slot: entry.number,
                 key,
@@ -111,7 +111,7 @@ fn first_opening(entries: &[Entry], image: &[u8], pass: &[u8], work: &mut Work) 
 /// A key slot opens if PBKDF2 of the key that its material holds equals the whole value of its
 /// digest. If none opens, the fault is [`OpenFault::NoKey`]; there is no other fault. This
 /// allocates nothing. The count of work is raised by the evaluations of HMAC for the key slots that
-/// are tried: up to the first that opens, or all.
+/// are tried: up to the first that opens, or all. `header` is only for the contract.
 #[tactic(auto, unfolding(crate::specs::Opening::opening_of, crate::specs::Opening::work_of))]
 pub fn open(
     header: &Header,
@@ -124,7 +124,7 @@ pub fn open(
     // material.
     requires order { (named limit : Option ℕ) × (order_of header.now named limit ≡ Ok order.now) }
     requires segment { (segment : Segment) × (segment_of header.now ≡ Ok segment) }
-    requires loaded { key_areas_end order.now.slots ≤ length area.now.bytes }
+    requires loaded { key_material_end order.now.entries ≤ length area.now.bytes }
     ensures value { result ≡ opening_of order.now area.now.bytes pass.now }
     ensures work { work.new ≡ capped (work.old + work_of order.now area.now.bytes pass.now) }
     ensures key_length { (segment : Segment) → segment_of header.now ≡ Ok segment

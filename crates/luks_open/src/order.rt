@@ -18,8 +18,9 @@ use luks_header::rule::MAX_SLOTS;
 use luks_header::slot::{VerdictKind, verdict_kind};
 use std::alloc::{AllocError, Global};
 
-// The entry of the key slot of this number, if it can be tried and has this priority.
-fn usable(
+// The entry of the key slot of this number, if it can be tried and has this priority. Otherwise it
+// allocates nothing, which is why it looks at the kind of the verdict first.
+fn usable_at(
     alloc: Global,
     header: &Header,
     limit: Option<u32>,
@@ -51,7 +52,7 @@ fn push_usable(
         ≤ length (ascending (usable_at header.now limit priority) max_slots)) }
 {
     for number in 0..MAX_SLOTS {
-        if let Some(entry) = usable(alloc, header, limit, priority, number)? {
+        if let Some(entry) = usable_at(alloc, header, limit, priority, number)? {
             entries.push(entry)?;
         }
     }
@@ -100,7 +101,7 @@ fn order_all(alloc: Global, header: &Header, limit: Option<u32>) -> Result<Order
 // The order with this entry alone.
 fn order_alone(alloc: Global, entry: Option<Entry>) -> Result<Order, AllocError>
     ensures { IfOk result (λ order. order
-        ≡ record { slots = entries_of entry; skipped = [] }) }
+        ≡ record { entries = entries_of entry; skipped = [] }) }
 {
     let entries = match entry {
         Some(entry) => vec![in alloc; entry]?,
@@ -117,7 +118,7 @@ fn order_usable(
     named: u8,
 ) -> Result<Order, AllocError>
     ensures { IfOk result (λ order. order
-        ≡ record { slots = entries_of (entry_at header.now limit named); skipped = [] }) }
+        ≡ record { entries = entries_of (entry_at header.now limit named); skipped = [] }) }
 {
     let entry = entry_at(alloc, header, limit, named)?;
     order_alone(alloc, entry)

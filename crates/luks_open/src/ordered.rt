@@ -1,8 +1,8 @@
 //! The key slots to be tried, in order.
 
 ghost use Rattle.std.specs.Prelude.{◌≡◌, ◌≤◌};
-ghost use Rattle.luks_area.specs.Area.{max_area_len};
-ghost use Rattle.luks_open.specs.Order.{key_areas_end};
+ghost use Rattle.luks_area.specs.Area.{max_loaded_len};
+ghost use Rattle.luks_open.specs.Order.{key_material_end};
 
 pub use crate::entry::Entry;
 use crate::skipped::SkippedSlots;
@@ -22,20 +22,20 @@ impl Model for Order {
 
     ghost Value = { OrderModel };
 
-    ghost view = { λ order. record { slots = order.entries.items; skipped = order.skipped } };
+    ghost view = { λ order. record { entries = order.entries.items; skipped = order.skipped } };
 }
 
 impl Order {
     /// These key slots in their order, and those that were skipped.
     pub(crate) fn new(entries: Vec<Entry>, skipped: SkippedSlots) -> Order
-        ensures { result ≡ record { slots = entries.items; skipped = skipped } }
+        ensures { result ≡ record { entries = entries.items; skipped = skipped } }
     {
         Order { entries, skipped }
     }
 
     /// The key slots with their numbers and digests, in the order in which they are tried.
     pub fn entries(&self) -> &[Entry]
-        ensures { result.now ≡ self.now.slots }
+        ensures { result.now ≡ self.now.entries }
     {
         self.entries.as_slice()
     }
@@ -51,8 +51,8 @@ impl Order {
 /// The number of the image's first bytes that must be loaded to try these key slots: up to the end
 /// of the last key material. At most 33,554,432.
 pub fn held_end(order: &Order) -> usize
-    ensures value { result ≡ key_areas_end order.now.slots }
-    ensures within { result ≤ max_area_len }
+    ensures value { result ≡ key_material_end order.now.entries }
+    ensures within { result ≤ max_loaded_len }
 {
     let mut end = 0;
     for entry in order.entries() {

@@ -42,33 +42,35 @@ unit_filled cipher number len got bytes buf unit long whole same is =
     let filled : buf ≡ take len bytes = sym (take_all len buf (omega arith)) ∙ (rw whole at same) in
     is ∙ ap (sector_decrypted cipher.0 cipher.1 number) filled
 
--- the first bytes of a sector were written, and then a piece behind them
-module _ (held len : ℕ) (prefix new old piece : List ℕ) (is : held ≡ min (length prefix) len) (sized : length old ≡ len)
-    (written : new ≡ take held prefix) where
-  long : length new ≡ held
-  long = ap length written ∙ length-take-le held prefix (omega arith)
+-- a buffer was filled with the first bytes of a sector, and then with a piece after them
+module _ (loaded len : ℕ) (prefix new old piece : List ℕ) (is : loaded ≡ min (length prefix) len)
+    (sized : length old ≡ len)
+    (written : new ≡ take loaded prefix) where
+  long : length new ≡ loaded
+  long = ap length written ∙ length-take-le loaded prefix (omega arith)
 
-  whole : length (new ++ drop held old) ≡ len
-  whole = length-append new (drop held old) ∙ (omega (arith, length-drop held old, long))
+  whole : length (new ++ drop loaded old) ≡ len
+  whole = length-append new (drop loaded old) ∙ (omega (arith, length-drop loaded old, long))
 
   pub rest_len
-      : length piece ≡ length (take (length (new ++ drop held old) - held) (drop held (new ++ drop held old)))
+      : length piece ≡ length (take (length (new ++ drop loaded old) - loaded) (drop loaded (new ++ drop loaded old)))
       → length piece ≡ len - min (length prefix) len
   rest_len rest =
-      let behind = length-drop held (new ++ drop held old) in
-      rest ∙ length-take-le (length (new ++ drop held old) - held) (drop held (new ++ drop held old)) (omega arith)
+      let behind = length-drop loaded (new ++ drop loaded old) in
+      rest
+      ∙ length-take-le (length (new ++ drop loaded old) - loaded) (drop loaded (new ++ drop loaded old)) (omega arith)
       ∙ (omega (arith, whole))
 
-  pub sector_is : put_mid held (length (new ++ drop held old) - held) (new ++ drop held old) piece
+  pub sector_is : put_mid loaded (length (new ++ drop loaded old) - loaded) (new ++ drop loaded old) piece
       ≡ take (min (length prefix) len) prefix ++ piece
   sector_is =
-      let none : drop (length (new ++ drop held old) - held) (drop held (new ++ drop held old)) ≡ [] =
-      drop_all (length (new ++ drop held old) - held) (drop held (new ++ drop held old))
-      (omega (arith, length-drop held (new ++ drop held old))) in
-      let first : take held (new ++ drop held old) ≡ new =
-      take-append-le held new (drop held old) (omega (arith, long)) ∙ take_all held new (omega (arith, long)) in
-      ap (λ l. take held (new ++ drop held old) ++ (piece ++ l)) none
-      ∙ ap (λ l. take held (new ++ drop held old) ++ l) (append-nil piece)
+      let none : drop (length (new ++ drop loaded old) - loaded) (drop loaded (new ++ drop loaded old)) ≡ [] =
+      drop_all (length (new ++ drop loaded old) - loaded) (drop loaded (new ++ drop loaded old))
+      (omega (arith, length-drop loaded (new ++ drop loaded old))) in
+      let first : take loaded (new ++ drop loaded old) ≡ new =
+      take-append-le loaded new (drop loaded old) (omega (arith, long)) ∙ take_all loaded new (omega (arith, long)) in
+      ap (λ l. take loaded (new ++ drop loaded old) ++ (piece ++ l)) none
+      ∙ ap (λ l. take loaded (new ++ drop loaded old) ++ l) (append-nil piece)
       ∙ ap (λ l. l ++ piece) (first ∙ written ∙ ap (λ n. take n prefix) is)
 
 -- a sector that was filled with bytes of `prefix`, and then with those of a piece
@@ -104,11 +106,11 @@ module _ (len : ℕ) (prefix piece sector : List ℕ) (is : sector ≡ take (min
       (same : take n piece ≡ take n known) (consumption : ConsumedExactly known left' n) where
     filled_few : length prefix ≤ len → FilledSector len prefix known left' sector (min (length prefix) len + n)
     filled_few few =
-        let held : min (length prefix) len ≡ length prefix = omega arith in
+        let loaded : min (length prefix) len ≡ length prefix = omega arith in
         let whole : sector ≡ prefix ++ piece = is ∙ ap (λ l. l ++ piece)
-        (ap (λ n. take n prefix) held ∙ take_all (length prefix) prefix (omega arith)) in
+        (ap (λ n. take n prefix) loaded ∙ take_all (length prefix) prefix (omega arith)) in
         let count : n ≡ length prefix + n - length prefix = omega arith in
-        rw held (record {
+        rw loaded (record {
           all = omega (arith, length-append prefix known);
           bytes = ap (take (length prefix + n)) whole ∙ take-append-add prefix piece n
               ∙ ap (λ l. prefix ++ l) same ∙ sym (take-append-add prefix known n);
@@ -129,9 +131,9 @@ module _ (len : ℕ) (prefix piece sector : List ℕ) (is : sector ≡ take (min
         })
 
     -- the sector continues with the bytes of the source
-    pub filled_sector : (held : ℕ) → held ≡ min (length prefix) len
-        → FilledSector len prefix known left' sector (held + n)
-    filled_sector held first =
+    pub filled_sector : (loaded : ℕ) → loaded ≡ min (length prefix) len
+        → FilledSector len prefix known left' sector (loaded + n)
+    filled_sector loaded first =
         subst (λ m. FilledSector len prefix known left' sector (m + n)) (sym first)
         (elim (cases_lt len (length prefix)) [ inl many ↦ filled_many many | inr few ↦ filled_few few ])
 

@@ -40,7 +40,7 @@ module _ (z : ℕ) (some : 0 < z) where
       let whole = one_more_fits n size z below in
       omega (arith, fit (n + 1) (min size len) z some (omega arith))
 
-  -- an offset before the end of sector n is not behind the payload's end
+  -- an offset before the end of sector n is not past the payload's end
   pub is_within : (size : Option ℕ) (n offset len place : ℕ) → n < max_sectors_of size z → place < offset + (n * z + z)
       → place ≤ len → place ≤ payload_end_in size offset len
   is_within None n offset len place below before there = there
@@ -78,7 +78,7 @@ module _ (z : ℕ) (some : 0 < z) where
       let enough : nat_lt len size ≡ false = le-ltb len size (omega arith) in
       (rw smaller is, rw enough refl)
 
-  -- at the limit, if the image has fewer than 2^64 bytes, the payload ends behind its last sector
+  -- at the limit, if the image has fewer than 2^64 bytes, the payload ends where its last sector does
   pub at_limit_end : (size : Option ℕ) (n offset len : ℕ) → 512 ≤ z → ForSome size (λ bytes. bytes % z ≡ 0)
       → n ≡ max_sectors_of size z → offset + n * z ≤ len
       → len < 2 ^ 64 → payload_end_in size offset len ≡ offset + n * z
@@ -100,7 +100,7 @@ pub ends_before : (size : Option ℕ) (offset len : ℕ) → len < offset → pa
 ends_before None offset len before = refl
 ends_before (Some size) offset len before = omega arith
 
--- an offset up to the payload's start, in the image, is not behind the payload's end
+-- an offset up to the payload's start, in the image, is not past the payload's end
 pub before_end : (size : Option ℕ) (offset len place : ℕ) → place ≤ offset → place ≤ len
     → place ≤ payload_end_in size offset len
 before_end None offset len place first there = there

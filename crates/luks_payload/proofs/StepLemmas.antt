@@ -13,9 +13,9 @@ use Rattle.luks_io.specs.declared.counts.ReadCounts.{ReadCounts}
 use Rattle.luks_io.specs.declared.counts.WriteCounts.{WriteCounts}
 use Rattle.luks_io.proofs.CountsLemmas.{no_writes}
 use Rattle.luks_io.proofs.Consuming.{consumed_behind, consumed_sum}
-use Rattle.luks_payload.specs.SectorEffects.{PositionedAt, AbortsDiscarding, AbortsInSector, is_pump_read_failure}
-use Rattle.luks_payload.specs.SectorEffects.{is_cut, is_pump_write_failure, max_sectors}
-use Rattle.luks_payload.specs.Plain.{payload_end_in, ending_of_len, payload_end_of, payload_len, sector_len}
+use Rattle.luks_payload.specs.SectorEffects.{PositionedAt, StopsDiscarding, AbortsInSector, is_pump_read_failure}
+use Rattle.luks_payload.specs.SectorEffects.{is_cut_before_payload, is_pump_write_failure, max_sectors}
+use Rattle.luks_payload.specs.Plain.{payload_end_in, ending_of_len, payload_end_of, bytes_from_start, sector_len}
 use Rattle.luks_payload.specs.Plain.{sector_plaintext, sector_start, unit_number, unit_plain}
 use Rattle.luks_verdict.proofs.SectorLemmas.{sector_blocks}
 use Rattle.luks_payload.specs.PumpEffects.{EndEffect, EndsAt, MayAnswer, PumpModel, SkipEffect, SkipsAgain}
@@ -65,7 +65,7 @@ module _ (s : Segment) (image : List ℕ) (count : ℕ) where
         let least = (sector_blocks s.sector_size).long in
         let within = (next (drop (sector_start s count + length prefix) image) positioned.consumption.left).within in
         record {
-          is_one = is_whole (sector_len s) (omega arith) s.size count (payload_len s image) below
+          is_one = is_whole (sector_len s) (omega arith) s.size count (bytes_from_start s image) below
               (omega (arith, there, long));
           consumption = consumed_sum image left left' (sector_start s count + length prefix)
               (sector_len s - length prefix) _ (omega arith) positioned.consumption next;
@@ -123,7 +123,7 @@ module _ (s : Segment) (image : List ℕ) (count : ℕ) where
         let rest = drop (sector_start s count + length prefix) image in
         let whole : length image ≡ s.offset + (count * sector_len s + got) =
         omega (arith, (next rest positioned.consumption.left).0, length-append prefix rest, there, long) in
-        let len : payload_len s image ≡ count * sector_len s + got = omega arith in
+        let len : bytes_from_start s image ≡ count * sector_len s + got = omega arith in
         let behind : nat_lt (length image) s.offset ≡ false = le-ltb (length image) s.offset (omega arith) in
         let end : payload_end_of s image ≡ length image =
         ap (λ n. payload_end_in s.size s.offset n) whole
@@ -149,7 +149,7 @@ module _ (s : Segment) (image : List ℕ) (count : ℕ) where
         let some : 0 < sector_len s = omega arith in
         let from : sector_start s count ≤ length image = omega (arith, there) in
         let behind : nat_lt (length image) s.offset ≡ false = le-ltb (length image) s.offset (omega (arith, there)) in
-        let ends = at_limit (sector_len s) some s.size count (payload_len s image) least s.whole_sectors is
+        let ends = at_limit (sector_len s) some s.size count (bytes_from_start s image) least s.whole_sectors is
         (omega (arith, there)) (omega arith) in
         let end = at_limit_end (sector_len s) some s.size count s.offset (length image) least s.whole_sectors is from
         few in
@@ -206,47 +206,48 @@ module _ (s : Segment) (count : ℕ) (fault : VolumeFault) (only : (fault ≡ Re
   writes_no_sector written unwritten unread = elim only [ inl is ↦ rw is (unread is) | inr is ↦ rw is tt ]
 
 -- the effect of a skip, from the effect of discarding its bytes
-module _ (p : PumpModel) (image : List ℕ) (r r' : Option (List ℕ)) (early : p.consumed ≤ p.segment.offset)
+module _ (p : PumpModel) (image : List ℕ) (r r' : Option (List ℕ)) (early : p.consumed_before ≤ p.segment.offset)
     (first : p.state ≡ BeforePayload) (bare : p.prefix ≡ []) (positioned : PositionedIn image p r) where
-  from : consumed_by p ≡ p.consumed
+  from : consumed_by p ≡ p.consumed_before
   from = rw (first, bare) (omega arith)
 
-  consumption : ConsumedExactly image r p.consumed
+  consumption : ConsumedExactly image r p.consumed_before
   consumption = subst (ConsumedExactly image r) from positioned.positioned.consumption
 
   pub skips : (answer : Result (Unit {0}) VolumeFault)
-      → OnOk answer (IfKnown r (λ rest. ConsumedExactly rest r' (p.segment.offset - p.consumed)))
-      → IfErr answer (λ fault. IfKnown r (λ rest. AbortsDiscarding (p.segment.offset - p.consumed) rest r' fault))
+      → OnOk answer (IfKnown r (λ rest. ConsumedExactly rest r' (p.segment.offset - p.consumed_before)))
+      → IfErr answer (λ fault. IfKnown r (λ rest. StopsDiscarding (p.segment.offset - p.consumed_before) rest r' fault))
       → SkipEffect p image answer r'
   skips (Ok _) ok err =
-      consumed_sum image r r' p.consumed (p.segment.offset - p.consumed) p.segment.offset (omega arith) consumption ok
+      consumed_sum image r r' p.consumed_before (p.segment.offset - p.consumed_before) p.segment.offset (omega arith)
+      consumption ok
   skips (Err CutBeforePayload) ok err =
-      let (few, next) = err (drop p.consumed image) consumption.left in
-      let long = length-drop p.consumed image in
+      let (few, next) = err (drop p.consumed_before image) consumption.left in
+      let long = length-drop p.consumed_before image in
       let is : r' ≡ Some (drop (length image) image) = next.left
-      ∙ ap Some (drop-drop (length (drop p.consumed image)) p.consumed image
+      ∙ ap Some (drop-drop (length (drop p.consumed_before image)) p.consumed_before image
       ∙ ap (λ n. drop n image) (omega (arith, consumption.within))) in
       (omega (arith, consumption.within), record { within = omega arith; left = is })
   skips (Err Read) ok err =
-      let (count, few, next) = err (drop p.consumed image) consumption.left in
-      let long = length-drop p.consumed image in
+      let (count, few, next) = err (drop p.consumed_before image) consumption.left in
+      let long = length-drop p.consumed_before image in
       let within = next.within in (
-        p.consumed + count,
+        p.consumed_before + count,
         omega arith,
         omega arith,
         record {
           within = omega (arith, consumption.within);
-          left = next.left ∙ ap Some (drop-drop count p.consumed image);
+          left = next.left ∙ ap Some (drop-drop count p.consumed_before image);
         },
       )
-  skips (Err (Tail _)) ok err = absurd (err (drop p.consumed image) consumption.left)
-  skips (Err (Short _)) ok err = absurd (err (drop p.consumed image) consumption.left)
-  skips (Err Write) ok err = absurd (err (drop p.consumed image) consumption.left)
+  skips (Err (Tail _)) ok err = absurd (err (drop p.consumed_before image) consumption.left)
+  skips (Err (Short _)) ok err = absurd (err (drop p.consumed_before image) consumption.left)
+  skips (Err Write) ok err = absurd (err (drop p.consumed_before image) consumption.left)
 
 -- the pump with these parts
 abbrev pub pumped : Segment → Cipher → ℕ → ℕ → State → List ℕ → PumpModel
 pumped s cipher consumed count state prefix =
-    record { segment = s; cipher = cipher; consumed = consumed; count = count; state = state; prefix = prefix }
+    record { segment = s; cipher = cipher; consumed_before = consumed; count = count; state = state; prefix = prefix }
 
 -- a step whose skip failed
 module _ (s : Segment) (cipher : Cipher) (consumed count : ℕ) (prefix image : List ℕ)
@@ -255,7 +256,7 @@ module _ (s : Segment) (cipher : Cipher) (consumed count : ℕ) (prefix image : 
       → SkipEffect (pumped s cipher consumed count BeforePayload prefix) image (Err fault) r'
       → StepEffect s cipher count consumed image (Err fault) r' before after
   skip_aborted CutBeforePayload none there (cut, consumption) =
-      let len : payload_len s image ≡ 0 = omega arith in
+      let len : bytes_from_start s image ≡ 0 = omega arith in
       let yes : nat_lt (length image) s.offset ≡ true = lt-ltb (length image) s.offset cut in
       let all : max consumed (length image) ≡ length image = omega arith in
       record {
@@ -304,7 +305,7 @@ was_before (Faulted _) fault T again running = cc
 -- the reads of a failed skip are those of its step, which makes no write
 module _ (s : Segment) (count : ℕ) (fault : VolumeFault) (only : (fault ≡ CutBeforePayload) ⊎ (fault ≡ Read)) where
   pub unskipped_reads : (a b : ReadCounts)
-      → Reads (is_pump_read_failure {T = Unit {0}} (Err fault)) (is_cut {T = Unit {0}} (Err fault)) a b
+      → Reads (is_pump_read_failure {T = Unit {0}} (Err fault)) (is_cut_before_payload {T = Unit {0}} (Err fault)) a b
       → Reads (is_pump_read_failure {T = Step} (Err fault)) (hits_eof_at s count (Err fault)) a b
   unskipped_reads a b reads = elim only [ inl is ↦ rw is (rw is at reads) | inr is ↦ rw is (rw is at reads) ]
 

@@ -31,9 +31,9 @@ abbrev pub sector_plaintext : Segment → Cipher → List ℕ → ℕ → List �
 sector_plaintext s cipher image i = unit_plain cipher (unit_number s i) (take (sector_len s) (drop
     (sector_start s i) image))
 
--- the number of bytes of the image behind the payload's start
-abbrev pub payload_len : Segment → List ℕ → ℕ
-payload_len s image = length image - s.offset
+-- the number of bytes of the image from the payload's start on
+abbrev pub bytes_from_start : Segment → List ℕ → ℕ
+bytes_from_start s image = length image - s.offset
 
 -- the number of these bytes that belong to the payload
 abbrev pub payload_bytes : Option ℕ → ℕ → ℕ
@@ -42,13 +42,13 @@ payload_bytes (Some size) len = min size len
 
 -- the number of whole sectors that the payload has
 abbrev pub sectors_of : Segment → List ℕ → ℕ
-sectors_of s image = payload_bytes s.size (payload_len s image) / sector_len s
+sectors_of s image = payload_bytes s.size (bytes_from_start s image) / sector_len s
 
 -- the plaintext: all whole sectors, joined
 abbrev pub plain_of : Segment → Cipher → List ℕ → List ℕ
 plain_of s cipher image = joined (sector_plaintext s cipher image) (sectors_of s image)
 
--- how a payload ends if the image has `len` bytes behind its start
+-- how a payload ends if the image has `len` bytes from its start on
 abbrev pub ending_of_len : Option ℕ → ℕ → ℕ → Result Step VolumeFault
 ending_of_len None sector len = if len % sector == 0 then Ok End else Err (Tail (len % sector))
 ending_of_len (Some size) sector len = if nat_lt len size then Err (Short (size - len)) else Ok End
@@ -57,7 +57,7 @@ ending_of_len (Some size) sector len = if nat_lt len size then Err (Short (size 
 abbrev pub ending_of : Segment → List ℕ → Result Step VolumeFault
 ending_of s image =
     if nat_lt (length image) s.offset then Err CutBeforePayload else ending_of_len s.size (sector_len s)
-    (payload_len s image)
+    (bytes_from_start s image)
 
 -- the end of a payload of this size at this offset, in an image of `len` bytes
 abbrev pub payload_end_in : Option ℕ → ℕ → ℕ → ℕ

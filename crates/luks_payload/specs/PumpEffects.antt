@@ -20,7 +20,7 @@ use Rattle.luks_payload.specs.declared.state.Step.TheVariants.{Sector, End}
 pub record PumpModel : Type 0 where
   pub segment : Segment
   pub cipher : Cipher
-  pub consumed : ℕ
+  pub consumed_before : ℕ
   pub count : ℕ
   pub state : State
   pub prefix : List ℕ
@@ -39,8 +39,9 @@ next_offset InPayload consumed next = next
 next_offset Ended consumed next = next
 next_offset (Faulted _) consumed next = next
 
+-- the offset in the image of the next byte that a pump skips or forwards
 abbrev pub position : PumpModel → ℕ
-position p = next_offset p.state p.consumed (sector_start p.segment p.count)
+position p = next_offset p.state p.consumed_before (sector_start p.segment p.count)
 
 -- the number of bytes of the image that were consumed
 abbrev pub consumed_by : PumpModel → ℕ
@@ -71,7 +72,7 @@ abbrev pub SkipEffect : PumpModel → List ℕ → Result (Unit {0}) VolumeFault
 SkipEffect p image (Ok _) left = ConsumedExactly image left p.segment.offset
 SkipEffect p image (Err CutBeforePayload) left = (length image < p.segment.offset)
     × ConsumedExactly image left (length image)
-SkipEffect p image (Err Read) left = ConsumedBetween image left p.consumed p.segment.offset
+SkipEffect p image (Err Read) left = ConsumedBetween image left p.consumed_before p.segment.offset
 SkipEffect p image (Err (Tail _)) left = ⊥
 SkipEffect p image (Err (Short _)) left = ⊥
 SkipEffect p image (Err Write) left = ⊥

@@ -19,19 +19,19 @@ is_pump_write_failure (Err Write) = true
 is_pump_write_failure _ = false
 
 -- whether such a call hit the end of the image before the payload
-abbrev pub is_cut : {T : Type 0} → Result T VolumeFault → Bool
-is_cut (Err CutBeforePayload) = true
-is_cut _ = false
+abbrev pub is_cut_before_payload : {T : Type 0} → Result T VolumeFault → Bool
+is_cut_before_payload (Err CutBeforePayload) = true
+is_cut_before_payload _ = false
 
--- discarding the next `count` bytes of a source was aborted
-abbrev pub AbortsDiscarding : ℕ → List ℕ → Option (List ℕ) → VolumeFault → Type 0
-AbortsDiscarding count known left CutBeforePayload = (length known < count) × ConsumedExactly known left (length known)
-AbortsDiscarding count known left Read = ConsumedFewer known left count
-AbortsDiscarding count known left (Tail _) = ⊥
-AbortsDiscarding count known left (Short _) = ⊥
-AbortsDiscarding count known left Write = ⊥
+-- the next `count` bytes of a source were not all discarded, for this reason: it has fewer, or a read failed
+abbrev pub StopsDiscarding : ℕ → List ℕ → Option (List ℕ) → VolumeFault → Type 0
+StopsDiscarding count known left CutBeforePayload = (length known < count) × ConsumedExactly known left (length known)
+StopsDiscarding count known left Read = ConsumedFewer known left count
+StopsDiscarding count known left (Tail _) = ⊥
+StopsDiscarding count known left (Short _) = ⊥
+StopsDiscarding count known left Write = ⊥
 
--- the bytes of an image at this offset are `prefix`, and those behind them remain in the source
+-- the bytes of an image at this offset are `prefix`, and those after them remain in the source
 pub record PositionedAt (image prefix : List ℕ) (place : ℕ) (left' : Option (List ℕ)) : Type 0 where
   pub next : prefix ≡ take (length prefix) (drop place image)
   pub consumption : ConsumedExactly image left' (place + length prefix)
@@ -95,5 +95,6 @@ abbrev pub max_sectors_of : Option ℕ → ℕ → ℕ
 max_sectors_of None sector = 2 ^ 64 - 1
 max_sectors_of (Some size) sector = size / sector
 
+-- the largest number of sectors that are forwarded of this segment's payload
 abbrev pub max_sectors : Segment → ℕ
 max_sectors s = max_sectors_of s.size (sector_len s)

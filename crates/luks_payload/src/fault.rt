@@ -14,7 +14,7 @@ pub enum VolumeFault {
     Short(u64),
     /// A read of the image failed.
     Read,
-    /// A write of plain bytes failed.
+    /// A write of plaintext failed.
     Write,
 }
 

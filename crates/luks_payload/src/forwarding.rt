@@ -3,8 +3,9 @@
 ghost use Rattle.std.specs.Prelude.{◌≡◌, ◌-◌, ◌%◌, ◌<◌, ◌≤◌, ◌⊎◌, IfOk, IfErr, OnOk, length};
 ghost use Rattle.luks_io.specs.Devices.{ConsumedExactly, ConsumedFewer, IfKnown, is_short_read};
 ghost use Rattle.luks_io.specs.Counts.{Reads, Writes};
-ghost use Rattle.luks_payload.specs.SectorEffects.{AbortsDiscarding, BeginsWith, FilledSector};
-ghost use Rattle.luks_payload.specs.SectorEffects.{SectorEffect, is_cut, is_pump_read_failure};
+ghost use Rattle.luks_payload.specs.SectorEffects.{StopsDiscarding, BeginsWith, FilledSector};
+ghost use Rattle.luks_payload.specs.SectorEffects.{SectorEffect, is_cut_before_payload};
+ghost use Rattle.luks_payload.specs.SectorEffects.{is_pump_read_failure};
 ghost use Rattle.luks_payload.specs.SectorEffects.{is_pump_write_failure};
 
 use crate::decryption::Decryption;
@@ -23,10 +24,10 @@ pub(crate) fn discard<S: Source>(
     ensures ok { OnOk result (IfKnown (S.to_come source.old)
         (λ known. ConsumedExactly known (S.to_come source.new) count)) }
     ensures err { IfErr result (λ fault. IfKnown (S.to_come source.old)
-        (λ known. AbortsDiscarding count known (S.to_come source.new) fault)) }
+        (λ known. StopsDiscarding count known (S.to_come source.new) fault)) }
     ensures only { IfErr result
         (λ fault. (fault ≡ VolumeFault.CutBeforePayload) ⊎ (fault ≡ VolumeFault.Read)) }
-    ensures reads { Reads (is_pump_read_failure result) (is_cut result)
+    ensures reads { Reads (is_pump_read_failure result) (is_cut_before_payload result)
         (S.counts source.old) (S.counts source.new) }
 {
     let mut left = count;
@@ -59,10 +60,10 @@ fn fill_sector<S: Source>(
     ensures reads { Reads (is_pump_read_failure result) (is_short_read result (length sector.old))
         (S.counts source.old) (S.counts source.new) }
 {
-    let held = prefix.len().min(sector.len());
-    sector[..held].copy_from_slice(&prefix[..held]);
-    let got = fill(source, &mut sector[held..])?;
-    Ok(held + got)
+    let loaded = prefix.len().min(sector.len());
+    sector[..loaded].copy_from_slice(&prefix[..loaded]);
+    let got = fill(source, &mut sector[loaded..])?;
+    Ok(loaded + got)
 }
 
 /// Fills `sector` as [`fill_sector`] does, and writes its plaintext if it is whole. Returns the

@@ -1,9 +1,10 @@
-//! The sector stream: reads an image's payload and writes its plaintext, one sector at a time.
+//! The pump: reads an image's payload and writes its plaintext, one sector at a time.
 
 ghost use Rattle.std.specs.Prelude.{◌≡◌, ◌+◌, ◌^◌, ◌<◌, ◌≤◌, ◌⊎◌, List, [], ℕ, Ok, IfErr};
 ghost use Rattle.std.specs.Prelude.{true, length};
 ghost use Rattle.luks_io.specs.Counts.{Reads, Writes};
-ghost use Rattle.luks_payload.specs.SectorEffects.{AppendsUnit, PositionedAt, is_cut};
+ghost use Rattle.luks_payload.specs.SectorEffects.{AppendsUnit, PositionedAt};
+ghost use Rattle.luks_payload.specs.SectorEffects.{is_cut_before_payload};
 ghost use Rattle.luks_payload.specs.SectorEffects.{is_pump_read_failure};
 ghost use Rattle.luks_payload.specs.SectorEffects.{is_pump_write_failure, max_sectors};
 ghost use Rattle.luks_payload.specs.Plain.{sector_len, sector_start, unit_number};
@@ -14,7 +15,7 @@ ghost use Rattle.luks_payload.specs.PumpEffects.{state_after_skip};
 
 use crate::fault::VolumeFault;
 use crate::forwarding::{discard, forward_sector};
-use crate::sector::{ending, limit, number};
+use crate::sector::{ending, max_sectors, unit_number};
 use crate::state::{State, Step};
 use luks_cipher::SectorCipher;
 use luks_io::sink::Sink;
@@ -34,7 +35,7 @@ const CAPACITY: usize = 4096;
 pub struct Pump<'a> {
     segment: Segment,
     cipher: SectorCipher,
-    consumed: u64,
+    consumed_before: u64,
     count: u64,
     state: State,
     prefix: &'a [u8],
@@ -53,13 +54,14 @@ impl<'a> Model for Pump<'a> {
         record {
           segment = p.segment;
           cipher = p.cipher;
-          consumed = p.consumed;
+          consumed_before = p.consumed_before;
           count = p.count;
           state = p.state;
           prefix = p.prefix.now;
         } };
 
-    ghost invariant = { λ p. (p.consumed ≤ p.segment.offset) × (p.count ≤ max_sectors p.segment)
+    ghost invariant = { λ p.
+        (p.consumed_before ≤ p.segment.offset) × (p.count ≤ max_sectors p.segment)
         × (p.state ≡ BeforePayload → (p.count ≡ 0) × (p.prefix.now ≡ [])) };
 }
 
@@ -91,13 +93,13 @@ fn next_sector<S: Source, O: Sink>(
     ensures writes { Writes (is_pump_write_failure result)
         (O.counts sink.old) (O.counts sink.new) }
 {
-    if count == limit(segment) {
+    if count == max_sectors(segment) {
         return Ok(Step::End);
     }
     let size = segment.sector_size.bytes();
     let got = forward_sector(
         cipher,
-        number(segment, count),
+        unit_number(segment, count),
         prefix,
         &mut buffer[..size],
         source,
@@ -117,7 +119,7 @@ impl<'a> Pump<'a> {
         ensures { result ≡ record {
           segment = segment;
           cipher = cipher;
-          consumed = consumed;
+          consumed_before = consumed;
           count = 0;
           state = State.BeforePayload;
           prefix = [];
@@ -126,7 +128,7 @@ impl<'a> Pump<'a> {
         Pump {
             segment,
             cipher,
-            consumed,
+            consumed_before: consumed,
             count: 0,
             state: State::BeforePayload,
             prefix: &[],
@@ -140,7 +142,7 @@ impl<'a> Pump<'a> {
         ensures { result ≡ record {
           segment = segment;
           cipher = cipher;
-          consumed = segment.offset;
+          consumed_before = segment.offset;
           count = 0;
           state = State.InPayload;
           prefix = prefix.now;
@@ -149,7 +151,7 @@ impl<'a> Pump<'a> {
         Pump {
             segment,
             cipher,
-            consumed: segment.offset,
+            consumed_before: segment.offset,
             count: 0,
             state: State::InPayload,
             prefix,
@@ -176,12 +178,12 @@ impl<'a> Pump<'a> {
         ensures fresh { self.old.state ≡ State.BeforePayload
             → (self.old.count ≡ 0) × (self.old.prefix ≡ []) }
         ensures reads { is_running self.old.state ≡ true
-            → Reads (is_pump_read_failure result) (is_cut result)
+            → Reads (is_pump_read_failure result) (is_cut_before_payload result)
             (S.counts source.old) (S.counts source.new) }
     {
         match self.state {
             State::BeforePayload => {
-                let count = self.segment.offset - self.consumed;
+                let count = self.segment.offset - self.consumed_before;
                 let answer = discard(source, count, &mut self.buffer);
                 self.state = match answer {
                     Ok(()) => State::InPayload,
@@ -203,8 +205,8 @@ impl<'a> Pump<'a> {
         match answer {
             Ok(Step::Sector) => {
                 let size = self.segment.sector_size.bytes();
-                let held = size.min(self.prefix.len());
-                self.prefix = &self.prefix[held..];
+                let loaded = size.min(self.prefix.len());
+                self.prefix = &self.prefix[loaded..];
                 self.count += 1;
             }
             Ok(Step::End) => self.state = State::Ended,

@@ -1,4 +1,4 @@
-//! Numbers of a segment's sectors.
+//! The sectors of a payload: their number, their unit numbers, and how the payload ends.
 
 ghost use Rattle.std.specs.Prelude.{◌≡◌, ◌+◌, ◌*◌, ◌<◌};
 ghost use Rattle.luks_payload.specs.SectorEffects.{max_sectors};
@@ -10,7 +10,7 @@ use luks_verdict::segment::Segment;
 
 /// The largest number of sectors that are forwarded: those of a payload of fixed size, or otherwise
 /// 2^64 - 1.
-pub(crate) fn limit(segment: &Segment) -> u64
+pub(crate) fn max_sectors(segment: &Segment) -> u64
     ensures { result ≡ max_sectors segment.now }
 {
     match segment.size {
@@ -19,15 +19,15 @@ pub(crate) fn limit(segment: &Segment) -> u64
     }
 }
 
-/// The unit number of a sector.
-pub(crate) fn number(segment: &Segment, sector: u64) -> u64
+/// The data unit number of a sector. LUKS counts in units of 512 bytes, and wraps at 2^64.
+pub fn unit_number(segment: &Segment, sector: u64) -> u64
     ensures { result ≡ unit_number segment.now sector }
 {
     let units = (segment.sector_size.bytes() / 512) as u64;
     segment.iv_tweak.wrapping_add(sector.wrapping_mul(units))
 }
 
-/// How the payload ends if the image has `sectors` sectors of it and `more` bytes behind them.
+/// How the payload ends if the image has `sectors` sectors of it and `more` bytes after them.
 pub(crate) fn ending(segment: &Segment, sectors: u64, more: usize) -> Result<Step, VolumeFault>
     requires below { sectors < max_sectors segment.now }
     requires torn { more < sector_len segment.now }

@@ -9,9 +9,9 @@ use Rattle.luks_verdict.specs.declared.refusal.SkipReason.TheVariants.{Area, Dig
 use Rattle.luks_verdict.specs.declared.refusal.SegmentFault.{SegmentFault}
 use Rattle.luks_verdict.specs.declared.refusal.SegmentFault.TheVariants.{Requirement, Segments, Integrity, KeyBytes}
 use Rattle.luks_verdict.specs.declared.refusal.SegmentFault.TheVariants.{SectorSize, Offset, Size}
-use Rattle.luks_verdict.specs.declared.refusal.SegmentFault.TheVariants.{Member as BadMember, Kind as OtherKind}
-use Rattle.luks_verdict.specs.declared.refusal.SegmentFault.TheVariants.{Encryption as OtherEncryption}
-use Rattle.luks_verdict.specs.declared.refusal.SegmentFault.TheVariants.{Hash as OtherHash}
+use Rattle.luks_verdict.specs.declared.refusal.SegmentFault.TheVariants.{Member as SegmentMember, Kind as SegmentKind}
+use Rattle.luks_verdict.specs.declared.refusal.SegmentFault.TheVariants.{Encryption as SegmentEncryption}
+use Rattle.luks_verdict.specs.declared.refusal.SegmentFault.TheVariants.{Hash as SegmentHash}
 
 pub reason_len : (reason : SkipReason) → length (reason_text reason) ≤ 10
 reason_len State = omega arith
@@ -31,11 +31,11 @@ reason_len Digest = omega arith
 pub fault_len : (fault : SegmentFault) → length (fault_text fault) ≤ 11
 fault_len Requirement = omega arith
 fault_len Segments = omega arith
-fault_len BadMember = omega arith
-fault_len OtherKind = omega arith
+fault_len SegmentMember = omega arith
+fault_len SegmentKind = omega arith
 fault_len Integrity = omega arith
-fault_len OtherEncryption = omega arith
-fault_len OtherHash = omega arith
+fault_len SegmentEncryption = omega arith
+fault_len SegmentHash = omega arith
 fault_len KeyBytes = omega arith
 fault_len SectorSize = omega arith
 fault_len Offset = omega arith

@@ -10,8 +10,8 @@ abbrev pub findings_text : List ℕ → List ℕ
 findings_text findings = if length findings == 0 then codes "clean" ++ 10 ∷ [] else findings
 
 -- how `luksCheck` ends with these findings
-abbrev pub check_message : List ℕ → Message
-check_message findings = if length findings == 0 then Done else Findings
+abbrev pub message_for_findings : List ℕ → Message
+message_for_findings findings = if length findings == 0 then Done else Findings
 
 -- what `luksCheck` prints of a header
 unfoldable pub check_of : Header → List ℕ
@@ -19,4 +19,4 @@ check_of header = findings_text (findings_of header)
 
 -- how `luksCheck` of a header ends
 unfoldable pub message_for_check : Header → Message
-message_for_check header = check_message (findings_of header)
+message_for_check header = message_for_findings (findings_of header)

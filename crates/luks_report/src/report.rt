@@ -9,8 +9,9 @@ use luks_args::planning::PlanFault;
 /// The exit status of a run and its message.
 #[derive(Clone, Copy, Debug, PartialEq, Eq)]
 pub struct Report {
-    /// 0: success; 1: refused; 2: no key opens the volume; 3: out of memory; 4: the input is not
-    /// valid; 6: a read or a write failed.
+    /// 0: success; 1: wrong arguments, a key file that is too long, a refused segment, no key slot
+    /// to try, findings, or, for `isLuks`, no LUKS header; 2: no key opens the volume; 3: out of
+    /// memory; 4: an input is not valid; 6: a read or a write failed.
     pub status: u8,
     /// What is printed on standard error.
     pub message: Message,

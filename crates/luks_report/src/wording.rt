@@ -4,7 +4,8 @@ ghost use Rattle.std.specs.Prelude.{◌≡◌, ◌+◌, ◌<◌, ◌≤◌, ◌+
 ghost use Rattle.std.specs.Prelude.{length, take};
 ghost use Rattle.luks_io.specs.Counts.{WritesAsNeeded};
 ghost use Rattle.luks_io.specs.Devices.{Appended, counted};
-ghost use Rattle.luks_report.specs.Texts.{message_line, line_of, more_skips_text, skip_text, skips_text};
+ghost use Rattle.luks_report.specs.Texts.{message_line, line_of, more_skips_text, skip_text};
+ghost use Rattle.luks_report.specs.Texts.{skips_text};
 
 use crate::line::Line;
 use crate::message::Message;

@@ -21,7 +21,7 @@ if_within least most n = if nat_le least n && nat_le n most then Some n else Non
 abbrev pub number_within : ℕ → ℕ → List ℕ → Option ℕ
 number_within least most text = option_and_then (if_within least most) (number_of text)
 
--- the number in a text that may be left out, if it is left out or the number is in the range
+-- `Some None` if the text is left out; otherwise its number, if in range
 abbrev pub optional_within : ℕ → ℕ → Option (List ℕ) → Option (Option ℕ)
 optional_within least most None = Some None
 optional_within least most (Some text) = option_map (λ n. Some n) (number_within least most text)

@@ -1,7 +1,8 @@
 //! Requests to luksrd.
 
 ghost use Rattle.std.specs.Prelude.{◌≡◌, option_map};
-ghost use Rattle.luks_request.specs.Request.{header_file_of, image_of, has_header_file, is_standard};
+ghost use Rattle.luks_request.specs.Request.{header_file_of, image_of, has_header_file};
+ghost use Rattle.luks_request.specs.Request.{is_standard};
 ghost use Rattle.luks_request.specs.Request.{reuses_stdin, request_of, secret_of};
 
 use crate::number::{IterationLimit, KeyBytes, SlotNumber, StripeCount};

@@ -3,11 +3,12 @@ use Rattle.std.specs.Prelude.{◌==◌}
 use Rattle.std.proofs.Common.{◌≡◌, ℕ, ◌≤◌, Bool, true, false, List, Option, Result, Ok, Err, refl, length, arith}
 use Rattle.luks_io.specs.Devices.{Appended, ConsumedExactly}
 use Rattle.luks_io.proofs.Consuming.{adds-none}
-use Rattle.luks_header.specs.Header.{AbortsReading, header_read_len, header_of}
+use Rattle.luks_header.specs.Header.{ReadsNoHeader, header_read_len, header_of}
 use Rattle.luks_header.proofs.HeaderLemmas.{memory_below}
 use Rattle.luks_header.specs.declared.header.Header.{Header}
 use Rattle.luks_area.specs.declared.fault.HeaderFault.{HeaderFault}
-use Rattle.luks_area.specs.declared.fault.HeaderFault.TheVariants.{NotLuks as NoLuks, Cut as IsCut, Json as NoJson}
+use Rattle.luks_area.specs.declared.fault.HeaderFault.TheVariants.{NotLuks as HeaderNotLuks, Cut as HeaderCut}
+use Rattle.luks_area.specs.declared.fault.HeaderFault.TheVariants.{Json as HeaderJson}
 use Rattle.luks_area.specs.declared.fault.HeaderFault.TheVariants.{Read, Memory}
 use Rattle.luks_report.specs.declared.message.Message.{Message}
 use Rattle.luks_report.specs.declared.message.Message.TheVariants.{Done, OutOfMemory, ReadFailed, WriteFailed}
@@ -23,7 +24,7 @@ use Rattle.luks_runs.proofs.HeaderConsumption.{reading_fault}
 use Rattle.luks_runs.specs.declared.headers.Printout.{Printout}
 use Rattle.luks_runs.specs.declared.headers.Printout.TheVariants.{Uuid, Dump, Check}
 use Rattle.luks_report.specs.CheckOutput.{check_of, findings_of, message_for_check}
-use Rattle.luks_runs.specs.Run.{RunMatches, ConsumedNothing, AnyPace, is_run_write_failure}
+use Rattle.luks_runs.specs.Run.{RunMatches, ConsumedNothing, AnyPromptness, is_run_write_failure}
 use Rattle.luks_runs.proofs.RunLemmas.{aborted_unwritten}
 
 -- the message after a text was printed is one of the messages that the printout may end with
@@ -73,17 +74,18 @@ module _ (location : HeaderLocation) (text : Header → List ℕ) (message_for :
     print_found = rw found refl
 
     -- memory for the text of the header ran out
-    runs_without_text : RunMatches AnyPace (print_outcome_by (reader_for location) text message_for image) OutOfMemory
+    runs_without_text
+        : RunMatches AnyPromptness (print_outcome_by (reader_for location) text message_for image) OutOfMemory
         (ConsumedExactly image i) ConsumedNothing
         (Appended w w)
     runs_without_text =
         rw print_found
         (aborted_unwritten (header_read_len image) 0 refl (omega arith) tt (omega arith) (omega arith) left refl)
 
-    -- the text was printed, whole or in part
+    -- the text was printed, whole or in part, or memory for it ran out
     pub runs_with_text : (message : Message) (w' : Option (List ℕ)) → Prints (text header) (message_for header) w w'
         message
-        → RunMatches AnyPace (print_outcome_by (reader_for location) text message_for image) message
+        → RunMatches AnyPromptness (print_outcome_by (reader_for location) text message_for image) message
         (ConsumedExactly image i) ConsumedNothing
         (Appended w w')
     runs_with_text OutOfMemory w' same = rw same runs_without_text
@@ -116,17 +118,18 @@ module _ (location : HeaderLocation) (text : Header → List ℕ) (message_for :
   print_none fault found = rw (reading_fault location image fault found) refl
 
   -- the image has no readable header, or reading it failed
-  pub runs_without_header : (ends ends' : ℕ) (fault : HeaderFault) → AbortsReading image i ends ends' fault
-      → RunMatches AnyPace (print_outcome_by (reader_for location) text message_for image) (message_for_header fault)
+  pub runs_without_header : (ends ends' : ℕ) (fault : HeaderFault) → ReadsNoHeader image i ends ends' fault
+      → RunMatches AnyPromptness (print_outcome_by (reader_for location) text message_for image)
+      (message_for_header fault)
       (ConsumedExactly image i) ConsumedNothing (Appended w w)
-  runs_without_header ends ends' NoLuks stop =
-      rw (print_none NoLuks stop.0) (record
+  runs_without_header ends ends' HeaderNotLuks stop =
+      rw (print_none HeaderNotLuks stop.0) (record
       { as_specified = refl; input = stop.1.0; secret = refl; output = adds-none w })
-  runs_without_header ends ends' IsCut stop =
-      rw (print_none IsCut stop.0) (record
+  runs_without_header ends ends' HeaderCut stop =
+      rw (print_none HeaderCut stop.0) (record
       { as_specified = refl; input = stop.1.0; secret = refl; output = adds-none w })
-  runs_without_header ends ends' NoJson stop =
-      rw (print_none NoJson stop.0) (record
+  runs_without_header ends ends' HeaderJson stop =
+      rw (print_none HeaderJson stop.0) (record
       { as_specified = refl; input = stop.1.0; secret = refl; output = adds-none w })
   runs_without_header ends ends' Read stop =
       let some = stop.0 in
@@ -148,23 +151,23 @@ module _ (image : List ℕ) (i w : Option (List ℕ)) where
 
   -- `isLuks` of an image with a header
   pub is_luks_found : (header : Header) → header_of image ≡ Ok header → ConsumedExactly image i (header_read_len image)
-      → RunMatches AnyPace (is_luks_outcome image) Done (ConsumedExactly image i) ConsumedNothing (Appended w w)
+      → RunMatches AnyPromptness (is_luks_outcome image) Done (ConsumedExactly image i) ConsumedNothing (Appended w w)
   is_luks_found header found left =
       rw (asked (Ok header) found) (record
       { as_specified = refl; input = left; secret = refl; output = adds-none w })
 
   -- `isLuks` of an image without a readable header, or if reading the header failed
-  pub is_luks_refused : (ends ends' : ℕ) (fault : HeaderFault) → AbortsReading image i ends ends' fault
-      → RunMatches AnyPace (is_luks_outcome image) (message_for_is_luks (Err fault))
+  pub is_luks_refused : (ends ends' : ℕ) (fault : HeaderFault) → ReadsNoHeader image i ends ends' fault
+      → RunMatches AnyPromptness (is_luks_outcome image) (message_for_is_luks (Err fault))
       (ConsumedExactly image i) ConsumedNothing (Appended w w)
-  is_luks_refused ends ends' NoLuks stop =
-      rw (asked (Err NoLuks) stop.0) (record
+  is_luks_refused ends ends' HeaderNotLuks stop =
+      rw (asked (Err HeaderNotLuks) stop.0) (record
       { as_specified = refl; input = stop.1.0; secret = refl; output = adds-none w })
-  is_luks_refused ends ends' IsCut stop =
-      rw (asked (Err IsCut) stop.0) (record
+  is_luks_refused ends ends' HeaderCut stop =
+      rw (asked (Err HeaderCut) stop.0) (record
       { as_specified = refl; input = stop.1.0; secret = refl; output = adds-none w })
-  is_luks_refused ends ends' NoJson stop =
-      rw (asked (Err NoJson) stop.0) (record
+  is_luks_refused ends ends' HeaderJson stop =
+      rw (asked (Err HeaderJson) stop.0) (record
       { as_specified = refl; input = stop.1.0; secret = refl; output = adds-none w })
   is_luks_refused ends ends' Read stop =
       let some = stop.0 in

@@ -9,13 +9,13 @@ use Rattle.std.proofs.Math.Nat.{mul-le-mul_right}
 use Rattle.std.specs.Prelude.{nat_le}
 use Rattle.luks_kdf.specs.declared.hash.Hash.{Hash}
 use Rattle.luks_kdf.specs.Bytes.{xor}
-use Rattle.luks_kdf.specs.Stripes.{AfSplitterModel, chain_after, chain_of, merged, stripe_at}
-use Rattle.luks_kdf.proofs.StripesLemmas.{chain_of-append, merged_by_number, stripe_at-append}
+use Rattle.luks_kdf.specs.Stripes.{AfSplitterModel, splitter_after, splitter_block, merged, stripe_at}
+use Rattle.luks_kdf.proofs.StripesLemmas.{splitter_block-append, merged_by_number, stripe_at-append}
 use Rattle.luks_report.specs.declared.message.Message.{Message}
 use Rattle.luks_report.specs.declared.message.Message.TheVariants.{Done, FewStripes, ReadFailed, WriteFailed}
 use Rattle.luks_runs.specs.RunOutcome.{no_output}
 use Rattle.luks_runs.specs.Stripe.{merge_outcome}
-use Rattle.luks_runs.specs.Run.{RunMatches, Aborted, Completed, ConsumedNothing, AnyPace}
+use Rattle.luks_runs.specs.Run.{RunMatches, Aborted, Completed, ConsumedNothing, AnyPromptness}
 use Rattle.luks_runs.specs.StripeParts.{AbortsReadingStripes}
 use Rattle.luks_runs.proofs.RunLemmas.{aborted_unwritten}
 use Rattle.luks_runs.proofs.StripeLemmas.{is_stripe}
@@ -72,7 +72,7 @@ module _ (h : Hash) (count len : ℕ) (bytes : List ℕ) where
 -- there were too few stripes, or a read of them failed
 pub runs_without_stripes : (h : Hash) (count len : ℕ) (bytes : List ℕ) (message : Message) (s w : Option (List ℕ))
     → AbortsReadingStripes count len bytes s message
-    → RunMatches AnyPace (merge_outcome h count len bytes) message (ConsumedExactly bytes s) ConsumedNothing
+    → RunMatches AnyPromptness (merge_outcome h count len bytes) message (ConsumedExactly bytes s) ConsumedNothing
     (Appended w w)
 runs_without_stripes h count len bytes FewStripes s w stop =
     rw (stripes_few h count len bytes stop.0) (record
@@ -93,7 +93,7 @@ module _ (h : Hash) (count len : ℕ) (bytes : List ℕ) (s w w' : Option (List 
 
   -- a write failed within the key
   pub runs_without_key : (n : ℕ) → n < length key → Appended w w' (take n key)
-      → Aborted AnyPace (merge_outcome h count len bytes) WriteFailed (ConsumedExactly bytes s) ConsumedNothing
+      → Aborted AnyPromptness (merge_outcome h count len bytes) WriteFailed (ConsumedExactly bytes s) ConsumedNothing
       (Appended w w')
   runs_without_key n within a = rw (stripes_enough h count len bytes p.within, ← key_is) (record {
     input_consumed = count * len;
@@ -113,7 +113,7 @@ module _ (h : Hash) (count len : ℕ) (bytes : List ℕ) (s w w' : Option (List 
 pub key_merged : (h : Hash) (count len : ℕ) (bytes : List ℕ) (splitter : AfSplitterModel) (stripe key : List ℕ)
     → 1 ≤ len
     → 1 ≤ count → count * len ≤ length bytes
-    → splitter ≡ chain_after h len bytes (count - 1) → stripe ≡ stripe_at len bytes (count - 1)
+    → splitter ≡ splitter_after h len bytes (count - 1) → stripe ≡ stripe_at len bytes (count - 1)
     → key ≡ xor splitter.block stripe
     → key ≡ merged h len (take (count * len) bytes)
 key_merged h count len bytes splitter stripe key some one there chained next made =
@@ -124,12 +124,12 @@ key_merged h count len bytes splitter stripe key some one there chained next mad
     let all : suc before ≡ count = omega arith in
     let up : suc before * len ≡ count * len = ap (λ n. n * len) all in
     let joined : prefix ++ drop (count * len) bytes ≡ bytes = take-append-drop (count * len) bytes in
-    let same_chain : chain_of h len bytes before ≡ chain_of h len prefix before =
-    ap (λ l. chain_of h len l before) (sym joined)
-    ∙ chain_of-append h len prefix (drop (count * len) bytes) before (omega arith) in
+    let same_chain : splitter_block h len bytes before ≡ splitter_block h len prefix before =
+    ap (λ l. splitter_block h len l before) (sym joined)
+    ∙ splitter_block-append h len prefix (drop (count * len) bytes) before (omega arith) in
     let same_stripe : stripe_at len bytes before ≡ stripe_at len prefix before =
     ap (λ l. stripe_at len l before) (sym joined)
     ∙ stripe_at-append len prefix (drop (count * len) bytes) before (omega arith) in
     made ∙ ap (λ (s : AfSplitterModel). xor s.block stripe) chained ∙ ap (λ d. xor d stripe) same_chain
-    ∙ ap (xor (chain_of h len prefix before)) (next ∙ same_stripe)
+    ∙ ap (xor (splitter_block h len prefix before)) (next ∙ same_stripe)
     ∙ sym (merged_by_number h len prefix count some whole)

@@ -20,8 +20,9 @@ use Rattle.luks_payload.specs.Plain.{sector_start, sectors_of, unit_plain, paylo
 use Rattle.luks_payload.specs.PumpEffects.{EndEffect, PumpModel, PositionedIn, StepEffect, WritesSectors, after_step}
 use Rattle.luks_payload.specs.PumpEffects.{next_offset, position, consumed_by}
 use Rattle.luks_payload.specs.declared.fault.VolumeFault.{VolumeFault}
-use Rattle.luks_payload.specs.declared.fault.VolumeFault.TheVariants.{CutBeforePayload as IsCutBefore, Tail as HasTail}
-use Rattle.luks_payload.specs.declared.fault.VolumeFault.TheVariants.{Short as IsShort, Read, Write}
+use Rattle.luks_payload.specs.declared.fault.VolumeFault.TheVariants.{CutBeforePayload as VolumeCutBeforePayload}
+use Rattle.luks_payload.specs.declared.fault.VolumeFault.TheVariants.{Tail as VolumeTail}
+use Rattle.luks_payload.specs.declared.fault.VolumeFault.TheVariants.{Short as VolumeShort, Read, Write}
 use Rattle.luks_payload.specs.declared.state.State.{State}
 use Rattle.luks_payload.specs.declared.state.State.TheVariants.{BeforePayload, InPayload, Ended, Faulted}
 use Rattle.luks_payload.specs.declared.state.Step.{Step}
@@ -93,7 +94,7 @@ end_there None offset len = omega arith
 end_there (Some size) offset len = omega arith
 
 module _ (s : Segment) (image : List ℕ) where
-  -- a sector of the payload ends before the payload does
+  -- a sector of the payload ends at the payload's end or before it
   sector_before_end : (i : ℕ) → i < sectors_of s image → sector_start s (i + 1) ≤ payload_end_of s image
   sector_before_end i below =
       let z = sector_blocks s.sector_size in
@@ -157,14 +158,14 @@ next_offset_le (Faulted _) consumed start few = omega arith
 -- a pump on an image of which `loaded` bytes were consumed before; the sectors that it forwarded are written
 pub record Forwarding (p : PumpModel) (image : List ℕ) (loaded : ℕ) (left before after : Option (List ℕ)) : Type 0 where
   pub positioned : PositionedIn image p left
-  pub early : p.consumed ≤ p.segment.offset
+  pub early : p.consumed_before ≤ p.segment.offset
   pub bare : ((p.count ≡ 0) × (p.prefix ≡ [])) ⊎ (p.state ≡ InPayload)
   pub consumed_to : consumed_by p ≡ max loaded (position p)
   pub few : p.count ≤ sectors_of p.segment image
   pub wrote : Appended before after (joined (sector_plaintext p.segment p.cipher image) p.count)
 
 pub forwarding_start : (p : PumpModel) (image : List ℕ) (loaded : ℕ) (left w : Option (List ℕ)) → p.count ≡ 0
-    → p.consumed ≤ p.segment.offset → ((p.state ≡ BeforePayload) × (p.prefix ≡ [])) ⊎ (p.state ≡ InPayload)
+    → p.consumed_before ≤ p.segment.offset → ((p.state ≡ BeforePayload) × (p.prefix ≡ [])) ⊎ (p.state ≡ InPayload)
     → consumed_by p ≡ loaded
     → PositionedIn image p left
     → Forwarding p image loaded left w w
@@ -185,7 +186,7 @@ module _ (p : PumpModel) (image : List ℕ) (loaded : ℕ) (l b w l' w' : Option
     place : position p ≤ sector_start p.segment p.count
     place =
         let early = so_far.early in
-        next_offset_le p.state p.consumed (sector_start p.segment p.count) (omega arith)
+        next_offset_le p.state p.consumed_before (sector_start p.segment p.count) (omega arith)
 
     next_start : sector_start p.segment (p.count + 1) ≡ sector_start p.segment p.count + sector_len p.segment
     next_start = omega arith
@@ -317,9 +318,9 @@ module _ (p : PumpModel) (image : List ℕ) (loaded : ℕ) (l b w l' w' : Option
         → WritesSectors (Err fault) Wrote Same
         → StepEffect p.segment p.cipher p.count (consumed_by p) image (Err fault) l' w w'
         → ForwardsPayload p.segment p.cipher image loaded l' b w' (message_for_payload fault)
-    forwarding_aborts IsCutBefore _ Same same is step = ended (Err IsCutBefore) step (same is)
-    forwarding_aborts (HasTail bytes) _ Same same is step = ended (Err (HasTail bytes)) step (same is)
-    forwarding_aborts (IsShort bytes) _ Same same is step = ended (Err (IsShort bytes)) step (same is)
+    forwarding_aborts VolumeCutBeforePayload _ Same same is step = ended (Err VolumeCutBeforePayload) step (same is)
+    forwarding_aborts (VolumeTail bytes) _ Same same is step = ended (Err (VolumeTail bytes)) step (same is)
+    forwarding_aborts (VolumeShort bytes) _ Same same is step = ended (Err (VolumeShort bytes)) step (same is)
     forwarding_aborts Read _ Same same is step = lost step (same is)
     forwarding_aborts Write _ Same same is step = unwritten step
 

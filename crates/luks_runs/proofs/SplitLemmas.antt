@@ -11,8 +11,8 @@ use Rattle.std.proofs.lemmas.Nat.{le-div}
 use Rattle.std.specs.Prelude.{◌&&◌, nat_lt, nat_le}
 use Rattle.luks_kdf.specs.declared.hash.Hash.{Hash}
 use Rattle.luks_kdf.specs.Bytes.{xor}
-use Rattle.luks_kdf.specs.Stripes.{AfSplitterModel, chain_after, chain_of}
-use Rattle.luks_kdf.proofs.StripesLemmas.{chain_of-append}
+use Rattle.luks_kdf.specs.Stripes.{AfSplitterModel, splitter_after, splitter_block}
+use Rattle.luks_kdf.proofs.StripesLemmas.{splitter_block-append}
 use Rattle.luks_io.proofs.Consuming.{adds-more, adds-none, consumed-none}
 use Rattle.luks_io.specs.Devices.{Appended, ConsumedExactly}
 use Rattle.luks_report.specs.declared.message.Message.{Message}
@@ -107,10 +107,10 @@ may_forward h count key random j consumed written some within there below fits f
             fits = omega (
               arith,
               length-append (take needed random)
-                  (xor (chain_of h (length key) (take needed random) (count - 1)) key),
+                  (xor (splitter_block h (length key) (take needed random) (count - 1)) key),
             );
             begins = take-append-le written (take needed random)
-                (xor (chain_of h (length key) (take needed random) (count - 1)) key) (omega arith)
+                (xor (splitter_block h (length key) (take needed random) (count - 1)) key) (omega arith)
                 ∙ take-take written needed random (omega arith);
           })
     ]
@@ -180,7 +180,7 @@ module _ (h : Hash) (count : ℕ) (key random : List ℕ) (k r b w : Option (Lis
 
   -- all random stripes were forwarded, and the last stripe is this one
   module _ (last : List ℕ) (p : ForwardedBytes random r b w ((count - 1) * length key) ((count - 1) * length key))
-      (last_is : last ≡ xor (chain_of h (length key) (take ((count - 1) * length key) random) (count - 1)) key)
+      (last_is : last ≡ xor (splitter_block h (length key) (take ((count - 1) * length key) random) (count - 1)) key)
       (w' : Option (List ℕ)) where
     -- the last stripe was written
     pub runs_to_end : Appended w w' last
@@ -223,15 +223,15 @@ module _ (h : Hash) (count : ℕ) (key random : List ℕ) (k r b w : Option (Lis
           output = rw (← last_is, begin) (adds-more b w w' prefix (take n last) p.added a);
         })
 
--- the last stripe depends on the random stripes alone, and not on the bytes after them
+-- of the random bytes, the last stripe depends only on those of the random stripes, and not on the bytes after them
 pub last_stripe : (h : Hash) (n : ℕ) (key random : List ℕ) (splitter : AfSplitterModel)
-    → splitter ≡ chain_after h (length key) random n → n * length key ≤ length random
+    → splitter ≡ splitter_after h (length key) random n → n * length key ≤ length random
     → (last : List ℕ) → last ≡ xor splitter.block key
-    → last ≡ xor (chain_of h (length key) (take (n * length key) random) n) key
+    → last ≡ xor (splitter_block h (length key) (take (n * length key) random) n) key
 last_stripe h n key random splitter is there last made =
     let prefix = take (n * length key) random in
     let whole : length prefix ≡ n * length key = length-take-le (n * length key) random there in
-    let same : chain_of h (length key) random n ≡ chain_of h (length key) prefix n =
-    ap (λ l. chain_of h (length key) l n) (sym (take-append-drop (n * length key) random))
-    ∙ chain_of-append h (length key) prefix (drop (n * length key) random) n (omega arith) in
+    let same : splitter_block h (length key) random n ≡ splitter_block h (length key) prefix n =
+    ap (λ l. splitter_block h (length key) l n) (sym (take-append-drop (n * length key) random))
+    ∙ splitter_block-append h (length key) prefix (drop (n * length key) random) n (omega arith) in
     made ∙ ap (λ (s : AfSplitterModel). xor s.block key) is ∙ ap (λ d. xor d key) same

@@ -11,7 +11,7 @@ use Rattle.luks_report.specs.declared.message.Message.TheVariants.{Done, KeyFile
 abbrev pub max_key_file_len : ℕ
 max_key_file_len = 8388608
 
--- how reading a key file failed: if it is too long, one byte more than the longest length is consumed
+-- how reading a key file failed: if it is too long, one byte more than the maximum length is consumed
 abbrev pub NoKeyFileRead : List ℕ → Option (List ℕ) → Message → Type 0
 NoKeyFileRead secret left KeyFileLength = (max_key_file_len < length secret)
     × ConsumedExactly secret left (max_key_file_len + 1)

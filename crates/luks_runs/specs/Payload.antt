@@ -23,7 +23,8 @@ abbrev pub with_payload_ahead : Segment → ℕ → ReadCounts → ReadCounts
 with_payload_ahead s loaded_len counts = with_ahead (max (max_needed s.size s.offset loaded_len) counts.ahead) counts
 
 -- forwarding the payload of an image, of which `loaded_len` bytes were consumed before, ended with this message: the
--- plaintext was all written and consumed, or forwarding was aborted within a sector
+-- image was consumed up to the payload's end, and the plaintext was written; a read failed, and the whole sectors that
+-- were consumed are written; or a write failed within a sector
 abbrev pub ForwardsPayload : Segment → Cipher → List ℕ → ℕ → Option (List ℕ) → Option (List ℕ) → Option (List ℕ)
     → Message → Type 0
 ForwardsPayload s cipher image loaded_len left before after ReadFailed =

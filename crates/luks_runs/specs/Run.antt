@@ -19,8 +19,8 @@ abbrev pub Promptness : Type 1
 Promptness = Message → ℕ → ℕ → ℕ → Type 0
 
 -- no promptness is specified
-abbrev pub AnyPace : Promptness
-AnyPace _ _ _ _ = Unit {0}
+abbrev pub AnyPromptness : Promptness
+AnyPromptness _ _ _ _ = Unit {0}
 
 -- a run that runs out of memory writes nothing
 abbrev pub IsSilent : Message → ℕ → Type 0

@@ -2,7 +2,7 @@
 use Rattle.std.specs.Prelude.{ℕ, ◌≤◌, ◌+◌, ◌-◌, ◌*◌, ◌/◌, ◌&&◌, ◌++◌, List, length, take, min, nat_lt, nat_le}
 use Rattle.std.specs.Prelude.{if◌then◌else◌}
 use Rattle.luks_kdf.specs.Bytes.{xor}
-use Rattle.luks_kdf.specs.Stripes.{chain_of, merged}
+use Rattle.luks_kdf.specs.Stripes.{splitter_block, merged}
 use Rattle.luks_kdf.specs.declared.hash.Hash.{Hash}
 use Rattle.luks_report.specs.declared.message.Message.TheVariants.{Done, KeyLength, FewRandomBytes, FewStripes}
 use Rattle.luks_runs.specs.RunOutcome.{Outcome, no_output}
@@ -17,7 +17,7 @@ IsKeyLen len = (1 ≤ len) × (len ≤ max_key_len)
 
 -- the stripes of a key: the random ones, and the last one, which makes them all merge to the key
 abbrev pub split_stripes : Hash → ℕ → List ℕ → List ℕ → List ℕ
-split_stripes hash count key random = random ++ xor (chain_of hash (length key) random (count - 1)) key
+split_stripes hash count key random = random ++ xor (splitter_block hash (length key) random (count - 1)) key
 
 -- the outcome of splitting a key of an allowed length
 unfoldable pub split_key_outcome : Hash → ℕ → List ℕ → List ℕ → Outcome

@@ -10,7 +10,7 @@ use Rattle.luks_report.specs.declared.message.Message.TheVariants.{WriteFailed}
 use Rattle.luks_runs.specs.Run.{is_run_read_failure}
 use Rattle.luks_runs.specs.Stripe.{max_key_len}
 
--- how reading a key failed: if it is too long, one byte more than the longest length is consumed
+-- how reading a key failed: if it is too long, one byte more than the maximum length is consumed
 abbrev pub NoKeyRead : List ℕ → Option (List ℕ) → Message → Type 0
 NoKeyRead key left KeyLength =
     (min (length key) (max_key_len + 1) ≡ 0 ⊎ max_key_len < length key)
@@ -55,8 +55,8 @@ AbortsReadingStripes count len known left FewStripes = (length known < count * l
 AbortsReadingStripes count len known left ReadFailed = ConsumedAtMost known left (count * len)
 AbortsReadingStripes count len known left _ = ⊥
 
--- an aborted split: if a write fails, nothing past the stripe of the last byte written was consumed; if a read fails,
--- the whole random stripes that were consumed are written
+-- an aborted split: if a write fails, nothing past the stripe in which it failed was consumed; if a read fails, the
+-- whole random stripes that were consumed are written
 abbrev pub PromptSplit : ℕ → Message → ℕ → ℕ → ℕ → Type 0
 PromptSplit len WriteFailed image secret output = secret ≤ (output / len + 1) * len
 PromptSplit len ReadFailed image secret output = output ≡ secret / len * len

@@ -6,7 +6,7 @@ ghost use Rattle.luks_io.specs.Counts.{Reads, Writes};
 ghost use Rattle.luks_runs.specs.HeaderOutcome.{message_for_is_luks, is_luks_outcome};
 ghost use Rattle.luks_runs.specs.HeaderOutcome.{print_outcome_by, printout_text, printout_message};
 ghost use Rattle.luks_runs.specs.Printing.{Prints};
-ghost use Rattle.luks_runs.specs.Run.{ConsumedNothing, RunMatches, AnyPace, result_message};
+ghost use Rattle.luks_runs.specs.Run.{ConsumedNothing, RunMatches, AnyPromptness, result_message};
 ghost use Rattle.luks_runs.specs.Run.{is_run_read_failure, is_run_write_failure};
 ghost use Rattle.luks_runs.specs.RunMessages.{IsLuksMessage, PrintoutMessage};
 ghost use Rattle.luks_runs.specs.Location.{reader_for};
@@ -24,7 +24,7 @@ use std::alloc::{AllocError, Global};
 /// `isLuks`: nothing is written; only the status reports that there is no LUKS header.
 pub fn is_luks<S: Source>(alloc: Global, image: &mut S) -> Result<(), Message>
     ensures run { (written : Option (List ℕ)) → IfKnown (S.to_come image.old) (λ known.
-        RunMatches AnyPace (is_luks_outcome known) (result_message result)
+        RunMatches AnyPromptness (is_luks_outcome known) (result_message result)
         (ConsumedExactly known (S.to_come image.new)) ConsumedNothing (Appended written written)) }
     ensures only { IsLuksMessage (result_message result) }
     ensures reads { (ended : Bool)
@@ -94,7 +94,7 @@ pub fn print<S: Source, O: Sink>(
     out: &mut O,
 ) -> Result<(), Message>
     ensures run { IfKnown (S.to_come image.old) (λ known.
-        RunMatches AnyPace
+        RunMatches AnyPromptness
         (print_outcome_by (reader_for location) (printout_text printout)
         (printout_message printout) known)
         (result_message result) (ConsumedExactly known (S.to_come image.new)) ConsumedNothing
@@ -107,7 +107,7 @@ pub fn print<S: Source, O: Sink>(
     ensures writes { Writes (is_run_write_failure (result_message result))
         (O.counts out.old) (O.counts out.new) }
 {
-    let (header, _held) = read_header_at(alloc, location, image)?;
+    let (header, _area) = read_header_at(alloc, location, image)?;
     print_text(alloc, printout, &header, out)
 }
 

@@ -18,7 +18,7 @@ const MAX_KEY_FILE_LEN: usize = 8_388_608;
 const PIECE: usize = 4096;
 
 /// Reads the key file: all bytes of the source, including a newline at its end. If it is too long,
-/// one byte more than the longest length is consumed.
+/// one byte more than the maximum length is consumed.
 ///
 /// # Errors
 ///

@@ -4,7 +4,7 @@ ghost use Rattle.std.specs.Prelude.{◌≡◌, Bool, Ok, IfOk, IfErr, length, ta
 ghost use Rattle.luks_io.specs.Counts.{Reads};
 ghost use Rattle.luks_io.specs.Devices.{ConsumedExactly, IfKnown};
 ghost use Rattle.luks_area.specs.Area.{is_read_fault};
-ghost use Rattle.luks_header.specs.Header.{AbortsReading, header_read_len};
+ghost use Rattle.luks_header.specs.Header.{ReadsNoHeader, header_read_len};
 ghost use Rattle.luks_runs.specs.Location.{LoadedFrom, reader_for};
 
 use luks_header::area::HeaderArea;
@@ -22,7 +22,7 @@ pub enum HeaderLocation {
     Detached,
 }
 
-/// Reads the header at the start of an image, or a detached header, with all bytes that were read.
+/// Reads the header at the start of an image, or a detached one, with all bytes that were consumed.
 pub fn read_header_at<S: Source>(
     alloc: Global,
     location: HeaderLocation,
@@ -32,11 +32,11 @@ pub fn read_header_at<S: Source>(
         (reader_for location known ≡ Ok read.0)
         × (read.1.bytes ≡ take (header_read_len known) known)
         × ConsumedExactly known (S.to_come source.new) (header_read_len known))) }
-    ensures aborted { IfErr result (λ fault. IfKnown (S.to_come source.old) (λ known.
-        AbortsReading known (S.to_come source.new) (S.counts source.old).ends
+    ensures no_header { IfErr result (λ fault. IfKnown (S.to_come source.old) (λ known.
+        ReadsNoHeader known (S.to_come source.new) (S.counts source.old).ends
         (S.counts source.new).ends fault)) }
     ensures of_area { IfOk result (λ read. reader_for location read.1.bytes ≡ Ok read.0) }
-    ensures only { IfOk result (λ read. length read.1.bytes ≡ header_read_len read.1.bytes) }
+    ensures whole_area { IfOk result (λ read. length read.1.bytes ≡ header_read_len read.1.bytes) }
     ensures reads { (ended : Bool)
         × Reads (is_read_fault result) ended (S.counts source.old) (S.counts source.new) }
     ensures loaded { IfOk result (λ read. LoadedFrom read.1 (S.to_come source.old)

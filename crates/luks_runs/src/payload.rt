@@ -19,11 +19,11 @@ use luks_report::message::Message;
 
 /// A pump for the payload of an image whose first bytes are loaded: those of them that are in the
 /// payload are forwarded first.
-fn pump_behind<'a>(segment: Segment, cipher: SectorCipher, loaded: &'a [u8]) -> Pump<'a>
+fn pump_after<'a>(segment: Segment, cipher: SectorCipher, loaded: &'a [u8]) -> Pump<'a>
     ensures segment { result.segment ≡ segment }
     ensures cipher { result.cipher ≡ cipher }
     ensures count { result.count ≡ 0 }
-    ensures early { result.consumed ≤ segment.offset }
+    ensures early { result.consumed_before ≤ segment.offset }
     ensures state { ((result.state ≡ State.BeforePayload) × (result.prefix ≡ []))
         ⊎ (result.state ≡ State.InPayload) }
     ensures consumed_to { consumed_by result ≡ length loaded.now }
@@ -72,7 +72,7 @@ pub fn write_payload<I: Source, O: Sink>(
         (O.counts out.old) (O.counts out.new) }
 {
     image.allow_read_ahead(bytes_needed(&segment, loaded.len()));
-    let mut pump = pump_behind(segment, cipher, loaded);
+    let mut pump = pump_after(segment, cipher, loaded);
     'sectors: for _ in 0..u64::MAX {
         match pump.step(image, out)? {
             Step::Sector => {}

@@ -2,10 +2,10 @@
 
 ghost use Rattle.std.specs.Prelude.{◌≡◌, ◌*◌, ◌<◌, ◌⊎◌, ◌+◌, Bool, List, ℕ, IfOk, IfErr, OnOk};
 ghost use Rattle.std.specs.Prelude.{Option, length, take};
-ghost use Rattle.luks_kdf.specs.Stripes.{chain_after, merged};
+ghost use Rattle.luks_kdf.specs.Stripes.{splitter_after, merged};
 ghost use Rattle.luks_io.specs.Devices.{Appended, ConsumedExactly, IfKnown};
 ghost use Rattle.luks_io.specs.Counts.{Reads, Writes};
-ghost use Rattle.luks_runs.specs.Run.{ConsumedNothing, RunMatches, AnyPace, result_message};
+ghost use Rattle.luks_runs.specs.Run.{ConsumedNothing, RunMatches, AnyPromptness, result_message};
 ghost use Rattle.luks_runs.specs.Run.{is_run_read_failure, is_run_write_failure};
 ghost use Rattle.luks_runs.specs.RunMessages.{MergeMessage, SplitMessage};
 ghost use Rattle.luks_runs.specs.Stripe.{IsKeyLen, max_key_len, merge_outcome, split_outcome};
@@ -58,7 +58,7 @@ fn forward_stripes<R: Source, O: Sink>(
     requires { IsKeyLen (length stripe.old) }
     ensures len { IfOk result (λ splitter. length splitter.block ≡ length stripe.new) }
     ensures ok { IfOk result (λ splitter. IfKnown (R.to_come random.old)
-        (λ known. (splitter ≡ chain_after hash (length stripe.new) known count)
+        (λ known. (splitter ≡ splitter_after hash (length stripe.new) known count)
         × ForwardedBytes known (R.to_come random.new) (O.written out.old) (O.written out.new)
         (count * length stripe.new) (count * length stripe.new))) }
     ensures err { IfErr result (λ message. IfKnown (R.to_come random.old)
@@ -176,7 +176,7 @@ fn read_stripes<S: Source>(
     requires { IsKeyLen (length stripe.old) }
     ensures len { IfOk result (λ splitter. length splitter.block ≡ length stripe.new) }
     ensures ok { IfOk result (λ splitter. IfKnown (S.to_come stripes.old)
-        (λ known. (splitter ≡ chain_after hash (length stripe.new) known count)
+        (λ known. (splitter ≡ splitter_after hash (length stripe.new) known count)
         × ConsumedExactly known (S.to_come stripes.new) (count * length stripe.new))) }
     ensures err { IfErr result (λ message. IfKnown (S.to_come stripes.old)
         (λ known. AbortsReadingStripes count (length stripe.new) known (S.to_come stripes.new)
@@ -248,7 +248,7 @@ pub fn merge<S: Source, O: Sink>(
     out: &mut O,
 ) -> Result<(), Message>
     ensures run { IfKnown (S.to_come stripes.old) (λ known. let m = merging.now in
-        RunMatches AnyPace (merge_outcome m.hash m.stripes.count m.key_bytes.bytes known)
+        RunMatches AnyPromptness (merge_outcome m.hash m.stripes.count m.key_bytes.bytes known)
         (result_message result) (ConsumedExactly known (S.to_come stripes.new)) ConsumedNothing
         (Appended (O.written out.old) (O.written out.new))) }
     ensures only { MergeMessage (result_message result) }

@@ -9,7 +9,7 @@ use Rattle.luks_aes.specs.Bytes.{IsBytes}
 use Rattle.luks_aes.proofs.ByteLists.{bytes_append, bytes_cons, bytes_nil, bytes_take}
 use Rattle.luks_kdf.specs.Bytes.{joined, xor}
 use Rattle.luks_kdf.specs.Hash.{hash_of, digest_len}
-use Rattle.luks_kdf.specs.Stripes.{chain_of, diffused, diffused_piece, piece_of, stripe_at}
+use Rattle.luks_kdf.specs.Stripes.{splitter_block, diffused, diffused_piece, piece_of, stripe_at}
 use Rattle.luks_kdf.specs.declared.hash.Hash.{Hash}
 use Rattle.luks_kdf.specs.declared.hash.Hash.TheVariants.{Sha1, Sha224, Sha256, Sha384, Sha512}
 use Rattle.luks_seal.specs.Pieces.{padded, stripes_of}
@@ -66,10 +66,10 @@ diffused_bytes h block =
     joined_bytes (diffused_piece h block) (div_ceil (length block) (digest_len h))
     (λ j. bytes_take (length (piece_of h block j)) _ (hash_bytes h (to_be_bytes w32 j ++ piece_of h block j)))
 
-chain_bytes : (h : Hash) (len : ℕ) (stripes : List ℕ) (i : ℕ) → IsBytes (chain_of h len stripes i)
-unfolding chain_of
+chain_bytes : (h : Hash) (len : ℕ) (stripes : List ℕ) (i : ℕ) → IsBytes (splitter_block h len stripes i)
+unfolding splitter_block
 chain_bytes h len stripes zero = zeros_bytes len
-chain_bytes h len stripes (suc i) = diffused_bytes h (xor (chain_of h len stripes i) (stripe_at len stripes i))
+chain_bytes h len stripes (suc i) = diffused_bytes h (xor (splitter_block h len stripes i) (stripe_at len stripes i))
 
 tail_bytes : (x : ℕ) (xs : List ℕ) → IsBytes (x ∷ xs) → IsBytes xs
 tail_bytes x xs all = record { each = λ i. all.each (suc i) }
@@ -88,7 +88,7 @@ pub stripes_bytes : (hash : Hash) (key : List ℕ) (count : ℕ) (random : List 
 unfolding stripes_of
 stripes_bytes hash key count random keys drawn =
     bytes_append random _ drawn
-    (xor_bytes (chain_of hash (length key) random (count - 1)) key
+    (xor_bytes (splitter_block hash (length key) random (count - 1)) key
     (chain_bytes hash (length key) random (count - 1)) keys)
 
 -- bytes padded with zeros are bytes

@@ -9,10 +9,10 @@ use Rattle.luks_area.specs.Fields.{at}
 use Rattle.luks_cipher.specs.declared.mode.Mode.{Mode}
 use Rattle.luks_kdf.specs.Bytes.{xor}
 use Rattle.luks_kdf.specs.Pbkdf2.{derived_key}
-use Rattle.luks_kdf.specs.Stripes.{chain_of}
+use Rattle.luks_kdf.specs.Stripes.{splitter_block}
 use Rattle.luks_kdf.specs.declared.hash.Hash.{Hash}
 use Rattle.luks_kdf.proofs.BytesLemmas.{length-xor}
-use Rattle.luks_kdf.proofs.StripesLemmas.{length-chain_of}
+use Rattle.luks_kdf.proofs.StripesLemmas.{length-splitter_block}
 use Rattle.luks_verdict.specs.Rule.{need_of}
 use Rattle.luks_verdict.specs.declared.slot.SlotParts.{SlotParts}
 use Rattle.luks_seal.specs.Pieces.{encrypted_material, stripes_of, wrapping_number, sector_padded}
@@ -61,8 +61,8 @@ module _ (af : Hash) (key : List ℕ) (count : ℕ) (random : List ℕ) (drawn :
   pub length-stripes_of : length (stripes_of af key count random) ≡ length key * count
   unfolding stripes_of
   length-stripes_of =
-      let chain = chain_of af (length key) random (count - 1) in
-      let last = length-chain_of af (length key) random (count - 1) (omega (arith, drawn.len)) in
+      let chain = splitter_block af (length key) random (count - 1) in
+      let last = length-splitter_block af (length key) random (count - 1) (omega (arith, drawn.len)) in
       let one_more : count ≡ count - 1 + 1 = omega (arith, drawn.some) in
       let all : length key * count ≡ (count - 1) * length key + length key =
       ap (λ n. length key * n) one_more ∙ omega arith in

@@ -7,7 +7,7 @@ use Rattle.luks_cipher.specs.Sector.{Cipher, sector_encrypted}
 use Rattle.luks_cipher.specs.Xts.{joined}
 use Rattle.luks_kdf.proofs.BytesLemmas.{take_prefix}
 use Rattle.luks_kdf.specs.Bytes.{xor}
-use Rattle.luks_kdf.specs.Stripes.{IsSplit, chain_of}
+use Rattle.luks_kdf.specs.Stripes.{IsSplit, splitter_block}
 use Rattle.luks_kdf.specs.declared.hash.Hash.{Hash}
 use Rattle.luks_seal.specs.Pieces.{encrypted_sector, stripes_of, wrapping_number}
 
@@ -22,7 +22,7 @@ pub split_is : (hash : Hash) (random key stripes : List ℕ) (count : ℕ) → 1
 unfolding stripes_of
 split_is hash random key stripes count some len (before, has, is) =
     let same : before ≡ count - 1 = eq_of_mul-eq-mul_right (length key) some before (count - 1) (sym has ∙ len) in
-    is ∙ ap (λ n. random ++ xor (chain_of hash (length key) random n) key) same
+    is ∙ ap (λ n. random ++ xor (splitter_block hash (length key) random n) key) same
 
 -- each whole piece has `size` bytes
 pub piece_len : (i size : ℕ) (bytes : List ℕ) → i < length bytes / size

@@ -4,7 +4,7 @@ use Rattle.std.specs.Int.{div_ceil}
 use Rattle.luks_cipher.specs.Sector.{Cipher, sector_encrypted}
 use Rattle.luks_cipher.specs.Xts.{joined}
 use Rattle.luks_kdf.specs.Bytes.{xor}
-use Rattle.luks_kdf.specs.Stripes.{chain_of}
+use Rattle.luks_kdf.specs.Stripes.{splitter_block}
 use Rattle.luks_kdf.specs.declared.hash.Hash.{Hash}
 
 -- bytes padded with zeros to this length
@@ -33,7 +33,7 @@ sectors_encrypted cipher first step size bytes =
 -- the stripes of a key (LUKS1 On-Disk Format 1.2.3, "AF splitting"): the random ones, and one more that makes them
 -- merge to the key
 unfoldable pub stripes_of : Hash → List ℕ → ℕ → List ℕ → List ℕ
-stripes_of hash key count random = random ++ xor (chain_of hash (length key) random (count - 1)) key
+stripes_of hash key count random = random ++ xor (splitter_block hash (length key) random (count - 1)) key
 
 -- bytes padded with zeros to whole sectors of 512 bytes
 unfoldable pub sector_padded : List ℕ → List ℕ

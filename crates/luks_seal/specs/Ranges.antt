@@ -13,7 +13,7 @@ FitsKey mode len = is_mode_key_length mode len ≡ true
 abbrev pub FitsText : ℕ → List ℕ → Type 0
 FitsText most text = (length text ≤ most) × ((i : ℕ) → i < length text → slice_index text i ≢ 0)
 
--- the length in bytes of the longest plain text that is sealed
+-- the length in bytes of the longest plaintext that is sealed
 abbrev pub max_plain_len : ℕ
 max_plain_len = 8388608
 

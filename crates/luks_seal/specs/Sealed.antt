@@ -1,4 +1,4 @@
--- What it means for an image to be an honestly sealed volume of the keys, the passphrases and the plain text that went
+-- What it means for an image to be an honestly sealed volume of the keys, the passphrases and the plaintext that went
 -- into it, in the terms of both formats (LUKS1 On-Disk Format Specification 1.2.3, sections 2 to 4; LUKS2 On-Disk
 -- Format Specification 1.1, sections 2 to 4). These definitions do not state how an image is made or how it is opened.
 use Rattle.std.specs.Prelude.{◌≡◌, ℕ, ◌+◌, ◌*◌, ◌/◌, ◌%◌, ◌^◌, ◌<◌, ◌≤◌, All, List, length, take, Option, None, Some}
@@ -76,8 +76,7 @@ pub record SealsKey (header : Header) (image key : List ℕ) (number : ℕ) (pas
 abbrev pub unit_number : Segment → ℕ → ℕ
 unit_number segment i = (segment.iv_tweak + i * (bytes_of segment.sector_size / 512)) % 2 ^ 64
 
--- the payload ends with the plaintext, `end` bytes after the start of the image: if its size is not fixed, the image
--- ends there
+-- the payload is as long as the plaintext: a fixed size is that length; without one, the image ends at byte `end`
 abbrev pub EndsWith : Option ℕ → List ℕ → ℕ → List ℕ → Type 0
 EndsWith None plain end image = length image ≡ end
 EndsWith (Some size) plain end image = size ≡ length plain
@@ -89,7 +88,7 @@ pub record SealsPlain (segment : Segment) (image key plain : List ℕ) : Type 0 
       plain image
   pub ends : EndsWith segment.size plain (segment.offset + length plain) image
 
--- the image is a volume of this key and plain text, and each of these key slots gives the key under its passphrase
+-- the image is a volume of this key and plaintext, and each of these key slots gives the key under its passphrase
 pub record Sealed (image : List ℕ) (passphrases : List (ℕ × List ℕ)) (key plain : List ℕ) : Type 0 where
   pub header : Header
   pub segment : Segment

@@ -8,7 +8,7 @@ use std::alloc::AllocError;
 /// A volume of LUKS1.
 #[derive(Clone, Copy)]
 pub struct Seal1<'a> {
-    /// The hash of the key slots, the stripes and the digest.
+    /// The hash function of the key slots, the stripes and the digest.
     pub hash: Hash,
     /// The mode in which the payload and the key material are encrypted.
     pub mode: Mode,
@@ -27,7 +27,7 @@ pub struct Seal1<'a> {
     pub digest_iterations: u32,
     /// The key slots that are in use, each with a number of its own.
     pub slots: &'a [Slot1<'a>],
-    /// The plain text: whole sectors of 512 bytes, and 8,388,608 bytes at most.
+    /// The plaintext: whole sectors of 512 bytes, and 8,388,608 bytes at most.
     pub plain: &'a [u8],
 }
 
@@ -81,7 +81,7 @@ pub struct Seal2<'a> {
     pub area_mode: Mode,
     /// The length in bytes of the keys that encrypt the key material, one that `area_mode` has.
     pub area_key_size: usize,
-    /// The hash of the key's digest.
+    /// The hash function of the key's digest.
     pub digest_hash: Hash,
     /// The salt of the key's digest.
     pub digest_salt: [u8; 32],
@@ -89,7 +89,7 @@ pub struct Seal2<'a> {
     pub digest_iterations: u32,
     /// The key slots, each with a number of its own.
     pub slots: &'a [Slot2<'a>],
-    /// The plain text: whole sectors, and 8,388,608 bytes at most.
+    /// The plaintext: whole sectors, and 8,388,608 bytes at most.
     pub plain: &'a [u8],
 }
 
@@ -100,13 +100,13 @@ pub struct Slot2<'a> {
     pub number: u32,
     /// Its priority: 2 is tried first, then 1, and 0 only by its number.
     pub priority: u32,
-    /// The hash of PBKDF2, which derives its key from the passphrase.
+    /// The hash function of PBKDF2, which derives its key from the passphrase.
     pub hash: Hash,
     /// The PBKDF2 iterations that derive its key from the passphrase, at least 1.
     pub iterations: u32,
     /// The PBKDF2 salt that its key is derived with.
     pub salt: [u8; 32],
-    /// The hash of its stripes.
+    /// The hash function of its stripes.
     pub af_hash: Hash,
     /// How many stripes hold the volume key, from 1 to 4000.
     pub stripes: u32,

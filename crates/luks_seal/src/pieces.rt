@@ -66,7 +66,7 @@ pub fn derived_key(
 }
 
 /// A cipher of this mode and key.
-pub fn cipher_of(mode: Mode, key: &[u8]) -> SectorCipher
+pub fn cipher_with(mode: Mode, key: &[u8]) -> SectorCipher
     requires { FitsKey mode (length key.now) }
     ensures { result ≡ (mode, key.now) }
 {
@@ -77,7 +77,7 @@ pub fn cipher_of(mode: Mode, key: &[u8]) -> SectorCipher
 }
 
 /// The unit number of a sector.
-fn unit_number(first: u64, step: u64, sector: u64) -> u64
+fn wrapping_number(first: u64, step: u64, sector: u64) -> u64
     ensures { result ≡ wrapping_number first step sector }
 {
     first.wrapping_add(sector.wrapping_mul(step))
@@ -123,7 +123,7 @@ pub fn encrypted(
             alloc,
             &mut sectors,
             cipher,
-            unit_number(first, step, i as u64),
+            wrapping_number(first, step, i as u64),
             sector,
         )?;
     }
@@ -165,7 +165,7 @@ pub fn encrypted_material(
     ensures { IfOk result (λ material. material.items
         ≡ encrypted_material (mode, key.now) stripes.now) }
 {
-    let cipher = cipher_of(mode, key);
+    let cipher = cipher_with(mode, key);
     let sectors = padded(alloc, stripes, stripes.len().div_ceil(512) * 512)?;
     encrypted(alloc, &cipher, 0, 1, SectorSize::B512, &sectors)
 }

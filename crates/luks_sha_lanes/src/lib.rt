@@ -1,5 +1,5 @@
-//! SHA-256 and SHA-1 (FIPS 180-4) of one padded block from a chaining value, of several blocks side
-//! by side in the lanes of a vector, and chains of digests made by it: the iterations of PBKDF2.
+//! SHA-256 and SHA-1 (FIPS 180-4) of several blocks side by side, one in each lane of a vector, and
+//! the chains of digests that they make: the iterations of PBKDF2.
 //!
 //! SHA-256 processes two blocks side by side. SHA-1 processes as many as there are lanes: four, or
 //! one alone by the same code. Nothing here allocates memory.

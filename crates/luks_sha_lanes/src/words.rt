@@ -11,7 +11,7 @@ pub(crate) fn load_be(bytes: &[u8], i: usize) -> u32
     u32::from_be_bytes([bytes[i], bytes[i + 1], bytes[i + 2], bytes[i + 3]])
 }
 
-/// The array of these values, at any type. Arrays of vectors of `N` lanes are made here: the prover
+/// The array of these values, of any type. Arrays of vectors of `N` lanes are made here: the prover
 /// does not cover an array literal of such vectors while the number of lanes is generic.
 #[inline(always)]
 pub(crate) fn five<T: Copy>(a: T, b: T, c: T, d: T, e: T) -> [T; 5]

@@ -1,4 +1,4 @@
-//! Devices over memory that move a few bytes a call, and that fail at one call.
+//! Devices over memory that move a few bytes a call, or fail at one call or after some bytes.
 
 ghost use Rattle.std.specs.Prelude.{◌≡◌, ◌<◌, ℕ, List, [], Some, IfOk, length};
 ghost use Rattle.luks_io.specs.Counts.{unread};
@@ -13,7 +13,7 @@ use std::alloc::{AllocError, Global};
 /// A source that gives at most `piece` bytes a call, or all that are requested if `piece` is 0.
 /// Call number `failing`, counted from 0, fails, and later ones succeed.
 #[derive(Drop)]
-pub struct Flaky<'a> {
+pub struct FlakySource<'a> {
     left: &'a [u8],
     piece: usize,
     failing: u64,
@@ -22,14 +22,14 @@ pub struct Flaky<'a> {
     pub counts: ReadCounts,
 }
 
-impl<'a> Flaky<'a> {
+impl<'a> FlakySource<'a> {
     /// A source of these bytes.
-    pub fn new(bytes: &'a [u8], piece: usize, failing: u64) -> Flaky<'a>
-        ensures bytes { ⟦<Flaky<'a> as Source>⟧.to_come result ≡ Some bytes.entry.now }
-        ensures counts { ⟦<Flaky<'a> as Source>⟧.counts result
+    pub fn new(bytes: &'a [u8], piece: usize, failing: u64) -> FlakySource<'a>
+        ensures bytes { ⟦<FlakySource<'a> as Source>⟧.to_come result ≡ Some bytes.entry.now }
+        ensures counts { ⟦<FlakySource<'a> as Source>⟧.counts result
             ≡ unread }
     {
-        Flaky {
+        FlakySource {
             left: bytes,
             piece,
             failing,
@@ -40,7 +40,7 @@ impl<'a> Flaky<'a> {
 
     /// How many bytes remain.
     pub fn left(&self) -> usize
-        ensures { (known : List ℕ) → ⟦<Flaky<'a> as Source>⟧.to_come self.now ≡ Some known
+        ensures { (known : List ℕ) → ⟦<FlakySource<'a> as Source>⟧.to_come self.now ≡ Some known
             → result ≡ length known }
     {
         self.left.len()
@@ -52,7 +52,7 @@ impl<'a> Flaky<'a> {
     }
 }
 
-impl<'a> Source for Flaky<'a> {
+impl<'a> Source for FlakySource<'a> {
     ghost use Rattle.std.specs.Prelude.{Some};
 
     ghost to_come = { λ s. Some s.left.now };
@@ -79,7 +79,7 @@ impl<'a> Source for Flaky<'a> {
 /// A sink that accepts at most `piece` bytes a call, and at least one. Call number `failing`,
 /// counted from 0, fails, and later ones succeed.
 #[derive(Drop)]
-pub struct Leaky {
+pub struct FlakySink {
     sink: MemSink,
     piece: usize,
     failing: u64,
@@ -89,19 +89,19 @@ pub struct Leaky {
     ghost some: { 0 < piece },
 }
 
-impl Leaky {
+impl FlakySink {
     /// A sink with capacity for this many bytes.
     pub fn new(
         alloc: Global,
         capacity: usize,
         piece: usize,
         failing: u64,
-    ) -> Result<Leaky, AllocError>
-        ensures bytes { IfOk result (λ sink. ⟦<Leaky as Sink>⟧.written sink ≡ Some []) }
-        ensures counts { IfOk result (λ sink. ⟦<Leaky as Sink>⟧.counts sink
+    ) -> Result<FlakySink, AllocError>
+        ensures bytes { IfOk result (λ sink. ⟦<FlakySink as Sink>⟧.written sink ≡ Some []) }
+        ensures counts { IfOk result (λ sink. ⟦<FlakySink as Sink>⟧.counts sink
             ≡ record { failures = 0; needless = 0 }) }
     {
-        Ok(Leaky {
+        Ok(FlakySink {
             sink: MemSink::new(alloc, capacity)?,
             piece: piece.max(1),
             failing,
@@ -112,7 +112,7 @@ impl Leaky {
 
     /// The bytes that were written.
     pub fn as_slice(&self) -> &[u8]
-        ensures { ⟦<Leaky as Sink>⟧.written self.now ≡ Some result.now }
+        ensures { ⟦<FlakySink as Sink>⟧.written self.now ≡ Some result.now }
     {
         self.sink.as_slice()
     }
@@ -124,13 +124,13 @@ impl Leaky {
 
     /// How many calls failed.
     pub fn failures(&self) -> u64
-        ensures { result ≡ (⟦<Leaky as Sink>⟧.counts self.now).failures }
+        ensures { result ≡ (⟦<FlakySink as Sink>⟧.counts self.now).failures }
     {
         self.counts.failures
     }
 }
 
-impl Sink for Leaky {
+impl Sink for FlakySink {
     ghost use Rattle.std.specs.Prelude.{Some};
 
     ghost written = { λ s. Some s.sink.written };
@@ -151,21 +151,21 @@ impl Sink for Leaky {
 
 /// A source that gives this many bytes, and whose further reads fail.
 #[derive(Drop)]
-pub struct Broken<'a> {
+pub struct BrokenSource<'a> {
     left: &'a [u8],
     given: usize,
     /// How many calls failed, hit the end, and were needless.
     pub counts: ReadCounts,
 }
 
-impl<'a> Broken<'a> {
+impl<'a> BrokenSource<'a> {
     /// A source of these bytes, of which it gives the first `given`.
-    pub fn new(bytes: &'a [u8], given: usize) -> Broken<'a>
-        ensures bytes { ⟦<Broken<'a> as Source>⟧.to_come result ≡ Some bytes.entry.now }
-        ensures counts { ⟦<Broken<'a> as Source>⟧.counts result
+    pub fn new(bytes: &'a [u8], given: usize) -> BrokenSource<'a>
+        ensures bytes { ⟦<BrokenSource<'a> as Source>⟧.to_come result ≡ Some bytes.entry.now }
+        ensures counts { ⟦<BrokenSource<'a> as Source>⟧.counts result
             ≡ unread }
     {
-        Broken {
+        BrokenSource {
             left: bytes,
             given,
             counts: ReadCounts::new(),
@@ -174,14 +174,14 @@ impl<'a> Broken<'a> {
 
     /// How many bytes remain.
     pub fn left(&self) -> usize
-        ensures { (known : List ℕ) → ⟦<Broken<'a> as Source>⟧.to_come self.now ≡ Some known
+        ensures { (known : List ℕ) → ⟦<BrokenSource<'a> as Source>⟧.to_come self.now ≡ Some known
             → result ≡ length known }
     {
         self.left.len()
     }
 }
 
-impl<'a> Source for Broken<'a> {
+impl<'a> Source for BrokenSource<'a> {
     ghost use Rattle.std.specs.Prelude.{Some};
 
     ghost to_come = { λ s. Some s.left.now };

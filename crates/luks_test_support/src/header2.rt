@@ -1,21 +1,12 @@
 //! Headers of LUKS2 for tests.
 
+use crate::bytes::put;
 use luks_kdf::{Hash, digest};
 use std::alloc::{AllocError, Global};
 
 /// The length of each header with its JSON area, in bytes. The secondary header is right after the
 /// primary one.
 pub const SIZE: usize = 16_384;
-
-// Overwrites bytes from an offset on, up to their end.
-fn put(bytes: &mut [u8], place: usize, with: &[u8]) {
-    for (i, byte) in with.iter().enumerate() {
-        let at = place.saturating_add(i);
-        if at < bytes.len() {
-            bytes[at] = *byte;
-        }
-    }
-}
 
 // The bytes of the header at an offset, or as many of them as there are.
 fn header_at(image: &mut [u8], place: usize) -> &mut [u8] {

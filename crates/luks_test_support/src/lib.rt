@@ -1,9 +1,10 @@
-//! What the tests of several crates share: comparisons, devices that fail at one call, memory that
-//! is used up, and headers of LUKS2.
+//! What the tests of several crates share: comparisons, changes of bytes, devices whose calls fail,
+//! memory that is used up, and headers of LUKS2.
 //!
 //! Only tests use it.
 #![tactic(auto)]
 
+pub mod bytes;
 pub mod devices;
 pub mod header2;
 pub mod same;

@@ -45,9 +45,9 @@ module _ (passphrase key image : List ℕ) where
       gives.is_material gives.is_stored))
 
   -- the key matches its digest
-  meets_again : (digest : KeyDigest) → IsDigestOf digest key → matches_digest digest key ≡ true
+  matches_again : (digest : KeyDigest) → IsDigestOf digest key → matches_digest digest key ≡ true
   unfolding matches_digest
-  meets_again digest is =
+  matches_again digest is =
       rw is.is_hash
       ((bytes_eq-Decides (derived_key is.hash key digest.salt digest.iterations (length digest.value))
       digest.value).1 (sym is.value))
@@ -70,7 +70,7 @@ module _ (passphrase key image : List ℕ) where
       let some : 0 < length key =
       subst (λ (n : ℕ). 0 < n) gives.key_bytes
       (some_key segment.mode entry.slot.parts.key_bytes known.volume_key) in
-      rw (candidate_again entry.slot some gives, meets_again entry.digest digest) refl
+      rw (candidate_again entry.slot some gives, matches_again entry.digest digest) refl
 
 -- ---- the first key slot that opens
 

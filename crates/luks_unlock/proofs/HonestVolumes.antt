@@ -5,7 +5,7 @@ use Rattle.std.specs.List.{AllByRecursion, Contains}
 use Rattle.std.proofs.lemmas.List.Elements.{All-nil, recursion_from_All}
 use Rattle.luks_header.proofs.KnownLemmas.{is_attached}
 use Rattle.luks_open.specs.Opening.{answer_of, first_opening, slot_key, opening_of}
-use Rattle.luks_open.specs.Order.{entry_at, key_areas_end, order_of}
+use Rattle.luks_open.specs.Order.{entry_at, key_material_end, order_of}
 use Rattle.luks_open.specs.declared.entry.Entry.{Entry}
 use Rattle.luks_open.specs.declared.opening.Opened.{Opened}
 use Rattle.luks_open.proofs.CallerLemmas.{key_areas_before_payload}
@@ -15,8 +15,8 @@ use Rattle.luks_request.specs.Request.{VolumeRequest}
 use Rattle.luks_report.specs.Faults.{message_at_end}
 use Rattle.luks_report.specs.declared.message.Message.TheVariants.{Done}
 use Rattle.luks_runs.specs.RunOutcome.{Outcome}
-use Rattle.luks_unlock.specs.Honest.{GivesNoOther, IsHonest}
-use Rattle.luks_unlock.specs.Volume.{Volume, found_outcome, loaded_for, opened_outcome, payload_outcome, volume_by}
+use Rattle.luks_unlock.specs.Honest.{GivesNoOther, OpensHonest}
+use Rattle.luks_unlock.specs.Volume.{Volume, found_outcome, unlock_read_len, opened_outcome, payload_outcome, volume_by}
 use Rattle.luks_unlock.specs.Volume.{volume_outcome, volume_outcome_by}
 use Rattle.luks_runs.specs.KeyFile.{max_key_file_len}
 use Rattle.luks_unlock.proofs.HonestPayload.{ending_again, plain_again}
@@ -37,7 +37,7 @@ in_the_middle : {X : Type 0} (P : X → Type 0) (before : List X) (x : X) (after
 in_the_middle P [] x after all = all.0
 in_the_middle P (y ∷ before) x after all = in_the_middle P before x after all.1
 
-module _ (o : VolumeRequest) (image passphrase plain : List ℕ) (honest : IsHonest o image passphrase plain) where
+module _ (o : VolumeRequest) (image passphrase plain : List ℕ) (honest : OpensHonest o image passphrase plain) where
   abbrev volume : Volume
   volume = record { header = honest.sealed.header; segment = honest.sealed.segment; order = honest.order }
 
@@ -68,8 +68,8 @@ module _ (o : VolumeRequest) (image passphrase plain : List ℕ) (honest : IsHon
       )
 
   -- the image contains the key material of all key slots to be tried
-  held_there : key_areas_end honest.order.slots ≤ length image
-  held_there =
+  areas_within : key_material_end honest.order.entries ≤ length image
+  areas_within =
       let sealed = honest.sealed in
       let before = key_areas_before_payload sealed.header sealed.segment o.key_slot o.max_iterations honest.order
       (is_attached image sealed.header sealed.is_header) sealed.is_segment honest.is_order in
@@ -83,11 +83,11 @@ module _ (o : VolumeRequest) (image passphrase plain : List ℕ) (honest : IsHon
 
   opened_is : (number : ℕ) × (volume_outcome (payload_outcome image passphrase) o image passphrase
       ≡ payload_outcome image passphrase honest.sealed.segment (record { slot = number; key = honest.key })
-      (loaded_for image volume))
+      (unlock_read_len image volume))
   opened_is = (
     opens.0,
     found
-        ∙ found_whole (payload_outcome image passphrase) o.key_slot volume image passphrase honest.short held_there
+        ∙ found_whole (payload_outcome image passphrase) o.key_slot volume image passphrase honest.short areas_within
         ∙ ap (opened_outcome (payload_outcome image passphrase) o.key_slot volume image passphrase) opens.1,
   )
 
@@ -107,7 +107,7 @@ module _ (o : VolumeRequest) (image passphrase plain : List ℕ) (honest : IsHon
 pub named_is_honest : (o : VolumeRequest) (image passphrase plain key : List ℕ) (passphrases : List (ℕ × List ℕ))
     (number : ℕ) → Sealed image passphrases key plain → Contains passphrases (number, passphrase)
     → length passphrase ≤ max_key_file_len → o.key_slot ≡ Some number → o.max_iterations ≡ None
-    → IsHonest o image passphrase plain
+    → OpensHonest o image passphrase plain
 unfolding order_of entry_at
 named_is_honest o image passphrase plain key passphrases number sealed is short named unlimited =
     let seals = sealed_with image key plain passphrase passphrases number sealed is in
@@ -119,7 +119,7 @@ named_is_honest o image passphrase plain key passphrases number sealed is short 
       number = number;
       is_passphrase = is;
       short = short;
-      order = record { slots = tried ∷ []; skipped = [] };
+      order = record { entries = tried ∷ []; skipped = [] };
       is_order = rw (named, unlimited, seals.usable, seals.is_digest) refl;
       first = record {
         before = [];

@@ -13,7 +13,7 @@ use Rattle.luks_verdict.specs.declared.segment.Segment.{Segment}
 use Rattle.luks_io.specs.Devices.{ConsumedExactly}
 use Rattle.luks_open.proofs.CallerLemmas.{opening_beginning}
 use Rattle.luks_open.specs.Opening.{opening_of}
-use Rattle.luks_open.specs.Order.{OrderModel, key_areas_end, order_of}
+use Rattle.luks_open.specs.Order.{OrderModel, key_material_end, order_of}
 use Rattle.luks_open.specs.declared.fault.OpenFault.{OpenFault}
 use Rattle.luks_open.specs.declared.opening.Opened.{Opened}
 use Rattle.luks_report.specs.declared.message.Message.{Message}
@@ -24,7 +24,7 @@ use Rattle.luks_runs.specs.RunOutcome.{no_output}
 use Rattle.luks_runs.specs.KeyFile.{max_key_file_len}
 use Rattle.luks_runs.specs.Location.{reader_for}
 use Rattle.luks_runs.specs.declared.location.HeaderLocation.{HeaderLocation}
-use Rattle.luks_unlock.proofs.VolumeLemmas.{cost_held, volume_is}
+use Rattle.luks_unlock.proofs.VolumeLemmas.{loaded_read_len, volume_is}
 use Rattle.luks_unlock.specs.Volume.{OnOpened, Volume, found_outcome, opened_outcome, outcome_after, volume_by}
 use Rattle.luks_unlock.specs.Volume.{volume_outcome_by}
 
@@ -37,21 +37,21 @@ module _ (on_opened : OnOpened) (named : Option ℕ) (v : Volume) (image secret 
   unfolding found_outcome
   found_long long = let yes : nat_lt max_key_file_len (length secret) ≡ true = grind (arith, nat_tests) in rw yes refl
 
-  pub found_cut : length secret ≤ max_key_file_len → length image < key_areas_end v.order.slots
+  pub found_cut : length secret ≤ max_key_file_len → length image < key_material_end v.order.entries
       → found_outcome on_opened named v image secret ≡ no_output Cut (length image) (length secret)
   unfolding found_outcome
   found_cut short few =
       let no : nat_lt max_key_file_len (length secret) ≡ false = grind (arith, nat_tests) in
-      let yes : nat_lt (length image) (key_areas_end v.order.slots) ≡ true = grind (arith, nat_tests) in
+      let yes : nat_lt (length image) (key_material_end v.order.entries) ≡ true = grind (arith, nat_tests) in
       rw (no, yes) refl
 
-  pub found_whole : length secret ≤ max_key_file_len → key_areas_end v.order.slots ≤ length image
+  pub found_whole : length secret ≤ max_key_file_len → key_material_end v.order.entries ≤ length image
       → found_outcome on_opened named v image secret
       ≡ opened_outcome on_opened named v image secret (opening_of v.order image secret)
   unfolding found_outcome
   found_whole short enough =
       let no : nat_lt max_key_file_len (length secret) ≡ false = grind (arith, nat_tests) in
-      let none : nat_lt (length image) (key_areas_end v.order.slots) ≡ false = grind (arith, nat_tests) in
+      let none : nat_lt (length image) (key_material_end v.order.entries) ≡ false = grind (arith, nat_tests) in
       rw (no, none) refl
 
 -- ---- the loaded area
@@ -59,7 +59,7 @@ module _ (on_opened : OnOpened) (named : Option ℕ) (v : Volume) (image secret 
 module _ (image area area' : List ℕ) (i : Option (List ℕ)) (loaded : ℕ)
     (prefix : area ≡ take (header_read_len image) image) where
   pub prefix_length : length area ≡ header_read_len image
-  prefix_length = cost_held image area prefix
+  prefix_length = loaded_read_len image area prefix
 
   -- if `n` more bytes were appended to the area, it has that many more of the image's first bytes
   pub area_more : (n : ℕ) → ConsumedOnto area area' (drop (header_read_len image) image) i n
@@ -140,16 +140,17 @@ module _ (location : HeaderLocation) (o : VolumeRequest) (image pass : List ℕ)
     pub tried_is : (short : length pass ≤ max_key_file_len) (area area' : List ℕ) (i : Option (List ℕ))
         (prefix : area ≡ take (header_read_len image) image)
         (grows : ConsumedOnto area area' (drop (header_read_len image) image) i
-        (min (key_areas_end order.slots - length area) (length (drop (header_read_len image) image))))
-        (enough : key_areas_end order.slots ≤ length area') (r : Result Opened OpenFault)
+        (min (key_material_end order.entries - length area) (length (drop (header_read_len image) image))))
+        (enough : key_material_end order.entries ≤ length area') (r : Result Opened OpenFault)
         (tried : opening_of order area' pass ≡ r) (on_opened : OnOpened)
         → volume_outcome_by (reader_for location) on_opened o image pass
         ≡ opened_outcome on_opened o.key_slot (volume_with header segment order) image pass r
     tried_is short area area' i prefix grows enough r tried on_opened =
         let v = volume_with header segment order in
-        let loaded = area_loaded image area area' i (key_areas_end order.slots) prefix grows enough in
+        let loaded = area_loaded image area area' i (key_material_end order.entries) prefix grows enough in
         let whole : opening_of order image pass ≡ r =
-        sym (opening_beginning order (max (header_read_len image) (key_areas_end order.slots)) image pass (omega arith))
+        sym (opening_beginning order (max (header_read_len image) (key_material_end order.entries)) image pass
+        (omega arith))
         ∙ ap (λ l. opening_of order l pass) (sym loaded.2) ∙ tried in
         found_is on_opened ∙ found_whole on_opened o.key_slot v image pass short loaded.0
         ∙ ap (opened_outcome on_opened o.key_slot v image pass) whole

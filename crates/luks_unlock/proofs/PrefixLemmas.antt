@@ -5,7 +5,7 @@ use Rattle.std.specs.List.{AllByRecursion}
 use Rattle.std.specs.Prelude.{ok_or, if◌then◌else◌}
 use Rattle.std.proofs.lemmas.Bool.{cases_lt, le-ltb}
 use Rattle.std.proofs.lemmas.List.{take-take}
-use Rattle.luks_area.specs.Area.{max_area_len}
+use Rattle.luks_area.specs.Area.{max_loaded_len}
 use Rattle.luks_area.specs.declared.fault.HeaderFault.{HeaderFault}
 use Rattle.luks_area.specs.declared.fault.HeaderFault.TheVariants.{NotLuks}
 use Rattle.luks1_header.specs.Header1.{is_luks1}
@@ -23,12 +23,12 @@ use Rattle.luks2_binary.specs.Header2.{sizes}
 use Rattle.luks2_binary.specs.Text2.{json_text_of}
 use Rattle.luks2_binary.specs.declared.header.Header2.{Header2}
 use Rattle.luks2_json.specs.Tree.{tree_of}
-use Rattle.luks_header.proofs.HeldLemmas.{begins_longer}
+use Rattle.luks_header.proofs.LoadedLemmas.{begins_longer}
 use Rattle.luks_header.specs.Header.{header_read_len, header_of, with_metadata, with_text}
 use Rattle.luks_open.proofs.CallerLemmas.{opening_beginning}
-use Rattle.luks_open.proofs.OrderLemmas.{key_areas_end-within}
+use Rattle.luks_open.proofs.OrderLemmas.{key_material_end-within}
 use Rattle.luks_open.specs.Opening.{opening_of}
-use Rattle.luks_open.specs.Order.{key_areas_end}
+use Rattle.luks_open.specs.Order.{key_material_end}
 use Rattle.luks_open.specs.declared.fault.OpenFault.{OpenFault}
 use Rattle.luks_open.specs.declared.opening.Opened.{Opened}
 use Rattle.luks_report.specs.declared.message.Message.{Message}
@@ -170,13 +170,13 @@ module _ (image : List ℕ) (n : ℕ) (far : 8388608 ≤ n) where
 
 -- ---- opening by the first bytes
 
-module _ (location : HeaderLocation) (o : VolumeRequest) (image pass : List ℕ) (n : ℕ) (far : max_area_len ≤ n)
+module _ (location : HeaderLocation) (o : VolumeRequest) (image pass : List ℕ) (n : ℕ) (far : max_loaded_len ≤ n)
     (on_opened : OnOpened) where
   opened_prefix : (v : Volume) (r : Result Opened OpenFault)
       → opened_outcome on_opened o.key_slot v (take n image) pass r
       ≡ opened_outcome on_opened o.key_slot v image pass r
   opened_prefix v (Ok opened) =
-      ap (λ cost. on_opened v.segment opened (max cost (key_areas_end v.order.slots)))
+      ap (λ cost. on_opened v.segment opened (max cost (key_material_end v.order.entries)))
       (header_prefix image n (omega arith)).1
   opened_prefix v (Err fault) = rw (header_prefix image n (omega arith)).1 refl
 
@@ -185,9 +185,9 @@ module _ (location : HeaderLocation) (o : VolumeRequest) (image pass : List ℕ)
   unfolding found_outcome
   found_prefix more v =
       let long = length-take-le n image more in
-      let within = key_areas_end-within v.order.slots in
-      let all = le-ltb (length (take n image)) (key_areas_end v.order.slots) (omega (arith, long)) in
-      let whole = le-ltb (length image) (key_areas_end v.order.slots) (omega arith) in
+      let within = key_material_end-within v.order.entries in
+      let all = le-ltb (length (take n image)) (key_material_end v.order.entries) (omega (arith, long)) in
+      let whole = le-ltb (length image) (key_material_end v.order.entries) (omega arith) in
       let opening = opening_beginning v.order n image pass (omega arith) in
       let cost = (header_prefix image n (omega arith)).1 in
       rw (all, whole, cost, opening, opened_prefix v (opening_of v.order image pass)) refl
@@ -216,10 +216,10 @@ module _ (location : HeaderLocation) (o : VolumeRequest) (image pass : List ℕ)
 
 -- a command has the same outcome on images with the same first bytes
 pub outcome_decided : (location : HeaderLocation) (o : VolumeRequest) (a b pass : List ℕ) (on_opened : OnOpened)
-    → take max_area_len a ≡ take max_area_len b
+    → take max_loaded_len a ≡ take max_loaded_len b
     → volume_outcome_by (reader_for location) on_opened o a pass
     ≡ volume_outcome_by (reader_for location) on_opened o b pass
 outcome_decided location o a b pass on_opened same =
-    sym (outcome_prefix location o a pass max_area_len (omega arith) on_opened)
+    sym (outcome_prefix location o a pass max_loaded_len (omega arith) on_opened)
     ∙ ap (λ bytes. volume_outcome_by (reader_for location) on_opened o bytes pass) same
-    ∙ outcome_prefix location o b pass max_area_len (omega arith) on_opened
+    ∙ outcome_prefix location o b pass max_loaded_len (omega arith) on_opened

@@ -15,7 +15,7 @@ use Rattle.luks_kdf.specs.declared.hash.Hash.{Hash}
 use Rattle.luks_kdf.proofs.StripesLemmas.{merged_split}
 use Rattle.luks_verdict.specs.Rule.{need_of}
 use Rattle.luks_unlock.proofs.SectorsUndone.{sector_decrypted-sector_encrypted}
-use Rattle.luks_open.specs.Candidate.{decrypted_material, material_sector, unlocked}
+use Rattle.luks_open.specs.Candidate.{decrypted_material, material_sector, recovered}
 use Rattle.luks_seal.specs.Sealed.{IsMaterial, IsStoredEncrypted}
 use Rattle.luks_verdict.specs.declared.slot.SlotParts.{SlotParts}
 
@@ -69,8 +69,8 @@ module _ (cipher : Cipher) (number : ℕ → ℕ) (size place : ℕ) (plain imag
 pub unlocked_again : (af : Hash) (cipher : Cipher) (parts : SlotParts) (key material image : List ℕ)
     → 0 < length key → IsBytes cipher.1 → IsMaterial af parts key material
     → IsStoredEncrypted cipher (λ i. i) 512 parts.area_offset material image
-    → unlocked af cipher image parts.area_offset (length key) parts.stripes ≡ key
-unfolding unlocked decrypted_material
+    → recovered af cipher image parts.area_offset (length key) parts.stripes ≡ key
+unfolding recovered decrypted_material
 unlocked_again af cipher parts key material image some keys made is_stored =
     let offset = parts.area_offset in
     let stripes = parts.stripes in

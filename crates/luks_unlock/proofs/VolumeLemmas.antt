@@ -6,26 +6,28 @@ use Rattle.luks_io.proofs.CountsLemmas.{reads_more}
 use Rattle.luks_io.specs.Counts.{Reads}
 use Rattle.luks_io.specs.Devices.{ConsumedExactly, counted}
 use Rattle.luks_io.specs.declared.counts.ReadCounts.{ReadCounts}
-use Rattle.luks_header.specs.Header.{AbortsReading, header_read_len, header_of}
+use Rattle.luks_header.specs.Header.{ReadsNoHeader, header_read_len, header_of}
 use Rattle.luks_header.proofs.HeaderLemmas.{memory_below}
 use Rattle.luks_header.specs.HeaderSegment.{segment_of}
 use Rattle.luks_header.specs.declared.header.Header.{Header}
 use Rattle.luks_area.specs.Area.{ConsumedOnto, HeaderAreaModel}
 use Rattle.luks_area.specs.declared.fault.HeaderFault.{HeaderFault}
-use Rattle.luks_area.specs.declared.fault.HeaderFault.TheVariants.{NotLuks as NoLuks, Cut as IsCut, Json as NoJson}
-use Rattle.luks_area.specs.declared.fault.HeaderFault.TheVariants.{Read as LostRead, Memory as NoMemory}
+use Rattle.luks_area.specs.declared.fault.HeaderFault.TheVariants.{NotLuks as HeaderNotLuks, Cut as HeaderCut}
+use Rattle.luks_area.specs.declared.fault.HeaderFault.TheVariants.{Json as HeaderJson}
+use Rattle.luks_area.specs.declared.fault.HeaderFault.TheVariants.{Read as HeaderRead, Memory as HeaderMemory}
 use Rattle.luks_verdict.specs.declared.refusal.SegmentFault.{SegmentFault}
 use Rattle.luks_verdict.specs.declared.segment.Segment.{Segment}
 use Rattle.luks_open.specs.Order.{OrderModel, order_of}
 use Rattle.luks_open.specs.declared.fault.OpenFault.{OpenFault}
-use Rattle.luks_open.specs.declared.fault.OpenFault.TheVariants.{NoSuchSlot as NotThere, Disabled, NamedSkipped}
-use Rattle.luks_open.specs.declared.fault.OpenFault.TheVariants.{NothingTried as NoneTried, NoKey as NoneOpens, Memory}
+use Rattle.luks_open.specs.declared.fault.OpenFault.TheVariants.{NoSuchSlot as OpenNoSuchSlot, Disabled, NamedSkipped}
+use Rattle.luks_open.specs.declared.fault.OpenFault.TheVariants.{NothingTried as OpenNothingTried, NoKey as OpenNoKey}
+use Rattle.luks_open.specs.declared.fault.OpenFault.TheVariants.{Memory}
 use Rattle.luks_report.specs.Faults.{message_for_header, message_for_opening}
 use Rattle.luks_request.specs.Request.{VolumeRequest}
 use Rattle.luks_runs.proofs.HeaderConsumption.{header_read_len_within, reading_fault}
-use Rattle.luks_unlock.specs.Finding.{AbortsFinding, FindsVolume}
-use Rattle.luks_unlock.specs.Trying.{HitsEndOfAreas}
-use Rattle.luks_unlock.specs.declared.finding.FoundVolume.{FoundVolume}
+use Rattle.luks_unlock.specs.Found.{FindsNoVolume, FindsVolume}
+use Rattle.luks_unlock.specs.Trying.{HitsMaterialEof}
+use Rattle.luks_unlock.specs.declared.found.FoundVolume.{FoundVolume}
 use Rattle.luks_runs.specs.Run.{is_run_read_failure}
 use Rattle.luks_runs.specs.Location.{LoadedFrom, reader_for}
 use Rattle.luks_unlock.specs.Volume.{volume_by, volume_in_header}
@@ -34,8 +36,10 @@ use Rattle.luks_report.specs.declared.message.Message.{Message}
 use Rattle.luks_report.specs.declared.message.Message.TheVariants.{OutOfMemory, ReadFailed, SegmentRefused}
 
 -- the loaded area is as long as what reading the header consumes
-pub cost_held : (image area : List ℕ) → area ≡ take (header_read_len image) image → length area ≡ header_read_len image
-cost_held image area prefix = ap length prefix ∙ length-take-le (header_read_len image) image (header_read_len_within
+pub loaded_read_len : (image area : List ℕ) → area ≡ take (header_read_len image) image
+    → length area ≡ header_read_len image
+loaded_read_len image area prefix =
+    ap length prefix ∙ length-take-le (header_read_len image) image (header_read_len_within
     image)
 
 -- nothing is consumed from an image of which no bytes remain
@@ -81,12 +85,12 @@ reads_within failed false a b c first kept then = reads_more failed false a b c 
 -- no fault of opening is reported as a failed read, or as an image that ended
 pub opening_reads : (named : Option ℕ) (fault : OpenFault) (a b : ReadCounts) → Reads false false a b
     → (ended : Bool) × Reads (is_run_read_failure (message_for_opening named fault)) ended a b
-    × HitsEndOfAreas (message_for_opening named fault) ended
-opening_reads named NotThere a b reads = (false, reads, refl)
+    × HitsMaterialEof (message_for_opening named fault) ended
+opening_reads named OpenNoSuchSlot a b reads = (false, reads, refl)
 opening_reads named Disabled a b reads = (false, reads, refl)
 opening_reads named (NamedSkipped reason) a b reads = (false, reads, refl)
-opening_reads named (NoneTried skipped) a b reads = (false, reads, refl)
-opening_reads named (NoneOpens skipped) a b reads = (false, reads, refl)
+opening_reads named (OpenNothingTried skipped) a b reads = (false, reads, refl)
+opening_reads named (OpenNoKey skipped) a b reads = (false, reads, refl)
 opening_reads named Memory a b reads = (false, reads, refl)
 
 -- ---- the header of an image
@@ -97,19 +101,19 @@ module _ (location : HeaderLocation) (o : VolumeRequest) (image : List ℕ) (lef
   unfolding volume_by
   no_header fault none = rw (reading_fault location image fault none) refl
 
-  pub aborts_without_header : (ends ends' : ℕ) (fault : HeaderFault) → AbortsReading image left ends ends' fault
-      → AbortsFinding (reader_for location) o image left (message_for_header fault)
-  aborts_without_header ends ends' NoLuks stop = (no_header NoLuks stop.0, stop.1.0)
-  aborts_without_header ends ends' IsCut stop = (no_header IsCut stop.0, stop.1.0)
-  aborts_without_header ends ends' NoJson stop = (no_header NoJson stop.0, stop.1.0)
-  aborts_without_header ends ends' LostRead stop = stop.0
-  aborts_without_header ends ends' NoMemory stop = memory_below image left ends ends' stop
+  pub aborts_without_header : (ends ends' : ℕ) (fault : HeaderFault) → ReadsNoHeader image left ends ends' fault
+      → FindsNoVolume (reader_for location) o image left (message_for_header fault)
+  aborts_without_header ends ends' HeaderNotLuks stop = (no_header HeaderNotLuks stop.0, stop.1.0)
+  aborts_without_header ends ends' HeaderCut stop = (no_header HeaderCut stop.0, stop.1.0)
+  aborts_without_header ends ends' HeaderJson stop = (no_header HeaderJson stop.0, stop.1.0)
+  aborts_without_header ends ends' HeaderRead stop = stop.0
+  aborts_without_header ends ends' HeaderMemory stop = memory_below image left ends ends' stop
 
   module _ (header : Header) (found : reader_for location image ≡ Ok header) where
-    -- if there is no volume with this header, or memory for the order of its key slots ran out, finding it was aborted
+    -- if there is no volume with this header, or memory for the order of its key slots ran out, no volume is found
     pub aborts_without_slots : ConsumedExactly image left (header_read_len image) → (message : Message)
         → (message ≡ OutOfMemory) ⊎ (volume_in_header o (Ok header) ≡ Err message)
-        → AbortsFinding (reader_for location) o image left message
+        → FindsNoVolume (reader_for location) o image left message
     unfolding volume_by
     aborts_without_slots rest OutOfMemory why = (header_read_len image, omega arith, rest)
     aborts_without_slots rest ReadFailed why = (header_read_len image, omega arith, rest)

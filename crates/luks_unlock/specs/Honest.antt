@@ -22,7 +22,7 @@ pub record ComesFirst (number : ℕ) (entries : List Entry) (image passphrase ke
 
 -- the image is an honestly sealed volume of this plaintext; this passphrase is no longer than a key file may be, and is
 -- that of a key slot to be tried, before which no key slot gives another key under it
-pub record IsHonest (o : VolumeRequest) (image passphrase plain : List ℕ) : Type 0 where
+pub record OpensHonest (o : VolumeRequest) (image passphrase plain : List ℕ) : Type 0 where
   pub passphrases : List (ℕ × List ℕ)
   pub key : List ℕ
   pub sealed : Sealed image passphrases key plain
@@ -31,4 +31,4 @@ pub record IsHonest (o : VolumeRequest) (image passphrase plain : List ℕ) : Ty
   pub short : length passphrase ≤ max_key_file_len
   pub order : OrderModel
   pub is_order : order_of sealed.header o.key_slot o.max_iterations ≡ Ok order
-  pub first : ComesFirst number order.slots image passphrase key
+  pub first : ComesFirst number order.entries image passphrase key

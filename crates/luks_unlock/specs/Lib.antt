@@ -1,4 +1,4 @@
-pub mod Finding
+pub mod Found
 pub mod Honest
 pub mod OpeningMessages
 pub mod Trying

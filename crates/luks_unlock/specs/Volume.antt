@@ -7,7 +7,7 @@ use Rattle.luks_header.specs.declared.header.Header.{Header}
 use Rattle.luks_area.specs.declared.fault.HeaderFault.{HeaderFault}
 use Rattle.luks_verdict.specs.declared.refusal.SegmentFault.{SegmentFault}
 use Rattle.luks_verdict.specs.declared.segment.Segment.{Segment}
-use Rattle.luks_open.specs.Order.{OrderModel, key_areas_end, order_of}
+use Rattle.luks_open.specs.Order.{OrderModel, key_material_end, order_of}
 use Rattle.luks_open.specs.declared.fault.OpenFault.{OpenFault}
 use Rattle.luks_report.specs.Faults.{message_for_header, message_for_opening, message_at_end}
 use Rattle.luks_request.specs.Request.{VolumeRequest}
@@ -52,17 +52,17 @@ volume_by read o image = volume_in_header o (read image)
 abbrev pub volume_of : VolumeRequest → List ℕ → Result Volume Message
 volume_of = volume_by header_of
 
--- the number of bytes of the image that are consumed to open the volume: those of the header and of the key areas of
--- the slots to be tried
-abbrev pub loaded_for : List ℕ → Volume → ℕ
-loaded_for image volume = max (header_read_len image) (key_areas_end volume.order.slots)
+-- the number of bytes of the image that are consumed to open the volume: up to the end of those read for the header or
+-- of the last key material of the slots to be tried, whichever comes last
+abbrev pub unlock_read_len : List ℕ → Volume → ℕ
+unlock_read_len image volume = max (header_read_len image) (key_material_end volume.order.entries)
 
 -- what a command does with an opened volume, by its segment, the key slot and key that opened it, and the number of
 -- bytes of its image that were consumed so far
 abbrev pub OnOpened : Type 0
 OnOpened = Segment → Opened → ℕ → Outcome
 
--- `testPassphrase`: the key slot that opens is reported
+-- `testPassphrase`: the line about the key slot that opens is written
 abbrev pub slot_outcome : List ℕ → OnOpened
 slot_outcome secret segment opened loaded = record {
   output = opened_line opened.slot;
@@ -95,17 +95,18 @@ detached_payload_outcome image secret segment opened loaded = record {
 -- the outcome after the key slots were tried
 abbrev pub opened_outcome : OnOpened → Option ℕ → Volume → List ℕ → List ℕ → Result Opened OpenFault → Outcome
 opened_outcome on_opened named volume image secret (Ok opened) =
-    on_opened volume.segment opened (loaded_for image volume)
+    on_opened volume.segment opened (unlock_read_len image volume)
 opened_outcome on_opened named volume image secret (Err fault) =
-    no_output (message_for_opening named fault) (loaded_for image volume) (length secret)
+    no_output (message_for_opening named fault) (unlock_read_len image volume) (length secret)
 
--- the outcome if a volume was found: the key file is read whole, then the image up to the end of the key areas, and the
--- key slots are tried
+-- the outcome if a volume was found: the key file is read whole, then the image up to the end of the last key material,
+-- and the key slots are tried
 unfoldable pub found_outcome : OnOpened → Option ℕ → Volume → List ℕ → List ℕ → Outcome
 found_outcome on_opened named volume image secret =
     if nat_lt max_key_file_len (length secret) then no_output KeyFileLength (header_read_len image)
     (max_key_file_len + 1)
-    else (if nat_lt (length image) (key_areas_end volume.order.slots) then no_output Cut (length image) (length secret)
+    else (if nat_lt (length image) (key_material_end volume.order.entries)
+    then no_output Cut (length image) (length secret)
     else opened_outcome on_opened named volume image secret (opening_of volume.order image secret))
 
 -- the outcome, whether or not a volume was found

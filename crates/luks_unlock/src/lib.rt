@@ -4,6 +4,6 @@
 //! This crate also defines the outcome of a command that opens a volume.
 #![tactic(auto)]
 
-pub mod finding;
+pub mod found;
 pub mod trying;
 pub mod unlocked;

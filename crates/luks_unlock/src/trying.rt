@@ -5,11 +5,11 @@ ghost use Rattle.luks_io.specs.Counts.{Reads};
 ghost use Rattle.luks_io.specs.Devices.{IfKnown};
 ghost use Rattle.luks_request.specs.Request.{volume_request};
 ghost use Rattle.luks_runs.specs.Run.{is_run_read_failure, result_message};
-ghost use Rattle.luks_unlock.specs.Finding.{HasSlots};
+ghost use Rattle.luks_unlock.specs.Found.{MatchesHeader};
 ghost use Rattle.luks_unlock.specs.OpeningMessages.{OpeningMessage};
-ghost use Rattle.luks_unlock.specs.Trying.{CountsTrials, HitsEndOfAreas, TriesSlots};
+ghost use Rattle.luks_unlock.specs.Trying.{CountsTrials, HitsMaterialEof, TriesSlots};
 
-use crate::finding::{FoundVolume, named_slot};
+use crate::found::{FoundVolume, named_slot};
 use crate::unlocked::UnlockedVolume;
 use luks_io::source::Source;
 use luks_kdf::Work;
@@ -18,9 +18,9 @@ use luks_open::ordered::held_end;
 use luks_report::message::Message;
 use luks_request::command::VolumeArgs;
 
-/// Tries the key slots of a volume under a passphrase, after reading the key areas behind its
-/// header. Nothing is read if the end of the image was hit before. The count of work is raised once
-/// by the cost of [`open`], or not at all.
+/// Tries the key slots of a volume under a passphrase, after reading on in the image up to the end
+/// of the last key material. Nothing is read if the end of the image was hit before. The count of
+/// work is raised once by the cost of [`open`], or not at all.
 pub fn try_slots<I: Source>(
     opening: &VolumeArgs<'_>,
     volume: &mut FoundVolume,
@@ -28,7 +28,7 @@ pub fn try_slots<I: Source>(
     pass: &[u8],
     work: &mut Work,
 ) -> Result<UnlockedVolume, Message>
-    requires { HasSlots (volume_request opening.now) volume.old }
+    requires { MatchesHeader (volume_request opening.now) volume.old }
     ensures run { IfKnown (I.to_come image.old) (λ rest.
         (volume.old.area.ended ≡ true → rest ≡ [])
         → TriesSlots (volume_request opening.now).key_slot volume.old.segment volume.old.order
@@ -39,7 +39,7 @@ pub fn try_slots<I: Source>(
     ensures reads { (ended : Bool)
         × Reads (is_run_read_failure (result_message result)) ended
         (I.counts image.old) (I.counts image.new)
-        × HitsEndOfAreas (result_message result) ended }
+        × HitsMaterialEof (result_message result) ended }
     ensures ended { volume.old.area.ended ≡ true → image.new ≡ image.old }
     ensures area { IfOk result (λ _. volume.new.area.ended ≡ volume.old.area.ended) }
 {

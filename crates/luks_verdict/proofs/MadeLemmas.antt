@@ -9,7 +9,7 @@ use Rattle.luks_cipher.specs.declared.mode.Mode.{Mode}
 use Rattle.luks_verdict.specs.Digest.{digest_from, digest_of, has_no_usable_digest, is_usable}
 use Rattle.luks_verdict.specs.Evidence.{evidence_if}
 use Rattle.luks_verdict.specs.Rule.{InRange, IsDigest, in_range, iterations_out_of_range, usable_digest}
-use Rattle.luks_verdict.specs.SectorSize.{AreWhole, are_sectors, are_whole}
+use Rattle.luks_verdict.specs.SectorSize.{HasWholeSectors, has_whole_sectors, whole_by_test}
 use Rattle.luks_verdict.specs.Segment.{refused_or, segment_by, segment_of_all, segment_with}
 use Rattle.luks_verdict.specs.Slot.{are_in_range, parts_end, slot_from, slot_of, slot_with}
 use Rattle.luks_verdict.specs.declared.digest.DigestParts.{DigestParts}
@@ -72,23 +72,23 @@ digest_made parts usable is =
     ∙ sym (digest_from-yes parts is)
 
 pub segment_of_all-yes : (offset : ℕ) (size : Option ℕ) (iv_tweak : ℕ) (sector_size : SectorSize) (mode : Mode)
-    (is : are_sectors size sector_size ≡ true)
+    (is : has_whole_sectors size sector_size ≡ true)
     → segment_of_all (Some offset) (Some size) (Some iv_tweak) (Some sector_size) (Some mode)
     ≡ Some (segment_by offset size iv_tweak sector_size mode is)
 segment_of_all-yes offset size iv_tweak sector_size mode is =
     ap (option_map (segment_by offset size iv_tweak sector_size mode))
-    (evidence_if-yes (are_sectors size sector_size) is)
+    (evidence_if-yes (has_whole_sectors size sector_size) is)
 
 pub segment_made : (offset : ℕ) (size : Option ℕ) (iv_tweak : ℕ) (sector_size : SectorSize) (mode : Mode)
-    (whole : AreWhole size sector_size)
-    → are_sectors size sector_size ≡ true
+    (whole : HasWholeSectors size sector_size)
+    → has_whole_sectors size sector_size ≡ true
     → Some (segment_with offset size iv_tweak sector_size mode whole)
     ≡ segment_of_all (Some offset) (Some size) (Some iv_tweak) (Some sector_size) (Some mode)
 unfolding segment_by
 segment_made offset size iv_tweak sector_size mode whole is =
-    let all : IsProp (AreWhole size sector_size) = hlevel (ℕ_set) in
-    ap (λ (w : AreWhole size sector_size). Some (segment_with offset size iv_tweak sector_size mode w))
-    (all whole (are_whole size sector_size is))
+    let all : IsProp (HasWholeSectors size sector_size) = hlevel (ℕ_set) in
+    ap (λ (w : HasWholeSectors size sector_size). Some (segment_with offset size iv_tweak sector_size mode w))
+    (all whole (whole_by_test size sector_size is))
     ∙ sym (segment_of_all-yes offset size iv_tweak sector_size mode is)
 
 -- a segment with a fault is refused with that fault

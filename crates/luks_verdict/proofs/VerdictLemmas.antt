@@ -7,13 +7,13 @@ use Rattle.luks_verdict.specs.declared.digest.KeyDigest.{KeyDigest}
 use Rattle.luks_verdict.specs.declared.slot.Slot.{Slot}
 use Rattle.luks_verdict.specs.declared.slot.Verdict.{Verdict}
 use Rattle.luks_verdict.specs.declared.slot.Verdict.TheVariants.{Usable, Disabled, Skipped}
-use Rattle.luks_verdict.specs.declared.slot.VerdictKind.TheVariants.{Usable as Open, Disabled as Unused}
-use Rattle.luks_verdict.specs.declared.slot.VerdictKind.TheVariants.{Skipped as Shut}
+use Rattle.luks_verdict.specs.declared.slot.VerdictKind.TheVariants.{Usable as KindUsable, Disabled as KindDisabled}
+use Rattle.luks_verdict.specs.declared.slot.VerdictKind.TheVariants.{Skipped as KindSkipped}
 use Rattle.luks_verdict.specs.declared.refusal.SkipReason.{SkipReason}
 
 -- if the kind of a verdict is that the slot can be tried, the verdict has what is needed to open it
 pub usable_from_open : (verdict : Option Verdict) (priority : ℕ)
-    → option_map verdict_kind_of verdict ≡ Some (Open priority)
+    → option_map verdict_kind_of verdict ≡ Some (KindUsable priority)
     → (slot : Slot) × (verdict ≡ Some (Usable slot)) × (slot.parts.priority ≡ priority)
 usable_from_open (Some (Usable slot)) priority is = (slot, refl, cc)
 usable_from_open (Some Disabled) priority is = absurd cc
@@ -21,7 +21,7 @@ usable_from_open (Some (Skipped reason)) priority is = absurd cc
 usable_from_open None priority is = absurd cc
 
 -- if its kind is that the slot is not in use, the verdict is that too
-pub unused_from_unused : (verdict : Option Verdict) → option_map verdict_kind_of verdict ≡ Some Unused
+pub unused_from_unused : (verdict : Option Verdict) → option_map verdict_kind_of verdict ≡ Some KindDisabled
     → verdict ≡ Some Disabled
 unused_from_unused (Some (Usable slot)) is = absurd cc
 unused_from_unused (Some Disabled) is = refl
@@ -30,7 +30,7 @@ unused_from_unused None is = absurd cc
 
 -- if its kind is that the slot is skipped, the verdict is that too
 pub skipped_from_shut : (verdict : Option Verdict) (reason : SkipReason)
-    → option_map verdict_kind_of verdict ≡ Some (Shut reason) → verdict ≡ Some (Skipped reason)
+    → option_map verdict_kind_of verdict ≡ Some (KindSkipped reason) → verdict ≡ Some (Skipped reason)
 skipped_from_shut (Some (Usable slot)) reason is = absurd cc
 skipped_from_shut (Some Disabled) reason is = absurd cc
 skipped_from_shut (Some (Skipped other)) reason is = cc

@@ -4,7 +4,7 @@ use Rattle.std.specs.Prelude.{◌≡◌, ℕ, ◌+◌, ◌*◌, ◌/◌, ◌≤�
 use Rattle.std.specs.Prelude.{Some, None}
 use Rattle.std.proofs.Common.{arith}
 use Rattle.std.proofs.lemmas.Bool.Decides.{nat_tests}
-use Rattle.luks_area.specs.Area.{max_area_len}
+use Rattle.luks_area.specs.Area.{max_loaded_len}
 
 -- the largest number of slots in a header; they are numbered from 0
 abbrev pub max_slots : ℕ
@@ -47,12 +47,12 @@ need_of key_bytes stripes = (key_bytes * stripes + 511) / 512 * 512
 -- ends past the payload's start, if that is known, or past the largest number of bytes that are loaded of an image
 unfoldable pub area_out_of_range : ℕ → Option ℕ → ℕ → ℕ → ℕ → Bool
 area_out_of_range start payload offset size need =
-    nat_lt offset start || nat_lt size need || exceeds payload (offset + need) || nat_lt max_area_len (offset + need)
+    nat_lt offset start || nat_lt size need || exceeds payload (offset + need) || nat_lt max_loaded_len (offset + need)
 
 -- the numbers of a slot are in range: its iterations, its stripes and where its key material ends
 unfoldable pub is_in_range : ℕ → ℕ → ℕ → Bool
 is_in_range iterations stripes end = not (iterations_out_of_range None iterations) && not (stripes_out_of_range stripes)
-    && not (nat_lt max_area_len end)
+    && not (nat_lt max_loaded_len end)
 
 -- a digest with this number of iterations and this length can be used
 unfoldable pub is_digest : ℕ → ℕ → Bool
@@ -65,7 +65,7 @@ pub record InRange (iterations stripes end : ℕ) : Type 0 where
   pub few_iterations : iterations ≤ max_iteration_count
   pub some_stripes : 1 ≤ stripes
   pub few_stripes : stripes ≤ max_stripes
-  pub held : end ≤ max_area_len
+  pub loadable : end ≤ max_loaded_len
 
 pub in_range : (iterations stripes end : ℕ) → is_in_range iterations stripes end ≡ true → InRange iterations stripes end
 unfolding is_in_range iterations_out_of_range stripes_out_of_range
@@ -74,7 +74,7 @@ in_range iterations stripes end is = record {
   few_iterations = grind (arith, nat_tests);
   some_stripes = grind (arith, nat_tests);
   few_stripes = grind (arith, nat_tests);
-  held = grind (arith, nat_tests);
+  loadable = grind (arith, nat_tests);
 }
 
 -- the bounds of the numbers of a digest that can be used

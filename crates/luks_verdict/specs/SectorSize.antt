@@ -15,16 +15,16 @@ bytes_of B2048 = 2048
 bytes_of B4096 = 4096
 
 -- the length of a payload is a multiple of the sectors' length, if it is fixed
-abbrev pub are_sectors : Option ℕ → SectorSize → Bool
-are_sectors None sector_size = true
-are_sectors (Some bytes) sector_size = bytes % bytes_of sector_size == 0
+abbrev pub has_whole_sectors : Option ℕ → SectorSize → Bool
+has_whole_sectors None sector_size = true
+has_whole_sectors (Some bytes) sector_size = bytes % bytes_of sector_size == 0
 
--- what `are_sectors` tests, as a type
-abbrev pub AreWhole : Option ℕ → SectorSize → Type 0
-AreWhole size sector_size = ForSome size (λ bytes. bytes % bytes_of sector_size ≡ 0)
+-- what `has_whole_sectors` tests, as a type
+abbrev pub HasWholeSectors : Option ℕ → SectorSize → Type 0
+HasWholeSectors size sector_size = ForSome size (λ bytes. bytes % bytes_of sector_size ≡ 0)
 
-pub are_whole : (size : Option ℕ) (sector_size : SectorSize) → are_sectors size sector_size ≡ true
-    → AreWhole size sector_size
-are_whole None sector_size is = λ bytes some. absurd (none-some bytes some)
-are_whole (Some fixed) sector_size is = λ bytes some.
+pub whole_by_test : (size : Option ℕ) (sector_size : SectorSize) → has_whole_sectors size sector_size ≡ true
+    → HasWholeSectors size sector_size
+whole_by_test None sector_size is = λ bytes some. absurd (none-some bytes some)
+whole_by_test (Some fixed) sector_size is = λ bytes some.
     ap (λ n. n % bytes_of sector_size) (sym (same_Some fixed bytes some)) ∙ eqb-true (fixed % bytes_of sector_size) 0 is

@@ -2,7 +2,7 @@
 use Rattle.std.specs.Prelude.{◌≡◌, ◌≢◌, ℕ, true, Option, Some, None, Result, Ok, Err, option_map, refl}
 use Rattle.luks_cipher.specs.declared.mode.Mode.{Mode}
 use Rattle.luks_verdict.specs.Evidence.{evidence_if}
-use Rattle.luks_verdict.specs.SectorSize.{AreWhole, are_sectors, are_whole}
+use Rattle.luks_verdict.specs.SectorSize.{HasWholeSectors, has_whole_sectors, whole_by_test}
 use Rattle.luks_verdict.specs.declared.refusal.SegmentFault.{SegmentFault}
 use Rattle.luks_verdict.specs.declared.sector_size.SectorSize.{SectorSize}
 use Rattle.luks_verdict.specs.declared.segment.Segment.{Segment}
@@ -10,7 +10,7 @@ use Rattle.luks_verdict.specs.declared.segment.SegmentParts.{SegmentParts}
 
 -- the segment with these numbers. Its length is a multiple of the sectors' length, if it is fixed
 abbrev pub segment_with : (offset : ℕ) (size : Option ℕ) (iv_tweak : ℕ) (sector_size : SectorSize) (mode : Mode)
-    → AreWhole size sector_size → Segment
+    → HasWholeSectors size sector_size → Segment
 segment_with offset size iv_tweak sector_size mode whole = record {
   offset = offset;
   size = size;
@@ -22,14 +22,14 @@ segment_with offset size iv_tweak sector_size mode whole = record {
 
 -- the same segment, from a test of its length
 unfoldable pub segment_by : (offset : ℕ) (size : Option ℕ) (iv_tweak : ℕ) (sector_size : SectorSize) (mode : Mode)
-    → are_sectors size sector_size ≡ true → Segment
+    → has_whole_sectors size sector_size ≡ true → Segment
 segment_by offset size iv_tweak sector_size mode is =
-    segment_with offset size iv_tweak sector_size mode (are_whole size sector_size is)
+    segment_with offset size iv_tweak sector_size mode (whole_by_test size sector_size is)
 
 -- the segment with these parts, if each is present and in range
 abbrev pub segment_of_all : Option ℕ → Option (Option ℕ) → Option ℕ → Option SectorSize → Option Mode → Option Segment
 segment_of_all (Some offset) (Some size) (Some iv_tweak) (Some sector_size) (Some mode) =
-    option_map (segment_by offset size iv_tweak sector_size mode) (evidence_if (are_sectors size sector_size))
+    option_map (segment_by offset size iv_tweak sector_size mode) (evidence_if (has_whole_sectors size sector_size))
 segment_of_all _ _ _ _ _ = None
 
 -- the segment with the parts that were read, if each is present and in range

@@ -9,8 +9,8 @@ use Rattle.luks_verdict.specs.declared.slot.SlotParts.{SlotParts}
 use Rattle.luks_verdict.specs.declared.slot.Verdict.{Verdict}
 use Rattle.luks_verdict.specs.declared.slot.Verdict.TheVariants.{Usable, Disabled, Skipped}
 use Rattle.luks_verdict.specs.declared.slot.VerdictKind.{VerdictKind}
-use Rattle.luks_verdict.specs.declared.slot.VerdictKind.TheVariants.{Usable as Open, Disabled as Unused}
-use Rattle.luks_verdict.specs.declared.slot.VerdictKind.TheVariants.{Skipped as Shut}
+use Rattle.luks_verdict.specs.declared.slot.VerdictKind.TheVariants.{Usable as KindUsable, Disabled as KindDisabled}
+use Rattle.luks_verdict.specs.declared.slot.VerdictKind.TheVariants.{Skipped as KindSkipped}
 
 -- the end of the key material in the image, by the parts of its key slot
 abbrev pub parts_end : SlotParts → ℕ
@@ -36,7 +36,8 @@ slot_of parts is = slot_with parts (in_range parts.iterations parts.stripes (par
 unfoldable pub slot_from : SlotParts → Option Slot
 slot_from parts = option_map (slot_of parts) (evidence_if (are_in_range parts))
 
--- a key slot can be tried if there is no reason to skip it. (Its parts are then present and in range.)
+-- a key slot can be tried if there is no reason to skip it. The third case does not occur: without a reason the parts
+-- are in range
 abbrev pub verdict_by : Option SkipReason → Option Slot → Verdict
 verdict_by (Some reason) slot = Skipped reason
 verdict_by None (Some slot) = Usable slot
@@ -44,6 +45,6 @@ verdict_by None None = Skipped Member
 
 -- the verdict on a key slot, without what is needed to open it
 abbrev pub verdict_kind_of : Verdict → VerdictKind
-verdict_kind_of (Usable slot) = Open slot.parts.priority
-verdict_kind_of Disabled = Unused
-verdict_kind_of (Skipped reason) = Shut reason
+verdict_kind_of (Usable slot) = KindUsable slot.parts.priority
+verdict_kind_of Disabled = KindDisabled
+verdict_kind_of (Skipped reason) = KindSkipped reason

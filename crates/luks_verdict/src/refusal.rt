@@ -11,7 +11,7 @@ pub enum SkipReason {
     State,
     /// LUKS2: no object of type `luks2`.
     Kind,
-    /// LUKS2: a member is missing or of a wrong kind.
+    /// LUKS2: a member is missing, of the wrong type, or has a value that luksrd does not know.
     Member,
     /// LUKS2: the key is derived by Argon2i.
     Argon2i,
@@ -35,8 +35,8 @@ pub enum SkipReason {
     /// payload's start. LUKS2: or the area's size is below what the key material needs. The
     /// payload's start is no bound for a detached header, nor, in LUKS2, if the segment is refused.
     Area,
-    /// LUKS2: no usable digest lists the slot and the segment. Or the digest's iterations are 0 or
-    /// above the limit.
+    /// LUKS1: the digest is not usable: its iterations are 0. LUKS2: no usable digest lists the
+    /// slot and segment `0`. Both: the digest has more iterations than the limit.
     Digest,
 }
 
@@ -66,11 +66,11 @@ impl SkipReason {
 /// Why a payload cannot be read. If there are several faults, it is the first in this order.
 #[derive(Clone, Copy, PartialEq, Eq, Debug)]
 pub enum SegmentFault {
-    /// LUKS2: the configuration has requirements.
+    /// LUKS2: the configuration requires something of a program that reads the volume.
     Requirement,
     /// LUKS2: there is not exactly one segment, named `0`.
     Segments,
-    /// LUKS2: a member is missing or of a wrong kind.
+    /// LUKS2: a member is missing or of the wrong type.
     Member,
     /// LUKS2: the type is not `crypt`.
     Kind,
@@ -85,7 +85,8 @@ pub enum SegmentFault {
     KeyBytes,
     /// LUKS2: the length of a sector is not 512, 1024, 2048 or 4096 bytes.
     SectorSize,
-    /// The payload starts within a sector of 512 bytes, or inside an attached header.
+    /// The payload does not start at a multiple of 512 bytes, or it starts inside an attached
+    /// header.
     Offset,
     /// LUKS2: the length of the payload is fixed and not a multiple of the sectors' length.
     Size,

@@ -13,10 +13,10 @@ pub const MAX_SLOTS: u8 = 32;
 pub const MAX_STRIPES: u64 = 4000;
 
 /// The largest number of PBKDF2 iterations.
-pub const MAX_ITERATIONS: u64 = 4_294_967_295;
+pub const MAX_ITERATION_COUNT: u64 = 4_294_967_295;
 
-/// The end of the longest area.
-const MAX_AREA_LEN: u64 = HeaderArea::MAX_LEN as u64;
+/// The largest number of bytes of an image that are loaded.
+const MAX_LOADED_LEN: u64 = HeaderArea::MAX_LEN as u64;
 
 /// Whether this number of iterations is refused: 0, more than fits into four bytes, or above the
 /// limit.
@@ -25,7 +25,7 @@ pub fn iterations_out_of_range(limit: Option<u32>, iterations: u64) -> bool
     ensures { result ≡ iterations_out_of_range limit iterations }
 {
     iterations == 0
-        || MAX_ITERATIONS < iterations
+        || MAX_ITERATION_COUNT < iterations
         || limit.is_some_and(|limit| u64::from(limit) < iterations)
 }
 
@@ -65,7 +65,7 @@ pub fn area_out_of_range(
     offset < start
         || size < need
         || payload.is_some_and(|payload| payload < end)
-        || MAX_AREA_LEN < end
+        || MAX_LOADED_LEN < end
 }
 
 /// Whether the numbers of a slot are in range: its iterations, its stripes, and where the `need`
@@ -79,7 +79,7 @@ pub fn in_range(iterations: u64, stripes: u64, offset: u64, need: u64) -> bool
     };
     !iterations_out_of_range(None, iterations)
         && !stripes_out_of_range(stripes)
-        && end <= MAX_AREA_LEN
+        && end <= MAX_LOADED_LEN
 }
 
 /// Whether a digest with this number of iterations and bytes can be used: the iterations are in

@@ -2,7 +2,7 @@
 
 ghost use Rattle.std.specs.Prelude.{◌≡◌, ◌%◌};
 ghost use Rattle.std.specs.Option.{ForSome};
-ghost use Rattle.luks_verdict.specs.SectorSize.{are_sectors, bytes_of};
+ghost use Rattle.luks_verdict.specs.SectorSize.{has_whole_sectors, bytes_of};
 
 use crate::sector_size::SectorSize;
 use luks_cipher::Mode;
@@ -39,8 +39,8 @@ pub struct SegmentParts {
 }
 
 // The length is a multiple of the sectors' length, if it is fixed.
-fn in_sectors(size: Option<u64>, sector_size: SectorSize) -> bool
-    ensures { result ≡ are_sectors size sector_size }
+fn has_whole_sectors(size: Option<u64>, sector_size: SectorSize) -> bool
+    ensures { result ≡ has_whole_sectors size sector_size }
 {
     match size {
         Some(bytes) => bytes % sector_size.bytes() as u64 == 0,
@@ -62,7 +62,7 @@ impl Segment {
         let iv_tweak = parts.iv_tweak?;
         let sector_size = parts.sector_size?;
         let mode = parts.mode?;
-        if !in_sectors(size, sector_size) {
+        if !has_whole_sectors(size, sector_size) {
             return None;
         }
         Some(Segment {

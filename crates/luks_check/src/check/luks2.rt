@@ -1,21 +1,28 @@
 //! The finding about the two headers of LUKS2.
 
 ghost use Rattle.std.specs.Prelude.{◌≡◌, ◌++◌, OnOk, string_bytes};
-ghost use Rattle.luks_check.specs.Findings2.{header_finding};
+ghost use Rattle.luks_check.specs.Findings2.{pair_finding_line};
 
 use luks_dump::field::push_field;
-use luks_header::header::Finding;
+use luks_header::header::PairFinding;
 use std::alloc::AllocError;
 
 /// Adds the finding about the two headers.
-pub(crate) fn push_finding(lines: &mut String, finding: Option<Finding>) -> Result<(), AllocError>
+pub(crate) fn push_finding(
+    lines: &mut String,
+    finding: Option<PairFinding>,
+) -> Result<(), AllocError>
     ensures { OnOk result
-        (string_bytes lines.new ≡ string_bytes lines.old ++ header_finding finding) }
+        (string_bytes lines.new ≡ string_bytes lines.old ++ pair_finding_line finding) }
 {
     match finding {
         None => Ok(()),
-        Some(Finding::PrimaryNotValid) => push_field(lines, "primary header", "not valid"),
-        Some(Finding::SecondaryNotValid) => push_field(lines, "secondary header", "not valid"),
-        Some(Finding::SequencesDiffer) => push_field(lines, "headers", "sequence numbers differ"),
+        Some(PairFinding::PrimaryNotValid) => push_field(lines, "primary header", "not valid"),
+        Some(PairFinding::SecondaryNotValid) => push_field(lines, "secondary header", "not valid"),
+        Some(PairFinding::SequencesDiffer) => push_field(
+            lines,
+            "headers",
+            "sequence numbers differ",
+        ),
     }
 }

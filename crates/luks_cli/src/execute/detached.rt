@@ -3,7 +3,7 @@
 ghost use Rattle.std.specs.Prelude.{◌≡◌, true};
 ghost use Rattle.luks_request.specs.Request.{has_header_file, request_of};
 ghost use Rattle.luks_cli.specs.Detached.{CountsCallsDetached, NeedsNoPayload};
-ghost use Rattle.luks_cli.specs.Detached.{NeedsNoSecretDetached, ReadsDetachedImage, RunsDetached};
+ghost use Rattle.luks_cli.specs.Detached.{NeedsNoSecretDetached, ReadsPayloadImage, RunsDetached};
 ghost use Rattle.luks_cli.specs.CommandRun.{ReadsFirst};
 ghost use Rattle.luks_cli.specs.CommandMessages.{MayReport};
 
@@ -45,7 +45,7 @@ pub fn execute_detached<H: Source, I: Source, K: Source, O: Sink>(
     ensures reads_first { ReadsFirst (request_of command.now) → result.message ≡ Message.ReadFailed
         → out.new ≡ out.old }
     ensures calls { CountsCallsDetached
-        (ReadsDetachedImage (request_of command.now) (H.to_come header.old) (K.to_come secret.old))
+        (ReadsPayloadImage (request_of command.now) (H.to_come header.old) (K.to_come secret.old))
         result.message (H.counts header.old) (H.counts header.new)
         (I.counts image.old) (I.counts image.new) (K.counts secret.old) (K.counts secret.new)
         (O.counts out.old) (O.counts out.new) }

@@ -4,7 +4,7 @@ ghost use Rattle.std.specs.Prelude.{◌≡◌, ◌<◌, ◌⊎◌, ◌^◌, [], 
 ghost use Rattle.std.specs.Prelude.{IfOk, IfErr, false, is_err, length, true};
 ghost use Rattle.luks_io.specs.Counts.{Reads, Writes};
 ghost use Rattle.luks_io.specs.Devices.{Appended, ConsumedExactly, IfKnown};
-ghost use Rattle.luks_unlock.specs.Finding.{HasSlots};
+ghost use Rattle.luks_unlock.specs.Found.{MatchesHeader};
 ghost use Rattle.luks_unlock.specs.OpeningMessages.{OpeningMessage};
 ghost use Rattle.luks_unlock.specs.Trying.{CountsTrials, opened_of};
 ghost use Rattle.luks_unlock.specs.Volume.{detached_payload_outcome, payload_outcome, slot_outcome};
@@ -13,13 +13,13 @@ ghost use Rattle.luks_request.specs.Request.{volume_request};
 ghost use Rattle.luks_runs.specs.RunMessages.{PayloadMessage};
 ghost use Rattle.luks_runs.specs.Payload.{ForwardsLoaded, with_payload_ahead};
 ghost use Rattle.luks_runs.specs.HeaderReading.{detached_header_of};
-ghost use Rattle.luks_runs.specs.Run.{RunMatches, DetachedRunMatches, AnyPace};
+ghost use Rattle.luks_runs.specs.Run.{RunMatches, DetachedRunMatches, AnyPromptness};
 ghost use Rattle.luks_runs.specs.Run.{is_run_read_failure, is_run_write_failure, result_message};
 ghost use Rattle.luks_runs.specs.Location.{LoadedFrom, reader_for};
 ghost use Rattle.luks_cli.specs.CommandRun.{CatAllows, CountsCalls, ReadsOnce, ReadsPayload};
 ghost use Rattle.luks_cli.specs.Detached.{CountsCallsDetached, DetachedCatAllows, EndsWithoutKey};
-ghost use Rattle.luks_cli.specs.Unlocking.{CountsReads, EndsUnopened, OpensVolume};
-ghost use Rattle.luks_cli.specs.Unlocking.{ReportsSlot, Unlocks};
+ghost use Rattle.luks_cli.specs.Unlocking.{CountsReads, EndsLocked, UnlockEffect};
+ghost use Rattle.luks_cli.specs.Unlocking.{WritesOpenedLine, Unlocks};
 ghost use Rattle.luks_cli.specs.VolumeParts.{PromptCat, PromptDetachedCat};
 
 use luks_header::area::HeaderArea;
@@ -33,14 +33,14 @@ use luks_request::command::VolumeArgs;
 use luks_runs::key_file::read_key_file;
 use luks_runs::location::HeaderLocation;
 use luks_runs::payload::write_payload;
-use luks_unlock::finding::{FoundVolume, find_volume};
+use luks_unlock::found::{FoundVolume, find_volume};
 use luks_unlock::trying::try_slots;
 use luks_unlock::unlocked::UnlockedVolume;
 use std::alloc::Global;
 
-/// An open volume.
+/// An open volume, with the bytes that were consumed to open it.
 #[derive(Drop)]
-struct Unlocked {
+struct LoadedVolume {
     /// The first bytes of the image, or of the file with the detached header: all that were
     /// consumed.
     area: HeaderArea,
@@ -48,7 +48,7 @@ struct Unlocked {
 }
 
 /// Opens a volume that was found, by the passphrase in the key file.
-fn open_volume<I: Source, K: Source>(
+fn unlock_found<I: Source, K: Source>(
     alloc: Global,
     opening: &VolumeArgs<'_>,
     volume: &mut FoundVolume,
@@ -56,10 +56,10 @@ fn open_volume<I: Source, K: Source>(
     secret: &mut K,
     work: &mut Work,
 ) -> Result<UnlockedVolume, Message>
-    requires { HasSlots (volume_request opening.now) volume.old }
+    requires { MatchesHeader (volume_request opening.now) volume.old }
     ensures run { IfKnown (I.to_come image.old) (λ rest. IfKnown (K.to_come secret.old)
         (λ passphrase. (volume.old.area.ended ≡ true → rest ≡ [])
-        → OpensVolume (volume_request opening.now).key_slot volume.old.segment volume.old.order
+        → UnlockEffect (volume_request opening.now).key_slot volume.old.segment volume.old.order
         passphrase volume.old.area.bytes volume.new.area.bytes rest (I.to_come image.new)
         (K.to_come secret.new) result)) }
     ensures only { IfErr result OpeningMessage }
@@ -90,7 +90,7 @@ fn unlock<I: Source, K: Source>(
     opening: &VolumeArgs<'_>,
     image: &mut I,
     secret: &mut K,
-) -> Result<Unlocked, Message>
+) -> Result<LoadedVolume, Message>
     ensures ok { IfOk result (λ unlocked. IfKnown (I.to_come image.old) (λ known.
         IfKnown (K.to_come secret.old) (λ passphrase.
         Unlocks location (volume_request opening.now) known passphrase unlocked.volume.segment
@@ -98,7 +98,7 @@ fn unlock<I: Source, K: Source>(
         (K.to_come secret.new)))) }
     ensures err { IfErr result (λ message. IfKnown (I.to_come image.old) (λ known.
         IfKnown (K.to_come secret.old) (λ passphrase.
-        EndsUnopened location (volume_request opening.now) known passphrase message
+        EndsLocked location (volume_request opening.now) known passphrase message
         (I.to_come image.new) (K.to_come secret.new)))) }
     ensures unneeded { IfKnown (I.to_come image.old) (λ known.
         is_err (volume_by (reader_for location) (volume_request opening.now) known) ≡ true
@@ -112,18 +112,17 @@ fn unlock<I: Source, K: Source>(
     let mut volume = find_volume(alloc, location, opening, image)?;
     // The amount of work is not reported.
     let work = &mut Work::new(0);
-    let opened = open_volume(alloc, opening, &mut volume, image, secret, work);
-    // All but the loaded bytes are dropped here, whether or not a slot opened.
+    let opened = unlock_found(alloc, opening, &mut volume, image, secret, work);
     let area = area_of(volume);
-    Ok(Unlocked {
+    Ok(LoadedVolume {
         area,
         volume: opened?,
     })
 }
 
-/// Reports the key slot that opened a volume.
-fn report_slot<O: Sink>(alloc: Global, slot: u8, out: &mut O) -> Result<(), Message>
-    ensures reported { ReportsSlot slot (O.written out.old) (O.written out.new)
+/// Writes the line about the key slot that opened a volume.
+fn write_opened_line<O: Sink>(alloc: Global, slot: u8, out: &mut O) -> Result<(), Message>
+    ensures written { WritesOpenedLine slot (O.written out.old) (O.written out.new)
         (result_message result) }
     ensures writes { Writes (is_run_write_failure (result_message result))
         (O.counts out.old) (O.counts out.new) }
@@ -144,7 +143,7 @@ pub(super) fn test_passphrase<I: Source, K: Source, O: Sink>(
 ) -> Result<(), Message>
     ensures run { IfKnown (I.to_come image.old)
         (λ known. IfKnown (K.to_come secret.old) (λ passphrase.
-        RunMatches AnyPace (volume_outcome_by (reader_for location) (slot_outcome passphrase)
+        RunMatches AnyPromptness (volume_outcome_by (reader_for location) (slot_outcome passphrase)
         (volume_request opening.now) known passphrase)
         (result_message result) (ConsumedExactly known (I.to_come image.new))
         (ConsumedExactly passphrase (K.to_come secret.new))
@@ -160,13 +159,13 @@ pub(super) fn test_passphrase<I: Source, K: Source, O: Sink>(
         (O.counts out.old) (O.counts out.new) }
 {
     let unlocked = unlock(alloc, location, opening, image, secret)?;
-    report_slot(alloc, unlocked.volume.slot, out)
+    write_opened_line(alloc, unlocked.volume.slot, out)
 }
 
 /// Writes the plaintext of an open volume's payload. `loaded` holds the first bytes of its image.
 ///
-/// It is not inlined: `cat` calls it for two types of sources, and both frames together would take
-/// more stack than the program has if memory is short.
+/// It is not inlined. `cat` calls it for two types of sources, and a stack with both frames may not
+/// fit into a limited address space (`tests/memory.sh`).
 #[inline(never)]
 fn write_plain<I: Source, O: Sink>(
     volume: &UnlockedVolume,

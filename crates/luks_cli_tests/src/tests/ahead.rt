@@ -13,7 +13,7 @@ use luks_io::memory::{MemSink, MemSource};
 use luks_report::message::Message;
 use luks_report::report::Report;
 use luks_seal_fixtures::bytes::at;
-use luks_test_support::devices::Flaky;
+use luks_test_support::devices::FlakySource;
 use std::process::Abort;
 
 // An image that gives all bytes that are requested, and reads up to `capacity` bytes ahead.
@@ -21,8 +21,8 @@ fn ahead<'a>(
     rt: &(impl Abort + AllocGlobal),
     image: &'a [u8],
     capacity: usize,
-) -> ReadAheadSource<Flaky<'a>> {
-    let below = Flaky::new(image, 0, u64::MAX);
+) -> ReadAheadSource<FlakySource<'a>> {
+    let below = FlakySource::new(image, 0, u64::MAX);
     ReadAheadSource::new(rt.alloc(), capacity, below).expect(rt, "room for what is read ahead")
 }
 
@@ -31,7 +31,7 @@ fn report_ahead(
     rt: &(impl Abort + AllocGlobal),
     line: &str,
     (header, secret): (&[u8], &[u8]),
-    image: &mut ReadAheadSource<Flaky<'_>>,
+    image: &mut ReadAheadSource<FlakySource<'_>>,
     out: &mut MemSink,
 ) -> Report {
     let words = words_of(rt, line);
@@ -227,7 +227,7 @@ fn no_more_is_consumed_if_a_write_fails(rt: HostRuntime) {
 // A run whose image fails at this call, if there are so many calls. Whole sectors that were
 // consumed are written, and the image is not called after that.
 fn check_failed_read(rt: &(impl Abort + AllocGlobal), image: &[u8], call: u64) -> Report {
-    let below = Flaky::new(image, 700, call);
+    let below = FlakySource::new(image, 700, call);
     let mut source = ReadAheadSource::new(rt.alloc(), 1024, below).expect(rt, "room");
     let mut out = sink(rt, 4096);
     let report = report_ahead(rt, CAT, (&[], PASSPHRASE), &mut source, &mut out);
@@ -236,7 +236,7 @@ fn check_failed_read(rt: &(impl Abort + AllocGlobal), image: &[u8], call: u64) -
 }
 
 // The whole sectors that were consumed are written, and no call of the image was needless.
-fn check_consumed(rt: &impl Abort, call: u64, len: usize, image: &Flaky<'_>, out: &MemSink) {
+fn check_consumed(rt: &impl Abort, call: u64, len: usize, image: &FlakySource<'_>, out: &MemSink) {
     let consumed = len - image.left().min(len);
     let sectors = consumed.saturating_sub(36_864) / 512;
     let whole = at(&PLAIN, 0, sectors.saturating_mul(512));

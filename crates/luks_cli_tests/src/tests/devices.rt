@@ -5,7 +5,7 @@ use super::same::{assert_in, assert_same_in};
 use luks_report::message::Message;
 use luks_report::report::Report;
 use luks_request::command::Command;
-use luks_test_support::devices::{Flaky, Leaky};
+use luks_test_support::devices::{FlakySink, FlakySource};
 use std::process::Abort;
 
 /// A run, and how it ends if no call fails.
@@ -64,10 +64,10 @@ impl Way {
 #[derive(Drop)]
 struct Ended<'a> {
     report: Report,
-    header: Flaky<'a>,
-    image: Flaky<'a>,
-    secret: Flaky<'a>,
-    out: Leaky,
+    header: FlakySource<'a>,
+    image: FlakySource<'a>,
+    secret: FlakySource<'a>,
+    out: FlakySink,
 }
 
 // A run of this command.
@@ -78,10 +78,10 @@ fn run<'a>(
     way: Way,
 ) -> Ended<'a> {
     let (of_header, of_image, of_secret, of_out) = way.pieces;
-    let mut out = Leaky::new(rt.alloc(), 4096, of_out, way.call_of(2)).expect(rt, "room");
-    let mut header = Flaky::new(trial.header, of_header, way.call_of(3));
-    let mut image = Flaky::new(trial.image, of_image, way.call_of(0));
-    let mut secret = Flaky::new(trial.secret, of_secret, way.call_of(1));
+    let mut out = FlakySink::new(rt.alloc(), 4096, of_out, way.call_of(2)).expect(rt, "room");
+    let mut header = FlakySource::new(trial.header, of_header, way.call_of(3));
+    let mut image = FlakySource::new(trial.image, of_image, way.call_of(0));
+    let mut secret = FlakySource::new(trial.secret, of_secret, way.call_of(1));
     let report = report_over(
         rt.alloc(),
         command,
@@ -101,13 +101,13 @@ fn run<'a>(
 
 // No read of the source was needless: none was empty or came after the end was hit, and none came
 // after the failed read.
-fn reads_as_needed(way: Way, source: &Flaky<'_>) -> bool {
+fn reads_as_needed(way: Way, source: &FlakySource<'_>) -> bool {
     let last = source.counts.failures == 0 || source.calls() == way.call.saturating_add(1);
     last && source.counts.ends <= 1 && source.counts.needless == 0
 }
 
 // No write to the output was needless: none was empty, and none came after the failed write.
-fn writes_as_needed(way: Way, out: &Leaky) -> bool {
+fn writes_as_needed(way: Way, out: &FlakySink) -> bool {
     let last = out.failures() == 0 || out.calls() == way.call.saturating_add(1);
     last && out.counts.needless == 0
 }

@@ -188,7 +188,7 @@ macro_rules! sought {
     };
 }
 
-// A LUKS2 header is sought at nine offsets, and 4,096 bytes are read at the last of them.
+// A secondary header is sought at nine offsets, and 4,096 bytes are read at the last of them.
 static SOUGHT: [Row<'static>; 3] = [
     sought!(1000, 1000),
     sought!(4_198_400, 4_198_400),

@@ -12,17 +12,17 @@ use std::process::Abort;
 /// A mode, the length of the key in bytes, where the key material ends, and rows.
 type InMode = (Mode, usize, usize, &'static [Row<'static>]);
 
-// The volume opens after `held` bytes are consumed, and its plaintext is written.
+// The volume opens after `loaded` bytes are consumed, and its plaintext is written.
 macro_rules! in_mode {
-    ($mode:ident, $key_len:literal, $held:literal) => {
+    ($mode:ident, $key_len:literal, $loaded:literal) => {
         (
             Mode::$mode,
             $key_len,
-            $held,
+            $loaded,
             &[
-                opened!("", PASSPHRASE, 0, $held),
+                opened!("", PASSPHRASE, 0, $loaded),
                 written!("", PASSPHRASE, Output::Plain(PLAIN_LEN), DONE),
-                refused!("", b"wrong", NO_KEY, $held, 0),
+                refused!("", b"wrong", NO_KEY, $loaded, 0),
             ],
         )
     };
@@ -38,19 +38,19 @@ static MODES: [InMode; 7] = [
     in_mode!(CbcPlain64, 32, 132_096),
 ];
 
-// The plaintext is written with a detached header, which is the first `held` bytes of the image
+// The plaintext is written with a detached header, which is the first `loaded` bytes of the image
 // with a payload offset of 0.
-fn check_detached(rt: &(impl Abort + AllocGlobal), image: &[u8], held: usize) {
-    let header = changed(rt, image, held, AT_START);
+fn check_detached(rt: &(impl Abort + AllocGlobal), image: &[u8], loaded: usize) {
+    let header = changed(rt, image, loaded, AT_START);
     let inputs: Inputs<'_> = [header.as_slice(), payload_of(image), PASSPHRASE];
     check(rt, CAT_DETACHED, inputs, (&PLAIN, DONE), (0, 0, 0))
 }
 
 // A volume in this mode.
-fn check_mode(rt: &(impl Abort + AllocGlobal), (mode, key_len, held, rows): &InMode) {
+fn check_mode(rt: &(impl Abort + AllocGlobal), (mode, key_len, loaded, rows): &InMode) {
     let image = sealed(rt, (*mode, at(KEY, 0, *key_len)), USUAL, PASSPHRASE);
     check_rows(rt, &image, rows);
-    check_detached(rt, &image, *held)
+    check_detached(rt, &image, *loaded)
 }
 
 #[test]

@@ -8,7 +8,7 @@ use luks_io::sink::{Sink, put_all};
 use luks_io::source::Source;
 use luks_report::report::Report;
 use luks_request::command::Command;
-use luks_test_support::devices::Broken;
+use luks_test_support::devices::BrokenSource;
 use std::alloc::Global;
 use std::fmt::Debug;
 use std::process::Abort;
@@ -130,9 +130,9 @@ pub(super) fn run_over(
     out: &mut MemSink,
 ) -> (Report, Left) {
     let words = words_of(rt, line);
-    let mut header = Broken::new(header, ALL);
-    let mut image = Broken::new(image, of_image);
-    let mut secret = Broken::new(secret, of_secret);
+    let mut header = BrokenSource::new(header, ALL);
+    let mut image = BrokenSource::new(image, of_image);
+    let mut secret = BrokenSource::new(secret, of_secret);
     let report = report_of(rt, &words, &mut header, &mut image, &mut secret, out);
     (report, (header.left(), image.left(), secret.left()))
 }

@@ -4,6 +4,7 @@ use luks_cipher::Mode;
 use luks_kdf::Hash;
 use luks_seal::parameters::{Seal1, Slot1};
 use luks_seal_fixtures::bytes::{at, counted};
+use luks_test_support::bytes::put;
 use luks_test_support::header2::{self, image_of};
 use luks1_seal::seal1;
 use std::process::Abort;
@@ -84,7 +85,7 @@ pub(super) fn text_of(rt: &(impl Abort + AllocGlobal), parts: &[&str]) -> String
     parts.concat(rt.alloc()).expect(rt, "room for a text")
 }
 
-/// A plaintext of this length, in which no two sectors are alike.
+/// A plaintext of this length. Of any 251 successive sectors of it, no two are alike.
 pub(super) fn plain_of(rt: &(impl Abort + AllocGlobal), len: usize) -> Vec<u8> {
     counted(rt.alloc(), len).expect(rt, "room for plain bytes")
 }
@@ -139,14 +140,6 @@ pub(super) const AT_START: Changes = &[(104, &[0; 4])];
 
 /// A primary LUKS2 header names a size of 65,536 bytes, so that its checksum no longer matches.
 pub(super) const NAMES_64_KIB: Changes = &[(8, &[0, 0, 0, 0, 0, 1, 0, 0])];
-
-/// Overwrites the bytes of an image from this offset on, up to its end.
-pub(super) fn put(image: &mut [u8], place: usize, bytes: &[u8]) {
-    let start = place.min(image.len());
-    let rest = &mut image[start..];
-    let count = bytes.len().min(rest.len());
-    rest[..count].copy_from_slice(&bytes[..count]);
-}
 
 // Overwrites the bytes of an image at each of these offsets.
 fn put_each(image: &mut [u8], changes: &[(usize, &[u8])]) {

@@ -2,17 +2,18 @@
 
 ghost use Rattle.std.specs.Prelude.{◌≡◌, ◌++◌, IfOk, OnOk, length, string_bytes, ◌≤◌};
 ghost use Rattle.luks_dump.specs.Dump1.{cipher_line, dump1_of, enabled_text, number_lines};
-ghost use Rattle.luks_dump.specs.Dump1.{slot1_line, slot1_lines, slot_text, text1_lines, uuid_line};
+ghost use Rattle.luks_dump.specs.Dump1.{slot1_line, slot1_lines, slot_text, text1_lines};
+ghost use Rattle.luks_dump.specs.Dump1.{uuid1_line};
 
 use crate::escaping::{escape, push_escaped_text};
 use crate::field::{push_bytes, push_field, push_number, push_text};
-use luks_header::header::{Header1, KeySlot, SlotState};
+use luks_header::header::{Header1, SlotState, StoredSlot};
 use std::alloc::{AllocError, Global};
 
 /// The line with the UUID alone.
-#[tactic(auto, unfolding(crate::specs::Dump1::uuid_line))]
+#[tactic(auto, unfolding(crate::specs::Dump1::uuid1_line))]
 pub(super) fn uuid_text(alloc: Global, header: &Header1) -> Result<String, AllocError>
-    ensures { IfOk result (λ lines. string_bytes lines ≡ uuid_line header.now) }
+    ensures { IfOk result (λ lines. string_bytes lines ≡ uuid1_line header.now) }
 {
     let mut lines = escape(alloc, header.uuid.as_bytes())?;
     lines.push('\n')?;
@@ -75,7 +76,7 @@ fn push_numbers(alloc: Global, lines: &mut String, header: &Header1) -> Result<(
 
 /// Adds a line for each key slot.
 #[tactic(auto, unfolding(crate::specs::Dump1::slot1_lines))]
-fn push_slots(alloc: Global, lines: &mut String, slots: &[KeySlot]) -> Result<(), AllocError>
+fn push_slots(alloc: Global, lines: &mut String, slots: &[StoredSlot]) -> Result<(), AllocError>
     requires { length slots.now ≤ 8 }
     ensures { OnOk result
         (string_bytes lines.new ≡ string_bytes lines.old ++ slot1_lines 0 slots.now) }
@@ -92,7 +93,7 @@ fn push_slot(
     alloc: Global,
     lines: &mut String,
     number: usize,
-    slot: &KeySlot,
+    slot: &StoredSlot,
 ) -> Result<(), AllocError>
     ensures { OnOk result
         (string_bytes lines.new ≡ string_bytes lines.old ++ slot1_line number slot.now) }
@@ -104,7 +105,7 @@ fn push_slot(
 
 /// The text of a key slot.
 #[tactic(auto, unfolding(crate::specs::Dump1::state_text))]
-fn describe_slot(alloc: Global, slot: &KeySlot) -> Result<String, AllocError>
+fn describe_slot(alloc: Global, slot: &StoredSlot) -> Result<String, AllocError>
     ensures { IfOk result (λ text. string_bytes text ≡ slot_text slot.now) }
 {
     match slot.state {

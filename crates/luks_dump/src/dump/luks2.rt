@@ -1,12 +1,12 @@
 //! The texts of a LUKS2 header.
 
 ghost use Rattle.std.specs.Prelude.{◌≡◌, ◌++◌, IfOk, OnOk, string_bytes};
-ghost use Rattle.luks_dump.specs.Dump2.{dump2_of, place_lines, place_text, text2_lines, uuid2_line};
+ghost use Rattle.luks_dump.specs.Dump2.{dump2_of, role_lines, role_text, text2_lines, uuid2_line};
 
 use crate::escaping::escape;
 use crate::field::{push_field, push_number, push_text};
 use luks_header::header::bounds;
-use luks2_binary::header::{Header2, Place};
+use luks2_binary::header::{Header2, HeaderRole};
 use luks2_json::tree::Metadata;
 use std::alloc::{AllocError, Global};
 
@@ -35,7 +35,7 @@ pub(crate) fn dump_text(
 {
     let bounds = bounds(header);
     let mut lines = String::new(alloc);
-    push_place(alloc, &mut lines, header)?;
+    push_role(alloc, &mut lines, header)?;
     push_texts(alloc, &mut lines, header)?;
     slots::push_slots(alloc, &mut lines, metadata, bounds)?;
     payload::push_segment(alloc, &mut lines, metadata, bounds)?;
@@ -44,24 +44,24 @@ pub(crate) fn dump_text(
 }
 
 // Adds the lines from the version to the header's length.
-#[tactic(auto, unfolding(crate::specs::Dump2::place_lines))]
-fn push_place(alloc: Global, lines: &mut String, header: &Header2) -> Result<(), AllocError>
+#[tactic(auto, unfolding(crate::specs::Dump2::role_lines))]
+fn push_role(alloc: Global, lines: &mut String, header: &Header2) -> Result<(), AllocError>
     ensures { OnOk result
-        (string_bytes lines.new ≡ string_bytes lines.old ++ place_lines header.now) }
+        (string_bytes lines.new ≡ string_bytes lines.old ++ role_lines header.now) }
 {
     push_field(lines, "Version", "2")?;
-    push_field(lines, "Header", place_text(header.place))?;
+    push_field(lines, "Header", role_text(header.role))?;
     push_number(alloc, lines, "Sequence", header.sequence)?;
     push_number(alloc, lines, "Header size", header.size as u64)
 }
 
 // Which of the two headers it is.
-fn place_text(place: Place) -> &'static str
-    ensures { result.now ≡ place_text place }
+fn role_text(role: HeaderRole) -> &'static str
+    ensures { result.now ≡ role_text role }
 {
-    match place {
-        Place::Primary => "primary",
-        Place::Secondary => "secondary",
+    match role {
+        HeaderRole::Primary => "primary",
+        HeaderRole::Secondary => "secondary",
     }
 }
 

@@ -6,13 +6,13 @@ use luks_io::DeviceFault;
 use luks_io::ahead::ReadAheadSource;
 use luks_io::memory::MemSource;
 use luks_io::source::{Source, fill};
-use luks_test_support::devices::Flaky;
+use luks_test_support::devices::FlakySource;
 use std::process::Abort;
 
 const BYTES: &[u8] = b"abcdefghij";
 
 /// How much read-ahead is allowed, how many bytes are requested, and the answer. Afterwards the
-/// source below has this many bytes left and had this many calls.
+/// source below has this many bytes left, and was called this often.
 type Step = (Option<u64>, usize, Result<usize, DeviceFault>, usize, u64);
 
 /// A source with capacity for four bytes, over one that gives at most this many bytes a call, or
@@ -112,7 +112,7 @@ static ROWS: [Row; 7] = [
 
 // Whether the step goes as its row says.
 fn goes_as_stated(
-    source: &mut ReadAheadSource<Flaky<'_>>,
+    source: &mut ReadAheadSource<FlakySource<'_>>,
     (allowed, asked, answer, left, calls): &Step,
 ) -> bool {
     if let Some(count) = allowed {
@@ -125,7 +125,7 @@ fn goes_as_stated(
 }
 
 fn check_row(rt: &(impl Abort + AllocGlobal), (name, (piece, failing), steps, last): &Row) {
-    let below = Flaky::new(BYTES, *piece, *failing);
+    let below = FlakySource::new(BYTES, *piece, *failing);
     let mut source = ReadAheadSource::new(rt.alloc(), 4, below).expect(rt, "memory");
     for (i, step) in steps.iter().enumerate() {
         assert_at(rt, name, i, goes_as_stated(&mut source, step));
@@ -149,9 +149,11 @@ fn check_bytes(
     capacity: usize,
     (piece, ends): (usize, u64),
 ) {
-    let mut source = ReadAheadSource::new(rt.alloc(), capacity, Flaky::new(BYTES, 0, 99)).expect(
-        rt, "memory",
-    );
+    let mut source = ReadAheadSource::new(
+        rt.alloc(),
+        capacity,
+        FlakySource::new(BYTES, 0, 99),
+    ).expect(rt, "memory");
     source.allow_read_ahead(allowed);
     let mut buf = [b'-'; 12];
     let mut count = 0;

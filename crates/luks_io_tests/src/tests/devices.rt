@@ -1,5 +1,5 @@
-//! What no clause says: that calls can succeed, how often an interruption is waited for, and
-//! devices that fail.
+//! What no clause says: that calls can succeed, how often an interrupted call is repeated, and what
+//! follows a failure.
 
 ghost use Rattle.std.specs.Prelude.{◌≤◌, IfOk};
 

@@ -7,7 +7,7 @@ use luks_io::memory::{MemSink, MemSource};
 use luks_io::sink::WriteFault;
 use luks_io::source::Source;
 use luks_io::transform::Transform;
-use luks_test_support::devices::{Flaky, Leaky};
+use luks_test_support::devices::{FlakySink, FlakySource};
 use std::process::Abort;
 use std::test::Fail;
 
@@ -46,7 +46,7 @@ static ROWS: [Row; 4] = [
         b"",
     ),
     (
-        "what is not held",
+        "what is not buffered",
         9,
         &[(6, None), (usize::MAX, None)],
         (b"", 0, 0),
@@ -63,24 +63,23 @@ static ROWS: [Row; 4] = [
 ];
 
 // Whether the next bytes of the source are these, and the source below was called this often.
-fn gives(source: &mut ReadAheadSource<Flaky<'_>>, next: &[u8], calls: u64) -> bool {
+fn gives(source: &mut ReadAheadSource<FlakySource<'_>>, next: &[u8], calls: u64) -> bool {
     let mut buf = [b'-'; 16];
     let buf = &mut buf[..next.len().min(16)];
     source.read(buf) == Ok(next.len()) && *buf == *next && source.get_ref().calls() == calls
 }
 
-// The source has consumed the first letter, and read five ahead. It forwards only what it has
-// buffered.
+// The source has given the first letter, and has five more buffered. It forwards only those.
 fn check_row(
     rt: &(impl Abort + AllocGlobal),
-    (name, capacity, passes, (written, calls, failures), held): &Row,
+    (name, capacity, passes, (written, calls, failures), buffered): &Row,
 ) {
-    let below = Flaky::new(b"abcdefghij", 0, 99);
+    let below = FlakySource::new(b"abcdefghij", 0, 99);
     let mut source = ReadAheadSource::new(rt.alloc(), 6, below).expect(rt, "memory");
     source.allow_read_ahead(8);
     let is_first = gives(&mut source, b"a", 1);
     assert_at(rt, name, 0, is_first && source.get_ref().left() == 4);
-    let mut sink = Leaky::new(rt.alloc(), *capacity, 9, 99).expect(rt, "memory");
+    let mut sink = FlakySink::new(rt.alloc(), *capacity, 9, 99).expect(rt, "memory");
     for (count, answer) in *passes {
         let got = source.forward_buffered(*count, &Reversed, &mut sink);
         assert_at(rt, name, 1, got == *answer);
@@ -89,7 +88,7 @@ fn check_row(
     assert_at(rt, name, 2, is_alone && sink.as_slice() == *written);
     let is_counted = sink.calls() == *calls && sink.failures() == *failures;
     assert_at(rt, name, 3, is_counted);
-    assert_at(rt, name, 4, gives(&mut source, held, 1));
+    assert_at(rt, name, 4, gives(&mut source, buffered, 1));
     let more = source.forward_buffered(1, &Reversed, &mut sink);
     assert_at(rt, name, 5, more.is_none());
     assert_at(rt, name, 6, source.get_ref().calls() == 1);
@@ -106,7 +105,7 @@ fn forwards_what_is_buffered_and_nothing_else(rt: HostRuntime) {
 #[test]
 fn sources_that_hold_nothing_pass_nothing_on(rt: HostRuntime) -> Result<(), Fail> {
     let mut sink = MemSink::new(rt.alloc(), 9)?;
-    let mut flaky = Flaky::new(b"abc", 0, 99);
+    let mut flaky = FlakySource::new(b"abc", 0, 99);
     assert_at(
         &rt,
         "a source",
@@ -122,7 +121,7 @@ fn sources_that_hold_nothing_pass_nothing_on(rt: HostRuntime) -> Result<(), Fail
         memory.forward_buffered(1, &Reversed, &mut sink).is_none(),
     );
     assert_at(&rt, "memory", 1, memory.left() == b"abc".as_slice());
-    let mut ahead = ReadAheadSource::new(rt.alloc(), 4, Flaky::new(b"abc", 0, 99))?;
+    let mut ahead = ReadAheadSource::new(rt.alloc(), 4, FlakySource::new(b"abc", 0, 99))?;
     ahead.allow_read_ahead(3);
     assert_at(
         &rt,

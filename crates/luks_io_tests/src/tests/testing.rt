@@ -1,10 +1,11 @@
-//! What no clause says about the devices: how many bytes a call moves, and which call fails.
+//! What no clause says about the devices for tests: how many bytes a call moves, and which call
+//! fails.
 
 use super::assert_at;
 use luks_io::DeviceFault;
 use luks_io::sink::Sink;
 use luks_io::source::Source;
-use luks_test_support::devices::{Broken, Flaky, Leaky};
+use luks_test_support::devices::{BrokenSource, FlakySink, FlakySource};
 use luks_test_support::same::{holds_in, same, same_in};
 use std::process::Abort;
 use std::test::Fail;
@@ -27,7 +28,7 @@ static BROKEN: [(Result<usize, DeviceFault>, usize); 4] = [
 
 #[test]
 fn a_flaky_source_fails_once_and_gives_pieces(rt: HostRuntime) {
-    let mut source = Flaky::new(b"abcdefgh", 3, 1);
+    let mut source = FlakySource::new(b"abcdefgh", 3, 1);
     let mut buf = [0; 8];
     for (i, (answer, left)) in FLAKY.iter().enumerate() {
         let got = source.read(&mut buf);
@@ -39,7 +40,7 @@ fn a_flaky_source_fails_once_and_gives_pieces(rt: HostRuntime) {
         5,
         source.calls() == 5 && source.counts.failures == 1,
     );
-    let got = Flaky::new(b"abcdefgh", 0, 9).read(&mut buf[..7]);
+    let got = FlakySource::new(b"abcdefgh", 0, 9).read(&mut buf[..7]);
     assert_at(
         &rt,
         "no pieces",
@@ -50,7 +51,7 @@ fn a_flaky_source_fails_once_and_gives_pieces(rt: HostRuntime) {
 
 #[test]
 fn a_broken_source_gives_so_many_bytes(rt: HostRuntime) {
-    let mut source = Broken::new(b"abcdefgh", 5);
+    let mut source = BrokenSource::new(b"abcdefgh", 5);
     for (i, (answer, left)) in BROKEN.iter().enumerate() {
         let got = source.read(&mut [0; 4]);
         assert_at(&rt, "broken", i, got == *answer && source.left() == *left);
@@ -68,7 +69,7 @@ static LEAKY: [(&[u8], Result<usize, DeviceFault>); 5] = [
 
 #[test]
 fn a_leaky_sink_fails_once_and_takes_pieces(rt: HostRuntime) -> Result<(), Fail> {
-    let mut sink = Leaky::new(rt.alloc(), 6, 3, 1)?;
+    let mut sink = FlakySink::new(rt.alloc(), 6, 3, 1)?;
     for (i, (bytes, answer)) in LEAKY.iter().enumerate() {
         assert_at(&rt, "leaky", i, sink.write(bytes) == *answer);
     }
@@ -78,7 +79,7 @@ fn a_leaky_sink_fails_once_and_takes_pieces(rt: HostRuntime) -> Result<(), Fail>
         &rt,
         "slow",
         0,
-        Leaky::new(rt.alloc(), 6, 0, 9)?.write(b"ab") == Ok(1),
+        FlakySink::new(rt.alloc(), 6, 0, 9)?.write(b"ab") == Ok(1),
     );
     Ok(())
 }

@@ -11,14 +11,14 @@ use Rattle.luks2_binary.proofs.reading.choose.Goals as goal
 pub returns-in_err-size-clause-loads : goal.returns-in_err-size-clause-loads
 returns-in_err-size-clause-loads g c = record {
   within = λ image prefix.
-      omega (arith, c.header_at.ensures.loads.within image prefix, probe_first image);
+      omega (arith, c.valid_size.ensures.loads.within image prefix, probe_first image);
   complete = search rules;
   end_hit = search rules;
   before_end = search rules;
   stopped_below = let p = err_from_is_err_and c.from_residual.result c.from_residual.ensures.1 in
       rw (p.1, p.2) (λ stops image prefix.
       omega (arith, c.in_err-size.ensures.loads.stopped_below stops image prefix, probe_first image));
-  refusals = search rules;
+  only = search rules;
 }
 
 -- the primary header is not valid
@@ -36,7 +36,7 @@ returns-in_default-clause-loads g c = record {
       let none = no_size_valid image 0 (sym c.in_default.is ∙ c.in_ok-size.ensures.valid image first) in
       omega (
         arith,
-        c.header_at.ensures.loads.within image first,
+        c.valid_size.ensures.loads.within image first,
         c.search.ensures.loads.within image prefix,
         probe_other image none,
       );
@@ -48,12 +48,12 @@ returns-in_default-clause-loads g c = record {
       omega (
         arith,
         c.in_ok-size.ensures.loads.complete image (grew.prefixes image prefix)
-            (not_ended c.header_at.new.area.ended c.search.new.area.ended grew.stays unended),
+            (not_ended c.valid_size.new.area.ended c.search.new.area.ended grew.stays unended),
         grew.longer,
       ))
       c.search.ensures.loads.complete;
-  end_hit = found_end_hit c.header_at.new.area.bytes c.search.new.area.bytes c.args.area.now.ended
-      c.header_at.new.area.ended c.search.new.area.ended c.search.result c.search.ensures.grew.prefixes
+  end_hit = found_end_hit c.valid_size.new.area.bytes c.search.new.area.bytes c.args.area.now.ended
+      c.valid_size.new.area.ended c.search.new.area.ended c.search.result c.search.ensures.grew.prefixes
       (λ image prefix. no_size_valid image 0
       (sym c.in_default.is ∙ c.in_ok-size.ensures.valid image (c.search.ensures.grew.prefixes image prefix)))
       c.in_ok-size.ensures.loads.end_hit c.search.ensures.loads.end_hit;
@@ -62,7 +62,7 @@ returns-in_default-clause-loads g c = record {
       (λ image prefix. no_size_valid image 0
       (sym c.in_default.is ∙ c.in_ok-size.ensures.valid image (c.search.ensures.grew.prefixes image prefix)))
       c.search.ensures.loads.stopped_below;
-  refusals = search rules;
+  only = search rules;
 }
 
 -- the primary header is valid
@@ -70,8 +70,8 @@ pub returns-in_err-grow-clause-loads : goal.returns-in_err-grow-clause-loads
 returns-in_err-grow-clause-loads g c = record {
   within = λ image prefix.
       let first = c.grow.ensures.grew.prefixes image prefix in
-      primary_within image c.args.area.now.bytes c.header_at.new.area.bytes c.grow.new.area.bytes c.in-Some.size
-      (sym c.in-Some.is ∙ c.in_ok-size.ensures.valid image first) (c.header_at.ensures.loads.within image first)
+      primary_within image c.args.area.now.bytes c.valid_size.new.area.bytes c.grow.new.area.bytes c.in-Some.size
+      (sym c.in-Some.is ∙ c.in_ok-size.ensures.valid image first) (c.valid_size.ensures.loads.within image first)
       c.grow.ensures.within;
   complete = search rules;
   end_hit = search rules;
@@ -82,7 +82,7 @@ returns-in_err-grow-clause-loads g c = record {
       let first = c.grow.ensures.grew.prefixes image prefix in
       let is = size_valid image 0 c.in-Some.size (sym c.in-Some.is ∙ c.in_ok-size.ensures.valid image first) in
       omega (arith, c.in_err-grow.ensures.stopped_below stops, probe_primary image is.0, is.1));
-  refusals = search rules;
+  only = search rules;
 }
 
 pub returns-clause-chosen : goal.returns-clause-chosen
@@ -99,8 +99,8 @@ pub returns-clause-loads : goal.returns-clause-loads
 returns-clause-loads g c = record {
   within = λ image prefix.
       let first = c.grow.ensures.grew.prefixes image prefix in
-      primary_within image c.args.area.now.bytes c.header_at.new.area.bytes c.grow.new.area.bytes c.in-Some.size
-      (sym c.in-Some.is ∙ c.in_ok-size.ensures.valid image first) (c.header_at.ensures.loads.within image first)
+      primary_within image c.args.area.now.bytes c.valid_size.new.area.bytes c.grow.new.area.bytes c.in-Some.size
+      (sym c.in-Some.is ∙ c.in_ok-size.ensures.valid image first) (c.valid_size.ensures.loads.within image first)
       c.grow.ensures.within;
   complete = λ image prefix unended.
       let first = c.grow.ensures.grew.prefixes image prefix in
@@ -109,15 +109,15 @@ returns-clause-loads g c = record {
   end_hit = λ image prefix.
       let first = c.grow.ensures.grew.prefixes image prefix in
       let is = size_valid image 0 c.in-Some.size (sym c.in-Some.is ∙ c.in_ok-size.ensures.valid image first) in
-      end_hit_joined image c.header_at.new.area.bytes c.grow.new.area.bytes c.args.area.now.ended
-      c.header_at.new.area.ended
+      end_hit_joined image c.valid_size.new.area.bytes c.grow.new.area.bytes c.args.area.now.ended
+      c.valid_size.new.area.ended
       c.grow.new.area.ended
       (probe_end image 0) (2 * c.in-Some.size) (probe2_len image) first prefix
       (c.in_ok-size.ensures.loads.end_hit image first) c.in_ok-grow.ensures.end_hit (probe_first image)
       (omega (arith, probe_primary image is.0, is.1));
   before_end = search rules;
   stopped_below = search rules;
-  refusals = search rules;
+  only = search rules;
 }
 
 pub returns-in_err-size-clause-grew : goal.returns-in_err-size-clause-grew

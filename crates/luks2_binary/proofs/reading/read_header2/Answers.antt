@@ -3,7 +3,7 @@ use Rattle.std.proofs.lemmas.Result.{err_from_is_err_and}
 use Rattle.luks2_binary.specs.Reading2.{IsPrefixOf}
 use Rattle.luks2_binary.proofs.PrefixLemmas.{prefix_of_itself}
 use Rattle.luks2_binary.proofs.SeekingLemmas.{aborts_seeking, answer_is, answered_from, below_cost, consumed_read_len}
-use Rattle.luks2_binary.proofs.SeekingLemmas.{cost_held, fault_answered, hits_end, holds_unloaded, remembers_end}
+use Rattle.luks2_binary.proofs.SeekingLemmas.{loaded_read_len, fault_answered, hits_end, holds_unloaded, remembers_end}
 use Rattle.luks2_binary.proofs.SeekingLemmas.{seeks_answer}
 use Rattle.luks2_binary.proofs.reading.read_header2.Goals as goal
 
@@ -16,7 +16,7 @@ returns-in_err-header-clause-seeks g c =
     let grew = c.choose.ensures.grew in
     rw (p.1, p.2) (λ rest knows.
     let holds = holds_unloaded old new rest _ _ _ _ _ _ _ grew knows in
-    aborts_seeking old new rest c.choose.new.area.ended _ _ c.in_err-header.ensures.loads.refusals holds grew.longer
+    aborts_seeking old new rest c.choose.new.area.ended _ _ c.in_err-header.ensures.loads.only holds grew.longer
     (below_cost (old ++ rest) old new c.choose.new.area.ended holds.prefix c.requires.few
     (c.choose.ensures.loads.within (old ++ rest) holds.prefix))
     (λ stops. c.in_err-header.ensures.loads.stopped_below stops (old ++ rest) holds.prefix))
@@ -26,7 +26,7 @@ returns-in_err-header-clause-answered g c =
     let p = err_from_is_err_and c.from_residual.result c.from_residual.ensures.1 in
     let new = c.choose.new.area.bytes in
     rw (p.1, p.2)
-    (fault_answered new c.in_err-header.field-0.0 c.in_err-header.ensures.loads.refusals (λ stops image prefix.
+    (fault_answered new c.in_err-header.field-0.0 c.in_err-header.ensures.loads.only (λ stops image prefix.
     c.in_err-header.ensures.loads.stopped_below stops image
     (subst (λ ended. IsPrefixOf new ended image) (sym c.in_err-header.ensures.loads.before_end) prefix)))
 
@@ -41,7 +41,7 @@ returns-clause-seeks g c rest knows =
     (answer_is (old ++ rest) c.in_ok-header.header c.ok_or.result c.ok_or.ensures.value
     (c.in_ok-header.ensures.chosen (old ++ rest) holds.prefix))
     (consumed_read_len old new rest c.choose.new.area.ended _ holds grew.longer
-    (cost_held (old ++ rest) old new c.choose.new.area.ended holds.prefix c.requires.few
+    (loaded_read_len (old ++ rest) old new c.choose.new.area.ended holds.prefix c.requires.few
     (c.choose.ensures.loads.within (old ++ rest) holds.prefix)
     (c.in_ok-header.ensures.loads.complete (old ++ rest) holds.prefix)))
 
@@ -52,7 +52,7 @@ returns-clause-answered g c =
     answered_from new c.in_ok-header.header c.ok_or.result c.ok_or.ensures.value
     (answer_is new c.in_ok-header.header c.ok_or.result c.ok_or.ensures.value (c.in_ok-header.ensures.chosen new
     prefix))
-    (cost_held new c.args.area.now.bytes new c.choose.new.area.ended prefix c.requires.few
+    (loaded_read_len new c.args.area.now.bytes new c.choose.new.area.ended prefix c.requires.few
     (c.choose.ensures.loads.within new prefix)
     (c.in_ok-header.ensures.loads.complete new prefix))
 

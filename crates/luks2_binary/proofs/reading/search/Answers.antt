@@ -16,43 +16,43 @@ loop-place-init g c = record {
   grew = grew_none c.args.area.now.bytes c.args.area.now.ended _ _;
 }
 
-pub header_at-requires : goal.header_at-requires
-header_at-requires g c =
+pub valid_size-requires : goal.valid_size-requires
+valid_size-requires g c =
     let inside : c.loop-place.place-index < length sizes =
     omega (arith, c.loop-place-test.true, ap length c.places-place-items.ensures) in
     rw c.places-place-items.ensures (place_range c.loop-place.place-index inside)
 
 -- reading is aborted at an offset
-pub returns-in_err-header_at-clause-loads : goal.returns-in_err-header_at-clause-loads
-returns-in_err-header_at-clause-loads g c = record {
+pub returns-in_err-valid_size-clause-loads : goal.returns-in_err-valid_size-clause-loads
+returns-in_err-valid_size-clause-loads g c = record {
   within = λ image prefix.
-      let grew = c.header_at.ensures.grew in
+      let grew = c.valid_size.ensures.grew in
       searched_within image c.args.area.now.bytes c.loop-place.area.bytes _ c.loop-place.area.ended _
       c.loop-place.place-index _
       c.places-place-items.ensures c.loop-place-test.true
       (c.loop-place.invariant.searched image (grew.prefixes image prefix)) grew.longer grew.stays
-      (c.header_at.ensures.loads.within image prefix);
+      (c.valid_size.ensures.loads.within image prefix);
   complete = search rules;
   end_hit = search rules;
   before_end = search rules;
   stopped_below = let p = err_from_is_err_and c.from_residual.result c.from_residual.ensures.1 in
-      let grew = c.header_at.ensures.grew in
+      let grew = c.valid_size.ensures.grew in
       rw (p.1, p.2) (λ is image prefix.
       let below = probe_below image c.args.area.now.bytes c.loop-place.area.bytes _ c.loop-place.area.ended _
       c.loop-place.place-index _
       c.places-place-items.ensures c.loop-place-test.true
       (c.loop-place.invariant.searched image (grew.prefixes image prefix)) grew.longer grew.stays
-      (c.header_at.ensures.loads.within image prefix) in
-      omega (arith, below, c.in_err-header_at.ensures.loads.stopped_below is image prefix));
-  refusals = search rules;
+      (c.valid_size.ensures.loads.within image prefix) in
+      omega (arith, below, c.in_err-valid_size.ensures.loads.stopped_below is image prefix));
+  only = search rules;
 }
 
 -- a valid header is at an offset
 pub valid_header-requires-clause-valid : goal.valid_header-requires-clause-valid
 valid_header-requires-clause-valid g c =
-    rw c.as_slice-bytes.ensures.value (some_valid _ _ c.in_ok-header_at.field-0
-    (c.in_ok-header_at.ensures.valid c.header_at.new.area.bytes
-    (prefix_of_itself c.header_at.new.area.bytes c.header_at.new.area.ended))
+    rw c.as_slice-bytes.ensures.value (some_valid _ _ c.in_ok-valid_size.field-0
+    (c.in_ok-valid_size.ensures.valid c.valid_size.new.area.bytes
+    (prefix_of_itself c.valid_size.new.area.bytes c.valid_size.new.area.ended))
     (sym c.is_some.ensures ∙ c.if-is_some.true))
 
 pub valid_header-requires-clause-range : goal.valid_header-requires-clause-range
@@ -65,52 +65,52 @@ pub returns-then-is_some-clause-found : goal.returns-then-is_some-clause-found
 returns-then-is_some-clause-found g c = λ image prefix.
     let some = sym c.is_some.ensures ∙ c.if-is_some.true in
     let place = get_or c.places-place-items.result.now c.loop-place.place-index 0 in
-    let grew = c.header_at.ensures.grew in
+    let grew = c.valid_size.ensures.grew in
     let first = searched_place image c.args.area.now.bytes c.loop-place.area.bytes _ c.loop-place.area.ended _
     c.loop-place.place-index _ c.places-place-items.ensures c.loop-place-test.true
     (c.loop-place.invariant.searched image (grew.prefixes image prefix)) grew.longer grew.stays
-    (c.header_at.ensures.loads.within image prefix)
-    (some_valid image place c.in_ok-header_at.field-0 (c.in_ok-header_at.ensures.valid image prefix) some) in
-    let valid = some_valid c.header_at.new.area.bytes place c.in_ok-header_at.field-0
-    (c.in_ok-header_at.ensures.valid c.header_at.new.area.bytes
-    (prefix_of_itself c.header_at.new.area.bytes c.header_at.new.area.ended))
+    (c.valid_size.ensures.loads.within image prefix)
+    (some_valid image place c.in_ok-valid_size.field-0 (c.in_ok-valid_size.ensures.valid image prefix) some) in
+    let valid = some_valid c.valid_size.new.area.bytes place c.in_ok-valid_size.field-0
+    (c.in_ok-valid_size.ensures.valid c.valid_size.new.area.bytes
+    (prefix_of_itself c.valid_size.new.area.bytes c.valid_size.new.area.ended))
     some in
-    found_least c.header_at.new.area.bytes c.header_at.new.area.ended image c.as_slice-bytes.result.now place
+    found_least c.valid_size.new.area.bytes c.valid_size.new.area.ended image c.as_slice-bytes.result.now place
     c.valid_header.result prefix c.as_slice-bytes.ensures.value valid c.valid_header.ensures first
 
 pub returns-then-is_some-clause-loads : goal.returns-then-is_some-clause-loads
 returns-then-is_some-clause-loads g c = record {
   within = λ image prefix.
-      let grew = c.header_at.ensures.grew in
+      let grew = c.valid_size.ensures.grew in
       searched_within image c.args.area.now.bytes c.loop-place.area.bytes _ c.loop-place.area.ended _
       c.loop-place.place-index _
       c.places-place-items.ensures c.loop-place-test.true
       (c.loop-place.invariant.searched image (grew.prefixes image prefix)) grew.longer grew.stays
-      (c.header_at.ensures.loads.within image prefix);
+      (c.valid_size.ensures.loads.within image prefix);
   complete = λ image prefix unended.
       let place = get_or c.places-place-items.result.now c.loop-place.place-index 0 in
-      let grew = c.header_at.ensures.grew in
+      let grew = c.valid_size.ensures.grew in
       searched_complete image c.args.area.now.bytes c.loop-place.area.bytes _ c.loop-place.area.ended _
       c.loop-place.place-index _
       c.places-place-items.ensures c.loop-place-test.true
       (c.loop-place.invariant.searched image (grew.prefixes image prefix)) grew.longer grew.stays
-      (c.header_at.ensures.loads.within image prefix)
-      (some_valid image place c.in_ok-header_at.field-0 (c.in_ok-header_at.ensures.valid image prefix)
+      (c.valid_size.ensures.loads.within image prefix)
+      (some_valid image place c.in_ok-valid_size.field-0 (c.in_ok-valid_size.ensures.valid image prefix)
       (sym c.is_some.ensures ∙ c.if-is_some.true))
-      (c.in_ok-header_at.ensures.loads.complete image prefix) unended;
+      (c.in_ok-valid_size.ensures.loads.complete image prefix) unended;
   end_hit = λ image prefix.
-      let grew = c.header_at.ensures.grew in
+      let grew = c.valid_size.ensures.grew in
       let first = grew.prefixes image prefix in
       end_hit_here image c.args.area.now.bytes c.loop-place.area.bytes _ c.loop-place.area.ended _
       c.loop-place.place-index _
       c.places-place-items.ensures c.loop-place-test.true
       (c.loop-place.invariant.searched image first) grew.longer grew.stays
-      (c.header_at.ensures.loads.within image prefix)
+      (c.valid_size.ensures.loads.within image prefix)
       c.args.area.now.ended first prefix (c.loop-place.invariant.end_hit image first)
-      (c.in_ok-header_at.ensures.loads.end_hit image prefix);
+      (c.in_ok-valid_size.ensures.loads.end_hit image prefix);
   before_end = search rules;
   stopped_below = search rules;
-  refusals = search rules;
+  only = search rules;
 }
 
 -- no valid header is at the offset: the search continues
@@ -118,25 +118,25 @@ pub loop-place-preserved : goal.loop-place-preserved
 loop-place-preserved g c = record {
   searched = λ image prefix.
       let place = get_or c.places-place-items.result.now c.loop-place.place-index 0 in
-      let grew = c.header_at.ensures.grew in
+      let grew = c.valid_size.ensures.grew in
       searched_on image c.args.area.now.bytes c.loop-place.area.bytes _ c.loop-place.area.ended _
       c.loop-place.place-index _
       c.places-place-items.ensures c.loop-place-test.true
       (c.loop-place.invariant.searched image (grew.prefixes image prefix)) grew.longer grew.stays
-      (c.header_at.ensures.loads.within image prefix)
-      (none_valid image place c.in_ok-header_at.field-0 (c.in_ok-header_at.ensures.valid image prefix)
+      (c.valid_size.ensures.loads.within image prefix)
+      (none_valid image place c.in_ok-valid_size.field-0 (c.in_ok-valid_size.ensures.valid image prefix)
       (sym c.is_some.ensures ∙ c.if-is_some.false))
-      (c.in_ok-header_at.ensures.loads.complete image prefix);
+      (c.in_ok-valid_size.ensures.loads.complete image prefix);
   end_hit = λ image prefix.
-      let grew = c.header_at.ensures.grew in
+      let grew = c.valid_size.ensures.grew in
       let first = grew.prefixes image prefix in
       end_hit_here image c.args.area.now.bytes c.loop-place.area.bytes _ c.loop-place.area.ended _
       c.loop-place.place-index _ c.places-place-items.ensures c.loop-place-test.true
       (c.loop-place.invariant.searched image first) grew.longer grew.stays
-      (c.header_at.ensures.loads.within image prefix)
+      (c.valid_size.ensures.loads.within image prefix)
       c.args.area.now.ended first prefix (c.loop-place.invariant.end_hit image first)
-      (c.in_ok-header_at.ensures.loads.end_hit image prefix);
-  grew = grew_more _ _ _ _ _ _ _ _ _ _ _ _ _ c.loop-place.invariant.grew c.in_ok-header_at.ensures.grew;
+      (c.in_ok-valid_size.ensures.loads.end_hit image prefix);
+  grew = grew_more _ _ _ _ _ _ _ _ _ _ _ _ _ c.loop-place.invariant.grew c.in_ok-valid_size.ensures.grew;
 }
 
 -- no offset has a valid header
@@ -162,18 +162,18 @@ returns-clause-loads g c = record {
   end_hit = λ image prefix unended found. c.loop-place.invariant.end_hit image prefix unended found;
   before_end = search rules;
   stopped_below = search rules;
-  refusals = search rules;
+  only = search rules;
 }
 
-pub returns-in_err-header_at-clause-grew : goal.returns-in_err-header_at-clause-grew
-returns-in_err-header_at-clause-grew g c =
+pub returns-in_err-valid_size-clause-grew : goal.returns-in_err-valid_size-clause-grew
+returns-in_err-valid_size-clause-grew g c =
     let p = err_from_is_err_and c.from_residual.result c.from_residual.ensures.1 in
     rw (p.1, p.2) (grew_more _ _ _ _ _ _ _ _ _ _ _ _ _ c.loop-place.invariant.grew
-    c.in_err-header_at.ensures.grew)
+    c.in_err-valid_size.ensures.grew)
 
 pub returns-then-is_some-clause-grew : goal.returns-then-is_some-clause-grew
 returns-then-is_some-clause-grew g c =
-    grew_more _ _ _ _ _ _ _ _ _ _ _ _ _ c.loop-place.invariant.grew c.in_ok-header_at.ensures.grew
+    grew_more _ _ _ _ _ _ _ _ _ _ _ _ _ c.loop-place.invariant.grew c.in_ok-valid_size.ensures.grew
 
 pub returns-clause-grew : goal.returns-clause-grew
 returns-clause-grew g c = c.loop-place.invariant.grew

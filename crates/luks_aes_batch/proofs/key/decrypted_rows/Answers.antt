@@ -8,7 +8,7 @@ use Rattle.luks_aes.proofs.CipherLemmas.{inv_round_after}
 use Rattle.luks_bitslice.specs.BitPlanes.{column_index}
 use Rattle.luks_aes_batch.specs.RoundKeys.{rows_of, HasRoundKey, HasInvMixedKey}
 use Rattle.luks_aes_batch.proofs.StateLemmas.{all_as}
-use Rattle.luks_aes_batch.proofs.RoundLemmas.{cells, after_bytes, rows_keyed, rows_plain, hold_same, turned_same}
+use Rattle.luks_aes_batch.proofs.RoundLemmas.{cells, after_bytes, rows_keyed, rows_plain, states_same, rotated_same}
 use Rattle.luks_aes_batch.proofs.key.decrypted_rows.Goals as goal
 
 pub loop-round-init : goal.loop-round-init
@@ -26,7 +26,7 @@ loop-round-init c =
           (rows_plain s c.args.rows hold all) first.represented in
           let held = rows_keyed s w (rounds_of key) 0x63 _ (omega arith) all (expansion_bytes key bytes) keyed in
           let inv_shift_rows_batch = c.inv_shift_rows_batch.ensures _ held.represented in
-          turned_same _ _ _ (λ m. ap (add_round_key (s m) w) (sym rounds)
+          rotated_same _ _ _ (λ m. ap (add_round_key (s m) w) (sym rounds)
           ∙ sym (ap (inv_state_after (s m) c.args.rounds w) none))
           (record { represented = all_as c.new-state.ensures inv_shift_rows_batch });
     }
@@ -47,7 +47,7 @@ loop-round-preserved c =
           let after = c.inv_round_batch.ensures _ w (round - 1) (λ m. after_bytes (s m) w nr (nr - round) (all m)
           words) words before
           (subst (λ (n : ℕ). HasInvMixedKey w n 0x63 (rows_of c.key_between.result.now)) place between).represented in
-          turned_same _ _ _
+          rotated_same _ _ _
           (λ m. inv_round_after (s m) w _ nr (nr - round) (nr - (round - 1)) (round - 1) refl (omega arith)
           (omega arith)) after;
     }
@@ -61,7 +61,7 @@ returns c = λ key s is rounds bytes all hold.
     let round = c.loop-round.round in
     let end : nr - round ≡ rounds_of key - 1 = omega (arith, rounds, c.loop-round.invariant.some) in
     let before = c.loop-round.invariant.hold key s is rounds bytes all hold in
-    hold_same _ _ 0 _
+    states_same _ _ 0 _
     (λ m i. add_round_key (inv_sub_bytes (inv_shift_rows (inv_state_after (s m) (rounds i) w (end i)))) w 0)
     (c.last_inv_round_batch.ensures _ w 0 (λ m. after_bytes (s m) w nr (nr - round)
     (all m) words) words before is.last_key.represented)

@@ -8,17 +8,17 @@ returns-in-Ok-clause-consumed g c =
     λ reported reports.
     let old = c.args.bytes.now.items in
     let n = c.args.end - vec_len c.args.bytes.now in
-    let is-whole = c.deref_mut.ensures.value ∙ c.in_ok-ensure_capacity.ensures.ok in
-    let is-held = c.len-held.ensures ∙ c.args.bytes.now.ok.0 in
-    let is-len = c.ensure_capacity.new.bytes.ok.0 ∙ ap length (sym c.deref_mut.ensures.value) in
+    let is-whole = c.deref_mut.ensures.value ∙ c.in_ok-append_zeros.ensures.ok in
+    let is-loaded = c.len-loaded.ensures ∙ c.args.bytes.now.ok.0 in
+    let is-len = c.append_zeros.new.bytes.ok.0 ∙ ap length (sym c.deref_mut.ensures.value) in
     let is =
-    prefix_filled old c.deref_mut.result.now c.fill.new.buf c.len-held.result n is-whole is-held c.fill.auto.buf _ _
-    c.truncate.new.self.items c.ensure_capacity.new.bytes.len c.in-Ok.count
+    prefix_filled old c.deref_mut.result.now c.fill.new.buf c.len-loaded.result n is-whole is-loaded c.fill.auto.buf _ _
+    c.truncate.new.self.items c.append_zeros.new.bytes.len c.in-Ok.count
     is-len c.in-Ok.ensures.bound c.truncate.ensures.items in
     consumed_all_behind old c.truncate.new.self.items reported c.fill.new.buf _ c.in-Ok.count (length c.fill.new.buf)
     n is
     (c.in-Ok.ensures.bytes reported reports) (c.in-Ok.ensures.end reported reports)
-    (length-capacity old c.deref_mut.result.now c.fill.new.buf c.len-held.result n is-whole is-held c.fill.auto.buf)
+    (length-capacity old c.deref_mut.result.now c.fill.new.buf c.len-loaded.result n is-whole is-loaded c.fill.auto.buf)
 
 pub returns-in-Err-clause-consumed : goal.returns-in-Err-clause-consumed
 returns-in-Err-clause-consumed g c =
@@ -26,16 +26,16 @@ returns-in-Err-clause-consumed g c =
     let old = c.args.bytes.now.items in
     let n = c.args.end - vec_len c.args.bytes.now in
     let got = c.in-Err.field-0.got in
-    let is-whole = c.deref_mut.ensures.value ∙ c.in_ok-ensure_capacity.ensures.ok in
-    let is-held = c.len-held.ensures ∙ c.args.bytes.now.ok.0 in
-    let is-len = c.ensure_capacity.new.bytes.ok.0 ∙ ap length (sym c.deref_mut.ensures.value) in
+    let is-whole = c.deref_mut.ensures.value ∙ c.in_ok-append_zeros.ensures.ok in
+    let is-loaded = c.len-loaded.ensures ∙ c.args.bytes.now.ok.0 in
+    let is-len = c.append_zeros.new.bytes.ok.0 ∙ ap length (sym c.deref_mut.ensures.value) in
     let stops = c.in-Err.ensures.bound in
     let capacity : length c.fill.new.buf
-    ≡ n = length-capacity old c.deref_mut.result.now c.fill.new.buf c.len-held.result n is-whole is-held
+    ≡ n = length-capacity old c.deref_mut.result.now c.fill.new.buf c.len-loaded.result n is-whole is-loaded
     c.fill.auto.buf in
     let is =
-    prefix_filled old c.deref_mut.result.now c.fill.new.buf c.len-held.result n is-whole is-held c.fill.auto.buf _ _
-    c.truncate-in-Err.new.self.items c.ensure_capacity.new.bytes.len got
+    prefix_filled old c.deref_mut.result.now c.fill.new.buf c.len-loaded.result n is-whole is-loaded c.fill.auto.buf _ _
+    c.truncate-in-Err.new.self.items c.append_zeros.new.bytes.len got
     is-len (omega (arith, stops)) c.truncate-in-Err.ensures.items in (
       got,
       omega (arith, stops),
@@ -46,18 +46,18 @@ returns-in-Err-clause-consumed g c =
 pub returns-in-Err-clause-memory : goal.returns-in-Err-clause-memory
 returns-in-Err-clause-memory g c = search rules
 
-pub returns-in_err-ensure_capacity-clause-memory : goal.returns-in_err-ensure_capacity-clause-memory
-returns-in_err-ensure_capacity-clause-memory g c = search rules
+pub returns-in_err-append_zeros-clause-memory : goal.returns-in_err-append_zeros-clause-memory
+returns-in_err-append_zeros-clause-memory g c = search rules
 
-pub returns-in_err-ensure_capacity-clause-consumed : goal.returns-in_err-ensure_capacity-clause-consumed
-returns-in_err-ensure_capacity-clause-consumed g c = search rules
+pub returns-in_err-append_zeros-clause-consumed : goal.returns-in_err-append_zeros-clause-consumed
+returns-in_err-append_zeros-clause-consumed g c = search rules
 
 pub returns-in-Ok-clause-loads : goal.returns-in-Ok-clause-loads
 returns-in-Ok-clause-loads g c = record {
   whole = grind (arith, common_steps);
   within = grind (arith, common_steps);
   kept = grind (arith, common_steps);
-  refusals = search rules;
+  only = search rules;
 }
 
 pub returns-in-Err-clause-loads : goal.returns-in-Err-clause-loads
@@ -65,5 +65,5 @@ returns-in-Err-clause-loads g c = record {
   whole = search rules;
   within = grind (arith, common_steps);
   kept = grind (arith, common_steps);
-  refusals = search rules;
+  only = search rules;
 }

@@ -3,22 +3,13 @@
 use super::fixture::check_findings;
 use luks_io::memory::MemSink;
 use luks_report::message::Message;
+use luks_test_support::bytes::put;
 use std::process::Abort;
-
-// Overwrites the bytes of a header from an offset on.
-fn patch(bytes: &mut [u8], place: usize, with: &[u8]) {
-    for (i, byte) in with.iter().enumerate() {
-        let at = place.saturating_add(i);
-        if at < bytes.len() {
-            bytes[at] = *byte;
-        }
-    }
-}
 
 // Overwrites numbers of a header, each at its offset.
 fn patch_numbers(bytes: &mut [u8], numbers: &[(usize, u32)]) {
     for (place, number) in numbers {
-        patch(bytes, *place, &number.to_be_bytes());
+        put(bytes, *place, &number.to_be_bytes());
     }
 }
 
@@ -55,9 +46,9 @@ fn header_of(
 ) -> Vec<u8> {
     let mut bytes = vec![in rt.alloc(); 0; 592].expect(rt, "memory");
     let header = bytes.as_mut_slice();
-    patch(header, 0, b"LUKS\xba\xbe\0\x01aes");
-    patch(header, 40, b"xts-plain64");
-    patch(header, 72, b"sha256");
+    put(header, 0, b"LUKS\xba\xbe\0\x01aes");
+    put(header, 40, b"xts-plain64");
+    put(header, 72, b"sha256");
     patch_numbers(header, &NUMBERS);
     for (slot, sector) in slots {
         enable(header, *slot, *sector);

@@ -5,7 +5,7 @@ use luks_cipher::cbc::{decrypt_chain, encrypt_chain};
 use luks_cipher::{AesKey, Mode, SectorCipher, XtsKey};
 use std::process::Abort;
 
-/// A key for blocks, for chains after this block, for data units, or for sectors.
+/// A key for blocks, for chains with this IV, for data units, or for sectors.
 #[derive(Drop)]
 pub enum Cipher {
     Block(AesKey),
@@ -15,7 +15,7 @@ pub enum Cipher {
 }
 
 impl Cipher {
-    /// The cipher with this name. The block before a chain is written as hexadecimal digits.
+    /// The cipher with this name. `before` is the IV of a chain, as hexadecimal digits.
     pub fn new(rt: &impl Abort, name: &str, key: &[u8], before: &str) -> Cipher {
         match name {
             "aes" => Cipher::Block(AesKey::new(key).expect(rt, "a key of AES")),

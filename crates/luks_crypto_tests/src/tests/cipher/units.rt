@@ -60,8 +60,8 @@ fn block_of(rt: &impl Abort, bytes: &[u8], j: usize) -> State {
     block
 }
 
-// Asserts that block `j` of the unit is that of the plain one, encrypted between two masks. Both
-// are the mask of block 0, doubled `j` times.
+// Asserts that block `j` of the unit is that of the plain one, encrypted under its tweak: the tweak
+// of block 0, doubled `j` times.
 fn check_block(
     rt: &impl Abort,
     (data_key, tweak_key): (&AesKey, &AesKey),

@@ -1,5 +1,5 @@
-//! Tables of plain and encrypted bytes. A line is a cipher, a key, the number of a unit or the
-//! block before a chain, the plain bytes, and the encrypted bytes.
+//! Tables of plain and encrypted bytes. A line is a cipher, a key, the number of a unit or the IV
+//! of a chain (`-` for a block), the plain bytes, and the encrypted bytes.
 
 use super::aes_vectors::{EXAMPLES, KNOWN_ANSWERS, SLICE_128, SLICE_192, SLICE_256};
 use super::cipher::Cipher;
@@ -33,7 +33,7 @@ pub fn check_unit(
 
 fn check_line(rt: &(impl Abort + AllocGlobal), line: &str) {
     let middle = word(rt, line, 2);
-    // A block before a chain is not a number.
+    // The IV of a chain is not a number.
     let number = middle.parse().unwrap_or(0);
     let cipher = Cipher::new(rt, word(rt, line, 0), &bytes(rt, word(rt, line, 1)), middle);
     let plain = bytes(rt, word(rt, line, 3));

@@ -177,27 +177,34 @@ fn longest_keys(rt: HostRuntime) {
 
 // Adds a key to the mark of many keys: the new mark is the SHA-256 of the mark before and the key.
 // The first mark is zeros.
-fn add_to_mark(mark: &mut [u8; 32], hash: Hash, turns: u32, length: usize)
-    requires turns { 1 ≤ turns }
+fn add_to_mark(mark: &mut [u8; 32], hash: Hash, iterations: u32, length: usize)
+    requires iterations { 1 ≤ iterations }
     requires some { 1 ≤ length }
     requires capacity { length ≤ 512 }
 {
     let mut key = [0; 512];
     let key = &mut key[..length];
-    pbkdf2(hash, b"password", b"salt", turns, key, &mut Work::new(0));
+    pbkdf2(
+        hash,
+        b"password",
+        b"salt",
+        iterations,
+        key,
+        &mut Work::new(0),
+    );
     let before = *mark;
     digest(Hash::Sha256, &before, key, b"", mark);
 }
 
 // The mark of the keys of 1 to 512 bytes, each longer than the one before it by `step` bytes.
-fn mark_of(hash: Hash, turns: u32, step: usize) -> [u8; 32]
-    requires turns { 1 ≤ turns }
+fn mark_of(hash: Hash, iterations: u32, step: usize) -> [u8; 32]
+    requires iterations { 1 ≤ iterations }
     requires step { 1 ≤ step }
 {
     let mut mark = [0; 32];
     for length in 1..513 {
         if (length - 1) % step == 0 {
-            add_to_mark(&mut mark, hash, turns, length);
+            add_to_mark(&mut mark, hash, iterations, length);
         }
     }
     mark
@@ -329,10 +336,10 @@ static MARKS: [(Hash, u32, usize, &[u8]); 20] = [
 
 #[test]
 fn every_length(rt: HostRuntime) {
-    for (hash, turns, step, want) in MARKS {
-        assert!(rt; turns >= 1);
+    for (hash, iterations, step, want) in MARKS {
+        assert!(rt; iterations >= 1);
         assert!(rt; step >= 1);
-        assert_hex(&rt, &mark_of(hash, turns, step), want);
+        assert_hex(&rt, &mark_of(hash, iterations, step), want);
     }
 }
 

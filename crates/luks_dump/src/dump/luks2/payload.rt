@@ -50,7 +50,7 @@ fn describe(alloc: Global, segment: Segment) -> Result<String, AllocError>
     Ok(text)
 }
 
-// The length of a segment in bytes, if it has one.
+// The length of a segment in bytes, or `dynamic` if it is not fixed.
 fn size_text(alloc: Global, size: Option<u64>) -> Result<String, AllocError>
     ensures { IfOk result (λ text. string_bytes text ≡ size_text size) }
 {

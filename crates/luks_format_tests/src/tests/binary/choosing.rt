@@ -4,21 +4,33 @@ use super::fixture::{JSON, PRIMARY, SECONDARY, Sketch, assert_in, flip, image_of
 use luks_area::fault::HeaderFault;
 use luks_io::memory::MemSource;
 use luks_kdf::Hash;
-use luks2_binary::header::{Finding, Header2, Place};
+use luks2_binary::header::{Header2, HeaderRole, PairFinding};
 use std::process::Abort;
 
 // Which header is chosen, its length, and its finding; or why there is none.
-type Summary = Result<(Place, u32, Option<Finding>), HeaderFault>;
+type Summary = Result<(HeaderRole, u32, Option<PairFinding>), HeaderFault>;
 
 const NONE: Summary = Err(HeaderFault::NotLuks);
 
 // The secondary header is damaged.
-const FIRST: Summary = Ok((Place::Primary, 16_384, Some(Finding::SecondaryNotValid)));
+const FIRST: Summary = Ok((
+    HeaderRole::Primary,
+    16_384,
+    Some(PairFinding::SecondaryNotValid),
+));
 
 // The primary header is damaged.
-const SECOND: Summary = Ok((Place::Secondary, 16_384, Some(Finding::PrimaryNotValid)));
+const SECOND: Summary = Ok((
+    HeaderRole::Secondary,
+    16_384,
+    Some(PairFinding::PrimaryNotValid),
+));
 
-const NEXT: Summary = Ok((Place::Secondary, 32_768, Some(Finding::PrimaryNotValid)));
+const NEXT: Summary = Ok((
+    HeaderRole::Secondary,
+    32_768,
+    Some(PairFinding::PrimaryNotValid),
+));
 
 // Checks the answer for an image, and how many bytes are consumed.
 fn check(
@@ -30,7 +42,7 @@ fn check(
 ) {
     let mut source = MemSource::new(image);
     let summary = match read_from(rt.alloc(), &mut source) {
-        Ok((header, _area)) => Ok((header.place, header.size, header.finding)),
+        Ok((header, _area)) => Ok((header.role, header.size, header.finding)),
         Err(fault) => Err(fault),
     };
     assert_in(rt, case, summary == want);
@@ -40,8 +52,8 @@ fn check(
 
 // Checks the fields of the header, and the text in its area.
 fn check_header(rt: &impl Abort, header: &Header2, area: &[u8]) {
-    let chosen = (header.place, header.size, header.finding);
-    assert_in(rt, 8, chosen == (Place::Primary, 16_384, None));
+    let chosen = (header.role, header.size, header.finding);
+    assert_in(rt, 8, chosen == (HeaderRole::Primary, 16_384, None));
     assert_in(rt, 16, header.sequence == 7);
     assert_in(rt, 24, header.label.as_bytes() == b"label".as_slice());
     assert_in(rt, 72, header.hash == Hash::Sha256);
@@ -63,12 +75,12 @@ fn the_primary_of_two_equal_ones_is_chosen(rt: HostRuntime) {
 }
 
 // The secondary header's sequence number, if the primary one's is 7.
-static LATER: [(u64, Place); 5] = [
-    (6, Place::Primary),
-    (8, Place::Secondary),
-    (0x0700, Place::Secondary),
-    (u64::MAX, Place::Secondary),
-    (0, Place::Primary),
+static LATER: [(u64, HeaderRole); 5] = [
+    (6, HeaderRole::Primary),
+    (8, HeaderRole::Secondary),
+    (0x0700, HeaderRole::Secondary),
+    (u64::MAX, HeaderRole::Secondary),
+    (0, HeaderRole::Primary),
 ];
 
 #[test]
@@ -79,7 +91,7 @@ fn the_later_of_two_is_chosen(rt: HostRuntime) {
             ..SECONDARY
         };
         let image = image_of(&rt, 32_768, &[PRIMARY, later]);
-        let want = Ok((*place, 16_384, Some(Finding::SequencesDiffer)));
+        let want = Ok((*place, 16_384, Some(PairFinding::SequencesDiffer)));
         check(&rt, i, &image, want, 32_768);
     }
 }
@@ -210,13 +222,23 @@ fn check_length(rt: &(impl Abort + AllocGlobal), length: u32) {
         ..SECONDARY
     };
     let mut image = image_of(rt, end.saturating_add(1), &[secondary]);
-    let found = Ok((Place::Secondary, length, Some(Finding::PrimaryNotValid)));
+    let found = Ok((
+        HeaderRole::Secondary,
+        length,
+        Some(PairFinding::PrimaryNotValid),
+    ));
     check(rt, size, &image, found, end);
     let short = end.saturating_sub(1);
     image.truncate(short);
     check(rt, size, &image, NONE, short);
     let image = image_of(rt, end, &[Sketch { size, ..PRIMARY }, secondary]);
-    check(rt, size, &image, Ok((Place::Primary, length, None)), end);
+    check(
+        rt,
+        size,
+        &image,
+        Ok((HeaderRole::Primary, length, None)),
+        end,
+    );
 }
 
 #[test]

@@ -2,15 +2,16 @@
 //! memory.
 
 use super::fixture::{
-    JSON, PRIMARY, SECONDARY, Sketch, assert_in, assert_of, fault_of, flip, image_of, put,
-    range_mut, read_from, seal,
+    JSON, PRIMARY, SECONDARY, Sketch, assert_in, assert_of, fault_of, flip, image_of, range_mut,
+    read_from, seal,
 };
 use luks_area::fault::HeaderFault;
 use luks_io::memory::MemSource;
 use luks_kdf::Hash;
-use luks_test_support::devices::{Broken, Flaky};
+use luks_test_support::bytes::put;
+use luks_test_support::devices::{BrokenSource, FlakySource};
 use luks_test_support::scarce::Scarcity;
-use luks2_binary::header::{Finding, Header2, Place};
+use luks2_binary::header::{Header2, HeaderRole, PairFinding};
 use std::alloc::Global;
 use std::process::Abort;
 
@@ -137,12 +138,12 @@ fn check_piece(
     rt: &(impl Abort + AllocGlobal),
     image: &[u8],
     piece: usize,
-    want: (Place, Option<Finding>),
+    want: (HeaderRole, Option<PairFinding>),
 ) {
-    let mut source = Flaky::new(image, piece, u64::MAX);
+    let mut source = FlakySource::new(image, piece, u64::MAX);
     let (header, area) = read_from(rt.alloc(), &mut source).expect(rt, "a header");
     assert_in(rt, piece, source.left() == 1);
-    assert_in(rt, piece, (header.place, header.finding) == want);
+    assert_in(rt, piece, (header.role, header.finding) == want);
     assert_in(rt, piece, header.json_text(area.as_slice()) == JSON);
 }
 
@@ -150,16 +151,16 @@ fn check_piece(
 fn pieces_of_any_length_serve(rt: HostRuntime) {
     let both = image_of(&rt, 32_769, &[PRIMARY, SECONDARY]);
     let alone = image_of(&rt, 32_769, &[SECONDARY]);
-    let found = (Place::Secondary, Some(Finding::PrimaryNotValid));
+    let found = (HeaderRole::Secondary, Some(PairFinding::PrimaryNotValid));
     for piece in [1, 4095, 0] {
-        check_piece(&rt, &both, piece, (Place::Primary, None));
+        check_piece(&rt, &both, piece, (HeaderRole::Primary, None));
         check_piece(&rt, &alone, piece, found);
     }
 }
 
 // A source of 40,000 bytes fails after this many; at most 32,768 are requested.
 fn check_failed(rt: &(impl Abort + AllocGlobal), bytes: &[u8], given: usize) {
-    let mut source = Broken::new(bytes, given);
+    let mut source = BrokenSource::new(bytes, given);
     let fault = fault_of(rt.alloc(), &mut source);
     let (want, failures) = if given < 32_768 {
         (Some(HeaderFault::Read), 1)

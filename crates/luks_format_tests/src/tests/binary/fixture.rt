@@ -7,6 +7,7 @@ use luks_area::area::HeaderArea;
 use luks_area::fault::HeaderFault;
 use luks_io::source::Source;
 use luks_kdf::{Hash, digest};
+use luks_test_support::bytes::put;
 use luks2_binary::header::Header2;
 use luks2_binary::reading::read_header2;
 use std::alloc::Global;
@@ -43,16 +44,6 @@ pub const SECONDARY: Sketch<'static> = Sketch {
     place: 16_384,
     ..PRIMARY
 };
-
-/// Overwrites bytes from an offset on.
-pub fn put(bytes: &mut [u8], place: usize, with: &[u8]) {
-    for (i, byte) in with.iter().enumerate() {
-        let at = place.saturating_add(i);
-        if at < bytes.len() {
-            bytes[at] = *byte;
-        }
-    }
-}
 
 /// Flips these bits of one byte.
 pub fn flip(bytes: &mut [u8], place: usize, bits: u8) {

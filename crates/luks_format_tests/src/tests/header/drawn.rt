@@ -1,13 +1,14 @@
 //! Headers of generated numbers: the verdicts on their slots.
 
 use super::assert_row;
-use super::fixture::{parse, patch, verdicts, volume_header};
+use super::fixture::{parse, verdicts, volume_header};
 use super::validation::{
     DIGEST_ITERATIONS, ITERATIONS, KEY_BYTES, PAYLOAD_OFFSET, SLOT_OFFSET, STATE, STRIPES,
     has_digest, is_there,
 };
 use luks_header::header::Header;
 use luks_header::slot::Verdict;
+use luks_test_support::bytes::put;
 use std::process::Abort;
 
 // The next of some pseudorandom numbers: the upper half of a linear congruence of 64 bits.
@@ -37,7 +38,7 @@ fn generated_header(state: &mut u64) -> [u8; 592] {
         (DIGEST_ITERATIONS, draw(state, [1000, 1, 0, 2000])),
     ];
     for (place, number) in numbers {
-        patch(&mut bytes, place, &number.to_be_bytes());
+        put(&mut bytes, place, &number.to_be_bytes());
     }
     for slot in 0..8 {
         let numbers = [
@@ -47,7 +48,7 @@ fn generated_header(state: &mut u64) -> [u8; 592] {
             (STRIPES, draw(state, [4000, 1, 0, 4001])),
         ];
         for (place, number) in numbers {
-            patch(&mut bytes, place + 48 * slot, &number.to_be_bytes());
+            put(&mut bytes, place + 48 * slot, &number.to_be_bytes());
         }
     }
     bytes

@@ -1,4 +1,4 @@
-//! A header of LUKS1.
+//! A header of LUKS1, images of LUKS2, and what is read from them.
 //!
 //! If a call must succeed, an error ends the test at once: what is not returned need not be dropped
 //! on the way. What is returned stays to the end of the test, so that no function drops it.
@@ -9,6 +9,7 @@ use luks_header::header::{Header, read_header};
 use luks_header::slot::{Verdict, slots};
 use luks_io::memory::MemSource;
 use luks_io::source::Source;
+use luks_test_support::bytes::put;
 use luks_test_support::header2::image_of;
 use std::process::Abort;
 
@@ -68,25 +69,15 @@ fn write_row(row: &str, bytes: &mut [u8]) {
     let _ = hex::decode_to_slice(row, bytes);
 }
 
-/// Overwrites bytes of a header from an offset on.
-pub fn patch(bytes: &mut [u8; 592], place: usize, with: &[u8]) {
-    for (i, byte) in with.iter().enumerate() {
-        let at = place.saturating_add(i);
-        if at < 592 {
-            bytes[at] = *byte;
-        }
-    }
-}
-
 /// A header whose slot 0 alone is in use: 1000 iterations, 4000 stripes of 64 bytes from sector 8
 /// on, a digest with 1000 iterations, the payload from sector 4096 on.
 pub fn volume_header() -> [u8; 592] {
     let mut bytes = header_bytes();
-    patch(&mut bytes, 104, &4096u32.to_be_bytes());
-    patch(&mut bytes, 164, &1000u32.to_be_bytes());
-    patch(&mut bytes, 212, &1000u32.to_be_bytes());
+    put(&mut bytes, 104, &4096u32.to_be_bytes());
+    put(&mut bytes, 164, &1000u32.to_be_bytes());
+    put(&mut bytes, 212, &1000u32.to_be_bytes());
     for slot in 1..8 {
-        patch(&mut bytes, 208 + 48 * slot, &[0, 0, 0xde, 0xad]);
+        put(&mut bytes, 208 + 48 * slot, &[0, 0, 0xde, 0xad]);
     }
     bytes
 }
@@ -95,10 +86,10 @@ pub fn volume_header() -> [u8; 592] {
 pub fn changed(numbers: &[(usize, u32)], texts: &[(usize, &[u8])]) -> [u8; 592] {
     let mut bytes = volume_header();
     for (place, number) in numbers {
-        patch(&mut bytes, *place, &number.to_be_bytes());
+        put(&mut bytes, *place, &number.to_be_bytes());
     }
     for (place, text) in texts {
-        patch(&mut bytes, *place, text);
+        put(&mut bytes, *place, text);
     }
     bytes
 }

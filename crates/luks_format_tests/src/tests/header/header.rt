@@ -1,13 +1,14 @@
 //! Reading headers, and areas that grow.
 
-use super::fixture::{check_fault, header_bytes, patch, read_from};
+use super::fixture::{check_fault, header_bytes, read_from};
 use super::{assert_of, assert_row};
 use luks_header::area::HeaderArea;
 use luks_header::fault::HeaderFault;
-use luks_header::header::{Header, Header1, KeySlot, SlotState, read_header};
+use luks_header::header::{Header, Header1, SlotState, StoredSlot, read_header};
 use luks_io::memory::MemSource;
 use luks_io::source::Source;
-use luks_test_support::devices::Flaky;
+use luks_test_support::bytes::put;
+use luks_test_support::devices::FlakySource;
 use std::process::Abort;
 
 /// A key slot: its state, its iterations, offset and stripes, and the first byte of its salt and
@@ -32,7 +33,7 @@ static SLOTS: [Stated; 8] = [
 // The salts of slots 1 and 2 are the same in each byte.
 static SALTS: [[u8; 32]; 2] = [[0; 32], [1; 32]];
 
-fn has_slots(slots: &[KeySlot; 8]) -> bool {
+fn has_slots(slots: &[StoredSlot; 8]) -> bool {
     let mut has = [slots[1].salt, slots[2].salt] == SALTS;
     for (i, (state, numbers, ends)) in SLOTS.iter().enumerate() {
         let slot = slots[i];
@@ -89,7 +90,7 @@ fn check_reading<S: Source>(rt: &(impl Abort + AllocGlobal), source: &mut S, byt
 
 fn check_pieces(rt: &(impl Abort + AllocGlobal), bytes: &[u8; 592]) {
     for piece in [1, 591, 5000] {
-        check_reading(rt, &mut Flaky::new(bytes, piece, u64::MAX), bytes);
+        check_reading(rt, &mut FlakySource::new(bytes, piece, u64::MAX), bytes);
     }
 }
 
@@ -124,7 +125,7 @@ static FAULTS: [Row; 8] = [
 fn check_row(rt: &(impl Abort + AllocGlobal), (change, len, fault): &Row) {
     let mut image = header_bytes();
     if let Some((place, byte)) = change {
-        patch(&mut image, *place, &[*byte]);
+        put(&mut image, *place, &[*byte]);
     }
     check_fault(rt, &image[..*len.min(&592)], *fault, 0);
 }
@@ -152,7 +153,7 @@ fn check_failed(
     (bytes, piece, call): (&[u8], usize, u64),
     fault: HeaderFault,
 ) {
-    let mut source = Flaky::new(bytes, piece, call);
+    let mut source = FlakySource::new(bytes, piece, call);
     let answer = read_header(rt.alloc(), &mut source).err();
     assert_row(rt, call as usize, answer == Some(fault));
 }
@@ -185,9 +186,9 @@ static LACKING: [Request; 8] = [
 ];
 
 // Whether the area has the first bytes afterwards, and the others remain in the source.
-fn takes(area: &mut HeaderArea, source: &mut MemSource<'_>, (end, there, held): &Request) -> bool {
+fn takes(area: &mut HeaderArea, source: &mut MemSource<'_>, (end, there, len): &Request) -> bool {
     let whole = area.extend_to(source, *end.min(&HeaderArea::MAX_LEN));
-    let (prefix, rest) = DIGITS.split_at(*held.min(&10));
+    let (prefix, rest) = DIGITS.split_at(*len.min(&10));
     (whole == Ok(*there)) & ([area.as_slice(), source.left()] == [prefix, rest])
 }
 
@@ -207,7 +208,7 @@ fn an_area_takes_what_it_lacks(rt: HostRuntime) {
 
 #[test]
 fn an_area_keeps_what_came_before_a_failed_read(rt: HostRuntime) {
-    let mut source = Flaky::new(DIGITS, 2, 3);
+    let mut source = FlakySource::new(DIGITS, 2, 3);
     let mut area = HeaderArea::new(rt.alloc());
     let answers = [
         area.extend_to(&mut source, 3),

@@ -4,7 +4,7 @@ use super::assert_of;
 use super::fixture::{check_fault, read_from, verdicts};
 use super::validation::has_digest;
 use luks_header::fault::HeaderFault;
-use luks_header::header::{Finding, Header, Place};
+use luks_header::header::{Header, HeaderRole, PairFinding};
 use luks_header::payload::segment;
 use luks_header::refusal::SegmentFault;
 use luks_header::slot::verdict_kind;
@@ -27,10 +27,10 @@ fn has_fields(header: &Header) -> bool {
     match header {
         Header::V2(second, _metadata) => {
             let uuid = b"11111111-2222-3333-4444-555555555555".as_slice();
-            (second.place == Place::Primary)
+            (second.role == HeaderRole::Primary)
                 & (second.sequence == 7)
                 & (second.uuid.as_bytes() == uuid)
-                & (second.finding == Some(Finding::SecondaryNotValid))
+                & (second.finding == Some(PairFinding::SecondaryNotValid))
         }
         Header::V1(_) => false,
     }

@@ -6,7 +6,7 @@ use luks_cipher::Mode;
 use luks2_json::encryption::{encryption_mode, is_length_for};
 use luks2_json::list::has_strings;
 use luks2_json::member::{
-    base64_len, base64_member, decimal_member, integer_member, is_named, is_type, string_member,
+    base64_len, base64_member, decimal_member, integer_member, is_type, string_is, string_member,
 };
 use std::process::Abort;
 
@@ -81,9 +81,9 @@ fn a_text_is_what_it_spells(rt: HostRuntime) {
     assert_of(&rt, "x", string_member(tree, "x").unwrap_or("") == "raw");
     assert_of(&rt, "y", string_member(tree, "y").is_none());
     let named = [
-        is_named(tree, "x", "raw"),
-        is_named(tree, "x", "Raw"),
-        is_named(tree, "x", "ra"),
+        string_is(tree, "x", "raw"),
+        string_is(tree, "x", "Raw"),
+        string_is(tree, "x", "ra"),
         is_type(tree, "raw"),
     ];
     assert_of(&rt, "named", named == [true, false, false, false]);

@@ -21,8 +21,8 @@ fn check_ending(rt: &(impl Abort + AllocGlobal), case: &str, area: &[u8], want: 
 }
 
 // Each row is a text in two parts, and how reading ends. The three objects are required, and values
-// that nothing looks at count too: Python's json.loads accepts the same ones, except for a number
-// without bound, lone surrogates and text after the value.
+// that nothing looks at count too: Python's json.loads accepts the same ones, and also numbers that
+// are too large and lone surrogates.
 static TEXTS: [(&str, &str, &str); 27] = [
     ("", "{'keyslots':{},'segments':{},'digests':{}}", "read"),
     ("", " {'digests':{},'segments':{},'keyslots':{}}\n", "read"),

@@ -10,8 +10,8 @@ use Rattle.luks_header.proofs.HeaderLemmas.{image_other, left_is, none_read, one
 use Rattle.luks_header.proofs.HeaderLemmas.{short_from_not_whole, short_read, whole_falls}
 use Rattle.luks_header.proofs.header.read_header.Goals as goal
 
-pub returns-in_err-whole-clause-aborted : goal.returns-in_err-whole-clause-aborted
-returns-in_err-whole-clause-aborted g c =
+pub returns-in_err-whole-clause-no_header : goal.returns-in_err-whole-clause-no_header
+returns-in_err-whole-clause-no_header g c =
     let p = err_from_is_err_and c.from_residual.result c.from_residual.ensures.1 in
     rw (p.1, p.2) (λ image knows.
     aborts_reading _ _ image _ _ _ _
@@ -19,8 +19,8 @@ returns-in_err-whole-clause-aborted g c =
     (let h = c.in_err-whole.ensures.consumed in h image knows)
     c.in_err-whole.ensures.reads.ends)
 
-pub returns-then-not-whole-clause-aborted : goal.returns-then-not-whole-clause-aborted
-returns-then-not-whole-clause-aborted g c image knows =
+pub returns-then-not-whole-clause-no_header : goal.returns-then-not-whole-clause-no_header
+returns-then-not-whole-clause-no_header g c image knows =
     let is : is_luks1 c.extend_to.new.self.bytes ≡ true = ap is_luks1 (sym c.as_slice.ensures.value)
     ∙ sym c.is_header1.ensures ∙ c.if-is_header1.true in
     let short = short_from_not_whole c.in_ok-whole.whole 592 (length c.extend_to.new.self.bytes)
@@ -33,8 +33,8 @@ returns-then-not-whole-clause-aborted g c image knows =
     (c.in_ok-whole.ensures.reads.ends
     ∙ ap (λ whole. counted (not whole) (g.S.Source.counts c.args.source.now).ends) c.if-not-whole.true)
 
-pub returns-then-is_header1-clause-held : goal.returns-then-is_header1-clause-held
-returns-then-is_header1-clause-held g c =
+pub returns-then-is_header1-clause-of_area : goal.returns-then-is_header1-clause-of_area
+returns-then-is_header1-clause-of_area g c =
     let is : is_luks1 c.extend_to.new.self.bytes ≡ true = ap is_luks1 (sym c.as_slice.ensures.value)
     ∙ sym c.is_header1.ensures ∙ c.if-is_header1.true in
     let none : length c.new-area.result.bytes ≡ 0 =
@@ -52,10 +52,10 @@ returns-then-is_header1-clause-consumed g c image knows =
     (area_is c.new-area.result.bytes c.extend_to.new.self.bytes image _
     (ap (λ (area : HeaderAreaModel). area.bytes) c.new-area.ensures)
     (c.in_ok-whole.ensures.consumed image knows)) is (V1 c.from_bytes-header.result)
-    (returns-then-is_header1-clause-held g c)
+    (returns-then-is_header1-clause-of_area g c)
 
-pub returns-then-is_header1-clause-only : goal.returns-then-is_header1-clause-only
-returns-then-is_header1-clause-only g c =
+pub returns-then-is_header1-clause-whole_area : goal.returns-then-is_header1-clause-whole_area
+returns-then-is_header1-clause-whole_area g c =
     let is : is_luks1 c.extend_to.new.self.bytes ≡ true = ap is_luks1 (sym c.as_slice.ensures.value)
     ∙ sym c.is_header1.ensures ∙ c.if-is_header1.true in
     let none : length c.new-area.result.bytes ≡ 0 =
@@ -64,8 +64,8 @@ returns-then-is_header1-clause-only g c =
 
 -- ---- images that do not start as LUKS1
 
-pub returns-then-not-whole-2-clause-aborted : goal.returns-then-not-whole-2-clause-aborted
-returns-then-not-whole-2-clause-aborted g c image knows =
+pub returns-then-not-whole-2-clause-no_header : goal.returns-then-not-whole-2-clause-no_header
+returns-then-not-whole-2-clause-no_header g c image knows =
     let other : is_luks1 c.extend_to.new.self.bytes ≡ false = ap is_luks1 (sym c.as_slice.ensures.value)
     ∙ sym c.is_header1.ensures ∙ c.if-is_header1.false in
     let short = short_from_not_whole c.in_ok-whole.whole 592 (length c.extend_to.new.self.bytes)
@@ -78,8 +78,8 @@ returns-then-not-whole-2-clause-aborted g c image knows =
     (c.in_ok-whole.ensures.reads.ends
     ∙ ap (λ whole. counted (not whole) (g.S.Source.counts c.args.source.now).ends) c.if-not-whole-2.true)
 
-pub returns-in_err-header-clause-aborted : goal.returns-in_err-header-clause-aborted
-returns-in_err-header-clause-aborted g c =
+pub returns-in_err-header-clause-no_header : goal.returns-in_err-header-clause-no_header
+returns-in_err-header-clause-no_header g c =
     let p = err_from_is_err_and c.from_residual-in_err-header.result c.from_residual-in_err-header.ensures.1 in
     rw (p.1, p.2) (λ image knows.
     let other : is_luks1 c.extend_to.new.self.bytes ≡ false = ap is_luks1 (sym c.as_slice.ensures.value)
@@ -95,7 +95,7 @@ returns-in_err-header-clause-aborted g c =
     ∙ ap (λ whole. counted (not whole) (g.S.Source.counts c.args.source.now).ends) c.if-not-whole-2.false in
     rest_reading_aborted c.extend_to.new.self.bytes image _ consumed other all _ c.read2.new.area.bytes _ _ _
     c.in_err-header.field-0.0 same
-    (c.in_err-header.ensures.aborted _ (left_is c.extend_to.new.self.bytes image _ consumed other all)))
+    (c.in_err-header.ensures.no_header _ (left_is c.extend_to.new.self.bytes image _ consumed other all)))
 
 pub returns-in_err-header-clause-memory : goal.returns-in_err-header-clause-memory
 returns-in_err-header-clause-memory g c image knows begins =

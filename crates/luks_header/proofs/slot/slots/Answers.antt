@@ -23,7 +23,8 @@ loop-number-preserved c =
     let before = c.loop-number.invariant in
     elim c.match-branch-2.branch [
       | in-Some+in_ok-push w ↦
-          (let one : f n ≡ Some (n, w.in-Some.verdict) = ap (beside n) (sym c.in_ok-verdict.ensures.value ∙ w.in-Some.is) in
+          (let one : f n ≡ Some (n, w.in-Some.verdict) =
+          ap (beside n) (sym c.in_ok-verdict.ensures.value ∙ w.in-Some.is) in
           rw w.verdicts-is
           (w.in_ok-push.ensures.items
           ∙ (ap (λ (l : List (ℕ × Verdict)). l ++ (n, w.in-Some.verdict) ∷ []) before

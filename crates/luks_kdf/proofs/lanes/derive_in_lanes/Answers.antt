@@ -20,7 +20,7 @@ fill-preserved g c =
     let w = g.E.Lanes.WIDTH in
     let pass = c.args.pass.now in
     let salt = c.args.salt.now in
-    let turns = c.args.iterations in
+    let iterations = c.args.iterations in
     let before = c.args.out.now in
     let group = c.WIDTH.result * c.size.result in
     let known = g.met.E.Lanes.known in
@@ -32,10 +32,11 @@ fill-preserved g c =
     let is_number = ap (λ (n : ℕ). n * c.fill.i + 1) c.WIDTH-in-fill.ensures in
     let key = c.derive_group.ensures.key pass c.new-keyed.ensures.inner c.new-keyed.ensures.outer
     c.key_blocks-blocks.ensures.inner c.key_blocks-blocks.ensures.outer in (
-      cut_step (group_at (block_t h pass salt turns) w) group (length-blocks h pass salt turns w group is_group) before
+      cut_step (group_at (block_t h pass salt iterations) w) group
+          (length-blocks h pass salt iterations w group is_group) before
           c.fill.out c.derive_group.new.out c.fill.i c.min-end.result inside c.fill.auto.out c.fill.invariant.0
-          c.min-end.ensures (group_from h pass salt turns w c.fill.i _ _ _ is_number key),
-      count_group h w group c.args.work.now c.fill.work c.derive_group.new.work turns (length before) c.fill.i
+          c.min-end.ensures (group_from h pass salt iterations w c.fill.i _ _ _ is_number key),
+      count_group h w group c.args.work.now c.fill.work c.derive_group.new.work iterations (length before) c.fill.i
           c.min-end.result _ known is_group c.fill.invariant.1 inside
           (omega (arith, c.min-end.ensures, c.fill.auto.out))
           (omega (

@@ -10,7 +10,7 @@ returns g c = λ pass holds_inner holds_outer is_inner is_outer k below.
     let blocks = c.args.blocks.now in
     let first = digest_at (digest_len h) k c.first_iterations.new.u in
     sum_of_block h pass c.args.salt.now blocks.inner blocks.outer first _ _ c.args.iterations is_inner is_outer
-    (c.first_iterations.ensures pass holds_inner holds_outer k below) c.requires.turns
+    (c.first_iterations.ensures pass holds_inner holds_outer k below) c.requires.iterations
     (c.add_chains.ensures k below
     ∙ ap (λ (t : List ℕ). chain_xor (hash_of h) blocks.inner blocks.outer first (digest_at (digest_len h) k t)
     (c.args.iterations - 1))

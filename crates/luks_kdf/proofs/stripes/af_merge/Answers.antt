@@ -1,6 +1,6 @@
 use Rattle.std.proofs.Common.{◌∙◌, ◌-◌, ◌*◌, ◌/◌, ap, arith, drop, length, take}
 use Rattle.luks_kdf.specs.Bytes.{xor}
-use Rattle.luks_kdf.specs.Stripes.{AfSplitterModel, chain_of, merged, stripe_at}
+use Rattle.luks_kdf.specs.Stripes.{AfSplitterModel, splitter_block, merged, stripe_at}
 use Rattle.luks_kdf.proofs.StripesLemmas.{one_left}
 use Rattle.luks_kdf.proofs.stripes.af_merge.Goals as goal
 
@@ -10,7 +10,7 @@ returns c =
     let len = length c.args.out.now in
     let stripes = c.args.stripes.now in
     let before = length stripes / len - 1 in
-    let d = chain_of c.args.hash len stripes before in
+    let d = splitter_block c.args.hash len stripes before in
     c.last.ensures
     ∙ (ap (λ (chain : AfSplitterModel). xor chain.block (take (length stripes - before * len) (drop
     (before * len) stripes)))

@@ -1,6 +1,6 @@
 use Rattle.std.proofs.Common.{◌≡◌, ◌∙◌, ◌++◌, ◌/◌, List, ℕ, ap, arith, length}
 use Rattle.luks_kdf.specs.Bytes.{xor}
-use Rattle.luks_kdf.specs.Stripes.{AfSplitterModel, chain_of}
+use Rattle.luks_kdf.specs.Stripes.{AfSplitterModel, splitter_block}
 use Rattle.luks_kdf.proofs.StripesLemmas.{merged_split, whole_stripes}
 use Rattle.luks_kdf.proofs.stripes.af_split.Goals as goal
 
@@ -9,7 +9,7 @@ returns-clause-split c =
     let len = length c.args.key.now in
     let random = c.args.random.now in
     let number = c.requires.out in
-    let last : c.last.new.out ≡ xor (chain_of c.args.hash len random (length random / len)) c.args.key.now =
+    let last : c.last.new.out ≡ xor (splitter_block c.args.hash len random (length random / len)) c.args.key.now =
     c.last.ensures ∙ ap (λ (chain : AfSplitterModel). xor chain.block c.args.key.now)
     c.splitter_after-splitter.ensures.start in (
       length random / len,

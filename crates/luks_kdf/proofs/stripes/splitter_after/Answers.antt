@@ -1,7 +1,7 @@
 use Rattle.std.proofs.Common.{◌≡◌, ◌∙◌, ◌≤◌, ◌+◌, ◌-◌, ◌*◌, List, ℕ, suc, ap, sym, arith, drop, length, take}
 use Rattle.std.proofs.Math.Nat.{mul-le-mul_right}
 use Rattle.luks_kdf.specs.Stripes.{AfSplitterModel, stripe_at}
-use Rattle.luks_kdf.proofs.StripesLemmas.{chain_more, chain_start, length-chain_of, length-stripe_at}
+use Rattle.luks_kdf.proofs.StripesLemmas.{chain_more, chain_start, length-splitter_block, length-stripe_at}
 use Rattle.luks_kdf.proofs.stripes.splitter_after.Goals as goal
 
 -- the slice that the loop reads is the stripe of its number
@@ -21,7 +21,7 @@ stripe-requires c =
     ap length (slice-stripe_at c.args.len c.args.stripes.now c.stripes.i)
     ∙ (length-stripe_at c.args.len c.args.stripes.now c.stripes.i there
     ∙ sym (ap (λ (chain : AfSplitterModel). length chain.block) c.stripes.invariant
-    ∙ length-chain_of c.args.hash c.args.len c.args.stripes.now c.stripes.i (omega arith)))
+    ∙ length-splitter_block c.args.hash c.args.len c.args.stripes.now c.stripes.i (omega arith)))
 
 pub stripes-preserved : goal.stripes-preserved
 stripes-preserved c =
@@ -33,4 +33,4 @@ pub returns-clause-len : goal.returns-clause-len
 returns-clause-len c =
     let all : c.stripes.i ≡ c.args.count = omega arith in
     ap (λ (chain : AfSplitterModel). length chain.block) c.stripes.invariant
-    ∙ length-chain_of c.args.hash c.args.len c.args.stripes.now c.stripes.i (rw all c.requires.there)
+    ∙ length-splitter_block c.args.hash c.args.len c.args.stripes.now c.stripes.i (rw all c.requires.there)

@@ -2,8 +2,8 @@ use Rattle.std.proofs.Common.{rules}
 use Rattle.luks_open.specs.Candidate.{matches_digest}
 use Rattle.luks_open.proofs.digest.key_matches_digest.Goals as goal
 
-pub derived-derived-requires-clause-turns : goal.derived-derived-requires-clause-turns
-derived-derived-requires-clause-turns c = search rules
+pub derived-derived-requires-clause-iterations : goal.derived-derived-requires-clause-iterations
+derived-derived-requires-clause-iterations c = search rules
 
 pub returns-clause-value : goal.returns-clause-value
 unfolding matches_digest

@@ -1,25 +1,25 @@
 use Rattle.std.proofs.Common.{ap, arith}
 use Rattle.std.proofs.lemmas.List.{drop_all}
-use Rattle.luks_open.specs.Order.{key_areas_end}
-use Rattle.luks_open.proofs.OrderLemmas.{key_areas_end-drop, key_areas_end-nil, key_areas_end-within}
+use Rattle.luks_open.specs.Order.{key_material_end}
+use Rattle.luks_open.proofs.OrderLemmas.{key_material_end-drop, key_material_end-nil, key_material_end-within}
 use Rattle.luks_open.proofs.ordered.held_end.Goals as goal
 
 pub overflow_add-slot : goal.overflow_add-slot
 overflow_add-slot c =
-    let next = key_areas_end-drop c.entries-entry-items.result.now c.loop-entry.entry-index c.entry-item.result
+    let next = key_material_end-drop c.entries-entry-items.result.now c.loop-entry.entry-index c.entry-item.result
     c.loop-entry-test.true c.entry-item.is in
-    omega (arith, next, c.loop-entry.invariant, c.need.ensures, key_areas_end-within c.args.order.now.slots)
+    omega (arith, next, c.loop-entry.invariant, c.need.ensures, key_material_end-within c.args.order.now.entries)
 
 pub loop-entry-preserved : goal.loop-entry-preserved
 loop-entry-preserved c =
-    let next = key_areas_end-drop c.entries-entry-items.result.now c.loop-entry.entry-index c.entry-item.result
+    let next = key_material_end-drop c.entries-entry-items.result.now c.loop-entry.entry-index c.entry-item.result
     c.loop-entry-test.true c.entry-item.is in
     omega (arith, next, c.loop-entry.invariant, c.need.ensures, c.max-end.ensures)
 
 pub returns-clause-value : goal.returns-clause-value
 returns-clause-value c =
     let none = drop_all c.loop-entry.entry-index c.entries-entry-items.result.now (omega arith) in
-    omega (arith, c.loop-entry.invariant, ap key_areas_end none, key_areas_end-nil)
+    omega (arith, c.loop-entry.invariant, ap key_material_end none, key_material_end-nil)
 
 pub returns-clause-within : goal.returns-clause-within
 returns-clause-within c =
@@ -27,7 +27,7 @@ returns-clause-within c =
     omega (
       arith,
       c.loop-entry.invariant,
-      ap key_areas_end none,
-      key_areas_end-nil,
-      key_areas_end-within c.args.order.now.slots,
+      ap key_material_end none,
+      key_material_end-nil,
+      key_material_end-within c.args.order.now.entries,
     )

@@ -9,8 +9,8 @@ use Rattle.luks_payload.proofs.StepLemmas.{steps_at_limit, step_aborted, steps_t
 use Rattle.luks_payload.proofs.StepLemmas.{torn_writes, torn_writes_nothing, writes_no_sector}
 use Rattle.luks_payload.proofs.pump.next_sector.Goals as goal
 
-pub returns-then-count-limit-clause-run : goal.returns-then-count-limit-clause-run
-returns-then-count-limit-clause-run g c image few positioned =
+pub returns-then-count-max_sectors-clause-run : goal.returns-then-count-max_sectors-clause-run
+returns-then-count-max_sectors-clause-run g c image few positioned =
     let full : c.args.count ≡ max_sectors c.args.segment.now = omega arith in
     steps_at_limit c.args.segment.now image c.args.count c.args.prefix.now _ positioned c.args.cipher.now
     (g.O.Sink.written c.args.sink.now) (g.O.Sink.written c.args.sink.now) full few
@@ -29,7 +29,7 @@ returns-in_err-got g c =
       only = may_break c.args.segment.now c.args.count _ only;
       run = λ image few positioned.
           step_aborted c.args.segment.now image c.args.count c.args.prefix.now _ positioned c.args.cipher.now _ _ _ _
-          below (rw (sized, c.number.ensures) at aborted.forwards.known);
+          below (rw (sized, c.unit_number.ensures) at aborted.forwards.known);
       writes_sectors = writes_no_sector c.args.segment.now c.args.count _ only _ _ aborted.forwards.unread;
       reads = broken_reads c.args.segment.now c.args.count _ only _ _ aborted.reads;
       writes = broken_writes c.args.segment.now c.args.count _ only _ _ aborted.writes;
@@ -74,9 +74,9 @@ returns g c =
         sector_consumed c.args.segment.now image c.args.count c.args.prefix.now _ positioned _ below
             (λ rest is. rw got at (some.forwards.consumed rest is).1),
         sector_appended c.args.segment.now image c.args.count c.args.prefix.now _ positioned c.args.cipher.now _ _
-            (rw (c.number.ensures, got) at (some.forwards.written full)),
+            (rw (c.unit_number.ensures, got) at (some.forwards.written full)),
       );
-      writes_sectors = rw (c.number.ensures, sized) at (some.forwards.whole full);
+      writes_sectors = rw (c.unit_number.ensures, sized) at (some.forwards.whole full);
       reads = whole_reads _ _ _ _ (omega arith) some.reads;
       writes = some.writes;
     }

@@ -6,6 +6,6 @@ pub returns-clause-run : goal.returns-clause-run
 returns-clause-run g c written known is = elim c.match-read_header.branch [
   | in-Ok w ↦ let read = w.in-Ok.ensures.consumed known is in
       rw w.result-is (is_luks_found known _ _ _ read.0 read.2)
-  | in-Err w ↦ let stop = w.in-Err.ensures.aborted known is in
+  | in-Err w ↦ let stop = w.in-Err.ensures.no_header known is in
       rw (w.result-is, w.refusal_of.ensures) (is_luks_refused known _ _ _ _ w.in-Err.fault stop)
 ]

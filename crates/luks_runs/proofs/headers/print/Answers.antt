@@ -9,7 +9,7 @@ returns-in_err-header-clause-run g c =
     rw (p.1, p.2) (λ known is.
     runs_without_header c.args.location (printout_text c.args.printout)
     (printout_message c.args.printout) known _ _ _ _ c.in_err-header.field-0.0
-    (c.in_err-header.ensures.aborted known is))
+    (c.in_err-header.ensures.no_header known is))
 
 pub returns-clause-run : goal.returns-clause-run
 returns-clause-run g c known is =

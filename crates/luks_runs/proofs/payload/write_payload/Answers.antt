@@ -7,7 +7,7 @@ use Rattle.luks_runs.proofs.payload.write_payload.Goals as goal
 
 pub sectors-init : goal.sectors-init
 sectors-init g c =
-    let made = c.pump_behind-pump.ensures in
+    let made = c.pump_after-pump.ensures in
     record {
       segment = made.segment;
       cipher = made.cipher;

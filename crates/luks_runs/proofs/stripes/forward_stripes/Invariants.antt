@@ -1,7 +1,7 @@
 use Rattle.std.proofs.Common.{◌≡◌, ◌*◌, false, length}
 use Rattle.luks_io.specs.Devices.{IfKnown}
 use Rattle.luks_io.specs.Counts.{Reads, Writes}
-use Rattle.luks_kdf.specs.Stripes.{chain_after}
+use Rattle.luks_kdf.specs.Stripes.{splitter_after}
 use Rattle.luks_runs.specs.StripeParts.{ForwardedBytes}
 use Rattle.luks_runs.proofs.stripes.forward_stripes.Given as goal
 
@@ -12,7 +12,7 @@ invariant-stripes g l = record {
   writes : Writes false (g.O.Sink.counts l.initial.out) (g.O.Sink.counts l.out);
   len : length l.splitter.block ≡ length l.stripe;
   forwarded : IfKnown (g.R.Source.to_come l.initial.random)
-      (λ known. (l.splitter ≡ chain_after l.fn.hash (length l.stripe) known l.counter)
+      (λ known. (l.splitter ≡ splitter_after l.fn.hash (length l.stripe) known l.counter)
       × ForwardedBytes known (g.R.Source.to_come l.random) (g.O.Sink.written l.initial.out) (g.O.Sink.written l.out)
       (l.counter * length l.stripe) (l.counter * length l.stripe));
 }

@@ -11,7 +11,7 @@ fill-init c = c.new-sectors.ensures.items ∙ sectors_none c.args.cipher.now c.a
 pub fill-preserved : goal.fill-preserved
 fill-preserved c =
     sectors_more c.args.cipher.now c.args.first c.args.step _ c.args.plain.now c.fill.i _ _ _
-    c.fill.invariant c.unit_number.ensures c.in_ok-push_sector.ensures
+    c.fill.invariant c.wrapping_number.ensures c.in_ok-push_sector.ensures
 
 pub returns : goal.returns
 unfolding sectors_encrypted

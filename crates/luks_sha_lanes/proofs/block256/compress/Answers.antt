@@ -38,7 +38,7 @@ pub returns : goal.returns
 unfolding compress
 returns g c = λ j b in_lane twice words block.
     let state = c.args.state.now in
-    let done : 16 * c.schedule.iteration ≡ 64 = omega (arith, c.schedule.auto.iteration-end (omega arith)) in
+    let done : 16 * c.schedule.group ≡ 64 = omega (arith, c.schedule.auto.group-end (omega arith)) in
     let held = pair_at j b (lane j state) _ _ _ _ done (c.schedule.invariant j b in_lane twice words block) in (
       twice_of_eight j c.twice.result c.twice-2.result c.twice-3.result c.twice-4.result c.twice-5.result
           c.twice-6.result c.twice-7.result c.twice-8.result [] (c.twice.ensures.twice j in_lane)

@@ -1,7 +1,7 @@
 use Rattle.std.proofs.lemmas.Result.{err_from_is_err_and}
 use Rattle.std.proofs.Common.{◌∙◌, ◌<◌, ap, inl, inr, length, refl, sym, arith}
 use Rattle.luks_header.proofs.HeaderLemmas.{short_from_not_whole}
-use Rattle.luks_open.specs.Order.{key_areas_end}
+use Rattle.luks_open.specs.Order.{key_material_end}
 use Rattle.luks_unlock.proofs.VolumeLemmas.{none_behind, opening_reads}
 use Rattle.luks_unlock.proofs.trying.try_slots.Goals as goal
 use Rattle.luks_unlock.proofs.trying.try_slots.Goals.{else-has_ended-via-then-has_ended+else-as_slice-end}
@@ -54,7 +54,7 @@ returns-in-Err-clause-run g c = rw (c.of_opening.ensures, c.named_slot.ensures) 
 pub returns-then-as_slice-end-clause-run : goal.returns-then-as_slice-end-clause-run
 returns-then-as_slice-end-clause-run g c rest there nothing =
     let none = nothing (sym c.has_ended.ensures ∙ c.if-has_ended.true) in
-    let few : length c.args.volume.now.area.bytes < key_areas_end c.args.volume.now.order.slots = omega (
+    let few : length c.args.volume.now.area.bytes < key_material_end c.args.volume.now.order.entries = omega (
       arith,
       c.if-as_slice-end.true,
       ap length c.as_slice.ensures.value,

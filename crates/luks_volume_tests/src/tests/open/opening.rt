@@ -177,7 +177,7 @@ static ROWS: [Row; 24] = [
         SKIPPED,
         (0, 38),
     ),
-    // A byte after the stripes does not count.
+    // Each byte of the stripes counts, and a byte after them does not.
     (
         &SHORT_KEY,
         Change::Flipped(2048),

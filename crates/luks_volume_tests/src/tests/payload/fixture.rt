@@ -13,7 +13,7 @@ use luks_io::transform::Transform;
 use luks_payload::fault::VolumeFault;
 use luks_payload::pump::Pump;
 use luks_payload::state::Step;
-use luks_test_support::devices::{Flaky, Leaky};
+use luks_test_support::devices::{FlakySink, FlakySource};
 use std::process::Abort;
 
 /// An image, and the plain bytes of its sectors.
@@ -35,12 +35,12 @@ pub fn sink_of(
     capacity: usize,
     piece: usize,
     bad_write: u64,
-) -> &'static mut Leaky {
-    let sink = Leaky::new(rt.alloc(), capacity, piece, bad_write);
+) -> &'static mut FlakySink {
+    let sink = FlakySink::new(rt.alloc(), capacity, piece, bad_write);
     kept(rt, sink.expect(rt, "memory"))
 }
 
-/// The key of all payloads here.
+/// The cipher of all payloads here.
 pub fn key(rt: &impl Abort) -> SectorCipher {
     SectorCipher::new(Mode::XtsPlain64, b"a key of XTS-AES-128 has 32 byte").expect(rt, "a key")
 }
@@ -101,7 +101,7 @@ pub const NEVER: u64 = u64::MAX;
 #[derive(Clone, Copy, Debug)]
 pub struct Way {
     /// How many bytes are loaded before the source is called.
-    pub held: usize,
+    pub loaded: usize,
     /// How many bytes the source can buffer.
     pub capacity: usize,
     /// How many bytes the source below gives at once, or all if it is 0.
@@ -179,17 +179,17 @@ pub fn run_pump<S: Source, O: Sink>(
 /// Runs the pump over a device that gives bytes in pieces.
 pub fn run_pieces(
     pump: &mut Pump<'_>,
-    source: &mut Flaky<'_>,
-    sink: &mut Leaky,
+    source: &mut FlakySource<'_>,
+    sink: &mut FlakySink,
 ) -> (u32, Result<Step, VolumeFault>) {
     run_pump(pump, source, sink)
 }
 
-type Held<'a> = Passing<ReadAheadSource<Flaky<'a>>>;
+type Held<'a> = Passing<ReadAheadSource<FlakySource<'a>>>;
 
 // A source of these bytes, which may all be read ahead.
 fn source_of<'a>(rt: &(impl Abort + AllocGlobal), bytes: &'a [u8], way: &Way) -> Held<'a> {
-    let below = Flaky::new(bytes, way.piece, way.bad_read);
+    let below = FlakySource::new(bytes, way.piece, way.bad_read);
     let source = ReadAheadSource::new(rt.alloc(), way.capacity, below).expect(rt, "memory");
     let mut source = Passing {
         source,
@@ -208,10 +208,10 @@ fn pump_of<'a>(rt: &impl Abort, segment: Segment, first: &'a [u8]) -> Pump<'a> {
     }
 }
 
-fn run_held(
+fn run_loaded(
     pump: &mut Pump<'_>,
     source: &mut Held<'_>,
-    sink: &mut Leaky,
+    sink: &mut FlakySink,
 ) -> (u32, Result<Step, VolumeFault>) {
     run_pump(pump, source, sink)
 }
@@ -220,11 +220,11 @@ fn run_held(
 fn is_over(
     pump: &mut Pump<'_>,
     source: &mut Held<'_>,
-    sink: &mut Leaky,
+    sink: &mut FlakySink,
     last: Result<Step, VolumeFault>,
 ) -> bool {
     let calls = [source.source.get_ref().calls(), sink.calls()];
-    let again = run_held(pump, source, sink);
+    let again = run_loaded(pump, source, sink);
     let is_skipped = pump.skip(source).is_ok();
     (again == (0, last))
         & ([source.source.get_ref().calls(), sink.calls()] == calls)
@@ -246,11 +246,11 @@ pub fn run(
     (image, plain): (&[u8], &[u8]),
     way: Way,
 ) -> Outcome {
-    let (first, rest) = image.split_at(way.held.min(image.len()));
+    let (first, rest) = image.split_at(way.loaded.min(image.len()));
     let mut source = source_of(rt, rest, &way);
     let sink = sink_of(rt, 65_536, way.sink_piece, way.bad_write);
     let mut pump = pump_of(rt, segment, first);
-    let (sectors, last) = run_held(&mut pump, &mut source, sink);
+    let (sectors, last) = run_loaded(&mut pump, &mut source, sink);
     let is_over = is_over(&mut pump, &mut source, sink, last);
     let consumed = image.len().saturating_sub(left_in(&mut source));
     Outcome {

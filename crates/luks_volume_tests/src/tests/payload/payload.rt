@@ -115,7 +115,7 @@ static SHAPES: [Shape; 13] = [
 // The way in which nothing fails.
 fn way_of((capacity, piece, sink_piece): Shape) -> Way {
     Way {
-        held: 0,
+        loaded: 0,
         capacity,
         piece,
         bad_read: NEVER,
@@ -192,18 +192,18 @@ static PREFIXES: [Prefix; 5] = [
     ),
 ];
 
-fn check_prefix(rt: &(impl Abort + AllocGlobal), (sector_size, size, units, row, helds): &Prefix) {
+fn check_prefix(rt: &(impl Abort + AllocGlobal), (sector_size, size, units, row, lens): &Prefix) {
     let volume = volume_of(rt, *sector_size, units);
     let segment = segment_of(rt, *sector_size, 5, *size);
     let (len, sectors, last, consumed) = *row;
     let image = &volume.image[..len.min(volume.image.len())];
     let written = (sectors as usize).saturating_mul(sector_size.bytes());
-    for held in *helds {
+    for loaded in *lens {
         let way = Way {
-            held: *held,
+            loaded: *loaded,
             ..way_of((0, 513, 700))
         };
-        let end = (sectors, last, consumed.max(*held), written);
+        let end = (sectors, last, consumed.max(*loaded), written);
         check_run(rt, segment, (image, volume.plain), way, end);
     }
 }
@@ -242,7 +242,7 @@ fn failed_reads_are_reported_from_then_on(rt: HostRuntime) {
     }
     // After the loaded bytes.
     let way = Way {
-        held: 1600,
+        loaded: 1600,
         bad_read: 0,
         ..way_of((0, 513, 700))
     };
@@ -309,7 +309,7 @@ fn skips(pump: &mut Pump<'_>, source: &mut MemSource<'_>) -> bool {
     (pump.skip(source) == Ok(())) & (source.left().len() == 1536)
 }
 
-// Whether the plain text is written, and the source consumed.
+// Whether the plaintext is written, and the source consumed.
 fn ends(pump: &mut Pump<'_>, source: &mut MemSource<'_>, sink: &mut MemSink, plain: &[u8]) -> bool {
     let end = run_pump(pump, source, sink);
     (end == (3, Ok(Step::End))) & source.left().is_empty() & (sink.as_slice() == plain)

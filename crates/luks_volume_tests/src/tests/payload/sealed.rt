@@ -12,7 +12,7 @@ use luks_payload::pump::Pump;
 use luks_payload::state::Step;
 use luks_seal_fixtures::bytes::{at, counted};
 use luks_seal_fixtures::parameters::{KEY, SALT, parameters1, slot1};
-use luks_test_support::devices::{Flaky, Leaky};
+use luks_test_support::devices::{FlakySink, FlakySource};
 use luks1_seal::seal1;
 use std::process::Abort;
 
@@ -102,14 +102,19 @@ fn payload(rt: &impl Abort) -> Pump<'static> {
     Pump::new(segment, cipher, 0)
 }
 
-// Whether the plain text is written, and the image consumed to its end.
-fn ends(pump: &mut Pump<'_>, source: &mut Flaky<'_>, sink: &mut Leaky, plain: &[u8]) -> bool {
+// Whether the plaintext is written, and the image consumed to its end.
+fn ends(
+    pump: &mut Pump<'_>,
+    source: &mut FlakySource<'_>,
+    sink: &mut FlakySink,
+    plain: &[u8],
+) -> bool {
     let end = run_pieces(pump, source, sink);
     (end == (2, Ok(Step::End))) & (source.left() == 0) & (sink.as_slice() == plain)
 }
 
 // Whether further steps and skips report the same and call no device.
-fn rests(pump: &mut Pump<'_>, source: &mut Flaky<'_>, sink: &mut Leaky) -> bool {
+fn rests(pump: &mut Pump<'_>, source: &mut FlakySource<'_>, sink: &mut FlakySink) -> bool {
     let calls = [source.calls(), sink.calls()];
     let again = run_pieces(pump, source, sink);
     let is_skipped = pump.skip(source) == Ok(());
@@ -118,7 +123,7 @@ fn rests(pump: &mut Pump<'_>, source: &mut Flaky<'_>, sink: &mut Leaky) -> bool 
 
 fn check_payload(rt: &(impl Abort + AllocGlobal), image: &[u8], plain: &[u8]) {
     let mut pump = payload(rt);
-    let mut source = Flaky::new(image, 5000, NEVER);
+    let mut source = FlakySource::new(image, 5000, NEVER);
     let sink = sink_of(rt, 4096, 5000, NEVER);
     assert_of(rt, "end", ends(&mut pump, &mut source, sink, plain));
     assert_of(rt, "rest", rests(&mut pump, &mut source, sink));

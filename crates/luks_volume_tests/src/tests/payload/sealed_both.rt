@@ -19,7 +19,7 @@ use luks_payload::state::Step;
 use luks_seal::parameters::{Seal1, Seal2, Slot1, Slot2};
 use luks_seal_fixtures::bytes::{at, counted};
 use luks_seal_fixtures::parameters::{self, parameters1, parameters2};
-use luks_test_support::devices::Flaky;
+use luks_test_support::devices::FlakySource;
 use luks1_seal::seal1;
 use luks2_seal::seal2;
 use std::process::Abort;
@@ -80,7 +80,7 @@ fn opened(
     open(header, area, &order, pass, &mut Work::new(0))
 }
 
-// Checks that the payload under this key is this plain text.
+// Checks that the payload under this key is this plaintext.
 fn check_payload(
     rt: &(impl Abort + AllocGlobal),
     header: &Header,
@@ -90,7 +90,7 @@ fn check_payload(
 ) {
     let payload = segment(header).expect(rt, "a segment");
     let cipher = SectorCipher::new(payload.mode, key).expect(rt, "a key of the mode");
-    let mut source = Flaky::new(image, 0, NEVER);
+    let mut source = FlakySource::new(image, 0, NEVER);
     let sink = sink_of(rt, 65_536, 65_536, NEVER);
     let (_, last) = run_pieces(&mut Pump::new(payload, cipher, 0), &mut source, sink);
     let is_plain = sink.as_slice() == plain;
@@ -101,7 +101,7 @@ fn check_slot(rt: &impl Abort, pass: &[u8], found: Option<u8>, slot: Option<u8>)
     assert!(rt; found == slot, "{pass:?}: {found:?}");
 }
 
-// Checks that the passphrase opens this slot of the image and that the payload is this plain text,
+// Checks that the passphrase opens this slot of the image and that the payload is this plaintext,
 // or that it opens no slot, or not the named one.
 fn check_opens(
     rt: &(impl Abort + AllocGlobal),
@@ -302,7 +302,7 @@ fn a_fixed_size_ends_the_payload(rt: HostRuntime) {
     check_opens(&rt, (image, plain), None, FIRST, Some(0));
 }
 
-/// The sizes of headers.
+/// Seven of the nine sizes that a header can have.
 const HEADERS: [u64; 7] = [16_384, 32_768, 65_536, 131_072, 262_144, 524_288, 1_048_576];
 
 // Replaces the first byte of the primary header's text by one that ends it.

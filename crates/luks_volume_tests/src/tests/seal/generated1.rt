@@ -54,7 +54,7 @@ fn check_generated(rt: &(impl Abort + AllocGlobal), state: &mut u64, run: u32) {
     let second = 4 + next(state) % 4;
     let slots = [generated_slot(state, first), generated_slot(state, second)];
     let uuid = next(state) as usize % 41;
-    // No plain text, one sector or two.
+    // No plaintext, one sector or two.
     let plain = next(state) as usize % 3 * 512;
     let seal = Seal1 {
         hash: HASHES[run as usize % 5],

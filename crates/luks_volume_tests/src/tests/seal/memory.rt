@@ -1,4 +1,4 @@
-//! Sealing with less and less memory, until a call does not run out of it. Each call that does
+//! Sealing with more and more memory, until a call does not run out of it. Each call that does
 //! reports that, and never anything else.
 
 use super::counted;

@@ -18,7 +18,7 @@ enum Change {
     Counted(usize, usize),
     Uuid(&'static [u8]),
     Key(Mode, usize),
-    /// The length of the plain text.
+    /// The length of the plaintext.
     Plain(usize),
 }
 

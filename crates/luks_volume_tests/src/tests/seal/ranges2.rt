@@ -22,7 +22,7 @@ enum Change {
     Written(&'static [u8]),
     Key(Mode, usize),
     AreaKey(Mode, usize),
-    /// The length of a sector, and that of the plain text.
+    /// The length of a sector, and that of the plaintext.
     Plain(SectorSize, usize),
 }
 

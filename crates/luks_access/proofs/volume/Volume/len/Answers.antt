@@ -5,4 +5,4 @@ pub returns-clause-value : goal.returns-clause-value
 returns-clause-value c = rw (← c.self.view_is) (λ image long.
     let inside = c.self.inside.unlocked in
     text_is_long inside.segment (inside.segment.mode, inside.key) image c.args.image_len
-    c.text_len.result long c.text_len.ensures.value)
+    c.plaintext_len.result long c.plaintext_len.ensures.value)

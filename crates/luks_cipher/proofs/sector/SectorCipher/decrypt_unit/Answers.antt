@@ -1,7 +1,7 @@
 use Rattle.std.proofs.Common.{◌∙◌, sym}
 use Rattle.luks_aes.specs.Aes.{encrypted}
 use Rattle.luks_cipher.specs.Cbc.{cbc_decrypted, cbc_encrypted}
-use Rattle.luks_cipher.proofs.ChainsUndone.{to_iv, from_vector}
+use Rattle.luks_cipher.proofs.ChainsUndone.{to_iv, from_iv}
 use Rattle.luks_cipher.proofs.sector.SectorCipher.decrypt_unit.Goals as goal
 
 pub returns-in-CbcEssivSha256-clause-undone : goal.returns-in-CbcEssivSha256-clause-undone
@@ -10,7 +10,7 @@ returns-in-CbcEssivSha256-clause-undone c =
     let arm = c.in-CbcEssivSha256.is in
     let digest = rw arm at c.self.invariant.digest in
     let iv = c.encrypt_block.ensures.value ∙ (λ i. encrypted (digest i) (c.number_block-iv.ensures i)) in
-    rw (← view, arm) (from_vector cbc_encrypted _ _ _ _ _ iv c.decrypt_chain.ensures.undone)
+    rw (← view, arm) (from_iv cbc_encrypted _ _ _ _ _ iv c.decrypt_chain.ensures.undone)
 
 pub returns-in-CbcPlain64-clause-value : goal.returns-in-CbcPlain64-clause-value
 returns-in-CbcPlain64-clause-value c =
@@ -24,7 +24,7 @@ returns-in-CbcPlain64-clause-undone c =
     let view = c.self.view_is in
     let arm = c.in-CbcPlain64.is in
     rw (← view, arm)
-    (from_vector cbc_encrypted _ _ _ _ _ c.number_block.ensures
+    (from_iv cbc_encrypted _ _ _ _ _ c.number_block.ensures
     c.decrypt_chain-in-CbcPlain64.ensures.undone)
 
 pub returns-in-CbcEssivSha256-clause-undoes : goal.returns-in-CbcEssivSha256-clause-undoes

@@ -1,7 +1,7 @@
 use Rattle.std.proofs.Common.{◌∙◌}
 use Rattle.luks_aes.specs.Aes.{encrypted}
 use Rattle.luks_cipher.specs.Cbc.{cbc_encrypted, cbc_decrypted}
-use Rattle.luks_cipher.proofs.ChainsUndone.{to_iv, from_vector, to_key, from_key}
+use Rattle.luks_cipher.proofs.ChainsUndone.{to_iv, from_iv, to_key, from_key}
 use Rattle.luks_cipher.proofs.sector.SectorCipher.encrypt_unit.Goals as goal
 
 pub returns-in-CbcEssivSha256-clause-value : goal.returns-in-CbcEssivSha256-clause-value
@@ -21,7 +21,7 @@ returns-in-CbcEssivSha256-clause-undone c =
     let digest = rw arm at c.self.invariant.digest in
     let iv = c.encrypt_block.ensures.value ∙ (λ i. encrypted (digest i) (c.number_block-iv.ensures i)) in
     rw (← view, arm)
-    (from_vector cbc_decrypted _ _ _ _ _ iv
+    (from_iv cbc_decrypted _ _ _ _ _ iv
     (from_key cbc_decrypted _ _ _ _ _ c.key.ensures c.encrypt_chain.ensures.undone))
 
 pub returns-in-CbcPlain64-clause-value : goal.returns-in-CbcPlain64-clause-value
@@ -37,5 +37,5 @@ returns-in-CbcPlain64-clause-undone c =
     let view = c.self.view_is in
     let arm = c.in-CbcPlain64.is in
     rw (← view, arm)
-    (from_vector cbc_decrypted _ _ _ _ _ c.number_block.ensures
+    (from_iv cbc_decrypted _ _ _ _ _ c.number_block.ensures
     (from_key cbc_decrypted _ _ _ _ _ c.key-in-CbcPlain64.ensures c.encrypt_chain-in-CbcPlain64.ensures.undone))

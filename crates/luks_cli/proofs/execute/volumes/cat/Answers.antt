@@ -46,7 +46,7 @@ returns-in_err-unlocked-clause-calls g c =
     rw (p.1, p.2)
     (calls_without_payload _ _ _ _ _ _ _ _ _ _ (calls_unopened _ _ _ _ _ _ stop.only stop.counts))
 
--- ---- the image's end was hit: it is forwarded from memory
+-- ---- the image's end was hit: its payload is forwarded from memory
 
 pub returns-then-has_ended-clause-run : goal.returns-then-has_ended-clause-run
 returns-then-has_ended-clause-run g c known is pass has counted =

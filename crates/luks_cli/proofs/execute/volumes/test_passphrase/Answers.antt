@@ -1,7 +1,7 @@
 use Rattle.std.proofs.lemmas.Result.{err_from_is_err_and}
 use Rattle.std.proofs.Common.{true}
 use Rattle.luks_unlock.specs.Volume.{slot_outcome}
-use Rattle.luks_runs.specs.Run.{AnyPace, result_message}
+use Rattle.luks_runs.specs.Run.{AnyPromptness, result_message}
 use Rattle.luks_cli.proofs.CallLemmas.{calls_unopened, none_failed}
 use Rattle.luks_cli.proofs.OpenedRuns.{runs_at, runs_slot, slot_message, slot_reads_nothing, slot_consumes_loaded}
 use Rattle.luks_cli.proofs.execute.volumes.test_passphrase.Goals as goal
@@ -10,24 +10,24 @@ pub returns-in_err-unlocked-clause-run : goal.returns-in_err-unlocked-clause-run
 returns-in_err-unlocked-clause-run g c =
     let p = err_from_is_err_and c.from_residual.result c.from_residual.ensures.1 in
     rw (p.1, p.2) (λ known is pass has.
-    runs_at _ AnyPace _ _ _ _ _ (λ image secret output is. tt)
+    runs_at _ AnyPromptness _ _ _ _ _ (λ image secret output is. tt)
     (c.in_err-unlocked.ensures.err known is pass has (slot_outcome pass) (slot_consumes_loaded pass) _))
 
 pub returns-clause-run : goal.returns-clause-run
 returns-clause-run g c known is pass has =
     runs_slot c.args.location _ known pass _ _ _ _ _ (c.in_ok-unlocked.ensures.ok known is pass has) _ _
-    (result_message c.report_slot.result) c.report_slot.ensures.reported
+    (result_message c.write_opened_line.result) c.write_opened_line.ensures.written
 
 pub returns-clause-only : goal.returns-clause-only
 returns-clause-only g c =
-    slot_message c.in_ok-unlocked.unlocked.volume.slot _ _ (result_message c.report_slot.result)
-    c.report_slot.ensures.reported
+    slot_message c.in_ok-unlocked.unlocked.volume.slot _ _ (result_message c.write_opened_line.result)
+    c.write_opened_line.ensures.written
 
 pub returns-clause-reads_first : goal.returns-clause-reads_first
 returns-clause-reads_first g c failed =
-    let reported = slot_reads_nothing c.in_ok-unlocked.unlocked.volume.slot _ _ (result_message c.report_slot.result)
-    c.report_slot.ensures.reported in
-    absurd (cc (rw failed at reported))
+    let no_read = slot_reads_nothing c.in_ok-unlocked.unlocked.volume.slot _ _
+    (result_message c.write_opened_line.result) c.write_opened_line.ensures.written in
+    absurd (cc (rw failed at no_read))
 
 pub returns-in_err-unlocked-clause-calls : goal.returns-in_err-unlocked-clause-calls
 returns-in_err-unlocked-clause-calls g c =
@@ -37,12 +37,12 @@ returns-in_err-unlocked-clause-calls g c =
 
 pub returns-clause-calls : goal.returns-clause-calls
 returns-clause-calls g c =
-    let not_read = slot_reads_nothing c.in_ok-unlocked.unlocked.volume.slot _ _ (result_message c.report_slot.result)
-    c.report_slot.ensures.reported in
+    let not_read = slot_reads_nothing c.in_ok-unlocked.unlocked.volume.slot _ _
+    (result_message c.write_opened_line.result) c.write_opened_line.ensures.written in
     let counts = c.in_ok-unlocked.ensures.counts in
     record {
       in_input = true;
       input_reads = rw not_read (none_failed _ _ _ counts.input_reads);
       secret_reads = none_failed _ _ _ counts.secret_reads;
-      out_writes = c.report_slot.ensures.writes;
+      out_writes = c.write_opened_line.ensures.writes;
     }

@@ -41,7 +41,7 @@ returns-in_err-opened-clause-counts g c =
     let first = c.in_ok-volume.ensures.found.loaded.reads in
     let then = c.in_err-opened.ensures.counts in
     rw (p.1, p.2) (reads_before _ _ _ _ _ _ _ first
-    (λ ended. ap g.I.Source.counts (c.open_volume-opened.ensures.ended ended)) then)
+    (λ ended. ap g.I.Source.counts (c.unlock_found-opened.ensures.ended ended)) then)
 
 pub returns-clause-ok : goal.returns-clause-ok
 returns-clause-ok g c known is pass has =
@@ -60,13 +60,13 @@ pub returns-clause-counts : goal.returns-clause-counts
 returns-clause-counts g c =
     let first = c.in_ok-volume.ensures.found.loaded.reads in
     let then = c.in_ok-opened.ensures.counts in
-    reads_before _ _ _ _ _ _ _ first (λ ended. ap g.I.Source.counts (c.open_volume-opened.ensures.ended ended)) then
+    reads_before _ _ _ _ _ _ _ first (λ ended. ap g.I.Source.counts (c.unlock_found-opened.ensures.ended ended)) then
 
 pub returns-clause-loaded : goal.returns-clause-loaded
 returns-clause-loaded g c =
     let loaded = c.in_ok-volume.ensures.found.loaded in
     let still = c.in_ok-opened.ensures.still in
-    let kept = c.open_volume-opened.ensures.ended in
+    let kept = c.unlock_found-opened.ensures.ended in
     rw (c.area_of-area.ensures, still.0) (record {
       reads = reads_within false _ _ _ _ loaded.reads (λ ended. ap g.I.Source.counts (kept ended)) still.1;
       emptied = λ ended known is. ap g.I.Source.to_come (kept ended) ∙ loaded.emptied ended known is;

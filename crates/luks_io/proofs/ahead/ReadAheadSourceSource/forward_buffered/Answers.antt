@@ -15,6 +15,6 @@ returns-clause-forwards g c =
 pub returns-clause-leaves : goal.returns-clause-leaves
 returns-clause-leaves g c =
     let at = c.self.inside in
-    let held = stays_buffered at.buffer.items c.put_transformed-answer.new.buffer at.buffer.len at.start at.end
+    let buffered = stays_buffered at.buffer.items c.put_transformed-answer.new.buffer at.buffer.len at.start at.end
     c.args.count (omega arith) (omega arith) (search rules) (search rules) (search rules) in
-    rw (← c.self.view_is, held) (search rules)
+    rw (← c.self.view_is, buffered) (search rules)

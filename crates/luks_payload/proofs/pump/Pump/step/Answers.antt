@@ -13,7 +13,8 @@ returns-in_err-skip-clause-run g c =
     let p = err_from_is_err_and c.from_residual.result c.from_residual.ensures.1 in
     let was = c.args.self.now in
     rw (p.1, p.2) (λ image few positioned.
-    steps_unskipped was.segment was.cipher was.consumed was.count was.prefix image _ _ _ _ was.state _ _ positioned
+    steps_unskipped was.segment was.cipher was.consumed_before was.count was.prefix image _ _ _ _
+    was.state _ _ positioned
     c.in_err-skip.ensures.again c.in_err-skip.ensures.fresh
     (λ first. c.in_err-skip.ensures.run image first positioned))
 
@@ -39,8 +40,9 @@ returns-clause-run g c image few positioned =
     let was = c.args.self.now in
     let skip = c.in_ok-skip.ensures in
     let now = c.self.view_is ∙ skip.pump in
-    steps_skipped was.segment was.cipher was.consumed was.count was.prefix image _ _ _ _ _ _ was.state _ positioned
-    (subst (λ (p : PumpModel). p.consumed ≤ p.segment.offset) now c.self.invariant.0)
+    steps_skipped was.segment was.cipher was.consumed_before was.count was.prefix image _ _ _ _ _ _
+    was.state _ positioned
+    (subst (λ (p : PumpModel). p.consumed_before ≤ p.segment.offset) now c.self.invariant.0)
     skip.again (λ same. ap g.S.Source.to_come same) skip.fresh (λ first. skip.run image first positioned)
     (subst (λ (p : PumpModel).
     PositionedAt image p.prefix (sector_start p.segment p.count) (g.S.Source.to_come c.skip.new.source)

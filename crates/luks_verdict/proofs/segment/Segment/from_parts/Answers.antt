@@ -7,4 +7,4 @@ pub returns : goal.returns
 unfolding segment_from
 returns c =
     rw (c.in_ok-offset.was, c.in_ok-size.was, c.in_ok-iv_tweak.was, c.in_ok-sector_size.was, c.in_ok-mode.was)
-    (segment_made _ _ _ _ _ _ (sym c.in_sectors.ensures ∙ c.if-not-in_sectors.false))
+    (segment_made _ _ _ _ _ _ (sym c.has_whole_sectors.ensures ∙ c.if-not-has_whole_sectors.false))

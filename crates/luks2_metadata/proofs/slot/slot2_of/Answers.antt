@@ -1,0 +1,25 @@
+use Rattle.std.proofs.Common.{◌≡◌, None, sym, ◌∙◌}
+use Rattle.luks2_json.proofs.NumberedLemmas.{none_from_not_some}
+use Rattle.luks2_metadata.proofs.SlotLemmas.{IsSmall, small_of}
+use Rattle.luks2_metadata.proofs.slot.slot2_of.Goals as goal
+use Rattle.luks2_metadata.specs.Slot2.{reason2_of}
+use Rattle.serde_json.specs.View.{view}
+
+-- there is no reason to skip the slot, so its numbers are small
+small : (c : goal.Else-is_some) → IsSmall (view c.args.slot.now)
+small c =
+    let none : reason2_of (view c.args.tree.now) c.args.bounds None c.args.number (view c.args.slot.now) ≡ None =
+    sym c.reason.ensures ∙ none_from_not_some _ (sym c.is_some.ensures ∙ c.if-is_some.false) in
+    small_of (view c.args.tree.now) c.args.bounds c.args.number (view c.args.slot.now) none
+
+pub parts-requires-clause-iterations : goal.parts-requires-clause-iterations
+parts-requires-clause-iterations c = (small c).iterations
+
+pub parts-requires-clause-stripes : goal.parts-requires-clause-stripes
+parts-requires-clause-stripes c = (small c).stripes
+
+pub parts-requires-clause-key : goal.parts-requires-clause-key
+parts-requires-clause-key c = (small c).key
+
+pub parts-requires-clause-area_key : goal.parts-requires-clause-area_key
+parts-requires-clause-area_key c = (small c).area_key

@@ -1,0 +1,47 @@
+use Rattle.std.proofs.lemmas.Result.{err_from_is_err_and}
+use Rattle.std.proofs.Common.{◌≡◌, ◌≤◌, ap, arith, inl, inr, length, refl, true}
+use Rattle.luks_runs.specs.KeyFile.{max_key_file_len}
+use Rattle.luks_cli.proofs.CallLemmas.{reads_of_secret, within_areas}
+use Rattle.luks_cli.proofs.execute.volumes.unlock_found.Goals as goal
+
+pub returns-in_err-passphrase-clause-run : goal.returns-in_err-passphrase-clause-run
+returns-in_err-passphrase-clause-run g c =
+    let p = err_from_is_err_and c.from_residual.result c.from_residual.ensures.1 in
+    rw (p.1, p.2) (λ rest there pass has nothing. inr (_, refl, c.in_err-passphrase.ensures.err pass has, refl, there))
+
+pub returns-in_err-passphrase-clause-counts : goal.returns-in_err-passphrase-clause-counts
+returns-in_err-passphrase-clause-counts g c =
+    let p = err_from_is_err_and c.from_residual.result c.from_residual.ensures.1 in
+    rw (p.1, p.2) (reads_of_secret _ _ _ _ _ c.in_err-passphrase.ensures.reads.1)
+
+pub returns-clause-run : goal.returns-clause-run
+returns-clause-run g c rest there pass has nothing =
+    let whole = c.in_ok-passphrase.ensures.ok pass has in
+    let short : length pass
+    ≤ max_key_file_len = omega (
+      arith,
+      ap length whole.0,
+      c.in_ok-passphrase.passphrase.ok.0,
+      c.in_ok-passphrase.ensures.few,
+    ) in
+    inl (short, whole.1, rw (c.deref.ensures.value, whole.0) at (c.try_slots.ensures.run rest there nothing))
+
+pub returns-clause-counts : goal.returns-clause-counts
+returns-clause-counts g c =
+    let passphrase = c.in_ok-passphrase.ensures.reads in
+    record {
+      in_input = true;
+      input_reads = (_, c.try_slots.ensures.reads.1);
+      secret_reads = (passphrase.0, passphrase.1);
+    }
+
+pub returns-clause-work : goal.returns-clause-work
+returns-clause-work g c pass has =
+    let whole = c.in_ok-passphrase.ensures.ok pass has in
+    rw (c.deref.ensures.value, whole.0) at c.try_slots.ensures.work
+
+pub returns-clause-still : goal.returns-clause-still
+returns-clause-still g c =
+    let reads = c.try_slots.ensures.reads in
+    within_areas c.try_slots.result (c.try_slots.new.volume.area.ended ≡ c.args.volume.now.area.ended) reads.0 _ _
+    c.try_slots.ensures.area reads.1 reads.2
