@@ -4,4 +4,3 @@
 mod grammar;
 mod options;
 pub mod planning;
-pub mod usage;

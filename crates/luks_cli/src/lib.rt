@@ -12,3 +12,4 @@ pub use luks_request::command::{Command, MergeArgs, SplitArgs, VolumeArgs};
 pub use luks_request::number::{IterationLimit, KeyBytes, SlotNumber, StripeCount};
 
 pub mod execute;
+pub mod plan_fault;

@@ -13,18 +13,11 @@ use Rattle.luks_payload.specs.declared.fault.VolumeFault.TheVariants.{CutBeforeP
 use Rattle.luks_payload.specs.declared.fault.VolumeFault.TheVariants.{Tail as VolumeTail}
 use Rattle.luks_payload.specs.declared.fault.VolumeFault.TheVariants.{Short as VolumeShort, Read, Write}
 use Rattle.luks_payload.specs.declared.state.Step.{Step}
-use Rattle.luks_args.specs.declared.planning.PlanFault.{PlanFault}
-use Rattle.luks_args.specs.declared.planning.PlanFault.TheVariants.{Memory as PlanMemory, Usage as PlanUsage}
 use Rattle.luks_report.specs.declared.message.Message.{Message}
-use Rattle.luks_report.specs.declared.message.Message.TheVariants.{Done, Usage, NotLuks, Cut, Json, OutOfMemory}
+use Rattle.luks_report.specs.declared.message.Message.TheVariants.{Done, NotLuks, Cut, Json, OutOfMemory}
 use Rattle.luks_report.specs.declared.message.Message.TheVariants.{ReadFailed, WriteFailed, NoSuchSlot, SlotDisabled}
 use Rattle.luks_report.specs.declared.message.Message.TheVariants.{SlotSkipped, NothingTried, NoKey, CutBeforePayload}
 use Rattle.luks_report.specs.declared.message.Message.TheVariants.{Tail, Short}
-
--- the message if the arguments are not a command, or memory ran out
-abbrev pub message_for_plan : PlanFault → Message
-message_for_plan PlanUsage = Usage
-message_for_plan PlanMemory = OutOfMemory
 
 -- the message if no header was read
 abbrev pub message_for_header : HeaderFault → Message

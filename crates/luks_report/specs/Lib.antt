@@ -1,4 +1,5 @@
 pub mod CheckOutput
 pub mod Faults
 pub mod Texts
+pub mod Usage
 pub use Rattle.luks_dump.specs.Dump

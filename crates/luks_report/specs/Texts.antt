@@ -11,7 +11,7 @@ use Rattle.luks_report.specs.declared.message.Message.TheVariants.{WriteFailed}
 use Rattle.luks_report.specs.declared.message.Message.TheVariants.{SegmentRefused, NoSuchSlot, SlotDisabled}
 use Rattle.luks_report.specs.declared.message.Message.TheVariants.{SlotSkipped, NothingTried, KeyFileLength, NoKey}
 use Rattle.luks_report.specs.declared.message.Message.TheVariants.{CutBeforePayload, Tail, Short, Findings}
-use Rattle.luks_args.specs.Usage.{usage_text}
+use Rattle.luks_report.specs.Usage.{usage_text}
 
 -- a message on a line of its own
 abbrev pub message_line : List ℕ → List ℕ

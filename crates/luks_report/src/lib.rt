@@ -9,6 +9,7 @@ pub mod line;
 pub mod message;
 pub mod opened;
 pub mod report;
+pub mod usage;
 mod wording;
 
 pub use luks_dump::dump;

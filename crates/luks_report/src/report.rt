@@ -4,7 +4,6 @@ ghost use Rattle.std.specs.Prelude.{◌≡◌};
 ghost use Rattle.luks_report.specs.Texts.{status_of};
 
 use crate::message::Message;
-use luks_args::planning::PlanFault;
 
 /// The exit status of a run and its message.
 #[derive(Clone, Copy, Debug, PartialEq, Eq)]
@@ -20,23 +19,11 @@ pub struct Report {
 }
 
 impl Report {
-    ghost use Rattle.luks_report.specs.Faults.{message_for_plan};
-
     /// The report of a run that ended with this message.
     pub fn of(message: Message) -> Report
         ensures { result.message ≡ message }
     {
         let status = message.status();
         Report { status, message }
-    }
-
-    /// The report if the arguments gave no command.
-    pub fn of_fault(fault: PlanFault) -> Report
-        ensures { result.message ≡ message_for_plan fault }
-    {
-        match fault {
-            PlanFault::Usage => Report::of(Message::Usage),
-            PlanFault::Memory => Report::of(Message::OutOfMemory),
-        }
     }
 }

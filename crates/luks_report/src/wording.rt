@@ -9,7 +9,7 @@ ghost use Rattle.luks_report.specs.Texts.{skips_text};
 
 use crate::line::Line;
 use crate::message::Message;
-use luks_args::usage::usage;
+use crate::usage::usage;
 use luks_header::refusal::SkipReason;
 use luks_io::sink::{Sink, WriteFault, put_all};
 use luks_open::skipped::SkippedSlots;

@@ -10,6 +10,7 @@ mod target;
 
 use input::{Input, InputFault};
 use luks_cli::execute::{execute, execute_detached};
+use luks_cli::plan_fault::report_of_fault;
 use luks_cli::{Command, Message, NOT_OPENED, Report, not_opened_text, plan};
 use luks_io::adapters::{ReadSource, WriteSink};
 use luks_io::ahead::ReadAheadSource;
@@ -36,7 +37,7 @@ fn main(rt: HostRuntime) -> ExitCode {
         Ok(command) => match run(&rt, &command) {
             Ok(status) | Err(status) => status,
         },
-        Err(fault) => print_report(&rt, &Report::of_fault(fault)),
+        Err(fault) => print_report(&rt, &report_of_fault(fault)),
     }
 }
 

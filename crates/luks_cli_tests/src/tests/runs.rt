@@ -3,6 +3,7 @@
 use super::same::{assert_in, assert_same_in};
 use luks_args::planning::plan;
 use luks_cli::execute::{execute, execute_detached};
+use luks_cli::plan_fault::report_of_fault;
 use luks_io::memory::MemSink;
 use luks_io::sink::{Sink, put_all};
 use luks_io::source::Source;
@@ -102,7 +103,7 @@ pub(super) fn report_of<H: Source, I: Source, K: Source, O: Sink>(
 ) -> Report {
     match plan(rt.alloc(), words) {
         Ok(command) => report_over(rt.alloc(), &command, header, image, secret, out),
-        Err(fault) => Report::of_fault(fault),
+        Err(fault) => report_of_fault(fault),
     }
 }
 

@@ -5,8 +5,8 @@ use super::runs::{
 };
 use super::same::assert_same_in;
 use luks_args::planning::PlanFault;
+use luks_cli::plan_fault::report_of_fault;
 use luks_report::message::Message;
-use luks_report::report::Report;
 use luks_seal_fixtures::bytes::at;
 use std::process::Abort;
 
@@ -218,7 +218,7 @@ fn stripes_are_written_as_far_as_there_is_room(rt: HostRuntime) {
 // The report if memory runs out while the arguments are parsed.
 #[test]
 fn a_refused_plan_is_reported(rt: HostRuntime) {
-    let report = Report::of_fault(PlanFault::Memory);
+    let report = report_of_fault(PlanFault::Memory);
     assert_same_in(&rt, &report, report.message, Message::OutOfMemory);
     check_reported(&rt, &report, &report, "3 luksrd: out of memory\n")
 }

@@ -1,8 +1,8 @@
 //! What no clause says: that the definitions read arguments as intended, and that calls succeed.
 
 use luks_args::planning::{PlanFault, plan};
-use luks_args::usage::usage;
 use luks_kdf::Hash;
+use luks_report::usage::usage;
 use luks_request::command::{Command, HeaderArgs, MergeArgs, SplitArgs, VolumeArgs};
 use luks_request::number::{IterationLimit, KeyBytes, SlotNumber, StripeCount};
 use std::process::Abort;

@@ -1,7 +1,7 @@
 //! The usage text.
 
 ghost use Rattle.std.specs.Prelude.{◌≡◌, ◌≤◌, length};
-ghost use Rattle.luks_args.specs.Usage.{usage_text};
+ghost use Rattle.luks_report.specs.Usage.{usage_text};
 
 const USAGE: &str = "\
 usage: luksrd isLuks [--header FILE] IMAGE

@@ -1,5 +1,5 @@
 use Rattle.std.proofs.Common.{rules}
-use Rattle.luks_report.proofs.report.Report.of_fault.Goals as goal
+use Rattle.luks_cli.proofs.plan_fault.report_of_fault.Goals as goal
 
 pub returns-in-Usage : goal.returns-in-Usage
 returns-in-Usage c = search rules

@@ -1,6 +1,6 @@
 use Rattle.std.proofs.Common.{rules}
-use Rattle.luks_args.specs.Usage.{usage_text}
-use Rattle.luks_args.proofs.usage.usage.Goals as goal
+use Rattle.luks_report.specs.Usage.{usage_text}
+use Rattle.luks_report.proofs.usage.usage.Goals as goal
 
 pub returns-clause-value : goal.returns-clause-value
 unfolding usage_text

@@ -1,0 +1,10 @@
+-- The message if the arguments give no command.
+use Rattle.luks_args.specs.declared.planning.PlanFault.{PlanFault}
+use Rattle.luks_args.specs.declared.planning.PlanFault.TheVariants.{Memory, Usage}
+use Rattle.luks_report.specs.declared.message.Message.{Message}
+use Rattle.luks_report.specs.declared.message.Message.TheVariants.{OutOfMemory, Usage as UsageMessage}
+
+-- the message if the arguments are not a command, or memory ran out
+abbrev pub message_for_plan : PlanFault → Message
+message_for_plan Usage = UsageMessage
+message_for_plan Memory = OutOfMemory
