@@ -1,6 +1,7 @@
 //! Gates on vectors of 128 bits.
 
-ghost use Rattle.std.specs.Prelude.{◌≡◌, ◌*◌, ◌/◌, ◌%◌, ◌^◌, ◌<◌, bit_and, bit_or, bit_xor, length, map};
+ghost use Rattle.std.specs.Prelude.{◌≡◌, ◌*◌, ◌/◌, ◌%◌, ◌^◌, ◌<◌, bit_and, bit_or, bit_xor, length};
+ghost use Rattle.std.specs.Prelude.{map};
 ghost use Rattle.std.specs.Simd.Lanes.{zip2};
 
 use std::simd::prelude::*;

@@ -4,8 +4,8 @@ ghost use Rattle.std.specs.Prelude.{◌≡◌, ◌+◌, ◌*◌, ◌/◌, ◌%�
 ghost use Rattle.std.specs.Prelude.{slice_index_or};
 ghost use Rattle.std.specs.Int.{bit_at};
 ghost use Rattle.luks_bitslice.specs.BitPlanes.{column_order, HasBits};
-ghost use Rattle.luks_bitslice.specs.Lanes.{low_words, high_words, low_halves, high_halves, by_rows};
-ghost use Rattle.luks_bitslice.specs.Lanes.{by_columns};
+ghost use Rattle.luks_bitslice.specs.Lanes.{low_words, high_words, low_halves, high_halves};
+ghost use Rattle.luks_bitslice.specs.Lanes.{by_rows, by_columns};
 
 use std::simd::prelude::*;
 
