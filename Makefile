@@ -14,8 +14,7 @@
 #                 built, one of that in PLUGIN_DEB
 
 PROGRAM := crates/luksrd/out/luksrd
-SEALER := crates/sealed_image/out/sealed_image
-DERIVER := crates/bench_pbkdf2/out/bench_pbkdf2
+TOOLS := crates/luksrd_tools/out/luksrd_tools
 ARCHIVE := crates/luks_c/out/libluks_c.a
 LIBRARY := out/libluksrd.a
 SHARED := out/libluksrd.so
@@ -37,7 +36,7 @@ CFLAGS ?= -O2
 # of the library: its file, and the two names that lead to it
 SHARED_NAMES = libluksrd.so.$(VERSION) libluksrd.so.$(INTERFACE) libluksrd.so
 
-.PHONY: all demo check scripts program-scripts c-scripts test bench library nbdkit toolchain built
+.PHONY: all demo check scripts program-scripts c-scripts tool-scripts test bench library nbdkit toolchain built
 .PHONY: install install-program install-library install-plugin uninstall deb
 
 all: $(PROGRAM)
@@ -49,13 +48,9 @@ $(PROGRAM): FORCE | toolchain
 .PHONY: FORCE
 FORCE:
 
-# It writes volumes that the library seals, for interop/sealed.sh; with no arguments it does nothing.
-$(SEALER): FORCE | toolchain
-	cd crates/sealed_image && rt run >/dev/null
-
-# It derives keys, for interop/keys.sh and bench/pbkdf2; with no arguments it does nothing.
-$(DERIVER): FORCE | toolchain
-	cd crates/bench_pbkdf2 && rt run >/dev/null
+# It derives keys, times sectors and seals volumes, for interop/ and bench/; with no arguments it does nothing.
+$(TOOLS): FORCE | toolchain
+	cd crates/luksrd_tools && rt run >/dev/null
 
 # `rt lib` proves and builds it; it has no code in C.
 crates/luks_c/out/libluks_c.a: FORCE | toolchain
@@ -98,23 +93,24 @@ demo: toolchain
 toolchain:
 	@command -v rt >/dev/null || { echo "rt is missing: put the Rattle toolchain on the path" >&2; exit 1; }
 
-check: all $(SEALER) $(DERIVER) library nbdkit scripts
+check: all $(TOOLS) library nbdkit scripts
 
 # The programs, the library and the plugin are used as they are. Four scripts run side by side; the
-# output of each comes when it has ended. Some need the sealer, the program that derives keys, or what
-# is built from C.
+# output of each comes when it has ended. Some need the tools, or what is built from C.
 TESTS := stripes volumes devices memory hostile completions
 INTEROP := headers headers2 volumes volumes2 detached filesystems
 PROGRAM_SCRIPTS := test-names $(TESTS:%=test-%) $(INTEROP:%=interop-%)
 C_SCRIPTS := test-package test-library interop-nbd interop-recipes
-ALL_SCRIPTS := $(PROGRAM_SCRIPTS) $(C_SCRIPTS) interop-sealed interop-keys
+TOOL_SCRIPTS := interop-sealed interop-keys
+ALL_SCRIPTS := $(PROGRAM_SCRIPTS) $(C_SCRIPTS) $(TOOL_SCRIPTS)
 
 .PHONY: $(ALL_SCRIPTS)
 
 scripts: ASKED = $(ALL_SCRIPTS)
 program-scripts: ASKED = $(PROGRAM_SCRIPTS)
 c-scripts: ASKED = $(C_SCRIPTS)
-scripts program-scripts c-scripts:
+tool-scripts: ASKED = $(TOOL_SCRIPTS)
+scripts program-scripts c-scripts tool-scripts:
 	tests/packages
 	+$(MAKE) -k -j 4 --output-sync=target --no-print-directory $(ASKED)
 
@@ -127,11 +123,8 @@ $(TESTS:%=test-%): test-%:
 $(INTEROP:%=interop-%): interop-%:
 	interop/$*.sh $(PROGRAM)
 
-interop-sealed:
-	interop/sealed.sh $(PROGRAM) $(SEALER)
-
-interop-keys:
-	interop/keys.sh $(PROGRAM) $(DERIVER)
+$(TOOL_SCRIPTS): interop-%:
+	interop/$*.sh $(PROGRAM) $(TOOLS)
 
 test-package:
 	tests/package.sh $(PROGRAM) $(PLUGIN)

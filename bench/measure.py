@@ -1,4 +1,4 @@
-"""Shared by the measurements of whole runs: the program, and the cost of a run."""
+"""Shared by the measurements: the programs, and the cost of a run."""
 
 import os
 import pathlib
@@ -7,11 +7,17 @@ import sys
 
 TOP = pathlib.Path(__file__).resolve().parents[1]
 LUKSRD = TOP / "crates" / "luksrd" / "out" / "luksrd"
+TOOLS = TOP / "crates" / "luksrd_tools" / "out" / "luksrd_tools"
 MIB = 1 << 20
 
 
 def build():
     subprocess.run(["make", "all"], cwd=TOP, check=True, stdout=subprocess.DEVNULL)
+
+
+def build_tools():
+    """The program with the tools; without arguments it does nothing."""
+    subprocess.run(["rt", "run"], cwd=TOOLS.parents[1], check=True, stdout=subprocess.DEVNULL, stderr=subprocess.DEVNULL)
 
 
 def measured(folder, command, environment=None):

@@ -1,14 +1,14 @@
 #!/usr/bin/env bash
 # Compares the keys that luks_kdf derives with those of Python's hashlib (OpenSSL): each length from 1 to 512 bytes, with 1, 2, 3 and 1000
-# iterations, by all five hash functions. The second argument is the program that derives them, `bench_pbkdf2`.
-deriver=$(realpath "${2:?the program that derives keys}")
+# iterations, by all five hash functions. The second argument is the program that derives them, `luksrd_tools`.
+tools=$(realpath "${2:?the program that derives keys}")
 # shellcheck source=tests/common.sh
 . "$(dirname "$0")/../tests/common.sh"
 
 for hash in sha1 sha224 sha256 sha384 sha512; do
     for turns in 1 2 3 1000; do
         # shellcheck disable=SC2046
-        "$deriver" luks_kdf "$hash" "$turns" $(seq 512) 2>derived >none || exit 1
+        "$tools" derive luks_kdf "$hash" "$turns" $(seq 512) 2>derived >none || exit 1
         # each line is the work, a time and a key; a shorter key is a prefix of a longer one
         python3 - "$hash" "$turns" <<'PYTHON' >theirs
 import hashlib, sys

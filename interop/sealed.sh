@@ -1,6 +1,7 @@
 #!/usr/bin/env bash
-# Shows volumes that the library seals (`crates/sealed_image`, the second argument) to cryptsetup and qemu-img, which open and read them as luksrd does.
-sealer=$(realpath "${2:?the program that writes sealed volumes}")
+# Shows volumes that the library seals to cryptsetup and qemu-img, which open and read them as luksrd does. The second argument is the program
+# that seals them, `luksrd_tools`.
+tools=$(realpath "${2:?the program that seals volumes}")
 # shellcheck source=interop/common.sh
 . "$(dirname "$0")/common.sh"
 
@@ -50,11 +51,11 @@ python3 -c 'import sys; sys.stdout.buffer.write(bytes(i % 251 for i in range(327
 
 for mode in xts-plain64 xts-plain cbc-essiv:sha256 cbc-plain64; do
     image="luks1 $mode"
-    "$sealer" luks1 "$mode" 512 >"$image" || exit 1
+    "$tools" seal luks1 "$mode" 512 >"$image" || exit 1
     opens "$image"
     for sector in 512 1024 2048 4096; do
         image="luks2 $mode $sector"
-        "$sealer" luks2 "$mode" "$sector" >"$image" || exit 1
+        "$tools" seal luks2 "$mode" "$sector" >"$image" || exit 1
         opens "$image"
         same "$image: cryptsetup decrypts the same" "$(decrypted "$image" | sha256sum)" "$(sha256sum <plain)"
     done

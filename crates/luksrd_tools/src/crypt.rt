@@ -1,14 +1,18 @@
-//! Times sectors: `bench_xts MODE WAY BYTES COUNT` encrypts or decrypts (WAY is `encrypt` or
+//! Times sectors: `crypt MODE WAY BYTES COUNT` encrypts or decrypts (WAY is `encrypt` or
 //! `decrypt`) COUNT sectors of BYTES bytes under the numbers from 0 and a key of AES-256 (two for
 //! XTS) in the mode of this name, and writes to standard error the number of bytes, the nanoseconds
-//! that they cost, and the first byte of the result. With no arguments it does nothing. `bench/xts`
-//! runs it beside others.
-#![tactic(auto)]
+//! that they cost, and the first byte of the result. With no further arguments it does nothing.
+//! `bench/xts` runs it beside others.
 
+use crate::mode_key::key_of;
+use crate::usage::print_usage;
 use luks_cipher::{Mode, SectorCipher};
+use std::env::Args;
+use std::io;
 use std::rt::Runtime;
 use std::time::Instant;
-use std::{env, io};
+
+const ARGUMENTS: &str = "crypt MODE WAY BYTES COUNT";
 
 // Two different keys of AES-256.
 const KEY: [u8; 64] = [
@@ -34,10 +38,7 @@ fn way_of(word: &str) -> Option<Way> {
 }
 
 fn cipher_of(mode: Mode) -> Option<SectorCipher> {
-    match mode {
-        Mode::XtsPlain64 | Mode::XtsPlain => SectorCipher::new(mode, &KEY),
-        Mode::CbcEssivSha256 | Mode::CbcPlain64 => SectorCipher::new(mode, &KEY[..32]),
-    }
+    SectorCipher::new(mode, key_of(mode, &KEY))
 }
 
 fn work(cipher: &SectorCipher, way: Way, sector: &mut [u8], count: u64) {
@@ -65,9 +66,8 @@ fn time<R: Runtime>(rt: &R, mode: Mode, way: Way, length: usize, count: u64) -> 
     eprintln!(rt; "{total} {elapsed} {left}")
 }
 
-fn main(rt: HostRuntime) -> io::Result<()> {
-    let mut words = env::args(&rt)?;
-    let _program = words.next();
+/// Encrypts or decrypts as these words request.
+pub fn run(rt: &HostRuntime, mut words: Args) -> io::Result<()> {
     let Some(mode) = words.next() else {
         return Ok(());
     };
@@ -78,10 +78,10 @@ fn main(rt: HostRuntime) -> io::Result<()> {
     match (mode, way, length, count) {
         (Some(mode), Some(way), Some(length), Some(count)) => {
             match (way_of(&way), length.parse(), count.parse()) {
-                (Some(way), Ok(length), Ok(count)) => time(&rt, mode, way, length, count),
-                _ => eprintln!(&rt; "usage: bench_xts MODE WAY BYTES COUNT"),
+                (Some(way), Ok(length), Ok(count)) => time(rt, mode, way, length, count),
+                _ => print_usage(rt, ARGUMENTS),
             }
         }
-        _ => eprintln!(&rt; "usage: bench_xts MODE WAY BYTES COUNT"),
+        _ => print_usage(rt, ARGUMENTS),
     }
 }

@@ -1,10 +1,11 @@
-//! Writes a sealed volume to standard output: `sealed_image FORMAT MODE SECTOR`, where FORMAT is
-//! `luks1` or `luks2`, MODE the name of a mode and SECTOR the length of a sector in bytes (LUKS1
-//! has only 512). The volume holds 32,768 plain bytes that count modulo 251, and has two key slots,
-//! 0 with the passphrase `one` and 1 with the passphrase `two`. With no arguments it does nothing.
+//! Writes a sealed volume to standard output: `seal FORMAT MODE SECTOR`, where FORMAT is `luks1` or
+//! `luks2`, MODE the name of a mode and SECTOR the length of a sector in bytes (LUKS1 has only
+//! 512). The volume holds 32,768 plain bytes that count modulo 251, and has two key slots, 0 with
+//! the passphrase `one` and 1 with the passphrase `two`. With no further arguments it does nothing.
 //! `interop/sealed.sh` shows its volumes to other programs.
-#![tactic(auto)]
 
+use crate::mode_key::key_of;
+use crate::usage::print_usage;
 use luks_cipher::Mode;
 use luks_kdf::Hash;
 use luks_seal::parameters::{Seal1, Seal2, SealFault, Slot1, Slot2};
@@ -12,8 +13,10 @@ use luks_verdict::sector_size::SectorSize;
 use luks1_seal::seal1;
 use luks2_seal::seal2;
 use std::alloc::{AllocError, Global};
-use std::io::Write;
-use std::{env, io};
+use std::env::Args;
+use std::io::{self, Write};
+
+const ARGUMENTS: &str = "seal luks1|luks2 MODE SECTOR";
 
 const UUID: &[u8] = b"0a1b2c3d-4e5f-4a6b-8c7d-9e0f1a2b3c4d";
 
@@ -32,14 +35,6 @@ fn counting(alloc: Global, first: usize, len: usize) -> Result<Vec<u8>, AllocErr
         bytes.push((first.wrapping_add(i) % 251) as u8)?;
     }
     Ok(bytes)
-}
-
-// The volume key of a mode.
-fn key_of(mode: Mode) -> &'static [u8] {
-    match mode {
-        Mode::XtsPlain64 | Mode::XtsPlain => &KEY,
-        Mode::CbcEssivSha256 | Mode::CbcPlain64 => &KEY[..32],
-    }
 }
 
 fn sector_size_of(word: &str) -> Option<SectorSize> {
@@ -63,7 +58,7 @@ fn slot1<'a>(number: u32, passphrase: &'a [u8], random: &'a [u8]) -> Slot1<'a> {
 }
 
 fn first(alloc: Global, mode: Mode, plain: &[u8]) -> Result<Vec<u8>, SealFault> {
-    let key = key_of(mode);
+    let key = key_of(mode, &KEY);
     let random = counting(alloc, 7, 3999 * key.len().min(64))?;
     let slots = [slot1(0, b"one", &random), slot1(1, b"two", &random)];
     seal1(
@@ -103,7 +98,7 @@ fn second(
     sector_size: SectorSize,
     plain: &[u8],
 ) -> Result<Vec<u8>, SealFault> {
-    let key = key_of(mode);
+    let key = key_of(mode, &KEY);
     let random = counting(alloc, 7, 3999 * key.len().min(64))?;
     let slots = [slot2(0, b"one", &random), slot2(1, b"two", &random)];
     seal2(
@@ -145,9 +140,8 @@ fn volume(alloc: Global, format: &str, mode: &str, sector: &str) -> Result<Vec<u
     }
 }
 
-fn main(rt: HostRuntime) -> io::Result<()> {
-    let mut words = env::args(&rt)?;
-    let _program = words.next();
+/// Writes the volume that these words request.
+pub fn run(rt: &HostRuntime, mut words: Args) -> io::Result<()> {
     let Some(format) = words.next() else {
         return Ok(());
     };
@@ -156,8 +150,8 @@ fn main(rt: HostRuntime) -> io::Result<()> {
     match (mode, sector) {
         (Some(mode), Some(sector)) => match volume(rt.alloc(), &format, &mode, &sector) {
             Ok(image) => rt.stdout().write_all(&image),
-            Err(_) => eprintln!(&rt; "usage: sealed_image luks1|luks2 MODE SECTOR"),
+            Err(_) => print_usage(rt, ARGUMENTS),
         },
-        _ => eprintln!(&rt; "usage: sealed_image luks1|luks2 MODE SECTOR"),
+        _ => print_usage(rt, ARGUMENTS),
     }
 }

@@ -1,15 +1,16 @@
-//! Derives keys, and reports the cost: `bench_pbkdf2 luks_kdf sha256 100000 64` derives a key of 64
-//! bytes with 100000 iterations, and writes the evaluations of HMAC, the nanoseconds of processor
-//! time and the key to standard error. Each further number is one more length, and gets a line of
-//! its own. `blockwise` in place of `luks_kdf` derives the blocks of a key one after the other, by
-//! SHA-1 or SHA-256. With no arguments, or with others, it does nothing.
-#![tactic(auto)]
+//! Derives keys, and reports the cost: `derive luks_kdf sha256 100000 64` derives a key of 64 bytes
+//! with 100000 iterations, and writes the evaluations of HMAC, the nanoseconds of processor time
+//! and the key to standard error. Each further number is one more length, and gets a line of its
+//! own. `blockwise` in place of `luks_kdf` derives the blocks of a key one after the other, by
+//! SHA-1 or SHA-256. With no further arguments, or with others, it does nothing. `interop/keys.sh`
+//! compares the keys with hashlib's, and `bench/pbkdf2` the cost with that of others.
 
 ghost use Rattle.std.specs.Prelude.{◌≤◌};
 
 use luks_kdf::{Hash, Work, pbkdf2};
+use std::env::Args;
 use std::time::CpuClock;
-use std::{env, fmt, io};
+use std::{fmt, io};
 
 mod blockwise;
 
@@ -34,9 +35,8 @@ impl<'a> fmt::Display for Hex<'a> {
     }
 }
 
-fn main(rt: HostRuntime) -> io::Result<()> {
-    let mut words = env::args(&rt)?;
-    let _program = words.next();
+/// Derives and measures as these words request.
+pub fn run(rt: &HostRuntime, mut words: Args) -> io::Result<()> {
     let (Some(way), Some(name), Some(number)) = (words.next(), words.next(), words.next()) else {
         return Ok(());
     };
@@ -47,7 +47,7 @@ fn main(rt: HostRuntime) -> io::Result<()> {
     for word in words {
         let length = word.as_str().parse::<usize>().unwrap_or(0);
         if iterations > 0 && length > 0 && length <= MAX_KEY {
-            measure(&rt, way.as_str(), hash, iterations, length)?;
+            measure(rt, way.as_str(), hash, iterations, length)?;
         }
     }
     Ok(())

@@ -1,0 +1,32 @@
+//! Tools for `interop/` and `bench/`. The first argument names one: `derive` derives keys,
+//! `crypt` times sectors, and `seal` writes a sealed volume. The module of each says which
+//! arguments follow. With no arguments the program does nothing.
+#![tactic(auto)]
+
+mod crypt;
+mod derive;
+mod mode_key;
+mod seal;
+mod usage;
+
+use std::process::ExitCode;
+use std::{env, io};
+use usage::print_usage;
+
+fn main(rt: HostRuntime) -> io::Result<ExitCode> {
+    let mut words = env::args(&rt)?;
+    let _program = words.next();
+    let Some(tool) = words.next() else {
+        return Ok(ExitCode::SUCCESS);
+    };
+    match tool.as_str() {
+        "derive" => derive::run(&rt, words)?,
+        "crypt" => crypt::run(&rt, words)?,
+        "seal" => seal::run(&rt, words)?,
+        _ => {
+            print_usage(&rt, "derive|crypt|seal ..")?;
+            return Ok(ExitCode::FAILURE);
+        }
+    }
+    Ok(ExitCode::SUCCESS)
+}
