@@ -1,5 +1,7 @@
 //! Tests, by the crate that they test.
 
+mod access;
 mod open;
 mod payload;
 mod seal;
+mod shared;

@@ -5,10 +5,3 @@ mod fixture;
 mod payload;
 mod sealed;
 mod sealed_both;
-
-use std::process::Abort;
-
-// Asserts what holds in this case.
-fn assert_of(rt: &impl Abort, case: &str, holds: bool) {
-    assert!(rt; holds, "{case}");
-}

@@ -9,7 +9,6 @@ mod ranges2;
 
 use luks_cipher::Mode;
 use luks_seal::parameters::SealFault;
-use luks_seal_fixtures::bytes;
 use std::process::Abort;
 
 /// Lengths of keys in bytes, and whether the mode has such keys.
@@ -41,9 +40,4 @@ fn check_fits(rt: &impl Abort, row: usize, fault: Option<SealFault>, fits: bool)
         Some(SealFault::Parameters)
     };
     assert!(rt; fault == stated, "row {row}: {fault:?}");
-}
-
-// This many bytes that count up.
-fn counted(rt: &(impl Abort + AllocGlobal), len: usize) -> Vec<u8> {
-    bytes::counted(rt.alloc(), len).expect(rt, "memory")
 }

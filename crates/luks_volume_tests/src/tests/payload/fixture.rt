@@ -2,6 +2,7 @@
 //!
 //! What is made for a test stays to its end, so that no function drops it.
 
+use crate::tests::shared::kept;
 use luks_cipher::{Mode, SectorCipher};
 use luks_header::sector_size::SectorSize;
 use luks_header::segment::{Segment, SegmentParts};
@@ -21,11 +22,6 @@ use std::process::Abort;
 pub struct Volume {
     pub image: &'static [u8],
     pub plain: &'static [u8],
-}
-
-/// A value that stays to the end of the test.
-pub fn kept<'a, T: Drop + 'a>(rt: &(impl Abort + AllocGlobal), value: T) -> &'a mut T {
-    Box::leak(Box::new(rt.alloc(), value).expect(rt, "memory"))
 }
 
 /// A sink that accepts this many bytes, at most `piece` of them at once, and whose write of this

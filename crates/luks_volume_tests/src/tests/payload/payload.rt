@@ -1,11 +1,10 @@
 //! Payloads with all endings, of which the source or the pump has buffered whole sectors, parts of
 //! them, or nothing.
 
-use super::assert_of;
 use super::fixture::{
-    End, NEVER, Volume, Way, assert_outcome, check_run, kept, key, run, run_pump, segment_of,
-    volume_of,
+    End, NEVER, Volume, Way, assert_outcome, check_run, key, run, run_pump, segment_of, volume_of,
 };
+use crate::tests::shared::{assert_of, kept};
 use luks_header::sector_size::SectorSize;
 use luks_io::memory::{MemSink, MemSource};
 use luks_payload::fault::VolumeFault;

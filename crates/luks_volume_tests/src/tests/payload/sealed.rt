@@ -2,15 +2,15 @@
 
 ghost use Rattle.std.specs.Prelude.{◌≡◌, length};
 
-use super::assert_of;
 use super::fixture::{NEVER, run_pieces, sink_of};
+use crate::tests::shared::{assert_of, counted};
 use luks_cipher::{Mode, SectorCipher};
 use luks_header::sector_size::SectorSize;
 use luks_header::segment::{Segment, SegmentParts};
 use luks_kdf::{Hash, Work, af_merge, pbkdf2};
 use luks_payload::pump::Pump;
 use luks_payload::state::Step;
-use luks_seal_fixtures::bytes::{at, counted};
+use luks_seal_fixtures::bytes::at;
 use luks_seal_fixtures::parameters::{KEY, SALT, parameters1, slot1};
 use luks_test_support::devices::{FlakySink, FlakySource};
 use luks1_seal::seal1;
@@ -155,7 +155,7 @@ fn check_slots(rt: &impl Abort, image: &[u8]) {
 
 #[test]
 fn a_sealed_volume_has_the_stated_places(rt: HostRuntime) {
-    let plain = counted(rt.alloc(), 1024).expect(&rt, "memory").leak();
+    let plain = counted(&rt, 1024);
     let image = sealed(&rt, plain);
     assert_of(&rt, "places", has_places(image, &HEADER));
     check_slots(&rt, image);

@@ -1,8 +1,8 @@
 //! Sealed volumes of both formats: the header is read, passphrases are tried, and a pump decrypts
 //! the payload.
 
-use super::assert_of;
-use super::fixture::{NEVER, kept, run_pieces, sink_of};
+use super::fixture::{NEVER, run_pieces, sink_of};
+use crate::tests::shared::{assert_of, counted, kept};
 use luks_cipher::{Mode, SectorCipher};
 use luks_header::area::HeaderArea;
 use luks_header::header::{Header, read_header};
@@ -17,8 +17,9 @@ use luks_open::ordered::held_end;
 use luks_payload::pump::Pump;
 use luks_payload::state::Step;
 use luks_seal::parameters::{Seal1, Seal2, Slot1, Slot2};
-use luks_seal_fixtures::bytes::{at, counted};
+use luks_seal_fixtures::bytes::at;
 use luks_seal_fixtures::parameters::{self, parameters1, parameters2};
+use luks_test_support::bytes::put;
 use luks_test_support::devices::FlakySource;
 use luks1_seal::seal1;
 use luks2_seal::seal2;
@@ -53,11 +54,6 @@ const KEY: &[u8] = b"a volume key of AES-256 has two halves, thirty-two bytes in
 
 /// How many stripes there are.
 const STRIPES: u32 = 3;
-
-// This many bytes that count up.
-fn bytes(rt: &(impl Abort + AllocGlobal), len: usize) -> &'static [u8] {
-    counted(rt.alloc(), len).expect(rt, "memory").leak()
-}
 
 // What a passphrase opens in a header's image, whether or not a slot is named.
 fn opened(
@@ -144,7 +140,7 @@ static OF_LUKS1: [Opening; 4] = [
 
 // A volume of LUKS1 with two slots.
 fn check_volume1(rt: &(impl Abort + AllocGlobal), mode: Mode, key: &[u8], plain: &[u8]) {
-    let random = bytes(rt, key.len().saturating_mul(2));
+    let random = counted(rt, key.len().saturating_mul(2));
     let second = Slot1 {
         random,
         ..parameters::slot1(6, [0x41; 32], SECOND)
@@ -168,7 +164,7 @@ fn check_volume1(rt: &(impl Abort + AllocGlobal), mode: Mode, key: &[u8], plain:
 
 #[test]
 fn each_passphrase_opens_a_volume_of_luks1_in_each_mode(rt: HostRuntime) {
-    let plain = bytes(&rt, 1536);
+    let plain = counted(&rt, 1536);
     for (mode, len) in MODES {
         check_volume1(&rt, mode, at(KEY, 0, len), plain);
     }
@@ -212,7 +208,7 @@ static OF_LUKS2: [Opening; 5] = [
 
 // A volume of LUKS2 with three slots. The one with priority 0 only opens by its number.
 fn check_volume2(rt: &(impl Abort + AllocGlobal), seal: Seal2<'_>) {
-    let random = bytes(rt, seal.key.len().saturating_mul(2));
+    let random = counted(rt, seal.key.len().saturating_mul(2));
     let slots = [
         slot2((31, 2), Hash::Sha512, SECOND, random),
         slot2((2, 0), Hash::Sha256, UNRANKED, random),
@@ -228,7 +224,7 @@ fn check_volume2(rt: &(impl Abort + AllocGlobal), seal: Seal2<'_>) {
 
 #[test]
 fn each_passphrase_opens_a_volume_of_luks2_in_each_mode(rt: HostRuntime) {
-    let plain = bytes(&rt, 8192);
+    let plain = counted(&rt, 8192);
     for (mode, len) in MODES {
         for sector_size in SIZES {
             let seal = Seal2 {
@@ -242,7 +238,7 @@ fn each_passphrase_opens_a_volume_of_luks2_in_each_mode(rt: HostRuntime) {
 
 #[test]
 fn key_material_is_in_a_mode_of_its_own(rt: HostRuntime) {
-    let plain = bytes(&rt, 512);
+    let plain = counted(&rt, 512);
     for (area_mode, area_key_size) in MODES {
         let seal = Seal2 {
             area_mode,
@@ -265,7 +261,7 @@ const LENGTHS: [(usize, bool); 5] = [
 // Unit numbers that wrap at 2^64, and lengths that are fixed, 0 among them.
 #[test]
 fn unit_numbers_wrap_and_sizes_are_kept(rt: HostRuntime) {
-    let plain = bytes(&rt, 12_288);
+    let plain = counted(&rt, 12_288);
     for (len, fixed) in LENGTHS {
         for sector_size in SIZES {
             let seal = Seal2 {
@@ -281,7 +277,7 @@ fn unit_numbers_wrap_and_sizes_are_kept(rt: HostRuntime) {
 
 // A volume of LUKS2 with one slot.
 fn sealed_once(rt: &(impl Abort + AllocGlobal), seal: Seal2<'_>) -> &'static mut [u8] {
-    let random = bytes(rt, 128);
+    let random = counted(rt, 128);
     let seal = Seal2 {
         slots: &[slot2((0, 1), Hash::Sha256, FIRST, random)],
         ..seal
@@ -292,7 +288,7 @@ fn sealed_once(rt: &(impl Abort + AllocGlobal), seal: Seal2<'_>) -> &'static mut
 // Bytes after a fixed size are no part of the payload.
 #[test]
 fn a_fixed_size_ends_the_payload(rt: HostRuntime) {
-    let plain = bytes(&rt, 1024);
+    let plain = counted(&rt, 1024);
     let seal = Seal2 {
         fixed: true,
         ..volume2(Mode::XtsPlain64, KEY, plain)
@@ -305,13 +301,7 @@ fn a_fixed_size_ends_the_payload(rt: HostRuntime) {
 /// Seven of the nine sizes that a header can have.
 const HEADERS: [u64; 7] = [16_384, 32_768, 65_536, 131_072, 262_144, 524_288, 1_048_576];
 
-// Replaces the first byte of the primary header's text by one that ends it.
-fn damage(image: &mut [u8]) {
-    if 4096 < image.len() {
-        image[4096] = b'}';
-    }
-}
-
+// The second time, the primary header is damaged: the first byte of its text is one that ends it.
 fn check_headers(rt: &(impl Abort + AllocGlobal), plain: &[u8], hdr_size: u64) {
     let seal = Seal2 {
         hdr_size,
@@ -321,14 +311,14 @@ fn check_headers(rt: &(impl Abort + AllocGlobal), plain: &[u8], hdr_size: u64) {
     let image = sealed_once(rt, seal);
     check_opens(rt, (image, plain), None, FIRST, Some(0));
     assert_of(rt, "length", 4096 < image.len());
-    damage(image);
+    put(image, 4096, b"}");
     check_opens(rt, (image, plain), None, FIRST, Some(0));
 }
 
 // The secondary header is chosen if the primary one is damaged.
 #[test]
 fn both_headers_are_valid(rt: HostRuntime) {
-    let plain = bytes(&rt, 1024);
+    let plain = counted(&rt, 1024);
     for hdr_size in HEADERS {
         check_headers(&rt, plain, hdr_size);
     }

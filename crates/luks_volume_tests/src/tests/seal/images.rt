@@ -3,7 +3,7 @@
 //! XTS and CBC of `cryptography`. cryptsetup opens a LUKS1 image of that program with 4000 stripes,
 //! and qemu-img reads it.
 
-use super::counted;
+use crate::tests::shared::counted;
 use luks_cipher::Mode;
 use luks_kdf::{Hash, digest};
 use luks_seal::parameters::{Seal1, Seal2, SealFault, Slot1, Slot2};
@@ -62,13 +62,13 @@ fn small_volumes_are_laid_out_as_specified(rt: HostRuntime) {
         slot1(5, [0x66; 32], b"sixth"),
         slot1(0, [0x11; 32], b"first"),
     ];
-    let sealed = seal1(rt.alloc(), &parameters1(&slots, &plain));
+    let sealed = seal1(rt.alloc(), &parameters1(&slots, plain));
     check_image(&rt, sealed, 37_888, SMALL_1);
     let slots = [
         slot2(5, [0x66; 32], b"sixth"),
         slot2(0, [0x11; 32], b"first"),
     ];
-    let sealed = seal2(rt.alloc(), &parameters2(&slots, &plain));
+    let sealed = seal2(rt.alloc(), &parameters2(&slots, plain));
     check_image(&rt, sealed, 66_560, SMALL_2);
 }
 
@@ -77,31 +77,31 @@ fn a_large_volume_of_luks1_is_laid_out_as_specified(rt: HostRuntime) {
     let bytes = counted(&rt, 6336);
     let fourth = Slot1 {
         iterations: 1003,
-        random: &bytes,
+        random: bytes,
         ..slot1(3, [0x33; 32], b"")
     };
     let eighth = Slot1 {
         iterations: 1,
-        random: &bytes,
+        random: bytes,
         ..slot1(7, [0x77; 32], b"the last slot")
     };
     let first = Slot1 {
         iterations: 5,
-        random: &bytes,
+        random: bytes,
         ..slot1(0, [0x01; 32], b"\x00\xff")
     };
     let slots = [fourth, eighth, first];
     let seal = Seal1 {
         hash: Hash::Sha1,
         mode: Mode::XtsPlain64,
-        key: at(&bytes, 0, 64),
+        key: at(bytes, 0, 64),
         stripes: 100,
         payload_sectors: 136,
         uuid: b"0123456789012345678901234567890123456789",
         digest_salt: [0x2a; 32],
         digest_iterations: 1001,
         slots: &slots,
-        plain: at(&bytes, 0, 1536),
+        plain: at(bytes, 0, 1536),
     };
     check_image(&rt, seal1(rt.alloc(), &seal), 71_168, LARGE_1);
 }
@@ -139,7 +139,7 @@ fn large_slots(bytes: &[u8]) -> [Slot2<'_>; 3] {
 #[test]
 fn a_large_volume_of_luks2_is_laid_out_as_specified(rt: HostRuntime) {
     let bytes = counted(&rt, 8192);
-    let slots = large_slots(&bytes);
+    let slots = large_slots(bytes);
     let seal = Seal2 {
         hdr_size: 32_768,
         seqid: u64::MAX,
@@ -147,7 +147,7 @@ fn a_large_volume_of_luks2_is_laid_out_as_specified(rt: HostRuntime) {
         label: b"llllllllllllllllllllllllllllllllllllllllllllllll",
         subsystem: b"a \\ subsystem",
         mode: Mode::CbcEssivSha256,
-        key: at(&bytes, 0, 32),
+        key: at(bytes, 0, 32),
         sector_size: SectorSize::B4096,
         iv_tweak: 18_446_744_073_709_551_608,
         offset: 94_208,
@@ -157,7 +157,7 @@ fn a_large_volume_of_luks2_is_laid_out_as_specified(rt: HostRuntime) {
         digest_hash: Hash::Sha512,
         digest_salt: [0x2a; 32],
         digest_iterations: 1001,
-        ..parameters2(&slots, &bytes)
+        ..parameters2(&slots, bytes)
     };
     check_image(&rt, seal2(rt.alloc(), &seal), 102_400, LARGE_2);
 }
@@ -169,7 +169,7 @@ fn a_volume_as_they_usually_are_is_laid_out_as_specified(rt: HostRuntime) {
         iterations: 1000,
         af_hash: Hash::Sha1,
         stripes: 4000,
-        random: &bytes,
+        random: bytes,
         ..slot2(0, [0x20; 32], b"first passphrase")
     };
     let second = Slot2 {
@@ -177,17 +177,17 @@ fn a_volume_as_they_usually_are_is_laid_out_as_specified(rt: HostRuntime) {
         hash: Hash::Sha512,
         iterations: 1000,
         stripes: 4000,
-        random: &bytes,
+        random: bytes,
         ..slot2(1, [0x21; 32], b"second passphrase")
     };
     let slots = [second, first];
     let seal = Seal2 {
         uuid: b"11111111-2222-3333-4444-555555555555",
-        key: at(&bytes, 7, 64),
+        key: at(bytes, 7, 64),
         sector_size: SectorSize::B4096,
         offset: 1_048_576,
         digest_iterations: 1000,
-        ..parameters2(&slots, at(&bytes, 0, 16_384))
+        ..parameters2(&slots, at(bytes, 0, 16_384))
     };
     check_image(&rt, seal2(rt.alloc(), &seal), 1_064_960, USUAL_2);
 }

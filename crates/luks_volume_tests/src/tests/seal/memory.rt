@@ -1,7 +1,7 @@
 //! Sealing with more and more memory, until a call does not run out of it. Each call that does
 //! reports that, and never anything else.
 
-use super::counted;
+use crate::tests::shared::counted;
 use luks_seal::parameters::{Seal1, Seal2, SealFault};
 use luks_seal_fixtures::parameters::{parameters1, parameters2, slot1, slot2};
 use luks_test_support::scarce::Scarcity;
@@ -58,12 +58,12 @@ fn check(rt: &(impl Abort + AllocGlobal), volume: Volume<'_>) {
 fn memory_is_answered_where_seal1_is_refused_it(rt: HostRuntime) {
     let plain = counted(&rt, 1024);
     let slots = [slot1(0, [1; 32], b"one"), slot1(7, [2; 32], b"two")];
-    check(&rt, Volume::First(&parameters1(&slots, &plain)));
+    check(&rt, Volume::First(&parameters1(&slots, plain)));
 }
 
 #[test]
 fn memory_is_answered_where_seal2_is_refused_it(rt: HostRuntime) {
     let plain = counted(&rt, 1024);
     let slots = [slot2(0, [1; 32], b"one"), slot2(31, [2; 32], b"two")];
-    check(&rt, Volume::Second(&parameters2(&slots, &plain)));
+    check(&rt, Volume::Second(&parameters2(&slots, plain)));
 }

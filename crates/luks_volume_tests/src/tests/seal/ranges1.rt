@@ -1,6 +1,7 @@
 //! Each range of LUKS1 from both sides.
 
-use super::{KEY_LENGTHS, check_fits, counted};
+use super::{KEY_LENGTHS, check_fits};
+use crate::tests::shared::counted;
 use luks_cipher::Mode;
 use luks_seal::parameters::{Seal1, Slot1};
 use luks_seal_fixtures::bytes::at;
@@ -85,7 +86,7 @@ fn each_range_has_its_bounds(rt: HostRuntime) {
         check_fits(
             &rt,
             row,
-            seal1(rt.alloc(), &changed(change, &bytes)).err(),
+            seal1(rt.alloc(), &changed(change, bytes)).err(),
             *fits,
         );
     }
@@ -95,7 +96,7 @@ fn each_range_has_its_bounds(rt: HostRuntime) {
 fn each_mode_has_its_lengths_of_keys(rt: HostRuntime) {
     let bytes = counted(&rt, 65);
     for (row, (mode, len, fits)) in KEY_LENGTHS.iter().enumerate() {
-        let seal = changed(&Change::Key(*mode, *len), &bytes);
+        let seal = changed(&Change::Key(*mode, *len), bytes);
         check_fits(&rt, row, seal1(rt.alloc(), &seal).err(), *fits);
     }
 }
@@ -137,7 +138,7 @@ fn slots_of<'a>(rt: &(impl Abort + AllocGlobal), all: &[Given], bytes: &'a [u8])
 fn each_range_of_the_slots_has_its_bounds(rt: HostRuntime) {
     let bytes = counted(&rt, 97);
     for (row, (given, stripes, fits)) in SLOTS.iter().enumerate() {
-        let slots = slots_of(&rt, given, &bytes);
+        let slots = slots_of(&rt, given, bytes);
         let seal = Seal1 {
             stripes: *stripes,
             ..parameters1(&slots, &[])

@@ -1,6 +1,7 @@
 //! Each range of LUKS2 from both sides.
 
-use super::{KEY_LENGTHS, check_fits, counted};
+use super::{KEY_LENGTHS, check_fits};
+use crate::tests::shared::counted;
 use luks_cipher::Mode;
 use luks_seal::parameters::{Seal2, Slot2};
 use luks_seal_fixtures::bytes::at;
@@ -124,7 +125,7 @@ static ROWS: [(Change, bool); 54] = [
 
 #[test]
 fn each_range_has_its_bounds(rt: HostRuntime) {
-    check_rows(&rt, &ROWS, &counted(&rt, 8_389_120));
+    check_rows(&rt, &ROWS, counted(&rt, 8_389_120));
 }
 
 static LARGEST: [(Change, bool); 4] = [
@@ -147,7 +148,7 @@ fn each_mode_has_its_lengths_of_keys(rt: HostRuntime) {
             (Change::Key(*mode, *len), *fits),
             (Change::AreaKey(*mode, *len), *fits),
         ];
-        check_rows(&rt, &rows, &bytes);
+        check_rows(&rt, &rows, bytes);
     }
 }
 
@@ -206,7 +207,7 @@ fn slots_of<'a>(rt: &(impl Abort + AllocGlobal), all: &[Given], bytes: &'a [u8])
 fn each_range_of_the_slots_has_its_bounds(rt: HostRuntime) {
     let bytes = counted(&rt, 128_000);
     for (row, (given, offset, fits)) in SLOTS.iter().enumerate() {
-        let slots = slots_of(&rt, given, &bytes);
+        let slots = slots_of(&rt, given, bytes);
         let seal = Seal2 {
             offset: *offset,
             ..parameters2(&slots, &[])

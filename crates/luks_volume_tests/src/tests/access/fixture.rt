@@ -2,6 +2,7 @@
 //!
 //! What is made for a test lives to its end, so that no function drops it.
 
+use crate::tests::shared::kept;
 use luks_access::image::{ReadAt, ReadAtFault};
 use luks_access::memory::MemImage;
 use luks_access::options::Options;
@@ -13,6 +14,7 @@ use luks_seal_fixtures::parameters::{parameters1, parameters2, slot1, slot2};
 use luks_verdict::sector_size::SectorSize;
 use luks1_seal::seal1;
 use luks2_seal::seal2;
+use std::alloc::Global;
 use std::cell::Cell;
 use std::process::Abort;
 
@@ -26,7 +28,7 @@ pub const OPTIONS: Options = Options {
     max_iterations: None,
 };
 
-/// `len` bytes that count up.
+/// This many bytes that count up, to be read or overwritten.
 pub fn text(rt: &(impl Abort + AllocGlobal), len: usize) -> &'static mut [u8] {
     counted(rt.alloc(), len).expect(rt, "memory").leak()
 }
@@ -57,17 +59,13 @@ pub fn image2(
     seal2(rt.alloc(), &parameters).expect(rt, "a volume").leak()
 }
 
-// A value that lives to the end of the test.
-fn kept<'a, T: Drop + 'a>(rt: &(impl Abort + AllocGlobal), value: T) -> &'a T {
-    Box::leak(Box::new(rt.alloc(), value).expect(rt, "memory"))
-}
-
 /// Opens the volume of an image with the passphrase of its key slot.
 pub fn opened(rt: &(impl Abort + AllocGlobal), options: &Options, image: &[u8]) -> &'static Volume {
-    match Volume::open(rt.alloc(), options, &MemImage::new(image), PASS) {
-        Ok(volume) => kept(rt, volume),
-        Err(_) => panic!(rt; "not opened"),
-    }
+    let image = MemImage::new(image);
+    let Ok(volume) = Volume::open(rt.alloc(), options, &image, PASS) else {
+        panic!(rt; "not opened");
+    };
+    kept(rt, volume)
 }
 
 /// Whether the range of a volume from this offset on has the bytes of the text, if the image is
@@ -85,13 +83,8 @@ pub fn is_range(
 }
 
 /// The message of the refusal of a volume, or `Done` if it was opened.
-pub fn refusal(
-    rt: &(impl Abort + AllocGlobal),
-    options: &Options,
-    image: &impl ReadAt,
-    pass: &[u8],
-) -> Message {
-    match Volume::open(rt.alloc(), options, image, pass) {
+pub fn refusal(alloc: Global, options: &Options, image: &impl ReadAt, pass: &[u8]) -> Message {
+    match Volume::open(alloc, options, image, pass) {
         Ok(_) => Message::Done,
         Err(message) => message,
     }

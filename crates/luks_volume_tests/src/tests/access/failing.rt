@@ -1,7 +1,8 @@
 //! Images of which a read fails, and images that have become shorter.
 
+use super::assert_at;
 use super::fixture::{BadImage, OPTIONS, PASS, image2, opened, refusal, text};
-use super::{assert_at, assert_of};
+use crate::tests::shared::assert_of;
 use luks_access::Message;
 use luks_access::fault::RangeFault;
 use luks_access::file::FileImage;
@@ -73,7 +74,7 @@ fn an_image_that_became_shorter_gives_no_plaintext(rt: HostRuntime) {
 fn an_image_is_not_opened_if_a_read_fails(rt: HostRuntime) {
     let image = image2(&rt, text(&rt, 1024), SectorSize::B512, 0, false);
     let whole = BadImage::new(image);
-    let message = refusal(&rt, &OPTIONS, &whole, PASS);
+    let message = refusal(rt.alloc(), &OPTIONS, &whole, PASS);
     assert_of(&rt, "whole", message == Message::Done);
     let calls = whole.calls.get();
     assert_of(&rt, "calls", (0 < calls) & (calls < 100));
@@ -82,7 +83,7 @@ fn an_image_is_not_opened_if_a_read_fails(rt: HostRuntime) {
             failing,
             ..BadImage::new(image)
         };
-        let message = refusal(&rt, &OPTIONS, &bad, PASS);
+        let message = refusal(rt.alloc(), &OPTIONS, &bad, PASS);
         assert_at(&rt, u64::from(failing), message == Message::ReadFailed);
     }
 }

@@ -1,7 +1,7 @@
 //! Opening volumes, and how they are refused.
 
-use super::assert_of;
 use super::fixture::{OPTIONS, PASS, image1, image2, is_range, opened, refusal, text};
+use crate::tests::shared::assert_of;
 use luks_access::memory::MemImage;
 use luks_access::options::Options;
 use luks_access::volume::{MAX_PASSPHRASE_LEN, Volume};
@@ -30,51 +30,46 @@ fn limited(iterations: u64) -> Options {
 }
 
 // The message of opening an image in memory.
-fn message(
-    rt: &(impl Abort + AllocGlobal),
-    options: &Options,
-    image: &[u8],
-    pass: &[u8],
-) -> Message {
-    refusal(rt, options, &MemImage::new(image), pass)
+fn message(alloc: Global, options: &Options, image: &[u8], pass: &[u8]) -> Message {
+    refusal(alloc, options, &MemImage::new(image), pass)
 }
 
 fn check_opened(rt: &(impl Abort + AllocGlobal), image: &[u8]) {
     assert_of(
         rt,
         "any",
-        message(rt, &OPTIONS, image, PASS) == Message::Done,
+        message(rt.alloc(), &OPTIONS, image, PASS) == Message::Done,
     );
     assert_of(
         rt,
         "slot 2",
-        message(rt, &named(2), image, PASS) == Message::Done,
+        message(rt.alloc(), &named(2), image, PASS) == Message::Done,
     );
     assert_of(
         rt,
         "limit 3",
-        message(rt, &limited(3), image, PASS) == Message::Done,
+        message(rt.alloc(), &limited(3), image, PASS) == Message::Done,
     );
 }
 
 fn check_refused(rt: &(impl Abort + AllocGlobal), image: &[u8]) {
-    let named = message(rt, &named(3), image, PASS);
+    let named = message(rt.alloc(), &named(3), image, PASS);
     assert_of(rt, "slot 3", named == Message::NoSuchSlot(3));
-    let limited = message(rt, &limited(1), image, PASS);
+    let limited = message(rt.alloc(), &limited(1), image, PASS);
     assert_of(rt, "limit 1", matches!(limited, Message::NothingTried(_)));
     for pass in [b"Second".as_slice(), b"".as_slice()] {
-        let other = message(rt, &OPTIONS, image, pass);
+        let other = message(rt.alloc(), &OPTIONS, image, pass);
         assert_of(rt, "another key", matches!(other, Message::NoKey(_)));
     }
 }
 
 // The long text is too long for a passphrase, and is not a volume.
 fn check_others(rt: &(impl Abort + AllocGlobal), image: &[u8], long: &[u8]) {
-    let other = message(rt, &OPTIONS, image, long);
+    let other = message(rt.alloc(), &OPTIONS, image, long);
     assert_of(rt, "long", other == Message::KeyFileLength);
-    let other = message(rt, &OPTIONS, long, PASS);
+    let other = message(rt.alloc(), &OPTIONS, long, PASS);
     assert_of(rt, "no volume", other == Message::NotLuks);
-    let other = message(rt, &OPTIONS, at(image, 0, 33_000), PASS);
+    let other = message(rt.alloc(), &OPTIONS, at(image, 0, 33_000), PASS);
     assert_of(rt, "cut", other == Message::Cut);
 }
 
@@ -133,18 +128,10 @@ fn a_detached_header_opens_another_image(rt: HostRuntime) {
     assert_of(&rt, "detached", is_so);
 }
 
-// Opens the volume once. Returns the message of the refusal, or `Done`.
-fn open_once(alloc: Global, image: &[u8]) -> Message {
-    match Volume::open(alloc, &OPTIONS, &MemImage::new(image), PASS) {
-        Ok(_) => Message::Done,
-        Err(message) => message,
-    }
-}
-
 // Opens the volume again and again, with one more piece of memory each time.
 fn open_until_done(alloc: Global, image: &[u8], scarcity: &mut Scarcity) -> (u32, Message) {
     for refused in 0..400 {
-        let message = open_once(alloc, image);
+        let message = message(alloc, &OPTIONS, image, PASS);
         if message != Message::OutOfMemory {
             return (refused, message);
         }
@@ -157,7 +144,7 @@ fn open_until_done(alloc: Global, image: &[u8], scarcity: &mut Scarcity) -> (u32
 fn refused_memory_is_reported(rt: HostRuntime) {
     let image = image2(&rt, text(&rt, 1024), SectorSize::B512, 0, false);
     // The stack grows in this first run, since it cannot when all memory is allocated.
-    let first = open_once(rt.alloc(), image);
+    let first = message(rt.alloc(), &OPTIONS, image, PASS);
     assert_of(&rt, "first", first == Message::Done);
     let mut scarcity = Scarcity::new(rt.alloc(), 400, 4096).expect(&rt, "memory");
     let (refused, message) = open_until_done(rt.alloc(), image, &mut scarcity);

@@ -9,11 +9,6 @@ mod ranges;
 
 use std::process::Abort;
 
-// Asserts what holds in this case.
-fn assert_of(rt: &impl Abort, case: &str, holds: bool) {
-    assert!(rt; holds, "{case}");
-}
-
 // Asserts what holds in the row of a table with this number in it.
 fn assert_at(rt: &impl Abort, number: u64, holds: bool) {
     assert!(rt; holds, "{number}");

@@ -1,7 +1,8 @@
 //! Ranges of volumes that were sealed from a known text.
 
+use super::assert_at;
 use super::fixture::{BadImage, OPTIONS, image1, image2, is_range, opened, text};
-use super::{assert_at, assert_of};
+use crate::tests::shared::assert_of;
 use luks_access::fault::RangeFault;
 use luks_access::sectors::decrypt_sectors;
 use luks_access::volume::Volume;
