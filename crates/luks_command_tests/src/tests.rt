@@ -2,3 +2,4 @@
 
 mod args;
 mod report;
+mod shared;

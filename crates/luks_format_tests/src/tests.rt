@@ -3,3 +3,4 @@
 mod binary;
 mod header;
 mod metadata;
+mod shared;

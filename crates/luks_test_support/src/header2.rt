@@ -1,6 +1,6 @@
 //! Headers of LUKS2 for tests.
 
-use crate::bytes::put;
+use crate::bytes::{put, range_mut};
 use luks_kdf::{Hash, digest};
 use std::alloc::{AllocError, Global};
 
@@ -8,18 +8,10 @@ use std::alloc::{AllocError, Global};
 /// primary one.
 pub const SIZE: usize = 16_384;
 
-// The bytes of the header at an offset, or as many of them as there are.
-fn header_at(image: &mut [u8], place: usize) -> &mut [u8] {
-    let start = place.min(image.len());
-    let rest = &mut image[start..];
-    let len = SIZE.min(rest.len());
-    &mut rest[..len]
-}
-
 /// Writes a header with this sequence number and JSON text at an offset of an image. Its checksum
 /// is by SHA-256, and written last.
 pub fn write_header(image: &mut [u8], place: usize, sequence: u64, json: &str) {
-    let header = header_at(image, place);
+    let header = range_mut(image, place, SIZE);
     let magic = if place == 0 { b"LUKS" } else { b"SKUL" };
     put(header, 0, magic);
     put(header, 4, &[0xba, 0xbe, 0, 2]);

@@ -1,5 +1,5 @@
-//! What the tests of several crates share: comparisons, changes of bytes, devices whose calls fail,
-//! memory that is used up, and headers of LUKS2.
+//! What the tests of several crates share: comparisons, changes of bytes, pseudorandom numbers,
+//! devices whose calls fail, memory that is used up, and headers of LUKS2.
 //!
 //! Only tests use it.
 #![tactic(auto)]
@@ -7,5 +7,6 @@
 pub mod bytes;
 pub mod devices;
 pub mod header2;
+pub mod numbers;
 pub mod same;
 pub mod scarce;

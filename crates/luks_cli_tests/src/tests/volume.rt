@@ -4,7 +4,7 @@ use luks_cipher::Mode;
 use luks_kdf::Hash;
 use luks_seal::parameters::{Seal1, Slot1};
 use luks_seal_fixtures::bytes::{at, counted};
-use luks_test_support::bytes::put;
+use luks_test_support::bytes::put_each;
 use luks_test_support::header2::{self, image_of};
 use luks1_seal::seal1;
 use std::process::Abort;
@@ -140,13 +140,6 @@ pub(super) const AT_START: Changes = &[(104, &[0; 4])];
 
 /// A primary LUKS2 header names a size of 65,536 bytes, so that its checksum no longer matches.
 pub(super) const NAMES_64_KIB: Changes = &[(8, &[0, 0, 0, 0, 0, 1, 0, 0])];
-
-// Overwrites the bytes of an image at each of these offsets.
-fn put_each(image: &mut [u8], changes: &[(usize, &[u8])]) {
-    for (place, bytes) in changes {
-        put(image, *place, bytes);
-    }
-}
 
 /// The first `len` bytes of an image, padded with zeros, and with these changes.
 pub(super) fn changed(

@@ -1,5 +1,6 @@
 //! What no clause says: that the definitions read arguments as intended, and that calls succeed.
 
+use crate::tests::shared::joined;
 use luks_args::planning::{PlanFault, plan};
 use luks_kdf::Hash;
 use luks_report::usage::usage;
@@ -18,15 +19,6 @@ fn assert_of(rt: &impl Abort, line: &str, holds: bool) {
 // The arguments of a line, separated by single spaces.
 fn words_of<'a>(rt: &(impl Abort + AllocGlobal), line: &'a str) -> Vec<&'a str> {
     line.split(' ').collect(rt.alloc()).expect(rt, "memory")
-}
-
-// The line that these parts are joined to.
-fn joined(rt: &(impl Abort + AllocGlobal), parts: &[&str]) -> String {
-    let mut line = String::new(rt.alloc());
-    for part in parts {
-        line.push_str(part).expect(rt, "memory");
-    }
-    line
 }
 
 // This replaces the name of an input that the command does not have.

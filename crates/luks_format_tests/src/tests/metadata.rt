@@ -11,11 +11,6 @@ mod trees;
 
 use std::process::Abort;
 
-// Asserts what holds in this case of a table.
-fn assert_of(rt: &impl Abort, case: &str, holds: bool) {
-    assert!(rt; holds, "{case}");
-}
-
 // Asserts that the answer in this case of a table is the expected one.
 fn assert_answer(rt: &impl Abort, case: &str, answer: &str, want: &str) {
     assert!(rt; answer == want, "{case}: {answer}, and not {want}");

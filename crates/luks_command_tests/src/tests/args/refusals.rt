@@ -1,6 +1,7 @@
 //! Lines that are not a luksrd command.
 
-use super::{assert_of, joined, words_of};
+use super::{assert_of, words_of};
+use crate::tests::shared::joined;
 use luks_args::planning::{PlanFault, plan};
 use std::process::Abort;
 

@@ -3,15 +3,8 @@
 use super::fixture::check_findings;
 use luks_io::memory::MemSink;
 use luks_report::message::Message;
-use luks_test_support::bytes::put;
+use luks_test_support::bytes::{put, put_numbers};
 use std::process::Abort;
-
-// Overwrites numbers of a header, each at its offset.
-fn patch_numbers(bytes: &mut [u8], numbers: &[(usize, u32)]) {
-    for (place, number) in numbers {
-        put(bytes, *place, &number.to_be_bytes());
-    }
-}
 
 // The numbers of a header without key slots in use, and with a payload from sector 4096 on.
 static NUMBERS: [(usize, u32); 11] = [
@@ -33,8 +26,8 @@ static NUMBERS: [(usize, u32); 11] = [
 fn enable(bytes: &mut [u8], slot: u8, sector: u32) {
     let place = 208 + 48 * usize::from(slot);
     let state = [(place, 0x00ac_71f3), (place + 4, 1000)];
-    patch_numbers(bytes, &state);
-    patch_numbers(bytes, &[(place + 40, sector), (place + 44, 4000)]);
+    put_numbers(bytes, &state);
+    put_numbers(bytes, &[(place + 40, sector), (place + 44, 4000)]);
 }
 
 // A header with these key slots in use, each with the first sector of its area, and with these
@@ -49,11 +42,11 @@ fn header_of(
     put(header, 0, b"LUKS\xba\xbe\0\x01aes");
     put(header, 40, b"xts-plain64");
     put(header, 72, b"sha256");
-    patch_numbers(header, &NUMBERS);
+    put_numbers(header, &NUMBERS);
     for (slot, sector) in slots {
         enable(header, *slot, *sector);
     }
-    patch_numbers(header, numbers);
+    put_numbers(header, numbers);
     bytes
 }
 

@@ -1,6 +1,7 @@
 //! What is printed of LUKS2 headers.
 
 use super::fixture::{assert_text, check_findings, read};
+use crate::tests::shared::joined;
 use luks_dump::dump::{dump_text, uuid_text};
 use luks_test_support::header2::{SIZE, empty_image, write_header};
 use std::process::Abort;
@@ -108,15 +109,6 @@ static DUMPS: [Dump; 5] = [
         [NO_SEGMENT, ""],
     ),
 ];
-
-// These parts, joined.
-fn joined(rt: &(impl Abort + AllocGlobal), parts: &[&str]) -> String {
-    let mut text = String::new(rt.alloc());
-    for part in parts {
-        text.push_str(part).expect(rt, "memory");
-    }
-    text
-}
 
 // An image with a header of this JSON text wherever a sequence number is given: as the primary
 // header, as the secondary one, or both.

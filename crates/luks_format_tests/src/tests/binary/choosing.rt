@@ -1,6 +1,7 @@
 //! Which header is chosen, and how many bytes are read for that.
 
-use super::fixture::{JSON, PRIMARY, SECONDARY, Sketch, assert_in, flip, image_of, read_from};
+use super::fixture::{JSON, PRIMARY, SECONDARY, Sketch, flip, image_of, read_from};
+use crate::tests::shared::assert_in;
 use luks_area::fault::HeaderFault;
 use luks_io::memory::MemSource;
 use luks_kdf::Hash;

@@ -1,14 +1,12 @@
 //! Checksums that another program computed, sources that give little or fail, and running out of
 //! memory.
 
-use super::fixture::{
-    JSON, PRIMARY, SECONDARY, Sketch, assert_in, assert_of, fault_of, flip, image_of, range_mut,
-    read_from, seal,
-};
+use super::fixture::{JSON, PRIMARY, SECONDARY, Sketch, fault_of, flip, image_of, read_from, seal};
+use crate::tests::shared::{assert_in, assert_of};
 use luks_area::fault::HeaderFault;
 use luks_io::memory::MemSource;
 use luks_kdf::Hash;
-use luks_test_support::bytes::put;
+use luks_test_support::bytes::{put, range_mut};
 use luks_test_support::devices::{BrokenSource, FlakySource};
 use luks_test_support::scarce::Scarcity;
 use luks2_binary::header::{Header2, HeaderRole, PairFinding};

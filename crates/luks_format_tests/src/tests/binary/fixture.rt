@@ -7,7 +7,7 @@ use luks_area::area::HeaderArea;
 use luks_area::fault::HeaderFault;
 use luks_io::source::Source;
 use luks_kdf::{Hash, digest};
-use luks_test_support::bytes::put;
+use luks_test_support::bytes::{put, range_mut};
 use luks2_binary::header::Header2;
 use luks2_binary::reading::read_header2;
 use std::alloc::Global;
@@ -50,14 +50,6 @@ pub fn flip(bytes: &mut [u8], place: usize, bits: u8) {
     if place < bytes.len() {
         bytes[place] ^= bits;
     }
-}
-
-/// This many bytes from an offset on, or as many as there are.
-pub fn range_mut(bytes: &mut [u8], place: usize, len: usize) -> &mut [u8] {
-    let start = place.min(bytes.len());
-    let rest = &mut bytes[start..];
-    let len = len.min(rest.len());
-    &mut rest[..len]
 }
 
 // Writes a header into an image, its checksum last.
@@ -114,14 +106,4 @@ pub fn read_from<S: Source>(
 /// Why a source cannot be read, if it cannot.
 pub fn fault_of<S: Source>(alloc: Global, source: &mut S) -> Option<HeaderFault> {
     read_from(alloc, source).err()
-}
-
-/// Asserts what holds in the case of this number.
-pub fn assert_in(rt: &impl Abort, case: usize, holds: bool) {
-    assert!(rt; holds, "{case}");
-}
-
-/// Asserts what holds for a hash function of this name.
-pub fn assert_of(rt: &impl Abort, name: &str, holds: bool) {
-    assert!(rt; holds, "{name}");
 }

@@ -1,8 +1,8 @@
 //! Headers of both formats, read and then marked as detached.
 
-use super::assert_of;
-use super::fixture::{changed, image2, kept, read};
+use super::fixture::{changed, image2, read};
 use super::validation::{Numbers, PAYLOAD_OFFSET, SLOT_OFFSET, fault_of, is_there};
+use crate::tests::shared::{assert_of, kept};
 use luks_header::header::Header;
 use luks_header::slot::{VerdictKind, verdict_kind};
 use std::process::Abort;

@@ -1,7 +1,7 @@
 //! The digests of a header, and members of key slots whose names are out of range.
 
 use super::fixture::{first, image2, parse};
-use super::{assert_of, assert_row};
+use crate::tests::shared::{assert_in, assert_of};
 use luks_header::digest::{Digest, KeyDigest, digests};
 use luks_header::header::Header;
 use luks_header::slot::has_name_out_of_range;
@@ -73,7 +73,7 @@ static DIGESTS: [Numbered; 7] = [
 
 fn check_digests(rt: &(impl Abort + AllocGlobal), rows: &[Numbered]) {
     for (row, (members, want)) in rows.iter().enumerate() {
-        assert_row(rt, row, are_all(digests_of(rt, members), want));
+        assert_in(rt, row, are_all(digests_of(rt, members), want));
     }
 }
 

@@ -1,23 +1,16 @@
 //! Headers of generated numbers: the verdicts on their slots.
 
-use super::assert_row;
 use super::fixture::{parse, verdicts, volume_header};
 use super::validation::{
     DIGEST_ITERATIONS, ITERATIONS, KEY_BYTES, PAYLOAD_OFFSET, SLOT_OFFSET, STATE, STRIPES,
     has_digest, is_there,
 };
+use crate::tests::shared::assert_in;
 use luks_header::header::Header;
 use luks_header::slot::Verdict;
-use luks_test_support::bytes::put;
+use luks_test_support::bytes::{put, put_numbers};
+use luks_test_support::numbers::next;
 use std::process::Abort;
-
-// The next of some pseudorandom numbers: the upper half of a linear congruence of 64 bits.
-fn next(state: &mut u64) -> u32 {
-    *state = state
-        .wrapping_mul(6_364_136_223_846_793_005)
-        .wrapping_add(1_442_695_040_888_963_407);
-    (*state >> 32) as u32
-}
 
 // One of four numbers that are usual for a field, or any number.
 fn draw(state: &mut u64, usual: [u32; 4]) -> u32 {
@@ -37,9 +30,7 @@ fn generated_header(state: &mut u64) -> [u8; 592] {
         (PAYLOAD_OFFSET, draw(state, [4096, 65536, 2, 0])),
         (DIGEST_ITERATIONS, draw(state, [1000, 1, 0, 2000])),
     ];
-    for (place, number) in numbers {
-        put(&mut bytes, place, &number.to_be_bytes());
-    }
+    put_numbers(&mut bytes, &numbers);
     for slot in 0..8 {
         let numbers = [
             (STATE, draw(state, [0x00ac_71f3, 0x00ac_71f3, 0xdead, 1])),
@@ -66,7 +57,7 @@ fn usable_slots(
         if matches!(verdict, Verdict::Usable(_)) {
             usable = usable.saturating_add(1);
             let has_both = has_digest(rt, header, *number) & is_there(rt, header, *number);
-            assert_row(rt, run as usize, has_both);
+            assert_in(rt, run as usize, has_both);
         }
     }
     usable
@@ -77,7 +68,7 @@ fn usable_of(rt: &(impl Abort + AllocGlobal), bytes: &[u8; 592], run: u32) -> u3
     let header = parse(rt, bytes);
     let limit = if run % 2 == 0 { None } else { Some(1000) };
     let verdicts = verdicts(rt, header, limit);
-    assert_row(rt, run as usize, verdicts.len() == 8);
+    assert_in(rt, run as usize, verdicts.len() == 8);
     usable_slots(rt, header, verdicts, run)
 }
 
@@ -90,5 +81,5 @@ fn slots_and_digests_of_any_header_are_reported(rt: HostRuntime) {
         usable = usable.saturating_add(usable_of(&rt, &generated_header(&mut state), run));
     }
     // Some slots are usable, and some are not.
-    assert_row(&rt, usable as usize, (usable > 100) & (usable < 15_900));
+    assert_in(&rt, usable as usize, (usable > 100) & (usable < 15_900));
 }

@@ -3,13 +3,13 @@
 //! If a call must succeed, an error ends the test at once: what is not returned need not be dropped
 //! on the way. What is returned stays to the end of the test, so that no function drops it.
 
-use super::assert_row;
+use crate::tests::shared::{assert_in, kept};
 use luks_header::fault::HeaderFault;
 use luks_header::header::{Header, read_header};
 use luks_header::slot::{Verdict, slots};
 use luks_io::memory::MemSource;
 use luks_io::source::Source;
-use luks_test_support::bytes::put;
+use luks_test_support::bytes::{put, put_each, put_numbers};
 use luks_test_support::header2::image_of;
 use std::process::Abort;
 
@@ -85,18 +85,9 @@ pub fn volume_header() -> [u8; 592] {
 /// That header with these numbers and texts at these offsets.
 pub fn changed(numbers: &[(usize, u32)], texts: &[(usize, &[u8])]) -> [u8; 592] {
     let mut bytes = volume_header();
-    for (place, number) in numbers {
-        put(&mut bytes, *place, &number.to_be_bytes());
-    }
-    for (place, text) in texts {
-        put(&mut bytes, *place, text);
-    }
+    put_numbers(&mut bytes, numbers);
+    put_each(&mut bytes, texts);
     bytes
-}
-
-/// A value that stays to the end of the test.
-pub fn kept<'a, T: Drop + 'a>(rt: &(impl Abort + AllocGlobal), value: T) -> &'a T {
-    Box::leak(Box::new(rt.alloc(), value).expect(rt, "memory"))
 }
 
 /// The header that a source gives, and the bytes of its area.
@@ -151,5 +142,5 @@ pub fn check_fault(rt: &(impl Abort + AllocGlobal), image: &[u8], fault: HeaderF
     let mut source = MemSource::new(image);
     let answer = read_header(rt.alloc(), &mut source).err();
     let is_so = (answer == Some(fault)) & (source.left().len() == left);
-    assert_row(rt, image.len(), is_so);
+    assert_in(rt, image.len(), is_so);
 }

@@ -1,7 +1,7 @@
 //! Reading headers, and areas that grow.
 
 use super::fixture::{check_fault, header_bytes, read_from};
-use super::{assert_of, assert_row};
+use crate::tests::shared::{assert_in, assert_of};
 use luks_header::area::HeaderArea;
 use luks_header::fault::HeaderFault;
 use luks_header::header::{Header, Header1, SlotState, StoredSlot, read_header};
@@ -155,7 +155,7 @@ fn check_failed(
 ) {
     let mut source = FlakySource::new(bytes, piece, call);
     let answer = read_header(rt.alloc(), &mut source).err();
-    assert_row(rt, call as usize, answer == Some(fault));
+    assert_in(rt, call as usize, answer == Some(fault));
 }
 
 // The end of the image is no failed read.
@@ -197,7 +197,7 @@ fn check_lacking(rt: &(impl Abort + AllocGlobal), rows: &[Request]) {
     let mut area = HeaderArea::new(rt.alloc());
     assert_of(rt, "none", area.as_slice().is_empty());
     for (row, request) in rows.iter().enumerate() {
-        assert_row(rt, row, takes(&mut area, &mut source, request));
+        assert_in(rt, row, takes(&mut area, &mut source, request));
     }
 }
 

@@ -1,8 +1,8 @@
 //! Images of LUKS2, read whole: the binary header and its JSON text.
 
-use super::assert_of;
 use super::fixture::{check_fault, read_from, verdicts};
 use super::validation::has_digest;
+use crate::tests::shared::assert_of;
 use luks_header::fault::HeaderFault;
 use luks_header::header::{Header, HeaderRole, PairFinding};
 use luks_header::payload::segment;

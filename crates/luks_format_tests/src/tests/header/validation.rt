@@ -1,7 +1,7 @@
 //! Which slots can be tried and where the payload is, each bound from both sides.
 
 use super::fixture::{first, verdicts};
-use super::{assert_of, assert_row};
+use crate::tests::shared::{assert_in, assert_of};
 use luks_cipher::Mode;
 use luks_header::digest::{KeyDigest, digest_for};
 use luks_header::header::Header;
@@ -147,7 +147,7 @@ fn are_slots(verdicts: &[(u8, Verdict)], want: &str) -> bool {
 fn check_slots(rt: &(impl Abort + AllocGlobal), rows: &[Judgement]) {
     for (row, (numbers, limit, want)) in rows.iter().enumerate() {
         let verdicts = verdicts_on(rt, numbers, &[], *limit);
-        assert_row(rt, row, are_slots(verdicts, want));
+        assert_in(rt, row, are_slots(verdicts, want));
     }
 }
 
@@ -197,7 +197,7 @@ fn is_usable(verdicts: &[(u8, Verdict)], stripes: u32, hash: Option<Hash>) -> bo
 fn check_usable(rt: &(impl Abort + AllocGlobal), rows: &[Parts]) {
     for (row, (numbers, name, stripes, hash)) in rows.iter().enumerate() {
         let verdicts = verdicts_on(rt, numbers, &[(HASH, *name)], None);
-        assert_row(rt, row, is_usable(verdicts, *stripes, *hash));
+        assert_in(rt, row, is_usable(verdicts, *stripes, *hash));
     }
 }
 
@@ -261,7 +261,7 @@ pub(super) fn fault_of(header: &Header) -> &'static str {
 fn check_segments(rt: &(impl Abort + AllocGlobal), rows: &[Fault]) {
     for (row, (numbers, texts, want)) in rows.iter().enumerate() {
         let fault = fault_of(first(rt, numbers, texts));
-        assert_row(rt, row, fault == *want);
+        assert_in(rt, row, fault == *want);
     }
 }
 
@@ -322,7 +322,7 @@ fn check_verdict_kinds(rt: &(impl Abort + AllocGlobal), header: &Header, rows: &
     for (limit, number, want) in rows {
         let is_so = verdict_kind(header, *limit, *number) == *want;
         let there = is_there(rt, header, *number);
-        assert_row(rt, usize::from(*number), is_so & ((*number < 8) | !there));
+        assert_in(rt, usize::from(*number), is_so & ((*number < 8) | !there));
     }
 }
 

@@ -4,6 +4,7 @@
 //! on the way. A value that is returned by reference stays to the end of the test, so that no
 //! function drops it.
 
+use crate::tests::shared::kept;
 use luks2_json::tree::Metadata;
 use luks2_metadata::bounds::Bounds;
 use std::process::Abort;
@@ -64,11 +65,6 @@ static PARTS: [&str; 13] = [
     CONFIG,
     "}}",
 ];
-
-/// A value that stays to the end of the test.
-pub fn kept<'a, T: Drop + 'a>(rt: &(impl Abort + AllocGlobal), value: T) -> &'a T {
-    Box::leak(Box::new(rt.alloc(), value).expect(rt, "memory"))
-}
 
 /// The parts, concatenated.
 pub fn joined(rt: &(impl Abort + AllocGlobal), parts: &[&str]) -> &'static str {

@@ -1,7 +1,7 @@
 //! Which values are of which type.
 
-use super::assert_of;
 use super::fixture::with_member;
+use crate::tests::shared::assert_of;
 use luks_cipher::Mode;
 use luks2_json::encryption::{encryption_mode, is_length_for};
 use luks2_json::list::has_strings;

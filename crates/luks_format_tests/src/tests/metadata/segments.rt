@@ -1,8 +1,8 @@
 //! The faults of a segment, each bound from both sides, attached and detached.
 
-use super::assert_of;
 use super::fixture::{ATTACHED, metadata};
 use super::rows::{Subject, check_rows};
+use crate::tests::shared::assert_of;
 use luks_cipher::Mode;
 use luks_verdict::sector_size::SectorSize;
 use luks_verdict::segment::{Segment, SegmentParts};

@@ -1,8 +1,9 @@
 //! The reasons to skip a slot, each bound from both sides, attached and detached.
 
+use super::assert_answer;
 use super::fixture::{ATTACHED, changed, metadata, read, text_with};
 use super::rows::{Subject, check_rows, check_verdicts};
-use super::{assert_answer, assert_of};
+use crate::tests::shared::assert_of;
 use luks_cipher::Mode;
 use luks_kdf::Hash;
 use luks_verdict::slot::{Slot, VerdictKind};

@@ -1,7 +1,8 @@
 //! Which texts are read, and what is found in them.
 
-use super::fixture::{BEFORE_X, joined, kept, quoted, read, with_member};
-use super::{assert_answer, assert_of};
+use super::assert_answer;
+use super::fixture::{BEFORE_X, joined, quoted, read, with_member};
+use crate::tests::shared::{assert_of, kept};
 use luks_area::fault::HeaderFault;
 use luks2_json::list::{array_contains, strings_at};
 use luks2_json::member::{integer_member, string_member};

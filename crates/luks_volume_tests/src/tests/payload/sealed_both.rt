@@ -301,7 +301,8 @@ fn a_fixed_size_ends_the_payload(rt: HostRuntime) {
 /// Seven of the nine sizes that a header can have.
 const HEADERS: [u64; 7] = [16_384, 32_768, 65_536, 131_072, 262_144, 524_288, 1_048_576];
 
-// The second time, the primary header is damaged: the first byte of its text is one that ends it.
+// Opens the volume, and opens it again with a damaged primary header: the first byte of its text
+// is then one that ends it.
 fn check_headers(rt: &(impl Abort + AllocGlobal), plain: &[u8], hdr_size: u64) {
     let seal = Seal2 {
         hdr_size,

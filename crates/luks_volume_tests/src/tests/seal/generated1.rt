@@ -5,6 +5,7 @@ use luks_cipher::Mode;
 use luks_kdf::Hash;
 use luks_seal::parameters::{Seal1, Slot1};
 use luks_seal_fixtures::parameters::slot1 as slot;
+use luks_test_support::numbers::next;
 use luks1_seal::seal1;
 use std::process::Abort;
 
@@ -28,14 +29,6 @@ const MODES: [Mode; 4] = [
 
 /// The bytes that keys and texts are cut from.
 const BYTES: &[u8] = &[0x6b; 1024];
-
-// The next of some pseudorandom numbers: the upper half of a linear congruence of 64 bits.
-fn next(state: &mut u64) -> u32 {
-    *state = state
-        .wrapping_mul(6_364_136_223_846_793_005)
-        .wrapping_add(1_442_695_040_888_963_407);
-    (*state >> 32) as u32
-}
 
 // A key slot with the random stripe that 32 bytes of key and two stripes need.
 fn generated_slot(state: &mut u64, number: u32) -> Slot1<'static> {
