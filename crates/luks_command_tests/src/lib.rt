@@ -1,5 +1,5 @@
-//! Tests of the arguments and of what is printed, through public calls of `luks_args`,
-//! `luks_request`, `luks_dump`, `luks_check` and `luks_report`.
+//! Tests of the commands, through public calls: of the arguments (`luks_args`, `luks_request`), of
+//! what is printed (`luks_dump`, `luks_check`, `luks_report`) and of whole runs (`luks_cli`).
 //!
 //! They are in a crate of their own, so that the crates below are not proved again with them.
 #![tactic(auto)]

@@ -1,5 +1,6 @@
 //! Tests, by the crate that they test.
 
 mod args;
+mod cli;
 mod report;
 mod shared;
