@@ -7,7 +7,6 @@ use Rattle.std.proofs.lemmas.List.{take_all}
 use Rattle.std.proofs.lemmas.List.Elements.{All-map}
 use Rattle.luks_area.specs.Fields.{at}
 use Rattle.luks_verdict.specs.Digest.{digest_of}
-use Rattle.luks_verdict.specs.Rule.{need_of}
 use Rattle.luks_verdict.specs.Segment.{segment_by}
 use Rattle.luks_verdict.specs.Slot.{slot_of}
 use Rattle.luks_verdict.specs.declared.sector_size.SectorSize.TheVariants.{B512}
@@ -25,26 +24,27 @@ use Rattle.luks_seal.specs.declared.parameters.Seal1.{Seal1}
 use Rattle.luks_seal.specs.declared.parameters.Slot1.{Slot1}
 use Rattle.luks_seal.proofs.MaterialLemmas.{gives_key}
 use Rattle.luks_seal.proofs.SectorLemmas.{sectors_are_stored}
+use Rattle.luks_seal.proofs.SlotLemmas.{found_by_number}
 use Rattle.luks1_seal.specs.Layout1.{area_key1_of, area_sectors_of, image1_of, key_slot1_of, material1_of}
-use Rattle.luks1_seal.specs.Layout1.{payload1_bytes, slot1_numbered, start1_of}
+use Rattle.luks1_seal.specs.Layout1.{payload1_bytes, slot1_numbered}
 use Rattle.luks1_seal.specs.Passphrases1.{passphrases1_of}
 use Rattle.luks1_seal.specs.Ranges1.{AreParameters1, FitsSlot1}
 use Rattle.luks1_seal.specs.Typed1.{AreTyped1, IsTypedSlot1}
-use Rattle.luks1_seal.proofs.Image1.{image_header, image_material, image_payload, material_within}
 use Rattle.luks1_seal.proofs.Verdicts1.{digest1_is, digest1_of_key, digest_usable, hash1_is, mode1_is, payload_starts}
 use Rattle.luks1_seal.proofs.Verdicts1.{ranged, segment1_is, verdict1_is}
-use Rattle.luks1_seal.proofs.Layout1Lemmas.{random_stripes1, length-prefix1, length-image1}
-use Rattle.luks1_seal.proofs.Read1.{IsKeySlot, IsRead1, header1_start_bytes, header1_is, in_start, key_slot1_is}
-use Rattle.luks1_seal.proofs.Slots1.{numbered_itself}
+use Rattle.luks1_seal.proofs.Layout1Lemmas.{header1_part, header1_start_bytes, image_header, image_material}
+use Rattle.luks1_seal.proofs.Layout1Lemmas.{image_payload, length-image1, length-prefix1, material_within}
+use Rattle.luks1_seal.proofs.Layout1Lemmas.{random_stripes1}
+use Rattle.luks1_seal.proofs.Read1.{IsKeySlot, IsRead1, header1_is, key_slot1_is}
 
 module _ (p : Seal1) (fits : AreParameters1 p) (typed : AreTyped1 p) where
   -- ---- the header
 
   begins : is_luks1 (image1_of p) ≡ true
-  unfolding is_luks1 start1_of
+  unfolding is_luks1
   begins =
       ap (λ (b : List ℕ). bytes_eq b (0x4c ∷ 0x55 ∷ 0x4b ∷ 0x53 ∷ 0xba ∷ 0xbe ∷ 0x00 ∷ 0x01 ∷ []))
-      (image_header p fits typed 0 8 (omega arith) ∙ in_start p fits typed 0 8 (omega arith))
+      (image_header p fits typed 0 8 (omega arith) ∙ header1_part p fits typed 0)
 
   whole_header : at 0 592 (image1_of p) ≡ header1_start_bytes p
   whole_header =
@@ -76,7 +76,7 @@ module _ (p : Seal1) (fits : AreParameters1 p) (typed : AreTyped1 p) where
     gives1 : (header : Header1) (stored : StoredSlot) → IsRead1 p header
         → IsKeySlot slot (8 + slot.number * area_sectors_of p) p.stripes stored
         → GivesKey (slot_parts1_of header stored) slot.passphrase.now p.key.now (image1_of p)
-    unfolding slot_parts1_of need_of material1_of area_key1_of
+    unfolding slot_parts1_of material1_of area_key1_of
     gives1 header stored of_header of_stored =
         let drawn = random_stripes1 p fits typed slot of_slot in
         let starts = ap (λ n. 512 * n) of_stored.offset in
@@ -146,7 +146,8 @@ module _ (p : Seal1) (fits : AreParameters1 p) (typed : AreTyped1 p) where
         slots = All-map (λ slot. SealsKey (V1 header) (image1_of p) p.key.now slot.0 slot.1)
             (λ slot. (slot.number, slot.passphrase.now)) p.slots.now
             (λ k d below.
-            seals_key1 (get_or p.slots.now k d) (numbered_itself p.slots.now fits.distinct k d below)
+            seals_key1 (get_or p.slots.now k d)
+            (found_by_number (λ (slot : Slot1). slot.number) p.slots.now fits.distinct k d below)
             (fits.slots k d below) (typed.slots k d below));
         payload = seals_plain1;
       }

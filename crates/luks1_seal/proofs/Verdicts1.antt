@@ -3,17 +3,11 @@ use Rattle.std.proofs.Common.{◌≡◌, ◌∙◌, ℕ, ◌+◌, ◌*◌, ◌^�
 use Rattle.std.proofs.Common.{arith}
 use Rattle.std.proofs.Math.Nat.{mul-le-mul_right}
 use Rattle.std.proofs.lemmas.Bool.{le-ltb}
-use Rattle.std.proofs.lemmas.Bool.Decides.{nat_tests}
-use Rattle.luks_cipher.specs.Sector.{is_mode_key_length, mode_named, mode_name}
-use Rattle.luks_cipher.specs.declared.mode.Mode.{Mode}
-use Rattle.luks_cipher.specs.declared.mode.Mode.TheVariants.{XtsPlain64, XtsPlain, CbcEssivSha256, CbcPlain64}
-use Rattle.luks_kdf.specs.Hash.{hash_named, hash_name}
-use Rattle.luks_kdf.specs.declared.hash.Hash.{Hash}
-use Rattle.luks_kdf.specs.declared.hash.Hash.TheVariants.{Sha1, Sha224, Sha256, Sha384, Sha512}
+use Rattle.luks_cipher.specs.Sector.{is_mode_key_length}
+use Rattle.luks_kdf.specs.Hash.{hash_named}
 use Rattle.luks_kdf.proofs.Pbkdf2Lemmas.{length-derived_key}
 use Rattle.luks_verdict.specs.Digest.{digest_of, has_no_usable_digest, is_usable}
-use Rattle.luks_verdict.specs.Rule.{iterations_out_of_range, is_digest, area_out_of_range, stripes_out_of_range}
-use Rattle.luks_verdict.specs.Rule.{need_of}
+use Rattle.luks_verdict.specs.Rule.{iterations_out_of_range, need_of, stripes_out_of_range}
 use Rattle.luks_verdict.specs.Segment.{segment_by, segment_from}
 use Rattle.luks_verdict.specs.Slot.{are_in_range, slot_of}
 use Rattle.luks_verdict.specs.declared.sector_size.SectorSize.TheVariants.{B512}
@@ -28,25 +22,14 @@ use Rattle.luks1_header.specs.declared.header.StoredSlot.{StoredSlot}
 use Rattle.luks1_header.proofs.SegmentLemmas.{segment1-none}
 use Rattle.luks1_header.proofs.SlotLemmas.{slot_there}
 use Rattle.luks_seal.specs.Sealed.{IsDigestOf}
+use Rattle.luks_seal.proofs.RuleLemmas.{area_fits, digest_fits, hash_by_name, iterations_fit, mode_by_name}
+use Rattle.luks_seal.proofs.RuleLemmas.{stripes_fit}
 use Rattle.luks_seal.specs.declared.parameters.Seal1.{Seal1}
 use Rattle.luks_seal.specs.declared.parameters.Slot1.{Slot1}
 use Rattle.luks1_seal.specs.Layout1.{area_sectors_of}
 use Rattle.luks1_seal.specs.Ranges1.{AreParameters1}
 use Rattle.luks1_seal.specs.Typed1.{AreTyped1}
 use Rattle.luks1_seal.proofs.Read1.{IsKeySlot, IsRead1}
-
-mode_by_name : (mode : Mode) → mode_named (mode_name mode) ≡ Some mode
-mode_by_name XtsPlain64 = refl
-mode_by_name XtsPlain = refl
-mode_by_name CbcEssivSha256 = refl
-mode_by_name CbcPlain64 = refl
-
-hash_by_name : (h : Hash) → hash_named (hash_name h) ≡ Some h
-hash_by_name Sha1 = refl
-hash_by_name Sha224 = refl
-hash_by_name Sha256 = refl
-hash_by_name Sha384 = refl
-hash_by_name Sha512 = refl
 
 module _ (p : Seal1) (header : Header1) (fits : AreParameters1 p) (typed : AreTyped1 p) (read : IsRead1 p header) where
   pub mode1_is : mode1_of header ≡ Some p.mode
@@ -90,13 +73,10 @@ module _ (p : Seal1) (header : Header1) (fits : AreParameters1 p) (typed : AreTy
       ap length read.digest ∙ length-derived_key p.hash p.key.now p.digest_salt p.digest_iterations 20
 
   pub digest_usable : is_usable (digest_parts1_of header) ≡ true
-  unfolding digest_parts1_of is_digest iterations_out_of_range
+  unfolding digest_parts1_of
   digest_usable =
-      let long = length-digest in
-      let turns = read.digest_iterations in
-      let some = fits.counts.2 in
-      let few = typed.iterations in
-      grind (arith, nat_tests)
+      rw (read.digest_iterations, length-digest)
+      (digest_fits p.digest_iterations 20 fits.counts.2 typed.iterations (omega arith) (omega arith))
 
   pub digest1_is : digest1_of header ≡ Some (digest_of (digest_parts1_of header) digest_usable)
   unfolding digest1_of
@@ -116,23 +96,15 @@ module _ (p : Seal1) (header : Header1) (fits : AreParameters1 p) (typed : AreTy
       (is : IsKeySlot slot (8 + number * area_sectors_of p) p.stripes stored) (low : number < 8)
       (some : 1 ≤ slot.iterations) (few : slot.iterations < 2 ^ 32) where
     striped : stripes_out_of_range stored.stripes ≡ false
-    unfolding stripes_out_of_range
-    striped =
-        let same = is.stripes in
-        let least = fits.counts.0 in
-        let most = fits.counts.1 in
-        grind (arith, nat_tests)
+    striped = rw is.stripes (stripes_fit p.stripes fits.counts.0 fits.counts.1)
 
     few_slot_iterations : iterations_out_of_range None stored.iterations ≡ false
-    unfolding iterations_out_of_range
-    few_slot_iterations =
-        let same = is.iterations in
-        grind (arith, nat_tests)
+    few_slot_iterations = rw is.iterations (iterations_fit slot.iterations some few)
 
     -- the key material ends before the payload
-    before_payload : 512 * stored.offset + need_of header.key_bytes stored.stripes ≤ 512 * header.payload_offset
+    ends_before : 512 * stored.offset + need_of header.key_bytes stored.stripes ≤ 512 * header.payload_offset
     unfolding need_of
-    before_payload =
+    ends_before =
         let size = length p.key.now * p.stripes in
         let product : header.key_bytes * stored.stripes ≡ size =
         ap (λ n. n * stored.stripes) read.key_bytes ∙ ap (λ n. length p.key.now * n) is.stripes in
@@ -141,25 +113,18 @@ module _ (p : Seal1) (header : Header1) (fits : AreParameters1 p) (typed : AreTy
         omega (arith, product, below, payload_starts, is.offset, fits.counts.3)
 
     placed : area1_out_of_range header stored ≡ false
-    unfolding area1_out_of_range area_out_of_range payload1_start
+    unfolding area1_out_of_range payload1_start
     placed =
         let need = need_of header.key_bytes stored.stripes in
-        let capacity = before_payload in
-        let starts = le-ltb (512 * stored.offset) 592 (omega (arith, is.offset)) in
-        let whole = le-ltb need need (omega arith) in
-        let before = le-ltb (512 * header.payload_offset) (512 * stored.offset + need) (omega (arith, capacity)) in
-        let loadable = le-ltb 33554432 (512 * stored.offset + need)
-        (omega (arith, capacity, payload_starts, fits.counts.4)) in
-        rw (read.attached, starts, whole, before, loadable) refl
+        rw read.attached
+        (area_fits 592 (512 * header.payload_offset) (512 * stored.offset) need need (omega (arith, is.offset))
+        (omega arith) ends_before (omega (arith, payload_starts, fits.counts.4)))
 
     digested : has_no_usable_digest None (digest1_of header) ≡ false
-    unfolding digest1_of digest_parts1_of iterations_out_of_range
+    unfolding digest1_of digest_parts1_of
     digested =
         no_usable_digest-yes None (digest_parts1_of header) digest_usable
-        ∙ (let turns = read.digest_iterations in
-        let least = fits.counts.2 in
-        let most = typed.iterations in
-        grind (arith, nat_tests))
+        ∙ rw read.digest_iterations (iterations_fit p.digest_iterations fits.counts.2 typed.iterations)
 
     no_reason : reason1_of header None stored ≡ None
     unfolding reason1_of

@@ -1,9 +1,9 @@
 -- The image of a volume of LUKS1 (LUKS1 On-Disk Format Specification 1.2.3, section 4).
-use Rattle.std.specs.Prelude.{◌==◌, ℕ, zero, suc, ◌+◌, ◌*◌, if◌then◌else◌, List, [], ◌∷◌, ◌++◌, codes, length, Option}
-use Rattle.std.specs.Prelude.{None, Some}
+use Rattle.std.specs.Prelude.{◌==◌, ℕ, ◌+◌, ◌*◌, List, [], ◌∷◌, ◌++◌, codes, find, length, Option, None, Some}
 use Rattle.std.specs.Int.{to_be_bytes, w32}
 use Rattle.std.specs.Option.{option_map_or}
 use Rattle.luks_cipher.specs.Sector.{mode_name}
+use Rattle.luks_kdf.specs.Bytes.{joined}
 use Rattle.luks_kdf.specs.Hash.{hash_name}
 use Rattle.luks_kdf.specs.Pbkdf2.{derived_key}
 use Rattle.luks_seal.specs.Pieces.{encrypted_material, padded, sectors_encrypted, stripes_of}
@@ -13,8 +13,7 @@ use Rattle.luks1_seal.specs.Ranges1.{area_sectors}
 
 -- the slot of this number, if it is in use
 abbrev pub slot1_numbered : ℕ → List Slot1 → Option Slot1
-slot1_numbered number [] = None
-slot1_numbered number (slot ∷ slots) = if slot.number == number then Some slot else slot1_numbered number slots
+slot1_numbered number slots = find (λ (slot : Slot1). slot.number == number) slots
 
 -- the length of an area in sectors of 512 bytes
 abbrev pub area_sectors_of : Seal1 → ℕ
@@ -50,11 +49,6 @@ key_slot1_of p number =
     state1_of (slot1_numbered number p.slots.now) ++ to_be_bytes w32 (8 + number * area_sectors_of p)
     ++ to_be_bytes w32 p.stripes
 
--- the key slots with numbers below this one
-unfoldable pub key_slots1_below : Seal1 → ℕ → List ℕ
-key_slots1_below p zero = []
-key_slots1_below p (suc n) = key_slots1_below p n ++ key_slot1_of p n
-
 -- the key that encrypts a slot's area: PBKDF2 of the passphrase
 unfoldable pub area_key1_of : Seal1 → Slot1 → List ℕ
 area_key1_of p slot = derived_key p.hash slot.passphrase.now slot.salt slot.iterations (length p.key.now)
@@ -69,19 +63,14 @@ unfoldable pub area1_of : Seal1 → ℕ → List ℕ
 area1_of p number =
     padded (area_sectors_of p * 512) (option_map_or (material1_of p) (slot1_numbered number p.slots.now) [])
 
--- the areas of the slots with numbers below this one
-unfoldable pub areas1_below : Seal1 → ℕ → List ℕ
-areas1_below p zero = []
-areas1_below p (suc n) = areas1_below p n ++ area1_of p n
-
 -- the payload, its sectors of 512 bytes numbered from 0
 unfoldable pub payload1_bytes : Seal1 → List ℕ
 payload1_bytes p = sectors_encrypted (p.mode, p.key.now) 0 1 512 p.plain.now
 
 -- the header with its eight key slots, and zeros to sector 8
 unfoldable pub header1_bytes : Seal1 → List ℕ
-header1_bytes p = padded 4096 (fields1_of p ++ key_slots1_below p 8)
+header1_bytes p = padded 4096 (fields1_of p ++ joined (key_slot1_of p) 8)
 
--- the whole image: the areas follow the header, and the payload begins at its sector
+-- the whole image: the areas of the eight slots follow the header, and the payload begins at its sector
 unfoldable pub image1_of : Seal1 → List ℕ
-image1_of p = padded (p.payload_sectors * 512) (header1_bytes p ++ areas1_below p 8) ++ payload1_bytes p
+image1_of p = padded (p.payload_sectors * 512) (header1_bytes p ++ joined (area1_of p) 8) ++ payload1_bytes p

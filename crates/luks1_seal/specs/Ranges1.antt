@@ -1,6 +1,6 @@
 -- The ranges of what a volume of LUKS1 is made from.
-use Rattle.std.specs.Prelude.{◌≡◌, ◌≢◌, ℕ, ◌+◌, ◌-◌, ◌*◌, ◌/◌, ◌%◌, ◌≤◌, List, [], ◌∷◌, All, length}
-use Rattle.luks_seal.specs.Ranges.{FitsKey, FitsText, max_plain_len}
+use Rattle.std.specs.Prelude.{◌≡◌, ℕ, ◌+◌, ◌-◌, ◌*◌, ◌/◌, ◌%◌, ◌≤◌, All, length}
+use Rattle.luks_seal.specs.Ranges.{AreDistinct, FitsKey, FitsText, max_plain_len}
 use Rattle.luks_seal.specs.declared.parameters.Seal1.{Seal1}
 use Rattle.luks_seal.specs.declared.parameters.Slot1.{Slot1}
 
@@ -21,11 +21,6 @@ FitsPlain1 len = (len % 512 ≡ 0) × (len ≤ max_plain_len)
 abbrev pub FitsSlot1 : ℕ → Slot1 → Type 0
 FitsSlot1 random slot = (slot.number ≤ 7) × (1 ≤ slot.iterations) × (length slot.random.now ≡ random)
 
--- no two slots have the same number
-abbrev pub AreDistinct1 : List Slot1 → Type 0
-AreDistinct1 [] = Unit {0}
-AreDistinct1 (slot ∷ slots) = All (λ other. other.number ≢ slot.number) slots × AreDistinct1 slots
-
 -- the parameters are all in their ranges
 pub record AreParameters1 (p : Seal1) : Type 0 where
   pub key : FitsKey p.mode (length p.key.now)
@@ -33,4 +28,4 @@ pub record AreParameters1 (p : Seal1) : Type 0 where
   pub uuid : FitsText 40 p.uuid.now
   pub plain : FitsPlain1 (length p.plain.now)
   pub slots : All (FitsSlot1 ((p.stripes - 1) * length p.key.now)) p.slots.now
-  pub distinct : AreDistinct1 p.slots.now
+  pub distinct : AreDistinct (λ (slot : Slot1). slot.number) p.slots.now

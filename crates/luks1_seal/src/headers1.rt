@@ -2,9 +2,9 @@
 
 ghost use Rattle.std.specs.Prelude.{◌≡◌, ◌-◌, ◌*◌, ◌<◌, ◌++◌, IfOk, IfSome, OnOk, length};
 ghost use Rattle.std.specs.Prelude.{option_copied};
+ghost use Rattle.luks_kdf.specs.Bytes.{joined};
 ghost use Rattle.luks1_seal.specs.Layout1.{digest1_fields, fields1_of, header1_bytes, key_slot1_of};
-ghost use Rattle.luks1_seal.specs.Layout1.{key_slots1_below, middle1_of, slot1_numbered, start1_of};
-ghost use Rattle.luks1_seal.specs.Layout1.{state1_of};
+ghost use Rattle.luks1_seal.specs.Layout1.{middle1_of, slot1_numbered, start1_of, state1_of};
 ghost use Rattle.luks1_seal.specs.Ranges1.{AreParameters1, FitsSlot1};
 
 use crate::ranges::area_sectors;
@@ -140,10 +140,11 @@ fn push_key_slot(
 }
 
 /// Adds the eight key slots.
-#[tactic(auto, unfolding(crate::specs::Layout1::key_slots1_below))]
+#[tactic(auto, unfolding(luks_kdf::specs::Bytes::joined))]
 fn push_key_slots(alloc: Global, header: &mut Vec<u8>, seal: &Seal1<'_>) -> Result<(), AllocError>
     requires { AreParameters1 seal.now }
-    ensures { OnOk result (header.new.items ≡ header.old.items ++ key_slots1_below seal.now 8) }
+    ensures { OnOk result (header.new.items
+        ≡ header.old.items ++ joined (key_slot1_of seal.now) 8) }
 {
     'slots: for number in 0..8 {
         push_key_slot(alloc, header, seal, number)?;

@@ -2,10 +2,11 @@
 
 ghost use Rattle.std.specs.Prelude.{◌≡◌, ◌-◌, ◌*◌, ◌++◌, [], IfOk, OnOk, length};
 ghost use Rattle.std.specs.Option.{option_map_or};
+ghost use Rattle.luks_kdf.specs.Bytes.{joined};
 ghost use Rattle.luks_seal.specs.Ranges.{SealAnswer};
 ghost use Rattle.luks_seal.specs.Sealed.{Sealed};
-ghost use Rattle.luks1_seal.specs.Layout1.{area1_of, area_key1_of, areas1_below, image1_of};
-ghost use Rattle.luks1_seal.specs.Layout1.{material1_of, payload1_bytes, slot1_numbered};
+ghost use Rattle.luks1_seal.specs.Layout1.{area1_of, area_key1_of, image1_of, material1_of};
+ghost use Rattle.luks1_seal.specs.Layout1.{payload1_bytes, slot1_numbered};
 ghost use Rattle.luks1_seal.specs.Passphrases1.{passphrases1_of};
 ghost use Rattle.luks1_seal.specs.Ranges1.{AreParameters1, FitsSlot1};
 
@@ -24,8 +25,7 @@ use std::alloc::{AllocError, Global};
 fn area_key_of(alloc: Global, seal: &Seal1<'_>, slot: &Slot1<'_>) -> Result<Vec<u8>, AllocError>
     requires fits { AreParameters1 seal.now }
     requires slot { FitsSlot1 ((seal.now.stripes - 1) * length seal.now.key.now) slot.now }
-    ensures value { IfOk result (λ key. key.items ≡ area_key1_of seal.now slot.now) }
-    ensures len { IfOk result (λ key. length key.items ≡ length seal.now.key.now) }
+    ensures { IfOk result (λ key. key.items ≡ area_key1_of seal.now slot.now) }
 {
     derived_key(
         alloc,
@@ -78,10 +78,10 @@ fn push_area(
 }
 
 /// Adds the areas of all eight slots.
-#[tactic(auto, unfolding(crate::specs::Layout1::areas1_below))]
+#[tactic(auto, unfolding(luks_kdf::specs::Bytes::joined))]
 fn push_areas(alloc: Global, image: &mut Vec<u8>, seal: &Seal1<'_>) -> Result<(), AllocError>
     requires { AreParameters1 seal.now }
-    ensures { OnOk result (image.new.items ≡ image.old.items ++ areas1_below seal.now 8) }
+    ensures { OnOk result (image.new.items ≡ image.old.items ++ joined (area1_of seal.now) 8) }
 {
     'slots: for number in 0..8 {
         push_area(alloc, image, seal, number)?;

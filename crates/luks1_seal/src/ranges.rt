@@ -1,11 +1,12 @@
 //! Whether the parameters of a volume of LUKS1 are in their ranges.
 
-ghost use Rattle.std.specs.Prelude.{◌≡◌, ◌≢◌, ◌*◌, ◌-◌, ◌<◌, ◌≤◌, ◌↔◌, ℕ, All, length, IsTrue};
-ghost use Rattle.luks1_seal.specs.Ranges1.{AreDistinct1, AreParameters1, FitsCounts1, FitsPlain1};
-ghost use Rattle.luks1_seal.specs.Ranges1.{FitsSlot1, area_sectors};
+ghost use Rattle.std.specs.Prelude.{◌≡◌, ◌*◌, ◌-◌, ◌≤◌, ◌↔◌, All, length, IsTrue};
+ghost use Rattle.luks1_seal.specs.Ranges1.{AreParameters1, FitsCounts1, FitsPlain1, FitsSlot1};
+ghost use Rattle.luks1_seal.specs.Ranges1.{area_sectors};
 
 use luks_seal::parameters::{Seal1, Slot1};
 use luks_seal::ranges::fits_text;
+use luks_seal::slots::are_distinct;
 
 /// The sectors of 512 bytes that a slot's stripes need, rounded up to a multiple of 8.
 pub(super) fn area_sectors(key: usize, stripes: u32) -> u32
@@ -48,23 +49,6 @@ fn fit_slots(random: usize, slots: &[Slot1<'_>]) -> bool
     ensures { IsTrue result ↔ All (FitsSlot1 random) slots.now }
 {
     slots.iter().all(|slot| fits_slot(random, slot))
-}
-
-/// No slot has this number.
-fn is_free(number: u32, slots: &[Slot1<'_>]) -> bool
-    ensures { IsTrue result ↔ All (λ slot. slot.number ≢ number) slots.now }
-{
-    slots.iter().all(|slot| slot.number != number)
-}
-
-/// No two slots have the same number.
-fn are_distinct(slots: &[Slot1<'_>]) -> bool
-    ensures { IsTrue result ↔ AreDistinct1 slots.now }
-{
-    match slots {
-        [] => true,
-        [slot, rest @ ..] => is_free(slot.number, rest) && are_distinct(rest),
-    }
 }
 
 /// All parameters are in their ranges.

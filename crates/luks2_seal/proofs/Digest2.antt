@@ -1,14 +1,12 @@
 -- The key's digest in the metadata is read back: it is the digest of each key slot.
-use Rattle.std.proofs.Common.{◌≡◌, ◌∙◌, ◌<◌, ◌≤◌, ◌^◌, ℕ, Some, true, ap, arith, refl, sym}
+use Rattle.std.proofs.Common.{◌≡◌, ◌∙◌, ◌<◌, ℕ, Some, true, ap, arith, refl, sym}
 use Rattle.std.specs.Prelude.{codes}
-use Rattle.std.proofs.lemmas.Bool.Decides.{nat_tests}
 use Rattle.std.proofs.lemmas.Fmt.{decimal_digit}
 use Rattle.luks_kdf.specs.Hash.{digest_len}
 use Rattle.luks_kdf.specs.Pbkdf2.{derived_key}
 use Rattle.luks_kdf.proofs.HashLemmas.{digest_sizes}
 use Rattle.luks_kdf.proofs.Pbkdf2Lemmas.{length-derived_key}
 use Rattle.luks_verdict.specs.Digest.{digest_of, is_usable}
-use Rattle.luks_verdict.specs.Rule.{iterations_out_of_range, is_digest}
 use Rattle.luks_verdict.specs.declared.digest.DigestParts.{DigestParts}
 use Rattle.luks_verdict.specs.declared.digest.KeyDigest.{KeyDigest}
 use Rattle.luks_verdict.proofs.MadeLemmas.{digest_from-yes}
@@ -23,12 +21,14 @@ use Rattle.luks_seal.specs.Sealed.{IsDigestOf}
 use Rattle.luks_seal.specs.declared.parameters.Seal2.{Seal2}
 use Rattle.luks_seal.specs.declared.parameters.Slot2.{Slot2}
 use Rattle.luks_seal.proofs.DerivedLemmas.{derived_bytes}
+use Rattle.luks_seal.proofs.RuleLemmas.{digest_fits, hash_by_name}
 use Rattle.luks2_seal.specs.Metadata2.{digest_object, metadata_of}
 use Rattle.luks2_seal.specs.SlotAreas.{slot_numbered}
 use Rattle.luks2_seal.specs.Ranges2.{AreParameters2}
 use Rattle.luks2_seal.specs.Typed2.{AreTyped2}
-use Rattle.luks2_seal.proofs.Slots2.{names_texts, slot_listed}
-use Rattle.luks2_seal.proofs.TextLemmas.{base64_read, hash_read}
+use Rattle.luks2_seal.proofs.FlatLemmas.{names_are}
+use Rattle.luks2_seal.proofs.Slots2.{slot_listed}
+use Rattle.luks2_seal.proofs.TextLemmas.{base64_read}
 
 -- the parts that the digest is made from
 abbrev pub digest_parts : Seal2 → DigestParts
@@ -39,17 +39,12 @@ digest_parts p = record {
   value = derived_key p.digest_hash p.key.now p.digest_salt p.digest_iterations (digest_len p.digest_hash);
 }
 
-in_range : (iterations len : ℕ) → 1 ≤ iterations → iterations < 2 ^ 32 → 20 ≤ len → len ≤ 64
-    → is_digest iterations len ≡ true
-unfolding is_digest iterations_out_of_range
-in_range iterations len some few least most = grind (arith, nat_tests)
-
 module _ (p : Seal2) (fits : AreParameters2 p) (typed : AreTyped2 p) where
   -- ---- members
 
   hash_said : hash_member (digest_object p) ≡ Some p.digest_hash
   unfolding hash_member digest_object string_member
-  hash_said = hash_read p.digest_hash
+  hash_said = hash_by_name p.digest_hash
 
   salt_said : base64_member (codes "salt") (digest_object p) ≡ Some p.digest_salt
   unfolding base64_member digest_object string_member
@@ -64,7 +59,7 @@ module _ (p : Seal2) (fits : AreParameters2 p) (typed : AreTyped2 p) where
 
   keyslots_said : has_strings (codes "keyslots") (digest_object p) ≡ true
   unfolding has_strings digest_object
-  keyslots_said = names_texts p 32
+  keyslots_said = (names_are p 32).texts
 
   is_said : is_digest2 (digest_object p) ≡ true
   unfolding is_digest2 has_strings digest_object string_is string_member integer_member
@@ -81,8 +76,8 @@ module _ (p : Seal2) (fits : AreParameters2 p) (typed : AreTyped2 p) where
       let len = length-derived_key p.digest_hash p.key.now p.digest_salt p.digest_iterations
       (digest_len p.digest_hash) in
       let size = digest_sizes p.digest_hash in
-      in_range p.digest_iterations _ fits.min_digest_iterations typed.digest_iterations (omega (arith, len, size.least))
-      (omega (arith, len, size.greatest))
+      digest_fits p.digest_iterations _ fits.min_digest_iterations typed.digest_iterations
+      (omega (arith, len, size.least)) (omega (arith, len, size.greatest))
 
   unfoldable pub digest_is : KeyDigest
   digest_is = digest_of (digest_parts p) usable

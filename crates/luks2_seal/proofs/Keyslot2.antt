@@ -7,13 +7,14 @@ use Rattle.luks2_json.specs.Derivation.{hash_member, iterations_in, salt_in}
 use Rattle.luks2_json.specs.Member.{base64_member, decimal_member, string_is, string_member, integer_member}
 use Rattle.luks2_metadata.specs.Slot2.{af_hash_of, area_mode_of, has_members, is_af, is_area, is_kdf, is_pbkdf2}
 use Rattle.luks2_metadata.specs.Slot2.{kdf_hash_of, priority_of, slot_parts2_of}
+use Rattle.luks_seal.proofs.RuleLemmas.{hash_by_name}
 use Rattle.luks_seal.specs.declared.parameters.Seal2.{Seal2}
 use Rattle.luks_seal.specs.declared.parameters.Slot2.{Slot2}
 use Rattle.luks2_seal.specs.Metadata2.{af_object, area_object, kdf_object, keyslot_object}
 use Rattle.luks2_seal.specs.SlotAreas.{area_size, area_start, slot_numbered}
 use Rattle.luks2_seal.specs.Ranges2.{FitsSlot2}
 use Rattle.luks2_seal.specs.Typed2.{IsTypedSlot2}
-use Rattle.luks2_seal.proofs.TextLemmas.{base64_read, decimal_read, hash_read, mode_read}
+use Rattle.luks2_seal.proofs.TextLemmas.{base64_read, decimal_read, mode_read}
 
 -- a key slot of a volume, and where its area is
 pub record IsPlaced (p : Seal2) (slot : Slot2) : Type 0 where
@@ -62,11 +63,11 @@ module _ (p : Seal2) (slot : Slot2) (placed : IsPlaced p slot) where
 
   kdf_hash_said : kdf_hash_of (keyslot_object p slot) ≡ Some slot.hash
   unfolding keyslot_object kdf_object hash_member string_member
-  kdf_hash_said = hash_read slot.hash
+  kdf_hash_said = hash_by_name slot.hash
 
   af_hash_said : af_hash_of (keyslot_object p slot) ≡ Some slot.af_hash
   unfolding keyslot_object af_object hash_member string_member
-  af_hash_said = hash_read slot.af_hash
+  af_hash_said = hash_by_name slot.af_hash
 
   priority_if_present : priority_of (keyslot_object p slot) ≡ Some slot.priority
   unfolding keyslot_object priority_of integer_member

@@ -5,11 +5,20 @@ use Rattle.luks_cipher.specs.Sector.{is_mode_key_length}
 use Rattle.luks_cipher.specs.declared.mode.Mode.{Mode}
 use Rattle.luks_cipher.proofs.ModeLemmas.{key_length_of_mode, longest_mode_key}
 use Rattle.luks_seal.specs.declared.parameters.Seal2.{Seal2}
+use Rattle.luks2_binary.specs.Header2.{sizes}
 use Rattle.luks2_seal.specs.Ranges2.{AreParameters2, is_header_size}
 
 -- each of the nine lengths of a header is from 16,384 to 4,194,304 bytes
-pub size_range : (n : ℕ) → is_header_size n ≡ true → (16384 ≤ n) × (n ≤ 4194304)
-size_range n is = (grind (arith, nat_tests), grind (arith, nat_tests))
+pub shortest_header : (n : ℕ) → is_header_size n ≡ true → 16384 ≤ n
+unfolding is_header_size sizes
+shortest_header n is = grind (arith, nat_tests)
+
+pub longest_header : (n : ℕ) → is_header_size n ≡ true → n ≤ 4194304
+unfolding is_header_size sizes
+longest_header n is = grind (arith, nat_tests)
+
+-- the bounds of the lengths of headers and keys
+pub ruleset limits = (shortest_header, longest_header, longest_mode_key)
 
 shortest_key : (mode : Mode) (n : ℕ) → is_mode_key_length mode n ≡ true → 1 ≤ n
 shortest_key mode n is =
@@ -29,5 +38,8 @@ module _ (p : Seal2) (fits : AreParameters2 p) where
   pub short_area_key : p.area_key_size ≤ 64
   short_area_key = longest_mode_key p.area_mode p.area_key_size fits.keys.1
 
+  pub long_header : 16384 ≤ p.hdr_size
+  long_header = shortest_header p.hdr_size fits.size
+
   pub short_header : p.hdr_size ≤ 4194304
-  short_header = (size_range p.hdr_size fits.size).1
+  short_header = longest_header p.hdr_size fits.size

@@ -1,11 +1,11 @@
 -- The header of a sealed volume of LUKS2 is read back: it is the primary one, and its text is the metadata.
-use Rattle.std.proofs.Common.{◌≡◌, ◌≢◌, ◌∙◌, ℕ, zero, suc, ◌+◌, ◌-◌, ◌*◌, ◌<◌, ◌≤◌, ◌==◌, List, ◌++◌, length, take}
+use Rattle.std.proofs.Common.{◌≡◌, ◌≢◌, ◌∙◌, ℕ, ◌+◌, ◌-◌, ◌*◌, ◌<◌, ◌≤◌, ◌==◌, List, ◌++◌, length, take}
 use Rattle.std.proofs.Common.{replicate, Some, None, Ok, true, false, refl, sym, ap, arith, get_or, length-append}
 use Rattle.std.specs.Prelude.{slice_index}
 use Rattle.std.specs.Int.{to_be_bytes, w64}
 use Rattle.std.specs.List.{position_or_len}
 use Rattle.std.proofs.lemmas.Bool.{le-leb, le-ltb, ne_eqb}
-use Rattle.std.proofs.lemmas.List.{get_or-append_right, get_or_append_left, take_at}
+use Rattle.std.proofs.lemmas.List.{get_or-append_right, get_or-replicate, get_or_append_left, length-replicate, take_at}
 use Rattle.std.proofs.lemmas.List.Sums.{position_or_len_is}
 use Rattle.std.proofs.lemmas.Str.{is_utf8-from_IsUtf8}
 use Rattle.luks_area.specs.Fields.{at, be64, text_of}
@@ -22,23 +22,17 @@ use Rattle.luks_header.specs.Header.{bounds2_of, header_of as read_header}
 use Rattle.luks_header.specs.declared.header.Header.TheVariants.{V2}
 use Rattle.luks_seal.specs.Pieces.{padded}
 use Rattle.luks_seal.specs.declared.parameters.Seal2.{Seal2}
-use Rattle.luks_seal.proofs.SlicingLemmas.{at_at}
+use Rattle.luks_seal.proofs.SlicingLemmas.{at_at, at_inside}
 use Rattle.luks2_seal.specs.Layout2.{header2_bytes, image2_of, primary_magic, secondary_magic}
 use Rattle.luks2_seal.specs.Metadata2.{FitsJson, ReadsBack, json_of, metadata_of}
-use Rattle.luks2_seal.specs.SlotAreas.{area_start}
 use Rattle.luks2_seal.specs.Ranges2.{AreParameters2}
 use Rattle.luks2_seal.specs.Typed2.{AreTyped2}
 use Rattle.luks2_seal.proofs.Header2.{IsStart, binary_begins, binary_hash, binary_sequence, binary_size, intact}
 use Rattle.luks2_seal.proofs.Header2.{is_binary, json_there, primary_start, secondary_start}
-use Rattle.luks2_seal.proofs.RangeLemmas.{size_range}
+use Rattle.luks2_seal.proofs.RangeLemmas.{long_header}
 use Rattle.luks2_seal.proofs.Image2.{image_primary, image_secondary, length-image}
-use Rattle.luks2_seal.proofs.Slots2.{start_rises}
+use Rattle.luks2_seal.proofs.Slots2.{area_after_headers}
 use Rattle.luks2_seal.proofs.Segment2.{bounds_of}
-
-zeros_at : (n k : ℕ) → ◌≡◌ {A = ℕ} (get_or (replicate n 0) k 0) 0
-zeros_at zero k = refl
-zeros_at (suc n) zero = refl
-zeros_at (suc n) (suc k) = zeros_at n k
 
 -- a text without zero bytes is read back from its field
 text_back : (capacity : ℕ) (text : List ℕ) → ((i : ℕ) → i < length text → slice_index text i ≢ 0)
@@ -50,7 +44,8 @@ text_back capacity text some =
     λ more.
     rw (
       get_or-append_right text zeros (length text) (length text) 0 refl (omega arith),
-      zeros_at (capacity - length text) (length text - length text),
+      get_or-replicate {A = ℕ} (capacity - length text) (length text - length text) 0 0
+          (omega (arith, length-append text zeros, length-replicate {A = ℕ} (capacity - length text) 0)),
     ) refl in
     let ends : position_or_len (λ b. b == 0) (text ++ zeros) ≡ length text =
     position_or_len_is (λ b. b == 0) (text ++ zeros) (length text) 0 (omega (arith, length-append text zeros))
@@ -59,37 +54,45 @@ text_back capacity text some =
 
 -- ---- a header that an image has is valid
 
+-- what a reader finds of the header with this start and this salt at a place of the image
+record IsReadAt (p : Seal2) (magic salt : List ℕ) (place : ℕ) (image : List ℕ) : Type 0 where
+  binary : binary_at image place ≡ at 0 4096 (header2_bytes p magic salt place)
+  size : size_at image place ≡ p.hdr_size
+  sequence : sequence_in (binary_at image place) ≡ be64 (to_be_bytes w64 p.seqid)
+  valid : is_valid image place ≡ true
+
 module _ (p : Seal2) (fit : AreParameters2 p) (json : FitsJson p) (magic salt : List ℕ) (place : ℕ)
     (start : IsStart p magic place) (salted : length salt ≡ 64) (image : List ℕ)
     (there : at place p.hdr_size image ≡ header2_bytes p magic salt place)
     (long : place + p.hdr_size ≤ length image) where
   binary_there : binary_at image place ≡ at 0 4096 (header2_bytes p magic salt place)
   binary_there =
-      let same : place ≡ place + 0 = omega arith in
-      let capacity = size_range p.hdr_size fit.size in
-      ap (λ n. at n 4096 image) same
-      ∙ sym (at_at 0 4096 place p.hdr_size image (omega (arith, capacity.0)))
-      ∙ ap (at 0 4096) there
+      at_inside place 0 4096 place p.hdr_size image (header2_bytes p magic salt place) (omega arith)
+      (omega (arith, long_header p fit)) there
 
   size_there : size_at image place ≡ p.hdr_size
   size_there = ap size_in binary_there ∙ binary_size p fit json magic salt place start salted
 
-  sequence_there : sequence_in (binary_at image place) ≡ be64 (to_be_bytes w64 p.seqid)
-  sequence_there = ap sequence_in binary_there ∙ binary_sequence p fit json magic salt place start salted
-
   valid_there : is_valid image place ≡ true
   unfolding is_valid fits
   valid_there =
-      let capacity = size_range p.hdr_size fit.size in
       rw (
         size_there,
         binary_there,
-        le-leb (place + 4096) (length image) (omega (arith, capacity.0)),
+        le-leb (place + 4096) (length image) (omega (arith, long_header p fit)),
         is_binary p fit json magic salt place start salted,
         le-leb (place + p.hdr_size) (length image) long,
         there,
         intact p fit json magic salt place start salted,
       ) refl
+
+  read_there : IsReadAt p magic salt place image
+  read_there = record {
+    binary = binary_there;
+    size = size_there;
+    sequence = ap sequence_in binary_there ∙ binary_sequence p fit json magic salt place start salted;
+    valid = valid_there;
+  }
 
 module _ (p : Seal2) (fit : AreParameters2 p) (json : FitsJson p) (back : ReadsBack p) (typed : AreTyped2 p) where
   -- the header, as its binary part states it
@@ -111,46 +114,38 @@ module _ (p : Seal2) (fit : AreParameters2 p) (json : FitsJson p) (back : ReadsB
 
   -- the image is long enough for both headers
   both_long : p.hdr_size + p.hdr_size ≤ length (image2_of p)
-  unfolding area_start
-  both_long = omega (arith, start_rises p 0 32, length-image p fit json typed, fit.offset.2)
+  both_long = omega (arith, area_after_headers p 32, length-image p fit json typed, fit.offset.2)
 
-  -- the primary header is at the start of the image
-  primary_there : at 0 p.hdr_size (image2_of p) ≡ header2_bytes p primary_magic p.primary_salt 0
-  primary_there = image_primary p fit json typed
+  primary : IsReadAt p primary_magic p.primary_salt 0 (image2_of p)
+  primary =
+      read_there p fit json primary_magic p.primary_salt 0 (primary_start p) typed.primary_salt (image2_of p)
+      (image_primary p fit json typed) (omega (arith, both_long))
 
-  primary_long : 0 + p.hdr_size ≤ length (image2_of p)
-  primary_long = omega (arith, both_long)
-
-  primary_binary : binary_at (image2_of p) 0 ≡ at 0 4096 (header2_bytes p primary_magic p.primary_salt 0)
-  primary_binary =
-      binary_there p fit json primary_magic p.primary_salt 0 (primary_start p) typed.primary_salt (image2_of p)
-      primary_there primary_long
-
-  primary_size : size_at (image2_of p) 0 ≡ p.hdr_size
-  primary_size =
-      size_there p fit json primary_magic p.primary_salt 0 (primary_start p) typed.primary_salt (image2_of p)
-      primary_there primary_long
+  secondary : IsReadAt p secondary_magic p.secondary_salt p.hdr_size (image2_of p)
+  secondary =
+      read_there p fit json secondary_magic p.secondary_salt p.hdr_size (secondary_start p fit) typed.secondary_salt
+      (image2_of p) (image_secondary p fit json typed) both_long
 
   primary_hash : checksum_hash_in (binary_at (image2_of p) 0) ≡ Some Sha256
   primary_hash =
-      ap checksum_hash_in primary_binary
+      ap checksum_hash_in primary.binary
       ∙ binary_hash p fit json primary_magic p.primary_salt 0 (primary_start p) typed.primary_salt
 
   -- both headers are valid, with one sequence number
   chosen : chosen2_of (image2_of p) ≡ Some header_is
   unfolding chosen2_of with_valid_primary header2_from header_is
   chosen =
-      let image = image2_of p in
-      let first = valid_there p fit json primary_magic p.primary_salt 0 (primary_start p) typed.primary_salt image
-      primary_there primary_long in
-      let second = valid_there p fit json secondary_magic p.secondary_salt p.hdr_size (secondary_start p fit)
-      typed.secondary_salt image (image_secondary p fit json typed) both_long in
-      let number = sequence_there p fit json primary_magic p.primary_salt 0 (primary_start p) typed.primary_salt image
-      primary_there primary_long in
-      let other = sequence_there p fit json secondary_magic p.secondary_salt p.hdr_size (secondary_start p fit)
-      typed.secondary_salt image (image_secondary p fit json typed) both_long in
-      let same = le-ltb (be64 (to_be_bytes w64 p.seqid)) (be64 (to_be_bytes w64 p.seqid)) (omega arith) in
-      rw (first, primary_size, second, number, other, same, primary_hash) refl
+      let number = be64 (to_be_bytes w64 p.seqid) in
+      let same = le-ltb number number (omega arith) in
+      rw (
+        primary.valid,
+        primary.size,
+        secondary.valid,
+        primary.sequence,
+        secondary.sequence,
+        same,
+        primary_hash,
+      ) refl
 
   -- the image does not begin like an image of LUKS1
   not_luks1 : is_luks1 (image2_of p) ≡ false
@@ -158,7 +153,7 @@ module _ (p : Seal2) (fit : AreParameters2 p) (json : FitsJson p) (back : ReadsB
   not_luks1 =
       let begins : at 0 8 (image2_of p) ≡ beginning_at 0 =
       sym (at_at 0 8 0 4096 (image2_of p) (omega arith))
-      ∙ (ap (at 0 8) primary_binary
+      ∙ (ap (at 0 8) primary.binary
       ∙ binary_begins p fit json primary_magic p.primary_salt 0 (primary_start p) typed.primary_salt) in
       rw begins refl
 
@@ -167,14 +162,14 @@ module _ (p : Seal2) (fit : AreParameters2 p) (json : FitsJson p) (back : ReadsB
   text_there : json_text_of (image2_of p) header_is ≡ json_of p
   unfolding json_text_of json_area_of header_is
   text_there =
-      let capacity = size_range p.hdr_size fit.size in
-      let within : 4096 + (p.hdr_size - 4096) ≤ p.hdr_size = omega (arith, capacity.0) in
-      ap (λ n. text_of (at 4096 (n - 4096) (image2_of p))) primary_size
+      let size = p.hdr_size - 4096 in
+      let within : 4096 + size ≤ p.hdr_size = omega (arith, long_header p fit) in
+      ap (λ n. text_of (at 4096 (n - 4096) (image2_of p))) primary.size
       ∙ ap text_of
-      (sym (at_at 4096 (p.hdr_size - 4096) 0 p.hdr_size (image2_of p) within)
-      ∙ (ap (at 4096 (p.hdr_size - 4096)) primary_there
-      ∙ json_there p fit json primary_magic p.primary_salt 0 (primary_start p) typed.primary_salt))
-      ∙ text_back (p.hdr_size - 4096) (json_of p) json.1
+      (at_inside 4096 4096 size 0 p.hdr_size (image2_of p) (header2_bytes p primary_magic p.primary_salt 0)
+      (omega arith) within (image_primary p fit json typed)
+      ∙ json_there p fit json primary_magic p.primary_salt 0 (primary_start p) typed.primary_salt)
+      ∙ text_back size (json_of p) json.1
 
   -- the metadata has the objects of key slots, segments and digests
   objects : has_objects (metadata_of p) ≡ true
@@ -193,4 +188,4 @@ module _ (p : Seal2) (fit : AreParameters2 p) (json : FitsJson p) (back : ReadsB
   -- the header sets these bounds
   pub bounds_there : bounds2_of header_is ≡ bounds_of p
   unfolding bounds2_of header_is
-  bounds_there = ap (λ (n : ℕ). record { end = 2 * n; detached = false }) primary_size
+  bounds_there = ap (λ (n : ℕ). record { end = 2 * n; detached = false }) primary.size

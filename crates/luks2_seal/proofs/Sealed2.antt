@@ -18,6 +18,7 @@ use Rattle.luks_seal.specs.declared.parameters.Slot2.{Slot2}
 use Rattle.luks_verdict.proofs.SectorLemmas.{sector_blocks}
 use Rattle.luks_seal.proofs.MaterialLemmas.{gives_key}
 use Rattle.luks_seal.proofs.SectorLemmas.{sectors_are_stored}
+use Rattle.luks_seal.proofs.SlotLemmas.{found_by_number}
 use Rattle.luks2_seal.specs.Layout2.{area_key_of, image2_of, payload_of}
 use Rattle.luks2_seal.specs.Metadata2.{FitsJson, ReadsBack, metadata_of}
 use Rattle.luks2_seal.specs.SlotAreas.{slot_numbered}
@@ -25,10 +26,9 @@ use Rattle.luks2_seal.specs.Passphrases2.{passphrases2_of}
 use Rattle.luks2_seal.specs.Ranges2.{AreParameters2, FitsSlot2}
 use Rattle.luks2_seal.specs.Typed2.{AreTyped2, IsTypedSlot2}
 use Rattle.luks2_seal.proofs.Digest2.{digest_is, digest_read, of_key}
-use Rattle.luks2_seal.proofs.Image2.{area_before, area_after_headers, drawn, image_material, image_payload}
-use Rattle.luks2_seal.proofs.Image2.{length-image}
+use Rattle.luks2_seal.proofs.Image2.{area_before, drawn, image_material, image_payload, length-image}
 use Rattle.luks2_seal.proofs.Keyslot2.{IsPlaced, parts_of}
-use Rattle.luks2_seal.proofs.Slots2.{numbered_each}
+use Rattle.luks2_seal.proofs.Slots2.{area_after_headers}
 use Rattle.luks2_seal.proofs.Read2.{bounds_there, header_is, header_read}
 use Rattle.luks2_seal.proofs.Segment2.{fixed_size, segment_is, segment_read}
 use Rattle.luks2_seal.proofs.Verdicts2.{need_fits, slot_is, slot_parts, slot_usable}
@@ -52,7 +52,7 @@ module _ (p : Seal2) (fits : AreParameters2 p) (json : FitsJson p) (back : Reads
       fits = of_slot;
       typed = of_types;
       numbered = found;
-      behind = area_after_headers p fits json typed slot of_slot found;
+      behind = area_after_headers p slot.number;
       before = omega (arith, area_before p fits json typed slot of_slot found, fits.offset.2);
       loadable = fits.offset.1;
     }
@@ -115,7 +115,8 @@ module _ (p : Seal2) (fits : AreParameters2 p) (json : FitsJson p) (back : Reads
     slots = All-map (λ slot. SealsKey header (image2_of p) p.key.now slot.0 slot.1)
         (λ slot. (slot.number, slot.passphrase.now)) p.slots.now
         (λ k d below.
-        seals_key2 (get_or p.slots.now k d) (numbered_each p.slots.now fits.distinct k d below) (fits.slots k d below)
-        (typed.slots k d below));
+        seals_key2 (get_or p.slots.now k d)
+        (found_by_number (λ (slot : Slot2). slot.number) p.slots.now fits.distinct k d below)
+        (fits.slots k d below) (typed.slots k d below));
     payload = seals_plain2;
   }

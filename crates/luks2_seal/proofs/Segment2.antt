@@ -23,10 +23,9 @@ use Rattle.luks2_metadata.proofs.SegmentLemmas.{said-there, segment2-none}
 use Rattle.serde_json.specs.Find.{as_str}
 use Rattle.luks_seal.specs.declared.parameters.Seal2.{Seal2}
 use Rattle.luks2_seal.specs.Metadata2.{config_object, metadata_of, segment_object, size_value}
-use Rattle.luks2_seal.specs.SlotAreas.{area_start}
 use Rattle.luks2_seal.specs.Ranges2.{AreParameters2}
 use Rattle.luks2_seal.specs.Typed2.{AreTyped2}
-use Rattle.luks2_seal.proofs.Slots2.{start_rises}
+use Rattle.luks2_seal.proofs.Slots2.{area_after_headers}
 use Rattle.luks2_seal.proofs.TextLemmas.{decimal_read, decimal_digits, mode_read}
 
 -- the bounds that an attached header of this size sets
@@ -100,10 +99,9 @@ module _ (p : Seal2) (fits : AreParameters2 p) (typed : AreTyped2 p) where
   requires_none = refl
 
   starts_right : offset_is_wrong (bounds_of p) (Some p.offset) ≡ false
-  unfolding offset_is_wrong overlaps_headers2 area_start
+  unfolding offset_is_wrong overlaps_headers2
   starts_right =
-      let rises = start_rises p 0 32 in
-      let behind : 2 * p.hdr_size ≤ p.offset = omega (arith, rises, fits.offset.2) in
+      let behind : 2 * p.hdr_size ≤ p.offset = omega (arith, area_after_headers p 32, fits.offset.2) in
       let whole : p.offset % 512 ≡ 0 = omega (arith, fits.offset.0) in
       rw (le-ltb p.offset (2 * p.hdr_size) behind, eq-eqb (p.offset % 512) 0 whole) refl
 

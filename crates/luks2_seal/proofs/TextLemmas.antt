@@ -1,4 +1,4 @@
--- Numbers, bytes, hash functions and modes are read back as they were written.
+-- Numbers, bytes and modes are read back as they were written.
 use Rattle.std.proofs.Common.{◌≡◌, ◌<◌, ◌^◌, ℕ, List, ◌++◌, Some, true, length, ap, arith, rules, refl}
 use Rattle.std.specs.Prelude.{codes, decimal}
 use Rattle.std.specs.Char.{is_ascii_digit}
@@ -14,11 +14,8 @@ use Rattle.base64.specs.GeneralPurpose.{decoded_of, encode_of}
 use Rattle.luks_aes.specs.Bytes.{IsBytes}
 use Rattle.luks_cipher.specs.Sector.{mode_name}
 use Rattle.luks_cipher.specs.declared.mode.Mode.{Mode}
-use Rattle.luks_cipher.specs.declared.mode.Mode.TheVariants.{XtsPlain64, XtsPlain, CbcEssivSha256, CbcPlain64}
-use Rattle.luks_kdf.specs.Hash.{hash_named, hash_name}
-use Rattle.luks_kdf.specs.declared.hash.Hash.{Hash}
-use Rattle.luks_kdf.specs.declared.hash.Hash.TheVariants.{Sha1, Sha224, Sha256, Sha384, Sha512}
 use Rattle.luks2_json.specs.Encryption.{encryption_mode}
+use Rattle.luks_seal.proofs.RuleLemmas.{mode_by_name}
 use Rattle.luks2_json.specs.Member.{decimal_of}
 
 numerals : IsNumeralModel (λ ds. list_all is_ascii_digit ds ≡ true) (digits_value 10)
@@ -43,16 +40,6 @@ pub base64_read : (bytes : List ℕ) → IsBytes bytes → decoded_of standard (
 unfolding decoded_of
 base64_read bytes are = ap result_ok (decode_of-encode_of standard bytes refl are.each)
 
-pub hash_read : (hash : Hash) → hash_named (hash_name hash) ≡ Some hash
-hash_read Sha1 = refl
-hash_read Sha224 = refl
-hash_read Sha256 = refl
-hash_read Sha384 = refl
-hash_read Sha512 = refl
-
 pub mode_read : (mode : Mode) → encryption_mode (codes "aes-" ++ mode_name mode) ≡ Some mode
 unfolding encryption_mode
-mode_read XtsPlain64 = refl
-mode_read XtsPlain = refl
-mode_read CbcEssivSha256 = refl
-mode_read CbcPlain64 = refl
+mode_read mode = mode_by_name mode

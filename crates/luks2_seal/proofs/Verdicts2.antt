@@ -1,9 +1,7 @@
 -- There is no reason to skip a key slot of the metadata.
-use Rattle.std.proofs.Common.{◌≡◌, ◌∙◌, ◌+◌, ◌*◌, ◌<◌, ◌≤◌, ◌^◌, ℕ, true, false, Some, None, length, ap, arith, refl}
-use Rattle.std.specs.Prelude.{◌&&◌, ◌||◌, codes, is_none}
+use Rattle.std.proofs.Common.{◌≡◌, ◌∙◌, ◌*◌, ◌≤◌, ℕ, true, false, Some, None, length, ap, arith, refl}
+use Rattle.std.specs.Prelude.{◌&&◌, ◌||◌, List, bytes_eq, codes, is_none}
 use Rattle.std.proofs.lemmas.Bool.{lt-ltb}
-use Rattle.std.proofs.lemmas.Bool.Decides.{nat_tests}
-use Rattle.luks_area.specs.Area.{max_loaded_len}
 use Rattle.luks_verdict.specs.Digest.{digest_of, has_no_usable_digest}
 use Rattle.luks_verdict.specs.Rule.{iterations_out_of_range, area_out_of_range, stripes_out_of_range, need_of}
 use Rattle.luks_verdict.specs.Segment.{segment_by}
@@ -13,15 +11,16 @@ use Rattle.luks_verdict.specs.declared.slot.SlotParts.{SlotParts}
 use Rattle.luks_verdict.specs.declared.slot.Verdict.TheVariants.{Usable}
 use Rattle.luks_verdict.proofs.MadeLemmas.{slot_from-yes}
 use Rattle.luks2_json.specs.Encryption.{is_length_for}
-use Rattle.luks2_json.specs.Member.{string_is, string_member}
+use Rattle.luks2_json.specs.Member.{is_type, string_is, string_member}
 use Rattle.luks2_json.specs.Numbered.{object_numbered}
 use Rattle.luks2_metadata.specs.Digest2.{digest2_for}
 use Rattle.luks2_metadata.specs.Segment2.{payload2_start, payload_mode2_of}
 use Rattle.luks2_metadata.specs.Slot2.{are_key_sizes, area_mode_of, has_unknown_hash, area2_out_of_range}
-use Rattle.luks2_metadata.specs.Slot2.{iterations_of_slot}
+use Rattle.luks2_metadata.specs.Slot2.{is_kdf_type, iterations_of_slot}
 use Rattle.luks2_metadata.specs.Slot2.{reason2_of, slot2_of, slot_parts2_of, stripe_count_of, verdict2_at, verdict2_of}
 use Rattle.luks2_metadata.proofs.SegmentLemmas.{segment2-ok}
 use Rattle.luks2_metadata.proofs.SlotLemmas.{no_reason, range_of}
+use Rattle.luks_seal.proofs.RuleLemmas.{area_fits, iterations_fit, stripes_fit}
 use Rattle.luks_seal.specs.declared.parameters.Seal2.{Seal2}
 use Rattle.luks_seal.specs.declared.parameters.Slot2.{Slot2}
 use Rattle.luks2_seal.specs.Metadata2.{kdf_object, keyslot_object, metadata_of}
@@ -33,26 +32,10 @@ use Rattle.luks2_seal.proofs.Keyslot2.{IsPlaced, members_said, parts_of, parts_s
 use Rattle.luks2_seal.proofs.Slots2.{keyslot_found}
 use Rattle.luks2_seal.proofs.Segment2.{bounds_of, segment_is, segment_read}
 
--- ---- numbers
-
-within_limits : (iterations : ℕ) → 1 ≤ iterations → iterations < 2 ^ 32
-    → iterations_out_of_range None iterations ≡ false
-unfolding iterations_out_of_range
-within_limits iterations some few = grind (arith, nat_tests)
-
-few_stripes : (stripes : ℕ) → 1 ≤ stripes → stripes ≤ 4000 → stripes_out_of_range stripes ≡ false
-unfolding stripes_out_of_range
-few_stripes stripes some few = grind (arith, nat_tests)
-
 -- an area is large enough for its key material
 pub need_fits : (key stripes : ℕ) → need_of key stripes ≤ area_size key stripes
 unfolding need_of
 need_fits key stripes = omega arith
-
-well_placed : (start payload offset size need : ℕ) → start ≤ offset → need ≤ size → offset + size ≤ payload
-    → payload ≤ max_loaded_len → area_out_of_range start (Some payload) offset size need ≡ false
-unfolding area_out_of_range
-well_placed start payload offset size need behind capacity before loadable = grind (arith, nat_tests)
 
 module _ (p : Seal2) (fits : AreParameters2 p) (typed : AreTyped2 p) (slot : Slot2) (placed : IsPlaced p slot) where
   -- ---- the values that the slot is checked against
@@ -71,7 +54,7 @@ module _ (p : Seal2) (fits : AreParameters2 p) (typed : AreTyped2 p) (slot : Slo
   unfolding has_no_usable_digest digest_is digest_of
   digested =
       rw (digest_read p fits typed slot.number slot placed.numbered (omega (arith, placed.fits.0)))
-      (within_limits p.digest_iterations fits.min_digest_iterations typed.digest_iterations)
+      (iterations_fit p.digest_iterations fits.min_digest_iterations typed.digest_iterations)
 
   -- ---- the reasons, one after the other
 
@@ -95,30 +78,52 @@ module _ (p : Seal2) (fits : AreParameters2 p) (typed : AreTyped2 p) (slot : Slo
   unfolding slot_parts2_of
   striped =
       ap (λ (parts : SlotParts). stripes_out_of_range parts.stripes) (parts_said p slot placed)
-      ∙ few_stripes slot.stripes placed.fits.3 placed.fits.4
+      ∙ stripes_fit slot.stripes placed.fits.3 placed.fits.4
 
   counted : iterations_out_of_range None (iterations_of_slot (keyslot_object p slot)) ≡ false
   unfolding slot_parts2_of
   counted =
       ap (λ (parts : SlotParts). iterations_out_of_range None parts.iterations) (parts_said p slot placed)
-      ∙ within_limits slot.iterations placed.fits.2 placed.typed.iterations
+      ∙ iterations_fit slot.iterations placed.fits.2 placed.typed.iterations
 
-  area_fits : area2_out_of_range (2 * p.hdr_size) (payload2_start (metadata_of p) (bounds_of p)) (keyslot_object p slot)
+  area_right : area2_out_of_range (2 * p.hdr_size) (payload2_start (metadata_of p) (bounds_of p))
+      (keyslot_object p slot)
       ≡ false
   unfolding area2_out_of_range slot_parts2_of
-  area_fits =
+  area_right =
       rw payload_start
       (ap (λ (parts : SlotParts). area_out_of_range (2 * p.hdr_size) (Some p.offset) parts.area_offset parts.area_size
       (need_of parts.key_bytes parts.stripes)) (parts_said p slot placed)
-      ∙ well_placed (2 * p.hdr_size) p.offset (area_start p slot.number) (area_size (length p.key.now) slot.stripes)
-      (need_of (length p.key.now) slot.stripes) placed.behind (need_fits (length p.key.now) slot.stripes) placed.before
-      placed.loadable)
+      ∙ area_fits (2 * p.hdr_size) p.offset (area_start p slot.number) (area_size (length p.key.now) slot.stripes)
+      (need_of (length p.key.now) slot.stripes) placed.behind (need_fits (length p.key.now) slot.stripes)
+      (omega (arith, placed.before, need_fits (length p.key.now) slot.stripes)) placed.loadable)
+
+  type_is : is_type (codes "luks2") (keyslot_object p slot) ≡ true
+  unfolding string_is string_member keyslot_object
+  type_is = refl
+
+  kdf_type_is : (type : List ℕ) → is_kdf_type type (keyslot_object p slot) ≡ bytes_eq type (codes "pbkdf2")
+  unfolding string_is string_member keyslot_object kdf_object
+  kdf_type_is type = refl
 
   -- no reason to skip the slot holds
   no_reasons : reason2_of (metadata_of p) (bounds_of p) None slot.number (keyslot_object p slot) ≡ None
-  unfolding reason2_of string_is string_member keyslot_object kdf_object
+  unfolding reason2_of
   no_reasons =
-      rw (members_said p slot placed, hashes_known, mode_known, keys_fit, striped, counted, area_fits, digested) refl
+      rw (
+        type_is,
+        members_said p slot placed,
+        kdf_type_is (codes "argon2i"),
+        kdf_type_is (codes "argon2id"),
+        kdf_type_is (codes "pbkdf2"),
+        hashes_known,
+        mode_known,
+        keys_fit,
+        striped,
+        counted,
+        area_right,
+        digested,
+      ) refl
 
   in_range : are_in_range (slot_parts2_of (keyslot_object p slot)) ≡ true
   in_range =

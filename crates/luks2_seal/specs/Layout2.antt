@@ -1,7 +1,8 @@
 -- The image of a volume of LUKS2 (LUKS2 On-Disk Format Specification 1.1, sections 2 and 4).
-use Rattle.std.specs.Prelude.{ℕ, zero, suc, ◌-◌, ◌/◌, List, [], ◌∷◌, ◌++◌, codes, length}
+use Rattle.std.specs.Prelude.{ℕ, ◌-◌, ◌/◌, List, [], ◌∷◌, ◌++◌, codes, length}
 use Rattle.std.specs.Int.{to_be_bytes, w16, w64}
 use Rattle.std.specs.Option.{option_map_or}
+use Rattle.luks_kdf.specs.Bytes.{joined}
 use Rattle.luks_kdf.specs.Hash.{hash_of}
 use Rattle.luks_kdf.specs.Pbkdf2.{derived_key}
 use Rattle.luks_kdf.specs.declared.hash.Hash.TheVariants.{Sha256}
@@ -61,17 +62,15 @@ area_of p slot =
     (encrypted_material (p.area_mode, area_key_of p slot)
     (stripes_of slot.af_hash p.key.now slot.stripes slot.random.now))
 
--- the areas of the slots with numbers below this one
-unfoldable pub areas_below : Seal2 → ℕ → List ℕ
-areas_below p zero = []
-areas_below p (suc n) =
-    areas_below p n ++ option_map_or (area_of p) (slot_numbered n p.slots.now) []
+-- the area of the slot of this number, or no bytes if there is no such slot
+unfoldable pub area_at : Seal2 → ℕ → List ℕ
+area_at p number = option_map_or (area_of p) (slot_numbered number p.slots.now) []
 
 -- the payload: unit numbers count in steps of 512 bytes, whatever the sector size
 unfoldable pub payload_of : Seal2 → List ℕ
 payload_of p =
     sectors_encrypted (p.mode, p.key.now) p.iv_tweak (bytes_of p.sector_size / 512) (bytes_of p.sector_size) p.plain.now
 
--- the whole image
+-- the whole image: the areas, by ascending slot number, follow the headers, and the payload begins at its offset
 unfoldable pub image2_of : Seal2 → List ℕ
-image2_of p = padded p.offset (headers_of p ++ areas_below p 32) ++ payload_of p
+image2_of p = padded p.offset (headers_of p ++ joined (area_at p) 32) ++ payload_of p

@@ -1,17 +1,17 @@
 -- The ranges of what a volume of LUKS2 is made from.
-use Rattle.std.specs.Prelude.{◌≡◌, ◌≢◌, ℕ, ◌-◌, ◌*◌, ◌%◌, ◌≤◌, ◌==◌, ◌||◌, Bool, true, List, [], ◌∷◌, All, length}
+use Rattle.std.specs.Prelude.{◌≡◌, ℕ, ◌-◌, ◌*◌, ◌%◌, ◌≤◌, ◌==◌, Bool, true, All, length}
+use Rattle.std.specs.List.{list_any}
 use Rattle.luks_verdict.specs.SectorSize.{bytes_of}
-use Rattle.luks_seal.specs.Ranges.{FitsKey, FitsText, max_plain_len}
+use Rattle.luks2_binary.specs.Header2.{sizes}
+use Rattle.luks_seal.specs.Ranges.{AreDistinct, FitsKey, FitsText, max_plain_len}
 use Rattle.luks_seal.specs.declared.parameters.Seal2.{Seal2}
 use Rattle.luks_seal.specs.declared.parameters.Slot2.{Slot2}
 use Rattle.luks2_seal.specs.SlotAreas.{area_start}
 
--- the lengths in bytes that a header and its JSON area can have together (LUKS2 On-Disk Format Specification 1.1,
--- section 2.2)
-abbrev pub is_header_size : ℕ → Bool
-is_header_size n =
-    n == 16384 || n == 32768 || n == 65536 || n == 131072 || n == 262144 || n == 524288 || n == 1048576 || n == 2097152
-    || n == 4194304
+-- a header and its JSON area can have this length in bytes together (LUKS2 On-Disk Format Specification 1.1, section
+-- 2.2)
+unfoldable pub is_header_size : ℕ → Bool
+is_header_size n = list_any (λ size. size == n) sizes
 
 -- the payload's key has a length that its mode has, and so have the keys of the areas
 abbrev pub FitKeys : Seal2 → Type 0
@@ -30,11 +30,6 @@ abbrev pub FitsSlot2 : ℕ → Slot2 → Type 0
 FitsSlot2 key slot = (slot.number ≤ 31) × (slot.priority ≤ 2) × (1 ≤ slot.iterations) × (1 ≤ slot.stripes)
     × (slot.stripes ≤ 4000) × (length slot.random.now ≡ (slot.stripes - 1) * key)
 
--- no two slots have the same number
-abbrev pub AreDistinct2 : List Slot2 → Type 0
-AreDistinct2 [] = Unit {0}
-AreDistinct2 (slot ∷ slots) = All (λ other. other.number ≢ slot.number) slots × AreDistinct2 slots
-
 -- the payload begins after all areas, at a multiple of 4096 bytes, and at byte 33,554,432 at most
 abbrev pub FitsOffset : Seal2 → Type 0
 FitsOffset p = (p.offset % 4096 ≡ 0) × (p.offset ≤ 33554432) × (area_start p 32 ≤ p.offset)
@@ -47,5 +42,5 @@ pub record AreParameters2 (p : Seal2) : Type 0 where
   pub min_digest_iterations : 1 ≤ p.digest_iterations
   pub plain : FitsPlain2 (bytes_of p.sector_size) (length p.plain.now)
   pub slots : All (FitsSlot2 (length p.key.now)) p.slots.now
-  pub distinct : AreDistinct2 p.slots.now
+  pub distinct : AreDistinct (λ (slot : Slot2). slot.number) p.slots.now
   pub offset : FitsOffset p

@@ -1,14 +1,12 @@
 -- The key slots of a volume of LUKS2 by their numbers, and where their areas are.
-use Rattle.std.specs.Prelude.{◌==◌, ℕ, zero, suc, ◌+◌, ◌*◌, ◌/◌, if◌then◌else◌, List, [], ◌∷◌, length, Option, None}
-use Rattle.std.specs.Prelude.{Some}
+use Rattle.std.specs.Prelude.{◌==◌, ℕ, zero, suc, ◌+◌, ◌*◌, ◌/◌, List, find, length, Option}
 use Rattle.std.specs.Option.{option_map_or}
 use Rattle.luks_seal.specs.declared.parameters.Seal2.{Seal2}
 use Rattle.luks_seal.specs.declared.parameters.Slot2.{Slot2}
 
 -- the slot of this number, if there is one
 abbrev pub slot_numbered : ℕ → List Slot2 → Option Slot2
-slot_numbered number [] = None
-slot_numbered number (slot ∷ slots) = if slot.number == number then Some slot else slot_numbered number slots
+slot_numbered number slots = find (λ (slot : Slot2). slot.number == number) slots
 
 -- the length of a slot's area in bytes: all stripes of the key, rounded up to a multiple of 4096
 abbrev pub area_size : ℕ → ℕ → ℕ

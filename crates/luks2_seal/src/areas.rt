@@ -2,8 +2,8 @@
 
 ghost use Rattle.std.specs.Prelude.{◌≡◌, ◌*◌, ◌≤◌, ◌++◌, All, IfOk, OnOk, IfSome, length};
 ghost use Rattle.std.specs.Prelude.{option_copied};
-ghost use Rattle.std.specs.Option.{option_map_or};
-ghost use Rattle.luks2_seal.specs.Layout2.{area_key_of, area_of, areas_below};
+ghost use Rattle.luks_kdf.specs.Bytes.{joined};
+ghost use Rattle.luks2_seal.specs.Layout2.{area_at, area_key_of, area_of};
 ghost use Rattle.luks2_seal.specs.SlotAreas.{area_size, area_size_at, area_start, slot_numbered};
 ghost use Rattle.luks2_seal.specs.Ranges2.{AreParameters2, FitsSlot2};
 
@@ -70,8 +70,7 @@ pub(crate) fn area_start(seal: &Seal2<'_>, number: u32) -> u64
 fn area_key_of(alloc: Global, seal: &Seal2<'_>, slot: &Slot2<'_>) -> Result<Vec<u8>, AllocError>
     requires fits { AreParameters2 seal.now }
     requires slot { FitsSlot2 (length seal.now.key.now) slot.now }
-    ensures value { IfOk result (λ key. key.items ≡ area_key_of seal.now slot.now) }
-    ensures len { IfOk result (λ key. length key.items ≡ seal.now.area_key_size) }
+    ensures { IfOk result (λ key. key.items ≡ area_key_of seal.now slot.now) }
 {
     derived_key(
         alloc,
@@ -102,20 +101,35 @@ fn push_area(
     push_padded(alloc, image, &material, size as usize)
 }
 
+/// Adds the area of the slot of this number, if there is one.
+#[tactic(auto, unfolding(crate::specs::Layout2::area_at))]
+fn push_area_at(
+    alloc: Global,
+    image: &mut Vec<u8>,
+    seal: &Seal2<'_>,
+    number: u32,
+) -> Result<(), AllocError>
+    requires { AreParameters2 seal.now }
+    ensures { OnOk result (image.new.items ≡ image.old.items ++ area_at seal.now number) }
+{
+    match slot_numbered(seal, number) {
+        Some(slot) => push_area(alloc, image, seal, slot),
+        None => Ok(()),
+    }
+}
+
 /// Adds the areas of all slots, by ascending number.
-#[tactic(auto, unfolding(crate::specs::Layout2::areas_below))]
+#[tactic(auto, unfolding(luks_kdf::specs::Bytes::joined))]
 pub(crate) fn push_areas(
     alloc: Global,
     image: &mut Vec<u8>,
     seal: &Seal2<'_>,
 ) -> Result<(), AllocError>
-    requires fits { AreParameters2 seal.now }
-    ensures { OnOk result (image.new.items ≡ image.old.items ++ areas_below seal.now 32) }
+    requires { AreParameters2 seal.now }
+    ensures { OnOk result (image.new.items ≡ image.old.items ++ joined (area_at seal.now) 32) }
 {
     'slots: for number in 0..32 {
-        if let Some(slot) = slot_numbered(seal, number) {
-            push_area(alloc, image, seal, slot)?;
-        }
+        push_area_at(alloc, image, seal, number)?;
     }
     Ok(())
 }

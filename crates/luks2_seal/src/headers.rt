@@ -78,7 +78,7 @@ fn fields_of(
 }
 
 /// The bytes after the checksum: zeros, and the JSON area.
-#[tactic(auto, unfolding(crate::specs::Layout2::body_bytes))]
+#[tactic(auto, using(crate::proofs::RangeLemmas::limits), unfolding(crate::specs::Layout2::body_bytes))]
 fn body_bytes(alloc: Global, seal: &Seal2<'_>, json: &[u8]) -> Result<Vec<u8>, AllocError>
     requires fits { AreParameters2 seal.now }
     requires json { json.now ≡ json_of seal.now }

@@ -61,6 +61,7 @@ fn image_of(alloc: Global, seal: &Seal2<'_>, json: &[u8]) -> Result<Vec<u8>, All
 /// [`Parameters`](SealFault::Parameters) if a parameter is out of range, before any memory is
 /// allocated, or if the JSON text does not fit the header, which is only known after the text is
 /// made; otherwise [`Memory`](SealFault::Memory) if memory runs out.
+#[tactic(auto, using(crate::proofs::RangeLemmas::limits))]
 pub fn seal2(alloc: Global, seal: &Seal2<'_>) -> Result<Vec<u8>, SealFault>
     ensures answer { SealAnswerLate (AreParameters2 seal.now) (FitsJson seal.now) result }
     ensures image { IfOk result (λ image. image.items ≡ image2_of seal.now) }

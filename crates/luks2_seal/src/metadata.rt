@@ -266,7 +266,7 @@ fn segment_object(alloc: Global, seal: &Seal2<'_>) -> Result<Value, AllocError>
 }
 
 /// Puts the lengths of the JSON area, and of the space for key material, into the metadata.
-#[tactic(auto, unfolding(crate::specs::Metadata2::config_object))]
+#[tactic(auto, using(crate::proofs::RangeLemmas::limits), unfolding(crate::specs::Metadata2::config_object))]
 fn put_config(
     alloc: Global,
     map: &mut Map<String, Value>,

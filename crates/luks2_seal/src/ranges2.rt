@@ -1,28 +1,27 @@
 //! Whether the parameters of a volume of LUKS2 are in their ranges.
 
-ghost use Rattle.std.specs.Prelude.{◌≡◌, ◌≢◌, ◌≤◌, ◌↔◌, All, length, IsTrue};
+ghost use Rattle.std.specs.Prelude.{◌≡◌, ◌≤◌, ◌↔◌, All, length, IsTrue};
 ghost use Rattle.luks_verdict.specs.SectorSize.{bytes_of};
-ghost use Rattle.luks2_seal.specs.Ranges2.{AreDistinct2, AreParameters2, FitKeys, FitTexts};
-ghost use Rattle.luks2_seal.specs.Ranges2.{FitsOffset, FitsPlain2, FitsSlot2, is_header_size};
+ghost use Rattle.luks2_seal.specs.Ranges2.{AreParameters2, FitKeys, FitTexts, FitsOffset};
+ghost use Rattle.luks2_seal.specs.Ranges2.{FitsPlain2, FitsSlot2, is_header_size};
 
 use crate::areas::area_start;
 use luks_seal::parameters::{Seal2, Slot2};
 use luks_seal::ranges::fits_text;
+use luks_seal::slots::are_distinct;
 use luks_verdict::sector_size::SectorSize;
 
+/// The lengths that a header and its JSON area can have together, in bytes.
+static SIZES: [u64; 9] = [
+    16_384, 32_768, 65_536, 131_072, 262_144, 524_288, 1_048_576, 2_097_152, 4_194_304,
+];
+
 /// One of the nine lengths of a header and its JSON area.
+#[tactic(auto, unfolding(crate::specs::Ranges2::is_header_size, luks2_binary::specs::Header2::sizes))]
 fn is_header_size(size: u64) -> bool
     ensures { result ≡ is_header_size size }
 {
-    size == 16_384
-        || size == 32_768
-        || size == 65_536
-        || size == 131_072
-        || size == 262_144
-        || size == 524_288
-        || size == 1_048_576
-        || size == 2_097_152
-        || size == 4_194_304
+    SIZES.contains(&size)
 }
 
 /// The keys have lengths that their modes have.
@@ -68,23 +67,6 @@ fn fit_slots(key: usize, slots: &[Slot2<'_>]) -> bool
     slots.iter().all(|slot| fits_slot(key, slot))
 }
 
-/// No slot has this number.
-fn is_free(number: u32, slots: &[Slot2<'_>]) -> bool
-    ensures { IsTrue result ↔ All (λ slot. slot.number ≢ number) slots.now }
-{
-    slots.iter().all(|slot| slot.number != number)
-}
-
-/// No two slots have the same number.
-fn are_distinct(slots: &[Slot2<'_>]) -> bool
-    ensures { IsTrue result ↔ AreDistinct2 slots.now }
-{
-    match slots {
-        [] => true,
-        [slot, rest @ ..] => is_free(slot.number, rest) && are_distinct(rest),
-    }
-}
-
 /// The payload begins after all areas, at a multiple of 4096 bytes, and at byte 33,554,432 at most.
 fn fits_offset(seal: &Seal2<'_>) -> bool
     requires size { seal.now.hdr_size ≤ 4194304 }
@@ -96,7 +78,7 @@ fn fits_offset(seal: &Seal2<'_>) -> bool
 }
 
 /// All parameters are in their ranges, as far as they can be checked without the JSON text.
-#[tactic(auto, using(luks_cipher::proofs::ModeLemmas::longest_mode_key))]
+#[tactic(auto, using(crate::proofs::RangeLemmas::limits))]
 pub(crate) fn are_parameters2(seal: &Seal2<'_>) -> bool
     ensures { IsTrue result ↔ AreParameters2 seal.now }
 {

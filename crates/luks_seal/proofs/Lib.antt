@@ -1,5 +1,8 @@
 pub mod PieceLemmas
 pub mod SlicingLemmas
+pub mod FieldLemmas
+pub mod SlotLemmas
+pub mod RuleLemmas
 pub mod ByteLemmas
 pub mod DerivedLemmas
 pub mod SectorLemmas

@@ -2,7 +2,6 @@
 use Rattle.std.proofs.Common.{◌≡◌, ◌∙◌, ℕ, ◌+◌, ◌-◌, ◌*◌, ◌/◌, ◌<◌, ◌≤◌, List, length, take, refl, sym, ap, arith}
 use Rattle.std.proofs.Common.{length-append, Some}
 use Rattle.std.specs.Int.{div_ceil}
-use Rattle.std.proofs.lemmas.List.{take_all}
 use Rattle.std.proofs.Math.Nat.{mul-le-mul_right}
 use Rattle.luks_aes.specs.Bytes.{IsBytes}
 use Rattle.luks_area.specs.Fields.{at}
@@ -19,12 +18,12 @@ use Rattle.luks_seal.specs.Pieces.{encrypted_material, stripes_of, wrapping_numb
 use Rattle.luks_seal.specs.Sealed.{GivesKey, IsMaterial, IsStoredEncrypted}
 use Rattle.luks_seal.proofs.ByteLemmas.{padded_bytes, stripes_bytes}
 use Rattle.luks_seal.proofs.SectorLemmas.{length-sectors_encrypted, sectors_are_stored, stored_under}
-use Rattle.luks_seal.proofs.SlicingLemmas.{at_padded, length-padded}
+use Rattle.luks_seal.proofs.SlicingLemmas.{length-padded, padded_begins}
 
 -- ---- whole sectors
 
 -- bytes padded to whole sectors are as many sectors as the bytes need
-pub length-whole_sectors : (bytes : List ℕ) → length (sector_padded bytes) ≡ (length bytes + 511) / 512 * 512
+length-whole_sectors : (bytes : List ℕ) → length (sector_padded bytes) ≡ (length bytes + 511) / 512 * 512
 unfolding sector_padded
 length-whole_sectors bytes =
     length-padded (div_ceil (length bytes) 512 * 512) bytes (omega arith) ∙ omega arith
@@ -32,15 +31,14 @@ length-whole_sectors bytes =
 -- bytes padded to whole sectors begin with those bytes
 whole_sectors_begin : (n : ℕ) (bytes : List ℕ) → n ≡ length bytes → take n (sector_padded bytes) ≡ bytes
 unfolding sector_padded
-whole_sectors_begin n bytes is =
-    at_padded 0 n (div_ceil (length bytes) 512 * 512) bytes (omega arith) ∙ take_all n bytes (omega arith)
+whole_sectors_begin n bytes is = padded_begins n (div_ceil (length bytes) 512 * 512) bytes is
 
 whole_sectors_bytes : (bytes : List ℕ) → IsBytes bytes → IsBytes (sector_padded bytes)
 unfolding sector_padded
 whole_sectors_bytes bytes all = padded_bytes (div_ceil (length bytes) 512 * 512) bytes all
 
 -- encrypted key material is as long as its stripes padded to whole sectors
-pub length-encrypted_material : (mode : Mode) (area_key stripes : List ℕ)
+length-encrypted_material : (mode : Mode) (area_key stripes : List ℕ)
     → length (encrypted_material (mode, area_key) stripes) ≡ (length stripes + 511) / 512 * 512
 unfolding encrypted_material
 length-encrypted_material mode area_key stripes =
@@ -58,7 +56,7 @@ pub record AreRandomStripes (key : List ℕ) (count : ℕ) (random : List ℕ) :
 
 module _ (af : Hash) (key : List ℕ) (count : ℕ) (random : List ℕ) (drawn : AreRandomStripes key count random) where
   -- the stripes of a key have the length of the key times their number
-  pub length-stripes_of : length (stripes_of af key count random) ≡ length key * count
+  length-stripes_of : length (stripes_of af key count random) ≡ length key * count
   unfolding stripes_of
   length-stripes_of =
       let chain = splitter_block af (length key) random (count - 1) in
@@ -68,8 +66,16 @@ module _ (af : Hash) (key : List ℕ) (count : ℕ) (random : List ℕ) (drawn :
       ap (λ n. length key * n) one_more ∙ omega arith in
       omega (arith, all, drawn.len, last, length-append random (xor chain key), length-xor chain key last)
 
+  -- encrypted, they are as long as the key material of a slot
+  pub length-material : (mode : Mode) (area_key : List ℕ)
+      → length (encrypted_material (mode, area_key) (stripes_of af key count random)) ≡ need_of (length key) count
+  unfolding need_of
+  length-material mode area_key =
+      length-encrypted_material mode area_key (stripes_of af key count random)
+      ∙ ap (λ n. (n + 511) / 512 * 512) length-stripes_of
+
   -- the stripes have at most 256,000 bytes
-  pub few_stripes : length key * count ≤ 256000
+  few_stripes : length key * count ≤ 256000
   few_stripes =
       let few : length key * count ≤ 64 * count = mul-le-mul_right {m = length key} {n = 64} count drawn.key_most in
       omega (arith, few, drawn.few)

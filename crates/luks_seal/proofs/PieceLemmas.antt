@@ -1,28 +1,17 @@
--- Buffers that are overwritten in full, encrypted sectors, and stripes.
-use Rattle.std.proofs.Common.{◌≡◌, ◌∙◌, ℕ, ◌+◌, ◌-◌, ◌*◌, ◌≤◌, List, [], ◌++◌, length, take, drop, refl, sym, ap, arith}
-use Rattle.std.proofs.Common.{◌<◌, ◌/◌, ◌%◌, add-one}
+-- Pieces that are appended one after the other, and encrypted sectors.
+use Rattle.std.proofs.Common.{◌≡◌, ◌∙◌, ℕ, ◌+◌, ◌-◌, ◌*◌, ◌/◌, ◌<◌, List, ◌++◌, length, take, drop, refl, ap, arith}
+use Rattle.std.proofs.Common.{add-one, append_assoc}
 use Rattle.std.proofs.lemmas.Grind.{common_steps}
-use Rattle.std.proofs.Math.Nat.{eq_of_mul-eq-mul_right}
 use Rattle.luks_cipher.specs.Sector.{Cipher, sector_encrypted}
-use Rattle.luks_cipher.specs.Xts.{joined}
-use Rattle.luks_kdf.proofs.BytesLemmas.{take_prefix}
-use Rattle.luks_kdf.specs.Bytes.{xor}
-use Rattle.luks_kdf.specs.Stripes.{IsSplit, splitter_block}
-use Rattle.luks_kdf.specs.declared.hash.Hash.{Hash}
-use Rattle.luks_seal.specs.Pieces.{encrypted_sector, stripes_of, wrapping_number}
+use Rattle.luks_kdf.specs.Bytes.{joined}
+use Rattle.luks_seal.specs.Pieces.{encrypted_sector, wrapping_number}
 
--- a buffer that is overwritten in full keeps its length
-pub written_len : (len : ℕ) (new rest : List ℕ) → length new ≡ len → length (take len (new ++ rest)) ≡ len
-written_len len new rest is = ap length (take_prefix len new rest is) ∙ is
-
--- the stripes of a split of the key with these random bytes are `stripes_of` the key
-pub split_is : (hash : Hash) (random key stripes : List ℕ) (count : ℕ) → 1 ≤ length key
-    → length random ≡ (count - 1) * length key → IsSplit hash random key stripes
-    → stripes ≡ stripes_of hash key count random
-unfolding stripes_of
-split_is hash random key stripes count some len (before, has, is) =
-    let same : before ≡ count - 1 = eq_of_mul-eq-mul_right (length key) some before (count - 1) (sym has ∙ len) in
-    is ∙ ap (λ n. random ++ xor (splitter_block hash (length key) random n) key) same
+-- one more piece is appended to those that follow the first bytes
+pub pieces_more : (piece : ℕ → List ℕ) (n : ℕ) (first before after : List ℕ) → before ≡ first ++ joined piece n
+    → after ≡ before ++ piece n → after ≡ first ++ joined piece (n + 1)
+unfolding joined
+pieces_more piece n first before after is next =
+    rw (add-one, ← append_assoc) (next ∙ ap (λ bytes. bytes ++ piece n) is)
 
 -- each whole piece has `size` bytes
 pub piece_len : (i size : ℕ) (bytes : List ℕ) → i < length bytes / size
@@ -30,11 +19,6 @@ pub piece_len : (i size : ℕ) (bytes : List ℕ) → i < length bytes / size
 piece_len i size bytes below = grind (arith, common_steps)
 
 module _ (cipher : Cipher) (first step size : ℕ) (bytes : List ℕ) where
-  -- no sector is encrypted at first
-  pub sectors_none : [] ≡ joined (encrypted_sector cipher first step size bytes) 0
-  unfolding joined
-  sectors_none = refl
-
   -- one more sector is encrypted
   pub sectors_more : (i number : ℕ) (before after : List ℕ)
       → before ≡ joined (encrypted_sector cipher first step size bytes) i

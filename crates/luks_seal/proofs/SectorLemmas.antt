@@ -8,9 +8,10 @@ use Rattle.luks_aes.specs.Bytes.{IsBytes}
 use Rattle.luks_area.specs.Fields.{at}
 use Rattle.luks_cipher.specs.Cbc.{cbc_encrypted, chained}
 use Rattle.luks_cipher.specs.Sector.{Cipher, sector_encrypted}
-use Rattle.luks_cipher.specs.Xts.{block_encrypted, block_xor, joined, xts_encrypted}
+use Rattle.luks_cipher.specs.Xts.{block_encrypted, block_xor, xts_encrypted}
 use Rattle.luks_cipher.specs.declared.mode.Mode.TheVariants.{XtsPlain64, XtsPlain, CbcEssivSha256, CbcPlain64}
 use Rattle.luks_cipher.proofs.ModeLemmas.{blocks_length}
+use Rattle.luks_kdf.specs.Bytes.{joined}
 use Rattle.luks_seal.specs.Pieces.{encrypted_sector, sector_at, sectors_encrypted, wrapping_number}
 use Rattle.luks_seal.specs.Sealed.{IsStoredEncrypted}
 use Rattle.luks_seal.proofs.SlicingLemmas.{at_at, at_first, at_second, length-at}
@@ -23,7 +24,36 @@ length-sector_encrypted (XtsPlain, key) number unit whole = blocks_length _ unit
 length-sector_encrypted (CbcEssivSha256, key) number unit whole = blocks_length _ unit (λ j. refl) whole
 length-sector_encrypted (CbcPlain64, key) number unit whole = blocks_length _ unit (λ j. refl) whole
 
--- ---- pieces of one length, joined
+-- ---- joined pieces
+
+module _ (f : ℕ → List ℕ) where
+  -- a piece ends within the joined pieces
+  pub piece_within : (n j : ℕ) → j < n → length (joined f j) + length (f j) ≤ length (joined f n)
+  unfolding joined
+  piece_within zero j low = absurd (omega arith)
+  piece_within (suc n) j low =
+      let whole = length-append (joined f n) (f n) in
+      elim (cases_lt j n) [
+        | inl inside ↦ omega (arith, whole, piece_within n j inside)
+        | inr last ↦
+            let e : j ≡ n = omega arith in
+            omega (arith, whole, ap (λ i. length (joined f i) + length (f i)) e)
+      ]
+
+  -- a piece is where those before it end
+  pub piece_there : (n j : ℕ) → j < n → at (length (joined f j)) (length (f j)) (joined f n) ≡ f j
+  unfolding joined
+  piece_there zero j low = absurd (omega arith)
+  piece_there (suc n) j low = elim (cases_lt j n) [
+    | inl inside ↦
+        at_first (length (joined f j)) (length (f j)) (joined f n) (f n) (piece_within n j inside)
+        ∙ piece_there n j inside
+    | inr last ↦
+        let e : j ≡ n = omega arith in
+        rw e (at_second (length (joined f n)) (length (f n)) (joined f n) (f n) refl refl)
+  ]
+
+-- ---- joined pieces of one length
 
 module _ (f : ℕ → List ℕ) (size : ℕ) where
   pub pieces_length : (n : ℕ) → ((j : ℕ) → j < n → length (f j) ≡ size) → length (joined f n) ≡ n * size
@@ -34,19 +64,11 @@ module _ (f : ℕ → List ℕ) (size : ℕ) where
       omega (arith, length-append (joined f n) (f n), before, sizes n (omega arith))
 
   pub piece_at : (n j : ℕ) → ((j : ℕ) → j < n → length (f j) ≡ size) → j < n → at (j * size) size (joined f n) ≡ f j
-  unfolding joined
-  piece_at zero j sizes low = absurd (omega arith)
-  piece_at (suc n) j sizes low =
-      let smaller : (k : ℕ) → k < n → length (f k) ≡ size = λ k below. sizes k (omega arith) in
-      let before = pieces_length n smaller in
-      elim (cases_lt j n) [
-        | inl inside ↦
-            let capacity : (j + 1) * size ≤ n * size = mul-le-mul_right {m = j + 1} {n = n} size (omega arith) in
-            at_first (j * size) size (joined f n) (f n) (omega arith) ∙ piece_at n j smaller inside
-        | inr last ↦
-            let e : j ≡ n = omega arith in
-            rw e (at_second (n * size) size (joined f n) (f n) (sym before) (sizes n (omega arith)))
-      ]
+  piece_at n j sizes low =
+      let starts = pieces_length j (λ i below. sizes i (omega arith)) in
+      ap (λ k. at k size (joined f n)) (sym starts)
+      ∙ ap (λ len. at (length (joined f j)) len (joined f n)) (sym (sizes j low))
+      ∙ piece_there f n j low
 
 -- ---- encrypted sectors
 

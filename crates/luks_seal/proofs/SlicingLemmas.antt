@@ -35,6 +35,12 @@ at_at place len start size xs inside =
     ∙ take-take len (size - place) (drop place (drop start xs)) (omega arith)
     ∙ ap (take len) (drop-drop place start xs)
 
+-- bytes within a part are bytes of that part
+pub at_inside : (start k len place size : ℕ) (xs part : List ℕ) → start ≡ place + k → k + len ≤ size
+    → at place size xs ≡ part → at start len xs ≡ at k len part
+at_inside start k len place size xs part starts inside is =
+    ap (λ n. at n len xs) starts ∙ sym (at_at k len place size xs inside) ∙ ap (at k len) is
+
 -- a part that ends within a list has its full length
 pub length-at : (place len : ℕ) (xs : List ℕ) → place + len ≤ length xs → length (at place len xs) ≡ len
 length-at place len xs there = length-take-le len (drop place xs) (omega (arith, length-drop place xs))
@@ -49,8 +55,29 @@ length-padded capacity xs fits =
       length-replicate {A = ℕ} (capacity - length xs) 0,
     )
 
--- padded bytes begin with the bytes themselves
+-- bytes of padded bytes are bytes of the bytes themselves
 pub at_padded : (place len capacity : ℕ) (xs : List ℕ) → place + len ≤ length xs
     → at place len (padded capacity xs) ≡ at place len xs
 unfolding padded
 at_padded place len capacity xs there = at_first place len xs (replicate (capacity - length xs) 0) there
+
+-- padded bytes begin with the bytes themselves
+pub padded_begins : (len capacity : ℕ) (xs : List ℕ) → len ≡ length xs → at 0 len (padded capacity xs) ≡ xs
+padded_begins len capacity xs is = at_padded 0 len capacity xs (omega arith) ∙ take_all len xs (omega arith)
+
+-- ---- an image: what comes before the payload, padded with zeros up to it, and the payload
+
+module _ (start : ℕ) (before payload : List ℕ) (fits : length before ≤ start) where
+  pub length-whole : length (padded start before ++ payload) ≡ start + length payload
+  length-whole = omega (arith, length-append (padded start before) payload, length-padded start before fits)
+
+  pub at_before : (place len : ℕ) → place + len ≤ length before
+      → at place len (padded start before ++ payload) ≡ at place len before
+  at_before place len inside =
+      at_first place len (padded start before) payload (omega (arith, length-padded start before fits))
+      ∙ at_padded place len start before inside
+
+  pub at_payload : (place len : ℕ) → place ≡ start → length payload ≡ len
+      → at place len (padded start before ++ payload) ≡ payload
+  at_payload place len is all =
+      at_second place len (padded start before) payload (is ∙ sym (length-padded start before fits)) all

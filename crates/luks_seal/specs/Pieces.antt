@@ -2,8 +2,7 @@
 use Rattle.std.specs.Prelude.{ℕ, ◌+◌, ◌-◌, ◌*◌, ◌/◌, ◌%◌, ◌^◌, List, ◌++◌, length, replicate, take, drop}
 use Rattle.std.specs.Int.{div_ceil}
 use Rattle.luks_cipher.specs.Sector.{Cipher, sector_encrypted}
-use Rattle.luks_cipher.specs.Xts.{joined}
-use Rattle.luks_kdf.specs.Bytes.{xor}
+use Rattle.luks_kdf.specs.Bytes.{joined, xor}
 use Rattle.luks_kdf.specs.Stripes.{splitter_block}
 use Rattle.luks_kdf.specs.declared.hash.Hash.{Hash}
 

@@ -1,5 +1,5 @@
 -- Ranges that volumes of both formats share, and the results of sealing.
-use Rattle.std.specs.Prelude.{◌≡◌, ◌≢◌, ℕ, ◌<◌, ◌≤◌, true, List, length, slice_index, Result, Ok, Err}
+use Rattle.std.specs.Prelude.{◌≡◌, ◌≢◌, ℕ, ◌<◌, ◌≤◌, true, List, [], ◌∷◌, All, length, slice_index, Result, Ok, Err}
 use Rattle.luks_cipher.specs.Sector.{is_mode_key_length}
 use Rattle.luks_cipher.specs.declared.mode.Mode.{Mode}
 use Rattle.luks_seal.specs.declared.parameters.SealFault.{SealFault}
@@ -12,6 +12,11 @@ FitsKey mode len = is_mode_key_length mode len ≡ true
 -- a text of at most this many bytes, none of them zero
 abbrev pub FitsText : ℕ → List ℕ → Type 0
 FitsText most text = (length text ≤ most) × ((i : ℕ) → i < length text → slice_index text i ≢ 0)
+
+-- no two key slots have the same number, where `number` is that of a slot
+abbrev pub AreDistinct : {S : Type 0} → (S → ℕ) → List S → Type 0
+AreDistinct number [] = Unit {0}
+AreDistinct number (slot ∷ slots) = All (λ other. number other ≢ number slot) slots × AreDistinct number slots
 
 -- the length in bytes of the longest plaintext that is sealed
 abbrev pub max_plain_len : ℕ

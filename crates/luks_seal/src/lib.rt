@@ -8,4 +8,5 @@
 pub mod parameters;
 pub mod pieces;
 pub mod ranges;
+pub mod slots;
 pub mod typed;

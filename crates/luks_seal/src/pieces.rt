@@ -49,9 +49,8 @@ pub fn derived_key(
     requires turns { 1 ≤ iterations }
     requires some { 1 ≤ len }
     requires capacity { len ≤ 512 }
-    ensures value { IfOk result (λ key. key.items
+    ensures { IfOk result (λ key. key.items
         ≡ derived_key hash password.now salt.now iterations len) }
-    ensures len { IfOk result (λ key. length key.items ≡ len) }
 {
     let mut key = vec![in alloc; 0; len]?;
     pbkdf2(
@@ -143,9 +142,7 @@ pub fn stripes_of(
     requires least { 1 ≤ count }
     requires most { count ≤ 4000 }
     requires random { length random.now ≡ (count - 1) * length key.now }
-    ensures value { IfOk result (λ stripes. stripes.items
-        ≡ stripes_of hash key.now count random.now) }
-    ensures len { IfOk result (λ stripes. length stripes.items ≡ count * length key.now) }
+    ensures { IfOk result (λ stripes. stripes.items ≡ stripes_of hash key.now count random.now) }
 {
     let mut stripes = vec![in alloc; 0; key.len() * count as usize]?;
     af_split(hash, key, random, &mut stripes);
@@ -160,8 +157,7 @@ pub fn encrypted_material(
     key: &[u8],
     stripes: &[u8],
 ) -> Result<Vec<u8>, AllocError>
-    requires key { FitsKey mode (length key.now) }
-    requires stripes { length stripes.now ≤ 256000 }
+    requires { FitsKey mode (length key.now) }
     ensures { IfOk result (λ material. material.items
         ≡ encrypted_material (mode, key.now) stripes.now) }
 {

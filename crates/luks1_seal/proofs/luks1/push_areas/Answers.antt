@@ -1,14 +1,15 @@
-use Rattle.std.proofs.Common.{◌≡◌, ◌∙◌, ◌++◌, add-one, ap, append_assoc, arith}
-use Rattle.luks1_seal.specs.Layout1.{area1_of, areas1_below}
+use Rattle.std.proofs.Common.{◌≡◌, ◌∙◌, ◌++◌, ap, arith}
+use Rattle.luks_kdf.specs.Bytes.{joined}
+use Rattle.luks_seal.proofs.PieceLemmas.{pieces_more}
+use Rattle.luks1_seal.specs.Layout1.{area1_of}
 use Rattle.luks1_seal.proofs.luks1.push_areas.Goals as goal
 
 pub slots-preserved : goal.slots-preserved
-unfolding areas1_below
 slots-preserved c =
-    let so_far = ap (λ prefix. prefix ++ area1_of c.args.seal.now c.slots.number) c.slots.invariant in
-    rw (add-one, ← append_assoc) (c.in_ok-push_area.ensures ∙ so_far)
+    pieces_more (area1_of c.args.seal.now) c.slots.number c.args.image.now.items _ _ c.slots.invariant
+    c.in_ok-push_area.ensures
 
 pub returns : goal.returns
 returns c =
     let at_end : c.slots.number ≡ 8 = omega arith in
-    c.slots.invariant ∙ ap (λ n. c.args.image.now.items ++ areas1_below c.args.seal.now n) at_end
+    c.slots.invariant ∙ ap (λ n. c.args.image.now.items ++ joined (area1_of c.args.seal.now) n) at_end

@@ -1,7 +1,8 @@
-use Rattle.std.proofs.Common.{◌≡◌, ◌∙◌, ◌++◌, ap}
+use Rattle.std.proofs.Common.{◌≡◌, ◌∙◌, ◌++◌, ap, length}
 use Rattle.std.proofs.lemmas.Result.{on_ok_weaker}
+use Rattle.luks_kdf.proofs.Pbkdf2Lemmas.{length-derived_key}
 use Rattle.luks_seal.specs.Pieces.{padded}
-use Rattle.luks2_seal.specs.Layout2.{area_of}
+use Rattle.luks2_seal.specs.Layout2.{area_key_of, area_of}
 use Rattle.luks2_seal.proofs.RangeLemmas.{some_key, short_key}
 use Rattle.luks2_seal.proofs.areas.push_area.Goals as goal
 
@@ -14,11 +15,21 @@ stripes_of-requires-clause-some c = some_key c.args.seal.now c.requires.fits
 pub stripes_of-requires-clause-capacity : goal.stripes_of-requires-clause-capacity
 stripes_of-requires-clause-capacity c = short_key c.args.seal.now c.requires.fits
 
+-- the key of an area has the length that is set
+pub encrypted_material-requires : goal.encrypted_material-requires
+unfolding area_key_of
+encrypted_material-requires c =
+    let seal = c.args.seal.now in
+    let slot = c.args.slot.now in
+    let len : length (area_key_of seal slot) ≡ seal.area_key_size =
+    length-derived_key slot.hash slot.passphrase.now slot.salt slot.iterations seal.area_key_size in
+    cc (len, c.in_ok-area_key.ensures, c.requires.fits.keys.1)
+
 pub returns : goal.returns
 unfolding area_of
 returns c =
-    let key = c.in_ok-area_key.ensures.value in
-    let stripes = c.in_ok-stripes.ensures.value in
+    let key = c.in_ok-area_key.ensures in
+    let stripes = c.in_ok-stripes.ensures in
     let material = c.in_ok-material.ensures in
     let is : padded c.area_size-size.result c.deref-3.result.now ≡ area_of c.args.seal.now c.args.slot.now =
     cc (key, stripes, material) in

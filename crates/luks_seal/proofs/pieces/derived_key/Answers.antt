@@ -1,7 +1,6 @@
 use Rattle.std.proofs.Common.{◌∙◌, ap, arith}
 use Rattle.luks_kdf.specs.Pbkdf2.{derived_key}
 use Rattle.luks_kdf.proofs.BytesLemmas.{take_prefix}
-use Rattle.luks_seal.proofs.PieceLemmas.{written_len}
 use Rattle.luks_seal.proofs.pieces.derived_key.Goals as goal
 
 pub pbkdf2-requires-clause-some : goal.pbkdf2-requires-clause-some
@@ -14,12 +13,9 @@ pbkdf2-requires-clause-capacity c =
     let len = c.in_ok-key.ensures.len in
     omega (arith, len)
 
-pub returns-clause-value : goal.returns-clause-value
-returns-clause-value c =
+pub returns : goal.returns
+returns c =
     let len = c.in_ok-key.ensures.len in
     take_prefix _ _ _ (omega arith)
     ∙ c.pbkdf2.ensures.key
     ∙ ap (derived_key c.args.hash c.args.password.now c.args.salt.now c.args.iterations) (omega (arith, len))
-
-pub returns-clause-len : goal.returns-clause-len
-returns-clause-len c = written_len c.in_ok-key.key.len c.pbkdf2.new.out _ (omega arith) ∙ c.in_ok-key.ensures.len

@@ -1,12 +1,13 @@
 use Rattle.std.proofs.Common.{◌≡◌, ◌∙◌, ◌/◌, ◌%◌, ◌≤◌, ap, arith, length, subst, sym}
-use Rattle.luks_cipher.specs.Xts.{joined}
+use Rattle.luks_kdf.specs.Bytes.{joined}
 use Rattle.luks_verdict.proofs.SectorLemmas.{sector_blocks}
 use Rattle.luks_seal.specs.Pieces.{encrypted_sector, sectors_encrypted}
-use Rattle.luks_seal.proofs.PieceLemmas.{piece_len, sectors_more, sectors_none}
+use Rattle.luks_seal.proofs.PieceLemmas.{piece_len, sectors_more}
 use Rattle.luks_seal.proofs.pieces.encrypted.Goals as goal
 
 pub fill-init : goal.fill-init
-fill-init c = c.new-sectors.ensures.items ∙ sectors_none c.args.cipher.now c.args.first c.args.step _ c.args.plain.now
+unfolding joined
+fill-init c = c.new-sectors.ensures.items
 
 pub fill-preserved : goal.fill-preserved
 fill-preserved c =

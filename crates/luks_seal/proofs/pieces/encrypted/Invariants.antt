@@ -1,5 +1,5 @@
 use Rattle.std.proofs.Common.{◌≡◌}
-use Rattle.luks_cipher.specs.Xts.{joined}
+use Rattle.luks_kdf.specs.Bytes.{joined}
 use Rattle.luks_seal.specs.Pieces.{encrypted_sector}
 use Rattle.luks_seal.proofs.pieces.encrypted.Given as goal
 

@@ -1,0 +1,56 @@
+-- Numbers that volumes are made from are in the ranges of the rules for both formats, and names are read back.
+use Rattle.std.proofs.Common.{◌≡◌, ◌≢◌, ℕ, ◌+◌, ◌^◌, ◌<◌, ◌≤◌, true, false, Some, None, refl, arith}
+use Rattle.std.proofs.lemmas.Bool.{le-ltb, ne_eqb}
+use Rattle.luks_area.specs.Area.{max_loaded_len}
+use Rattle.luks_cipher.specs.Sector.{mode_named, mode_name}
+use Rattle.luks_cipher.specs.declared.mode.Mode.{Mode}
+use Rattle.luks_cipher.specs.declared.mode.Mode.TheVariants.{XtsPlain64, XtsPlain, CbcEssivSha256, CbcPlain64}
+use Rattle.luks_kdf.specs.Hash.{hash_named, hash_name}
+use Rattle.luks_kdf.specs.declared.hash.Hash.{Hash}
+use Rattle.luks_kdf.specs.declared.hash.Hash.TheVariants.{Sha1, Sha224, Sha256, Sha384, Sha512}
+use Rattle.luks_verdict.specs.Rule.{area_out_of_range, is_digest, iterations_out_of_range, max_digest_len}
+use Rattle.luks_verdict.specs.Rule.{max_iteration_count, max_stripes, min_digest_len, stripes_out_of_range}
+
+pub iterations_fit : (iterations : ℕ) → 1 ≤ iterations → iterations < 2 ^ 32
+    → iterations_out_of_range None iterations ≡ false
+unfolding iterations_out_of_range
+iterations_fit iterations some few =
+    let not_none : iterations ≢ 0 = λ none. omega (arith, some, none) in
+    rw (ne_eqb iterations 0 not_none, le-ltb max_iteration_count iterations (omega arith)) refl
+
+pub stripes_fit : (stripes : ℕ) → 1 ≤ stripes → stripes ≤ 4000 → stripes_out_of_range stripes ≡ false
+unfolding stripes_out_of_range
+stripes_fit stripes some few =
+    let not_none : stripes ≢ 0 = λ none. omega (arith, some, none) in
+    rw (ne_eqb stripes 0 not_none, le-ltb max_stripes stripes few) refl
+
+pub digest_fits : (iterations len : ℕ) → 1 ≤ iterations → iterations < 2 ^ 32 → 20 ≤ len → len ≤ 64
+    → is_digest iterations len ≡ true
+unfolding is_digest
+digest_fits iterations len some few least most =
+    rw (iterations_fit iterations some few, le-ltb len min_digest_len least, le-ltb max_digest_len len most) refl
+
+-- an area that is behind the headers, large enough, before the payload and within what is loaded
+pub area_fits : (start payload offset size need : ℕ) → start ≤ offset → need ≤ size → offset + need ≤ payload
+    → payload ≤ max_loaded_len → area_out_of_range start (Some payload) offset size need ≡ false
+unfolding area_out_of_range
+area_fits start payload offset size need behind enough before loadable =
+    rw (
+      le-ltb offset start behind,
+      le-ltb size need enough,
+      le-ltb payload (offset + need) before,
+      le-ltb max_loaded_len (offset + need) (omega arith),
+    ) refl
+
+pub mode_by_name : (mode : Mode) → mode_named (mode_name mode) ≡ Some mode
+mode_by_name XtsPlain64 = refl
+mode_by_name XtsPlain = refl
+mode_by_name CbcEssivSha256 = refl
+mode_by_name CbcPlain64 = refl
+
+pub hash_by_name : (hash : Hash) → hash_named (hash_name hash) ≡ Some hash
+hash_by_name Sha1 = refl
+hash_by_name Sha224 = refl
+hash_by_name Sha256 = refl
+hash_by_name Sha384 = refl
+hash_by_name Sha512 = refl
