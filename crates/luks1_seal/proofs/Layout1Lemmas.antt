@@ -53,6 +53,11 @@ length-hash_name Sha256 = refl
 length-hash_name Sha384 = refl
 length-hash_name Sha512 = refl
 
+-- three groups of three parts each, and two more parts
+regrouped : (a b c d e f g h i j k : List ℕ) → (a ++ b ++ c) ++ (d ++ e ++ f) ++ (g ++ h ++ i) ++ j ++ k
+    ≡ a ++ (b ++ (c ++ (d ++ (e ++ (f ++ (g ++ (h ++ (i ++ (j ++ (k ++ []))))))))))
+regrouped a b c d e f g h i j k = simp (append_assoc, append-nil)
+
 -- the 592 bytes of a header
 abbrev pub header1_start_bytes : Seal1 → List ℕ
 header1_start_bytes p = fields1_of p ++ joined (key_slot1_of p) 8
@@ -108,7 +113,11 @@ module _ (p : Seal1) (fits : AreParameters1 p) (typed : AreTyped1 p) where
 
   header1_are : header1_start_bytes p ≡ joined_parts header1_parts
   unfolding fields1_of start1_of middle1_of digest1_fields
-  header1_are = simp (append_assoc, append-nil)
+  header1_are =
+      regrouped (codes "LUKS" ++ 186 ∷ 190 ∷ 0 ∷ 1 ∷ []) (padded 32 (codes "aes")) (padded 32 (mode_name p.mode))
+      (padded 32 (hash_name p.hash)) (to_be_bytes w32 p.payload_sectors) (to_be_bytes w32 (length p.key.now))
+      (derived_key p.hash p.key.now p.digest_salt p.digest_iterations 20) p.digest_salt
+      (to_be_bytes w32 p.digest_iterations) (padded 40 p.uuid.now) (joined (key_slot1_of p) 8)
 
   -- each part of a header is read where it begins
   pub header1_part : (k : ℕ)

@@ -1,6 +1,6 @@
 -- What a reader finds in the header of a sealed volume of LUKS1.
 use Rattle.std.proofs.Common.{◌≡◌, ◌∙◌, ℕ, zero, suc, ◌+◌, ◌*◌, ◌^◌, ◌<◌, ◌≤◌, false, List, [], ◌∷◌, ◌++◌, length}
-use Rattle.std.proofs.Common.{Some, refl, ap, arith, append_assoc}
+use Rattle.std.proofs.Common.{Some, refl, ap, arith, append_assoc, append-nil}
 use Rattle.std.specs.Prelude.{codes, slice_get}
 use Rattle.std.specs.Int.{to_be_bytes, w32}
 use Rattle.std.proofs.Math.Nat.{mul-le-mul_right}
@@ -66,6 +66,9 @@ pub record IsKeySlot (slot : Slot1) (place count : ℕ) (read : StoredSlot) : Ty
   pub offset : read.offset ≡ place
   pub stripes : read.stripes ≡ count
 
+regrouped_slot : (a b c d e : List ℕ) → (a ++ b ++ c) ++ d ++ e ≡ a ++ (b ++ (c ++ (d ++ (e ++ []))))
+regrouped_slot a b c d e = simp (append_assoc, append-nil)
+
 module _ (slot : Slot1) (place count : ℕ) (salt : length slot.salt ≡ 32) where
   -- the bytes of a key slot in use, and its fields with their lengths
   abbrev used_slot : List ℕ
@@ -82,7 +85,9 @@ module _ (slot : Slot1) (place count : ℕ) (salt : length slot.salt ≡ 32) whe
 
   slot_are : used_slot ≡ joined_parts slot_parts
   unfolding state1_of
-  slot_are = simp append_assoc
+  slot_are =
+      regrouped_slot (to_be_bytes w32 0x00ac71f3) (to_be_bytes w32 slot.iterations) slot.salt (to_be_bytes w32 place)
+      (to_be_bytes w32 count)
 
   key_slot_read : slot.iterations < 2 ^ 32 → place < 2 ^ 32 → count < 2 ^ 32
       → IsKeySlot slot place count (key_slot_of used_slot)
