@@ -18,7 +18,7 @@ ghost use Rattle.luks_access.specs.Unlocks.{UnlocksVolume};
 use crate::fault::RangeFault;
 use crate::image::ReadAt;
 use crate::options::{Options, opening};
-use crate::range::read_range;
+use crate::range::Plaintext;
 use crate::sectors::{payload_ending, plaintext_len};
 use crate::source::ImageSource;
 use luks_cipher::SectorCipher;
@@ -214,14 +214,13 @@ impl Volume {
         if !is_within(len, offset, buf.len()) {
             return Err(RangeFault::PastEnd);
         }
-        let answer = read_range(
-            &self.unlocked.segment,
-            &self.cipher,
+        let plaintext = Plaintext {
+            segment: &self.unlocked.segment,
+            cipher: &self.cipher,
             image,
             len,
-            offset,
-            buf,
-        );
+        };
+        let answer = plaintext.read_range(offset, buf);
         if answer.is_err() {
             buf.fill(0);
         }
