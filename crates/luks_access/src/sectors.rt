@@ -57,20 +57,6 @@ pub fn payload_ending(
     }
 }
 
-/// Decrypts whole sectors one after the other, the first of which is sector `first`.
-fn decrypt_all(segment: &Segment, cipher: &SectorCipher, first: u64, bytes: &mut [u8])
-    requires whole { length bytes.old % sector_len segment.now ≡ 0 }
-    requires numbers { first + length bytes.old / sector_len segment.now < 2 ^ 64 }
-    ensures { bytes.new ≡ plain_in segment.now cipher.now first bytes.old }
-{
-    let size = segment.sector_size.bytes();
-    let count = bytes.len() / size;
-    'sectors: for i in 0..count {
-        let number = unit_number(segment, first + i as u64);
-        cipher.decrypt_unit(number, &mut bytes[i * size..i * size + size]);
-    }
-}
-
 /// Decrypts whole sectors in place, the first of which is sector `first` of the payload. If an
 /// image stores them, they become that part of its plaintext.
 pub fn decrypt_sectors(segment: &Segment, cipher: &SectorCipher, first: u64, bytes: &mut [u8])
@@ -81,5 +67,10 @@ pub fn decrypt_sectors(segment: &Segment, cipher: &SectorCipher, first: u64, byt
         → bytes.new ≡ plain_at segment.now cipher.now image (first * sector_len segment.now)
         (length bytes.old) }
 {
-    decrypt_all(segment, cipher, first, bytes);
+    let size = segment.sector_size.bytes();
+    let count = bytes.len() / size;
+    'sectors: for i in 0..count {
+        let number = unit_number(segment, first + i as u64);
+        cipher.decrypt_unit(number, &mut bytes[i * size..i * size + size]);
+    }
 }

@@ -1,7 +1,7 @@
 use Rattle.std.proofs.Common.{◌≡◌, ◌*◌, ◌++◌, drop}
 use Rattle.luks_cipher.specs.Xts.{joined}
 use Rattle.luks_access.specs.Sectors.{sector_in}
-use Rattle.luks_access.proofs.sectors.decrypt_all.Given as goal
+use Rattle.luks_access.proofs.sectors.decrypt_sectors.Given as goal
 
 -- the sectors before number i are decrypted, and those from it on are as they were
 abbrev pub invariant-sectors : goal.invariant-sectors
