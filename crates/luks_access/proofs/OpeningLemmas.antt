@@ -175,30 +175,23 @@ cat_of options header pass v opens o image has =
     cat_by o header image pass v opens.loaded options.location (opens.outcome o has)
 
 -- if the message at a payload's end is `Done`, the payload is whole
-by_tail : (b : Bool) (n : ℕ) → message_at_end (if b then Ok End else Err (VolumeTail n)) ≡ Done
-    → (if b then Ok End else Err (VolumeTail n)) ≡ Ok End
-by_tail true n well = refl
-by_tail false n well = cc
-
-by_size : (b : Bool) (n : ℕ) → message_at_end (if b then Err (VolumeShort n) else Ok End) ≡ Done
-    → (if b then Err (VolumeShort n) else Ok End) ≡ Ok End
-by_size true n well = cc
-by_size false n well = refl
+by_test : (b : Bool) (r q : Result Step VolumeFault) → (message_at_end r ≡ Done → r ≡ Ok End)
+    → (message_at_end q ≡ Done → q ≡ Ok End) → message_at_end (if b then r else q) ≡ Done
+    → (if b then r else q) ≡ Ok End
+by_test true r q first second well = first well
+by_test false r q first second well = second well
 
 ends_within : (size : Option ℕ) (sector len : ℕ) → message_at_end (ending_of_len size sector len) ≡ Done
     → ending_of_len size sector len ≡ Ok End
-ends_within None sector len well = by_tail (len % sector == 0) (len % sector) well
-ends_within (Some size) sector len well = by_size (nat_lt len size) (size - len) well
-
-by_start : (b : Bool) (r : Result Step VolumeFault) → (message_at_end r ≡ Done → r ≡ Ok End)
-    → message_at_end (if b then Err VolumeCutBeforePayload else r) ≡ Done
-    → (if b then Err VolumeCutBeforePayload else r) ≡ Ok End
-by_start true r ends well = cc
-by_start false r ends well = ends well
+ends_within None sector len well =
+    by_test (len % sector == 0) (Ok End) (Err (VolumeTail (len % sector))) (λ _. refl) (λ torn. cc) well
+ends_within (Some size) sector len well =
+    by_test (nat_lt len size) (Err (VolumeShort (size - len))) (Ok End) (λ cut. cc) (λ _. refl) well
 
 ends_whole : (s : Segment) (image : List ℕ) → message_at_end (ending_of s image) ≡ Done → ending_of s image ≡ Ok End
 ends_whole s image well =
-    by_start (nat_lt (length image) s.offset) (ending_of_len s.size (sector_len s) (bytes_from_start s image))
+    by_test (nat_lt (length image) s.offset) (Err VolumeCutBeforePayload)
+    (ending_of_len s.size (sector_len s) (bytes_from_start s image)) (λ cut. cc)
     (ends_within s.size (sector_len s) (bytes_from_start s image)) well
 
 -- the plaintext of an honestly sealed volume is the text that was sealed, and it is whole
