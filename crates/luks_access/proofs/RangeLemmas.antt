@@ -14,7 +14,8 @@ use Rattle.luks_verdict.specs.declared.sector_size.SectorSize.TheVariants.{B512,
 use Rattle.luks_verdict.specs.declared.segment.Segment.{Segment}
 use Rattle.luks_cipher.specs.Sector.{Cipher}
 use Rattle.luks_payload.specs.Plain.{plain_of, sector_len, payload_bytes}
-use Rattle.luks_access.specs.Range.{IsRangeOf, ReadsRange, plaintext_len}
+use Rattle.luks_access.specs.Image.{IsRangeOf}
+use Rattle.luks_access.specs.Range.{ReadsRange, plaintext_len}
 use Rattle.luks_access.specs.declared.fault.RangeFault.{RangeFault}
 use Rattle.luks_access.specs.declared.fault.RangeFault.TheVariants.{PastEnd, Read, Shorter}
 

@@ -1,9 +1,10 @@
 -- Ranges of a plaintext.
-use Rattle.std.specs.Prelude.{ℕ, ◌≡◌, ◌*◌, Bool, true, List, drop, length, take, Option, Result, Ok, Err}
+use Rattle.std.specs.Prelude.{ℕ, ◌≡◌, ◌*◌, Bool, true, List, Option, Result, Ok, Err}
 use Rattle.luks_cipher.specs.Sector.{Cipher}
 use Rattle.luks_io.specs.Devices.{IfKnown}
 use Rattle.luks_verdict.specs.declared.segment.Segment.{Segment}
 use Rattle.luks_payload.specs.Plain.{plain_of, sector_len, sectors_of}
+use Rattle.luks_access.specs.Image.{IsRangeOf}
 use Rattle.luks_access.specs.declared.fault.RangeFault.{RangeFault}
 use Rattle.luks_access.specs.declared.fault.RangeFault.TheVariants.{PastEnd, Read, Shorter}
 use Rattle.luks_access.specs.declared.image.ReadAtFault.{ReadAtFault}
@@ -13,10 +14,6 @@ use Rattle.luks_access.specs.declared.image.ReadAtFault.TheVariants.{Failed, End
 abbrev pub range_fault : ReadAtFault → RangeFault
 range_fault Failed = Read
 range_fault Ended = Shorter
-
--- the plaintext has these bytes from this offset on
-abbrev pub IsRangeOf : List ℕ → ℕ → List ℕ → Type 0
-IsRangeOf text offset bytes = bytes ≡ take (length bytes) (drop offset text)
 
 -- the length of an image's plaintext: all whole sectors of the payload
 abbrev pub plaintext_len : Segment → List ℕ → ℕ

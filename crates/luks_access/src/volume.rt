@@ -10,9 +10,9 @@ ghost use Rattle.luks_unlock.specs.Found.{MatchesHeader};
 ghost use Rattle.luks_unlock.specs.OpeningMessages.{OpeningMessage};
 ghost use Rattle.luks_unlock.specs.Trying.{CountsTrials};
 ghost use Rattle.luks_payload.specs.Plain.{ending_of, sector_len};
+ghost use Rattle.luks_access.specs.Image.{IsRangeOf};
 ghost use Rattle.luks_access.specs.Opens.{IsCatOf, IsOnlyAborted, IsPlainOf, Opens, Refuses};
 ghost use Rattle.luks_access.specs.Opens.{plaintext_of};
-ghost use Rattle.luks_access.specs.Range.{IsRangeOf};
 ghost use Rattle.luks_access.specs.Unlocks.{UnlocksVolume};
 
 use crate::fault::RangeFault;

@@ -6,14 +6,12 @@
 
 ghost use Rattle.std.specs.Prelude.{◌≡◌, ◌≢◌, ◌+◌, ◌*◌, ◌/◌, ◌%◌, ◌^◌, ◌<◌, List, ℕ, None};
 ghost use Rattle.std.specs.Prelude.{length, true};
-ghost use Rattle.luks_cipher.specs.Sector.{is_mode_key_length};
 ghost use Rattle.luks_access.specs.Opens.{cipher_of, plaintext_of};
 ghost use Rattle.luks_unlock.specs.declared.unlocked.UnlockedVolume.{UnlockedVolume};
 ghost use Rattle.luks_access.specs.Sectors.{AreStored, plain_at};
 ghost use Rattle.luks_payload.specs.Plain.{ending_of, sector_len};
 ghost use Rattle.luks_verdict.specs.SectorSize.{bytes_of};
-ghost use Rattle.luks_c.specs.Answers.{EndsAs, Opened, Refused, decrypt_code, fault_bytes};
-ghost use Rattle.luks_c.specs.Answers.{is_range, range_code};
+ghost use Rattle.luks_c.specs.Answers.{EndsAs, Opened, Refused, decrypt_code, fault_bytes, is_range};
 ghost use Rattle.luks_c.specs.Message.{StoresCode};
 ghost use Rattle.luks_c.specs.Options.{names_no_slot};
 ghost use Rattle.luks_c.specs.Stored.{IsCleared, Stores, sector_size_in};
@@ -168,9 +166,6 @@ pub extern "C" fn luksrd_decrypt(volume: &LuksrdVolume, first_sector: u64, bytes
         (first_sector * sector_len v.segment) (length bytes.old) }
     ensures kept { result ≢ 0 → bytes.new ≡ bytes.old }
     ensures code { result ≡ decrypt_code volume.now first_sector (length bytes.old) }
-    ensures filled { (v : UnlockedVolume) → Stores volume.now v
-        → is_mode_key_length v.segment.mode volume.now.key_size ≡ true
-        → result ≡ range_code v.segment.sector_size first_sector (length bytes.old) }
 {
     let Some(segment) = volume::segment(volume) else {
         return BAD_VOLUME;

@@ -3,5 +3,5 @@ use Rattle.luks_c.proofs.luksrd_len.Goals as goal
 
 pub returns-in-Some-clause-value : goal.returns-in-Some-clause-value
 returns-in-Some-clause-value c v image stored long =
-    len_for c.args.volume.now v stored c.in-Some.sector_size c.size.result c.in-Some.ensures c.size.ensures image
-    c.args.image_len long c.plaintext_len.result c.plaintext_len.ensures.value
+    len_for c.args.volume.now v stored c.in-Some.sector_size c.size.result image c.args.image_len
+    c.plaintext_len.result c.in-Some.ensures c.size.ensures long c.plaintext_len.ensures.value
