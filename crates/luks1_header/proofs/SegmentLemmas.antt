@@ -1,31 +1,28 @@
 -- Properties of a header whose segment is valid.
-use Rattle.std.proofs.Common.{◌≡◌, ◌*◌, ◌≤◌, refl, Bool, true, false, List, [], ◌∷◌, Option, Some, None, Ok, Err}
-use Rattle.std.specs.Prelude.{not, is_none}
+use Rattle.std.proofs.Common.{◌≡◌, ◌*◌, ◌≤◌, refl, true, false, Option, Some, None, Ok, Err}
 use Rattle.std.proofs.lemmas.Bool.{ltb-false}
 use Rattle.luks_cipher.specs.declared.mode.Mode.{Mode}
 use Rattle.luks_kdf.specs.declared.hash.Hash.{Hash}
 use Rattle.luks_verdict.specs.Segment.{segment_by, segment_from}
 use Rattle.luks_verdict.specs.declared.refusal.SegmentFault.{SegmentFault}
-use Rattle.luks_verdict.specs.declared.refusal.SegmentFault.TheVariants.{Encryption, KeyBytes, Offset}
-use Rattle.luks_verdict.specs.declared.refusal.SegmentFault.TheVariants.{Hash as SegmentHash}
 use Rattle.luks_verdict.specs.declared.segment.Segment.{Segment}
 use Rattle.luks_verdict.proofs.MadeLemmas.{refused_or-fault, refused_or-none, refused_or-ok}
-use Rattle.luks_verdict.proofs.TableLemmas.{first_not}
+use Rattle.luks_verdict.proofs.TableLemmas.{none_holds}
 use Rattle.luks_verdict.proofs.VerdictLemmas.{some_from_not_none, true_from_not}
-use Rattle.luks1_header.specs.Segment1.{fault1_of, is_key_length1, made1, segment1_of, segment_parts1_of}
-use Rattle.luks1_header.specs.Segment1.{overlaps_header1}
+use Rattle.luks1_header.specs.Segment1.{fault1_of, is_key_length1, made1, overlaps_header1, segment1_of}
+use Rattle.luks1_header.specs.Segment1.{segment_faults1, segment_parts1_of}
 use Rattle.luks1_header.specs.Slot1.{hash1_of, mode1_of}
 use Rattle.luks1_header.specs.declared.header.Header1.{Header1}
 
 -- a volume that can be read: its mode and hash function are known, its key has a length that the mode allows, and with
--- an attached header its payload starts behind the header
+-- an attached header its payload starts after the header
 pub record IsReadable (header : Header1) : Type 0 where
   pub mode : (mode : Mode) × (mode1_of header ≡ Some mode)
   pub hash : (hash : Hash) × (hash1_of header ≡ Some hash)
   pub key : is_key_length1 (mode1_of header) header.key_bytes ≡ true
   pub after_header : header.detached ≡ false → 592 ≤ 512 * header.payload_offset
 
--- with an attached header, a payload that does not start inside the header starts behind it
+-- with an attached header, a payload that does not start inside the header starts after it
 starts_behind : (header : Header1) → overlaps_header1 header ≡ false → header.detached ≡ false
     → 592 ≤ 512 * header.payload_offset
 unfolding overlaps_header1
@@ -34,19 +31,12 @@ starts_behind header outside attached = ltb-false (512 * header.payload_offset) 
 IsReadable-none : (header : Header1) → fault1_of header ≡ None → IsReadable header
 unfolding fault1_of
 IsReadable-none header none =
-    let last : List (Bool × SegmentFault) = (overlaps_header1 header, Offset) ∷ [] in
-    let third : List (Bool × SegmentFault) = (not (is_key_length1 (mode1_of header) header.key_bytes), KeyBytes)
-    ∷ last in
-    let mode = first_not (is_none (mode1_of header)) Encryption ((is_none (hash1_of header), SegmentHash) ∷ third)
-    none in
-    let hash = first_not (is_none (hash1_of header)) SegmentHash third mode.1 in
-    let key = first_not (not (is_key_length1 (mode1_of header) header.key_bytes)) KeyBytes last hash.1 in
-    let offset = first_not (overlaps_header1 header) Offset [] key.1 in
+    let all = none_holds (segment_faults1 header) none in
     record {
-      mode = some_from_not_none (mode1_of header) mode.0;
-      hash = some_from_not_none (hash1_of header) hash.0;
-      key = true_from_not (is_key_length1 (mode1_of header) header.key_bytes) key.0;
-      after_header = starts_behind header offset.0;
+      mode = some_from_not_none (mode1_of header) all.0;
+      hash = some_from_not_none (hash1_of header) all.1.0;
+      key = true_from_not (is_key_length1 (mode1_of header) header.key_bytes) all.1.1.0;
+      after_header = starts_behind header all.1.1.1.0;
     }
 
 -- the segment of a header, by its fields
@@ -68,7 +58,7 @@ pub IsReadable-ok : (header : Header1) (segment : Segment) → segment1_of heade
     → IsSegment1 header segment × IsReadable header
 unfolding segment1_of
 IsReadable-ok header segment is =
-    let made = refused_or-ok (fault1_of header) (segment_from (segment_parts1_of header)) (made1 header) segment is in
+    let made = refused_or-ok _ _ (made1 header) segment is in
     let readable = IsReadable-none header made.0 in
     (segment_made header segment readable.mode.0 readable.mode.1 made.1, readable)
 
@@ -76,11 +66,9 @@ IsReadable-ok header segment is =
 pub segment1-fault : (header : Header1) (fault : SegmentFault) → fault1_of header ≡ Some fault
     → segment1_of header ≡ Err fault
 unfolding segment1_of
-segment1-fault header fault is =
-    refused_or-fault (fault1_of header) (segment_from (segment_parts1_of header)) (made1 header) fault is
+segment1-fault header fault is = refused_or-fault _ _ (made1 header) fault is
 
 pub segment1-none : (header : Header1) (segment : Segment) → fault1_of header ≡ None
     → segment_from (segment_parts1_of header) ≡ Some segment → segment1_of header ≡ Ok segment
 unfolding segment1_of
-segment1-none header segment none made =
-    refused_or-none (fault1_of header) (segment_from (segment_parts1_of header)) (made1 header) segment none made
+segment1-none header segment none made = refused_or-none _ _ (made1 header) segment none made

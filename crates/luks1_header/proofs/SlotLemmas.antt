@@ -1,6 +1,6 @@
 -- Properties of a slot that there is no reason to skip.
-use Rattle.std.proofs.Common.{◌≡◌, ◌∙◌, ℕ, ◌+◌, ◌*◌, ◌≤◌, sym, subst, refl, Bool, true, false, List, [], ◌∷◌, Option}
-use Rattle.std.proofs.Common.{Some, None, arith}
+use Rattle.std.proofs.Common.{◌≡◌, ◌∙◌, ℕ, ◌+◌, ◌*◌, ◌≤◌, sym, subst, refl, Bool, true, false, Option, Some, None}
+use Rattle.std.proofs.Common.{arith}
 use Rattle.std.specs.Prelude.{if◌then◌else◌, option_map, option_and_then, slice_get}
 use Rattle.std.proofs.lemmas.Bool.Decides.{nat_tests}
 use Rattle.std.proofs.lemmas.Option.{same_Some}
@@ -10,16 +10,14 @@ use Rattle.luks_verdict.specs.Rule.{exceeds, iterations_out_of_range, is_in_rang
 use Rattle.luks_verdict.specs.Rule.{stripes_out_of_range, need_of}
 use Rattle.luks_verdict.specs.Slot.{are_in_range, material_end, verdict_by, verdict_kind_of, slot_of}
 use Rattle.luks_verdict.proofs.MadeLemmas.{slot_from-yes}
-use Rattle.luks_verdict.proofs.TableLemmas.{first_not}
-use Rattle.luks_verdict.proofs.VerdictLemmas.{digest_there}
+use Rattle.luks_verdict.proofs.TableLemmas.{none_holds}
+use Rattle.luks_verdict.proofs.VerdictLemmas.{digest_there, of_usable}
 use Rattle.luks_verdict.specs.declared.digest.KeyDigest.{KeyDigest}
-use Rattle.luks_verdict.specs.declared.refusal.SkipReason.{SkipReason}
-use Rattle.luks_verdict.specs.declared.refusal.SkipReason.TheVariants.{State, Stripes, Iterations, Area, Digest}
 use Rattle.luks_verdict.specs.declared.slot.Slot.{Slot}
 use Rattle.luks_verdict.specs.declared.slot.Verdict.TheVariants.{Usable, Disabled as VerdictDisabled}
 use Rattle.luks_verdict.specs.declared.slot.VerdictKind.TheVariants.{Usable as KindUsable}
-use Rattle.luks1_header.specs.Slot1.{digest1_of, hash1_of, is_damaged, is_disabled, area1_out_of_range, mode1_of}
-use Rattle.luks1_header.specs.Slot1.{payload1_start, reason1_of, slot1_at, slot1_of, slot_parts1_of, verdict1_at}
+use Rattle.luks1_header.specs.Slot1.{digest1_of, hash1_of, is_disabled, area1_out_of_range, mode1_of, payload1_start}
+use Rattle.luks1_header.specs.Slot1.{reason1_of, slot1_at, slot1_of, slot_parts1_of, slot_reasons1, verdict1_at}
 use Rattle.luks1_header.specs.Slot1.{verdict1_of}
 use Rattle.luks1_header.specs.declared.header.Header1.{Header1}
 use Rattle.luks1_header.specs.declared.header.StoredSlot.{StoredSlot}
@@ -35,15 +33,8 @@ no_reason : (header : Header1) (limit : Option ℕ) (slot : StoredSlot) → reas
     → NoReason header limit slot
 unfolding reason1_of
 no_reason header limit slot none =
-    let last : List (Bool × SkipReason) = (has_no_usable_digest limit (digest1_of header), Digest) ∷ [] in
-    let fourth : List (Bool × SkipReason) = (area1_out_of_range header slot, Area) ∷ last in
-    let third : List (Bool × SkipReason) = (iterations_out_of_range limit slot.iterations, Iterations) ∷ fourth in
-    let state = first_not (is_damaged slot.state) State ((stripes_out_of_range slot.stripes, Stripes) ∷ third) none in
-    let stripes = first_not (stripes_out_of_range slot.stripes) Stripes third state.1 in
-    let iterations = first_not (iterations_out_of_range limit slot.iterations) Iterations fourth stripes.1 in
-    let area = first_not (area1_out_of_range header slot) Area last iterations.1 in
-    let digest = first_not (has_no_usable_digest limit (digest1_of header)) Digest [] area.1 in
-    record { stripes = stripes.0; iterations = iterations.0; area = area.0; digest = digest.0 }
+    let all = none_holds (slot_reasons1 header limit slot) none in
+    record { stripes = all.1.0; iterations = all.1.1.0; area = all.1.1.1.0; digest = all.1.1.1.1.0 }
 
 -- key material that is in range ends at or before the payload's start, if that is known, and within the longest area
 placed : (header : Header1) (slot : StoredSlot) → area1_out_of_range header slot ≡ false
@@ -98,17 +89,12 @@ of_verdict : (header : Header1) (limit : Option ℕ) (slot : StoredSlot) (usable
     → verdict1_of header limit slot ≡ Usable usable
     → (reason1_of header limit slot ≡ None) × (slot1_of header slot ≡ Some usable)
 unfolding verdict1_of
-of_verdict header limit slot usable is =
-    of_all (is_disabled slot.state) (reason1_of header limit slot) refl (slot1_of header slot) refl is
-  where
-    of_all : (disabled : Bool) (reason : Option SkipReason) → reason1_of header limit slot ≡ reason
-        → (made : Option Slot) → slot1_of header slot ≡ made
-        → (if disabled then VerdictDisabled else verdict_by reason made) ≡ Usable usable
-        → (reason1_of header limit slot ≡ None) × (slot1_of header slot ≡ Some usable)
-    of_all true reason r made m h = absurd cc
-    of_all false (Some reason) r made m h = absurd cc
-    of_all false None r (Some made) m h = (r, cc)
-    of_all false None r None m h = absurd cc
+of_verdict header limit slot usable is = by (is_disabled slot.state) is where
+  by : (disabled : Bool)
+      → (if disabled then VerdictDisabled else verdict_by (reason1_of header limit slot) (slot1_of header slot))
+      ≡ Usable usable → (reason1_of header limit slot ≡ None) × (slot1_of header slot ≡ Some usable)
+  by true h = absurd cc
+  by false h = of_usable (reason1_of header limit slot) (slot1_of header slot) usable h
 
 usable_is : (header : Header1) (limit : Option ℕ) (slot : StoredSlot) (usable : Slot)
     → verdict1_of header limit slot ≡ Usable usable → IsOf header usable

@@ -5,6 +5,7 @@ use Rattle.luks_cipher.specs.Sector.{is_mode_key_length}
 use Rattle.luks_cipher.specs.declared.mode.Mode.{Mode}
 use Rattle.luks_verdict.specs.Segment.{refused_or, segment_from, segment_of_all}
 use Rattle.luks_verdict.specs.Table.{first_match}
+use Rattle.luks_verdict.proofs.TableLemmas.{none_holds}
 use Rattle.luks_verdict.specs.declared.refusal.SegmentFault.{SegmentFault}
 use Rattle.luks_verdict.specs.declared.refusal.SegmentFault.TheVariants.{Encryption, Hash, KeyBytes, Offset}
 use Rattle.luks_verdict.specs.declared.sector_size.SectorSize.TheVariants.{B512}
@@ -23,14 +24,18 @@ is_key_length1 None n = false
 unfoldable pub overlaps_header1 : Header1 → Bool
 overlaps_header1 header = not header.detached && nat_lt (512 * header.payload_offset) header1_len
 
--- the first fault of the segment
-unfoldable pub fault1_of : Header1 → Option SegmentFault
-fault1_of header = first_match (
+-- the possible faults of the segment
+abbrev pub segment_faults1 : Header1 → List (Bool × SegmentFault)
+segment_faults1 header =
     (is_none (mode1_of header), Encryption)
     ∷ (is_none (hash1_of header), Hash)
     ∷ (not (is_key_length1 (mode1_of header) header.key_bytes), KeyBytes)
     ∷ (overlaps_header1 header, Offset)
-    ∷ [])
+    ∷ []
+
+-- the first of them
+unfoldable pub fault1_of : Header1 → Option SegmentFault
+fault1_of header = first_match (segment_faults1 header)
 
 -- the parts of the segment: its sectors of 512 bytes are numbered from 0, and it goes to the image's end
 abbrev pub segment_parts1_of : Header1 → SegmentParts
@@ -42,22 +47,17 @@ segment_parts1_of header = record {
   mode = mode1_of header;
 }
 
--- if no fault is found, the mode is known and a segment is made
-made_in : (mode : Option Mode) (others : List (Bool × SegmentFault)) (offset : ℕ)
-    → first_match ((is_none mode, Encryption) ∷ others) ≡ None
+-- if the mode is known, a segment is made
+made_in : (mode : Option Mode) (offset : ℕ) → is_none mode ≡ false
     → segment_of_all (Some offset) (Some None) (Some 0) (Some B512) mode ≢ None
-made_in None others offset no_fault none = cc
-made_in (Some mode) others offset no_fault none = cc
+made_in None offset known none = cc
+made_in (Some mode) offset known none = cc
 
 -- a segment without a fault is made
 pub made1 : (header : Header1) → fault1_of header ≡ None → segment_from (segment_parts1_of header) ≢ None
 unfolding fault1_of segment_from
-made1 header =
-    made_in (mode1_of header) (
-    (is_none (hash1_of header), Hash)
-    ∷ (not (is_key_length1 (mode1_of header) header.key_bytes), KeyBytes)
-    ∷ (overlaps_header1 header, Offset)
-    ∷ []) (512 * header.payload_offset)
+made1 header no_fault =
+    made_in (mode1_of header) (512 * header.payload_offset) (none_holds (segment_faults1 header) no_fault).0
 
 -- the segment of a header, or its first fault
 unfoldable pub segment1_of : Header1 → Result Segment SegmentFault

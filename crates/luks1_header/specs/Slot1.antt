@@ -1,6 +1,6 @@
 -- The verdicts on the key slots of LUKS1.
-use Rattle.std.specs.Prelude.{ℕ, ◌*◌, if◌then◌else◌, Bool, true, false, [], ◌∷◌, Option, Some, None, bytes_eq, codes}
-use Rattle.std.specs.Prelude.{option_and_then, option_map, slice_get}
+use Rattle.std.specs.Prelude.{ℕ, ◌*◌, if◌then◌else◌, Bool, true, false, List, [], ◌∷◌, Option, Some, None, bytes_eq}
+use Rattle.std.specs.Prelude.{codes, option_and_then, option_map, slice_get}
 use Rattle.luks_cipher.specs.Sector.{mode_named}
 use Rattle.luks_cipher.specs.declared.mode.Mode.{Mode}
 use Rattle.luks_kdf.specs.Hash.{hash_named}
@@ -21,19 +21,17 @@ use Rattle.luks1_header.specs.Header1.{header1_len}
 use Rattle.luks1_header.specs.declared.header.Header1.{Header1}
 use Rattle.luks1_header.specs.declared.header.StoredSlot.{StoredSlot}
 use Rattle.luks1_header.specs.declared.header.SlotState.{SlotState}
-use Rattle.luks1_header.specs.declared.header.SlotState.TheVariants.{Enabled, Disabled, Damaged}
+use Rattle.luks1_header.specs.declared.header.SlotState.TheVariants.{Disabled, Damaged}
 
 -- the state is that of a slot that is not in use
 abbrev pub is_disabled : SlotState → Bool
-is_disabled Enabled = false
 is_disabled Disabled = true
-is_disabled (Damaged _) = false
+is_disabled _ = false
 
 -- the state is neither that of a used slot nor that of an unused one
 abbrev pub is_damaged : SlotState → Bool
-is_damaged Enabled = false
-is_damaged Disabled = false
 is_damaged (Damaged _) = true
+is_damaged _ = false
 
 -- the hash function of the slots, the stripes and the digest, if its name is known
 unfoldable pub hash1_of : Header1 → Option Hash
@@ -66,15 +64,19 @@ area1_out_of_range header slot =
     area_out_of_range header1_len (payload1_start header) (512 * slot.offset)
     (need_of header.key_bytes slot.stripes) (need_of header.key_bytes slot.stripes)
 
--- the first reason to skip a slot that is not disabled
-unfoldable pub reason1_of : Header1 → Option ℕ → StoredSlot → Option SkipReason
-reason1_of header limit slot = first_match (
+-- the reasons to skip a slot that is not disabled
+abbrev pub slot_reasons1 : Header1 → Option ℕ → StoredSlot → List (Bool × SkipReason)
+slot_reasons1 header limit slot =
     (is_damaged slot.state, State)
     ∷ (stripes_out_of_range slot.stripes, Stripes)
     ∷ (iterations_out_of_range limit slot.iterations, Iterations)
     ∷ (area1_out_of_range header slot, Area)
     ∷ (has_no_usable_digest limit (digest1_of header), Digest)
-    ∷ [])
+    ∷ []
+
+-- the first of them
+unfoldable pub reason1_of : Header1 → Option ℕ → StoredSlot → Option SkipReason
+reason1_of header limit slot = first_match (slot_reasons1 header limit slot)
 
 -- the parts of a slot. The key of its key material is as long as the volume key
 unfoldable pub slot_parts1_of : Header1 → StoredSlot → SlotParts

@@ -22,7 +22,7 @@ use luks_verdict::slot::{Slot, SlotParts, VerdictKind};
 use std::alloc::{AllocError, Global};
 use std::str;
 
-/// The first byte behind the header.
+/// The offset of the first byte after the header.
 const HEADER_END: u64 = HEADER1_LEN as u64;
 
 // The mode with this name.

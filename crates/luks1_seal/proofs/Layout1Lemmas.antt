@@ -1,57 +1,35 @@
--- The parts of a volume of LUKS1: how long they are, and where they are stored in its image.
-use Rattle.std.proofs.Common.{◌≡◌, ◌==◌, ◌∙◌, ℕ, ◌+◌, ◌-◌, ◌*◌, ◌<◌, ◌≤◌, Bool, List, [], ◌∷◌, ◌++◌, length, Option}
-use Rattle.std.proofs.Common.{Some, None, refl, sym, ap, arith, append_assoc, append-nil, length-append}
-use Rattle.std.proofs.Math.Nat.{mul-le-mul_right}
-use Rattle.std.specs.Prelude.{codes}
+-- The image of a volume of LUKS1: how long its parts are, where they are stored, and what a reader finds in the header.
+use Rattle.std.proofs.Common.{◌≡◌, ◌==◌, ◌∙◌, ℕ, ◌+◌, ◌-◌, ◌*◌, ◌<◌, ◌≤◌, List, [], ◌∷◌, ◌++◌, length, Option, Some}
+use Rattle.std.proofs.Common.{None, refl, sym, arith, append_assoc, append-nil, length-append, codes, zero, suc, ◌^◌}
+use Rattle.std.proofs.Common.{false, ap, slice_get, mul-le-mul_right}
 use Rattle.std.specs.Int.{to_be_bytes, w32}
 use Rattle.std.specs.Option.{option_map_or}
-use Rattle.luks_area.specs.Fields.{at}
+use Rattle.luks_area.specs.Fields.{at, be32, text_of}
 use Rattle.luks_cipher.specs.Sector.{mode_name}
-use Rattle.luks_cipher.specs.declared.mode.Mode.{Mode}
-use Rattle.luks_cipher.specs.declared.mode.Mode.TheVariants.{XtsPlain64, XtsPlain, CbcEssivSha256, CbcPlain64}
 use Rattle.luks_cipher.proofs.ModeLemmas.{longest_mode_key}
 use Rattle.luks_kdf.specs.Bytes.{joined}
 use Rattle.luks_kdf.specs.Hash.{hash_name}
 use Rattle.luks_kdf.specs.Pbkdf2.{derived_key}
-use Rattle.luks_kdf.specs.declared.hash.Hash.{Hash}
-use Rattle.luks_kdf.specs.declared.hash.Hash.TheVariants.{Sha1, Sha224, Sha256, Sha384, Sha512}
 use Rattle.luks_kdf.proofs.Pbkdf2Lemmas.{length-derived_key}
 use Rattle.luks_verdict.specs.Rule.{need_of}
-use Rattle.luks_seal.specs.Pieces.{padded}
-use Rattle.luks_seal.specs.declared.parameters.Seal1.{Seal1}
-use Rattle.luks_seal.specs.declared.parameters.Slot1.{Slot1}
-use Rattle.luks_seal.proofs.FieldLemmas.{Part, begin_of, joined_parts, length-parts, part, part_at, part_of}
+use Rattle.luks_seal.specs.Pieces.{padded, wrapping_number}
+use Rattle.luks_seal.proofs.FieldLemmas.{Part, part, at_padded, length-padded, padded_begins, at_inside, AreParts}
+use Rattle.luks_seal.proofs.FieldLemmas.{are_parts}
+use Rattle.luks_seal.proofs.SectorLemmas.{IsImage, image_made, pieces_length, piece_at}
 use Rattle.luks_seal.proofs.MaterialLemmas.{AreRandomStripes, length-material}
-use Rattle.luks_seal.proofs.SectorLemmas.{length-sectors_encrypted, piece_at, pieces_length}
-use Rattle.luks_seal.proofs.SlicingLemmas.{at_before, at_first, at_inside, at_padded, at_payload, at_within_second}
-use Rattle.luks_seal.proofs.SlicingLemmas.{length-padded, length-whole, padded_begins}
+use Rattle.luks_seal.proofs.RuleLemmas.{cipher_is_named, hash_is_named, mode_is_named}
 use Rattle.luks_seal.proofs.SlotLemmas.{found_has}
 use Rattle.luks1_seal.specs.Layout1.{area1_of, area_key1_of, area_sectors_of, digest1_fields, fields1_of, header1_bytes}
 use Rattle.luks1_seal.specs.Layout1.{image1_of, key_slot1_of, material1_of, middle1_of, payload1_bytes, slot1_numbered}
 use Rattle.luks1_seal.specs.Layout1.{start1_of, state1_of}
-use Rattle.luks1_seal.specs.Ranges1.{AreParameters1, FitsSlot1}
-use Rattle.luks1_seal.specs.Typed1.{AreTyped1, IsTypedSlot1}
+use Rattle.luks1_seal.specs.Ranges1.{AreParameters1, FitsSlot1, AreTyped1, IsTypedSlot1, Seal1, Slot1}
+use Rattle.std.proofs.lemmas.Nat.{from_be_bytes-to_be_bytes_4}
+use Rattle.luks1_header.specs.Header1.{key_slot_of, key_slots_of, header1_of as read_header1}
+use Rattle.luks1_header.specs.declared.header.Header1.{Header1}
+use Rattle.luks1_header.specs.declared.header.StoredSlot.{StoredSlot}
+use Rattle.luks1_header.specs.declared.header.SlotState.TheVariants.{Enabled}
 
 -- ---- the header
-
-pub length-cipher_name : length (padded 32 (codes "aes")) ≡ 32
-unfolding padded
-length-cipher_name = refl
-
-pub length-mode_name : (mode : Mode) → length (padded 32 (mode_name mode)) ≡ 32
-unfolding padded
-length-mode_name XtsPlain64 = refl
-length-mode_name XtsPlain = refl
-length-mode_name CbcEssivSha256 = refl
-length-mode_name CbcPlain64 = refl
-
-pub length-hash_name : (h : Hash) → length (padded 32 (hash_name h)) ≡ 32
-unfolding padded
-length-hash_name Sha1 = refl
-length-hash_name Sha224 = refl
-length-hash_name Sha256 = refl
-length-hash_name Sha384 = refl
-length-hash_name Sha512 = refl
 
 -- three groups of three parts each, and two more parts
 regrouped : (a b c d e f g h i j k : List ℕ) → (a ++ b ++ c) ++ (d ++ e ++ f) ++ (g ++ h ++ i) ++ j ++ k
@@ -62,13 +40,96 @@ regrouped a b c d e f g h i j k = simp (append_assoc, append-nil)
 abbrev pub header1_start_bytes : Seal1 → List ℕ
 header1_start_bytes p = fields1_of p ++ joined (key_slot1_of p) 8
 
--- the header and the areas, which come before the payload
-abbrev before_payload1 : Seal1 → List ℕ
-before_payload1 p = header1_bytes p ++ joined (area1_of p) 8
+-- a key slot in use
+pub record IsUsed (p : Seal1) (slot : Slot1) : Type 0 where
+  pub fits : FitsSlot1 ((p.stripes - 1) * length p.key.now) slot
+  pub typed : IsTypedSlot1 slot
+  pub found : slot1_numbered slot.number p.slots.now ≡ Some slot
 
--- the test for a slot's number
-abbrev has_number : ℕ → Slot1 → Bool
-has_number number slot = slot.number == number
+-- ---- what a reader finds
+
+-- a number written as four bytes is read back
+number_read : (field : List ℕ) (n : ℕ) → n < 2 ^ 32 → field ≡ to_be_bytes w32 n → be32 field ≡ n
+unfolding be32
+number_read field n small is = ap be32 is ∙ from_be_bytes-to_be_bytes_4 n small
+
+-- the key slot that is read for a slot in use
+abbrev pub stored_slot : ℕ → ℕ → Slot1 → StoredSlot
+stored_slot place count slot = record {
+  state = Enabled;
+  iterations = slot.iterations;
+  salt = slot.salt;
+  offset = place;
+  stripes = count;
+}
+
+abbrev pub found_slot : Seal1 → Slot1 → StoredSlot
+found_slot p slot = stored_slot (8 + slot.number * area_sectors_of p) p.stripes slot
+
+-- the header that is read
+abbrev pub found_header : Seal1 → Header1
+found_header p = record {
+  cipher_name = codes "aes";
+  cipher_mode = mode_name p.mode;
+  hash_spec = hash_name p.hash;
+  payload_offset = p.payload_sectors;
+  key_bytes = length p.key.now;
+  digest = derived_key p.hash p.key.now p.digest_salt p.digest_iterations 20;
+  digest_salt = p.digest_salt;
+  digest_iterations = p.digest_iterations;
+  uuid = text_of (at 168 40 (header1_start_bytes p));
+  slots = key_slots_of (header1_start_bytes p);
+  detached = false;
+}
+
+regrouped_slot : (a b c d e : List ℕ) → (a ++ b ++ c) ++ d ++ e ≡ a ++ (b ++ (c ++ (d ++ (e ++ []))))
+regrouped_slot a b c d e = simp (append_assoc, append-nil)
+
+module _ (slot : Slot1) (place count : ℕ) (salt : length slot.salt ≡ 32) where
+  -- the bytes of a key slot in use, and its fields with their lengths
+  abbrev used_slot : List ℕ
+  used_slot = state1_of (Some slot) ++ to_be_bytes w32 place ++ to_be_bytes w32 count
+
+  abbrev slot_parts : List Part
+  slot_parts =
+      part 4 (to_be_bytes w32 0x00ac71f3) refl
+      ∷ part 4 (to_be_bytes w32 slot.iterations) refl
+      ∷ part 32 slot.salt salt
+      ∷ part 4 (to_be_bytes w32 place) refl
+      ∷ part 4 (to_be_bytes w32 count) refl
+      ∷ []
+
+  slot_are : AreParts used_slot slot_parts
+  unfolding state1_of
+  slot_are =
+      are_parts used_slot slot_parts
+      (regrouped_slot (to_be_bytes w32 0x00ac71f3) (to_be_bytes w32 slot.iterations) slot.salt (to_be_bytes w32 place)
+      (to_be_bytes w32 count))
+
+  key_slot_read : slot.iterations < 2 ^ 32 → place < 2 ^ 32 → count < 2 ^ 32
+      → key_slot_of used_slot ≡ stored_slot place count slot
+  unfolding key_slot_of
+  key_slot_read turns low few =
+      let state = number_read (at 0 4 used_slot) 0x00ac71f3 (omega arith) (slot_are.part_at 0) in
+      let iterations = number_read (at 4 4 used_slot) slot.iterations turns (slot_are.part_at 1) in
+      let salt_there : at 8 32 used_slot ≡ slot.salt = slot_are.part_at 2 in
+      let offset = number_read (at 40 4 used_slot) place low (slot_are.part_at 3) in
+      let stripes = number_read (at 44 4 used_slot) count few (slot_are.part_at 4) in
+      rw (state, iterations, salt_there, offset, stripes) refl
+
+-- each key slot of a header is read from its own 48 bytes
+key_slots_read : (bytes : List ℕ) (number : ℕ) → number < 8
+    → slice_get (key_slots_of bytes) number ≡ Some (key_slot_of (at (208 + 48 * number) 48 bytes))
+unfolding key_slots_of
+key_slots_read bytes zero low = refl
+key_slots_read bytes (suc zero) low = refl
+key_slots_read bytes (suc (suc zero)) low = refl
+key_slots_read bytes (suc (suc (suc zero))) low = refl
+key_slots_read bytes (suc (suc (suc (suc zero)))) low = refl
+key_slots_read bytes (suc (suc (suc (suc (suc zero))))) low = refl
+key_slots_read bytes (suc (suc (suc (suc (suc (suc zero)))))) low = refl
+key_slots_read bytes (suc (suc (suc (suc (suc (suc (suc zero))))))) low = refl
+key_slots_read bytes (suc (suc (suc (suc (suc (suc (suc (suc n)))))))) low = absurd (omega arith)
 
 module _ (p : Seal1) (fits : AreParameters1 p) (typed : AreTyped1 p) where
   -- ---- the key slots
@@ -85,12 +146,9 @@ module _ (p : Seal1) (fits : AreParameters1 p) (typed : AreTyped1 p) where
       let state = state1_of (slot1_numbered number p.slots.now) in
       let place = to_be_bytes w32 (8 + number * area_sectors_of p) in
       let stripes = to_be_bytes w32 p.stripes in
-      let long = length-state1 (slot1_numbered number p.slots.now)
-      (λ slot is. (found_has IsTypedSlot1 (has_number number) p.slots.now typed.slots slot is).salt) in
+      let long = length-state1 (slot1_numbered number p.slots.now) (λ slot is.
+      (found_has IsTypedSlot1 (λ (other : Slot1). other.number == number) p.slots.now typed.slots slot is).salt) in
       omega (arith, length-append (state ++ place) stripes, length-append state place, long)
-
-  pub length-key_slots1 : length (joined (key_slot1_of p) 8) ≡ 384
-  length-key_slots1 = pieces_length (key_slot1_of p) 48 8 (λ j low. length-key_slot1 j)
 
   -- ---- the header
 
@@ -98,9 +156,9 @@ module _ (p : Seal1) (fits : AreParameters1 p) (typed : AreTyped1 p) where
   abbrev pub header1_parts : List Part
   header1_parts =
       part 8 (codes "LUKS" ++ 186 ∷ 190 ∷ 0 ∷ 1 ∷ []) refl
-      ∷ part 32 (padded 32 (codes "aes")) length-cipher_name
-      ∷ part 32 (padded 32 (mode_name p.mode)) (length-mode_name p.mode)
-      ∷ part 32 (padded 32 (hash_name p.hash)) (length-hash_name p.hash)
+      ∷ part 32 (padded 32 (codes "aes")) cipher_is_named.len
+      ∷ part 32 (padded 32 (mode_name p.mode)) (mode_is_named p.mode).len
+      ∷ part 32 (padded 32 (hash_name p.hash)) (hash_is_named p.hash).len
       ∷ part 4 (to_be_bytes w32 p.payload_sectors) refl
       ∷ part 4 (to_be_bytes w32 (length p.key.now)) refl
       ∷ part 20 (derived_key p.hash p.key.now p.digest_salt p.digest_iterations 20)
@@ -108,25 +166,20 @@ module _ (p : Seal1) (fits : AreParameters1 p) (typed : AreTyped1 p) where
       ∷ part 32 p.digest_salt typed.salt
       ∷ part 4 (to_be_bytes w32 p.digest_iterations) refl
       ∷ part 40 (padded 40 p.uuid.now) (length-padded 40 p.uuid.now fits.uuid.0)
-      ∷ part 384 (joined (key_slot1_of p) 8) length-key_slots1
+      ∷ part 384 (joined (key_slot1_of p) 8) (pieces_length (key_slot1_of p) 48 8 (λ j low. length-key_slot1 j))
       ∷ []
 
-  header1_are : header1_start_bytes p ≡ joined_parts header1_parts
+  pub header1_are : AreParts (header1_start_bytes p) header1_parts
   unfolding fields1_of start1_of middle1_of digest1_fields
   header1_are =
-      regrouped (codes "LUKS" ++ 186 ∷ 190 ∷ 0 ∷ 1 ∷ []) (padded 32 (codes "aes")) (padded 32 (mode_name p.mode))
+      are_parts (header1_start_bytes p) header1_parts
+      (regrouped (codes "LUKS" ++ 186 ∷ 190 ∷ 0 ∷ 1 ∷ []) (padded 32 (codes "aes")) (padded 32 (mode_name p.mode))
       (padded 32 (hash_name p.hash)) (to_be_bytes w32 p.payload_sectors) (to_be_bytes w32 (length p.key.now))
       (derived_key p.hash p.key.now p.digest_salt p.digest_iterations 20) p.digest_salt
-      (to_be_bytes w32 p.digest_iterations) (padded 40 p.uuid.now) (joined (key_slot1_of p) 8)
-
-  -- each part of a header is read where it begins
-  pub header1_part : (k : ℕ)
-      → at (begin_of k header1_parts) (part_of k header1_parts).len (header1_start_bytes p)
-      ≡ (part_of k header1_parts).bytes
-  header1_part k = part_at k header1_parts (header1_start_bytes p) header1_are
+      (to_be_bytes w32 p.digest_iterations) (padded 40 p.uuid.now) (joined (key_slot1_of p) 8))
 
   pub length-prefix1 : length (header1_start_bytes p) ≡ 592
-  length-prefix1 = length-parts header1_parts (header1_start_bytes p) header1_are
+  length-prefix1 = header1_are.len
 
   length-header1 : length (header1_bytes p) ≡ 4096
   unfolding header1_bytes
@@ -164,98 +217,100 @@ module _ (p : Seal1) (fits : AreParameters1 p) (typed : AreTyped1 p) where
   unfolding area1_of
   length-area1 number =
       length-area1_at (slot1_numbered number p.slots.now)
-      (found_has (FitsSlot1 ((p.stripes - 1) * length p.key.now)) (has_number number) p.slots.now fits.slots)
+      (found_has (FitsSlot1 ((p.stripes - 1) * length p.key.now)) (λ (slot : Slot1). slot.number == number) p.slots.now
+      fits.slots)
 
   -- ---- the image
 
-  length-areas1 : length (joined (area1_of p) 8) ≡ 8 * (area_sectors_of p * 512)
-  length-areas1 = pieces_length (area1_of p) (area_sectors_of p * 512) 8 (λ j low. length-area1 j)
-
-  length-before1 : length (before_payload1 p) ≡ 4096 + 8 * (area_sectors_of p * 512)
-  length-before1 =
-      omega (arith, length-append (header1_bytes p) (joined (area1_of p) 8), length-header1, length-areas1)
+  length-areas1 : (n : ℕ) → length (joined (area1_of p) n) ≡ n * (area_sectors_of p * 512)
+  length-areas1 n = pieces_length (area1_of p) (area_sectors_of p * 512) n (λ j low. length-area1 j)
 
   -- the header and the areas end where the payload begins, or before
-  areas_fit : length (before_payload1 p) ≤ p.payload_sectors * 512
-  areas_fit = omega (arith, length-before1, fits.counts.3)
-
-  length-payload1 : length (payload1_bytes p) ≡ length p.plain.now
-  unfolding payload1_bytes
-  length-payload1 = length-sectors_encrypted (p.mode, p.key.now) 0 1 512 p.plain.now refl fits.plain.0
-
-  pub length-image1 : length (image1_of p) ≡ p.payload_sectors * 512 + length p.plain.now
-  unfolding image1_of
-  length-image1 =
-      length-whole (p.payload_sectors * 512) (before_payload1 p) (payload1_bytes p) areas_fit
-      ∙ ap (λ n. p.payload_sectors * 512 + n) length-payload1
-
-  -- ---- where the parts are in the image
-
-  -- bytes before the end of the areas are bytes of the header and the areas
-  in_before : (place len : ℕ) → place + len ≤ 4096 + 8 * (area_sectors_of p * 512)
-      → at place len (image1_of p) ≡ at place len (before_payload1 p)
-  unfolding image1_of
-  in_before place len inside =
-      at_before (p.payload_sectors * 512) (before_payload1 p) (payload1_bytes p) areas_fit place len
-      (omega (arith, length-before1))
+  pub image1 : IsImage (image1_of p) (header1_bytes p) (area1_of p) 8 (p.payload_sectors * 512) (p.mode, p.key.now)
+      (wrapping_number 0 1) 512 p.plain.now
+  unfolding image1_of payload1_bytes
+  image1 =
+      image_made (header1_bytes p) (area1_of p) 8 (p.payload_sectors * 512) (p.mode, p.key.now) 0 1 512 p.plain.now
+      (omega (arith, length-header1, length-areas1 8, fits.counts.3)) refl fits.plain.0 typed.plain
 
   -- the header is at the start of the image
   pub image_header : (place len : ℕ) → place + len ≤ 592
       → at place len (image1_of p) ≡ at place len (header1_start_bytes p)
   unfolding header1_bytes
   image_header place len inside =
-      in_before place len (omega arith)
-      ∙ at_first place len (header1_bytes p) (joined (area1_of p) 8) (omega (arith, length-header1))
+      image1.in_headers place len (omega (arith, length-header1))
       ∙ at_padded place len 4096 (header1_start_bytes p) (omega (arith, length-prefix1))
 
-  -- the payload starts at its sector
-  pub image_payload : (place : ℕ) → place ≡ p.payload_sectors * 512
-      → at place (length p.plain.now) (image1_of p) ≡ payload1_bytes p
-  unfolding image1_of
-  image_payload place is =
-      at_payload (p.payload_sectors * 512) (before_payload1 p) (payload1_bytes p) areas_fit place
-      (length p.plain.now) is length-payload1
+  in_slots : (number : ℕ) → number < 8 → at (208 + 48 * number) 48 (header1_start_bytes p) ≡ key_slot1_of p number
+  in_slots number low =
+      at_inside (208 + 48 * number) (number * 48) 48 208 384 (header1_start_bytes p) (joined (key_slot1_of p) 8)
+      (omega arith) (omega arith) (header1_are.part_at 10)
+      ∙ piece_at (key_slot1_of p) 48 8 number (λ j below. length-key_slot1 j) low
 
-  -- ---- the area of a slot
+  -- the header is read from the 592 bytes
+  pub header1_read : read_header1 (header1_start_bytes p) ≡ found_header p
+  unfolding read_header1
+  header1_read =
+      let bytes = header1_start_bytes p in
+      let key_fits = longest_mode_key p.mode (length p.key.now) fits.key in
+      let cipher : text_of (at 8 32 bytes) ≡ codes "aes" = ap text_of (header1_are.part_at 1) ∙ cipher_is_named.read in
+      let mode : text_of (at 40 32 bytes) ≡ mode_name p.mode =
+      ap text_of (header1_are.part_at 2) ∙ (mode_is_named p.mode).read in
+      let hash : text_of (at 72 32 bytes) ≡ hash_name p.hash =
+      ap text_of (header1_are.part_at 3) ∙ (hash_is_named p.hash).read in
+      let payload = number_read (at 104 4 bytes) p.payload_sectors (omega (arith, fits.counts.4))
+      (header1_are.part_at 4) in
+      let key = number_read (at 108 4 bytes) (length p.key.now) (omega (arith, key_fits)) (header1_are.part_at 5) in
+      let digest : at 112 20 bytes ≡ derived_key p.hash p.key.now p.digest_salt p.digest_iterations 20 =
+      header1_are.part_at 6 in
+      let salt : at 132 32 bytes ≡ p.digest_salt = header1_are.part_at 7 in
+      let turns = number_read (at 164 4 bytes) p.digest_iterations typed.iterations (header1_are.part_at 8) in
+      rw (cipher, mode, hash, payload, key, digest, salt, turns) refl
 
-  module _ (number : ℕ) (slot : Slot1) (found : slot1_numbered number p.slots.now ≡ Some slot) (low : number < 8)
-      (of_slot : FitsSlot1 ((p.stripes - 1) * length p.key.now) slot) where
-    -- each area ends within the eight areas
-    area_within : number * (area_sectors_of p * 512) + area_sectors_of p * 512 ≤ 8 * (area_sectors_of p * 512)
-    area_within =
-        let below : (number + 1) * (area_sectors_of p * 512) ≤ 8 * (area_sectors_of p * 512) =
-        mul-le-mul_right {m = number + 1} {n = 8} (area_sectors_of p * 512) (omega arith) in
-        omega (arith, below)
+  -- ---- a key slot in use
 
-    -- an area begins with the slot's key material
-    area_begins : at 0 (need_of (length p.key.now) p.stripes) (area1_of p number) ≡ material1_of p slot
+  module _ (slot : Slot1) (used : IsUsed p slot) where
+    low : slot.number < 8
+    low = omega (arith, used.fits.0)
+
+    -- its key material ends before the payload
+    pub ends_before : 512 * (8 + slot.number * area_sectors_of p) + need_of (length p.key.now) p.stripes
+        ≤ 512 * p.payload_sectors
+    unfolding need_of
+    ends_before =
+        let below : (slot.number + 1) * area_sectors_of p ≤ 8 * area_sectors_of p =
+        mul-le-mul_right {m = slot.number + 1} {n = 8} (area_sectors_of p) (omega (arith, low)) in
+        omega (arith, below, fits.counts.3)
+
+    -- its area begins with its key material
+    area_begins : at 0 (need_of (length p.key.now) p.stripes) (area1_of p slot.number) ≡ material1_of p slot
     unfolding area1_of
     area_begins =
-        rw found
+        rw used.found
         (padded_begins (need_of (length p.key.now) p.stripes) (area_sectors_of p * 512) (material1_of p slot)
-        (sym (length-material1 slot of_slot)))
-
-    need_fits1 : 0 + need_of (length p.key.now) p.stripes ≤ area_sectors_of p * 512
-    unfolding need_of
-    need_fits1 = omega arith
+        (sym (length-material1 slot used.fits)))
 
     -- the areas start at byte 4096
-    pub image_material : (place : ℕ) → place ≡ 512 * (8 + number * area_sectors_of p)
-        → at place (need_of (length p.key.now) p.stripes) (image1_of p) ≡ material1_of p slot
-    image_material place is =
-        let size = area_sectors_of p * 512 in
-        let len = need_of (length p.key.now) p.stripes in
-        let areas = joined (area1_of p) 8 in
-        let within = area_within in
-        let there = piece_at (area1_of p) size 8 number (λ j below. length-area1 j) low in
-        in_before place len (omega (arith, is, within, need_fits1))
-        ∙ at_within_second place (number * size) len (header1_bytes p) areas
-        (omega (arith, is, length-header1))
-        ∙ at_inside (number * size) 0 len (number * size) size areas (area1_of p number) (omega arith) need_fits1 there
+    pub image_material : at (512 * (8 + slot.number * area_sectors_of p)) (need_of (length p.key.now) p.stripes)
+        (image1_of p) ≡ material1_of p slot
+    unfolding need_of
+    image_material =
+        image1.in_area slot.number (512 * (8 + slot.number * area_sectors_of p))
+        (need_of (length p.key.now) p.stripes) low (omega (arith, length-header1, length-areas1 slot.number))
+        (omega (arith, length-area1 slot.number))
         ∙ area_begins
 
-    pub material_within : (place : ℕ) → place ≡ 512 * (8 + number * area_sectors_of p)
-        → place + need_of (length p.key.now) p.stripes ≤ length (image1_of p)
-    material_within place is =
-        let within = area_within in
-        omega (arith, is, within, need_fits1, length-image1, fits.counts.3)
+    slot_bytes_read : key_slot_of (key_slot1_of p slot.number) ≡ found_slot p slot
+    unfolding key_slot1_of
+    slot_bytes_read =
+        let below = ends_before in
+        rw used.found
+        (key_slot_read slot (8 + slot.number * area_sectors_of p) p.stripes used.typed.salt used.typed.iterations
+        (omega (arith, below, fits.counts.4)) (omega (arith, fits.counts.1)))
+
+    -- it is read from the header
+    pub slot_read : slice_get (key_slots_of (header1_start_bytes p)) slot.number ≡ Some (found_slot p slot)
+    slot_read =
+        key_slots_read (header1_start_bytes p) slot.number low
+        ∙ ap (λ b. Some (key_slot_of b)) (in_slots slot.number low)
+        ∙ ap Some slot_bytes_read

@@ -1,4 +1,2 @@
 pub mod Layout1Lemmas
-pub mod Read1
-pub mod Verdicts1
 pub mod Sealed1

@@ -1,41 +1,45 @@
--- The image of a volume of LUKS1 is a sealed volume of its key, its passphrases and its plaintext.
-use Rattle.std.proofs.Common.{◌≡◌, ◌∙◌, ℕ, ◌+◌, ◌-◌, ◌*◌, ◌<◌, true, List, [], ◌∷◌, length, Some, None, Ok, refl, ap}
-use Rattle.std.proofs.Common.{arith, get_or}
-use Rattle.std.specs.Prelude.{bytes_eq, option_map}
-use Rattle.std.proofs.lemmas.Bool.{le-ltb}
-use Rattle.std.proofs.lemmas.List.{take_all}
+-- The image of a volume of LUKS1 is a sealed volume of its key, its passphrases and its plaintext: a reader finds the
+-- header, the segment and the digest in it, and can try each key slot.
+use Rattle.std.proofs.Common.{◌≡◌, ◌∙◌, ℕ, ◌+◌, ◌*◌, true, false, length, Some, None, Ok, refl, ap, arith, le-ltb, ◌-◌}
+use Rattle.std.proofs.Common.{List, [], ◌∷◌, get_or, bytes_eq, option_map, take_all, sym}
+use Rattle.luks_cipher.specs.Sector.{is_mode_key_length}
+use Rattle.luks_kdf.proofs.Pbkdf2Lemmas.{length-derived_key}
+use Rattle.luks_verdict.specs.Digest.{digest_of, has_no_usable_digest, is_usable}
+use Rattle.luks_verdict.specs.Rule.{need_of}
+use Rattle.luks_verdict.specs.Segment.{segment_by, segment_from}
+use Rattle.luks_verdict.specs.Slot.{are_in_range, slot_of}
+use Rattle.luks_verdict.specs.declared.sector_size.SectorSize.TheVariants.{B512}
+use Rattle.luks_verdict.specs.declared.slot.Verdict.TheVariants.{Usable}
+use Rattle.luks_verdict.proofs.MadeLemmas.{digest_from-yes, no_usable_digest-yes}
+use Rattle.luks1_header.specs.Segment1.{fault1_of, segment1_of, segment_parts1_of, overlaps_header1}
+use Rattle.luks1_header.specs.Slot1.{digest1_of, digest_parts1_of, hash1_of, area1_out_of_range, mode1_of}
+use Rattle.luks1_header.specs.Slot1.{payload1_start, reason1_of, slot_parts1_of, verdict1_of, verdict1_at}
+use Rattle.luks1_header.proofs.SegmentLemmas.{segment1-none}
+use Rattle.luks1_header.proofs.SlotLemmas.{slot_there}
+use Rattle.luks_seal.specs.Sealed.{IsDigestOf, GivesKey, Sealed, SealsKey, SealsPlain}
+use Rattle.luks_seal.proofs.RuleLemmas.{area_fits, digest_fits, hash_is_named, iterations_fit, mode_is_named}
+use Rattle.luks_seal.proofs.RuleLemmas.{stripes_fit}
+use Rattle.luks1_seal.specs.Layout1.{area_sectors_of, area_key1_of, image1_of, material1_of}
+use Rattle.luks1_seal.specs.Ranges1.{AreParameters1, AreTyped1, passphrases1_of, Seal1, Slot1}
 use Rattle.std.proofs.lemmas.List.Elements.{All-map}
 use Rattle.luks_area.specs.Fields.{at}
-use Rattle.luks_verdict.specs.Digest.{digest_of}
-use Rattle.luks_verdict.specs.Segment.{segment_by}
-use Rattle.luks_verdict.specs.Slot.{slot_of}
-use Rattle.luks_verdict.specs.declared.sector_size.SectorSize.TheVariants.{B512}
-use Rattle.luks1_header.specs.Header1.{is_luks1, key_slot_of, header1_of as read_header1}
-use Rattle.luks1_header.specs.Slot1.{digest_parts1_of, slot_parts1_of, verdict1_at, verdict1_of}
-use Rattle.luks1_header.specs.declared.header.Header1.{Header1}
-use Rattle.luks1_header.specs.declared.header.StoredSlot.{StoredSlot}
+use Rattle.luks1_header.specs.Header1.{is_luks1}
 use Rattle.luks_header.specs.HeaderDigests.{digest_for}
 use Rattle.luks_header.specs.Header.{header_of}
 use Rattle.luks_header.specs.HeaderSegment.{segment_of}
 use Rattle.luks_header.specs.SlotVerdicts.{verdict_at}
 use Rattle.luks_header.specs.declared.header.Header.TheVariants.{V1}
-use Rattle.luks_seal.specs.Sealed.{GivesKey, Sealed, SealsKey, SealsPlain}
-use Rattle.luks_seal.specs.declared.parameters.Seal1.{Seal1}
-use Rattle.luks_seal.specs.declared.parameters.Slot1.{Slot1}
 use Rattle.luks_seal.proofs.MaterialLemmas.{gives_key}
-use Rattle.luks_seal.proofs.SectorLemmas.{sectors_are_stored}
 use Rattle.luks_seal.proofs.SlotLemmas.{found_by_number}
-use Rattle.luks1_seal.specs.Layout1.{area_key1_of, area_sectors_of, image1_of, key_slot1_of, material1_of}
-use Rattle.luks1_seal.specs.Layout1.{payload1_bytes, slot1_numbered}
-use Rattle.luks1_seal.specs.Passphrases1.{passphrases1_of}
-use Rattle.luks1_seal.specs.Ranges1.{AreParameters1, FitsSlot1}
-use Rattle.luks1_seal.specs.Typed1.{AreTyped1, IsTypedSlot1}
-use Rattle.luks1_seal.proofs.Verdicts1.{digest1_is, digest1_of_key, digest_usable, hash1_is, mode1_is, payload_starts}
-use Rattle.luks1_seal.proofs.Verdicts1.{ranged, segment1_is, verdict1_is}
-use Rattle.luks1_seal.proofs.Layout1Lemmas.{header1_part, header1_start_bytes, image_header, image_material}
-use Rattle.luks1_seal.proofs.Layout1Lemmas.{image_payload, length-image1, length-prefix1, material_within}
-use Rattle.luks1_seal.proofs.Layout1Lemmas.{random_stripes1}
-use Rattle.luks1_seal.proofs.Read1.{IsKeySlot, IsRead1, header1_is, key_slot1_is}
+use Rattle.luks1_seal.proofs.Layout1Lemmas.{IsUsed, ends_before, found_header, found_slot, header1_are, header1_read}
+use Rattle.luks1_seal.proofs.Layout1Lemmas.{header1_start_bytes, image1, image_header, image_material, length-prefix1}
+use Rattle.luks1_seal.proofs.Layout1Lemmas.{random_stripes1, slot_read}
+use Rattle.luks_kdf.specs.Pbkdf2.{derived_key}
+use Rattle.luks_verdict.specs.declared.segment.Segment.{Segment}
+
+-- the segment of a volume
+abbrev segment1 : Seal1 → Segment
+segment1 p = segment_by (512 * p.payload_sectors) None 0 B512 p.mode refl
 
 module _ (p : Seal1) (fits : AreParameters1 p) (typed : AreTyped1 p) where
   -- ---- the header
@@ -44,110 +48,154 @@ module _ (p : Seal1) (fits : AreParameters1 p) (typed : AreTyped1 p) where
   unfolding is_luks1
   begins =
       ap (λ (b : List ℕ). bytes_eq b (0x4c ∷ 0x55 ∷ 0x4b ∷ 0x53 ∷ 0xba ∷ 0xbe ∷ 0x00 ∷ 0x01 ∷ []))
-      (image_header p fits typed 0 8 (omega arith) ∙ header1_part p fits typed 0)
+      (image_header p fits typed 0 8 (omega arith) ∙ (header1_are p fits typed).part_at 0)
 
   whole_header : at 0 592 (image1_of p) ≡ header1_start_bytes p
   whole_header =
       image_header p fits typed 0 592 (omega arith)
       ∙ take_all 592 (header1_start_bytes p) (omega (arith, length-prefix1 p fits typed))
 
-  header_is : header_of (image1_of p) ≡ Ok (V1 (read_header1 (header1_start_bytes p)))
+  header_is : header_of (image1_of p) ≡ Ok (V1 (found_header p))
   unfolding header_of
   header_is =
-      let long = length-image1 p fits typed in
+      let long = (image1 p fits typed).len in
       let capacity = le-ltb (length (image1_of p)) 592 (omega (arith, long, fits.counts.3)) in
-      rw (begins, capacity, whole_header) refl
+      rw (begins, capacity, whole_header, header1_read p fits typed) refl
 
-  read : IsRead1 p (read_header1 (header1_start_bytes p))
-  read = header1_is p fits typed
+  mode1_is : mode1_of (found_header p) ≡ Some p.mode
+  unfolding mode1_of
+  mode1_is = (mode_is_named p.mode).by_name
+
+  hash1_is : hash1_of (found_header p) ≡ Some p.hash
+  unfolding hash1_of
+  hash1_is = (hash_is_named p.hash).by_name
+
+  -- ---- the segment
+
+  outside : overlaps_header1 (found_header p) ≡ false
+  unfolding overlaps_header1
+  outside = rw (le-ltb (512 * p.payload_sectors) 592 (omega (arith, fits.counts.3))) refl
+
+  no_fault : fault1_of (found_header p) ≡ None
+  unfolding fault1_of
+  no_fault =
+      let key : is_mode_key_length p.mode (length p.key.now) ≡ true = fits.key in
+      rw (mode1_is, hash1_is, key, outside) refl
+
+  made : segment_from (segment_parts1_of (found_header p)) ≡ Some (segment1 p)
+  unfolding segment_from
+  made = rw mode1_is refl
+
+  segment1_is : segment1_of (found_header p) ≡ Ok (segment1 p)
+  segment1_is = segment1-none (found_header p) (segment1 p) no_fault made
+
+  -- ---- the digest
+
+  digest_usable : is_usable (digest_parts1_of (found_header p)) ≡ true
+  unfolding digest_parts1_of
+  digest_usable =
+      rw (length-derived_key p.hash p.key.now p.digest_salt p.digest_iterations 20)
+      (digest_fits p.digest_iterations 20 fits.counts.2 typed.iterations (omega arith) (omega arith))
+
+  digest1_is : digest1_of (found_header p) ≡ Some (digest_of (digest_parts1_of (found_header p)) digest_usable)
+  unfolding digest1_of
+  digest1_is = digest_from-yes (digest_parts1_of (found_header p)) digest_usable
+
+  digest1_of_key : IsDigestOf (digest_of (digest_parts1_of (found_header p)) digest_usable) p.key.now
+  unfolding digest_of digest_parts1_of
+  digest1_of_key = record {
+    hash = p.hash;
+    is_hash = hash1_is;
+    value = ap (derived_key p.hash p.key.now p.digest_salt p.digest_iterations)
+        (sym (length-derived_key p.hash p.key.now p.digest_salt p.digest_iterations 20));
+  }
+
+  digested : has_no_usable_digest None (digest1_of (found_header p)) ≡ false
+  unfolding digest1_of digest_parts1_of
+  digested =
+      no_usable_digest-yes None (digest_parts1_of (found_header p)) digest_usable
+      ∙ iterations_fit p.digest_iterations fits.counts.2 typed.iterations
 
   -- ---- a key slot
 
-  module _ (slot : Slot1) (found : slot1_numbered slot.number p.slots.now ≡ Some slot)
-      (of_slot : FitsSlot1 ((p.stripes - 1) * length p.key.now) slot) (of_types : IsTypedSlot1 slot) where
-    low : slot.number < 8
-    low = omega (arith, of_slot.0)
+  module _ (slot : Slot1) (used : IsUsed p slot) where
+    placed : area1_out_of_range (found_header p) (found_slot p slot) ≡ false
+    unfolding area1_out_of_range payload1_start
+    placed =
+        let need = need_of (length p.key.now) p.stripes in
+        area_fits 592 (512 * p.payload_sectors) (512 * (8 + slot.number * area_sectors_of p)) need need (omega arith)
+        (omega arith) (ends_before p fits typed slot used) (omega (arith, fits.counts.4))
 
-    stored_is : IsKeySlot slot (8 + slot.number * area_sectors_of p) p.stripes
-        (key_slot_of (key_slot1_of p slot.number))
-    stored_is = key_slot1_is p fits typed slot.number slot found of_types.salt of_types.iterations low
+    no_reason : reason1_of (found_header p) None (found_slot p slot) ≡ None
+    unfolding reason1_of
+    no_reason =
+        let striped = stripes_fit p.stripes fits.counts.0 fits.counts.1 in
+        let counted = iterations_fit slot.iterations used.fits.1 used.typed.iterations in
+        rw (striped, counted, placed, digested) refl
 
-    -- a key slot that is read back gives the key
-    gives1 : (header : Header1) (stored : StoredSlot) → IsRead1 p header
-        → IsKeySlot slot (8 + slot.number * area_sectors_of p) p.stripes stored
-        → GivesKey (slot_parts1_of header stored) slot.passphrase.now p.key.now (image1_of p)
+    ranged : are_in_range (slot_parts1_of (found_header p) (found_slot p slot)) ≡ true
+    ranged = (slot_there (found_header p) None (found_slot p slot) no_reason).0
+
+    verdict1_is : verdict1_of (found_header p) None (found_slot p slot)
+        ≡ Usable (slot_of (slot_parts1_of (found_header p) (found_slot p slot)) ranged)
+    unfolding verdict1_of ranged
+    verdict1_is = rw (no_reason, (slot_there (found_header p) None (found_slot p slot) no_reason).1) refl
+
+    -- the slot gives the key
+    gives1 : GivesKey (slot_parts1_of (found_header p) (found_slot p slot)) slot.passphrase.now p.key.now (image1_of p)
     unfolding slot_parts1_of material1_of area_key1_of
-    gives1 header stored of_header of_stored =
-        let drawn = random_stripes1 p fits typed slot of_slot in
-        let starts = ap (λ n. 512 * n) of_stored.offset in
-        gives_key (slot_parts1_of header stored) p.hash p.hash p.mode slot.passphrase.now p.key.now slot.random.now
-        (image1_of p)
+    gives1 =
+        gives_key (slot_parts1_of (found_header p) (found_slot p slot)) p.hash p.hash p.mode slot.passphrase.now
+        p.key.now slot.random.now (image1_of p)
         (record {
-          is_kdf = hash1_is p header fits typed of_header;
-          is_af = hash1_is p header fits typed of_header;
-          is_mode = mode1_is p header fits typed of_header;
-          key_bytes = of_header.key_bytes;
-          drawn = rw of_stored.stripes drawn;
+          is_kdf = hash1_is;
+          is_af = hash1_is;
+          is_mode = mode1_is;
+          key_bytes = refl;
+          drawn = random_stripes1 p fits typed slot used.fits;
           bytes = typed.key;
-          random_bytes = of_types.random;
+          random_bytes = used.typed.random;
         })
-        (rw of_stored.stripes
-        (material_within p fits typed slot.number slot found low of_slot (512 * stored.offset) starts))
-        (rw (of_stored.stripes, of_stored.salt, of_stored.iterations, of_header.key_bytes)
-        (image_material p fits typed slot.number slot found low of_slot (512 * stored.offset) starts))
+        (omega (arith, ends_before p fits typed slot used, (image1 p fits typed).len))
+        (image_material p fits typed slot used)
 
-    seals_key1 : SealsKey (V1 (read_header1 (header1_start_bytes p))) (image1_of p) p.key.now slot.number
-        slot.passphrase.now
+    seals_key1 : SealsKey (V1 (found_header p)) (image1_of p) p.key.now slot.number slot.passphrase.now
     unfolding verdict_at verdict1_at digest_for slot_of
-    seals_key1 =
-        let header = read_header1 (header1_start_bytes p) in
-        let stored = key_slot_of (key_slot1_of p slot.number) in
-        record {
-          slot = slot_of (slot_parts1_of header stored)
-              (ranged p header fits typed read slot slot.number stored stored_is low of_slot.1 of_types.iterations);
-          digest = digest_of (digest_parts1_of header) (digest_usable p header fits typed read);
-          usable = ap (option_map (verdict1_of header None)) (read.slots slot.number low)
-              ∙ ap Some
-              (verdict1_is p header fits typed read slot slot.number stored stored_is low of_slot.1
-              of_types.iterations);
-          gives = gives1 header stored read stored_is;
-          is_digest = digest1_is p header fits typed read;
-          digest_of_key = digest1_of_key p header fits typed read;
-        }
+    seals_key1 = record {
+      slot = slot_of (slot_parts1_of (found_header p) (found_slot p slot)) ranged;
+      digest = digest_of (digest_parts1_of (found_header p)) digest_usable;
+      usable = ap (option_map (verdict1_of (found_header p) None)) (slot_read p fits typed slot used)
+          ∙ ap Some verdict1_is;
+      gives = gives1;
+      is_digest = digest1_is;
+      digest_of_key = digest1_of_key;
+    }
 
   -- ---- the payload
 
-  seals_plain1 : SealsPlain (segment_by (512 * (read_header1 (header1_start_bytes p)).payload_offset) None 0 B512
-      p.mode refl)
-      (image1_of p) p.key.now p.plain.now
-  unfolding segment_by payload1_bytes
+  seals_plain1 : SealsPlain (segment1 p) (image1_of p) p.key.now p.plain.now
+  unfolding segment_by
   seals_plain1 =
-      let place = 512 * (read_header1 (header1_start_bytes p)).payload_offset in
-      let starts = payload_starts p (read_header1 (header1_start_bytes p)) fits typed read in
-      let long = length-image1 p fits typed in
-      record {
-        is_stored = sectors_are_stored (p.mode, p.key.now) 0 1 512 p.plain.now refl fits.plain.0 place (image1_of p)
-            typed.plain (omega (arith, starts, long)) (image_payload p fits typed place starts);
-        ends = omega (arith, starts, long);
-      }
+      let image = image1 p fits typed in
+      record { is_stored = image.stored (512 * p.payload_sectors) (omega arith); ends = omega (arith, image.len) }
 
   -- ---- the volume
 
   pub sealed1 : Sealed (image1_of p) (passphrases1_of p) p.key.now p.plain.now
   unfolding segment_of
-  sealed1 =
-      let header = read_header1 (header1_start_bytes p) in
-      record {
-        header = V1 header;
-        segment = segment_by (512 * header.payload_offset) None 0 B512 p.mode refl;
-        is_header = header_is;
-        is_segment = segment1_is p header fits typed read;
-        key_bytes = typed.key;
-        slots = All-map (λ slot. SealsKey (V1 header) (image1_of p) p.key.now slot.0 slot.1)
-            (λ slot. (slot.number, slot.passphrase.now)) p.slots.now
-            (λ k d below.
-            seals_key1 (get_or p.slots.now k d)
-            (found_by_number (λ (slot : Slot1). slot.number) p.slots.now fits.distinct k d below)
-            (fits.slots k d below) (typed.slots k d below));
-        payload = seals_plain1;
-      }
+  sealed1 = record {
+    header = V1 (found_header p);
+    segment = segment1 p;
+    is_header = header_is;
+    is_segment = segment1_is;
+    key_bytes = typed.key;
+    slots = All-map (λ slot. SealsKey (V1 (found_header p)) (image1_of p) p.key.now slot.0 slot.1)
+        (λ slot. (slot.number, slot.passphrase.now)) p.slots.now
+        (λ k d below.
+        seals_key1 (get_or p.slots.now k d) (record {
+          fits = fits.slots k d below;
+          typed = typed.slots k d below;
+          found = found_by_number (λ (slot : Slot1). slot.number) p.slots.now fits.distinct k d below;
+        }));
+    payload = seals_plain1;
+  }

@@ -7,9 +7,7 @@ use Rattle.luks_kdf.specs.Bytes.{joined}
 use Rattle.luks_kdf.specs.Hash.{hash_name}
 use Rattle.luks_kdf.specs.Pbkdf2.{derived_key}
 use Rattle.luks_seal.specs.Pieces.{encrypted_material, padded, sectors_encrypted, stripes_of}
-use Rattle.luks_seal.specs.declared.parameters.Seal1.{Seal1}
-use Rattle.luks_seal.specs.declared.parameters.Slot1.{Slot1}
-use Rattle.luks1_seal.specs.Ranges1.{area_sectors}
+use Rattle.luks1_seal.specs.Ranges1.{area_sectors, Seal1, Slot1}
 
 -- the slot of this number, if it is in use
 abbrev pub slot1_numbered : ℕ → List Slot1 → Option Slot1

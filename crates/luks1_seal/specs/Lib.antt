@@ -1,4 +1,2 @@
 pub mod Layout1
-pub mod Passphrases1
 pub mod Ranges1
-pub mod Typed1

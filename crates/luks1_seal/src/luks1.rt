@@ -7,8 +7,7 @@ ghost use Rattle.luks_seal.specs.Ranges.{SealAnswer};
 ghost use Rattle.luks_seal.specs.Sealed.{Sealed};
 ghost use Rattle.luks1_seal.specs.Layout1.{area1_of, area_key1_of, image1_of, material1_of};
 ghost use Rattle.luks1_seal.specs.Layout1.{payload1_bytes, slot1_numbered};
-ghost use Rattle.luks1_seal.specs.Passphrases1.{passphrases1_of};
-ghost use Rattle.luks1_seal.specs.Ranges1.{AreParameters1, FitsSlot1};
+ghost use Rattle.luks1_seal.specs.Ranges1.{AreParameters1, FitsSlot1, passphrases1_of};
 
 use crate::headers1::{header1_bytes, slot1_numbered};
 use crate::ranges::{are_parameters, area_sectors};

@@ -1,7 +1,7 @@
 //! What the types of the parameters of LUKS1 guarantee for their values: nothing is done here, the
 //! clauses are for proofs.
 
-ghost use Rattle.luks1_seal.specs.Typed1.{AreTyped1, IsTypedSlot1};
+ghost use Rattle.luks1_seal.specs.Ranges1.{AreTyped1, IsTypedSlot1};
 ghost use Rattle.std.specs.Prelude.{All};
 
 use luks_seal::parameters::{Seal1, Slot1};

@@ -1,5 +1,5 @@
 -- The header of an image is, with its JSON area, within the bytes that were read to choose it.
-use Rattle.std.proofs.Common.{◌≡◌, ◌∙◌, ℕ, ◌+◌, ◌-◌, ◌≤◌, List, [], ◌∷◌, Option, Some, None, Bool, true, false, ap, sym}
+use Rattle.std.proofs.Common.{◌≡◌, ◌∙◌, ℕ, ◌+◌, ◌-◌, ◌≤◌, List, Option, Some, None, Bool, true, false, ap, sym}
 use Rattle.std.proofs.Common.{refl, take, arith}
 use Rattle.std.specs.Prelude.{Ok, nat_lt, ok_or}
 use Rattle.std.proofs.lemmas.Option.{option_and_then_some}
@@ -20,23 +20,9 @@ use Rattle.luks2_binary.specs.declared.header.HeaderRole.{HeaderRole}
 use Rattle.luks2_binary.specs.declared.header.HeaderRole.TheVariants.{Primary, Secondary}
 use Rattle.luks2_binary.proofs.AgreeLemmas.{probe_fit}
 use Rattle.luks2_binary.proofs.ChoiceLemmas.{chosen_other, chosen_primary, probe_other, probe_primary}
-use Rattle.luks2_binary.proofs.SearchLemmas.{least_is, search_len_is}
+use Rattle.luks2_binary.proofs.SearchLemmas.{search_len_is}
 use Rattle.luks2_binary.proofs.ValidLemmas.{fits_parts, size_is_place, valid_parts, valid_range}
-use Rattle.luks2_binary.proofs.WalkLemmas.{first_valid, furthest}
-
--- the first valid offset is valid, and the search reads at least as far as it does for this offset
-first_is : (valid : ℕ → Bool) (probe : ℕ → ℕ) (places : List ℕ) (place : ℕ) → first_valid valid places ≡ Some place
-    → (valid place ≡ true) × (probe place ≤ furthest valid probe places)
-unfolding first_valid furthest
-first_is valid probe [] place is = absurd (cc)
-first_is valid probe (here ∷ places) place is = by (valid here) refl (first_is valid probe places place) where
-  by : (b : Bool) → valid here ≡ b
-      → (first_valid valid places ≡ Some place → (valid place ≡ true) × (probe place ≤ furthest valid probe places))
-      → (valid place ≡ true) × (probe place ≤ furthest valid probe (here ∷ places))
-  by true e behind =
-      let same : here ≡ place = (let first : Some here ≡ Some place = rw e at is in cc) in
-      (ap valid (sym same) ∙ e, omega (arith, ap probe same))
-  by false e behind = (let rest = behind (rw e at is) in (rest.0, rw e (omega (arith, rest.1))))
+use Rattle.luks2_binary.proofs.WalkLemmas.{first_is}
 
 -- a header that was made from bytes has this role, the length that they give, and is attached
 made_of : (role : HeaderRole) (finding : Option PairFinding) (binary : List ℕ) (header : Header2)
@@ -95,36 +81,30 @@ module _ (image : List ℕ) (header : Header2) where
   choice_with_primary_at : is_valid image 0 ≡ true → with_valid_primary image ≡ Some header
       → (place : ℕ) × HasHeaderAt image header place
   unfolding with_valid_primary
-  choice_with_primary_at valid is = by (is_valid image (size_at image 0)) refl where
-    earlier : is_valid image (size_at image 0) ≡ true
-        → nat_lt (sequence_at image 0) (sequence_at image (size_at image 0)) ≡ false
-        → (b : Bool) → nat_lt (sequence_at image (size_at image 0)) (sequence_at image 0) ≡ b
-        → (place : ℕ) × HasHeaderAt image header place
-    earlier both not_later true e = (0, primary_header_at (Some SequencesDiffer) valid (rw (both, not_later, e) at is))
-    earlier both not_later false e = (0, primary_header_at None valid (rw (both, not_later, e) at is))
-
-    later : is_valid image (size_at image 0) ≡ true → (b : Bool)
-        → nat_lt (sequence_at image 0) (sequence_at image (size_at image 0)) ≡ b
-        → (place : ℕ) × HasHeaderAt image header place
-    later both true e =
-        let range = valid_range image 0 valid in (
-          size_at image 0,
-          secondary_header_at (Some SequencesDiffer) (size_at image 0) both
-              (λ none. absurd (omega (arith, range.1, none))) (omega (arith, probe_primary image valid))
-              (rw (both, e) at is),
-        )
-    later both false e =
-        earlier both e (nat_lt (sequence_at image (size_at image 0)) (sequence_at image 0)) refl
-
-    by : (b : Bool) → is_valid image (size_at image 0) ≡ b → (place : ℕ) × HasHeaderAt image header place
-    by false e = (0, primary_header_at (Some SecondaryNotValid) valid (rw e at is))
-    by true e = later e (nat_lt (sequence_at image 0) (sequence_at image (size_at image 0))) refl
+  choice_with_primary_at valid is =
+      by (is_valid image (size_at image 0)) (nat_lt (sequence_at image 0) (sequence_at image (size_at image 0)))
+      (nat_lt (sequence_at image (size_at image 0)) (sequence_at image 0)) refl refl refl
+    where
+      by : (both later earlier : Bool) → is_valid image (size_at image 0) ≡ both
+          → nat_lt (sequence_at image 0) (sequence_at image (size_at image 0)) ≡ later
+          → nat_lt (sequence_at image (size_at image 0)) (sequence_at image 0) ≡ earlier
+          → (place : ℕ) × HasHeaderAt image header place
+      by false _ _ b _ _ = (0, primary_header_at (Some SecondaryNotValid) valid (rw b at is))
+      by true true _ b l _ =
+          let range = valid_range image 0 valid in (
+            size_at image 0,
+            secondary_header_at (Some SequencesDiffer) (size_at image 0) b
+                (λ none. absurd (omega (arith, range.1, none))) (omega (arith, probe_primary image valid))
+                (rw (b, l) at is),
+          )
+      by true false true b l e = (0, primary_header_at (Some SequencesDiffer) valid (rw (b, l, e) at is))
+      by true false false b l e = (0, primary_header_at None valid (rw (b, l, e) at is))
 
   -- the header that the search finds is at the offset where it was found
   search_result_at : is_valid image 0 ≡ false → (place : ℕ) → least_valid image ≡ Some place
       → found_at image place ≡ Some header → HasHeaderAt image header place
   search_result_at none place least is =
-      let one = first_is (is_valid image) (probe_end image) sizes place (sym (least_is image) ∙ least) in
+      let one = first_is (is_valid image) (probe_end image) sizes place least in
       let some : place ≡ 0 → ⊥ =
       λ start. (let wrong : true ≡ false = sym one.0 ∙ ap (is_valid image) start ∙ none in cc) in
       let fit = valid_parts image place one.0 in

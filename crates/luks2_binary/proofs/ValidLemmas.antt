@@ -1,18 +1,10 @@
 -- Properties of a header that fits.
-use Rattle.std.proofs.Common.{◌≡◌, ◌==◌, ◌&&◌, ◌||◌, ℕ, ◌+◌, ◌<◌, ◌≤◌, List, Bool, true, false, refl, length, arith}
-use Rattle.std.specs.Prelude.{bytes_eq, is_some, nat_le}
+use Rattle.std.proofs.Common.{◌≡◌, ◌==◌, ◌||◌, ℕ, ◌+◌, ◌<◌, ◌≤◌, List, Bool, true, false, refl, length, arith}
 use Rattle.std.specs.List.{list_any}
-use Rattle.std.proofs.lemmas.Bool.{leb-true, eqb-true, lt-leb, ne_eqb}
+use Rattle.std.proofs.lemmas.Bool.{and_parts, leb-true, eqb-true, lt-leb, ne_eqb}
 use Rattle.std.proofs.lemmas.Bool.Decides.{nat_tests}
-use Rattle.luks_area.specs.Fields.{at}
-use Rattle.luks2_binary.specs.Checksum2.{checksum_matches}
-use Rattle.luks2_binary.specs.Choice2.{beginning_at, binary_at, fits, is_binary_of, is_valid, size_at}
-use Rattle.luks2_binary.specs.Header2.{checksum_hash_in, hdr_offset_in, size_in, sizes}
-
--- if both of two tests hold together, each holds
-pub and_parts : (a b : Bool) → (a && b) ≡ true → (a ≡ true) × (b ≡ true)
-and_parts true b h = (refl, h)
-and_parts false b h = (h, absurd (let wrong : false ≡ true = h in cc))
+use Rattle.luks2_binary.specs.Choice2.{binary_at, fits, is_binary_of, is_valid, size_at}
+use Rattle.luks2_binary.specs.Header2.{size_in, sizes}
 
 -- the range of a length that is one of the nine
 known_size : (n : ℕ) → list_any (λ size. size == n) sizes ≡ true → (16384 ≤ n) × (n ≤ 4194304)
@@ -29,15 +21,10 @@ module _ (place : ℕ) (binary : List ℕ) (is : is_binary_of place binary ≡ t
   tests : (list_any (λ size. size == size_in binary) sizes ≡ true) × ((place == 0 || size_in binary == place) ≡ true)
   unfolding is_binary_of
   tests =
-      let begins = bytes_eq (at 0 8 binary) (beginning_at place) in
-      let sized = list_any (λ size. size == size_in binary) sizes in
-      let own = place == 0 || size_in binary == place in
-      let there = hdr_offset_in binary == place in
-      let known = is_some (checksum_hash_in binary) in
-      let four = and_parts (begins && sized && own && there) known is in
-      let three = and_parts (begins && sized && own) there four.0 in
-      let two = and_parts (begins && sized) own three.0 in
-      let one = and_parts begins sized two.0 in
+      let four = and_parts _ _ is in
+      let three = and_parts _ _ four.0 in
+      let two = and_parts _ _ three.0 in
+      let one = and_parts _ _ two.0 in
       (one.1, two.1)
 
   -- the length of a header is one of the nine
@@ -55,7 +42,7 @@ module _ (image : List ℕ) (place : ℕ) where
       → (place + 4096 ≤ length image) × (is_binary_of place (binary_at image place) ≡ true)
   unfolding fits
   fits_parts h =
-      let both = and_parts (nat_le (place + 4096) (length image)) (is_binary_of place (binary_at image place)) h in
+      let both = and_parts _ _ h in
       (leb-true (place + 4096) (length image) both.0, both.1)
 
   -- no header fits if the image ends before a binary header does
@@ -73,9 +60,8 @@ module _ (image : List ℕ) (place : ℕ) where
       → (fits image place ≡ true) × (place + size_at image place ≤ length image)
   unfolding is_valid
   valid_parts h =
-      let whole = nat_le (place + size_at image place) (length image) in
-      let two = and_parts (fits image place && whole) (checksum_matches (at place (size_at image place) image)) h in
-      let one = and_parts (fits image place) whole two.0 in
+      let two = and_parts _ _ h in
+      let one = and_parts _ _ two.0 in
       (one.0, leb-true (place + size_at image place) (length image) one.1)
 
   -- the binary header of a valid header is in the image, and its length is in the range of the nine

@@ -56,10 +56,10 @@ unfoldable pub is_tried : List ℕ → ℕ → Bool
 is_tried image place = not (list_any (λ other. nat_lt other place && is_valid image other) sizes)
 
 -- the lowest of the nine offsets with a valid header
-unfoldable pub least_valid : List ℕ → Option ℕ
-least_valid image = find (λ place. is_tried image place && is_valid image place) sizes
+abbrev pub least_valid : List ℕ → Option ℕ
+least_valid image = find (is_valid image) sizes
 
--- the header of an image whose primary one is valid: the secondary one right behind it, if that is valid with a higher
+-- the header of an image whose primary one is valid: the secondary one right after it, if that is valid with a higher
 -- sequence number, and otherwise the primary
 unfoldable pub with_valid_primary : List ℕ → Option Header2
 with_valid_primary image =

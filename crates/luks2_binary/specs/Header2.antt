@@ -48,6 +48,6 @@ header2_from role finding binary =
       detached = false;
     }) (checksum_hash_in binary)
 
--- the first byte behind both headers of an image
+-- the first byte after both headers of an image
 abbrev pub end2_of : Header2 → ℕ
 end2_of header = 2 * header.size

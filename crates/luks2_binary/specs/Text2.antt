@@ -6,12 +6,12 @@ use Rattle.luks2_binary.specs.declared.header.Header2.{Header2}
 use Rattle.luks2_binary.specs.declared.header.HeaderRole.{HeaderRole}
 use Rattle.luks2_binary.specs.declared.header.HeaderRole.TheVariants.{Primary, Secondary}
 
--- the offset of the header of this length, in bytes: a secondary one is right behind the primary
+-- the offset of the header of this length, in bytes: a secondary one is right after the primary
 abbrev pub header_offset : HeaderRole → ℕ → ℕ
 header_offset Primary size = 0
 header_offset Secondary size = size
 
--- the JSON area behind the binary header
+-- the JSON area after the binary header
 unfoldable pub json_area_of : List ℕ → Header2 → List ℕ
 json_area_of image header = at (header_offset header.role header.size + binary_len) (header.size - binary_len) image
 

@@ -121,7 +121,7 @@ impl Header2 {
         })
     }
 
-    /// The first byte behind both headers of the image.
+    /// The offset of the first byte after both headers of the image.
     pub fn end(&self) -> u64
         ensures { result ≡ end2_of self.now }
     {

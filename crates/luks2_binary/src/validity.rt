@@ -25,7 +25,7 @@ const PRIMARY_BEGINNING: [u8; 8] = [0x4c, 0x55, 0x4b, 0x53, 0xba, 0xbe, 0x00, 0x
 /// The first bytes of a secondary header.
 const SECONDARY_BEGINNING: [u8; 8] = [0x53, 0x4b, 0x55, 0x4c, 0xba, 0xbe, 0x00, 0x02];
 
-// Whether a header starts as it has to at this offset.
+// Whether a binary header starts with the magic bytes and the version that belong at this offset.
 #[tactic(auto, unfolding(crate::specs::Choice2::beginning_at))]
 fn begins(place: u64, binary: &[u8]) -> bool
     ensures { result ≡ bytes_eq (at 0 8 binary.now) (beginning_at place) }

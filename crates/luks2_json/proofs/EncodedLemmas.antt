@@ -3,47 +3,30 @@ use Rattle.std.proofs.Common.{◌≡◌, ◌∙◌, ℕ, ◌+◌, ◌*◌, ◌<�
 use Rattle.std.proofs.Common.{take_all, drop, Option, Some, None, Ok, Err, refl, sym, ap, subst, arith}
 use Rattle.std.specs.Prelude.{◌&&◌, if◌then◌else◌, not, is_none, option_map, slice_index}
 use Rattle.std.specs.Io.KnownBytes.{prepend_known}
+use Rattle.std.proofs.lemmas.Bool.{agree_below, agree_below_at}
 use Rattle.std.proofs.lemmas.List.{append-nil, length-append, length-drop, length-take}
 use Rattle.base64.proofs.Decoding.{groups_error_first, length-groups_bytes}
 use Rattle.base64.proofs.Streams.{decoded_of-groups, decoded_of-ok}
-use Rattle.base64.proofs.Tables.{all_below_at}
 use Rattle.base64.specs.Decode.{decode_outcome, decoded_bytes, groups_before_last, groups_error, or_else, lone_error}
 use Rattle.base64.specs.Decode.{suffix_error}
 use Rattle.base64.specs.Engines.{standard}
 use Rattle.base64.specs.GeneralPurpose.{IsDecodeFailure, decode_of, decoded_of, groups_bytes_of, groups_error_of}
 use Rattle.base64.specs.declared.decode.DecodeAllocError.{DecodeAllocError}
 use Rattle.base64.specs.declared.decode.DecodeAllocError.TheVariants.{DecodeError as Failed}
-use Rattle.base64.specs.Tables.{all_below}
 use Rattle.base64.specs.declared.decode.DecodeError.{DecodeError}
+use Rattle.luks_verdict.proofs.VerdictLemmas.{some_from_not_none}
 use Rattle.luks2_json.specs.Encoded.{begins_with_group, encoded_len, is_in_alphabet, is_symbol}
 
 -- ---- symbols
 
-same_test : Bool → Bool → Bool
-same_test true b = b
-same_test false b = not b
-
-same_from_test : (a b : Bool) → same_test a b ≡ true → a ≡ b
-unfolding same_test
-same_from_test true true is = refl
-same_from_test false false is = refl
-same_from_test true false is = absurd cc
-same_from_test false true is = absurd cc
-
-all_symbols : all_below (λ byte. same_test (is_in_alphabet byte) (is_symbol byte)) 256 ≡ true
-unfolding same_test is_symbol
+all_symbols : agree_below is_in_alphabet is_symbol 256 ≡ true
+unfolding is_symbol
 all_symbols = refl
 
 pub in_alphabet : (byte : ℕ) → byte < 256 → is_in_alphabet byte ≡ is_symbol byte
-in_alphabet byte small =
-    same_from_test (is_in_alphabet byte) (is_symbol byte)
-    (all_below_at (λ b. same_test (is_in_alphabet b) (is_symbol b)) 256 byte all_symbols small)
+in_alphabet byte small = agree_below_at is_in_alphabet is_symbol 256 byte all_symbols small
 
 -- ---- groups
-
-error_from_not_none : (o : Option DecodeError) → is_none o ≡ false → (e : DecodeError) × (o ≡ Some e)
-error_from_not_none None is = absurd cc
-error_from_not_none (Some e) is = (e, refl)
 
 none_from_is_none : (o : Option DecodeError) → is_none o ≡ true → o ≡ None
 none_from_is_none None is = refl
@@ -104,7 +87,7 @@ outcome_none (Some d) groups suffix e bytes is = (d, refl)
 pub not_encoded : (text : List ℕ) → 4 < length text → begins_with_group text ≡ false → encoded_len text ≡ None
 unfolding decoded_of
 not_encoded text more is =
-    let error = error_from_not_none (groups_error_of standard text 1) (sym (group_is text) ∙ is) in
+    let error = some_from_not_none (groups_error_of standard text 1) (sym (group_is text) ∙ is) in
     let first = groups_error_first standard.decode_table text 1 (groups_before_last (length text)) error.0 error.1
     (omega arith) in
     let none = outcome_none (lone_error standard.decode_table 61 text)

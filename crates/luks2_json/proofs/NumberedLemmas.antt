@@ -1,6 +1,6 @@
 -- Names that are numbers.
 use Rattle.std.proofs.Common.{◌≡◌, ◌∙◌, ℕ, zero, suc, ◌+◌, ◌-◌, ◌<◌, ◌≤◌, Bool, true, false, List, [], ◌∷◌, ap, sym}
-use Rattle.std.proofs.Common.{refl, subst, arith, add-one, length, ◌⊎◌, inl, inr}
+use Rattle.std.proofs.Common.{refl, subst, arith, add-one, length, inl, inr}
 use Rattle.std.specs.Prelude.{◌||◌, Option, Some, None, is_some, String, bytes_eq, decimal, string_bytes}
 use Rattle.std.specs.declared.alloc.Global.{Global}
 use Rattle.std.specs.List.{list_any}
@@ -25,20 +25,17 @@ unfolding is_number_below
 number_next n name is none here = rw (add-one, none, here) refl
 
 -- a name that is a number below n is one below any higher number
-number_below_cases : (n m : ℕ) (name : List ℕ) → (n ≤ m → is_number_below m name ≡ true) → is_number_below n name ≡ true
-    → (n < suc m) ⊎ (suc m ≤ n) → n ≤ suc m → is_number_below (suc m) name ≡ true
-unfolding is_number_below
-number_below_cases n m name before is (inl below) few = rw (before (omega arith)) refl
-number_below_cases n m name before is (inr at) few =
-    let same : n ≡ suc m = omega arith in
-    subst (λ k. is_number_below k name ≡ true) same is
-
 pub number_stays : (n m : ℕ) (name : List ℕ) → n ≤ m → is_number_below n name ≡ true → is_number_below m name ≡ true
+unfolding is_number_below
 number_stays n zero name few is =
     let same : n ≡ 0 = omega arith in
     subst (λ k. is_number_below k name ≡ true) same is
-number_stays n (suc m) name few is =
-    number_below_cases n m name (λ below. number_stays n m name below is) is (cases_lt n (suc m)) few
+number_stays n (suc m) name few is = elim (cases_lt n (suc m)) [
+  | inl below ↦ rw (number_stays n m name (omega arith) is) refl
+  | inr top ↦
+      (let same : n ≡ suc m = omega arith in
+      subst (λ k. is_number_below k name ≡ true) same is)
+]
 
 -- the keys of a map are the names of the object's members
 pub list_any-names : (test : List ℕ → Bool) (entries : List (String Global × Value))

@@ -15,25 +15,17 @@ tree_of-read : (text : List ℕ) (tree : Data) → IsUtf8 text → read text ≡
 unfolding tree_of value_of
 tree_of-read text tree utf8 is = rw (is_utf8-from_IsUtf8 text utf8, is) refl
 
--- a tree that is read is the tree of the text
-pub read-ok : (text : List ℕ) (tree : Data) (result : Result Data HeaderFault) → IsUtf8 text → read text ≡ Some tree
-    → result ≡ (if has_objects tree then Ok tree else Err Json) → IfOk result (λ said. tree_of text ≡ Some said)
-read-ok text tree result utf8 read is = of_test (has_objects tree) (tree_of-read text tree utf8 read) is
+-- a tree that is read is the tree of the text; if the answer is Json, the value lacks an object, and the text has none
+pub answer_of-read : (text : List ℕ) (tree : Data) (result : Result Data HeaderFault) → IsUtf8 text
+    → read text ≡ Some tree → result ≡ (if has_objects tree then Ok tree else Err Json)
+    → IfOk result (λ said. tree_of text ≡ Some said) × (result ≡ Err Json → tree_of text ≡ None)
+answer_of-read text tree result utf8 read is = of_test (has_objects tree) (tree_of-read text tree utf8 read) is
   where
     of_test : (has : Bool) → tree_of text ≡ (if has then Some tree else None)
-        → result ≡ (if has then Ok tree else Err Json) → IfOk result (λ said. tree_of text ≡ Some said)
-    of_test true says is = rw is says
-    of_test false says is = rw is tt
-
--- if the answer is Json, since the value lacks an object, the text has no tree
-pub read-json : (text : List ℕ) (tree : Data) (result : Result Data HeaderFault) → IsUtf8 text → read text ≡ Some tree
-    → result ≡ (if has_objects tree then Ok tree else Err Json) → result ≡ Err Json → tree_of text ≡ None
-read-json text tree result utf8 read is = of_test (has_objects tree) (tree_of-read text tree utf8 read) is
-  where
-    of_test : (has : Bool) → tree_of text ≡ (if has then Some tree else None)
-        → result ≡ (if has then Ok tree else Err Json) → result ≡ Err Json → tree_of text ≡ None
-    of_test true says is refused = absurd cc
-    of_test false says is refused = says
+        → result ≡ (if has then Ok tree else Err Json)
+        → IfOk result (λ said. tree_of text ≡ Some said) × (result ≡ Err Json → tree_of text ≡ None)
+    of_test true says is = (rw is says, λ refused. absurd cc)
+    of_test false says is = (rw is tt, λ refused. says)
 
 -- a text that cannot be read has no tree
 pub tree_of-unread : (text : List ℕ) → (IsUtf8 text → read text ≡ None) → tree_of text ≡ None

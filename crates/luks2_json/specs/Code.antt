@@ -4,7 +4,7 @@ use Rattle.std.specs.Coded.{Coded, code_by, coded_ℕ, coded_ℤ, coded_bool, co
 use Rattle.std.proofs.Common.{ap, arith, inl, inr}
 use Rattle.serde_json.specs.Data.{Num, unsigned, negative, float, Data, null, boolean, number, string, array, object}
 use Rattle.serde_json.specs.Data.{Items, no_items, item, Members, no_members, member}
-use base.Stored.{Gv, gnil, gnum, gcons, coded_float}
+use base.Stored.{Gv, gnil, gnum, gcons, coded_float, num}
 
 -- ---- numbers
 
@@ -58,16 +58,6 @@ cons_rest gnil = gnil
 cons_rest (gnum n) = gnil
 cons_rest (gcons a b) = b
 
-abbrev number_in : Gv → ℕ
-number_in gnil = 0
-number_in (gnum n) = n
-number_in (gcons a b) = 0
-
-abbrev is_pair : Gv → ℕ
-is_pair gnil = 0
-is_pair (gnum n) = 0
-is_pair (gcons a b) = 1
-
 -- values with the same code are the same
 mutual
   pub same_value : (x y : Data) → code_of x ≡ code_of y → x ≡ y
@@ -77,7 +67,7 @@ mutual
   same_value (string a) (string b) p = ap string ((coded_list coded_ℕ).inj a b (ap cons_rest p))
   same_value (array a) (array b) p = ap array (same_items a b (ap cons_rest p))
   same_value (object a) (object b) p = ap object (same_members a b (ap cons_rest p))
-  same_value x y p = absurd (let differ = ap (λ (g : Gv). number_in (first g)) p in omega arith)
+  same_value x y p = absurd (let differ = ap (λ (g : Gv). num (first g)) p in omega arith)
 
   same_items : (x y : Items) → items_code_of x ≡ items_code_of y → x ≡ y
   same_items no_items no_items p = refl
@@ -85,7 +75,7 @@ mutual
       let value : a ≡ b = same_value a b (ap first p) in
       let rest : more ≡ others = same_items more others (ap cons_rest p) in
       cc
-  same_items x y p = absurd (let differ = ap is_pair p in omega arith)
+  same_items x y p = absurd cc
 
   same_members : (x y : Members) → members_code_of x ≡ members_code_of y → x ≡ y
   same_members no_members no_members p = refl
@@ -94,7 +84,7 @@ mutual
       let value : a ≡ b = same_value a b (ap (λ (g : Gv). first (cons_rest g)) p) in
       let rest : more ≡ others = same_members more others (ap (λ (g : Gv). cons_rest (cons_rest g)) p) in
       cc
-  same_members x y p = absurd (let differ = ap is_pair p in omega arith)
+  same_members x y p = absurd cc
 
 -- the code
 abbrev pub value_code : Coded Data

@@ -44,7 +44,7 @@ fn is_number(name: &str) -> bool
     false
 }
 
-// A member has a name that is no number below 32.
+// A member has a name that is not a number below 32.
 fn any_other_name(members: &Map<String, Value>) -> bool
     ensures { result ≡ any_name (λ name. not (is_number_below max_slots name))
         (members_view members.now.entries) }
@@ -52,8 +52,8 @@ fn any_other_name(members: &Map<String, Value>) -> bool
     members.keys().any(|name| !is_number(name.as_str()))
 }
 
-/// Whether a member of `keyslots` is ignored, since its name is no number below 32. This allocates
-/// nothing.
+/// Whether a member of `keyslots` is ignored, since its name is not a number below 32. This
+/// allocates nothing.
 #[tactic(auto, unfolding(crate::specs::Numbered::has_key_out_of_range))]
 pub fn has_key_out_of_range(metadata: &Metadata) -> bool
     ensures { result ≡ has_key_out_of_range metadata.now }

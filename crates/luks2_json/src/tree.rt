@@ -78,7 +78,7 @@ impl Metadata {
     ///
     /// # Errors
     ///
-    /// [`HeaderFault::Json`] for a text that is no JSON in UTF-8, nests deeper than 127, or is no
+    /// [`HeaderFault::Json`] if the text is not JSON in UTF-8, nests deeper than 127, or is not an
     /// object with objects `keyslots`, `segments` and `digests`; [`HeaderFault::Memory`] if memory
     /// ran out, and never for an empty text. There are no other faults.
     pub fn read(alloc: Global, text: &[u8]) -> Result<Metadata, HeaderFault>

@@ -1,6 +1,6 @@
 -- Usable digests.
 use Rattle.std.proofs.Common.{◌≡◌, ◌∙◌, ℕ, ◌<◌, ◌≤◌, true, false, Option, Some, None, ap, sym, refl, arith, length}
-use Rattle.std.specs.Prelude.{◌&&◌, if◌then◌else◌, is_some, option_map}
+use Rattle.std.specs.Prelude.{is_some, option_map}
 use Rattle.std.proofs.lemmas.Bool.Decides.{nat_tests}
 use Rattle.luks_verdict.proofs.MadeLemmas.{digest_from-no, digest_from-yes}
 use Rattle.luks_verdict.specs.Digest.{digest_of}

@@ -26,8 +26,7 @@ use Rattle.luks_verdict.specs.declared.sector_size.SectorSize.{SectorSize as Sec
 use Rattle.luks_verdict.specs.declared.segment.Segment.{Segment}
 use Rattle.std.proofs.lemmas.Bool.Decides.{nat_tests}
 use Rattle.std.proofs.lemmas.Option.{same_Some}
-use Rattle.serde_json.specs.Data.{Data, object}
-use Rattle.serde_json.specs.Data as json
+use Rattle.serde_json.specs.Data.{Data, Members, object}
 use Rattle.serde_json.specs.Find.{as_array, as_object, get, get_member}
 use Rattle.serde_json.specs.View.{items_view, members_view, view}
 use Rattle.serde_json.specs.declared.value.Value.{Value}
@@ -65,14 +64,10 @@ none_only name (entry ∷ []) more = absurd (more refl)
 none_only name (entry ∷ next ∷ rest) more = refl
 
 -- looking up a name in an object looks it up among its members
-get_object : (name : List ℕ) (value : Data) (all : json.Members) → as_object value ≡ Some all
+get_object : (name : List ℕ) (value : Data) (all : Members) → as_object value ≡ Some all
     → get name value ≡ get_member name all
 get_object name (object found) all is = let same : found ≡ all = cc in ap (get_member name) same
-get_object name json.null all is = absurd cc
-get_object name (json.boolean b) all is = absurd cc
-get_object name (json.number n) all is = absurd cc
-get_object name (json.string s) all is = absurd cc
-get_object name (json.array values) all is = absurd cc
+get_object name _ all is = absurd cc
 
 -- the segment, if the object of segments has exactly one member, and if it has another number of members
 pub segment_only : (tree segments : Data) (entries : List (String Global × Value)) (found : Option Data)
@@ -111,16 +106,12 @@ fault2-there tree bounds segment requires there = rw (requires, there) refl
 pub segment2-fault : (tree : Data) (bounds : Bounds) (fault : SegmentFault) → fault2_of tree bounds ≡ Some fault
     → segment2_of tree bounds ≡ Err fault
 unfolding segment2_of
-segment2-fault tree bounds fault is =
-    refused_or-fault (fault2_of tree bounds) (segment_from (segment_parts2_of (segment_value tree)))
-    (made2 tree bounds) fault is
+segment2-fault tree bounds fault is = refused_or-fault _ _ (made2 tree bounds) fault is
 
 pub segment2-none : (tree : Data) (bounds : Bounds) (segment : Segment) → fault2_of tree bounds ≡ None
     → segment_from (segment_parts2_of (segment_value tree)) ≡ Some segment → segment2_of tree bounds ≡ Ok segment
 unfolding segment2_of
-segment2-none tree bounds segment none made =
-    refused_or-none (fault2_of tree bounds) (segment_from (segment_parts2_of (segment_value tree)))
-    (made2 tree bounds) segment none made
+segment2-none tree bounds segment none made = refused_or-none _ _ (made2 tree bounds) segment none made
 
 -- if there is a segment, `segment_value` is its value
 pub said-there : (tree segment : Data) → the_segment tree ≡ Some segment → segment_value tree ≡ segment
@@ -173,8 +164,7 @@ pub segment2-ok : (tree : Data) (bounds : Bounds) (segment : Segment) → segmen
     → IsSegment2 tree bounds segment
 unfolding segment2_of payload2_start payload_mode2_of fault2_of segment_from segment_parts2_of
 segment2-ok tree bounds segment is =
-    let made = refused_or-ok (fault2_of tree bounds) (segment_from (segment_parts2_of (segment_value tree)))
-    (made2 tree bounds) segment is in
+    let made = refused_or-ok _ _ (made2 tree bounds) segment is in
     let all = none_holds ((has_requirement tree, Requirement) ∷ (is_none (the_segment tree), Segments)
     ∷ segment_faults bounds (segment_value tree)) made.0 in
     let offset : offset_of (segment_value tree) ≡ Some segment.offset = offset_made _ _ _ _ _ segment made.1 in

@@ -1,18 +1,16 @@
 -- Properties of a slot that there is no reason to skip.
-use Rattle.std.proofs.Common.{◌≡◌, ◌∙◌, ℕ, ◌+◌, ◌≤◌, sym, subst, refl, Bool, true, false, Option, Some, None, arith}
-use Rattle.std.specs.Prelude.{◌&&◌, ◌||◌, nat_lt, not, codes, is_none, option_map, option_and_then, unwrap_or}
+use Rattle.std.proofs.Common.{◌≡◌, ◌∙◌, ℕ, ◌+◌, ◌≤◌, sym, subst, refl, true, false, Option, Some, None, arith}
+use Rattle.std.specs.Prelude.{not, codes, is_none, option_map, option_and_then, unwrap_or}
 use Rattle.std.proofs.lemmas.Bool.Decides.{nat_tests}
-use Rattle.std.proofs.lemmas.Bool.{ltb-false}
+use Rattle.std.proofs.lemmas.Bool.{and_parts, ltb-false, or_parts}
 use Rattle.std.proofs.lemmas.Option.{same_Some}
-use Rattle.luks_area.specs.Area.{max_loaded_len}
 use Rattle.luks_cipher.specs.declared.mode.Mode.{Mode}
 use Rattle.luks_cipher.proofs.ModeLemmas.{longest_mode_key}
 use Rattle.luks_verdict.specs.Digest.{has_no_usable_digest}
 use Rattle.luks_verdict.specs.Rule.{exceeds, iterations_out_of_range, is_in_range, area_out_of_range}
 use Rattle.luks_verdict.specs.Rule.{stripes_out_of_range, max_iteration_count, need_of}
-use Rattle.luks_verdict.specs.Slot.{are_in_range, material_end, verdict_by, verdict_kind_of, slot_of}
+use Rattle.luks_verdict.specs.Slot.{are_in_range, material_end, verdict_kind_of, slot_of}
 use Rattle.luks_verdict.proofs.MadeLemmas.{slot_from-yes}
-use Rattle.luks_verdict.specs.declared.refusal.SkipReason.{SkipReason}
 use Rattle.luks_verdict.specs.declared.digest.KeyDigest.{KeyDigest}
 use Rattle.luks_verdict.specs.declared.slot.Slot.{Slot}
 use Rattle.luks_verdict.specs.declared.slot.Verdict.TheVariants.{Usable}
@@ -21,16 +19,14 @@ use Rattle.luks_kdf.specs.declared.hash.Hash.{Hash}
 use Rattle.luks_cipher.specs.Sector.{is_mode_key_length}
 use Rattle.luks2_json.specs.Numbered.{object_numbered}
 use Rattle.luks_verdict.proofs.TableLemmas.{none_holds}
-use Rattle.luks_verdict.proofs.VerdictLemmas.{digest_there, some_from_not_none, true_from_not}
+use Rattle.luks_verdict.proofs.VerdictLemmas.{digest_there, of_usable, some_from_not_none, true_from_not}
 use Rattle.luks2_json.specs.Encryption.{is_length_for}
-use Rattle.luks2_json.specs.Member.{is_type}
 use Rattle.luks2_metadata.specs.Digest2.{digest2_for}
 use Rattle.luks2_metadata.specs.declared.bounds.Bounds.{Bounds}
 use Rattle.luks2_metadata.specs.Segment2.{payload2_start, payload_mode2_of}
 use Rattle.luks2_metadata.specs.Slot2.{slot_reasons, af_hash_of, are_key_sizes, area_key_size_of, area_mode_of}
-use Rattle.luks2_metadata.specs.Slot2.{area_offset_of, area_size_of, has_members, has_unknown_hash, is_kdf_type}
-use Rattle.luks2_metadata.specs.Slot2.{area2_out_of_range, iterations_of_slot, kdf_hash_of, key_size_of, priority_of}
-use Rattle.luks2_metadata.specs.Slot2.{reason2_of}
+use Rattle.luks2_metadata.specs.Slot2.{area_offset_of, area_size_of, area2_out_of_range, has_unknown_hash}
+use Rattle.luks2_metadata.specs.Slot2.{iterations_of_slot, kdf_hash_of, key_size_of, priority_of, reason2_of}
 use Rattle.luks2_metadata.specs.Slot2.{slot2_at, slot2_of, slot_parts2_of, stripe_count_of, verdict2_at, verdict2_of}
 use Rattle.serde_json.specs.Data.{Data}
 
@@ -41,29 +37,20 @@ unfolding is_length_for
 key_length_few None bytes is = grind (arith, nat_tests)
 key_length_few (Some mode) bytes is = longest_mode_key mode bytes is
 
-both : (a b : Bool) → (a && b) ≡ true → (a ≡ true) × (b ≡ true)
-both true b is = (refl, is)
-both false b is = absurd cc
-
 pub key_sizes_few : (mode : Option Mode) (slot : Data) → are_key_sizes mode slot ≡ true
     → (area_key_size_of slot ≤ 64) × (key_size_of slot ≤ 64)
 unfolding are_key_sizes
 key_sizes_few mode slot is =
-    let parts = both _ _ is in
+    let parts = and_parts _ _ is in
     (key_length_few (area_mode_of slot) (area_key_size_of slot) parts.0, key_length_few mode (key_size_of slot) parts.1)
 
 pub stripes_few : (stripes : ℕ) → stripes_out_of_range stripes ≡ false → stripes ≤ 4000
 unfolding stripes_out_of_range
 stripes_few stripes is = grind (arith, nat_tests)
 
--- ---- absence of each reason to skip a slot
+-- ---- absence of a reason to skip a slot: what follows from it
 
 pub record NoReason (tree : Data) (bounds : Bounds) (limit : Option ℕ) (number : ℕ) (slot : Data) : Type 0 where
-  pub kind : not (is_type (codes "luks2") slot) ≡ false
-  pub members : not (has_members slot) ≡ false
-  pub argon2i : is_kdf_type (codes "argon2i") slot ≡ false
-  pub argon2id : is_kdf_type (codes "argon2id") slot ≡ false
-  pub kdf : not (is_kdf_type (codes "pbkdf2") slot) ≡ false
   pub hash : has_unknown_hash slot ≡ false
   pub encryption : is_none (area_mode_of slot) ≡ false
   pub key_size : not (are_key_sizes (payload_mode2_of tree bounds) slot) ≡ false
@@ -78,11 +65,6 @@ unfolding reason2_of
 no_reason tree bounds limit number slot none =
     let all = none_holds (slot_reasons tree bounds limit number slot) none in
     record {
-      kind = all.0;
-      members = all.1.0;
-      argon2i = all.1.1.0;
-      argon2id = all.1.1.1.0;
-      kdf = all.1.1.1.1.0;
       hash = all.1.1.1.1.1.0;
       encryption = all.1.1.1.1.1.1.0;
       key_size = all.1.1.1.1.1.1.1.0;
@@ -115,23 +97,25 @@ unfolding has_no_usable_digest
 usable_digest_without_limit limit None is = is
 usable_digest_without_limit limit (Some digest) is = iterations_in_range_without_limit limit digest.iterations is
 
-pub no_reason_none : (tree : Data) (bounds : Bounds) (limit : Option ℕ) (number : ℕ) (slot : Data)
-    → NoReason tree bounds limit number slot → reason2_of tree bounds None number slot ≡ None
+no_reason_none : (tree : Data) (bounds : Bounds) (limit : Option ℕ) (number : ℕ) (slot : Data)
+    → reason2_of tree bounds limit number slot ≡ None → reason2_of tree bounds None number slot ≡ None
 unfolding reason2_of
 no_reason_none tree bounds limit number slot none =
+    let all = none_holds (slot_reasons tree bounds limit number slot) none in
+    let no = no_reason tree bounds limit number slot none in
     rw (
-      none.kind,
-      none.members,
-      none.argon2i,
-      none.argon2id,
-      none.kdf,
-      none.hash,
-      none.encryption,
-      none.key_size,
-      none.stripes,
-      iterations_in_range_without_limit limit (iterations_of_slot slot) none.iterations,
-      none.area,
-      usable_digest_without_limit limit (digest2_for tree number) none.digest,
+      all.0,
+      all.1.0,
+      all.1.1.0,
+      all.1.1.1.0,
+      all.1.1.1.1.0,
+      no.hash,
+      no.encryption,
+      no.key_size,
+      no.stripes,
+      iterations_in_range_without_limit limit (iterations_of_slot slot) no.iterations,
+      no.area,
+      usable_digest_without_limit limit (digest2_for tree number) no.digest,
     ) refl
 
 -- if there is no reason to skip a slot, there is what is needed to open it
@@ -143,7 +127,7 @@ unfolding slot2_of
 slot_there tree bounds limit number slot none =
     let no = no_reason tree bounds limit number slot none in
     let is = range_of tree bounds limit number slot no in
-    (is, rw (no_reason_none tree bounds limit number slot no) (slot_from-yes (slot_parts2_of slot) is))
+    (is, rw (no_reason_none tree bounds limit number slot none) (slot_from-yes (slot_parts2_of slot) is))
 
 -- the verdict on such a slot, without what is needed to open it
 pub usable_verdict : (tree : Data) (bounds : Bounds) (limit : Option ℕ) (number : ℕ) (slot : Data)
@@ -194,15 +178,11 @@ pub record IsOf2 (tree : Data) (bounds : Bounds) (number : ℕ) (usable : Slot) 
   pub before_payload : exceeds (payload2_start tree bounds) (material_end usable) ≡ false
   pub digest : (digest : KeyDigest) × (digest2_for tree number ≡ Some digest)
 
-neither : (a b : Bool) → (a || b) ≡ false → (a ≡ false) × (b ≡ false)
-neither true b is = absurd cc
-neither false b is = (refl, is)
-
 known_hashes : (slot : Data) → has_unknown_hash slot ≡ false
     → ((hash : Hash) × (kdf_hash_of slot ≡ Some hash)) × ((hash : Hash) × (af_hash_of slot ≡ Some hash))
 unfolding has_unknown_hash
 known_hashes slot is =
-    let none = neither _ _ is in
+    let none = or_parts _ _ is in
     (some_from_not_none (kdf_hash_of slot) none.0, some_from_not_none (af_hash_of slot) none.1)
 
 known_area : (mode : Option Mode) (bytes : ℕ) → is_none mode ≡ false → is_length_for mode bytes ≡ true
@@ -216,30 +196,22 @@ area_in_range_bounds : (start : ℕ) (payload : Option ℕ) (offset size need : 
     → (start ≤ offset) × (exceeds payload (offset + need) ≡ false)
 unfolding area_out_of_range
 area_in_range_bounds start payload offset size need is =
-    let past = neither (nat_lt offset start || nat_lt size need || exceeds payload (offset + need))
-    (nat_lt max_loaded_len (offset + need)) is in
-    let before = neither (nat_lt offset start || nat_lt size need) (exceeds payload (offset + need)) past.0 in
-    let capacity = neither (nat_lt offset start) (nat_lt size need) before.0 in
+    let past = or_parts _ _ is in
+    let before = or_parts _ _ past.0 in
+    let capacity = or_parts _ _ before.0 in
     (ltb-false offset start capacity.0, before.1)
-
--- if the verdict is that a slot is usable, there is no reason to skip it, and the verdict has what is needed to open it
-of_verdict : (reason : Option SkipReason) (made : Option Slot) (usable : Slot) → verdict_by reason made ≡ Usable usable
-    → (reason ≡ None) × (made ≡ Some usable)
-of_verdict (Some reason) made usable is = absurd cc
-of_verdict None (Some made) usable is = (refl, cc)
-of_verdict None None usable is = absurd cc
 
 usable_is : (tree : Data) (bounds : Bounds) (limit : Option ℕ) (number : ℕ) (slot : Data) (usable : Slot)
     → verdict2_of tree bounds limit number slot ≡ Usable usable
     → IsOf2 tree bounds number usable × (slot2_of tree bounds number slot ≡ Some usable)
 unfolding verdict2_of slot_of slot_parts2_of are_key_sizes area2_out_of_range
 usable_is tree bounds limit number slot usable is =
-    let verdict = of_verdict (reason2_of tree bounds limit number slot) (slot2_of tree bounds number slot) usable is in
+    let verdict = of_usable (reason2_of tree bounds limit number slot) (slot2_of tree bounds number slot) usable is in
     let no = no_reason tree bounds limit number slot verdict.0 in
     let there = slot_there tree bounds limit number slot verdict.0 in
     let same : usable ≡ slot_of (slot_parts2_of slot) there.0 = same_Some _ _ (sym verdict.1 ∙ there.1) in
     let hashes = known_hashes slot no.hash in
-    let sizes = both _ _ (true_from_not _ no.key_size) in
+    let sizes = and_parts _ _ (true_from_not _ no.key_size) in
     let place = area_in_range_bounds bounds.end (payload2_start tree bounds) (area_offset_of slot) (area_size_of slot)
     (need_of (key_size_of slot) (stripe_count_of slot)) no.area in
     let known : IsOf2 tree bounds number (slot_of (slot_parts2_of slot) there.0) = record {

@@ -1,6 +1,8 @@
 //! The digests of a header, which identify its volume key.
 
-ghost use Rattle.std.specs.Prelude.{◌≡◌, ◌≤◌, [], IfOk, length, option_map, unwrap_or, vec_len};
+ghost use Rattle.std.specs.Prelude.{◌≡◌, ◌≤◌, ◌++◌, [], IfOk, OnOk, length, option_map, unwrap_or};
+ghost use Rattle.std.specs.Prelude.{vec_len};
+ghost use Rattle.std.specs.List.{cons_option};
 ghost use Rattle.luks_verdict.specs.Rule.{max_slots};
 ghost use Rattle.luks2_metadata.specs.Digest2.{own_digest_at, digest2_for, digest2_numbered};
 ghost use Rattle.luks2_metadata.specs.Digest2.{digest2_of, digests2_of, is_digest2, is_of_slot};
@@ -193,6 +195,19 @@ fn numbered_digest(
     }
 }
 
+// Appends the digest, if there is one.
+fn push_digest(
+    digests: &mut Vec<(u8, Option<Digest>)>,
+    digest: Option<(u8, Option<Digest>)>,
+) -> Result<(), AllocError>
+    ensures { OnOk result (digests.new.items ≡ digests.old.items ++ cons_option digest []) }
+{
+    if let Some(digest) = digest {
+        digests.push(digest)?;
+    }
+    Ok(())
+}
+
 /// The digests by ascending number, each with the key slots and segments that it lists, or `None`
 /// if it is not usable.
 pub fn digests(alloc: Global, metadata: &Metadata) -> Result<Vec<(u8, Option<Digest>)>, AllocError>
@@ -201,9 +216,8 @@ pub fn digests(alloc: Global, metadata: &Metadata) -> Result<Vec<(u8, Option<Dig
 {
     let mut digests = Vec::new(alloc);
     for number in 0..MAX_SLOTS {
-        if let Some(digest) = numbered_digest(alloc, metadata.tree(), number)? {
-            digests.push(digest)?;
-        }
+        let digest = numbered_digest(alloc, metadata.tree(), number)?;
+        push_digest(&mut digests, digest)?;
     }
     Ok(digests)
 }

@@ -1,7 +1,6 @@
--- A binary header of LUKS2 that was put together is read back, and its checksum matches.
+-- A binary header of LUKS2 that was put together is read back where an image has it, and its checksum matches.
 use Rattle.std.proofs.Common.{◌≡◌, ◌≢◌, ◌∙◌, ◌+◌, ◌-◌, ◌≤◌, ◌==◌, ℕ, true, List, [], ◌∷◌, ◌++◌, Some, length, take}
-use Rattle.std.proofs.Common.{drop, ap, arith, refl, sym, append_assoc, append-nil, length-append}
-use Rattle.std.specs.Prelude.{◌||◌, codes}
+use Rattle.std.proofs.Common.{drop, ap, arith, refl, sym, append_assoc, append-nil, length-append, ◌||◌, codes, le-leb}
 use Rattle.std.specs.Int.{to_be_bytes, w64}
 use Rattle.std.specs.List.{list_any}
 use Rattle.std.proofs.lemmas.Bool.{eq-eqb, ne_eqb, or_right}
@@ -13,16 +12,15 @@ use Rattle.luks_kdf.specs.Hash.{hash_named, hash_of}
 use Rattle.luks_kdf.specs.declared.hash.Hash.TheVariants.{Sha256}
 use Rattle.luks_kdf.proofs.HashLemmas.{length-hash_of}
 use Rattle.luks2_binary.specs.Checksum2.{checksum_matches, no_checksum, without_checksum}
-use Rattle.luks2_binary.specs.Choice2.{beginning_at, is_binary_of}
+use Rattle.luks2_binary.specs.Choice2.{beginning_at, is_binary_of, binary_at, fits as has_binary, is_valid, size_at}
 use Rattle.luks2_binary.specs.Header2.{checksum_hash_in, hdr_offset_in, sequence_in, size_in, sizes}
 use Rattle.luks_seal.specs.Pieces.{padded}
-use Rattle.luks_seal.specs.declared.parameters.Seal2.{Seal2}
-use Rattle.luks_seal.proofs.FieldLemmas.{Part, begin_of, joined_parts, length-parts, part, part_at, part_of}
-use Rattle.luks_seal.proofs.SlicingLemmas.{at_at, at_inside, length-padded, padded_begins}
+use Rattle.luks_seal.proofs.FieldLemmas.{Part, part, at_at, at_inside, length-padded, padded_begins, AreParts}
+use Rattle.luks_seal.proofs.FieldLemmas.{are_parts}
 use Rattle.luks2_seal.specs.Layout2.{fields_end_bytes, fields_of, header2_bytes, middle_of, primary_magic, body_bytes}
 use Rattle.luks2_seal.specs.Layout2.{secondary_magic, start_of}
 use Rattle.luks2_seal.specs.Metadata2.{FitsJson, json_of}
-use Rattle.luks2_seal.specs.Ranges2.{AreParameters2, is_header_size}
+use Rattle.luks2_seal.specs.Ranges2.{AreParameters2, is_header_size, Seal2}
 use Rattle.luks2_seal.proofs.RangeLemmas.{long_header, short_header}
 
 -- the first 24 bytes of a header have its offset's magic, its size and its sequence number; the offset is 0 or the size
@@ -37,14 +35,7 @@ pub record IsStart (p : Seal2) (magic : List ℕ) (place : ℕ) : Type 0 where
 -- both headers start with such bytes
 pub primary_start : (p : Seal2) → IsStart p primary_magic 0
 unfolding start_of beginning_at
-primary_start p = record {
-  len = refl;
-  begins = refl;
-  size = refl;
-  sequence = refl;
-  own = refl;
-  within = omega arith;
-}
+primary_start p = record { len = refl; begins = refl; size = refl; sequence = refl; own = refl; within = omega arith }
 
 pub secondary_start : (p : Seal2) → AreParameters2 p → IsStart p secondary_magic p.hdr_size
 unfolding start_of beginning_at
@@ -58,6 +49,15 @@ secondary_start p fits =
       own = or_right (p.hdr_size == 0) (p.hdr_size == p.hdr_size) (eq-eqb p.hdr_size p.hdr_size refl);
       within = omega arith;
     }
+
+-- what a reader finds of a header at this offset of an image
+pub record IsReadAt (p : Seal2) (place : ℕ) (image : List ℕ) : Type 0 where
+  pub begins : at 0 8 (binary_at image place) ≡ beginning_at place
+  pub size : size_at image place ≡ p.hdr_size
+  pub sequence : sequence_in (binary_at image place) ≡ be64 (to_be_bytes w64 p.seqid)
+  pub hash : checksum_hash_in (binary_at image place) ≡ Some Sha256
+  pub valid : is_valid image place ≡ true
+  pub json : at (place + 4096) (p.hdr_size - 4096) image ≡ padded (p.hdr_size - 4096) (json_of p)
 
 -- the checksum of a header
 abbrev header_checksum : Seal2 → List ℕ → List ℕ → ℕ → List ℕ
@@ -89,17 +89,12 @@ module _ (p : Seal2) (fits : AreParameters2 p) (json : FitsJson p) (magic salt :
       ∷ part 192 (padded 192 (to_be_bytes w64 place)) (length-padded 192 (to_be_bytes w64 place) (omega arith))
       ∷ []
 
-  fields_are : fields_of p magic salt place ≡ joined_parts field_parts
+  fields_are : AreParts (fields_of p magic salt place) field_parts
   unfolding middle_of fields_end_bytes
-  fields_are = simp (append_assoc, append-nil)
-
-  field_part : (k : ℕ)
-      → at (begin_of k field_parts) (part_of k field_parts).len (fields_of p magic salt place)
-      ≡ (part_of k field_parts).bytes
-  field_part k = part_at k field_parts (fields_of p magic salt place) fields_are
+  fields_are = are_parts (fields_of p magic salt place) field_parts (simp (append_assoc, append-nil))
 
   length-fields : length (fields_of p magic salt place) ≡ 448
-  length-fields = length-parts field_parts (fields_of p magic salt place) fields_are
+  length-fields = fields_are.len
 
   sum_long : length (header_checksum p magic salt place) ≡ 32
   sum_long = length-hash_of Sha256 (fields_of p magic salt place ++ padded 64 [] ++ body_bytes p)
@@ -113,51 +108,37 @@ module _ (p : Seal2) (fits : AreParameters2 p) (json : FitsJson p) (magic salt :
   -- the parts of the header with its JSON area
   abbrev header_parts : List Part
   header_parts =
-      part 448 (fields_of p magic salt place) length-fields
-      ∷ part 64 (padded 64 (header_checksum p magic salt place)) length-sum
+      field_parts
+      ++ part 64 (padded 64 (header_checksum p magic salt place)) length-sum
       ∷ part 3584 (padded 3584 []) (length-padded 3584 [] (omega arith))
       ∷ part (p.hdr_size - 4096) (padded (p.hdr_size - 4096) (json_of p)) length-text
       ∷ []
 
-  header_are : header2_bytes p magic salt place ≡ joined_parts header_parts
-  unfolding header2_bytes body_bytes
-  header_are = simp (append_assoc, append-nil)
-
-  header_part : (k : ℕ)
-      → at (begin_of k header_parts) (part_of k header_parts).len (header2_bytes p magic salt place)
-      ≡ (part_of k header_parts).bytes
-  header_part k = part_at k header_parts (header2_bytes p magic salt place) header_are
+  header_are : AreParts (header2_bytes p magic salt place) header_parts
+  unfolding header2_bytes body_bytes middle_of fields_end_bytes
+  header_are = are_parts (header2_bytes p magic salt place) header_parts (simp (append_assoc, append-nil))
 
   pub length-header : length (header2_bytes p magic salt place) ≡ p.hdr_size
-  length-header =
-      length-parts header_parts (header2_bytes p magic salt place) header_are ∙ omega (arith, long_header p fits)
+  length-header = header_are.len ∙ omega (arith, long_header p fits)
 
   -- ---- fields
-
-  -- bytes before the checksum are bytes of the fields
-  in_fields : (k len : ℕ) → k + len ≤ 448
-      → at k len (header2_bytes p magic salt place) ≡ at k len (fields_of p magic salt place)
-  in_fields k len below =
-      at_inside k k len 0 448 (header2_bytes p magic salt place) (fields_of p magic salt place) (omega arith) below
-      (header_part 0)
 
   -- bytes within the first 24 bytes are bytes of the start
   in_start : (k len : ℕ) → k + len ≤ 24 → at k len (header2_bytes p magic salt place) ≡ at k len (start_of p magic)
   in_start k len below =
-      in_fields k len (omega arith)
-      ∙ at_inside k k len 0 24 (fields_of p magic salt place) (start_of p magic) (omega arith) below (field_part 0)
+      at_inside k k len 0 24 (header2_bytes p magic salt place) (start_of p magic) (omega arith) below
+      (header_are.part_at 0)
 
   -- the name of the checksum's hash function is in its field
   name_there : at 72 32 (header2_bytes p magic salt place) ≡ padded 32 (codes "sha256")
-  name_there = in_fields 72 32 (omega arith) ∙ field_part 2
+  name_there = header_are.part_at 2
 
   -- the header's own offset is in its field
   own_there : at 256 8 (header2_bytes p magic salt place) ≡ to_be_bytes w64 place
   own_there =
       let own = to_be_bytes w64 place in
-      in_fields 256 8 (omega arith)
-      ∙ at_inside 256 0 8 256 192 (fields_of p magic salt place) (padded 192 own) (omega arith) (omega arith)
-      (field_part 6)
+      at_inside 256 0 8 256 192 (header2_bytes p magic salt place) (padded 192 own) (omega arith) (omega arith)
+      (header_are.part_at 6)
       ∙ padded_begins 8 192 own refl
 
   -- ---- the checksum
@@ -166,7 +147,7 @@ module _ (p : Seal2) (fits : AreParameters2 p) (json : FitsJson p) (magic salt :
   checksum_there =
       let sum = header_checksum p magic salt place in
       at_inside 448 0 32 448 64 (header2_bytes p magic salt place) (padded 64 sum) (omega arith) (omega arith)
-      (header_part 1)
+      (header_are.part_at 7)
       ∙ padded_begins 32 64 sum (sym sum_long)
 
   -- the bytes that the checksum is computed over
@@ -183,55 +164,77 @@ module _ (p : Seal2) (fits : AreParameters2 p) (json : FitsJson p) (magic salt :
   hash_known = ap (λ field. hash_named (text_of field)) name_there
 
   -- the checksum matches
-  pub intact : checksum_matches (header2_bytes p magic salt place) ≡ true
+  intact : checksum_matches (header2_bytes p magic salt place) ≡ true
   unfolding checksum_matches
   intact =
       let sum = header_checksum p magic salt place in
       rw (hash_known, zeroed, checksum_there) ((bytes_eq-Decides sum sum).1 refl)
 
-  -- ---- the binary header
-
-  -- bytes within the first 4096 bytes are bytes of the header
-  in_binary : (k len : ℕ) → k + len ≤ 4096
-      → at k len (at 0 4096 (header2_bytes p magic salt place)) ≡ at k len (header2_bytes p magic salt place)
-  in_binary k len below =
-      at_at k len 0 4096 (header2_bytes p magic salt place) below
-      ∙ ap (λ n. at n len (header2_bytes p magic salt place)) (omega arith)
-
-  pub binary_begins : at 0 8 (at 0 4096 (header2_bytes p magic salt place)) ≡ beginning_at place
-  binary_begins = in_binary 0 8 (omega arith) ∙ (in_start 0 8 (omega arith) ∙ start.begins)
-
-  pub binary_size : size_in (at 0 4096 (header2_bytes p magic salt place)) ≡ p.hdr_size
-  unfolding size_in be64
-  binary_size =
-      ap be64 (in_binary 8 8 (omega arith) ∙ (in_start 8 8 (omega arith) ∙ start.size))
-      ∙ from_be_bytes-to_be_bytes_8 p.hdr_size (omega (arith, short_header p fits))
-
-  pub binary_sequence : sequence_in (at 0 4096 (header2_bytes p magic salt place)) ≡ be64 (to_be_bytes w64 p.seqid)
-  unfolding sequence_in
-  binary_sequence = ap be64 (in_binary 16 8 (omega arith) ∙ (in_start 16 8 (omega arith) ∙ start.sequence))
-
-  binary_place : hdr_offset_in (at 0 4096 (header2_bytes p magic salt place)) ≡ place
-  unfolding hdr_offset_in be64
-  binary_place =
-      ap be64 (in_binary 256 8 (omega arith) ∙ own_there)
-      ∙ from_be_bytes-to_be_bytes_8 place (omega (arith, start.within, short_header p fits))
-
-  pub binary_hash : checksum_hash_in (at 0 4096 (header2_bytes p magic salt place)) ≡ Some Sha256
-  unfolding checksum_hash_in padded
-  binary_hash = ap (λ field. hash_named (text_of field)) (in_binary 72 32 (omega arith) ∙ name_there)
-
-  -- the first 4096 bytes are a binary header for its offset
-  pub is_binary : is_binary_of place (at 0 4096 (header2_bytes p magic salt place)) ≡ true
-  unfolding is_binary_of is_header_size
-  is_binary =
-      let begins = (bytes_eq-Decides (beginning_at place) (beginning_at place)).1 refl in
-      let listed : list_any (λ size. size == p.hdr_size) sizes ≡ true = fits.size in
-      let same = eq-eqb place place refl in
-      rw (binary_begins, begins, binary_size, listed, start.own, binary_place, same, binary_hash) refl
-
-  -- ---- the JSON area
-
-  pub json_there : at 4096 (p.hdr_size - 4096) (header2_bytes p magic salt place)
+  json_there : at 4096 (p.hdr_size - 4096) (header2_bytes p magic salt place)
       ≡ padded (p.hdr_size - 4096) (json_of p)
-  json_there = header_part 3
+  json_there = header_are.part_at 9
+
+  -- ---- the header in an image
+
+  module _ (image : List ℕ) (there : at place p.hdr_size image ≡ header2_bytes p magic salt place)
+      (long : place + p.hdr_size ≤ length image) where
+    -- bytes within the first 4096 bytes are bytes of the header
+    in_binary : (k len : ℕ) → k + len ≤ 4096
+        → at k len (binary_at image place) ≡ at k len (header2_bytes p magic salt place)
+    in_binary k len below =
+        at_at k len place 4096 image below
+        ∙ at_inside (place + k) k len place p.hdr_size image (header2_bytes p magic salt place) refl
+        (omega (arith, long_header p fits)) there
+
+    begins_there : at 0 8 (binary_at image place) ≡ beginning_at place
+    begins_there = in_binary 0 8 (omega arith) ∙ (in_start 0 8 (omega arith) ∙ start.begins)
+
+    size_there : size_at image place ≡ p.hdr_size
+    unfolding size_in be64
+    size_there =
+        ap be64 (in_binary 8 8 (omega arith) ∙ (in_start 8 8 (omega arith) ∙ start.size))
+        ∙ from_be_bytes-to_be_bytes_8 p.hdr_size (omega (arith, short_header p fits))
+
+    place_there : hdr_offset_in (binary_at image place) ≡ place
+    unfolding hdr_offset_in be64
+    place_there =
+        ap be64 (in_binary 256 8 (omega arith) ∙ own_there)
+        ∙ from_be_bytes-to_be_bytes_8 place (omega (arith, start.within, short_header p fits))
+
+    hash_there : checksum_hash_in (binary_at image place) ≡ Some Sha256
+    unfolding checksum_hash_in padded
+    hash_there = ap (λ field. hash_named (text_of field)) (in_binary 72 32 (omega arith) ∙ name_there)
+
+    -- the first 4096 bytes are a binary header for its offset
+    is_binary : is_binary_of place (binary_at image place) ≡ true
+    unfolding is_binary_of is_header_size
+    is_binary =
+        let begins = (bytes_eq-Decides (beginning_at place) (beginning_at place)).1 refl in
+        let listed : list_any (λ size. size == p.hdr_size) sizes ≡ true = fits.size in
+        let same = eq-eqb place place refl in
+        rw (begins_there, begins, size_there, listed, start.own, place_there, same, hash_there) refl
+
+    valid_there : is_valid image place ≡ true
+    unfolding is_valid has_binary
+    valid_there =
+        rw (
+          size_there,
+          le-leb (place + 4096) (length image) (omega (arith, long_header p fits)),
+          is_binary,
+          le-leb (place + p.hdr_size) (length image) long,
+          there,
+          intact,
+        ) refl
+
+    pub read_there : IsReadAt p place image
+    unfolding sequence_in
+    read_there = record {
+      begins = begins_there;
+      size = size_there;
+      sequence = ap be64 (in_binary 16 8 (omega arith) ∙ (in_start 16 8 (omega arith) ∙ start.sequence));
+      hash = hash_there;
+      valid = valid_there;
+      json = at_inside (place + 4096) 4096 (p.hdr_size - 4096) place p.hdr_size image
+          (header2_bytes p magic salt place) refl (omega (arith, long_header p fits)) there
+          ∙ json_there;
+    }

@@ -1,12 +1,6 @@
 pub mod RangeLemmas
 pub mod TextLemmas
-pub mod Slots2
-pub mod FlatLemmas
-pub mod Keyslot2
-pub mod Segment2
-pub mod Digest2
+pub mod MetadataLemmas
 pub mod Verdicts2
 pub mod Header2
-pub mod Image2
-pub mod Read2
 pub mod Sealed2

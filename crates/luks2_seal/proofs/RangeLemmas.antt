@@ -4,9 +4,8 @@ use Rattle.std.proofs.lemmas.Bool.Decides.{nat_tests}
 use Rattle.luks_cipher.specs.Sector.{is_mode_key_length}
 use Rattle.luks_cipher.specs.declared.mode.Mode.{Mode}
 use Rattle.luks_cipher.proofs.ModeLemmas.{key_length_of_mode, longest_mode_key}
-use Rattle.luks_seal.specs.declared.parameters.Seal2.{Seal2}
 use Rattle.luks2_binary.specs.Header2.{sizes}
-use Rattle.luks2_seal.specs.Ranges2.{AreParameters2, is_header_size}
+use Rattle.luks2_seal.specs.Ranges2.{AreParameters2, is_header_size, Seal2}
 
 -- each of the nine lengths of a header is from 16,384 to 4,194,304 bytes
 pub shortest_header : (n : ℕ) → is_header_size n ≡ true → 16384 ≤ n
@@ -43,3 +42,6 @@ module _ (p : Seal2) (fits : AreParameters2 p) where
 
   pub short_header : p.hdr_size ≤ 4194304
   short_header = longest_header p.hdr_size fits.size
+
+-- the bounds of the lengths of keys and headers, for parameters in their ranges
+pub ruleset bounds = (some_key, short_key, some_area_key, short_area_key, short_header)

@@ -1,8 +1,43 @@
--- The image of a volume of LUKS2 is a sealed volume of its key, its passphrases and its plaintext.
-use Rattle.std.proofs.Common.{◌≡◌, ◌∙◌, ℕ, ◌+◌, Bool, true, false, List, length, Some, None, refl, sym, subst, ap}
-use Rattle.std.proofs.Common.{arith, get_or, ◌/◌}
-use Rattle.std.proofs.lemmas.List.Elements.{All-map}
+-- The image of a volume of LUKS2 is a sealed volume of its key, its passphrases and its plaintext: where its parts are
+-- stored, the primary header that a reader finds, with the metadata, and the key slots, which it can try.
+use Rattle.std.proofs.Common.{◌≡◌, ◌∙◌, ◌==◌, ℕ, zero, suc, ◌+◌, ◌-◌, ◌*◌, ◌/◌, ◌<◌, List, [], length, Option, Some}
+use Rattle.std.proofs.Common.{None, refl, sym, ap, arith, length-append, take_all, ◌≢◌, ◌≤◌, ◌++◌, replicate, Ok, true}
+use Rattle.std.proofs.Common.{false, get_or, slice_index, Bool, subst, le-ltb, ne_eqb, ◌∷◌, one-add}
+use Rattle.std.specs.Option.{option_map_or}
+use Rattle.luks_area.specs.Fields.{at, be64, text_of}
+use Rattle.luks_kdf.specs.Bytes.{joined}
+use Rattle.luks_verdict.proofs.SectorLemmas.{sector_blocks}
+use Rattle.luks_verdict.specs.Rule.{need_of}
 use Rattle.luks_verdict.specs.SectorSize.{bytes_of}
+use Rattle.luks_seal.specs.Pieces.{encrypted_material, stripes_of, wrapping_number, padded}
+use Rattle.luks_seal.proofs.SectorLemmas.{IsImage, image_made}
+use Rattle.luks_seal.proofs.MaterialLemmas.{AreRandomStripes, length-material, gives_key}
+use Rattle.luks_seal.proofs.FieldLemmas.{at_first, at_second, length-padded, padded_begins, at_at}
+use Rattle.luks_seal.proofs.SlotLemmas.{found_has, found_by_number}
+use Rattle.luks2_seal.specs.Layout2.{area_at, area_key_of, area_of, header2_bytes, headers_of, image2_of, payload_of}
+use Rattle.luks2_seal.specs.Layout2.{primary_magic, secondary_magic}
+use Rattle.luks2_seal.specs.Metadata2.{FitsJson, ReadsBack, json_of, metadata_of}
+use Rattle.luks2_seal.specs.Ranges2.{area_size, area_size_at, area_start, slot_numbered, AreParameters2, FitsSlot2}
+use Rattle.luks2_seal.specs.Ranges2.{AreTyped2, Seal2, Slot2, passphrases2_of}
+use Rattle.luks2_seal.proofs.Header2.{length-header, primary_start, secondary_start, IsReadAt, read_there}
+use Rattle.luks2_seal.proofs.RangeLemmas.{short_key}
+use Rattle.luks2_seal.proofs.Verdicts2.{need_fits, IsUsed, bounds_of, digest_is, digest_read, of_key, parts_of}
+use Rattle.luks2_seal.proofs.Verdicts2.{fixed_size, segment_is, segment_read, slot_is, slot_parts, slot_usable}
+use Rattle.luks2_seal.proofs.Verdicts2.{ends_before}
+use Rattle.std.specs.Int.{to_be_bytes, w64}
+use Rattle.std.proofs.lemmas.Str.{is_utf8-from_IsUtf8}
+use Rattle.luks_kdf.specs.declared.hash.Hash.TheVariants.{Sha256}
+use Rattle.luks1_header.specs.Header1.{is_luks1}
+use Rattle.luks2_binary.specs.Choice2.{beginning_at, with_valid_primary, binary_at, chosen2_of, header2_of}
+use Rattle.luks2_binary.specs.Header2.{header2_from, sequence_in, size_in}
+use Rattle.luks2_binary.specs.Text2.{json_area_of, json_text_of}
+use Rattle.luks2_binary.specs.declared.header.Header2.{Header2}
+use Rattle.luks2_binary.specs.declared.header.HeaderRole.TheVariants.{Primary}
+use Rattle.luks2_json.specs.Tree.{has_objects, tree_of, value_of}
+use Rattle.luks_header.specs.Header.{bounds2_of, header_of as read_header}
+use Rattle.luks_header.specs.declared.header.Header.TheVariants.{V2}
+use Rattle.luks2_seal.proofs.MetadataLemmas.{area_after_headers}
+use Rattle.std.proofs.lemmas.List.Elements.{All-map}
 use Rattle.luks_verdict.specs.Segment.{segment_by}
 use Rattle.luks_verdict.specs.declared.slot.SlotParts.{SlotParts}
 use Rattle.luks2_metadata.specs.Segment2.{segment2_of}
@@ -11,27 +46,30 @@ use Rattle.luks_header.specs.HeaderDigests.{digest_for}
 use Rattle.luks_header.specs.HeaderSegment.{segment_of}
 use Rattle.luks_header.specs.SlotVerdicts.{verdict_at}
 use Rattle.luks_header.specs.declared.header.Header.{Header}
-use Rattle.luks_header.specs.declared.header.Header.TheVariants.{V2}
 use Rattle.luks_seal.specs.Sealed.{EndsWith, GivesKey, Sealed, SealsKey, SealsPlain}
-use Rattle.luks_seal.specs.declared.parameters.Seal2.{Seal2}
-use Rattle.luks_seal.specs.declared.parameters.Slot2.{Slot2}
-use Rattle.luks_verdict.proofs.SectorLemmas.{sector_blocks}
-use Rattle.luks_seal.proofs.MaterialLemmas.{gives_key}
-use Rattle.luks_seal.proofs.SectorLemmas.{sectors_are_stored}
-use Rattle.luks_seal.proofs.SlotLemmas.{found_by_number}
-use Rattle.luks2_seal.specs.Layout2.{area_key_of, image2_of, payload_of}
-use Rattle.luks2_seal.specs.Metadata2.{FitsJson, ReadsBack, metadata_of}
-use Rattle.luks2_seal.specs.SlotAreas.{slot_numbered}
-use Rattle.luks2_seal.specs.Passphrases2.{passphrases2_of}
-use Rattle.luks2_seal.specs.Ranges2.{AreParameters2, FitsSlot2}
-use Rattle.luks2_seal.specs.Typed2.{AreTyped2, IsTypedSlot2}
-use Rattle.luks2_seal.proofs.Digest2.{digest_is, digest_read, of_key}
-use Rattle.luks2_seal.proofs.Image2.{area_before, drawn, image_material, image_payload, length-image}
-use Rattle.luks2_seal.proofs.Keyslot2.{IsPlaced, parts_of}
-use Rattle.luks2_seal.proofs.Slots2.{area_after_headers}
-use Rattle.luks2_seal.proofs.Read2.{bounds_there, header_is, header_read}
-use Rattle.luks2_seal.proofs.Segment2.{fixed_size, segment_is, segment_read}
-use Rattle.luks2_seal.proofs.Verdicts2.{need_fits, slot_is, slot_parts, slot_usable}
+
+-- the key material of a slot
+abbrev pub material2_of : Seal2 → Slot2 → List ℕ
+material2_of p slot =
+    encrypted_material (p.area_mode, area_key_of p slot)
+    (stripes_of slot.af_hash p.key.now slot.stripes slot.random.now)
+
+-- if each area is as long as it should be, the areas of the slots below a number end where the next one starts
+areas_end : (p : Seal2) → ((n : ℕ) → length (area_at p n) ≡ area_size_at p n) → (n : ℕ)
+    → 2 * p.hdr_size + length (joined (area_at p) n) ≡ area_start p n
+unfolding joined area_start
+areas_end p sizes zero = omega arith
+areas_end p sizes (suc n) =
+    omega (arith, areas_end p sizes n, sizes n, length-append (joined (area_at p) n) (area_at p n))
+
+-- a text without zero bytes is read back from a field in which zeros follow it
+text_back : (text : List ℕ) (n : ℕ) → ((i : ℕ) → i < length text → slice_index text i ≢ 0)
+    → text_of (text ++ replicate n 0) ≡ text
+text_back [] zero some = refl
+text_back [] (suc n) some = refl
+text_back (x ∷ text) n some =
+    rw (ne_eqb x 0 (some 0 (omega arith)), one-add)
+    (ap (λ (t : List ℕ). x ∷ t) (text_back text n (λ i low. some (suc i) (omega arith))))
 
 -- if the image ends with the payload, the payload ends there, whether its length is fixed or not
 ends_there : (fixed : Bool) (plain image : List ℕ) (end : ℕ) → length image ≡ end
@@ -40,22 +78,185 @@ ends_there true plain image end is = refl
 ends_there false plain image end is = is
 
 module _ (p : Seal2) (fits : AreParameters2 p) (json : FitsJson p) (back : ReadsBack p) (typed : AreTyped2 p) where
+  -- ---- lengths
+
+  pub drawn : (slot : Slot2) → FitsSlot2 (length p.key.now) slot
+      → AreRandomStripes p.key.now slot.stripes slot.random.now
+  drawn slot of_slot =
+      record { some = of_slot.3; few = of_slot.4; key_most = short_key p fits; len = of_slot.5 }
+
+  length-material2 : (slot : Slot2) → FitsSlot2 (length p.key.now) slot
+      → length (material2_of p slot) ≡ need_of (length p.key.now) slot.stripes
+  length-material2 slot of_slot =
+      length-material slot.af_hash p.key.now slot.stripes slot.random.now (drawn slot of_slot) p.area_mode
+      (area_key_of p slot)
+
+  length-area : (slot : Slot2) → FitsSlot2 (length p.key.now) slot
+      → length (area_of p slot) ≡ area_size (length p.key.now) slot.stripes
+  unfolding area_of
+  length-area slot of_slot =
+      length-padded (area_size (length p.key.now) slot.stripes) (material2_of p slot)
+      (omega (arith, length-material2 slot of_slot, need_fits (length p.key.now) slot.stripes))
+
+  length-found : (found : Option Slot2)
+      → ((slot : Slot2) → found ≡ Some slot → FitsSlot2 (length p.key.now) slot)
+      → length (option_map_or (area_of p) found [])
+      ≡ option_map_or (λ (slot : Slot2). area_size (length p.key.now) slot.stripes) found 0
+  length-found None of_slot = refl
+  length-found (Some slot) of_slot = length-area slot (of_slot slot refl)
+
+  length-area_at : (n : ℕ) → length (area_at p n) ≡ area_size_at p n
+  unfolding area_at
+  length-area_at n =
+      length-found (slot_numbered n p.slots.now)
+      (found_has (FitsSlot2 (length p.key.now)) (λ (slot : Slot2). slot.number == n) p.slots.now fits.slots)
+
+  length-areas : (n : ℕ) → 2 * p.hdr_size + length (joined (area_at p) n) ≡ area_start p n
+  length-areas n = areas_end p length-area_at n
+
+  length-primary : length (header2_bytes p primary_magic p.primary_salt 0) ≡ p.hdr_size
+  length-primary = length-header p fits json primary_magic p.primary_salt 0 (primary_start p) typed.primary_salt
+
+  length-secondary : length (header2_bytes p secondary_magic p.secondary_salt p.hdr_size) ≡ p.hdr_size
+  length-secondary =
+      length-header p fits json secondary_magic p.secondary_salt p.hdr_size (secondary_start p fits)
+      typed.secondary_salt
+
+  length-headers : length (headers_of p) ≡ 2 * p.hdr_size
+  unfolding headers_of
+  length-headers = rw (length-append, length-primary, length-secondary) (omega arith)
+
+  -- the headers and the areas end where an area of slot 32 would start
+  pub image2 : IsImage (image2_of p) (headers_of p) (area_at p) 32 p.offset (p.mode, p.key.now)
+      (wrapping_number p.iv_tweak (bytes_of p.sector_size / 512)) (bytes_of p.sector_size) p.plain.now
+  unfolding image2_of payload_of
+  image2 =
+      image_made (headers_of p) (area_at p) 32 p.offset (p.mode, p.key.now) p.iv_tweak (bytes_of p.sector_size / 512)
+      (bytes_of p.sector_size) p.plain.now (omega (arith, length-headers, length-areas 32, fits.offset.2))
+      (sector_blocks p.sector_size).blocks fits.plain.0 typed.plain
+
+  -- ---- the headers
+
+  pub image_primary : at 0 p.hdr_size (image2_of p) ≡ header2_bytes p primary_magic p.primary_salt 0
+  unfolding headers_of
+  image_primary =
+      let first = header2_bytes p primary_magic p.primary_salt 0 in
+      let second = header2_bytes p secondary_magic p.secondary_salt p.hdr_size in
+      image2.in_headers 0 p.hdr_size (omega (arith, length-headers))
+      ∙ at_first 0 p.hdr_size first second (omega (arith, length-primary))
+      ∙ take_all p.hdr_size first (omega (arith, length-primary))
+
+  pub image_secondary : at p.hdr_size p.hdr_size (image2_of p)
+      ≡ header2_bytes p secondary_magic p.secondary_salt p.hdr_size
+  unfolding headers_of
+  image_secondary =
+      image2.in_headers p.hdr_size p.hdr_size (omega (arith, length-headers))
+      ∙ at_second p.hdr_size p.hdr_size (header2_bytes p primary_magic p.primary_salt 0)
+      (header2_bytes p secondary_magic p.secondary_salt p.hdr_size) (sym length-primary) length-secondary
+
+  -- ---- the header that a reader finds
+
+  -- the header, as its binary part states it
+  unfoldable pub header_is : Header2
+  header_is =
+      let binary = binary_at (image2_of p) 0 in
+      record {
+        role = Primary;
+        size = size_in binary;
+        sequence = sequence_in binary;
+        label = text_of (at 24 48 binary);
+        hash = Sha256;
+        salt = at 104 64 binary;
+        uuid = text_of (at 168 40 binary);
+        subsystem = text_of (at 208 48 binary);
+        finding = None;
+        detached = false;
+      }
+
+  -- the image is long enough for both headers
+  both_long : p.hdr_size + p.hdr_size ≤ length (image2_of p)
+  both_long = omega (arith, area_after_headers p 32, image2.len, fits.offset.2)
+
+  primary : IsReadAt p 0 (image2_of p)
+  primary =
+      read_there p fits json primary_magic p.primary_salt 0 (primary_start p) typed.primary_salt (image2_of p)
+      image_primary (omega (arith, both_long))
+
+  secondary : IsReadAt p p.hdr_size (image2_of p)
+  secondary =
+      read_there p fits json secondary_magic p.secondary_salt p.hdr_size (secondary_start p fits) typed.secondary_salt
+      (image2_of p) image_secondary both_long
+
+  -- both headers are valid, with one sequence number
+  chosen : chosen2_of (image2_of p) ≡ Some header_is
+  unfolding chosen2_of with_valid_primary header2_from header_is
+  chosen =
+      let number = be64 (to_be_bytes w64 p.seqid) in
+      let same = le-ltb number number (omega arith) in
+      rw (primary.valid, primary.size, secondary.valid, primary.sequence, secondary.sequence, same, primary.hash) refl
+
+  -- the image does not begin like an image of LUKS1
+  not_luks1 : is_luks1 (image2_of p) ≡ false
+  unfolding is_luks1 beginning_at
+  not_luks1 =
+      let begins : at 0 8 (image2_of p) ≡ beginning_at 0 =
+      sym (at_at 0 8 0 4096 (image2_of p) (omega arith)) ∙ primary.begins in
+      rw begins refl
+
+  -- ---- the JSON text
+
+  text_there : json_text_of (image2_of p) header_is ≡ json_of p
+  unfolding json_text_of json_area_of header_is padded
+  text_there =
+      ap (λ n. text_of (at 4096 (n - 4096) (image2_of p))) primary.size
+      ∙ ap text_of primary.json
+      ∙ text_back (json_of p) (p.hdr_size - 4096 - length (json_of p)) json.1
+
+  -- the metadata has the objects of key slots, segments and digests
+  objects : has_objects (metadata_of p) ≡ true
+  unfolding has_objects metadata_of
+  objects = refl
+
+  tree_there : tree_of (json_of p) ≡ Some (metadata_of p)
+  unfolding tree_of value_of
+  tree_there = rw (is_utf8-from_IsUtf8 (json_of p) back.0, back.1, objects) refl
+
+  -- reading the image gives this header and the metadata
+  pub header_read : read_header (image2_of p) ≡ Ok (V2 header_is (metadata_of p))
+  unfolding read_header header2_of
+  header_read = rw (not_luks1, chosen, text_there, tree_there) refl
+
+  -- the header sets these bounds
+  pub bounds_there : bounds2_of header_is ≡ bounds_of p
+  unfolding bounds2_of header_is
+  bounds_there = ap (λ (n : ℕ). record { end = 2 * n; detached = false }) primary.size
+
   unfoldable header : Header
-  header = V2 (header_is p fits json back typed) (metadata_of p)
+  header = V2 header_is (metadata_of p)
 
   -- ---- a key slot
 
-  module _ (slot : Slot2) (found : slot_numbered slot.number p.slots.now ≡ Some slot)
-      (of_slot : FitsSlot2 (length p.key.now) slot) (of_types : IsTypedSlot2 slot) where
-    placed : IsPlaced p slot
-    placed = record {
-      fits = of_slot;
-      typed = of_types;
-      numbered = found;
-      behind = area_after_headers p slot.number;
-      before = omega (arith, area_before p fits json typed slot of_slot found, fits.offset.2);
-      loadable = fits.offset.1;
-    }
+  module _ (slot : Slot2) (used : IsUsed p slot) where
+    low : slot.number < 32
+    low = omega (arith, used.fits.0)
+
+    -- its area begins with its key material
+    area_begins : at 0 (need_of (length p.key.now) slot.stripes) (area_at p slot.number) ≡ material2_of p slot
+    unfolding area_at area_of
+    area_begins =
+        rw used.numbered
+        (padded_begins (need_of (length p.key.now) slot.stripes) (area_size (length p.key.now) slot.stripes)
+        (material2_of p slot) (sym (length-material2 slot used.fits)))
+
+    pub image_material : at (area_start p slot.number) (need_of (length p.key.now) slot.stripes) (image2_of p)
+        ≡ material2_of p slot
+    image_material =
+        let size : area_size_at p slot.number ≡ area_size (length p.key.now) slot.stripes = rw used.numbered refl in
+        let enough = need_fits (length p.key.now) slot.stripes in
+        image2.in_area slot.number (area_start p slot.number) (need_of (length p.key.now) slot.stripes) low
+        (omega (arith, length-headers, length-areas slot.number))
+        (omega (arith, length-area_at slot.number, size, enough))
+        ∙ area_begins
 
     gives2 : GivesKey (parts_of p slot) slot.passphrase.now p.key.now (image2_of p)
     unfolding area_key_of
@@ -68,39 +269,33 @@ module _ (p : Seal2) (fits : AreParameters2 p) (json : FitsJson p) (back : Reads
           is_af = refl;
           is_mode = refl;
           key_bytes = refl;
-          drawn = drawn p fits json typed slot of_slot;
+          drawn = drawn slot used.fits;
           bytes = typed.key;
-          random_bytes = of_types.random;
+          random_bytes = used.typed.random;
         })
-        (omega (arith, need, placed.before, length-image p fits json typed))
-        (image_material p fits json typed slot of_slot found)
+        (omega (arith, need, ends_before p fits typed slot used, image2.len)) image_material
 
     seals_key2 : SealsKey header (image2_of p) p.key.now slot.number slot.passphrase.now
     unfolding header verdict_at digest_for
     seals_key2 = record {
-      slot = slot_is p fits typed slot placed;
+      slot = slot_is p fits typed slot used;
       digest = digest_is p fits typed;
-      usable = ap (λ bounds. verdict2_at (metadata_of p) bounds None slot.number) (bounds_there p fits json back typed)
-          ∙ slot_usable p fits typed slot placed;
+      usable = ap (λ bounds. verdict2_at (metadata_of p) bounds None slot.number) bounds_there
+          ∙ slot_usable p fits typed slot used;
       gives = subst (λ (parts : SlotParts). GivesKey parts slot.passphrase.now p.key.now (image2_of p))
-          (sym (slot_parts p fits typed slot placed)) gives2;
-      is_digest = digest_read p fits typed slot.number slot found (omega (arith, of_slot.0));
+          (sym (slot_parts p fits typed slot used)) gives2;
+      is_digest = digest_read p fits typed slot used;
       digest_of_key = of_key p fits typed;
     }
 
   -- ---- the payload
 
   seals_plain2 : SealsPlain (segment_is p fits typed) (image2_of p) p.key.now p.plain.now
-  unfolding segment_is segment_by payload_of
-  seals_plain2 =
-      let long = length-image p fits json typed in
-      record {
-        is_stored = sectors_are_stored (p.mode, p.key.now) p.iv_tweak (bytes_of p.sector_size / 512)
-            (bytes_of p.sector_size)
-            p.plain.now (sector_blocks p.sector_size).blocks fits.plain.0 p.offset (image2_of p) typed.plain
-            (omega (arith, long)) (image_payload p fits json typed);
-        ends = ends_there p.fixed p.plain.now (image2_of p) (p.offset + length p.plain.now) long;
-      }
+  unfolding segment_is segment_by
+  seals_plain2 = record {
+    is_stored = image2.stored p.offset refl;
+    ends = ends_there p.fixed p.plain.now (image2_of p) (p.offset + length p.plain.now) image2.len;
+  }
 
   -- ---- the volume
 
@@ -109,14 +304,16 @@ module _ (p : Seal2) (fits : AreParameters2 p) (json : FitsJson p) (back : Reads
   sealed2 = record {
     header = header;
     segment = segment_is p fits typed;
-    is_header = header_read p fits json back typed;
-    is_segment = ap (segment2_of (metadata_of p)) (bounds_there p fits json back typed) ∙ segment_read p fits typed;
+    is_header = header_read;
+    is_segment = ap (segment2_of (metadata_of p)) bounds_there ∙ segment_read p fits typed;
     key_bytes = typed.key;
     slots = All-map (λ slot. SealsKey header (image2_of p) p.key.now slot.0 slot.1)
         (λ slot. (slot.number, slot.passphrase.now)) p.slots.now
         (λ k d below.
-        seals_key2 (get_or p.slots.now k d)
-        (found_by_number (λ (slot : Slot2). slot.number) p.slots.now fits.distinct k d below)
-        (fits.slots k d below) (typed.slots k d below));
+        seals_key2 (get_or p.slots.now k d) (record {
+          fits = fits.slots k d below;
+          typed = typed.slots k d below;
+          numbered = found_by_number (λ (slot : Slot2). slot.number) p.slots.now fits.distinct k d below;
+        }));
     payload = seals_plain2;
   }

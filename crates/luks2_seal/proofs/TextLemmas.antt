@@ -1,6 +1,5 @@
 -- Numbers, bytes and modes are read back as they were written.
-use Rattle.std.proofs.Common.{◌≡◌, ◌<◌, ◌^◌, ℕ, List, ◌++◌, Some, true, length, ap, arith, rules, refl}
-use Rattle.std.specs.Prelude.{codes, decimal}
+use Rattle.std.proofs.Common.{◌≡◌, ◌<◌, ◌^◌, ℕ, List, ◌++◌, Some, true, length, ap, arith, rules, refl, codes, decimal}
 use Rattle.std.specs.Char.{is_ascii_digit}
 use Rattle.std.specs.List.{list_all}
 use Rattle.std.specs.Result.{result_ok}
@@ -15,7 +14,7 @@ use Rattle.luks_aes.specs.Bytes.{IsBytes}
 use Rattle.luks_cipher.specs.Sector.{mode_name}
 use Rattle.luks_cipher.specs.declared.mode.Mode.{Mode}
 use Rattle.luks2_json.specs.Encryption.{encryption_mode}
-use Rattle.luks_seal.proofs.RuleLemmas.{mode_by_name}
+use Rattle.luks_seal.proofs.RuleLemmas.{mode_is_named}
 use Rattle.luks2_json.specs.Member.{decimal_of}
 
 numerals : IsNumeralModel (λ ds. list_all is_ascii_digit ds ≡ true) (digits_value 10)
@@ -42,4 +41,4 @@ base64_read bytes are = ap result_ok (decode_of-encode_of standard bytes refl ar
 
 pub mode_read : (mode : Mode) → encryption_mode (codes "aes-" ++ mode_name mode) ≡ Some mode
 unfolding encryption_mode
-mode_read mode = mode_by_name mode
+mode_read mode = (mode_is_named mode).by_name

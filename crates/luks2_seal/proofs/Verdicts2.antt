@@ -1,150 +1,432 @@
--- There is no reason to skip a key slot of the metadata.
-use Rattle.std.proofs.Common.{◌≡◌, ◌∙◌, ◌*◌, ◌≤◌, ℕ, true, false, Some, None, length, ap, arith, refl}
-use Rattle.std.specs.Prelude.{◌&&◌, ◌||◌, List, bytes_eq, codes, is_none}
-use Rattle.std.proofs.lemmas.Bool.{lt-ltb}
-use Rattle.luks_verdict.specs.Digest.{digest_of, has_no_usable_digest}
-use Rattle.luks_verdict.specs.Rule.{iterations_out_of_range, area_out_of_range, stripes_out_of_range, need_of}
-use Rattle.luks_verdict.specs.Segment.{segment_by}
+-- What is read of the metadata of a sealed volume of LUKS2: a segment that is not refused, the digest of each key slot,
+-- and each key slot with its parts, which there is no reason to skip.
+use Rattle.std.proofs.Common.{◌≡◌, ◌∙◌, ◌*◌, ◌%◌, ◌<◌, ◌≤◌, ◌^◌, ℕ, Bool, true, false, Option, Some, None, Ok, length}
+use Rattle.std.proofs.Common.{ap, arith, refl, sym, true≢false, codes, ◌+◌, le-leb, lt-ltb, bytes_eq, decimal}
+use Rattle.std.proofs.Common.{if◌then◌else◌, option_and_then, option_map, unwrap_or, List}
+use Rattle.std.specs.Char.{is_ascii_digit}
+use Rattle.std.specs.List.{list_all}
+use Rattle.std.proofs.lemmas.Bool.{eq-eqb, false_from_ne_true, le-ltb}
+use Rattle.std.proofs.lemmas.Slice.Eq.{bytes_eq-Decides}
+use Rattle.luks_verdict.specs.SectorSize.{has_whole_sectors, bytes_of}
+use Rattle.luks_verdict.specs.Segment.{segment_by, segment_from}
+use Rattle.luks_verdict.specs.declared.sector_size.SectorSize.{SectorSize}
+use Rattle.luks_verdict.specs.declared.sector_size.SectorSize.TheVariants.{B512, B1024, B2048, B4096}
+use Rattle.luks_verdict.specs.declared.segment.Segment.{Segment}
+use Rattle.luks_verdict.proofs.MadeLemmas.{segment_of_all-yes, digest_from-yes, slot_from-yes}
+use Rattle.luks2_json.specs.Member.{decimal_of, decimal_member, string_is, string_member, integer_member, base64_member}
+use Rattle.luks2_json.specs.Member.{is_type}
+use Rattle.luks2_metadata.specs.Segment2.{fault2_of, has_requirement, has_segment_members, is_segment, size_is_wrong}
+use Rattle.luks2_metadata.specs.Segment2.{iv_tweak_of, mode2_of, offset_of, sector_size_of, sector_size_with}
+use Rattle.luks2_metadata.specs.Segment2.{segment2_of, segment_parts2_of, size_member, overlaps_headers2}
+use Rattle.luks2_metadata.specs.Segment2.{offset_is_wrong, the_segment, payload2_start, payload_mode2_of}
+use Rattle.luks2_metadata.specs.declared.bounds.Bounds.{Bounds}
+use Rattle.luks2_metadata.proofs.SegmentLemmas.{said-there, segment2-none, segment2-ok}
+use Rattle.serde_json.specs.Find.{as_str}
+use Rattle.luks2_seal.specs.Metadata2.{config_object, metadata_of, segment_object, size_value, digest_object, af_object}
+use Rattle.luks2_seal.specs.Metadata2.{area_object, kdf_object, keyslot_object}
+use Rattle.luks2_seal.specs.Ranges2.{AreParameters2, FitsSlot2, AreTyped2, IsTypedSlot2, slot_numbered, area_size}
+use Rattle.luks2_seal.specs.Ranges2.{area_start, area_size_at, Seal2, Slot2}
+use Rattle.luks2_seal.proofs.MetadataLemmas.{area_after_headers, names_are, slot_listed, keyslot_found, area_before}
+use Rattle.luks2_seal.proofs.TextLemmas.{decimal_read, decimal_digits, mode_read, base64_read}
+use Rattle.std.proofs.lemmas.Fmt.{decimal_digit}
+use Rattle.luks_kdf.specs.Hash.{digest_len}
+use Rattle.luks_kdf.specs.Pbkdf2.{derived_key}
+use Rattle.luks_kdf.proofs.HashLemmas.{digest_sizes}
+use Rattle.luks_kdf.proofs.Pbkdf2Lemmas.{length-derived_key}
+use Rattle.luks_verdict.specs.Digest.{digest_of, is_usable, has_no_usable_digest}
+use Rattle.luks_verdict.specs.declared.digest.DigestParts.{DigestParts}
+use Rattle.luks_verdict.specs.declared.digest.KeyDigest.{KeyDigest}
+use Rattle.luks2_json.specs.Derivation.{hash_member, iterations_in, salt_in}
+use Rattle.luks2_json.specs.List.{has_strings, array_contains}
+use Rattle.luks2_json.specs.Numbered.{object_numbered}
+use Rattle.luks2_json.proofs.NumberedLemmas.{lowest_found, lowest_none}
+use Rattle.luks2_metadata.specs.Digest2.{digest2_for, digest2_of, digest_parts2_of, is_digest2, is_of_slot, own_digest}
+use Rattle.luks2_metadata.specs.Digest2.{own_digest_at, value_in}
+use Rattle.luks_seal.specs.Sealed.{IsDigestOf}
+use Rattle.luks_seal.proofs.MaterialLemmas.{derived_bytes}
+use Rattle.luks_seal.proofs.RuleLemmas.{digest_fits, hash_is_named, area_fits, iterations_fit, stripes_fit}
+use Rattle.luks_verdict.specs.declared.slot.SlotParts.{SlotParts}
+use Rattle.luks2_metadata.specs.Slot2.{af_hash_of, area_mode_of, has_members, is_af, is_area, is_kdf, is_pbkdf2}
+use Rattle.luks2_metadata.specs.Slot2.{kdf_hash_of, priority_of, slot_parts2_of, are_key_sizes, has_unknown_hash}
+use Rattle.luks2_metadata.specs.Slot2.{area2_out_of_range, is_kdf_type, iterations_of_slot, reason2_of, slot2_of}
+use Rattle.luks2_metadata.specs.Slot2.{stripe_count_of, verdict2_at, verdict2_of}
+use Rattle.luks_verdict.specs.Rule.{iterations_out_of_range, stripes_out_of_range, need_of}
 use Rattle.luks_verdict.specs.Slot.{are_in_range, slot_of}
 use Rattle.luks_verdict.specs.declared.slot.Slot.{Slot}
-use Rattle.luks_verdict.specs.declared.slot.SlotParts.{SlotParts}
 use Rattle.luks_verdict.specs.declared.slot.Verdict.TheVariants.{Usable}
-use Rattle.luks_verdict.proofs.MadeLemmas.{slot_from-yes}
 use Rattle.luks2_json.specs.Encryption.{is_length_for}
-use Rattle.luks2_json.specs.Member.{is_type, string_is, string_member}
-use Rattle.luks2_json.specs.Numbered.{object_numbered}
-use Rattle.luks2_metadata.specs.Digest2.{digest2_for}
-use Rattle.luks2_metadata.specs.Segment2.{payload2_start, payload_mode2_of}
-use Rattle.luks2_metadata.specs.Slot2.{are_key_sizes, area_mode_of, has_unknown_hash, area2_out_of_range}
-use Rattle.luks2_metadata.specs.Slot2.{is_kdf_type, iterations_of_slot}
-use Rattle.luks2_metadata.specs.Slot2.{reason2_of, slot2_of, slot_parts2_of, stripe_count_of, verdict2_at, verdict2_of}
-use Rattle.luks2_metadata.proofs.SegmentLemmas.{segment2-ok}
 use Rattle.luks2_metadata.proofs.SlotLemmas.{no_reason, range_of}
-use Rattle.luks_seal.proofs.RuleLemmas.{area_fits, iterations_fit, stripes_fit}
-use Rattle.luks_seal.specs.declared.parameters.Seal2.{Seal2}
-use Rattle.luks_seal.specs.declared.parameters.Slot2.{Slot2}
-use Rattle.luks2_seal.specs.Metadata2.{kdf_object, keyslot_object, metadata_of}
-use Rattle.luks2_seal.specs.SlotAreas.{area_size, area_start}
-use Rattle.luks2_seal.specs.Ranges2.{AreParameters2}
-use Rattle.luks2_seal.specs.Typed2.{AreTyped2}
-use Rattle.luks2_seal.proofs.Digest2.{digest_is, digest_read}
-use Rattle.luks2_seal.proofs.Keyslot2.{IsPlaced, members_said, parts_of, parts_said}
-use Rattle.luks2_seal.proofs.Slots2.{keyslot_found}
-use Rattle.luks2_seal.proofs.Segment2.{bounds_of, segment_is, segment_read}
+
+-- ---- the segment
+
+-- the bounds that an attached header of this size sets
+abbrev pub bounds_of : Seal2 → Bounds
+bounds_of p = record { end = 2 * p.hdr_size; detached = false }
+
+-- the payload's length, if it is fixed
+abbrev pub fixed_size : Bool → ℕ → Option ℕ
+fixed_size true len = Some len
+fixed_size false len = None
+
+-- no number is written as the word `dynamic`
+not_dynamic : (n : ℕ) → n < 2 ^ 64 → bytes_eq (codes "dynamic") (decimal n) ≡ false
+not_dynamic n small =
+    false_from_ne_true (bytes_eq (codes "dynamic") (decimal n)) (λ yes.
+    let is : codes "dynamic" ≡ decimal n = (bytes_eq-Decides (codes "dynamic") (decimal n)).0 yes in
+    true≢false (sym (ap (list_all is_ascii_digit) is ∙ decimal_digits n small)))
+
+size_read : (fixed : Bool) (len : ℕ) → len < 2 ^ 64
+    → (if unwrap_or (option_map (bytes_eq (codes "dynamic")) (as_str (size_value fixed len))) false then Some None
+    else option_map (λ (bytes : ℕ). Some bytes) (option_and_then decimal_of (as_str (size_value fixed len))))
+    ≡ Some (fixed_size fixed len)
+size_read true len small = rw (not_dynamic len small, decimal_read len small) refl
+size_read false len small = refl
+
+sector_size_read : (size : SectorSize) → sector_size_with (bytes_of size) ≡ Some size
+sector_size_read B512 = refl
+sector_size_read B1024 = refl
+sector_size_read B2048 = refl
+sector_size_read B4096 = refl
+
+whole_size : (fixed : Bool) (len : ℕ) (size : SectorSize) → len % bytes_of size ≡ 0
+    → has_whole_sectors (fixed_size fixed len) size ≡ true
+whole_size true len size whole = eq-eqb (len % bytes_of size) 0 whole
+whole_size false len size whole = refl
+
+-- ---- the digest
+
+-- the parts that the digest is made from
+abbrev pub digest_parts : Seal2 → DigestParts
+digest_parts p = record {
+  hash = Some p.digest_hash;
+  iterations = p.digest_iterations;
+  salt = p.digest_salt;
+  value = derived_key p.digest_hash p.key.now p.digest_salt p.digest_iterations (digest_len p.digest_hash);
+}
+
+-- ---- a key slot
+
+-- a key slot of a volume
+pub record IsUsed (p : Seal2) (slot : Slot2) : Type 0 where
+  pub fits : FitsSlot2 (length p.key.now) slot
+  pub typed : IsTypedSlot2 slot
+  pub numbered : slot_numbered slot.number p.slots.now ≡ Some slot
+
+-- the parts that the key slot is made from
+abbrev pub parts_of : Seal2 → Slot2 → SlotParts
+parts_of p slot = record {
+  priority = slot.priority;
+  kdf_hash = Some slot.hash;
+  iterations = slot.iterations;
+  salt = slot.salt;
+  af_hash = Some slot.af_hash;
+  stripes = slot.stripes;
+  key_bytes = length p.key.now;
+  area_key_bytes = p.area_key_size;
+  area_offset = area_start p slot.number;
+  area_size = area_size (length p.key.now) slot.stripes;
+  area_mode = Some p.area_mode;
+}
 
 -- an area is large enough for its key material
 pub need_fits : (key stripes : ℕ) → need_of key stripes ≤ area_size key stripes
 unfolding need_of
 need_fits key stripes = omega arith
 
-module _ (p : Seal2) (fits : AreParameters2 p) (typed : AreTyped2 p) (slot : Slot2) (placed : IsPlaced p slot) where
-  -- ---- the values that the slot is checked against
+module _ (p : Seal2) (fits : AreParameters2 p) (typed : AreTyped2 p) where
+  -- ---- the segment: its members
 
-  payload_mode : payload_mode2_of (metadata_of p) (bounds_of p) ≡ Some p.mode
-  unfolding segment_is segment_by
-  payload_mode =
-      (segment2-ok (metadata_of p) (bounds_of p) (segment_is p fits typed) (segment_read p fits typed)).mode
+  offset_said : offset_of (segment_object p) ≡ Some p.offset
+  unfolding segment_object decimal_member string_member
+  offset_said = decimal_read p.offset (omega (arith, fits.offset.1))
 
-  payload_start : payload2_start (metadata_of p) (bounds_of p) ≡ Some p.offset
-  unfolding segment_is segment_by
-  payload_start =
-      (segment2-ok (metadata_of p) (bounds_of p) (segment_is p fits typed) (segment_read p fits typed)).start refl
+  size_said : size_member (segment_object p) ≡ Some (fixed_size p.fixed (length p.plain.now))
+  unfolding size_member string_is segment_object decimal_member string_member
+  size_said = size_read p.fixed (length p.plain.now) (omega (arith, fits.plain.1))
 
-  digested : has_no_usable_digest None (digest2_for (metadata_of p) slot.number) ≡ false
-  unfolding has_no_usable_digest digest_is digest_of
-  digested =
-      rw (digest_read p fits typed slot.number slot placed.numbered (omega (arith, placed.fits.0)))
-      (iterations_fit p.digest_iterations fits.min_digest_iterations typed.digest_iterations)
+  iv_tweak_said : iv_tweak_of (segment_object p) ≡ Some p.iv_tweak
+  unfolding segment_object decimal_member string_member
+  iv_tweak_said = decimal_read p.iv_tweak typed.iv_tweak
 
-  -- ---- the reasons, one after the other
+  sector_size_said : sector_size_of (segment_object p) ≡ Some p.sector_size
+  unfolding sector_size_of segment_object integer_member
+  sector_size_said = sector_size_read p.sector_size
 
-  hashes_known : has_unknown_hash (keyslot_object p slot) ≡ false
-  unfolding has_unknown_hash slot_parts2_of
-  hashes_known = ap (λ (parts : SlotParts). is_none parts.kdf_hash || is_none parts.af_hash) (parts_said p slot placed)
+  mode_said : mode2_of (segment_object p) ≡ Some p.mode
+  unfolding mode2_of segment_object string_member
+  mode_said = mode_read p.mode
 
-  mode_known : is_none (area_mode_of (keyslot_object p slot)) ≡ false
-  unfolding slot_parts2_of
-  mode_known = ap (λ (parts : SlotParts). is_none parts.area_mode) (parts_said p slot placed)
+  pub whole : has_whole_sectors (fixed_size p.fixed (length p.plain.now)) p.sector_size ≡ true
+  whole = whole_size p.fixed (length p.plain.now) p.sector_size fits.plain.0
 
-  keys_fit : are_key_sizes (payload_mode2_of (metadata_of p) (bounds_of p)) (keyslot_object p slot) ≡ true
-  unfolding are_key_sizes is_length_for slot_parts2_of
-  keys_fit =
-      rw payload_mode
-      (ap (λ (parts : SlotParts). is_length_for parts.area_mode parts.area_key_bytes
-      && is_length_for (Some p.mode) parts.key_bytes) (parts_said p slot placed)
-      ∙ rw (fits.keys.0, fits.keys.1) refl)
+  -- ---- the segment has no fault
 
-  striped : stripes_out_of_range (stripe_count_of (keyslot_object p slot)) ≡ false
-  unfolding slot_parts2_of
-  striped =
-      ap (λ (parts : SlotParts). stripes_out_of_range parts.stripes) (parts_said p slot placed)
-      ∙ stripes_fit slot.stripes placed.fits.3 placed.fits.4
+  is_there : the_segment (metadata_of p) ≡ Some (segment_object p)
+  unfolding the_segment metadata_of
+  is_there = refl
 
-  counted : iterations_out_of_range None (iterations_of_slot (keyslot_object p slot)) ≡ false
-  unfolding slot_parts2_of
-  counted =
-      ap (λ (parts : SlotParts). iterations_out_of_range None parts.iterations) (parts_said p slot placed)
-      ∙ iterations_fit slot.iterations placed.fits.2 placed.typed.iterations
+  requires_none : has_requirement (metadata_of p) ≡ false
+  unfolding has_requirement metadata_of config_object
+  requires_none = refl
 
-  area_right : area2_out_of_range (2 * p.hdr_size) (payload2_start (metadata_of p) (bounds_of p))
-      (keyslot_object p slot)
-      ≡ false
-  unfolding area2_out_of_range slot_parts2_of
-  area_right =
-      rw payload_start
-      (ap (λ (parts : SlotParts). area_out_of_range (2 * p.hdr_size) (Some p.offset) parts.area_offset parts.area_size
-      (need_of parts.key_bytes parts.stripes)) (parts_said p slot placed)
-      ∙ area_fits (2 * p.hdr_size) p.offset (area_start p slot.number) (area_size (length p.key.now) slot.stripes)
-      (need_of (length p.key.now) slot.stripes) placed.behind (need_fits (length p.key.now) slot.stripes)
-      (omega (arith, placed.before, need_fits (length p.key.now) slot.stripes)) placed.loadable)
+  starts_right : offset_is_wrong (bounds_of p) (Some p.offset) ≡ false
+  unfolding offset_is_wrong overlaps_headers2
+  starts_right =
+      let behind : 2 * p.hdr_size ≤ p.offset = omega (arith, area_after_headers p 32, fits.offset.2) in
+      let whole : p.offset % 512 ≡ 0 = omega (arith, fits.offset.0) in
+      rw (le-ltb p.offset (2 * p.hdr_size) behind, eq-eqb (p.offset % 512) 0 whole) refl
 
-  type_is : is_type (codes "luks2") (keyslot_object p slot) ≡ true
-  unfolding string_is string_member keyslot_object
-  type_is = refl
+  crypt_said : is_segment (segment_object p) ≡ true
+  unfolding is_segment has_segment_members string_is string_member segment_object integer_member
+  crypt_said = rw (offset_said, size_said, iv_tweak_said) refl
 
-  kdf_type_is : (type : List ℕ) → is_kdf_type type (keyslot_object p slot) ≡ bytes_eq type (codes "pbkdf2")
-  unfolding string_is string_member keyslot_object kdf_object
-  kdf_type_is type = refl
+  -- the segment
+  unfoldable pub segment_is : Segment
+  segment_is = segment_by p.offset (fixed_size p.fixed (length p.plain.now)) p.iv_tweak p.sector_size p.mode whole
 
-  -- no reason to skip the slot holds
-  no_reasons : reason2_of (metadata_of p) (bounds_of p) None slot.number (keyslot_object p slot) ≡ None
-  unfolding reason2_of
-  no_reasons =
-      rw (
-        type_is,
-        members_said p slot placed,
-        kdf_type_is (codes "argon2i"),
-        kdf_type_is (codes "argon2id"),
-        kdf_type_is (codes "pbkdf2"),
-        hashes_known,
-        mode_known,
-        keys_fit,
-        striped,
-        counted,
-        area_right,
-        digested,
-      ) refl
+  no_fault : fault2_of (metadata_of p) (bounds_of p) ≡ None
+  unfolding fault2_of size_is_wrong string_is segment_object string_member
+  no_fault =
+      rw (requires_none, is_there, crypt_said, mode_said, sector_size_said, offset_said, starts_right, size_said, whole)
+      refl
 
-  in_range : are_in_range (slot_parts2_of (keyslot_object p slot)) ≡ true
-  in_range =
-      range_of (metadata_of p) (bounds_of p) None slot.number (keyslot_object p slot)
-      (no_reason (metadata_of p) (bounds_of p) None slot.number (keyslot_object p slot) no_reasons)
+  segment_made : segment_from (segment_parts2_of (segment_object p)) ≡ Some segment_is
+  unfolding segment_from segment_parts2_of segment_is
+  segment_made =
+      rw (offset_said, size_said, iv_tweak_said, sector_size_said, mode_said)
+      (segment_of_all-yes p.offset (fixed_size p.fixed (length p.plain.now)) p.iv_tweak p.sector_size p.mode whole)
 
-  -- the slot, which has the stated parts
-  pub slot_is : Slot
-  slot_is = slot_of (slot_parts2_of (keyslot_object p slot)) in_range
+  -- the segment that is read back is this one, which is not refused
+  pub segment_read : segment2_of (metadata_of p) (bounds_of p) ≡ Ok segment_is
+  segment_read =
+      let said = said-there (metadata_of p) (segment_object p) is_there in
+      segment2-none (metadata_of p) (bounds_of p) segment_is no_fault
+      (ap (λ segment. segment_from (segment_parts2_of segment)) said ∙ segment_made)
 
-  pub slot_parts : slot_is.parts ≡ parts_of p slot
-  unfolding slot_is slot_of
-  slot_parts = parts_said p slot placed
+  -- ---- the digest: its members
 
-  there : object_numbered (codes "keyslots") (metadata_of p) slot.number ≡ Some (keyslot_object p slot)
+  hash_said : hash_member (digest_object p) ≡ Some p.digest_hash
+  unfolding hash_member digest_object string_member
+  hash_said = (hash_is_named p.digest_hash).by_name
+
+  digest_salt_said : base64_member (codes "salt") (digest_object p) ≡ Some p.digest_salt
+  unfolding base64_member digest_object string_member
+  digest_salt_said = base64_read p.digest_salt typed.digest_salt
+
+  value_said : base64_member (codes "digest") (digest_object p)
+      ≡ Some (derived_key p.digest_hash p.key.now p.digest_salt p.digest_iterations (digest_len p.digest_hash))
+  unfolding base64_member digest_object string_member
+  value_said =
+      base64_read _
+      (derived_bytes p.digest_hash p.key.now p.digest_salt p.digest_iterations (digest_len p.digest_hash))
+
+  keyslots_said : has_strings (codes "keyslots") (digest_object p) ≡ true
+  unfolding has_strings digest_object
+  keyslots_said = (names_are p 32).texts
+
+  digest_is_said : is_digest2 (digest_object p) ≡ true
+  unfolding is_digest2 has_strings digest_object string_is string_member integer_member
+  digest_is_said = rw (keyslots_said, hash_said, digest_salt_said, value_said) refl
+
+  digest_parts_said : digest_parts2_of (digest_object p) ≡ digest_parts p
+  unfolding iterations_in salt_in value_in digest_object integer_member
+  digest_parts_said = rw (hash_said, digest_salt_said, value_said) refl
+
+  -- ---- the digest of the key
+
+  pub usable : is_usable (digest_parts p) ≡ true
+  usable =
+      let len = length-derived_key p.digest_hash p.key.now p.digest_salt p.digest_iterations
+      (digest_len p.digest_hash) in
+      let size = digest_sizes p.digest_hash in
+      digest_fits p.digest_iterations _ fits.min_digest_iterations typed.digest_iterations
+      (omega (arith, len, size.least)) (omega (arith, len, size.greatest))
+
+  unfoldable pub digest_is : KeyDigest
+  digest_is = digest_of (digest_parts p) usable
+
+  digest_found : digest2_of (digest_object p) ≡ Some digest_is
+  unfolding digest2_of digest_is
+  digest_found = rw (digest_is_said, digest_parts_said) (digest_from-yes (digest_parts p) usable)
+
+  -- the digest is that of the key
+  pub of_key : IsDigestOf digest_is p.key.now
+  unfolding digest_is digest_of
+  of_key = record {
+    hash = p.digest_hash;
+    is_hash = refl;
+    value = ap (derived_key p.digest_hash p.key.now p.digest_salt p.digest_iterations)
+        (sym (length-derived_key p.digest_hash p.key.now p.digest_salt p.digest_iterations (digest_len p.digest_hash)));
+  }
+
+  first_there : object_numbered (codes "digests") (metadata_of p) 0 ≡ Some (digest_object p)
   unfolding object_numbered metadata_of
-  there =
-      rw (lt-ltb slot.number 32 (omega (arith, placed.fits.0)))
-      (keyslot_found p slot.number 32 slot placed.numbered (omega (arith, placed.fits.0)) (omega arith))
+  first_there = rw (decimal_digit 0 (omega arith)) refl
 
-  -- the slot is usable
-  pub slot_usable : verdict2_at (metadata_of p) (bounds_of p) None slot.number ≡ Some (Usable slot_is)
-  unfolding verdict2_at verdict2_of slot2_of slot_is
-  slot_usable = rw (there, no_reasons, slot_from-yes (slot_parts2_of (keyslot_object p slot)) in_range) refl
+  module _ (slot : Slot2) (used : IsUsed p slot) where
+    low : slot.number < 32
+    low = omega (arith, used.fits.0)
+
+    -- the digest belongs to the slot
+    of_slot : is_of_slot slot.number (digest_object p) ≡ true
+    unfolding is_of_slot array_contains digest_object
+    of_slot = rw (slot_listed p slot.number 32 slot used.numbered low) refl
+
+    own_is : own_digest_at (metadata_of p) slot.number 0 ≡ Some digest_is
+    unfolding own_digest_at own_digest
+    own_is = rw (first_there, of_slot, digest_found) refl
+
+    pub digest_read : digest2_for (metadata_of p) slot.number ≡ Some digest_is
+    unfolding digest2_for
+    digest_read =
+        lowest_found (own_digest_at (metadata_of p) slot.number) 0 32 (lowest_none _) (omega arith) (rw own_is refl)
+        ∙ own_is
+
+    -- its area ends before the payload
+    pub ends_before : area_start p slot.number + area_size (length p.key.now) slot.stripes ≤ p.offset
+    ends_before =
+        let size : area_size_at p slot.number ≡ area_size (length p.key.now) slot.stripes = rw used.numbered refl in
+        omega (arith, size, area_before p slot.number 32 low, fits.offset.2)
+
+    -- ---- a key slot: its members
+
+    start_said : decimal_member (codes "offset") (area_object p slot) ≡ Some (area_start p slot.number)
+    unfolding area_object decimal_member string_member
+    start_said = decimal_read (area_start p slot.number) (omega (arith, ends_before, fits.offset.1))
+
+    length_said : decimal_member (codes "size") (area_object p slot) ≡ Some (area_size (length p.key.now) slot.stripes)
+    unfolding area_object decimal_member string_member
+    length_said =
+        decimal_read (area_size (length p.key.now) slot.stripes) (omega (arith, ends_before, fits.offset.1))
+
+    area_mode_said : area_mode_of (keyslot_object p slot) ≡ Some p.area_mode
+    unfolding keyslot_object area_object string_member
+    area_mode_said = mode_read p.area_mode
+
+    slot_salt_said : base64_member (codes "salt") (kdf_object slot) ≡ Some slot.salt
+    unfolding kdf_object base64_member string_member
+    slot_salt_said = base64_read slot.salt used.typed.salt
+
+    kdf_hash_said : kdf_hash_of (keyslot_object p slot) ≡ Some slot.hash
+    unfolding keyslot_object kdf_object hash_member string_member
+    kdf_hash_said = (hash_is_named slot.hash).by_name
+
+    af_hash_said : af_hash_of (keyslot_object p slot) ≡ Some slot.af_hash
+    unfolding keyslot_object af_object hash_member string_member
+    af_hash_said = (hash_is_named slot.af_hash).by_name
+
+    priority_said : priority_of (keyslot_object p slot) ≡ Some slot.priority
+    unfolding keyslot_object priority_of integer_member
+    priority_said = rw (le-leb slot.priority 2 used.fits.1) refl
+
+    pub slot_parts_said : slot_parts2_of (keyslot_object p slot) ≡ parts_of p slot
+    unfolding slot_parts2_of keyslot_object kdf_object area_object af_object integer_member iterations_in salt_in
+    slot_parts_said =
+        rw (priority_said, kdf_hash_said, slot_salt_said, af_hash_said, start_said, length_said, area_mode_said) refl
+
+    -- ---- a key slot: its kinds
+
+    af_is : is_af (af_object slot) ≡ true
+    unfolding is_af af_object string_is string_member integer_member
+    af_is = refl
+
+    area_is : is_area (area_object p slot) ≡ true
+    unfolding is_area area_object string_is string_member integer_member
+    area_is = rw (start_said, length_said) refl
+
+    kdf_is : is_kdf (kdf_object slot) ≡ true
+    unfolding is_kdf is_pbkdf2 kdf_object string_is string_member integer_member
+    kdf_is = rw slot_salt_said refl
+
+    pub members_said : has_members (keyslot_object p slot) ≡ true
+    unfolding has_members keyslot_object integer_member
+    members_said = rw (priority_said, af_is, area_is, kdf_is) refl
+
+    -- ---- the values that the slot is checked against
+
+    payload_mode : payload_mode2_of (metadata_of p) (bounds_of p) ≡ Some p.mode
+    unfolding segment_is segment_by
+    payload_mode = (segment2-ok (metadata_of p) (bounds_of p) segment_is segment_read).mode
+
+    payload_start : payload2_start (metadata_of p) (bounds_of p) ≡ Some p.offset
+    unfolding segment_is segment_by
+    payload_start = (segment2-ok (metadata_of p) (bounds_of p) segment_is segment_read).start refl
+
+    digested : has_no_usable_digest None (digest2_for (metadata_of p) slot.number) ≡ false
+    unfolding has_no_usable_digest digest_is digest_of
+    digested =
+        rw digest_read (iterations_fit p.digest_iterations fits.min_digest_iterations typed.digest_iterations)
+
+    -- ---- the reasons, one after the other
+
+    keys_fit : are_key_sizes (payload_mode2_of (metadata_of p) (bounds_of p)) (keyslot_object p slot) ≡ true
+    unfolding are_key_sizes is_length_for keyslot_object area_object integer_member
+    keys_fit = rw (payload_mode, area_mode_said, fits.keys.0, fits.keys.1) refl
+
+    striped : stripes_out_of_range (stripe_count_of (keyslot_object p slot)) ≡ false
+    unfolding keyslot_object af_object integer_member
+    striped = stripes_fit slot.stripes used.fits.3 used.fits.4
+
+    counted : iterations_out_of_range None (iterations_of_slot (keyslot_object p slot)) ≡ false
+    unfolding keyslot_object kdf_object iterations_in integer_member
+    counted = iterations_fit slot.iterations used.fits.2 used.typed.iterations
+
+    area_right : area2_out_of_range (2 * p.hdr_size) (payload2_start (metadata_of p) (bounds_of p))
+        (keyslot_object p slot) ≡ false
+    unfolding area2_out_of_range keyslot_object area_object af_object integer_member
+    area_right =
+        rw (payload_start, start_said, length_said)
+        (area_fits (2 * p.hdr_size) p.offset (area_start p slot.number) (area_size (length p.key.now) slot.stripes)
+        (need_of (length p.key.now) slot.stripes) (area_after_headers p slot.number)
+        (need_fits (length p.key.now) slot.stripes)
+        (omega (arith, ends_before, need_fits (length p.key.now) slot.stripes)) fits.offset.1)
+
+    type_is : is_type (codes "luks2") (keyslot_object p slot) ≡ true
+    unfolding string_is string_member keyslot_object
+    type_is = refl
+
+    kdf_type_is : (type : List ℕ) → is_kdf_type type (keyslot_object p slot) ≡ bytes_eq type (codes "pbkdf2")
+    unfolding string_is string_member keyslot_object kdf_object
+    kdf_type_is type = refl
+
+    -- no reason to skip the slot holds
+    no_reasons : reason2_of (metadata_of p) (bounds_of p) None slot.number (keyslot_object p slot) ≡ None
+    unfolding reason2_of has_unknown_hash
+    no_reasons =
+        rw (
+          type_is,
+          members_said,
+          kdf_type_is (codes "argon2i"),
+          kdf_type_is (codes "argon2id"),
+          kdf_type_is (codes "pbkdf2"),
+          kdf_hash_said,
+          af_hash_said,
+          area_mode_said,
+          keys_fit,
+          striped,
+          counted,
+          area_right,
+          digested,
+        ) refl
+
+    in_range : are_in_range (slot_parts2_of (keyslot_object p slot)) ≡ true
+    in_range =
+        range_of (metadata_of p) (bounds_of p) None slot.number (keyslot_object p slot)
+        (no_reason (metadata_of p) (bounds_of p) None slot.number (keyslot_object p slot) no_reasons)
+
+    -- the slot, which has the stated parts
+    pub slot_is : Slot
+    slot_is = slot_of (slot_parts2_of (keyslot_object p slot)) in_range
+
+    pub slot_parts : slot_is.parts ≡ parts_of p slot
+    unfolding slot_is slot_of
+    slot_parts = slot_parts_said
+
+    there : object_numbered (codes "keyslots") (metadata_of p) slot.number ≡ Some (keyslot_object p slot)
+    unfolding object_numbered metadata_of
+    there = rw (lt-ltb slot.number 32 low) (keyslot_found p slot.number 32 slot used.numbered low (omega arith))
+
+    -- the slot is usable
+    pub slot_usable : verdict2_at (metadata_of p) (bounds_of p) None slot.number ≡ Some (Usable slot_is)
+    unfolding verdict2_at verdict2_of slot2_of slot_is
+    slot_usable = rw (there, no_reasons, slot_from-yes (slot_parts2_of (keyslot_object p slot)) in_range) refl

@@ -8,10 +8,8 @@ use Rattle.luks_kdf.specs.Pbkdf2.{derived_key}
 use Rattle.luks_kdf.specs.declared.hash.Hash.TheVariants.{Sha256}
 use Rattle.luks_verdict.specs.SectorSize.{bytes_of}
 use Rattle.luks_seal.specs.Pieces.{encrypted_material, padded, sectors_encrypted, stripes_of}
-use Rattle.luks_seal.specs.declared.parameters.Seal2.{Seal2}
-use Rattle.luks_seal.specs.declared.parameters.Slot2.{Slot2}
 use Rattle.luks2_seal.specs.Metadata2.{json_of}
-use Rattle.luks2_seal.specs.SlotAreas.{area_size, slot_numbered}
+use Rattle.luks2_seal.specs.Ranges2.{area_size, slot_numbered, Seal2, Slot2}
 
 -- the first bytes of the primary header, and of the secondary one
 abbrev pub primary_magic : List ℕ

@@ -15,9 +15,7 @@ use Rattle.luks_kdf.specs.Hash.{hash_name, digest_len}
 use Rattle.luks_kdf.specs.Pbkdf2.{derived_key}
 use Rattle.luks_verdict.specs.SectorSize.{bytes_of}
 use Rattle.luks_seal.specs.Ranges.{FitsText}
-use Rattle.luks_seal.specs.declared.parameters.Seal2.{Seal2}
-use Rattle.luks_seal.specs.declared.parameters.Slot2.{Slot2}
-use Rattle.luks2_seal.specs.SlotAreas.{area_size, area_start, slot_numbered}
+use Rattle.luks2_seal.specs.Ranges2.{area_size, area_start, slot_numbered, Seal2, Slot2}
 
 -- the members of an object, by names and values
 abbrev pub members : List (List ℕ × Data) → Members

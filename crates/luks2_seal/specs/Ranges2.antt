@@ -1,12 +1,36 @@
--- The ranges of what a volume of LUKS2 is made from.
-use Rattle.std.specs.Prelude.{◌≡◌, ℕ, ◌-◌, ◌*◌, ◌%◌, ◌≤◌, ◌==◌, Bool, true, All, length}
+-- The parameters of a volume of LUKS2: the key slots by their numbers and where their areas are, the ranges of all
+-- parameters, what their types guarantee, and the passphrases of the key slots.
+use Rattle.std.specs.Prelude.{◌==◌, ℕ, zero, suc, ◌+◌, ◌*◌, ◌/◌, List, find, length, Option, ◌≡◌, ◌-◌, ◌%◌, ◌≤◌, Bool}
+use Rattle.std.specs.Prelude.{true, All, ◌<◌, ◌^◌, map}
+use Rattle.std.specs.Option.{option_map_or}
 use Rattle.std.specs.List.{list_any}
 use Rattle.luks_verdict.specs.SectorSize.{bytes_of}
 use Rattle.luks2_binary.specs.Header2.{sizes}
 use Rattle.luks_seal.specs.Ranges.{AreDistinct, FitsKey, FitsText, max_plain_len}
-use Rattle.luks_seal.specs.declared.parameters.Seal2.{Seal2}
-use Rattle.luks_seal.specs.declared.parameters.Slot2.{Slot2}
-use Rattle.luks2_seal.specs.SlotAreas.{area_start}
+use Rattle.luks_aes.specs.Bytes.{IsBytes}
+pub use Rattle.luks_seal.specs.declared.parameters.Seal2.{Seal2}
+pub use Rattle.luks_seal.specs.declared.parameters.Slot2.{Slot2}
+
+-- the slot of this number, if there is one
+abbrev pub slot_numbered : ℕ → List Slot2 → Option Slot2
+slot_numbered number slots = find (λ (slot : Slot2). slot.number == number) slots
+
+-- the length of a slot's area in bytes: all stripes of the key, rounded up to a multiple of 4096
+abbrev pub area_size : ℕ → ℕ → ℕ
+area_size key stripes = (key * stripes + 4095) / 4096 * 4096
+
+-- the length of the area of the slot of this number, or 0 if there is no such slot
+abbrev pub area_size_at : Seal2 → ℕ → ℕ
+area_size_at p number =
+    option_map_or (λ slot. area_size (length p.key.now) slot.stripes) (slot_numbered number p.slots.now) 0
+
+-- where the area of the slot of this number starts, in bytes: after both headers and the areas of all slots with lower
+-- numbers
+unfoldable pub area_start : Seal2 → ℕ → ℕ
+area_start p zero = 2 * p.hdr_size
+area_start p (suc number) = area_start p number + area_size_at p number
+
+-- ---- ranges
 
 -- a header and its JSON area can have this length in bytes together (LUKS2 On-Disk Format Specification 1.1, section
 -- 2.2)
@@ -44,3 +68,26 @@ pub record AreParameters2 (p : Seal2) : Type 0 where
   pub slots : All (FitsSlot2 (length p.key.now)) p.slots.now
   pub distinct : AreDistinct (λ (slot : Slot2). slot.number) p.slots.now
   pub offset : FitsOffset p
+
+-- ---- what the types of the parameters guarantee for their values
+
+-- for a key slot
+pub record IsTypedSlot2 (slot : Slot2) : Type 0 where
+  pub iterations : slot.iterations < 2 ^ 32
+  pub salt : IsBytes slot.salt
+  pub random : IsBytes slot.random.now
+
+-- for a volume of LUKS2
+pub record AreTyped2 (p : Seal2) : Type 0 where
+  pub primary_salt : length p.primary_salt ≡ 64
+  pub secondary_salt : length p.secondary_salt ≡ 64
+  pub key : IsBytes p.key.now
+  pub iv_tweak : p.iv_tweak < 2 ^ 64
+  pub digest_salt : IsBytes p.digest_salt
+  pub digest_iterations : p.digest_iterations < 2 ^ 32
+  pub slots : All IsTypedSlot2 p.slots.now
+  pub plain : IsBytes p.plain.now
+
+-- the key slots by their numbers, and the passphrase of each
+abbrev pub passphrases2_of : Seal2 → List (ℕ × List ℕ)
+passphrases2_of p = map (λ slot. (slot.number, slot.passphrase.now)) p.slots.now

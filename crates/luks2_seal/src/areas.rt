@@ -4,8 +4,8 @@ ghost use Rattle.std.specs.Prelude.{◌≡◌, ◌*◌, ◌≤◌, ◌++◌, All
 ghost use Rattle.std.specs.Prelude.{option_copied};
 ghost use Rattle.luks_kdf.specs.Bytes.{joined};
 ghost use Rattle.luks2_seal.specs.Layout2.{area_at, area_key_of, area_of};
-ghost use Rattle.luks2_seal.specs.SlotAreas.{area_size, area_size_at, area_start, slot_numbered};
-ghost use Rattle.luks2_seal.specs.Ranges2.{AreParameters2, FitsSlot2};
+ghost use Rattle.luks2_seal.specs.Ranges2.{AreParameters2, FitsSlot2, area_size, area_size_at};
+ghost use Rattle.luks2_seal.specs.Ranges2.{area_start, slot_numbered};
 
 use luks_seal::parameters::{Seal2, Slot2};
 use luks_seal::pieces::{derived_key, encrypted_material, push_padded, stripes_of};
@@ -50,7 +50,7 @@ fn area_size_at(seal: &Seal2<'_>, number: u32) -> u64
 
 /// Where the area of the slot of this number starts, in bytes: after both headers and the areas of
 /// all slots with lower numbers.
-#[tactic(auto, unfolding(crate::specs::SlotAreas::area_start))]
+#[tactic(auto, unfolding(crate::specs::Ranges2::area_start))]
 pub(crate) fn area_start(seal: &Seal2<'_>, number: u32) -> u64
     requires size { seal.now.hdr_size ≤ 4194304 }
     requires key { length seal.now.key.now ≤ 64 }
@@ -66,7 +66,7 @@ pub(crate) fn area_start(seal: &Seal2<'_>, number: u32) -> u64
 }
 
 /// The key that encrypts a slot's area.
-#[tactic(auto, unfolding(crate::specs::Layout2::area_key_of))]
+#[tactic(auto, using(crate::proofs::RangeLemmas::bounds), unfolding(crate::specs::Layout2::area_key_of))]
 fn area_key_of(alloc: Global, seal: &Seal2<'_>, slot: &Slot2<'_>) -> Result<Vec<u8>, AllocError>
     requires fits { AreParameters2 seal.now }
     requires slot { FitsSlot2 (length seal.now.key.now) slot.now }
@@ -83,7 +83,7 @@ fn area_key_of(alloc: Global, seal: &Seal2<'_>, slot: &Slot2<'_>) -> Result<Vec<
 }
 
 /// Adds a slot's area.
-#[tactic(auto, unfolding(crate::specs::Layout2::area_of))]
+#[tactic(auto, using(crate::proofs::RangeLemmas::bounds), unfolding(crate::specs::Layout2::area_of))]
 fn push_area(
     alloc: Global,
     image: &mut Vec<u8>,

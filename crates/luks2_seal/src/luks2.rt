@@ -5,8 +5,7 @@ ghost use Rattle.luks_seal.specs.Ranges.{SealAnswerLate};
 ghost use Rattle.luks_seal.specs.Sealed.{Sealed};
 ghost use Rattle.luks2_seal.specs.Layout2.{image2_of, payload_of};
 ghost use Rattle.luks2_seal.specs.Metadata2.{FitsJson, json_of};
-ghost use Rattle.luks2_seal.specs.Passphrases2.{passphrases2_of};
-ghost use Rattle.luks2_seal.specs.Ranges2.{AreParameters2};
+ghost use Rattle.luks2_seal.specs.Ranges2.{AreParameters2, passphrases2_of};
 
 use crate::areas::push_areas;
 use crate::headers::headers_of;

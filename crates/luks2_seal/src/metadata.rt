@@ -38,7 +38,7 @@ fn put_af(alloc: Global, map: &mut Map<String, Value>, slot: &Slot2<'_>) -> Resu
 }
 
 /// Puts `area` into the key slot: where the key material is, and how it is encrypted.
-#[tactic(auto, unfolding(crate::specs::Metadata2::area_object))]
+#[tactic(auto, using(crate::proofs::RangeLemmas::bounds), unfolding(crate::specs::Metadata2::area_object))]
 fn put_area(
     alloc: Global,
     map: &mut Map<String, Value>,

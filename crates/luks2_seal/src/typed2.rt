@@ -1,7 +1,7 @@
 //! What the types of the parameters of LUKS2 guarantee for their values: nothing is done here, the
 //! clauses are for proofs.
 
-ghost use Rattle.luks2_seal.specs.Typed2.{AreTyped2, IsTypedSlot2};
+ghost use Rattle.luks2_seal.specs.Ranges2.{AreTyped2, IsTypedSlot2};
 ghost use Rattle.std.specs.Prelude.{All};
 
 use luks_seal::parameters::{Seal2, Slot2};

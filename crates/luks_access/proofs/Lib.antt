@@ -1,4 +1,2 @@
 pub mod OpeningLemmas
-pub mod PartLemmas
 pub mod RangeLemmas
-pub mod SourceLemmas

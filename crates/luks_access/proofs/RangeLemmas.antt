@@ -1,52 +1,136 @@
--- Ranges of a plaintext, from those of its sectors.
-use Rattle.std.proofs.Common.{◌≡◌, ℕ, ◌+◌, ◌-◌, ◌*◌, ◌/◌, ◌%◌, ◌<◌, ◌≤◌, List, ◌++◌, length, take, drop}
-use Rattle.std.proofs.Common.{[], append-nil, length-append, length-drop, Option, Some, Result, Ok, Err}
-use Rattle.std.proofs.Common.{arith, sym, ap, ◌∙◌, Bool, true}
+-- Parts of a plaintext: sectors that are decrypted one after the other, and ranges, from those of their parts.
+use Rattle.std.proofs.Common.{◌≡◌, ℕ, zero, suc, ◌+◌, ◌-◌, ◌*◌, ◌/◌, ◌%◌, ◌<◌, ◌≤◌, List, [], ◌++◌, length, take, drop}
+use Rattle.std.proofs.Common.{length-drop, length-take-le, append-nil, append_assoc, add-one, arith, refl, sym, ap, ◌∙◌}
+use Rattle.std.proofs.Common.{length-append, Option, Some, Result, Ok, Err, Bool, true, subst}
+use Rattle.std.proofs.lemmas.List.{drop-drop, drop_all}
+use Rattle.std.proofs.Math.Nat.{div-mul_cancel, dvd_of_mod-eq-zero}
 use Rattle.std.specs.Prelude.{OnOk}
-use Rattle.std.proofs.lemmas.List.{drop-drop, drop-take, drop_all, take-take}
-use Rattle.luks_kdf.proofs.BytesLemmas.{take_prefix}
 use Rattle.std.proofs.Math.Seq.{take-add}
 use Rattle.luks_io.specs.Devices.{IfKnown}
-use Rattle.luks_runs.proofs.PayloadLemmas.{plain_len}
-use Rattle.luks_verdict.specs.SectorSize.{bytes_of}
-use Rattle.luks_verdict.specs.declared.sector_size.SectorSize.{SectorSize}
-use Rattle.luks_verdict.specs.declared.sector_size.SectorSize.TheVariants.{B512, B1024, B2048, B4096}
+use Rattle.luks_kdf.proofs.BytesLemmas.{take_prefix, drop_prefix}
+use Rattle.luks_cipher.proofs.UnitsUndone.{joined_same}
+use Rattle.luks_cipher.specs.Sector.{Cipher, sector_decrypted}
+use Rattle.luks_cipher.specs.Xts.{joined}
 use Rattle.luks_verdict.specs.declared.segment.Segment.{Segment}
-use Rattle.luks_cipher.specs.Sector.{Cipher}
-use Rattle.luks_payload.specs.Plain.{plain_of, sector_len, payload_bytes}
+use Rattle.luks_verdict.proofs.SectorLemmas.{sector_blocks}
+use Rattle.luks_payload.specs.Plain.{bytes_from_start, plain_of, sector_len, sector_plaintext, sector_start, sectors_of}
+use Rattle.luks_payload.specs.Plain.{unit_number, unit_plain, payload_bytes}
+use Rattle.luks_payload.proofs.SectorLemmas.{one_more_fits}
+use Rattle.luks_runs.proofs.PayloadLemmas.{joined_length, unit_len, within_len, plain_len}
+use Rattle.luks_access.specs.Sectors.{AreStored, plain_at, plain_in, sector_in}
 use Rattle.luks_access.specs.Image.{IsRangeOf}
 use Rattle.luks_access.specs.Range.{ReadsRange, plaintext_len}
 use Rattle.luks_access.specs.declared.fault.RangeFault.{RangeFault}
 use Rattle.luks_access.specs.declared.fault.RangeFault.TheVariants.{PastEnd, Read, Shorter}
+use Rattle.luks_area.proofs.FieldLemmas.{at_beginning}
 
--- ---- the sector of a byte, for each sector size
+-- ---- joined pieces
 
--- the byte at `offset` is in a whole sector of z bytes of a text of `len` bytes
-pub record IsSector (z offset len : ℕ) : Type 0 where
-  pub start : (offset - offset % z) % z ≡ 0
-  pub within : offset - offset % z + z ≤ len
-  pub skip : offset % z ≤ offset
+-- a + n joined pieces are the first a of them, followed by n more
+joined_both : (f : ℕ → List ℕ) (a n : ℕ) → joined f (a + n) ≡ joined f a ++ joined (λ j. f (a + j)) n
+unfolding joined
+joined_both f a zero =
+    let e : a + 0 ≡ a = omega arith in
+    rw e (sym (append-nil (joined f a)))
+joined_both f a (suc n) =
+    let e : a + suc n ≡ suc (a + n) = omega arith in
+    rw e
+    (ap (λ l. l ++ f (a + n)) (joined_both f a n) ∙ append_assoc (joined f a) (joined (λ j. f (a + j)) n) (f (a + n)))
 
-pub is_sector : (size : SectorSize) (offset len : ℕ) → len % bytes_of size ≡ 0 → offset < len
-    → IsSector (bytes_of size) offset len
-is_sector B512 offset len whole inside = record { start = omega arith; within = omega arith; skip = omega arith }
-is_sector B1024 offset len whole inside = record { start = omega arith; within = omega arith; skip = omega arith }
-is_sector B2048 offset len whole inside = record { start = omega arith; within = omega arith; skip = omega arith }
-is_sector B4096 offset len whole inside = record { start = omega arith; within = omega arith; skip = omega arith }
+-- n pieces from number a on are a part of the joined pieces
+joined_part : (f : ℕ → List ℕ) (z a n total : ℕ) → ((j : ℕ) → j < total → length (f j) ≡ z) → a + n ≤ total
+    → take (n * z) (drop (a * z) (joined f total)) ≡ joined (λ j. f (a + j)) n
+joined_part f z a n total sizes few =
+    let rest = total - (a + n) in
+    let all : total ≡ a + (n + rest) = omega arith in
+    let g : ℕ → List ℕ = λ j. f (a + j) in
+    let prefix : length (joined f a) ≡ a * z = joined_length f z a (λ j low. sizes j (omega arith)) in
+    let middle : length (joined g n) ≡ n * z = joined_length g z n (λ j low. sizes (a + j) (omega arith)) in
+    ap (λ k. take (n * z) (drop (a * z) (joined f k))) all
+    ∙ (ap (λ l. take (n * z) (drop (a * z) l)) (joined_both f a (n + rest))
+    ∙ (ap (take (n * z)) (drop_prefix (a * z) (joined f a) (joined g (n + rest)) prefix)
+    ∙ (ap (take (n * z)) (joined_both g n rest)
+    ∙ take_prefix (n * z) (joined g n) (joined (λ j. g (n + j)) rest) middle)))
+
+-- ---- sectors decrypted one after the other
+
+module _ (s : Segment) (cipher : Cipher) (first : ℕ) (stored : List ℕ) where
+  pub none_decrypted : (size : ℕ) → stored ≡ joined (sector_in s cipher first stored) 0 ++ drop (0 * size) stored
+  unfolding joined
+  none_decrypted size = let none : 0 * size ≡ 0 = omega arith in rw none refl
+
+  -- one more sector is decrypted
+  pub one_decrypted : (now new : List ℕ) (size j : ℕ) → size ≡ sector_len s → j * size + size ≤ length stored
+      → length now ≡ length stored → now ≡ joined (sector_in s cipher first stored) j ++ drop (j * size) stored
+      → new ≡ sector_decrypted cipher.0 cipher.1 (unit_number s (first + j))
+      (take (j * size + size - j * size) (drop (j * size) now))
+      → take (j * size) now ++ (new ++ drop (j * size + size - j * size) (drop (j * size) now))
+      ≡ joined (sector_in s cipher first stored) (j + 1) ++ drop ((j + 1) * size) stored
+  unfolding joined unit_plain
+  one_decrypted now new size j is_size inside same is_now is_new =
+      let f = sector_in s cipher first stored in
+      let a = j * size in
+      let width : a + size - a ≡ size = omega arith in
+      let next : a + size ≡ (j + 1) * size = omega arith in
+      let long : length (joined f j) ≡ a =
+      omega (arith, ap length is_now, length-append (joined f j) (drop a stored), length-drop a stored) in
+      let prefix : take a now ≡ joined f j = rw is_now (take_prefix a (joined f j) (drop a stored) long) in
+      let back : drop a now ≡ drop a stored = rw is_now (drop_prefix a (joined f j) (drop a stored) long) in
+      let here : new ≡ f j = is_new ∙ rw (back, width, is_size) refl in
+      let rest : drop (a + size - a) (drop a now) ≡ drop ((j + 1) * size) stored =
+      rw (back, width) (drop-drop size a stored ∙ ap (λ n. drop n stored) next) in
+      rw (prefix, rest, here, add-one) (sym (append_assoc (joined f j) (f j) (drop (suc j * size) stored)))
+
+  -- all sectors are decrypted
+  pub all_decrypted : (now : List ℕ) (size count j : ℕ)
+      → size ≡ sector_len s → count ≡ length stored / size → length stored % size ≡ 0 → j ≡ count
+      → now ≡ joined (sector_in s cipher first stored) j ++ drop (j * size) stored
+      → now ≡ plain_in s cipher first stored
+  all_decrypted now size count j is_size is_count whole is_last is_now =
+      let all : j * size ≡ length stored =
+      ap (λ k. k * size) (is_last ∙ is_count) ∙ div-mul_cancel size (dvd_of_mod-eq-zero size whole) in
+      let nothing : drop (j * size) stored ≡ [] = drop_all (j * size) stored (omega arith) in
+      is_now ∙ rw (nothing, append-nil, is_last, is_count, is_size) refl
+
+-- ---- sectors of an image
+
+module _ (s : Segment) (cipher : Cipher) (image : List ℕ) where
+  -- a sector of the payload has its full length
+  len_of : (j : ℕ) → j < sectors_of s image → length (sector_plaintext s cipher image j) ≡ sector_len s
+  len_of j low =
+      let z = sector_blocks s.sector_size in
+      let all = one_more_fits j (payload_bytes s.size (bytes_from_start s image)) (sector_len s) low in
+      let within = within_len s.size (bytes_from_start s image) in
+      let piece = length-take-le (sector_len s) (drop (sector_start s j) image)
+      (omega (arith, z.long, length-drop (sector_start s j) image)) in
+      unit_len cipher _ _ (ap (λ n. n % 16) piece ∙ z.blocks) ∙ piece
+
+  -- sector j of the stored ones is sector `first + j` of the payload
+  same_sector : (first : ℕ) (stored : List ℕ) → stored ≡ take (length stored) (drop (sector_start s first) image)
+      → (j : ℕ) → j < length stored / sector_len s
+      → sector_plaintext s cipher image (first + j) ≡ sector_in s cipher first stored j
+  same_sector first stored is j low =
+      let place : sector_start s first + j * sector_len s ≡ sector_start s (first + j) = omega arith in
+      ap (unit_plain cipher (unit_number s (first + j)))
+      (sym (ap (λ l. take (sector_len s) (drop (j * sector_len s) l)) is
+      ∙ at_beginning (j * sector_len s) (sector_len s) (length stored) (drop (sector_start s first) image)
+      (one_more_fits j (length stored) (sector_len s) low)
+      ∙ ap (take (sector_len s)) (drop-drop (j * sector_len s) (sector_start s first) image
+      ∙ ap (λ k. drop k image) place)))
+
+  -- decrypting what is stored in the image gives that part of its plaintext
+  pub part_of_plain : (first : ℕ) (stored : List ℕ) → length stored % sector_len s ≡ 0 → AreStored s image first stored
+      → plain_in s cipher first stored ≡ plain_at s cipher image (first * sector_len s) (length stored)
+  part_of_plain first stored whole are =
+      let n = length stored / sector_len s in
+      let len : n * sector_len s ≡ length stored =
+      div-mul_cancel (sector_len s) (dvd_of_mod-eq-zero (sector_len s) whole) in
+      sym (joined_same (λ j. sector_plaintext s cipher image (first + j)) (sector_in s cipher first stored) n
+      (same_sector first stored are.there)) ∙ (sym
+      (joined_part (sector_plaintext s cipher image) (sector_len s) first n (sectors_of s image) len_of are.within)
+      ∙ ap (λ k. take k (drop (first * sector_len s) (plain_of s cipher image))) len)
 
 -- ---- parts of a text
-
--- a part of a range is a range
-pub range_in : (text unit : List ℕ) (offset skip z n : ℕ) → unit ≡ take z (drop (offset - skip) text) → skip ≤ offset
-    → skip + n ≤ z → take n (drop skip unit) ≡ take n (drop offset text)
-range_in text unit offset skip z n is before inside =
-    let rest : z ≡ skip + (z - skip) = omega arith in
-    let same : skip + (offset - skip) ≡ offset = omega arith in
-    ap (λ l. take n (drop skip l)) is
-    ∙ (ap (λ k. take n (drop skip (take k (drop (offset - skip) text)))) rest
-    ∙ (ap (take n) (drop-take skip (z - skip) (drop (offset - skip) text))
-    ∙ (take-take n (z - skip) (drop skip (drop (offset - skip) text)) (omega arith)
-    ∙ ap (take n) (drop-drop skip (offset - skip) text ∙ ap (λ k. drop k text) (omega arith)))))
 
 -- two adjacent ranges are one range
 pub range_joined : (text a b : List ℕ) (offset : ℕ) → IsRangeOf text offset a → IsRangeOf text (offset + length a) b
@@ -55,24 +139,10 @@ range_joined text a b offset first second =
     let joined : take (length a + length b) (drop offset text) ≡ a ++ b =
     take-add (length a) (length b) (drop offset text)
     ∙ (ap (λ l. l ++ take (length b) (drop (length a) (drop offset text))) (sym first)
-    ∙ ap (λ l. a ++ l)
-    (ap (take (length b)) (drop-drop (length a) offset text ∙ ap (λ k. drop k text) (omega arith)) ∙ sym second)) in
+    ∙ ap (λ l. a ++ l) (ap (take (length b)) (drop-drop (length a) offset text) ∙ sym second)) in
     sym (ap (λ k. take k (drop offset text)) (length-append a b) ∙ joined)
 
 -- ---- parts that were read
-
--- the first part of a range was read, and then the rest was read, or reading it failed
-pub joins : (s : Segment) (cipher : Cipher) (len : ℕ) (image : Option (List ℕ)) (fails : Bool) (offset : ℕ)
-    (a b : List ℕ)
-    (result : Result (Unit {0}) RangeFault) → ReadsRange s cipher len image fails offset (Ok tt) a
-    → ReadsRange s cipher len image fails (offset + length a) result b
-    → ReadsRange s cipher len image fails offset result (a ++ b)
-joins s cipher len image fails offset a b (Ok _) first second =
-    λ known there all.
-    range_joined (plain_of s cipher known) a b offset (first known there all) (second known there all)
-joins s cipher len image fails offset a b (Err PastEnd) first second = second
-joins s cipher len image fails offset a b (Err Read) first second = second
-joins s cipher len image fails offset a b (Err Shorter) first second = second
 
 -- a list whose first n elements are `a`, with `b` in place of the rest
 two_parts : (a rest b : List ℕ) (n : ℕ) → length a ≡ n
@@ -83,25 +153,15 @@ two_parts a rest b n long =
     ap (λ l. l ++ (b ++ drop (length (a ++ rest) - n) (drop n (a ++ rest)))) (take_prefix n a rest long)
     ∙ ap (λ l. a ++ l) (ap (λ l. b ++ l) none ∙ append-nil b)
 
--- the first n bytes of a buffer were read, and then the rest was read, or reading it failed
-pub reads_rest : (s : Segment) (cipher : Cipher) (len : ℕ) (image : Option (List ℕ)) (fails : Bool) (offset n : ℕ)
-    (a rest b : List ℕ)
-    (result : Result (Unit {0}) RangeFault) → length a ≡ n → ReadsRange s cipher len image fails offset (Ok tt) a
-    → ReadsRange s cipher len image fails (offset + n) result b
-    → ReadsRange s cipher len image fails offset result
-    (take n (a ++ rest) ++ (b ++ drop (length (a ++ rest) - n) (drop n (a ++ rest))))
-reads_rest s cipher len image fails offset n a rest b result long first second =
-    let behind : ReadsRange s cipher len image fails (offset + length a) result b = rw long second in
-    rw (two_parts a rest b n long) (joins s cipher len image fails offset a b result first behind)
-
 -- a part of a sector that was read whole is a range of the text
 pub part_read : (text unit bytes : List ℕ) (offset skip n : ℕ) → IsRangeOf text (offset - skip) unit → skip ≤ offset
     → skip + n ≤ length unit → length bytes ≡ n → bytes ≡ take (skip + n - skip) (drop skip unit)
     → IsRangeOf text offset bytes
 part_read text unit bytes offset skip n whole before inside long are =
     let count : skip + n - skip ≡ length bytes = omega arith in
-    are ∙ (ap (λ k. take k (drop skip unit)) count
-    ∙ range_in text unit offset skip (length unit) (length bytes) whole before (omega arith))
+    are ∙ (ap (λ k. take k (drop skip unit)) count ∙ (ap (λ l. take (length bytes) (drop skip l)) whole
+    ∙ (at_beginning skip (length bytes) (length unit) (drop (offset - skip) text) (omega arith)
+    ∙ ap (take (length bytes)) (drop-drop skip (offset - skip) text ∙ ap (λ k. drop k text) (omega arith)))))
 
 -- a plaintext is as long as all whole sectors of the payload
 pub text_is_long : (s : Segment) (cipher : Cipher) (image : List ℕ) (image_len len : ℕ) → length image ≡ image_len
@@ -111,27 +171,31 @@ text_is_long s cipher image image_len len long is =
     is ∙ (ap (λ n. payload_bytes s.size (n - s.offset) / sector_len s * sector_len s) (sym long)
     ∙ sym (plain_len s image cipher))
 
--- reading a range, if `len` is the length of the image's plaintext
-module _ (s : Segment) (cipher : Cipher) (len : ℕ) (image : Option (List ℕ)) (fails : Bool) (offset : ℕ)
-    (bytes : List ℕ) (long : (known : List ℕ) → image ≡ Some known → len ≡ length (plain_of s cipher known)) where
-  all_of : (known : List ℕ) → image ≡ Some known → plaintext_len s known ≡ len
-  all_of known is = sym (long known is ∙ plain_len s known cipher)
+module _ (s : Segment) (cipher : Cipher) (len : ℕ) (image : Option (List ℕ)) (fails : Bool) (offset : ℕ) where
+  -- the first n bytes of a buffer were read, and then the rest was read, or reading it failed
+  pub reads_rest : (n : ℕ) (a rest b : List ℕ) (result : Result (Unit {0}) RangeFault) → length a ≡ n
+      → ReadsRange s cipher len image fails offset (Ok tt) a
+      → ReadsRange s cipher len image fails (offset + n) result b → ReadsRange s cipher len image fails offset result
+      (take n (a ++ rest) ++ (b ++ drop (length (a ++ rest) - n) (drop n (a ++ rest))))
+  reads_rest n a rest b (Ok _) long first second = λ known there all.
+      let behind = subst (λ (k : ℕ). IsRangeOf (plain_of s cipher known) (offset + k) b) (sym long)
+      (second known there all) in
+      subst (IsRangeOf (plain_of s cipher known) offset) (sym (two_parts a rest b n long))
+      (range_joined (plain_of s cipher known) a b offset (first known there all) behind)
+  reads_rest n a rest b (Err PastEnd) long first second = second
+  reads_rest n a rest b (Err Read) long first second = second
+  reads_rest n a rest b (Err Shorter) long first second = second
 
-  pub range_read : (result : Result (Unit {0}) RangeFault) → ReadsRange s cipher len image fails offset result bytes
-      → OnOk result (IfKnown image (λ known. IsRangeOf (plain_of s cipher known) offset bytes))
-  range_read (Ok _) reads = λ known is. reads known is (all_of known is)
-  range_read (Err _) reads = tt
+  -- if `len` is the length of the image's plaintext, a range was read, or the image did not become shorter
+  module _ (bytes : List ℕ)
+      (long : (known : List ℕ) → image ≡ Some known → len ≡ length (plain_of s cipher known)) where
+    all_of : (known : List ℕ) → image ≡ Some known → plaintext_len s known ≡ len
+    all_of known is = sym (long known is ∙ plain_len s known cipher)
 
-  pub never_shorter : (result : Result (Unit {0}) RangeFault) → ReadsRange s cipher len image fails offset result bytes
-      → IfKnown image (λ known. result ≡ Err Shorter → ⊥)
-  never_shorter (Ok _) reads = λ known is wrong. cc
-  never_shorter (Err PastEnd) reads = absurd reads
-  never_shorter (Err Read) reads = λ known is wrong. cc
-  never_shorter (Err Shorter) reads = λ known is wrong. reads known is (all_of known is)
-
-  pub read_fails : (result : Result (Unit {0}) RangeFault) → ReadsRange s cipher len image fails offset result bytes
-      → result ≡ Err Read → fails ≡ true
-  read_fails (Ok _) reads is = cc
-  read_fails (Err PastEnd) reads is = absurd reads
-  read_fails (Err Read) reads is = reads
-  read_fails (Err Shorter) reads is = cc
+    pub range_ends : (result : Result (Unit {0}) RangeFault) → ReadsRange s cipher len image fails offset result bytes
+        → OnOk result (IfKnown image (λ known. IsRangeOf (plain_of s cipher known) offset bytes))
+        × IfKnown image (λ known. result ≡ Err Shorter → ⊥) × (result ≡ Err Read → fails ≡ true)
+    range_ends (Ok _) reads = (λ known is. reads known is (all_of known is), λ known is wrong. (cc), λ wrong. (cc))
+    range_ends (Err PastEnd) reads = absurd reads
+    range_ends (Err Read) reads = (tt, λ known is wrong. (cc), λ _. reads)
+    range_ends (Err Shorter) reads = (tt, λ known is wrong. reads known is (all_of known is), λ wrong. (cc))

@@ -2,4 +2,3 @@ pub mod Image
 pub mod Opens
 pub mod Range
 pub mod Sectors
-pub mod Unlocks

@@ -1,17 +1,20 @@
 -- Which volume is opened, compared with `luksCat`.
-use Rattle.std.specs.Prelude.{ℕ, ◌≡◌, List, Ok, false, option_map}
+use Rattle.std.specs.Prelude.{ℕ, ◌≡◌, List, Ok, false, option_map, ◌⊎◌, ◌<◌, ◌≤◌, length, Option, Result, Err}
 use Rattle.luks_cipher.specs.Sector.{Cipher}
 use Rattle.luks_report.specs.Faults.{message_at_end}
 use Rattle.luks_report.specs.declared.message.Message.{Message}
+use Rattle.luks_report.specs.declared.message.Message.TheVariants.{KeyFileLength}
 use Rattle.luks_request.specs.Request.{VolumeRequest}
-use Rattle.luks_runs.specs.RunOutcome.{Outcome, no_output}
+use Rattle.luks_runs.specs.KeyFile.{max_key_file_len}
+use Rattle.luks_runs.specs.Run.{Outcome, no_output}
 use Rattle.luks_runs.specs.Run.{aborts}
-use Rattle.luks_runs.specs.HeaderReading.{detached_header_of}
+use Rattle.luks_runs.specs.Location.{detached_header_of}
 use Rattle.luks_runs.specs.Location.{reader_for}
 use Rattle.luks_runs.specs.declared.location.HeaderLocation.{HeaderLocation}
 use Rattle.luks_runs.specs.declared.location.HeaderLocation.TheVariants.{Attached, Detached}
 use Rattle.luks_unlock.specs.Honest.{OpensHonest}
-use Rattle.luks_unlock.specs.Trying.{opened_of}
+use Rattle.luks_unlock.specs.Trying.{TriesSlots, opened_of}
+use Rattle.luks_unlock.specs.declared.found.FoundVolume.{FoundVolume}
 use Rattle.luks_unlock.specs.declared.unlocked.UnlockedVolume.{UnlockedVolume}
 use Rattle.luks_unlock.specs.Volume.{OnOpened, detached_payload_outcome, payload_outcome, volume_outcome}
 use Rattle.luks_unlock.specs.Volume.{volume_outcome_by}
@@ -48,6 +51,14 @@ pub record Refuses (options : Options) (header pass : List ℕ) (message : Messa
       → volume_outcome_by (reader_for options.location) on_opened o header pass
       ≡ no_output message header_consumed secret_consumed
 
+-- the key slots of a volume were tried with a passphrase that is not too long, or the passphrase is too long
+abbrev pub UnlocksVolume : Option ℕ → FoundVolume → List ℕ → List ℕ → List ℕ → Option (List ℕ)
+    → Result UnlockedVolume Message → Type 0
+UnlocksVolume named volume pass area' rest left result =
+    ((length pass ≤ max_key_file_len)
+    × TriesSlots named volume.segment volume.order pass volume.area.bytes area' rest left result)
+    ⊎ ((max_key_file_len < length pass) × (result ≡ Err KeyFileLength))
+
 -- the image of the payload: the one that the header is attached to, or another
 abbrev pub payload_image_of : HeaderLocation → List ℕ → List ℕ → List ℕ
 payload_image_of Attached header image = header
@@ -59,23 +70,24 @@ cat_outcome_of Attached o header image pass = volume_outcome (payload_outcome he
 cat_outcome_of Detached o header image pass =
     volume_outcome_by detached_header_of (detached_payload_outcome image pass) o header pass
 
--- `luksCat` writes the volume's plaintext, and ends as the payload does
-abbrev pub IsCatOf : Options → List ℕ → List ℕ → UnlockedVolume → Type 0
-IsCatOf options header pass v =
-    (o : VolumeRequest) (image : List ℕ) → HasOptions o options
-    → ((cat_outcome_of options.location o header image pass).output
-    ≡ plaintext_of v (payload_image_of options.location header image))
-    × ((cat_outcome_of options.location o header image pass).message
-    ≡ message_at_end (ending_of v.segment (payload_image_of options.location header image)))
+-- the volume's plaintext in this image is written, and the run ends as the payload does
+abbrev pub HasPlaintext : Outcome → UnlockedVolume → List ℕ → Type 0
+HasPlaintext outcome v image =
+    (outcome.output ≡ plaintext_of v image) × (outcome.message ≡ message_at_end (ending_of v.segment image))
 
--- the plaintext of an honestly sealed volume with an attached header is the one that was sealed, and it is whole
-abbrev pub IsPlainOf : Options → List ℕ → List ℕ → UnlockedVolume → Type 0
-IsPlainOf options image pass v =
-    (o : VolumeRequest) (plain : List ℕ) → options.location ≡ Attached → HasOptions o options
-    → OpensHonest o image pass plain → (plaintext_of v image ≡ plain) × (ending_of v.segment image ≡ Ok End)
+-- a volume was opened: by every command (`opens`), and so by `luksCat`, which writes its plaintext (`cats`). If it was
+-- sealed honestly, with an attached header, that is the plaintext that was sealed, and it is whole (`honest`)
+pub record OpensVolume (options : Options) (header pass : List ℕ) (v : UnlockedVolume) : Type 0 where
+  pub opens : Opens options header pass v
+  pub cats : (o : VolumeRequest) (image : List ℕ) → HasOptions o options → HasPlaintext
+      (cat_outcome_of options.location o header image pass) v (payload_image_of options.location header image)
+  pub honest : (o : VolumeRequest) (plain : List ℕ) → options.location ≡ Attached → HasOptions o options
+      → OpensHonest o header pass plain → (plaintext_of v header ≡ plain) × (ending_of v.segment header ≡ Ok End)
 
--- such a volume is refused only if memory ran out, or a read or a write failed
-abbrev pub IsOnlyAborted : Options → List ℕ → List ℕ → Message → Type 0
-IsOnlyAborted options image pass message =
-    (o : VolumeRequest) (plain : List ℕ) → options.location ≡ Attached → HasOptions o options
-    → aborts message ≡ false → OpensHonest o image pass plain → ⊥
+-- no volume was opened. Unless memory ran out, or a read or a write failed, every command ends with this message
+-- (`refuses`), and the image is no honestly sealed volume, with an attached header, that this passphrase opens
+-- (`no_honest`)
+pub record RefusesVolume (options : Options) (header pass : List ℕ) (message : Message) : Type 0 where
+  pub refuses : aborts message ≡ false → Refuses options header pass message
+  pub no_honest : (o : VolumeRequest) (plain : List ℕ) → options.location ≡ Attached → HasOptions o options
+      → aborts message ≡ false → OpensHonest o header pass plain → ⊥

@@ -31,7 +31,7 @@ impl<'a> MemImage<'a> {
     }
 }
 
-// The bounds of `count` bytes from this offset on, or `None` if there are not so many.
+// The bounds of `count` bytes from this offset on, or `None` if there are fewer.
 fn bounds(len: usize, offset: u64, count: usize) -> Option<(usize, usize)>
     ensures { MatchOption result (len < offset + count)
         (λ place. (place.0 ≡ offset) × (place.1 ≡ offset + count) × (offset + count ≤ len)) }

@@ -1,19 +1,17 @@
 //! Volumes that are open.
 
 ghost use Rattle.std.specs.Prelude.{◌≡◌, ◌≢◌, ◌+◌, ◌-◌, ◌%◌, ◌^◌, ◌<◌, ◌≤◌, Bool, List, ℕ, Err};
-ghost use Rattle.std.specs.Prelude.{[], IfErr, IfOk, OnOk, false, length, nat_le, replicate, true};
+ghost use Rattle.std.specs.Prelude.{[], IfErr, IfOk, OnOk, length, nat_le, replicate, true};
 ghost use Rattle.luks_io.specs.Counts.{Reads};
 ghost use Rattle.luks_io.specs.Devices.{IfKnown};
 ghost use Rattle.luks_request.specs.Request.{volume_request};
-ghost use Rattle.luks_runs.specs.Run.{aborts, is_run_read_failure, result_message};
+ghost use Rattle.luks_runs.specs.Run.{is_run_read_failure, result_message};
 ghost use Rattle.luks_unlock.specs.Found.{MatchesHeader};
 ghost use Rattle.luks_unlock.specs.OpeningMessages.{OpeningMessage};
 ghost use Rattle.luks_unlock.specs.Trying.{CountsTrials};
 ghost use Rattle.luks_payload.specs.Plain.{ending_of, sector_len};
 ghost use Rattle.luks_access.specs.Image.{IsRangeOf};
-ghost use Rattle.luks_access.specs.Opens.{IsCatOf, IsOnlyAborted, IsPlainOf, Opens, Refuses};
-ghost use Rattle.luks_access.specs.Opens.{plaintext_of};
-ghost use Rattle.luks_access.specs.Unlocks.{UnlocksVolume};
+ghost use Rattle.luks_access.specs.Opens.{OpensVolume, RefusesVolume, UnlocksVolume, plaintext_of};
 
 use crate::fault::RangeFault;
 use crate::image::ReadAt;
@@ -68,8 +66,8 @@ fn unlock<S: Source>(
 ) -> Result<UnlockedVolume, Message>
     requires { MatchesHeader (volume_request opening.now) found }
     ensures run { IfKnown (S.to_come source.old) (λ rest. (found.area.ended ≡ true → rest ≡ [])
-        → (loaded : List ℕ) × UnlocksVolume (volume_request opening.now).key_slot found.segment
-        found.order pass.now found.area.bytes loaded rest (S.to_come source.new) result) }
+        → (loaded : List ℕ) × UnlocksVolume (volume_request opening.now).key_slot found
+        pass.now loaded rest (S.to_come source.new) result) }
     ensures work { (loaded : List ℕ)
         × CountsTrials found.order loaded pass.now work.old work.new }
     ensures only { IfErr result OpeningMessage }
@@ -97,15 +95,9 @@ impl Volume {
         pass: &[u8],
     ) -> Result<Volume, Message>
         ensures opens { IfOk result (λ volume. IfKnown (S.to_come source.old)
-            (λ known. Opens options.now known pass.now volume)) }
-        ensures cats { IfOk result (λ volume. IfKnown (S.to_come source.old)
-            (λ known. IsCatOf options.now known pass.now volume)) }
-        ensures honest { IfOk result (λ volume. IfKnown (S.to_come source.old)
-            (λ known. IsPlainOf options.now known pass.now volume)) }
+            (λ known. OpensVolume options.now known pass.now volume)) }
         ensures refuses { IfErr result (λ message. IfKnown (S.to_come source.old)
-            (λ known. aborts message ≡ false → Refuses options.now known pass.now message)) }
-        ensures refuses_no_honest { IfErr result (λ message. IfKnown (S.to_come source.old)
-            (λ known. IsOnlyAborted options.now known pass.now message)) }
+            (λ known. RefusesVolume options.now known pass.now message)) }
         ensures only { IfErr result OpeningMessage }
         ensures reads { (ended : Bool) × Reads (is_run_read_failure (result_message result)) ended
             (S.counts source.old) (S.counts source.new) }
@@ -126,15 +118,9 @@ impl Volume {
         pass: &[u8],
     ) -> Result<Volume, Message>
         ensures opens { IfOk result (λ volume. IfKnown (I.image image.now)
-            (λ known. Opens options.now known pass.now volume)) }
-        ensures cats { IfOk result (λ volume. IfKnown (I.image image.now)
-            (λ known. IsCatOf options.now known pass.now volume)) }
-        ensures honest { IfOk result (λ volume. IfKnown (I.image image.now)
-            (λ known. IsPlainOf options.now known pass.now volume)) }
+            (λ known. OpensVolume options.now known pass.now volume)) }
         ensures refuses { IfErr result (λ message. IfKnown (I.image image.now)
-            (λ known. aborts message ≡ false → Refuses options.now known pass.now message)) }
-        ensures refuses_no_honest { IfErr result (λ message. IfKnown (I.image image.now)
-            (λ known. IsOnlyAborted options.now known pass.now message)) }
+            (λ known. RefusesVolume options.now known pass.now message)) }
         ensures only { IfErr result OpeningMessage }
     {
         Volume::open_from(alloc, options, &mut ImageSource::new(image), pass)

@@ -79,14 +79,10 @@ pub word_bytes : (f : ℕ → ℕ) → ((k : ℕ) → f k < 256) → IsBytes (wo
 word_bytes f all =
     bytes_cons (all 0) (bytes_cons (all 1) (bytes_cons (all 2) (bytes_cons (all 3) bytes_nil)))
 
-column_bytes : (f : ℕ → ℕ → ℕ) → ((r c : ℕ) → f r c < 256) → (c : ℕ) {rest : List ℕ} → IsBytes rest
-    → IsBytes (f 0 c ∷ f 1 c ∷ f 2 c ∷ f 3 c ∷ rest)
-column_bytes f all c rest =
-    bytes_cons (all 0 c) (bytes_cons (all 1 c) (bytes_cons (all 2 c) (bytes_cons (all 3 c) rest)))
-
 pub state_bytes : (f : ℕ → ℕ → ℕ) → ((r c : ℕ) → f r c < 256) → IsBytes (state_of f)
 state_bytes f all =
-    column_bytes f all 0 (column_bytes f all 1 (column_bytes f all 2 (column_bytes f all 3 bytes_nil)))
+    let column = λ (c : ℕ). word_bytes (λ r. f r c) (λ r. all r c) in
+    bytes_append _ _ (column 0) (bytes_append _ _ (column 1) (bytes_append _ _ (column 2) (column 3)))
 
 -- ---- the key schedule
 
@@ -145,40 +141,41 @@ pub record IsState (s : List ℕ) : Type 0 where
 pub made_state : (f : ℕ → ℕ → ℕ) → ((r c : ℕ) → f r c < 256) → IsState (state_of f)
 made_state f all = record { len = refl; bytes = state_bytes f all }
 
-pub sub_bytes_state : (s : List ℕ) → IsState s → IsState (sub_bytes s)
+pub sub_bytes_state : (s : List ℕ) → IsBytes s → IsState (sub_bytes s)
 unfolding sub_bytes
-sub_bytes_state s is = made_state (λ r c. sbox (cell s r c)) (λ r c. sbox_byte (cell s r c) (is.bytes.each (r + 4 * c)))
+sub_bytes_state s all = made_state (λ r c. sbox (cell s r c)) (λ r c. sbox_byte (cell s r c) (all.each (r + 4 * c)))
 
-pub shift_rows_state : (s : List ℕ) → IsState s → IsState (shift_rows s)
+pub shift_rows_state : (s : List ℕ) → IsBytes s → IsState (shift_rows s)
 unfolding shift_rows
-shift_rows_state s is = made_state (λ r c. cell s r ((c + r) % 4)) (λ r c. is.bytes.each (r + 4 * ((c + r) % 4)))
+shift_rows_state s all = made_state (λ r c. cell s r ((c + r) % 4)) (λ r c. all.each (r + 4 * ((c + r) % 4)))
 
-pub columns_state : (a s : List ℕ) → IsState s → IsState (multiplied_columns a s)
+pub columns_state : (a s : List ℕ) → IsBytes s → IsState (multiplied_columns a s)
 unfolding multiplied_columns
-columns_state a s is =
+columns_state a s all =
     made_state _ (λ r c.
     let one : (k q : ℕ)
     → slice_index a k • cell s q c
-    < 256 = λ k q. product_byte (slice_index a k) (cell s q c) (is.bytes.each (q + 4 * c)) in
+    < 256 = λ k q. product_byte (slice_index a k) (cell s q c) (all.each (q + 4 * c)) in
     xor_byte _ _ (xor_byte _ _ (xor_byte _ _ (one 0 r) (one 1 ((r + 1) % 4))) (one 2 ((r + 2) % 4)))
     (one 3 ((r + 3) % 4)))
 
-pub add_round_key_state : (s w : List ℕ) (round : ℕ) → IsState s → IsBytes w → IsState (add_round_key s w round)
+pub add_round_key_state : (s w : List ℕ) (round : ℕ) → IsBytes s → IsBytes w → IsState (add_round_key s w round)
 unfolding add_round_key
-add_round_key_state s w round is keys =
-    made_state _ (λ r c. xor_byte (cell s r c) _ (is.bytes.each (r + 4 * c)) (keys.each (r + 4 * (4 * round + c))))
+add_round_key_state s w round all keys =
+    made_state _ (λ r c. xor_byte (cell s r c) _ (all.each (r + 4 * c)) (keys.each (r + 4 * (4 * round + c))))
 
 pub after_state : (block w : List ℕ) (n : ℕ) → IsState block → IsBytes w → IsState (state_after block w n)
 unfolding state_after
-after_state block w zero is keys = add_round_key_state block w 0 is keys
+after_state block w zero is keys = add_round_key_state block w 0 is.bytes keys
 after_state block w (suc n) is keys =
-    add_round_key_state _ w (suc n)
-    (columns_state _ _ (shift_rows_state _ (sub_bytes_state _ (after_state block w n is keys)))) keys
+    let shifted = shift_rows_state _ (sub_bytes_state _ (after_state block w n is keys).bytes).bytes in
+    add_round_key_state _ w (suc n) (columns_state (2 ∷ 3 ∷ 1 ∷ 1 ∷ []) _ shifted.bytes).bytes keys
 
 pub cipher_state : (block : List ℕ) (nr : ℕ) (w : List ℕ) → IsState block → IsBytes w → IsState (cipher block nr w)
 unfolding cipher
 cipher_state block nr w is keys =
-    add_round_key_state _ w nr (shift_rows_state _ (sub_bytes_state _ (after_state block w (nr - 1) is keys))) keys
+    let shifted = shift_rows_state _ (sub_bytes_state _ (after_state block w (nr - 1) is keys).bytes).bytes in
+    add_round_key_state _ w nr shifted.bytes keys
 
 pub encrypted_state : (key block : List ℕ) → IsBytes key → IsState block → IsState (encrypted key block)
 unfolding encrypted

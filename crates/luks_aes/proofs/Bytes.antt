@@ -41,3 +41,25 @@ pub below_256 : (xs : List ℕ) → list_all (λ x. ltb x 256) xs ≡ true → (
 below_256 [] all i = omega arith
 below_256 (x ∷ xs) all zero = ltb-true x 256 (and_parts (ltb x 256) (list_all (λ x. ltb x 256) xs) all).0
 below_256 (x ∷ xs) all (suc i) = below_256 xs (and_parts (ltb x 256) (list_all (λ x. ltb x 256) xs) all).1 i
+
+-- ---- what holds at each of a few numbers, listed one by one
+
+first_four : (P : ℕ → Type 0) (n : ℕ) → P 0 → P 1 → P 2 → P 3 → ((k : ℕ) → k < n → P (suc (suc (suc (suc k)))))
+    → (k : ℕ) → k < n + 4 → P k
+first_four P n p q r s rest zero low = p
+first_four P n p q r s rest (suc zero) low = q
+first_four P n p q r s rest (suc (suc zero)) low = r
+first_four P n p q r s rest (suc (suc (suc zero))) low = s
+first_four P n p q r s rest (suc (suc (suc (suc k)))) low = rest k (omega arith)
+
+pub each_below_4 : (P : ℕ → Type 0) → P 0 → P 1 → P 2 → P 3 → (k : ℕ) → k < 4 → P k
+each_below_4 P p q r s = first_four P 0 p q r s (λ k none. absurd (omega arith))
+
+pub each_below_8 : (P : ℕ → Type 0) → P 0 → P 1 → P 2 → P 3 → P 4 → P 5 → P 6 → P 7 → (k : ℕ) → k < 8 → P k
+each_below_8 P p q r s t u v w = first_four P 4 p q r s (each_below_4 (λ k. P (suc (suc (suc (suc k))))) t u v w)
+
+pub each_below_16 : (P : ℕ → Type 0) → P 0 → P 1 → P 2 → P 3 → P 4 → P 5 → P 6 → P 7 → P 8 → P 9 → P 10 → P 11 → P 12
+    → P 13 → P 14 → P 15 → (k : ℕ) → k < 16 → P k
+each_below_16 P a b c d e f g h p q r s t u v w =
+    first_four P 12 a b c d (first_four (λ k. P (suc (suc (suc (suc k))))) 8 e f g h
+    (each_below_8 (λ k. P (suc (suc (suc (suc (suc (suc (suc (suc k))))))))) p q r s t u v w))

@@ -1,5 +1,4 @@
 pub mod Bytes
-pub mod FieldLemmas
 pub mod SboxLemmas
 pub mod StateLemmas
 pub mod CipherLemmas

@@ -1,6 +1,7 @@
--- The matrix of InvMixColumns undoes that of MixColumns.
+-- The matrices of MixColumns and InvMixColumns undo each other.
 use Rattle.std.proofs.Common.{◌≡◌, ℕ, zero, suc, ◌+◌, ◌*◌, ◌%◌, ◌/◌, ◌<◌, Bool, true, false, cond, eqb, arith, refl}
-use Rattle.std.proofs.Common.{◌∙◌}
+use Rattle.std.proofs.Common.{◌∙◌, List, [], ◌∷◌}
+use Rattle.std.specs.Prelude.{slice_index}
 use Rattle.std.specs.Int.Bits.{xor_zero_r}
 use Rattle.std.proofs.lemmas.Nat.Bits.{same_from_bits, bit_at_xor}
 use Rattle.std.proofs.lemmas.Nat.{div-mul-add, mod-mul-add}
@@ -44,64 +45,73 @@ pub product_xor : (c a b : ℕ) → a < 256 → b < 256 → c • (a ⊕ b) ≡ 
 unfolding ◌•◌
 product_xor c a b p q = product_of_bits_xor 8 c a b p q
 
-pub product_sum4 : (k a b c d : ℕ) → a < 256 → b < 256 → c < 256 → d < 256
+product_sum4 : (k a b c d : ℕ) → a < 256 → b < 256 → c < 256 → d < 256
     → k • (a ⊕ b ⊕ c ⊕ d) ≡ k • a ⊕ k • b ⊕ k • c ⊕ k • d
 product_sum4 k a b c d p q r s =
     let ab = xor_byte a b p q in
     rw (product_xor k (a ⊕ b ⊕ c) d (xor_byte (a ⊕ b) c ab r) s, product_xor k (a ⊕ b) c ab r, product_xor k a b p q)
     refl
 
--- one byte of a column after MixColumns and InvMixColumns: it comes back in its own row and cancels out in the other
--- three
-own_row : (x : ℕ) → x < 256 → 14 • (2 • x) ⊕ 11 • (1 • x) ⊕ 13 • (1 • x) ⊕ 9 • (3 • x) ≡ x
-unfolding ◌•◌ product_of_bits times_x
-own_row = same_below (λ x. 14 • (2 • x) ⊕ 11 • (1 • x) ⊕ 13 • (1 • x) ⊕ 9 • (3 • x)) (λ x. x) 256 refl
-
-next_row : (x : ℕ) → x < 256 → 14 • (3 • x) ⊕ 11 • (2 • x) ⊕ 13 • (1 • x) ⊕ 9 • (1 • x) ≡ 0
-unfolding ◌•◌ product_of_bits times_x
-next_row = same_below (λ x. 14 • (3 • x) ⊕ 11 • (2 • x) ⊕ 13 • (1 • x) ⊕ 9 • (1 • x)) (λ x. 0) 256 refl
-
-second_row : (x : ℕ) → x < 256 → 14 • (1 • x) ⊕ 11 • (3 • x) ⊕ 13 • (2 • x) ⊕ 9 • (1 • x) ≡ 0
-unfolding ◌•◌ product_of_bits times_x
-second_row = same_below (λ x. 14 • (1 • x) ⊕ 11 • (3 • x) ⊕ 13 • (2 • x) ⊕ 9 • (1 • x)) (λ x. 0) 256 refl
-
-third_row : (x : ℕ) → x < 256 → 14 • (1 • x) ⊕ 11 • (1 • x) ⊕ 13 • (3 • x) ⊕ 9 • (2 • x) ≡ 0
-unfolding ◌•◌ product_of_bits times_x
-third_row = same_below (λ x. 14 • (1 • x) ⊕ 11 • (1 • x) ⊕ 13 • (3 • x) ⊕ 9 • (2 • x)) (λ x. 0) 256 refl
-
 -- sixteen terms, grouped by their letters
-pub grouped_by_letter : (a1 a2 a3 a4 b1 b2 b3 b4 c1 c2 c3 c4 d1 d2 d3 d4 : ℕ)
+grouped_by_letter : (a1 a2 a3 a4 b1 b2 b3 b4 c1 c2 c3 c4 d1 d2 d3 d4 : ℕ)
     → (a1 ⊕ b1 ⊕ c1 ⊕ d1) ⊕ (b2 ⊕ c2 ⊕ d2 ⊕ a2) ⊕ (c3 ⊕ d3 ⊕ a3 ⊕ b3) ⊕ (d4 ⊕ a4 ⊕ b4 ⊕ c4)
     ≡ (a1 ⊕ a2 ⊕ a3 ⊕ a4) ⊕ (b1 ⊕ b2 ⊕ b3 ⊕ b4) ⊕ (c1 ⊕ c2 ⊕ c3 ⊕ c4) ⊕ (d1 ⊕ d2 ⊕ d3 ⊕ d4)
 grouped_by_letter a1 a2 a3 a4 b1 b2 b3 b4 c1 c2 c3 c4 d1 d2 d3 d4 = same_from_bits _ _
     (λ i. simp bit_at_xor (omega arith))
 
--- a row of MixColumns, and a row of InvMixColumns
-abbrev pub mixed : ℕ → ℕ → ℕ → ℕ → ℕ
-mixed a b c d = 2 • a ⊕ 3 • b ⊕ 1 • c ⊕ 1 • d
+-- a row of a matrix, times a column: the first row of the matrix is m, and each next row is rotated right by one
+abbrev pub row_product : List ℕ → ℕ → ℕ → ℕ → ℕ → ℕ
+row_product m a b c d = slice_index m 0 • a ⊕ slice_index m 1 • b ⊕ slice_index m 2 • c ⊕ slice_index m 3 • d
 
+-- a row of InvMixColumns
 abbrev pub inv_mixed : ℕ → ℕ → ℕ → ℕ → ℕ
 inv_mixed a b c d = 14 • a ⊕ 11 • b ⊕ 13 • c ⊕ 9 • d
 
-products_of : (k a b c d : ℕ) → a < 256 → b < 256 → c < 256 → d < 256
-    → k • mixed a b c d ≡ k • (2 • a) ⊕ k • (3 • b) ⊕ k • (1 • c) ⊕ k • (1 • d)
-products_of k a b c d p q r s =
-    product_sum4 k (2 • a) (3 • b) (1 • c) (1 • d) (product_byte 2 a p) (product_byte 3 b q) (product_byte 1 c r)
-    (product_byte 1 d s)
+products_of : (m : List ℕ) (k a b c d : ℕ) → a < 256 → b < 256 → c < 256 → d < 256
+    → k • row_product m a b c d
+    ≡ k • (slice_index m 0 • a) ⊕ k • (slice_index m 1 • b) ⊕ k • (slice_index m 2 • c) ⊕ k • (slice_index m 3 • d)
+products_of m k a b c d p q r s =
+    product_sum4 k _ _ _ _ (product_byte (slice_index m 0) a p) (product_byte (slice_index m 1) b q)
+    (product_byte (slice_index m 2) c r) (product_byte (slice_index m 3) d s)
 
-pub inv_mixed_is : (a b c d : ℕ) → a < 256 → b < 256 → c < 256 → d < 256
-    → inv_mixed (mixed a b c d) (mixed b c d a) (mixed c d a b) (mixed d a b c) ≡ a
-inv_mixed_is a b c d p q r s =
-    rw (
-      products_of 14 a b c d p q r s,
-      products_of 11 b c d a q r s p,
-      products_of 13 c d a b r s p q,
-      products_of 9 d a b c s p q r,
-    )
-    (grouped_by_letter (14 • (2 • a)) (11 • (1 • a)) (13 • (1 • a)) (9 • (3 • a)) (14 • (3 • b)) (11 • (2 • b))
-    (13 • (1 • b))
-    (9 • (1 • b))
-    (14 • (1 • c)) (11 • (3 • c)) (13 • (2 • c)) (9 • (1 • c)) (14 • (1 • d)) (11 • (1 • d)) (13 • (3 • d))
-    (9 • (2 • d))
-    ∙ rw (own_row a p, next_row b q, second_row c r, third_row d s)
-    (xor_zero_r (a ⊕ 0 ⊕ 0) ∙ xor_zero_r (a ⊕ 0) ∙ xor_zero_r a))
+-- one byte of a column after the matrices of m and k, in the row that is n rows above its own
+abbrev after_both : List ℕ → List ℕ → ℕ → ℕ → ℕ
+after_both k m n x =
+    slice_index k 0 • (slice_index m n • x) ⊕ slice_index k 1 • (slice_index m ((n + 3) % 4) • x)
+    ⊕ slice_index k 2 • (slice_index m ((n + 2) % 4) • x) ⊕ slice_index k 3 • (slice_index m ((n + 1) % 4) • x)
+
+-- the byte comes back in its own row and cancels out in the other three
+pub record AreInverse (k m : List ℕ) : Type 0 where
+  pub own : (x : ℕ) → x < 256 → after_both k m 0 x ≡ x
+  pub next : (x : ℕ) → x < 256 → after_both k m 1 x ≡ 0
+  pub second : (x : ℕ) → x < 256 → after_both k m 2 x ≡ 0
+  pub third : (x : ℕ) → x < 256 → after_both k m 3 x ≡ 0
+
+pub inverse_of_mix : AreInverse (14 ∷ 11 ∷ 13 ∷ 9 ∷ []) (2 ∷ 3 ∷ 1 ∷ 1 ∷ [])
+unfolding ◌•◌ product_of_bits times_x
+inverse_of_mix = record {
+  own = same_below (after_both (14 ∷ 11 ∷ 13 ∷ 9 ∷ []) (2 ∷ 3 ∷ 1 ∷ 1 ∷ []) 0) (λ x. x) 256 refl;
+  next = same_below (after_both (14 ∷ 11 ∷ 13 ∷ 9 ∷ []) (2 ∷ 3 ∷ 1 ∷ 1 ∷ []) 1) (λ x. 0) 256 refl;
+  second = same_below (after_both (14 ∷ 11 ∷ 13 ∷ 9 ∷ []) (2 ∷ 3 ∷ 1 ∷ 1 ∷ []) 2) (λ x. 0) 256 refl;
+  third = same_below (after_both (14 ∷ 11 ∷ 13 ∷ 9 ∷ []) (2 ∷ 3 ∷ 1 ∷ 1 ∷ []) 3) (λ x. 0) 256 refl;
+}
+
+pub inverse_of_inv_mix : AreInverse (2 ∷ 3 ∷ 1 ∷ 1 ∷ []) (14 ∷ 11 ∷ 13 ∷ 9 ∷ [])
+unfolding ◌•◌ product_of_bits times_x
+inverse_of_inv_mix = record {
+  own = same_below (after_both (2 ∷ 3 ∷ 1 ∷ 1 ∷ []) (14 ∷ 11 ∷ 13 ∷ 9 ∷ []) 0) (λ x. x) 256 refl;
+  next = same_below (after_both (2 ∷ 3 ∷ 1 ∷ 1 ∷ []) (14 ∷ 11 ∷ 13 ∷ 9 ∷ []) 1) (λ x. 0) 256 refl;
+  second = same_below (after_both (2 ∷ 3 ∷ 1 ∷ 1 ∷ []) (14 ∷ 11 ∷ 13 ∷ 9 ∷ []) 2) (λ x. 0) 256 refl;
+  third = same_below (after_both (2 ∷ 3 ∷ 1 ∷ 1 ∷ []) (14 ∷ 11 ∷ 13 ∷ 9 ∷ []) 3) (λ x. 0) 256 refl;
+}
+
+pub row_undone : (k m : List ℕ) → AreInverse k m → (a b c d : ℕ) → a < 256 → b < 256 → c < 256 → d < 256
+    → row_product k (row_product m a b c d) (row_product m b c d a) (row_product m c d a b) (row_product m d a b c) ≡ a
+row_undone k m inverse a b c d p q r s =
+    let t : ℕ → ℕ → ℕ → ℕ = λ u v x. slice_index k u • (slice_index m v • x) in
+    (λ i. products_of m (slice_index k 0) a b c d p q r s i ⊕ products_of m (slice_index k 1) b c d a q r s p i
+    ⊕ products_of m (slice_index k 2) c d a b r s p q i ⊕ products_of m (slice_index k 3) d a b c s p q r i)
+    ∙ grouped_by_letter (t 0 0 a) (t 1 3 a) (t 2 2 a) (t 3 1 a) (t 0 1 b) (t 1 0 b) (t 2 3 b) (t 3 2 b)
+    (t 0 2 c) (t 1 1 c) (t 2 0 c) (t 3 3 c) (t 0 3 d) (t 1 2 d) (t 2 1 d) (t 3 0 d)
+    ∙ (λ i. inverse.own a p i ⊕ inverse.next b q i ⊕ inverse.second c r i ⊕ inverse.third d s i)
+    ∙ xor_zero_r (a ⊕ 0 ⊕ 0) ∙ xor_zero_r (a ⊕ 0) ∙ xor_zero_r a

@@ -1,5 +1,5 @@
 -- The inverse cipher undoes the cipher.
-use Rattle.std.proofs.Common.{◌≡◌, ℕ, zero, suc, ◌+◌, ◌-◌, ◌*◌, ◌%◌, ◌<◌, List, length, arith, sym, ap, ◌∙◌}
+use Rattle.std.proofs.Common.{◌≡◌, ℕ, zero, suc, ◌+◌, ◌-◌, ◌*◌, ◌%◌, ◌<◌, List, [], ◌∷◌, length, arith, sym, ap, ◌∙◌}
 use Rattle.std.specs.Prelude.{slice_index}
 use Rattle.std.specs.Int.Bits.{bit_xor, xor_assoc, xor_self, xor_zero_r}
 use Rattle.luks_aes.specs.Field.{◌⊕◌}
@@ -11,7 +11,7 @@ use Rattle.luks_aes.proofs.SboxLemmas.{sbox_entry, inv_sbox_entry, back_and_ther
 use Rattle.luks_aes.proofs.StateLemmas.{filled_all, cell_at}
 use Rattle.luks_aes.proofs.ByteLists.{IsState, sbox_byte, sub_bytes_state, shift_rows_state, columns_state, after_state}
 use Rattle.luks_aes.proofs.ByteLists.{expansion_bytes}
-use Rattle.luks_aes.proofs.MixingLemmas.{mixed, inv_mixed, inv_mixed_is}
+use Rattle.luks_aes.proofs.MixingLemmas.{row_product, AreInverse, inverse_of_mix, row_undone}
 
 -- ---- the steps
 
@@ -42,20 +42,25 @@ shift_rows_undone : (s : List ℕ) → length s ≡ 16 → inv_shift_rows (shift
 unfolding shift_rows inv_shift_rows
 shift_rows_undone s len = sym (whole_state s len)
 
-mix_columns_undone : (s : List ℕ) → IsState s → inv_mix_columns (mix_columns s) ≡ s
+pub columns_undone : (k m s : List ℕ) → AreInverse k m → IsState s
+    → multiplied_columns k (multiplied_columns m s) ≡ s
 unfolding multiplied_columns
-mix_columns_undone s is =
+columns_undone k m s inverse is =
+    let row : ℕ → ℕ → ℕ → ℕ → ℕ = row_product m in
     same_states
-    (λ r c. inv_mixed
-    (mixed (cell s r c) (cell s ((r + 1) % 4) c) (cell s ((r + 2) % 4) c) (cell s ((r + 3) % 4) c))
-    (mixed (cell s ((r + 1) % 4) c) (cell s ((r + 2) % 4) c) (cell s ((r + 3) % 4) c) (cell s r c))
-    (mixed (cell s ((r + 2) % 4) c) (cell s ((r + 3) % 4) c) (cell s r c) (cell s ((r + 1) % 4) c))
-    (mixed (cell s ((r + 3) % 4) c) (cell s r c) (cell s ((r + 1) % 4) c) (cell s ((r + 2) % 4) c)))
+    (λ r c. row_product k
+    (row (cell s r c) (cell s ((r + 1) % 4) c) (cell s ((r + 2) % 4) c) (cell s ((r + 3) % 4) c))
+    (row (cell s ((r + 1) % 4) c) (cell s ((r + 2) % 4) c) (cell s ((r + 3) % 4) c) (cell s r c))
+    (row (cell s ((r + 2) % 4) c) (cell s ((r + 3) % 4) c) (cell s r c) (cell s ((r + 1) % 4) c))
+    (row (cell s ((r + 3) % 4) c) (cell s r c) (cell s ((r + 1) % 4) c) (cell s ((r + 2) % 4) c)))
     (cell s)
     (λ r c.
     let byte : (q : ℕ) → cell s q c < 256 = λ q. is.bytes.each (q + 4 * c) in
-    inv_mixed_is _ _ _ _ (byte r) (byte ((r + 1) % 4)) (byte ((r + 2) % 4)) (byte ((r + 3) % 4)))
+    row_undone k m inverse _ _ _ _ (byte r) (byte ((r + 1) % 4)) (byte ((r + 2) % 4)) (byte ((r + 3) % 4)))
     ∙ sym (whole_state s is.len)
+
+mix_columns_undone : (s : List ℕ) → IsState s → inv_mix_columns (mix_columns s) ≡ s
+mix_columns_undone s = columns_undone (14 ∷ 11 ∷ 13 ∷ 9 ∷ []) (2 ∷ 3 ∷ 1 ∷ 1 ∷ []) s inverse_of_mix
 
 pub add_round_key_undone : (s w : List ℕ) (round : ℕ) → length s ≡ 16
     → add_round_key (add_round_key s w round) w round ≡ s
@@ -68,59 +73,49 @@ add_round_key_undone s w round len =
 
 -- ---- the rounds
 
--- InvShiftRows and InvSubBytes undo SubBytes and ShiftRows
-half_round_undone : (s : List ℕ) → IsState s → inv_sub_bytes (inv_shift_rows (shift_rows (sub_bytes s))) ≡ s
-half_round_undone s is =
-    ap inv_sub_bytes (shift_rows_undone (sub_bytes s) (sub_bytes_state s is).len) ∙ sub_bytes_undone s is
+module _ (block w : List ℕ) (nr : ℕ) (is : IsState block) (keys : IsBytes w) where
+  -- the state after n rounds, SubBytes and ShiftRows
+  abbrev half_after : ℕ → List ℕ
+  half_after n = shift_rows (sub_bytes (state_after block w n))
 
--- AddRoundKey and InvMixColumns undo the last two steps of a round, which leaves SubBytes and ShiftRows
-round_undone : (block w : List ℕ) (m : ℕ) → IsState (shift_rows (sub_bytes (state_after block w m)))
-    → inv_mix_columns (add_round_key (state_after block w (suc m)) w (suc m))
-    ≡ shift_rows (sub_bytes (state_after block w m))
-unfolding state_after
-round_undone block w m is =
-    let shifted = shift_rows (sub_bytes (state_after block w m)) in
-    ap inv_mix_columns (add_round_key_undone (mix_columns shifted) w (suc m) (columns_state _ shifted is).len)
-    ∙ mix_columns_undone shifted is
+  half_state : (n : ℕ) → IsState (half_after n)
+  half_state n = shift_rows_state _ (sub_bytes_state _ (after_state block w n is keys).bytes).bytes
 
--- AddRoundKey undoes the XOR with the first round key
-start_undone : (block w : List ℕ) → length block ≡ 16 → add_round_key (state_after block w 0) w 0 ≡ block
-unfolding state_after
-start_undone block w len = add_round_key_undone block w 0 len
+  half_undone : (n : ℕ) → inv_sub_bytes (inv_shift_rows (half_after n)) ≡ state_after block w n
+  half_undone n =
+      let s = state_after block w n in
+      let state = after_state block w n is keys in
+      ap inv_sub_bytes (shift_rows_undone (sub_bytes s) (sub_bytes_state s state.bytes).len) ∙ sub_bytes_undone s state
 
--- n inverse rounds after the cipher lead back to the state after nr - 1 - n rounds, SubBytes and ShiftRows
-rounds_undone : (block w : List ℕ) (nr n : ℕ) → IsState block → IsBytes w → n < nr
-    → inv_state_after (cipher block nr w) nr w n ≡ shift_rows (sub_bytes (state_after block w (nr - 1 - n)))
-unfolding inv_state_after cipher
-rounds_undone block w nr zero is keys low =
-    let all : nr - 1 - 0 ≡ nr - 1 = omega arith in
-    let last = after_state block w (nr - 1) is keys in
-    rw all (add_round_key_undone (shift_rows (sub_bytes (state_after block w (nr - 1)))) w nr
-    (shift_rows_state _ (sub_bytes_state _ last)).len)
-rounds_undone block w nr (suc n) is keys low =
-    let m = nr - 1 - suc n in
-    let here : nr - 1 - n ≡ suc m = omega arith in
-    let key : nr - suc n ≡ suc m = omega arith in
-    let before = after_state block w m is keys in
-    let inv_state = after_state block w (suc m) is keys in
-    let shifted = shift_rows_state _ (sub_bytes_state _ before) in
-    rw (
-      rounds_undone block w nr n is keys (omega arith),
-      here,
-      key,
-      half_round_undone (state_after block w (suc m)) inv_state,
-    )
-    (round_undone block w m shifted)
+  round_undone : (m : ℕ) → inv_mix_columns (add_round_key (state_after block w (suc m)) w (suc m)) ≡ half_after m
+  unfolding state_after
+  round_undone m =
+      ap inv_mix_columns (add_round_key_undone (mix_columns (half_after m)) w (suc m)
+      (columns_state (2 ∷ 3 ∷ 1 ∷ 1 ∷ []) (half_after m) (half_state m).bytes).len)
+      ∙ mix_columns_undone (half_after m) (half_state m)
 
--- the inverse cipher leads from the cipher's result back to its block
-pub cipher_undone : (block w : List ℕ) (nr : ℕ) → IsState block → IsBytes w → 0 < nr
-    → inv_cipher (cipher block nr w) nr w ≡ block
-unfolding inv_cipher
-cipher_undone block w nr is keys some =
-    let first : nr - 1 - (nr - 1) ≡ 0 = omega arith in
-    let start = after_state block w 0 is keys in
-    rw (rounds_undone block w nr (nr - 1) is keys (omega arith), first, half_round_undone (state_after block w 0) start)
-    (start_undone block w is.len)
+  start_undone : add_round_key (state_after block w 0) w 0 ≡ block
+  unfolding state_after
+  start_undone = add_round_key_undone block w 0 is.len
+
+  -- n inverse rounds after the cipher lead back to the state after nr - 1 - n rounds, SubBytes and ShiftRows
+  rounds_undone : (n : ℕ) → n < nr → inv_state_after (cipher block nr w) nr w n ≡ half_after (nr - 1 - n)
+  unfolding inv_state_after cipher
+  rounds_undone zero low =
+      let all : nr - 1 - 0 ≡ nr - 1 = omega arith in
+      rw all (add_round_key_undone (half_after (nr - 1)) w nr (half_state (nr - 1)).len)
+  rounds_undone (suc n) low =
+      let m = nr - 1 - suc n in
+      let here : nr - 1 - n ≡ suc m = omega arith in
+      let key : nr - suc n ≡ suc m = omega arith in
+      rw (rounds_undone n (omega arith), here, key, half_undone (suc m)) (round_undone m)
+
+  -- the inverse cipher leads from the cipher's result back to its block
+  cipher_undone : 0 < nr → inv_cipher (cipher block nr w) nr w ≡ block
+  unfolding inv_cipher
+  cipher_undone some =
+      let first : nr - 1 - (nr - 1) ≡ 0 = omega arith in
+      rw (rounds_undone (nr - 1) (omega arith), first, half_undone 0) start_undone
 
 -- decryption undoes encryption
 pub decrypted-encrypted : (key block : List ℕ) → IsBytes key → IsState block

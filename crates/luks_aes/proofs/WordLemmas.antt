@@ -15,23 +15,8 @@ pub bytes_of_sum : (a b : ℕ) → to_le_bytes w32 (bit_xor a b) ≡ word_xor (t
 unfolding word_xor
 bytes_of_sum a b = λ i. xor_mod a b 8 i ∷ byte_sum a b 8 i ∷ byte_sum a b 16 i ∷ byte_sum a b 24 i ∷ []
 
--- rotation to the left by whole bytes
-rotated_left_8 : (n : ℕ) → n < 2 ^ 32 → rotate_left w32 n 8 ≡ n % 2 ^ 24 * 2 ^ 8 + n / 2 ^ 24
-rotated_left_8 n fits =
-    let prefix : n * 2 ^ 8 % 2 ^ 32 ≡ n % 2 ^ 24 * 2 ^ 8 = omega arith in
-    rw prefix (or_shifted (n % 2 ^ 24) 8 (n / 2 ^ 24) (omega arith))
-
-rotated_left_16 : (n : ℕ) → n < 2 ^ 32 → rotate_left w32 n 16 ≡ n % 2 ^ 16 * 2 ^ 16 + n / 2 ^ 16
-rotated_left_16 n fits =
-    let prefix : n * 2 ^ 16 % 2 ^ 32 ≡ n % 2 ^ 16 * 2 ^ 16 = omega arith in
-    rw prefix (or_shifted (n % 2 ^ 16) 16 (n / 2 ^ 16) (omega arith))
-
-rotated_left_24 : (n : ℕ) → n < 2 ^ 32 → rotate_left w32 n 24 ≡ n % 2 ^ 8 * 2 ^ 24 + n / 2 ^ 8
-rotated_left_24 n fits =
-    let prefix : n * 2 ^ 24 % 2 ^ 32 ≡ n % 2 ^ 8 * 2 ^ 24 = omega arith in
-    rw prefix (or_shifted (n % 2 ^ 8) 24 (n / 2 ^ 8) (omega arith))
-
--- the bytes of a word after that rotation: the first column of the matrix becomes the second, third or fourth
+-- the bytes of a word that is rotated left by whole bytes: the first column of the matrix becomes the second, third or
+-- fourth
 bytes_rotated_8 : (m n : ℕ) → n < 2 ^ 32 → m ≡ n % 2 ^ 24 * 2 ^ 8 + n / 2 ^ 24
     → to_le_bytes w32 m ≡ n / 256 ^ 3 % 256 ∷ n % 256 ∷ n / 256 % 256 ∷ n / 256 ^ 2 % 256 ∷ []
 bytes_rotated_8 m n fits is =
@@ -62,19 +47,22 @@ bytes_rotated_24 m n fits is =
 pub column_1 : (a : List ℕ) (n x : ℕ) → n < 2 ^ 32 → to_le_bytes w32 n ≡ matrix_column a 0 x
     → to_le_bytes w32 (rotate_left w32 n 8) ≡ matrix_column a 1 x
 column_1 a n x fits is =
-    bytes_rotated_8 (rotate_left w32 n 8) n fits (rotated_left_8 n fits)
+    let prefix : n * 2 ^ 8 % 2 ^ 32 ≡ n % 2 ^ 24 * 2 ^ 8 = omega arith in
+    bytes_rotated_8 (rotate_left w32 n 8) n fits (rw prefix (or_shifted (n % 2 ^ 24) 8 (n / 2 ^ 24) (omega arith)))
     ∙ (λ i. slice_index (is i) 3 ∷ slice_index (is i) 0 ∷ slice_index (is i) 1 ∷ slice_index (is i) 2 ∷ [])
 
 pub column_2 : (a : List ℕ) (n x : ℕ) → n < 2 ^ 32 → to_le_bytes w32 n ≡ matrix_column a 0 x
     → to_le_bytes w32 (rotate_left w32 n 16) ≡ matrix_column a 2 x
 column_2 a n x fits is =
-    bytes_rotated_16 (rotate_left w32 n 16) n fits (rotated_left_16 n fits)
+    let prefix : n * 2 ^ 16 % 2 ^ 32 ≡ n % 2 ^ 16 * 2 ^ 16 = omega arith in
+    bytes_rotated_16 (rotate_left w32 n 16) n fits (rw prefix (or_shifted (n % 2 ^ 16) 16 (n / 2 ^ 16) (omega arith)))
     ∙ (λ i. slice_index (is i) 2 ∷ slice_index (is i) 3 ∷ slice_index (is i) 0 ∷ slice_index (is i) 1 ∷ [])
 
 pub column_3 : (a : List ℕ) (n x : ℕ) → n < 2 ^ 32 → to_le_bytes w32 n ≡ matrix_column a 0 x
     → to_le_bytes w32 (rotate_left w32 n 24) ≡ matrix_column a 3 x
 column_3 a n x fits is =
-    bytes_rotated_24 (rotate_left w32 n 24) n fits (rotated_left_24 n fits)
+    let prefix : n * 2 ^ 24 % 2 ^ 32 ≡ n % 2 ^ 8 * 2 ^ 24 = omega arith in
+    bytes_rotated_24 (rotate_left w32 n 24) n fits (rw prefix (or_shifted (n % 2 ^ 8) 24 (n / 2 ^ 8) (omega arith)))
     ∙ (λ i. slice_index (is i) 1 ∷ slice_index (is i) 2 ∷ slice_index (is i) 3 ∷ slice_index (is i) 0 ∷ [])
 
 -- ---- the XOR of the four columns

@@ -30,8 +30,10 @@ pub record IsMultiplied (a words products : List ℕ) (n : ℕ) : Type 0 where
 abbrev pub key_byte : List ℕ → ℕ → ℕ → ℕ → ℕ
 key_byte w n r c = slice_index w (r + 4 * (4 * n + c))
 
+-- the byte in row r and column c after InvMixColumns, if y r c is the one before
+abbrev pub inv_mixed_row : (ℕ → ℕ → ℕ) → ℕ → ℕ → ℕ
+inv_mixed_row y r c = 14 • y r c ⊕ 11 • y ((r + 1) % 4) c ⊕ 13 • y ((r + 2) % 4) c ⊕ 9 • y ((r + 3) % 4) c
+
 -- the byte in row r and column c of round key n after InvMixColumns
 abbrev pub inv_mixed_key_byte : List ℕ → ℕ → ℕ → ℕ → ℕ
-inv_mixed_key_byte w n r c =
-    14 • key_byte w n r c ⊕ 11 • key_byte w n ((r + 1) % 4) c ⊕ 13 • key_byte w n ((r + 2) % 4) c ⊕ 9 • key_byte w n
-    ((r + 3) % 4) c
+inv_mixed_key_byte w n r c = inv_mixed_row (key_byte w n) r c

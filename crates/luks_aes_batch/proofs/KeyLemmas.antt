@@ -55,8 +55,8 @@ keys_more w all n key before capacity here = record {
 
 -- ---- blocks of a batch
 
-pub block_state : (s : List ℕ) (n : ℕ) → length s ≡ 512 → n < 32 → IsBytes s → IsState (block_in s n)
-block_state s n size low all = record {
+pub block_state : (s : List ℕ) (m n : ℕ) → length s ≡ 16 * m → n < m → IsBytes s → IsState (block_in s n)
+block_state s m n size low all = record {
   len =
       let capacity : 16 ≤ length (drop (16 * n) s) = rw (length-drop (16 * n) s) (omega arith) in
       length-take-le 16 (drop (16 * n) s) capacity;

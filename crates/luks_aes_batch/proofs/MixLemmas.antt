@@ -1,5 +1,5 @@
 -- InvMixColumns by doublings and XORs.
-use Rattle.std.proofs.Common.{◌≡◌, ℕ, ◌<◌, arith, refl, sym, ap, ◌∙◌}
+use Rattle.std.proofs.Common.{◌≡◌, ℕ, zero, suc, ◌<◌, arith, refl, sym, ap, ◌∙◌}
 use Rattle.std.proofs.lemmas.Nat.Bits.{same_from_bits, bit_at_xor}
 use Rattle.luks_aes.specs.Field.{◌⊕◌, ◌•◌, times_x, product_of_bits}
 use Rattle.luks_aes.proofs.Bytes.{same_below}
@@ -7,156 +7,140 @@ use Rattle.luks_aes.proofs.ByteLists.{times_x_byte, product_byte, xor_byte}
 use Rattle.luks_aes.proofs.MixingLemmas.{inv_mixed, times_x_xor}
 use Rattle.luks_aes_batch.specs.Mixing.{column_bytes_xor, even_of, step_of}
 
+-- a byte doubled n times
+abbrev times_x_n : ℕ → ℕ → ℕ
+times_x_n x zero = x
+times_x_n x (suc n) = times_x (times_x_n x n)
+
+times_x_n_byte : (x n : ℕ) → x < 256 → times_x_n x n < 256
+times_x_n_byte x zero low = low
+times_x_n_byte x (suc n) low = times_x_byte (times_x_n x n) (times_x_n_byte x n low)
+
 -- products as XORs of doublings
-times_14 : (x : ℕ) → x < 256 → 14 • x ≡ times_x x ⊕ times_x (times_x x) ⊕ times_x (times_x (times_x x))
+times_14 : (x : ℕ) → x < 256 → 14 • x ≡ times_x_n x 1 ⊕ times_x_n x 2 ⊕ times_x_n x 3
 unfolding ◌•◌ product_of_bits times_x
-times_14 = same_below (λ x. 14 • x) (λ x. times_x x ⊕ times_x (times_x x) ⊕ times_x (times_x (times_x x))) 256 refl
+times_14 = same_below (λ x. 14 • x) (λ x. times_x_n x 1 ⊕ times_x_n x 2 ⊕ times_x_n x 3) 256 refl
 
-times_11 : (x : ℕ) → x < 256 → 11 • x ≡ x ⊕ times_x x ⊕ times_x (times_x (times_x x))
+times_11 : (x : ℕ) → x < 256 → 11 • x ≡ times_x_n x 0 ⊕ times_x_n x 1 ⊕ times_x_n x 3
 unfolding ◌•◌ product_of_bits times_x
-times_11 = same_below (λ x. 11 • x) (λ x. x ⊕ times_x x ⊕ times_x (times_x (times_x x))) 256 refl
+times_11 = same_below (λ x. 11 • x) (λ x. times_x_n x 0 ⊕ times_x_n x 1 ⊕ times_x_n x 3) 256 refl
 
-times_13 : (x : ℕ) → x < 256 → 13 • x ≡ x ⊕ times_x (times_x x) ⊕ times_x (times_x (times_x x))
+times_13 : (x : ℕ) → x < 256 → 13 • x ≡ times_x_n x 0 ⊕ times_x_n x 2 ⊕ times_x_n x 3
 unfolding ◌•◌ product_of_bits times_x
-times_13 = same_below (λ x. 13 • x) (λ x. x ⊕ times_x (times_x x) ⊕ times_x (times_x (times_x x))) 256 refl
+times_13 = same_below (λ x. 13 • x) (λ x. times_x_n x 0 ⊕ times_x_n x 2 ⊕ times_x_n x 3) 256 refl
 
-times_9 : (x : ℕ) → x < 256 → 9 • x ≡ x ⊕ times_x (times_x (times_x x))
+times_9 : (x : ℕ) → x < 256 → 9 • x ≡ times_x_n x 0 ⊕ times_x_n x 3
 unfolding ◌•◌ product_of_bits times_x
-times_9 = same_below (λ x. 9 • x) (λ x. x ⊕ times_x (times_x (times_x x))) 256 refl
+times_9 = same_below (λ x. 9 • x) (λ x. times_x_n x 0 ⊕ times_x_n x 3) 256 refl
 
--- a row of InvMixColumns as an XOR of doublings of the bytes of a column
+-- ---- XORs of the doublings of the bytes of a column: a n is byte a doubled n times, and likewise for b, c and d
+
+-- row 0 after InvMixColumns
+abbrev row : (ℕ → ℕ) → (ℕ → ℕ) → (ℕ → ℕ) → (ℕ → ℕ) → ℕ
+row a b c d = (a 1 ⊕ a 2 ⊕ a 3) ⊕ (b 0 ⊕ b 1 ⊕ b 3) ⊕ (c 0 ⊕ c 2 ⊕ c 3) ⊕ (d 0 ⊕ d 3)
+
+-- the values that the rows share, doubled n times
+abbrev all_at : (ℕ → ℕ) → (ℕ → ℕ) → (ℕ → ℕ) → (ℕ → ℕ) → ℕ → ℕ
+all_at a b c d n = ((a n ⊕ c n) ⊕ b n) ⊕ d n
+
+abbrev even_at : (ℕ → ℕ) → (ℕ → ℕ) → (ℕ → ℕ) → (ℕ → ℕ) → ℕ → ℕ
+even_at a b c d n = all_at a b c d (suc n) ⊕ (a n ⊕ c n)
+
+abbrev step_at : (ℕ → ℕ) → (ℕ → ℕ) → (ℕ → ℕ) → (ℕ → ℕ) → ℕ → ℕ
+step_at a b c d n = (even_at a b c d (suc n) ⊕ a n) ⊕ b n
+
+first_terms : (a b c d : ℕ → ℕ) → (step_at a b c d 1 ⊕ all_at a b c d 0) ⊕ a 0 ≡ row a b c d
+first_terms a b c d = same_from_bits _ _ (λ i. simp bit_at_xor (omega arith))
+
+second_terms : (a b c d : ℕ → ℕ) → row a b c d ⊕ step_at a b c d 0 ≡ row b c d a
+second_terms a b c d = same_from_bits _ _ (λ i. simp bit_at_xor (omega arith))
+
+third_terms : (a b c d : ℕ → ℕ) → row a b c d ⊕ even_at a b c d 0 ≡ row c d a b
+third_terms a b c d = same_from_bits _ _ (λ i. simp bit_at_xor (omega arith))
+
+fourth_terms : (a b c d : ℕ → ℕ) → (row b c d a ⊕ even_at a b c d 0) ⊕ all_at a b c d 0 ≡ row d a b c
+fourth_terms a b c d = same_from_bits _ _ (λ i. simp bit_at_xor (omega arith))
+
 in_doublings : (a b c d : ℕ) → a < 256 → b < 256 → c < 256 → d < 256
-    → inv_mixed a b c d
-    ≡ (times_x a ⊕ times_x (times_x a) ⊕ times_x (times_x (times_x a))) ⊕
-    (b ⊕ times_x b ⊕ times_x (times_x (times_x b)))
-    ⊕ (c ⊕ times_x (times_x c) ⊕ times_x (times_x (times_x c))) ⊕ (d ⊕ times_x (times_x (times_x d)))
+    → inv_mixed a b c d ≡ row (times_x_n a) (times_x_n b) (times_x_n c) (times_x_n d)
 in_doublings a b c d p q r s = λ i. times_14 a p i ⊕ times_11 b q i ⊕ times_13 c r i ⊕ times_9 d s i
 
--- ---- the values that the rows share
+-- ---- the rows of a column
 
--- doubling the XOR of four bytes gives the XOR of the doubled bytes
-column_bytes_xor_doubled : (a b c d : ℕ) → a < 256 → b < 256 → c < 256 → d < 256
-    → times_x (column_bytes_xor a b c d) ≡ column_bytes_xor (times_x a) (times_x b) (times_x c) (times_x d)
-column_bytes_xor_doubled a b c d p q r s =
-    let ac = xor_byte a c p r in
-    let acb = xor_byte (a ⊕ c) b ac q in
-    times_x_xor ((a ⊕ c) ⊕ b) d acb s
-    ∙ (λ i. times_x_xor (a ⊕ c) b ac q i ⊕ times_x d)
-    ∙ (λ i. (times_x_xor a c p r i ⊕ times_x b) ⊕ times_x d)
+module _ (a b c d : ℕ) (p : a < 256) (q : b < 256) (r : c < 256) (s : d < 256) where
+  abbrev all_of : ℕ → ℕ
+  all_of n = all_at (times_x_n a) (times_x_n b) (times_x_n c) (times_x_n d) n
 
-sum_byte : (a b c d : ℕ) → a < 256 → b < 256 → c < 256 → d < 256 → column_bytes_xor a b c d < 256
-sum_byte a b c d p q r s = xor_byte _ d (xor_byte _ b (xor_byte a c p r) q) s
+  abbrev even_from : ℕ → ℕ
+  even_from n = even_at (times_x_n a) (times_x_n b) (times_x_n c) (times_x_n d) n
 
--- `even_of` as an XOR of doubled bytes, and its doubling
-abbrev even_in_doublings : ℕ → ℕ → ℕ → ℕ → ℕ
-even_in_doublings a b c d = column_bytes_xor (times_x a) (times_x b) (times_x c) (times_x d) ⊕ (a ⊕ c)
+  ends_byte : (n : ℕ) → times_x_n a n ⊕ times_x_n c n < 256
+  ends_byte n = xor_byte (times_x_n a n) (times_x_n c n) (times_x_n_byte a n p) (times_x_n_byte c n r)
 
-even_is : (a b c d : ℕ) → a < 256 → b < 256 → c < 256 → d < 256 → even_of a b c d ≡ even_in_doublings a b c d
-even_is a b c d p q r s = ap (λ n. n ⊕ (a ⊕ c)) (column_bytes_xor_doubled a b c d p q r s)
+  three_byte : (n : ℕ) → (times_x_n a n ⊕ times_x_n c n) ⊕ times_x_n b n < 256
+  three_byte n = xor_byte (times_x_n a n ⊕ times_x_n c n) (times_x_n b n) (ends_byte n) (times_x_n_byte b n q)
 
-even_doubled : (a b c d : ℕ) → a < 256 → b < 256 → c < 256 → d < 256
-    → times_x (even_in_doublings a b c d) ≡ even_in_doublings (times_x a) (times_x b) (times_x c) (times_x d)
-even_doubled a b c d p q r s =
-    let ta = times_x_byte a p in
-    let tb = times_x_byte b q in
-    let tc = times_x_byte c r in
-    let td = times_x_byte d s in
-    times_x_xor (column_bytes_xor (times_x a) (times_x b) (times_x c) (times_x d)) (a ⊕ c)
-    (sum_byte (times_x a) (times_x b) (times_x c) (times_x d) ta tb tc td) (xor_byte a c p r)
-    ∙ (λ i. column_bytes_xor_doubled (times_x a) (times_x b) (times_x c) (times_x d) ta tb tc td i ⊕ times_x_xor a c p
-    r i)
+  ends_doubled : (n : ℕ) → times_x (times_x_n a n ⊕ times_x_n c n) ≡ times_x_n a (suc n) ⊕ times_x_n c (suc n)
+  ends_doubled n = times_x_xor (times_x_n a n) (times_x_n c n) (times_x_n_byte a n p) (times_x_n_byte c n r)
 
--- `step_of` as an XOR of doubled bytes, and its doubling
-abbrev step_in_doublings : ℕ → ℕ → ℕ → ℕ → ℕ
-step_in_doublings a b c d = (even_in_doublings (times_x a) (times_x b) (times_x c) (times_x d) ⊕ a) ⊕ b
+  -- doubling the XOR of bytes gives the XOR of the doubled bytes
+  all_doubled : (n : ℕ) → times_x (all_of n) ≡ all_of (suc n)
+  all_doubled n =
+      times_x_xor ((times_x_n a n ⊕ times_x_n c n) ⊕ times_x_n b n) (times_x_n d n) (three_byte n)
+      (times_x_n_byte d n s)
+      ∙ (λ i. times_x_xor (times_x_n a n ⊕ times_x_n c n) (times_x_n b n) (ends_byte n) (times_x_n_byte b n q) i
+      ⊕ times_x_n d (suc n))
+      ∙ (λ i. (ends_doubled n i ⊕ times_x_n b (suc n)) ⊕ times_x_n d (suc n))
 
-step_is : (a b c d : ℕ) → a < 256 → b < 256 → c < 256 → d < 256 → step_of a b c d ≡ step_in_doublings a b c d
-step_is a b c d p q r s =
-    ap (λ n. (times_x n ⊕ a) ⊕ b) (even_is a b c d p q r s)
-    ∙ ap (λ n. (n ⊕ a) ⊕ b) (even_doubled a b c d p q r s)
+  even_doubled : (n : ℕ) → times_x (even_from n) ≡ even_from (suc n)
+  even_doubled n =
+      times_x_xor (all_of (suc n)) (times_x_n a n ⊕ times_x_n c n)
+      (xor_byte _ (times_x_n d (suc n)) (three_byte (suc n)) (times_x_n_byte d (suc n) s)) (ends_byte n)
+      ∙ (λ i. all_doubled (suc n) i ⊕ ends_doubled n i)
 
-even_byte : (a b c d : ℕ) → a < 256 → b < 256 → c < 256 → d < 256 → even_in_doublings a b c d < 256
-even_byte a b c d p q r s =
-    xor_byte _ _ (sum_byte _ _ _ _ (times_x_byte a p) (times_x_byte b q) (times_x_byte c r) (times_x_byte d s))
-    (xor_byte a c p r)
+  even_byte : (n : ℕ) → even_from n < 256
+  even_byte n =
+      xor_byte (all_of (suc n)) (times_x_n a n ⊕ times_x_n c n)
+      (xor_byte _ (times_x_n d (suc n)) (three_byte (suc n)) (times_x_n_byte d (suc n) s)) (ends_byte n)
 
-step_doubled : (a b c d : ℕ) → a < 256 → b < 256 → c < 256 → d < 256
-    → times_x (step_in_doublings a b c d) ≡ step_in_doublings (times_x a) (times_x b) (times_x c) (times_x d)
-step_doubled a b c d p q r s =
-    let ta = times_x_byte a p in
-    let tb = times_x_byte b q in
-    let tc = times_x_byte c r in
-    let td = times_x_byte d s in
-    let e = even_byte (times_x a) (times_x b) (times_x c) (times_x d) ta tb tc td in
-    times_x_xor (even_in_doublings (times_x a) (times_x b) (times_x c) (times_x d) ⊕ a) b (xor_byte _ a e p) q
-    ∙ (λ i. times_x_xor (even_in_doublings (times_x a) (times_x b) (times_x c) (times_x d)) a e p i ⊕ times_x b)
-    ∙ (λ i. (even_doubled (times_x a) (times_x b) (times_x c) (times_x d) ta tb tc td i ⊕ times_x a) ⊕ times_x b)
+  even_is : even_of a b c d ≡ even_from 0
+  even_is = ap (λ n. n ⊕ (a ⊕ c)) (all_doubled 0)
 
--- ---- XORs of doublings of four bytes: a0 is a byte, a1 its doubling, and so on up to a3, and likewise for b, c and d
+  step_is : step_of a b c d ≡ step_at (times_x_n a) (times_x_n b) (times_x_n c) (times_x_n d) 0
+  step_is = ap (λ n. (times_x n ⊕ a) ⊕ b) even_is ∙ ap (λ n. (n ⊕ a) ⊕ b) (even_doubled 0)
 
-first_terms : (a0 a1 a2 a3 b0 b1 b2 b3 c0 c1 c2 c3 d0 d1 d2 d3 : ℕ)
-    → ((((((((a3 ⊕ c3) ⊕ b3) ⊕ d3) ⊕ (a2 ⊕ c2)) ⊕ a1) ⊕ b1) ⊕ (((a0 ⊕ c0) ⊕ b0) ⊕ d0)) ⊕ a0)
-    ≡ (a1 ⊕ a2 ⊕ a3) ⊕ (b0 ⊕ b1 ⊕ b3) ⊕ (c0 ⊕ c2 ⊕ c3) ⊕ (d0 ⊕ d3)
-first_terms a0 a1 a2 a3 b0 b1 b2 b3 c0 c1 c2 c3 d0 d1 d2 d3 = same_from_bits _ _ (λ i. simp bit_at_xor (omega arith))
+  step_doubled : times_x (step_of a b c d) ≡ step_at (times_x_n a) (times_x_n b) (times_x_n c) (times_x_n d) 1
+  step_doubled =
+      ap times_x step_is
+      ∙ times_x_xor (even_from 1 ⊕ a) b (xor_byte (even_from 1) a (even_byte 1) p) q
+      ∙ (λ i. times_x_xor (even_from 1) a (even_byte 1) p i ⊕ times_x b)
+      ∙ (λ i. (even_doubled 1 i ⊕ times_x a) ⊕ times_x b)
 
-second_terms : (a0 a1 a2 a3 b0 b1 b2 b3 c0 c1 c2 c3 d0 d1 d2 d3 : ℕ)
-    → ((a1 ⊕ a2 ⊕ a3) ⊕ (b0 ⊕ b1 ⊕ b3) ⊕ (c0 ⊕ c2 ⊕ c3) ⊕ (d0 ⊕ d3)) ⊕ ((((((a2 ⊕ c2) ⊕ b2) ⊕ d2) ⊕ (a1 ⊕ c1)) ⊕ a0) ⊕
-    b0)
-    ≡ (b1 ⊕ b2 ⊕ b3) ⊕ (c0 ⊕ c1 ⊕ c3) ⊕ (d0 ⊕ d2 ⊕ d3) ⊕ (a0 ⊕ a3)
-second_terms a0 a1 a2 a3 b0 b1 b2 b3 c0 c1 c2 c3 d0 d1 d2 d3 = same_from_bits _ _ (λ i. simp bit_at_xor (omega arith))
+  pub first_row : (times_x (step_of a b c d) ⊕ column_bytes_xor a b c d) ⊕ a ≡ inv_mixed a b c d
+  first_row =
+      ap (λ n. (n ⊕ column_bytes_xor a b c d) ⊕ a) step_doubled
+      ∙ first_terms (times_x_n a) (times_x_n b) (times_x_n c) (times_x_n d)
+      ∙ sym (in_doublings a b c d p q r s)
 
-third_terms : (a0 a1 a2 a3 b0 b1 b2 b3 c0 c1 c2 c3 d0 d1 d2 d3 : ℕ)
-    → ((a1 ⊕ a2 ⊕ a3) ⊕ (b0 ⊕ b1 ⊕ b3) ⊕ (c0 ⊕ c2 ⊕ c3) ⊕ (d0 ⊕ d3)) ⊕ ((((a1 ⊕ c1) ⊕ b1) ⊕ d1) ⊕ (a0 ⊕ c0))
-    ≡ (c1 ⊕ c2 ⊕ c3) ⊕ (d0 ⊕ d1 ⊕ d3) ⊕ (a0 ⊕ a2 ⊕ a3) ⊕ (b0 ⊕ b3)
-third_terms a0 a1 a2 a3 b0 b1 b2 b3 c0 c1 c2 c3 d0 d1 d2 d3 = same_from_bits _ _ (λ i. simp bit_at_xor (omega arith))
+  pub second_row : inv_mixed a b c d ⊕ step_of a b c d ≡ inv_mixed b c d a
+  second_row =
+      (λ i. in_doublings a b c d p q r s i ⊕ step_is i)
+      ∙ second_terms (times_x_n a) (times_x_n b) (times_x_n c) (times_x_n d)
+      ∙ sym (in_doublings b c d a q r s p)
 
-fourth_terms : (a0 a1 a2 a3 b0 b1 b2 b3 c0 c1 c2 c3 d0 d1 d2 d3 : ℕ)
-    → (((b1 ⊕ b2 ⊕ b3) ⊕ (c0 ⊕ c1 ⊕ c3) ⊕ (d0 ⊕ d2 ⊕ d3) ⊕ (a0 ⊕ a3)) ⊕ ((((a1 ⊕ c1) ⊕ b1) ⊕ d1) ⊕ (a0 ⊕ c0))) ⊕
-    (((a0 ⊕ c0) ⊕ b0) ⊕ d0)
-    ≡ (d1 ⊕ d2 ⊕ d3) ⊕ (a0 ⊕ a1 ⊕ a3) ⊕ (b0 ⊕ b2 ⊕ b3) ⊕ (c0 ⊕ c3)
-fourth_terms a0 a1 a2 a3 b0 b1 b2 b3 c0 c1 c2 c3 d0 d1 d2 d3 = same_from_bits _ _ (λ i. simp bit_at_xor (omega arith))
+  pub third_row : inv_mixed a b c d ⊕ even_of a b c d ≡ inv_mixed c d a b
+  third_row =
+      (λ i. in_doublings a b c d p q r s i ⊕ even_is i)
+      ∙ third_terms (times_x_n a) (times_x_n b) (times_x_n c) (times_x_n d)
+      ∙ sym (in_doublings c d a b r s p q)
 
-pub first_row : (a b c d : ℕ) → a < 256 → b < 256 → c < 256 → d < 256
-    → (times_x (step_of a b c d) ⊕ column_bytes_xor a b c d) ⊕ a ≡ inv_mixed a b c d
-first_row a b c d p q r s =
-    ap (λ n. (n ⊕ column_bytes_xor a b c d) ⊕ a) (ap times_x (step_is a b c d p q r s) ∙ step_doubled a b c d p q r s)
-    ∙ first_terms a (times_x a) (times_x (times_x a)) (times_x (times_x (times_x a))) b (times_x b)
-    (times_x (times_x b)) (times_x (times_x (times_x b)))
-    c (times_x c) (times_x (times_x c)) (times_x (times_x (times_x c))) d (times_x d) (times_x (times_x d))
-    (times_x (times_x (times_x d)))
-    ∙ sym (in_doublings a b c d p q r s)
+  pub fourth_row : (inv_mixed b c d a ⊕ even_of a b c d) ⊕ column_bytes_xor a b c d ≡ inv_mixed d a b c
+  fourth_row =
+      (λ i. (in_doublings b c d a q r s p i ⊕ even_is i) ⊕ column_bytes_xor a b c d)
+      ∙ fourth_terms (times_x_n a) (times_x_n b) (times_x_n c) (times_x_n d)
+      ∙ sym (in_doublings d a b c s p q r)
 
-pub second_row : (a b c d : ℕ) → a < 256 → b < 256 → c < 256 → d < 256
-    → inv_mixed a b c d ⊕ step_of a b c d ≡ inv_mixed b c d a
-second_row a b c d p q r s =
-    (λ i. in_doublings a b c d p q r s i ⊕ step_is a b c d p q r s i)
-    ∙ second_terms a (times_x a) (times_x (times_x a)) (times_x (times_x (times_x a))) b (times_x b)
-    (times_x (times_x b)) (times_x (times_x (times_x b)))
-    c (times_x c) (times_x (times_x c)) (times_x (times_x (times_x c))) d (times_x d) (times_x (times_x d))
-    (times_x (times_x (times_x d)))
-    ∙ sym (in_doublings b c d a q r s p)
-
-pub third_row : (a b c d : ℕ) → a < 256 → b < 256 → c < 256 → d < 256
-    → inv_mixed a b c d ⊕ even_of a b c d ≡ inv_mixed c d a b
-third_row a b c d p q r s =
-    (λ i. in_doublings a b c d p q r s i ⊕ even_is a b c d p q r s i)
-    ∙ third_terms a (times_x a) (times_x (times_x a)) (times_x (times_x (times_x a))) b (times_x b)
-    (times_x (times_x b)) (times_x (times_x (times_x b)))
-    c (times_x c) (times_x (times_x c)) (times_x (times_x (times_x c))) d (times_x d) (times_x (times_x d))
-    (times_x (times_x (times_x d)))
-    ∙ sym (in_doublings c d a b r s p q)
-
-pub fourth_row : (a b c d : ℕ) → a < 256 → b < 256 → c < 256 → d < 256
-    → (inv_mixed b c d a ⊕ even_of a b c d) ⊕ column_bytes_xor a b c d ≡ inv_mixed d a b c
-fourth_row a b c d p q r s =
-    (λ i. (in_doublings b c d a q r s p i ⊕ even_is a b c d p q r s i) ⊕ column_bytes_xor a b c d)
-    ∙ fourth_terms a (times_x a) (times_x (times_x a)) (times_x (times_x (times_x a))) b (times_x b)
-    (times_x (times_x b)) (times_x (times_x (times_x b)))
-    c (times_x c) (times_x (times_x c)) (times_x (times_x (times_x c))) d (times_x d) (times_x (times_x d))
-    (times_x (times_x (times_x d)))
-    ∙ sym (in_doublings d a b c s p q r)
-
-pub inv_mixed_byte : (a b c d : ℕ) → a < 256 → b < 256 → c < 256 → d < 256 → inv_mixed a b c d < 256
-inv_mixed_byte a b c d p q r s =
-    xor_byte _ _ (xor_byte _ _ (xor_byte _ _ (product_byte 14 a p) (product_byte 11 b q)) (product_byte 13 c r))
-    (product_byte 9 d s)
+  pub inv_mixed_byte : inv_mixed a b c d < 256
+  inv_mixed_byte =
+      xor_byte _ _ (xor_byte _ _ (xor_byte _ _ (product_byte 14 a p) (product_byte 11 b q)) (product_byte 13 c r))
+      (product_byte 9 d s)

@@ -1,38 +1,13 @@
 -- Rows of bit planes as blocks.
-use Rattle.std.proofs.Common.{◌≡◌, ℕ, ◌+◌, ◌*◌, ◌/◌, ◌%◌, ◌<◌, List, [], ◌∷◌, arith, refl, sym, ap, ◌∙◌}
+use Rattle.std.proofs.Common.{◌≡◌, ℕ, ◌+◌, ◌*◌, ◌/◌, ◌%◌, ◌<◌, List, [], ◌∷◌, arith, refl, ap, ◌∙◌}
 use Rattle.std.specs.Prelude.{slice_index, slice_index_or}
 use Rattle.std.specs.Int.{bit_at}
 use Rattle.std.specs.Int.Bits.{xor_zero_r}
 use Rattle.luks_aes.specs.Aes.{cell}
-use Rattle.luks_aes.proofs.Bytes.{same_below}
+use Rattle.luks_aes.proofs.Bytes.{same_below, each_below_4}
 use Rattle.luks_bitslice.specs.BitPlanes.{column_order, block_index, column_index, HasBits, Represents}
 use Rattle.luks_aes_batch.specs.States.{state_byte}
-use Rattle.luks_bitslice.proofs.LaneLemmas.{each_below_4}
 use Rattle.luks_aes_batch.proofs.PackingLemmas.{ordered_below}
-
--- a byte is the sum of its bits, each times its power of two
-sum_of_bits : (x : ℕ) → x < 256
-    → bit_at x 0 + 2 * bit_at x 1 + 4 * bit_at x 2 + 8 * bit_at x 3 + 16 * bit_at x 4 + 32 * bit_at x 5 + 64 * bit_at x
-    6 + 128 * bit_at x 7 ≡ x
-sum_of_bits = same_below
-    (λ x. bit_at x 0 + 2 * bit_at x 1 + 4 * bit_at x 2 + 8 * bit_at x 3 + 16 * bit_at x 4 + 32 * bit_at x 5 + 64 *
-    bit_at x 6 + 128 * bit_at x 7)
-    (λ x. x) 256 refl
-
--- two bytes are equal if their bits are
-pub same_bits : (x y : ℕ) → x < 256 → y < 256 → ((k : ℕ) → k < 8 → bit_at x k ≡ bit_at y k) → x ≡ y
-same_bits x y low small same =
-    let b0 : bit_at x 0 ≡ bit_at y 0 = same 0 (omega arith) in
-    let b1 : bit_at x 1 ≡ bit_at y 1 = same 1 (omega arith) in
-    let b2 : bit_at x 2 ≡ bit_at y 2 = same 2 (omega arith) in
-    let b3 : bit_at x 3 ≡ bit_at y 3 = same 3 (omega arith) in
-    let b4 : bit_at x 4 ≡ bit_at y 4 = same 4 (omega arith) in
-    let b5 : bit_at x 5 ≡ bit_at y 5 = same 5 (omega arith) in
-    let b6 : bit_at x 6 ≡ bit_at y 6 = same 6 (omega arith) in
-    let b7 : bit_at x 7 ≡ bit_at y 7 = same 7 (omega arith) in
-    sym (sum_of_bits x low)
-    ∙ (λ i. b0 i + 2 * b1 i + 4 * b2 i + 8 * b3 i + 16 * b4 i + 32 * b5 i + 64 * b6 i + 128 * b7 i)
-    ∙ sum_of_bits y small
 
 -- the bit planes of a row, bit by bit
 pub represented_bits : (y : ℕ → ℕ) (x : List (List ℕ)) → Represents y x

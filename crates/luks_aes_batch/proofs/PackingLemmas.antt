@@ -8,9 +8,9 @@ use Rattle.std.specs.Simd.Lanes.{chunk}
 use Rattle.std.proofs.lemmas.Simd.{get_or-chunk}
 use Rattle.std.proofs.lemmas.List.{get_or-take, get_or-drop}
 use Rattle.luks_aes.proofs.ByteLists.{xor_byte, bytes_take, bytes_drop}
+use Rattle.luks_aes.proofs.Bytes.{each_below_4}
 use Rattle.luks_bitslice.specs.BitPlanes.{column_order, block_index, column_index, HasBits, Represents}
 use Rattle.luks_aes_batch.specs.States.{block_in, state_byte}
-use Rattle.luks_bitslice.proofs.LaneLemmas.{each_below_4}
 
 pub ordered_below : (i : ℕ) → column_order i < 4
 ordered_below zero = omega arith

@@ -1,10 +1,12 @@
 -- The bit planes of rows, and those of the values that the rows share.
-use Rattle.std.proofs.Common.{◌≡◌, ℕ, ◌+◌, ◌%◌, ◌<◌, List, arith, refl, sym, ◌∙◌}
+use Rattle.std.proofs.Common.{◌≡◌, ℕ, ◌+◌, ◌%◌, ◌<◌, List, [], arith, refl, sym, ◌∙◌}
+use Rattle.std.specs.Prelude.{slice_index_or}
 use Rattle.std.specs.Int.{bit_at}
 use Rattle.std.specs.Int.Bits.{bit_xor}
 use Rattle.std.specs.Simd.Lanes.{zip2}
 use Rattle.std.proofs.lemmas.Nat.Bits.{bit_at_xor}
 use Rattle.luks_aes.specs.Field.{◌⊕◌, times_x}
+use Rattle.luks_aes.specs.Columns.{inv_mixed_row}
 use Rattle.luks_aes.proofs.Bytes.{same_below}
 use Rattle.luks_aes.proofs.ByteLists.{times_x_byte, xor_byte}
 use Rattle.luks_bitslice.specs.BitPlanes.{IsBitPlane}
@@ -12,53 +14,45 @@ use Rattle.luks_bitslice.proofs.GateLemmas.{gate_len, gate_bit}
 use Rattle.luks_aes_batch.specs.States.{RepresentRows}
 use Rattle.luks_aes_batch.proofs.MixLemmas.{inv_mixed_byte}
 use Rattle.luks_aes_batch.specs.RoundKeys.{row_0_of, row_1_of, row_2_of, row_3_of, rows_of}
-use Rattle.luks_aes_batch.specs.Mixing.{column_bytes_xor, even_of, step_of, inv_mixed_row, AreBytes, IsOfPlane}
+use Rattle.luks_aes_batch.specs.Mixing.{column_bytes_xor, even_of, step_of, AreBytes, IsOfPlane}
 use Rattle.luks_aes_batch.specs.Mixing.{HasSharedValues, HasDoubledValues}
 use Rattle.luks_aes_batch.specs.declared.rows.BitslicedState.{BitslicedState}
 use Rattle.luks_aes_batch.specs.declared.mixing.Sums.{Sums}
 
 -- ---- bits of a byte times x
 
-bit_0 : (b : ℕ) → b < 256 → bit_at (times_x b) 0 ≡ bit_at b 7
-unfolding times_x
-bit_0 = same_below (λ b. bit_at (times_x b) 0) (λ b. bit_at b 7) 256 refl
+-- bit k of the doubled byte is bit j of the byte, or the XOR of its bits j and 7
+abbrev IsMoved : ℕ → ℕ → Type 0
+IsMoved j k = (b : ℕ) → b < 256 → bit_at (times_x b) k ≡ bit_at b j
 
-bit_1 : (b : ℕ) → b < 256 → bit_at (times_x b) 1 ≡ (bit_at b 0 + bit_at b 7) % 2
-unfolding times_x
-bit_1 = same_below (λ b. bit_at (times_x b) 1) (λ b. (bit_at b 0 + bit_at b 7) % 2) 256 refl
+abbrev IsReduced : ℕ → ℕ → Type 0
+IsReduced j k = (b : ℕ) → b < 256 → bit_at (times_x b) k ≡ (bit_at b j + bit_at b 7) % 2
 
-bit_2 : (b : ℕ) → b < 256 → bit_at (times_x b) 2 ≡ bit_at b 1
+pub moved_bits : IsMoved 7 0 × IsMoved 1 2 × IsMoved 4 5 × IsMoved 5 6 × IsMoved 6 7
 unfolding times_x
-bit_2 = same_below (λ b. bit_at (times_x b) 2) (λ b. bit_at b 1) 256 refl
+moved_bits = (
+  same_below (λ b. bit_at (times_x b) 0) (λ b. bit_at b 7) 256 refl,
+  same_below (λ b. bit_at (times_x b) 2) (λ b. bit_at b 1) 256 refl,
+  same_below (λ b. bit_at (times_x b) 5) (λ b. bit_at b 4) 256 refl,
+  same_below (λ b. bit_at (times_x b) 6) (λ b. bit_at b 5) 256 refl,
+  same_below (λ b. bit_at (times_x b) 7) (λ b. bit_at b 6) 256 refl,
+)
 
-bit_3 : (b : ℕ) → b < 256 → bit_at (times_x b) 3 ≡ (bit_at b 2 + bit_at b 7) % 2
+pub reduced_bits : IsReduced 0 1 × IsReduced 2 3 × IsReduced 3 4
 unfolding times_x
-bit_3 = same_below (λ b. bit_at (times_x b) 3) (λ b. (bit_at b 2 + bit_at b 7) % 2) 256 refl
-
-bit_4 : (b : ℕ) → b < 256 → bit_at (times_x b) 4 ≡ (bit_at b 3 + bit_at b 7) % 2
-unfolding times_x
-bit_4 = same_below (λ b. bit_at (times_x b) 4) (λ b. (bit_at b 3 + bit_at b 7) % 2) 256 refl
-
-bit_5 : (b : ℕ) → b < 256 → bit_at (times_x b) 5 ≡ bit_at b 4
-unfolding times_x
-bit_5 = same_below (λ b. bit_at (times_x b) 5) (λ b. bit_at b 4) 256 refl
-
-bit_6 : (b : ℕ) → b < 256 → bit_at (times_x b) 6 ≡ bit_at b 5
-unfolding times_x
-bit_6 = same_below (λ b. bit_at (times_x b) 6) (λ b. bit_at b 5) 256 refl
-
-bit_7 : (b : ℕ) → b < 256 → bit_at (times_x b) 7 ≡ bit_at b 6
-unfolding times_x
-bit_7 = same_below (λ b. bit_at (times_x b) 7) (λ b. bit_at b 6) 256 refl
+reduced_bits = (
+  same_below (λ b. bit_at (times_x b) 1) (λ b. (bit_at b 0 + bit_at b 7) % 2) 256 refl,
+  same_below (λ b. bit_at (times_x b) 3) (λ b. (bit_at b 2 + bit_at b 7) % 2) 256 refl,
+  same_below (λ b. bit_at (times_x b) 4) (λ b. (bit_at b 3 + bit_at b 7) % 2) 256 refl,
+)
 
 -- ---- planes of the doubled bytes: a plane as it is, or XORed with plane 7
 
-pub moved : (f : ℕ → ℕ) (j k : ℕ) {v : List ℕ} → ((b : ℕ) → b < 256 → bit_at (times_x b) k ≡ bit_at b j)
+pub moved : (f : ℕ → ℕ) (j k : ℕ) {v : List ℕ} → IsMoved j k
     → ((q : ℕ) → f q < 256) → IsBitPlane f j v → IsBitPlane (λ q. times_x (f q)) k v
 moved f j k law bytes is = record { len = is.len; at = λ q low. is.at q low ∙ sym (law (f q) (bytes q)) }
 
-reduced : (f : ℕ → ℕ) (j k : ℕ) {v w r : List ℕ}
-    → ((b : ℕ) → b < 256 → bit_at (times_x b) k ≡ (bit_at b j + bit_at b 7) % 2)
+reduced : (f : ℕ → ℕ) (j k : ℕ) {v w r : List ℕ} → IsReduced j k
     → ((q : ℕ) → f q < 256) → IsBitPlane f j v → IsBitPlane f 7 w → r ≡ zip2 bit_xor v w
     → IsBitPlane (λ q. times_x (f q)) k r
 reduced f j k {v} {w} {r} law bytes first second is = record {
@@ -70,13 +64,13 @@ reduced f j k {v} {w} {r} law bytes first second is = record {
 
 -- ---- the shared values as bytes
 
-sum_bytes : (y : ℕ → ℕ → ℕ) → AreBytes y → (q : ℕ) → column_bytes_xor (y 0 q) (y 1 q) (y 2 q) (y 3 q) < 256
+pub sum_bytes : (y : ℕ → ℕ → ℕ) → AreBytes y → (q : ℕ) → column_bytes_xor (y 0 q) (y 1 q) (y 2 q) (y 3 q) < 256
 sum_bytes y all q =
     xor_byte _ (y 3 q)
     (xor_byte _ (y 1 q) (xor_byte (y 0 q) (y 2 q) (all.at 0 q (omega arith)) (all.at 2 q (omega arith)))
     (all.at 1 q (omega arith))) (all.at 3 q (omega arith))
 
-even_bytes : (y : ℕ → ℕ → ℕ) → AreBytes y → (q : ℕ) → even_of (y 0 q) (y 1 q) (y 2 q) (y 3 q) < 256
+pub even_bytes : (y : ℕ → ℕ → ℕ) → AreBytes y → (q : ℕ) → even_of (y 0 q) (y 1 q) (y 2 q) (y 3 q) < 256
 even_bytes y all q =
     xor_byte _ _ (times_x_byte _ (sum_bytes y all q))
     (xor_byte (y 0 q) (y 2 q) (all.at 0 q (omega arith)) (all.at 2 q (omega arith)))
@@ -88,7 +82,7 @@ step_bytes y all q =
 
 -- ---- the shared values in one plane as doubled values in another
 
-doubled_from : (y : ℕ → ℕ → ℕ) (j k : ℕ) (x : Sums) → ((b : ℕ) → b < 256 → bit_at (times_x b) k ≡ bit_at b j)
+pub doubled_from : (y : ℕ → ℕ → ℕ) (j k : ℕ) (x : Sums) → IsMoved j k
     → AreBytes y → HasSharedValues y j x → HasDoubledValues y k x
 doubled_from y j k x law all has = record {
   all = moved _ j k law (sum_bytes y all) has.all;
@@ -96,40 +90,9 @@ doubled_from y j k x law all has = record {
   step = moved _ j k law (step_bytes y all) has.step;
 }
 
-pub doubled_0 : (y : ℕ → ℕ → ℕ) (x : Sums) → AreBytes y → HasSharedValues y 7 x → HasDoubledValues y 0 x
-doubled_0 y x = doubled_from y 7 0 x bit_0
-
-pub doubled_2 : (y : ℕ → ℕ → ℕ) (x : Sums) → AreBytes y → HasSharedValues y 1 x → HasDoubledValues y 2 x
-doubled_2 y x = doubled_from y 1 2 x bit_2
-
-pub doubled_5 : (y : ℕ → ℕ → ℕ) (x : Sums) → AreBytes y → HasSharedValues y 4 x → HasDoubledValues y 5 x
-doubled_5 y x = doubled_from y 4 5 x bit_5
-
-pub doubled_6 : (y : ℕ → ℕ → ℕ) (x : Sums) → AreBytes y → HasSharedValues y 5 x → HasDoubledValues y 6 x
-doubled_6 y x = doubled_from y 5 6 x bit_6
-
-pub doubled_7 : (y : ℕ → ℕ → ℕ) (x : Sums) → AreBytes y → HasSharedValues y 6 x → HasDoubledValues y 7 x
-doubled_7 y x = doubled_from y 6 7 x bit_7
-
--- the doubled values in planes 6 and 7, not all of which are known
-pub all_6 : (y : ℕ → ℕ → ℕ) {v : List ℕ} → AreBytes y → IsBitPlane (λ q. column_bytes_xor (y 0 q) (y 1 q) (y 2 q)
-    (y 3 q)) 5 v
-    → IsBitPlane (λ q. times_x (column_bytes_xor (y 0 q) (y 1 q) (y 2 q) (y 3 q))) 6 v
-all_6 y all = moved _ 5 6 bit_6 (sum_bytes y all)
-
-pub all_7 : (y : ℕ → ℕ → ℕ) {v : List ℕ} → AreBytes y → IsBitPlane (λ q. column_bytes_xor (y 0 q) (y 1 q) (y 2 q)
-    (y 3 q)) 6 v
-    → IsBitPlane (λ q. times_x (column_bytes_xor (y 0 q) (y 1 q) (y 2 q) (y 3 q))) 7 v
-all_7 y all = moved _ 6 7 bit_7 (sum_bytes y all)
-
-pub even_7 : (y : ℕ → ℕ → ℕ) {v : List ℕ} → AreBytes y → IsBitPlane (λ q. even_of (y 0 q) (y 1 q) (y 2 q) (y 3 q)) 6 v
-    → IsBitPlane (λ q. times_x (even_of (y 0 q) (y 1 q) (y 2 q) (y 3 q))) 7 v
-even_7 y all = moved _ 6 7 bit_7 (even_bytes y all)
-
 -- the doubled values in plane k are the values in plane j XORed with those in plane 7, if bit k of each doubled byte is
 -- the XOR of the byte's bits j and 7
-doubled_with : (y : ℕ → ℕ → ℕ) (j k : ℕ) (x top r : Sums)
-    → ((b : ℕ) → b < 256 → bit_at (times_x b) k ≡ (bit_at b j + bit_at b 7) % 2)
+pub doubled_with : (y : ℕ → ℕ → ℕ) (j k : ℕ) (x top r : Sums) → IsReduced j k
     → AreBytes y → HasSharedValues y j x → HasSharedValues y 7 top → r.all ≡ zip2 bit_xor x.all top.all
     → r.even ≡ zip2 bit_xor x.even top.even → r.step ≡ zip2 bit_xor x.step top.step → HasDoubledValues y k r
 doubled_with y j k x top r law all has last a e s = record {
@@ -137,21 +100,6 @@ doubled_with y j k x top r law all has last a e s = record {
   even = reduced _ j k law (even_bytes y all) has.even last.even e;
   step = reduced _ j k law (step_bytes y all) has.step last.step s;
 }
-
-pub doubled_1 : (y : ℕ → ℕ → ℕ) (x top r : Sums) → AreBytes y → HasSharedValues y 0 x → HasSharedValues y 7 top
-    → r.all ≡ zip2 bit_xor x.all top.all → r.even ≡ zip2 bit_xor x.even top.even → r.step ≡ zip2 bit_xor x.step top.step
-    → HasDoubledValues y 1 r
-doubled_1 y x top r = doubled_with y 0 1 x top r bit_1
-
-pub doubled_3 : (y : ℕ → ℕ → ℕ) (x top r : Sums) → AreBytes y → HasSharedValues y 2 x → HasSharedValues y 7 top
-    → r.all ≡ zip2 bit_xor x.all top.all → r.even ≡ zip2 bit_xor x.even top.even → r.step ≡ zip2 bit_xor x.step top.step
-    → HasDoubledValues y 3 r
-doubled_3 y x top r = doubled_with y 2 3 x top r bit_3
-
-pub doubled_4 : (y : ℕ → ℕ → ℕ) (x top r : Sums) → AreBytes y → HasSharedValues y 3 x → HasSharedValues y 7 top
-    → r.all ≡ zip2 bit_xor x.all top.all → r.even ≡ zip2 bit_xor x.even top.even → r.step ≡ zip2 bit_xor x.step top.step
-    → HasDoubledValues y 4 r
-doubled_4 y x top r = doubled_with y 3 4 x top r bit_4
 
 -- ---- rows
 
@@ -167,74 +115,33 @@ row_byte y z all keys r q low =
     (all.at ((r + 3) % 4) q (omega arith)))
     (keys.at r q low)
 
-pub plane_0_of : (y : ℕ → ℕ → ℕ) (x : BitslicedState) → RepresentRows y (rows_of x) → IsOfPlane y 0 x.plane_0
-unfolding rows_of row_0_of row_1_of row_2_of row_3_of
-plane_0_of y x is = record {
-  row_0 = (is.at 0 (omega arith)).at 0 (omega arith);
-  row_1 = (is.at 1 (omega arith)).at 0 (omega arith);
-  row_2 = (is.at 2 (omega arith)).at 0 (omega arith);
-  row_3 = (is.at 3 (omega arith)).at 0 (omega arith);
+-- plane j of the rows
+plane_of : (y : ℕ → ℕ → ℕ) (x : BitslicedState) → RepresentRows y (rows_of x) → (j : ℕ) → j < 8
+    → IsOfPlane y j (record {
+      row_0 = slice_index_or (row_0_of x) j [];
+      row_1 = slice_index_or (row_1_of x) j [];
+      row_2 = slice_index_or (row_2_of x) j [];
+      row_3 = slice_index_or (row_3_of x) j [];
+    })
+unfolding rows_of
+plane_of y x is j low = record {
+  row_0 = (is.at 0 (omega arith)).at j low;
+  row_1 = (is.at 1 (omega arith)).at j low;
+  row_2 = (is.at 2 (omega arith)).at j low;
+  row_3 = (is.at 3 (omega arith)).at j low;
 }
 
-pub plane_1_of : (y : ℕ → ℕ → ℕ) (x : BitslicedState) → RepresentRows y (rows_of x) → IsOfPlane y 1 x.plane_1
-unfolding rows_of row_0_of row_1_of row_2_of row_3_of
-plane_1_of y x is = record {
-  row_0 = (is.at 0 (omega arith)).at 1 (omega arith);
-  row_1 = (is.at 1 (omega arith)).at 1 (omega arith);
-  row_2 = (is.at 2 (omega arith)).at 1 (omega arith);
-  row_3 = (is.at 3 (omega arith)).at 1 (omega arith);
-}
-
-pub plane_2_of : (y : ℕ → ℕ → ℕ) (x : BitslicedState) → RepresentRows y (rows_of x) → IsOfPlane y 2 x.plane_2
-unfolding rows_of row_0_of row_1_of row_2_of row_3_of
-plane_2_of y x is = record {
-  row_0 = (is.at 0 (omega arith)).at 2 (omega arith);
-  row_1 = (is.at 1 (omega arith)).at 2 (omega arith);
-  row_2 = (is.at 2 (omega arith)).at 2 (omega arith);
-  row_3 = (is.at 3 (omega arith)).at 2 (omega arith);
-}
-
-pub plane_3_of : (y : ℕ → ℕ → ℕ) (x : BitslicedState) → RepresentRows y (rows_of x) → IsOfPlane y 3 x.plane_3
-unfolding rows_of row_0_of row_1_of row_2_of row_3_of
-plane_3_of y x is = record {
-  row_0 = (is.at 0 (omega arith)).at 3 (omega arith);
-  row_1 = (is.at 1 (omega arith)).at 3 (omega arith);
-  row_2 = (is.at 2 (omega arith)).at 3 (omega arith);
-  row_3 = (is.at 3 (omega arith)).at 3 (omega arith);
-}
-
-pub plane_4_of : (y : ℕ → ℕ → ℕ) (x : BitslicedState) → RepresentRows y (rows_of x) → IsOfPlane y 4 x.plane_4
-unfolding rows_of row_0_of row_1_of row_2_of row_3_of
-plane_4_of y x is = record {
-  row_0 = (is.at 0 (omega arith)).at 4 (omega arith);
-  row_1 = (is.at 1 (omega arith)).at 4 (omega arith);
-  row_2 = (is.at 2 (omega arith)).at 4 (omega arith);
-  row_3 = (is.at 3 (omega arith)).at 4 (omega arith);
-}
-
-pub plane_5_of : (y : ℕ → ℕ → ℕ) (x : BitslicedState) → RepresentRows y (rows_of x) → IsOfPlane y 5 x.plane_5
-unfolding rows_of row_0_of row_1_of row_2_of row_3_of
-plane_5_of y x is = record {
-  row_0 = (is.at 0 (omega arith)).at 5 (omega arith);
-  row_1 = (is.at 1 (omega arith)).at 5 (omega arith);
-  row_2 = (is.at 2 (omega arith)).at 5 (omega arith);
-  row_3 = (is.at 3 (omega arith)).at 5 (omega arith);
-}
-
-pub plane_6_of : (y : ℕ → ℕ → ℕ) (x : BitslicedState) → RepresentRows y (rows_of x) → IsOfPlane y 6 x.plane_6
-unfolding rows_of row_0_of row_1_of row_2_of row_3_of
-plane_6_of y x is = record {
-  row_0 = (is.at 0 (omega arith)).at 6 (omega arith);
-  row_1 = (is.at 1 (omega arith)).at 6 (omega arith);
-  row_2 = (is.at 2 (omega arith)).at 6 (omega arith);
-  row_3 = (is.at 3 (omega arith)).at 6 (omega arith);
-}
-
-pub plane_7_of : (y : ℕ → ℕ → ℕ) (x : BitslicedState) → RepresentRows y (rows_of x) → IsOfPlane y 7 x.plane_7
-unfolding rows_of row_0_of row_1_of row_2_of row_3_of
-plane_7_of y x is = record {
-  row_0 = (is.at 0 (omega arith)).at 7 (omega arith);
-  row_1 = (is.at 1 (omega arith)).at 7 (omega arith);
-  row_2 = (is.at 2 (omega arith)).at 7 (omega arith);
-  row_3 = (is.at 3 (omega arith)).at 7 (omega arith);
-}
+pub planes_of : (y : ℕ → ℕ → ℕ) (x : BitslicedState) → RepresentRows y (rows_of x)
+    → IsOfPlane y 0 x.plane_0 × IsOfPlane y 1 x.plane_1 × IsOfPlane y 2 x.plane_2 × IsOfPlane y 3 x.plane_3
+    × IsOfPlane y 4 x.plane_4 × IsOfPlane y 5 x.plane_5 × IsOfPlane y 6 x.plane_6 × IsOfPlane y 7 x.plane_7
+unfolding row_0_of row_1_of row_2_of row_3_of
+planes_of y x is = (
+  plane_of y x is 0 (omega arith),
+  plane_of y x is 1 (omega arith),
+  plane_of y x is 2 (omega arith),
+  plane_of y x is 3 (omega arith),
+  plane_of y x is 4 (omega arith),
+  plane_of y x is 5 (omega arith),
+  plane_of y x is 6 (omega arith),
+  plane_of y x is 7 (omega arith),
+)

@@ -1,21 +1,20 @@
 -- Rounds of the equivalent inverse cipher on rows.
-use Rattle.std.proofs.Common.{◌≡◌, ℕ, zero, suc, ◌+◌, ◌-◌, ◌*◌, ◌/◌, ◌%◌, ◌<◌, List, [], ◌∷◌, arith, refl, sym, ap}
+use Rattle.std.proofs.Common.{◌≡◌, ℕ, ◌+◌, ◌-◌, ◌*◌, ◌/◌, ◌%◌, ◌<◌, List, [], ◌∷◌, arith, refl, sym, ap}
 use Rattle.std.proofs.Common.{subst, ◌∙◌}
 use Rattle.std.specs.Int.Bits.{xor_zero_r, xor_assoc}
 use Rattle.luks_aes.specs.Field.{◌⊕◌}
 use Rattle.luks_aes.specs.Aes.{inv_sbox, cell, multiplied_columns, inv_mix_columns, add_round_key, inv_sub_bytes}
-use Rattle.luks_aes.specs.Aes.{inv_shift_rows, inv_state_after}
+use Rattle.luks_aes.specs.Aes.{inv_shift_rows}
 use Rattle.luks_aes.specs.Bytes.{IsBytes}
-use Rattle.luks_aes.specs.Columns.{key_byte, inv_mixed_key_byte}
-use Rattle.luks_aes.proofs.Bytes.{same_below}
-use Rattle.luks_aes.proofs.SboxLemmas.{inv_sbox_byte}
-use Rattle.luks_aes.proofs.ByteLists.{IsState, made_state, state_bytes, xor_byte, columns_state}
+use Rattle.luks_aes.specs.Columns.{key_byte, inv_mixed_row, inv_mixed_key_byte}
+use Rattle.luks_aes.proofs.Bytes.{same_below, each_below_4}
+use Rattle.luks_aes.proofs.ByteLists.{xor_byte, columns_state, add_round_key_state}
 use Rattle.luks_aes.proofs.MixingLemmas.{inv_mixed}
 use Rattle.luks_aes.proofs.Undone.{xor_twice}
-use Rattle.luks_aes.proofs.InvMixedLemmas.{inv_mixed_xor, cell_of}
+use Rattle.luks_aes.proofs.Redone.{inv_shift_rows_state, inv_sub_bytes_state}
+use Rattle.luks_aes.proofs.InvMixedLemmas.{inv_mixed_row_xor, cell_of}
 use Rattle.luks_bitslice.specs.BitPlanes.{block_index, column_index, rotated_index}
 use Rattle.luks_aes_batch.specs.States.{RepresentRows, RepresentStates, RepresentRotated, state_byte}
-use Rattle.luks_bitslice.proofs.LaneLemmas.{each_below_4}
 use Rattle.luks_aes_batch.proofs.StateLemmas.{all_also}
 use Rattle.luks_aes_batch.proofs.PackingLemmas.{ordered_below}
 
@@ -41,27 +40,8 @@ rotated_column_index r q low inside =
 
 -- ---- states of bytes
 
-shifted_bytes : (s : List ℕ) → IsBytes s → IsBytes (inv_shift_rows s)
-unfolding inv_shift_rows
-shifted_bytes s all = state_bytes (λ r c. cell s r ((c + 4 - r) % 4)) (λ r c. all.each (r + 4 * ((c + 4 - r) % 4)))
-
 pub substituted_bytes : (s : List ℕ) → IsBytes s → IsBytes (inv_sub_bytes (inv_shift_rows s))
-unfolding inv_sub_bytes
-substituted_bytes s all =
-    state_bytes (λ r c. inv_sbox (cell (inv_shift_rows s) r c)) (λ r c. inv_sbox_byte _
-    ((shifted_bytes s all).each (r + 4 * c)))
-
-pub added_state : (s w : List ℕ) (n : ℕ) → IsBytes s → IsBytes w → IsState (add_round_key s w n)
-unfolding add_round_key
-added_state s w n all keys =
-    made_state _ (λ r c. xor_byte (cell s r c) _ (all.each (r + 4 * c)) (keys.each (r + 4 * (4 * n + c))))
-
-pub after_bytes : (block w : List ℕ) (nr m : ℕ) → IsBytes block → IsBytes w → IsBytes (inv_state_after block nr w m)
-unfolding inv_state_after
-after_bytes block w nr zero all keys = (added_state block w nr all keys).bytes
-after_bytes block w nr (suc m) all keys =
-    (columns_state _ _ (added_state _ w (nr - suc m) (substituted_bytes _ (after_bytes block w nr m all keys))
-    keys)).bytes
+substituted_bytes s all = (inv_sub_bytes_state _ (inv_shift_rows_state s all).bytes).bytes
 
 -- ---- cells
 
@@ -79,21 +59,16 @@ added_cell s w n r c low small = cell_of (λ r c. cell s r c ⊕ key_byte w n r 
 -- a cell of a state after AddRoundKey and InvMixColumns
 inv_mixed_cell : (s w : List ℕ) (n r c : ℕ) → IsBytes s → IsBytes w → r < 4 → c < 4
     → cell (inv_mix_columns (add_round_key s w n)) r c
-    ≡ inv_mixed (cell s r c) (cell s ((r + 1) % 4) c) (cell s ((r + 2) % 4) c) (cell s ((r + 3) % 4) c) ⊕
-    inv_mixed_key_byte w n r c
+    ≡ inv_mixed_row (cell s) r c ⊕ inv_mixed_key_byte w n r c
 unfolding multiplied_columns
 inv_mixed_cell s w n r c all keys low small =
     let t = add_round_key s w n in
     let at : (k : ℕ) → k < 4 → cell t k c ≡ cell s k c ⊕ key_byte w n k c = λ k inside. added_cell s w n k c inside
     small in
-    let byte : (k : ℕ) → cell s k c < 256 = λ k. all.each (k + 4 * c) in
-    let key : (k : ℕ) → key_byte w n k c < 256 = λ k. keys.each (k + 4 * (4 * n + c)) in
-    cell_of (λ r c. inv_mixed (cell t r c) (cell t ((r + 1) % 4) c) (cell t ((r + 2) % 4) c) (cell t ((r + 3) % 4) c)) r
-    c low small
+    cell_of (inv_mixed_row (cell t)) r c low small
     ∙ (λ i. inv_mixed (at r low i) (at ((r + 1) % 4) (omega arith) i) (at ((r + 2) % 4) (omega arith) i)
     (at ((r + 3) % 4) (omega arith) i))
-    ∙ inv_mixed_xor _ _ _ _ _ _ _ _ (byte r) (byte ((r + 1) % 4)) (byte ((r + 2) % 4)) (byte ((r + 3) % 4))
-    (key r) (key ((r + 1) % 4)) (key ((r + 2) % 4)) (key ((r + 3) % 4))
+    ∙ inv_mixed_row_xor (cell s) (key_byte w n) r c (λ q. all.each (q + 4 * c)) (λ q. keys.each (q + 4 * (4 * n + c)))
 
 -- ---- rows
 
@@ -114,8 +89,7 @@ rows_substituted t rows all is =
 
 -- a byte of a row after InvMixColumns, XORed with the round key after InvMixColumns
 laid_inv_mixed : (t : ℕ → List ℕ) (w : List ℕ) (n r q : ℕ) → ((m : ℕ) → IsBytes (t m)) → IsBytes w → r < 4
-    → inv_mixed (cells t r q) (cells t ((r + 1) % 4) q) (cells t ((r + 2) % 4) q) (cells t ((r + 3) % 4) q)
-    ⊕ (inv_mixed_key_byte w n r (column_index q) ⊕ 0x63)
+    → inv_mixed_row (cells t) r q ⊕ (inv_mixed_key_byte w n r (column_index q) ⊕ 0x63)
     ≡ state_byte (λ m. inv_mix_columns (add_round_key (t m) w n)) 0x63 r q
 laid_inv_mixed t w n r q all keys low =
     sym (xor_assoc _ _ 0x63)
@@ -126,8 +100,7 @@ laid_inv_mixed t w n r q all keys low =
 pub rows_inv_mixed : (t : ℕ → List ℕ) (w : List ℕ) (n : ℕ) (rows : List (List (List ℕ))) → ((m : ℕ) → IsBytes (t m))
     → IsBytes w
     → RepresentRows
-    (λ r q. inv_mixed (cells t r (rotated_index r q)) (cells t ((r + 1) % 4) (rotated_index r q))
-    (cells t ((r + 2) % 4) (rotated_index r q)) (cells t ((r + 3) % 4) (rotated_index r q))
+    (λ r q. inv_mixed_row (cells t) r (rotated_index r q)
     ⊕ (inv_mixed_key_byte w n r (column_index (rotated_index r q)) ⊕ 0x63))
     rows
     → RepresentRotated (λ m. inv_mix_columns (add_round_key (t m) w n)) rows
@@ -136,8 +109,8 @@ rows_inv_mixed t w n rows all keys is = record {
       (rotated_index r q)) rows is
       (λ r q low.
       let p = rotated_index r q in
-      let state = columns_state (14 ∷ 11 ∷ 13 ∷ 9 ∷ []) _ (added_state (t (block_index p)) w n (all
-      (block_index p)) keys) in
+      let state = columns_state (14 ∷ 11 ∷ 13 ∷ 9 ∷ []) _
+      (add_round_key_state (t (block_index p)) w n (all (block_index p)) keys).bytes in
       xor_byte _ 0x63 (state.bytes.each (r + 4 * column_index p)) (omega arith))
       (λ r q low inside. laid_inv_mixed t w n r (rotated_index r q) all keys low);
 }
@@ -149,7 +122,7 @@ pub rows_keyed : (t : ℕ → List ℕ) (w : List ℕ) (n k : ℕ) (rows : List 
 rows_keyed t w n k rows small all keys is = record {
   represented = all_also _ (state_byte (λ m. add_round_key (t m) w n) k) rows is
       (λ r q low.
-      let state = added_state (t (block_index q)) w n (all (block_index q)) keys in
+      let state = add_round_key_state (t (block_index q)) w n (all (block_index q)) keys in
       xor_byte _ k (state.bytes.each (r + 4 * column_index q)) small)
       (λ r q low inside.
       sym (xor_assoc _ _ k)

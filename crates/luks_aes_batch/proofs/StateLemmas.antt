@@ -1,9 +1,10 @@
 -- Four rows, each of which represents bytes.
-use Rattle.std.proofs.Common.{◌≡◌, ℕ, zero, suc, ◌<◌, List, [], ◌∷◌, arith, length, sym, ap, subst, ◌∙◌}
+use Rattle.std.proofs.Common.{◌≡◌, ℕ, ◌<◌, List, [], ◌∷◌, arith, length, sym, ap, subst, ◌∙◌}
 use Rattle.std.specs.Prelude.{slice_index_or}
 use Rattle.std.specs.Int.{bit_at}
+use Rattle.luks_aes.proofs.Bytes.{each_below_4}
 use Rattle.luks_bitslice.specs.BitPlanes.{IsBitPlane, Represents}
-use Rattle.luks_bitslice.proofs.Tables.{eight}
+use Rattle.luks_bitslice.proofs.LaneLemmas.{eight}
 use Rattle.luks_aes_batch.specs.States.{RepresentRows}
 
 -- planes and rows that represent some bytes also represent equal ones
@@ -22,19 +23,12 @@ all_also y z rows is bytes same = record {
   at = λ r low. represents_also (y r) (z r) _ (is.at r low) (λ q. bytes r q low) (λ q below. same r q low below);
 }
 
-four_rows : (z : ℕ → ℕ → ℕ) (a b c d : List (List ℕ)) → Represents (z 0) a → Represents (z 1) b → Represents (z 2) c
-    → Represents (z 3) d
-    → (r : ℕ) → r < 4 → Represents (z r) (slice_index_or (a ∷ b ∷ c ∷ d ∷ []) r [])
-four_rows z a b c d p q r s zero low = p
-four_rows z a b c d p q r s (suc zero) low = q
-four_rows z a b c d p q r s (suc (suc zero)) low = r
-four_rows z a b c d p q r s (suc (suc (suc zero))) low = s
-four_rows z a b c d p q r s (suc (suc (suc (suc n)))) low = absurd (omega arith)
-
 pub four : (z : ℕ → ℕ → ℕ) (a b c d : List (List ℕ)) → Represents (z 0) a → Represents (z 1) b → Represents (z 2) c
     → Represents (z 3) d
     → RepresentRows z (a ∷ b ∷ c ∷ d ∷ [])
-four z a b c d p q r s = record { at = four_rows z a b c d p q r s }
+four z a b c d p q r s = record {
+  at = each_below_4 (λ n. Represents (z n) (slice_index_or (a ∷ b ∷ c ∷ d ∷ []) n [])) p q r s;
+}
 
 pub represents_if_equal : {y : ℕ → ℕ} {a b : List (List ℕ)} → a ≡ b → Represents y b → Represents y a
 represents_if_equal {y} same is = subst (λ (x : List (List ℕ)). Represents y x) (sym same) is
@@ -48,7 +42,7 @@ pub represented_by_planes : {y : ℕ → ℕ} {x : List (List ℕ)} → Represen
     ∷ slice_index_or x 4 [] ∷ slice_index_or x 5 [] ∷ slice_index_or x 6 [] ∷ slice_index_or x 7 [] ∷ [])
 represented_by_planes {y} is = record {
   bytes = is.bytes;
-  at = eight y _ _ _ _ _ _ _ _ (is.at 0 (omega arith)) (is.at 1 (omega arith)) (is.at 2 (omega arith))
+  at = eight (IsBitPlane y) _ _ _ _ _ _ _ _ (is.at 0 (omega arith)) (is.at 1 (omega arith)) (is.at 2 (omega arith))
       (is.at 3 (omega arith)) (is.at 4 (omega arith)) (is.at 5 (omega arith)) (is.at 6 (omega arith))
       (is.at 7 (omega arith));
 }

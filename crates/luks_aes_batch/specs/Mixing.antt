@@ -2,8 +2,8 @@
 -- `+` is XOR. The four rows of the result for a column a, b, c, d share three values: `all` is a + b + c + d, `even` is
 -- 2 * all + a + c, and `step` is 2 * even + a + b. Row 0 is 14a + 11b + 13c + 9d, which is 2 * step + all + a.
 -- Row 1 is row 0 + step. Row 2 is row 0 + even. Row 3 is row 1 + even + all.
-use Rattle.std.specs.Prelude.{ℕ, ◌+◌, ◌%◌, ◌<◌}
-use Rattle.luks_aes.specs.Field.{◌⊕◌, ◌•◌, times_x}
+use Rattle.std.specs.Prelude.{ℕ, ◌<◌}
+use Rattle.luks_aes.specs.Field.{◌⊕◌, times_x}
 use Rattle.luks_bitslice.specs.BitPlanes.{IsBitPlane}
 use Rattle.luks_aes_batch.specs.declared.rows.FourPlanes.{FourPlanes}
 use Rattle.luks_aes_batch.specs.declared.mixing.Sums.{Sums}
@@ -18,10 +18,6 @@ even_of a b c d = times_x (column_bytes_xor a b c d) ⊕ (a ⊕ c)
 
 abbrev pub step_of : ℕ → ℕ → ℕ → ℕ → ℕ
 step_of a b c d = (times_x (even_of a b c d) ⊕ a) ⊕ b
-
--- the byte of row r at bit q after InvMixColumns, if y r q are the bytes of the four rows before
-abbrev pub inv_mixed_row : (ℕ → ℕ → ℕ) → ℕ → ℕ → ℕ
-inv_mixed_row y r q = 14 • y r q ⊕ 11 • y ((r + 1) % 4) q ⊕ 13 • y ((r + 2) % 4) q ⊕ 9 • y ((r + 3) % 4) q
 
 -- ---- planes
 

@@ -2,10 +2,11 @@
 
 ghost use Rattle.std.specs.Prelude.{◌≡◌, ◌+◌, ◌%◌, ◌<◌, ℕ};
 ghost use Rattle.luks_aes.specs.Field.{◌⊕◌, ◌•◌, times_x};
+ghost use Rattle.luks_aes.specs.Columns.{inv_mixed_row};
 ghost use Rattle.luks_bitslice.specs.BitPlanes.{IsBitPlane, rotated_index};
 ghost use Rattle.luks_aes_batch.specs.Mixing.{column_bytes_xor, even_of, step_of};
 ghost use Rattle.luks_aes_batch.specs.Mixing.{AreBytes, IsOfPlane, HasSharedValues};
-ghost use Rattle.luks_aes_batch.specs.Mixing.{HasDoubledValues, inv_mixed_row};
+ghost use Rattle.luks_aes_batch.specs.Mixing.{HasDoubledValues};
 ghost use Rattle.luks_aes_batch.specs.RoundKeys.{rows_of};
 ghost use Rattle.luks_aes_batch.specs.States.{RepresentRows};
 

@@ -18,35 +18,32 @@ module _ (old whole buf : List ℕ) (loaded n : ℕ) (is-whole : whole ≡ old +
       ∙ ap (λ k. length old + k) (length-replicate n 0) in
       omega (arith, length-drop loaded whole))
 
-  -- after a source has filled the buffer, the list starts with the bytes loaded before and then those that were read
-  pub prefix_filled : (rest more new : List ℕ) (len count : ℕ) → len ≡ length whole → count ≤ length buf
-      → new ≡ take (loaded + count) (take len (take loaded whole ++ (buf ++ rest) ++ more))
-      → new ≡ old ++ take count buf
-  prefix_filled rest more new len count is-len few is =
-      let prefix : take loaded whole ≡ old =
-      ap (take loaded) is-whole ∙ ap (λ k. take k (old ++ replicate n 0)) is-loaded
-      ∙ take-append_seam old (replicate n 0) in
-      let all : length whole ≡ length old + n = ap length is-whole ∙ length-append old (replicate n 0)
-      ∙ ap (λ k. length old + k) (length-replicate n 0) in
-      let capacity = length-capacity in
-      is ∙ take-take (loaded + count) len (take loaded whole ++ (buf ++ rest) ++ more) (omega arith)
-      ∙ take-append-le (loaded + count) (take loaded whole ++ (buf ++ rest)) more
-      (omega (arith, ap length prefix, length-append (take loaded whole) (buf ++ rest), length-append buf rest))
-      ∙ ap (λ l. take (loaded + count) (l ++ (buf ++ rest))) prefix
-      ∙ ap (λ k. take (k + count) (old ++ (buf ++ rest))) is-loaded
-      ∙ take-append-add old (buf ++ rest) count
-      ∙ ap (λ l. old ++ l) (take-append-le count buf rest few)
+  module _ (rest more new : List ℕ) (len count : ℕ) (is-len : len ≡ length whole) (few : count ≤ length buf)
+      (is : new ≡ take (loaded + count) (take len (take loaded whole ++ (buf ++ rest) ++ more))) where
+    -- after a source has filled the buffer, the list starts with the bytes loaded before and then those that were read
+    prefix_filled : new ≡ old ++ take count buf
+    prefix_filled =
+        let prefix : take loaded whole ≡ old =
+        ap (take loaded) is-whole ∙ ap (λ k. take k (old ++ replicate n 0)) is-loaded
+        ∙ take-append_seam old (replicate n 0) in
+        let all : length whole ≡ length old + n = ap length is-whole ∙ length-append old (replicate n 0)
+        ∙ ap (λ k. length old + k) (length-replicate n 0) in
+        let capacity = length-capacity in
+        is ∙ take-take (loaded + count) len (take loaded whole ++ (buf ++ rest) ++ more) (omega arith)
+        ∙ take-append-le (loaded + count) (take loaded whole ++ (buf ++ rest)) more
+        (omega (arith, ap length prefix, length-append (take loaded whole) (buf ++ rest), length-append buf rest))
+        ∙ ap (λ l. take (loaded + count) (l ++ (buf ++ rest))) prefix
+        ∙ ap (λ k. take (k + count) (old ++ (buf ++ rest))) is-loaded
+        ∙ take-append-add old (buf ++ rest) count
+        ∙ ap (λ l. old ++ l) (take-append-le count buf rest few)
 
--- the bytes that a source gave were appended to those loaded before
-pub consumed_behind : (old new known buf : List ℕ) (left : Option (List ℕ)) (count : ℕ) → new ≡ old ++ take count buf
-    → ConsumedInto known left buf count
-    → ConsumedOnto old new known left count
-consumed_behind old new known buf left count is consumed = (consumed.0, is ∙ ap (λ l. old ++ l) consumed.1)
+    module _ (known : List ℕ) (left : Option (List ℕ)) (consumed : ConsumedInto known left buf count) where
+      -- the bytes that a source gave were appended to those loaded before
+      pub consumed_behind : ConsumedOnto old new known left count
+      consumed_behind = (consumed.0, prefix_filled ∙ ap (λ l. old ++ l) consumed.1)
 
--- all requested bytes were appended, or all that the source had
-pub consumed_all_behind : (old new known buf : List ℕ) (left : Option (List ℕ)) (count asked most : ℕ)
-    → new ≡ old ++ take count buf → ConsumedInto known left buf count
-    → count ≡ min asked (length known) → asked ≡ most → ConsumedOnto old new known left (min most (length known))
-consumed_all_behind old new known buf left count asked most is consumed all is-most =
-    subst (ConsumedOnto old new known left) (all ∙ ap (λ k. min k (length known)) is-most)
-    (consumed_behind old new known buf left count is consumed)
+      -- all requested bytes were appended, or all that the source had
+      pub consumed_all_behind : count ≡ min (length buf) (length known)
+          → ConsumedOnto old new known left (min n (length known))
+      consumed_all_behind all =
+          subst (ConsumedOnto old new known left) (all ∙ ap (λ k. min k (length known)) length-capacity) consumed_behind

@@ -9,7 +9,7 @@ use Rattle.luks_area.specs.declared.fault.HeaderFault.TheVariants.{Read, Memory}
 abbrev pub max_loaded_len : ℕ
 max_loaded_len = 33554432
 
--- the start of an image: the loaded bytes, and whether the image's end was hit behind them
+-- the start of an image: the loaded bytes, and whether the image's end was hit after them
 pub record HeaderAreaModel : Type 0 where
   pub bytes : List ℕ
   pub ended : Bool
@@ -32,7 +32,7 @@ ConsumesUpTo most loaded loaded' known left (Ok whole) =
     ConsumedOnto loaded loaded' known left (min most (length known))
 ConsumesUpTo most loaded loaded' known left (Err fault) = AbortsConsuming most loaded loaded' known left fault
 
--- bytes were appended to those already loaded, up to `end` in all, and the answer says whether there are so many
+-- bytes were appended to those already loaded, up to `end` in all, and the answer says whether that many are loaded
 pub record Loads (end : ℕ) (loaded loaded' : List ℕ) (answer : Result Bool HeaderFault) : Type 0 where
   pub whole : IfOk answer (λ whole. IsTrue whole ↔ (end ≤ length loaded'))
   pub within : length loaded' ≤ max (length loaded) end

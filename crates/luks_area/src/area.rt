@@ -15,7 +15,7 @@ use std::marker::Model;
 /// The first bytes of an image, at most [`HeaderArea::MAX_LEN`] of them.
 ///
 /// An area keeps the allocator that it was made with. A clause sees the bytes, and whether the
-/// image's end was hit behind them.
+/// image's end was hit after them.
 #[derive(Drop)]
 pub struct HeaderArea {
     bytes: Vec<u8>,
@@ -55,7 +55,7 @@ impl HeaderArea {
         self.bytes.as_slice()
     }
 
-    /// Whether the image's end was hit behind the bytes.
+    /// Whether the image's end was hit after the bytes.
     pub fn has_ended(&self) -> bool
         ensures { result ≡ self.now.ended }
     {
@@ -95,7 +95,7 @@ impl HeaderArea {
     }
 }
 
-// Gives the vector capacity for `end` bytes in all, and no more.
+// Raises the capacity of the vector to `end` bytes in all, and no further.
 fn reserve(bytes: &mut Vec<u8>, end: usize) -> Result<(), AllocError>
     requires { vec_len bytes.old ≤ end }
     ensures items { bytes.new.items ≡ bytes.old.items }

@@ -8,17 +8,14 @@ use Rattle.clap.specs.declared.ArgMatches.{ArgMatches}
 use Rattle.clap.specs.Words.{AddsInTurn, AddsSubcommand, Shape, app_of, with_subcommand}
 use Rattle.clap.specs.declared.builder.Command.{Command}
 use Rattle.clap.proofs.OnLiterals.{clap_on_literals}
+use Rattle.clap.proofs.WalkLemmas.{both}
 use Rattle.luks_args.specs.Command.{fault_for, subcommand_in, unless_faulty}
-use Rattle.luks_args.specs.Grammar.{AreReadAs, IsReadAs, alone, header_command, luksrd, volume_command}
+use Rattle.luks_args.specs.Grammar.{AreReadAs, IsReadAs, alone, header_command, luksrd, stripe_command, volume_command}
 use Rattle.luks_args.specs.declared.planning.PlanFault.{PlanFault}
 use Rattle.luks_args.specs.declared.planning.PlanFault.TheVariants.{Usage}
 
-luksrd-simple : is_simple luksrd ≡ true
-unfolding luksrd header_command volume_command clap_on_literals
-luksrd-simple = refl
-
 luksrd-free : is_simple_and_free luksrd ≡ true
-unfolding luksrd header_command volume_command clap_on_literals
+unfolding luksrd header_command volume_command stripe_command clap_on_literals
 luksrd-free = refl
 
 pub free : (app : App) → app ≡ luksrd → is_simple_and_free app ≡ true
@@ -42,7 +39,7 @@ unfolding subcommand_in
 subcommand-ok app words m e none has =
     faultless (fault_of luksrd words) (subcommand_of luksrd words) (ap (λ (a : App). fault_of a words) (sym e) ∙ none)
     ∙ ap (λ (a : App). subcommand_of a words) (sym e)
-    ∙ sym (has (ap is_simple e ∙ luksrd-simple)).1
+    ∙ sym (has (both (is_simple app) _ (free app e)).0).1
 
 -- if `clap` gives an error other than running out of memory, no subcommand is found in the arguments
 pub subcommand-usage : (app : App) (words : List Text) (error : Error) → app ≡ luksrd
@@ -66,8 +63,7 @@ pub read_more : (commands : List Command) (shapes : List Shape) (command : Comma
 unfolding AreReadAs
 read_more [] [] command shape are is = (is, tt)
 read_more (c ∷ cs) (s ∷ ss) command shape are is = (are.0, read_more cs ss command shape are.1 is)
-read_more [] (s ∷ ss) command shape are is = absurd are
-read_more (c ∷ cs) [] command shape are is = absurd are
+read_more _ _ command shape are is = absurd are
 
 abbrev pub with_subcommands : App → List Shape → App
 with_subcommands app [] = app
@@ -83,8 +79,7 @@ added_shapes old new (c ∷ cs) app (s ∷ ss) is (middle, step, rest) are =
     let read : IsReadAs c (alone s) = are.0 in
     added_shapes middle new cs (with_subcommand app s) ss
     (step.shape read.local ∙ cc (is, ap (λ (a : App). a.top) read.app)) rest are.1
-added_shapes old new [] app (s ∷ ss) is adds are = absurd are
-added_shapes old new (c ∷ cs) app [] is adds are = absurd are
+added_shapes old new _ app _ is adds are = absurd are
 
 module _ {E : Type 0} where
   pub built_of : (result : Result Command E) (old : Command) (commands : List Command) (app : App) (shapes : List Shape)

@@ -83,12 +83,7 @@ merge_args_in rows = do
   stripes ← stripes_in rows
   key_bytes ← key_bytes_in rows
   stripes_file ← input_in rows
-  Some (record {
-    hash = hash;
-    stripes = stripes;
-    key_bytes = key_bytes;
-    stripes_file = stripes_file;
-  })
+  Some (record { hash = hash; stripes = stripes; key_bytes = key_bytes; stripes_file = stripes_file })
 
 -- the command on headers by its name, with its options
 unfoldable pub header_request_in : Text → List Row → Option Request
@@ -108,9 +103,6 @@ request_in (name, rows) =
     else (if bytes_eq name (codes "afMerge") then option_map af_merge (merge_args_in rows)
     else header_request_in name rows)))
 
-abbrev pub unless_stdin_reused : Request → Option Request
-unless_stdin_reused request = if reuses_stdin request then None else Some request
-
 -- nothing is found if there is a fault
 abbrev pub unless_faulty : {A : Type 0} → Kinds → Option A → Option A
 unless_faulty [] found = found
@@ -120,12 +112,12 @@ unless_faulty (fault ∷ faults) found = None
 unfoldable pub subcommand_in : List Text → Option (Text × List Row)
 subcommand_in words = unless_faulty (fault_of luksrd words) (subcommand_of luksrd words)
 
--- the request of the arguments after the program's name, if they are a luksrd command
+-- the request of the arguments after the program's name, if they are a luksrd command and do not reuse standard input
 abbrev pub request_of_words : List Text → Option Request
 request_of_words words = do
   found ← subcommand_in words
   request ← request_in found
-  unless_stdin_reused request
+  (if reuses_stdin request then None else Some request)
 
 -- every error of `clap` is a fault of the arguments, except running out of memory
 abbrev pub fault_for : ErrorKind → PlanFault

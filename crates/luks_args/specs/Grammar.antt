@@ -34,38 +34,15 @@ header_option = optional (codes "header")
 unfoldable pub header_command : Text → Shape
 header_command name = command name (header_option ∷ [])
 
-abbrev pub is_luks_shape : Shape
-is_luks_shape = header_command (codes "isLuks")
-
-abbrev pub luks_uuid_shape : Shape
-luks_uuid_shape = header_command (codes "luksUUID")
-
-abbrev pub luks_dump_shape : Shape
-luks_dump_shape = header_command (codes "luksDump")
-
-abbrev pub luks_check_shape : Shape
-luks_check_shape = header_command (codes "luksCheck")
-
 -- `NAME --key-file FILE [--key-slot N] [--max-iterations N] [--header FILE] IMAGE`
 unfoldable pub volume_command : Text → Shape
 volume_command name = command name (required (codes "key-file") ∷ optional (codes "key-slot")
     ∷ optional (codes "max-iterations") ∷ header_option ∷ [])
 
-abbrev pub test_passphrase_shape : Shape
-test_passphrase_shape = volume_command (codes "testPassphrase")
-
-abbrev pub luks_cat_shape : Shape
-luks_cat_shape = volume_command (codes "luksCat")
-
--- `afSplit --hash HASH --stripes N --random FILE KEY`
-abbrev pub af_split_shape : Shape
-af_split_shape = command (codes "afSplit")
-    (required (codes "hash") ∷ required (codes "stripes") ∷ required (codes "random") ∷ [])
-
--- `afMerge --hash HASH --stripes N --key-bytes N STRIPES`
-abbrev pub af_merge_shape : Shape
-af_merge_shape = command (codes "afMerge")
-    (required (codes "hash") ∷ required (codes "stripes") ∷ required (codes "key-bytes") ∷ [])
+-- `afSplit --hash HASH --stripes N --random FILE KEY` or `afMerge --hash HASH --stripes N --key-bytes N STRIPES`, by
+-- the name and the last option
+unfoldable pub stripe_command : Text → Text → Shape
+stripe_command name last = command name (required (codes "hash") ∷ required (codes "stripes") ∷ required last ∷ [])
 
 -- luksrd with no command yet: the arguments are those after the program's name, and `clap` adds no help flag and no
 -- help subcommand
@@ -78,11 +55,13 @@ program = record (new_shape (codes "luksrd")) {
 
 -- the commands on volumes and on stripes
 abbrev pub other_shapes : List Shape
-other_shapes = test_passphrase_shape ∷ luks_cat_shape ∷ af_split_shape ∷ af_merge_shape ∷ []
+other_shapes = volume_command (codes "testPassphrase") ∷ volume_command (codes "luksCat")
+    ∷ stripe_command (codes "afSplit") (codes "random") ∷ stripe_command (codes "afMerge") (codes "key-bytes") ∷ []
 
 -- the commands
 abbrev pub luksrd_shapes : List Shape
-luksrd_shapes = is_luks_shape ∷ luks_uuid_shape ∷ luks_dump_shape ∷ luks_check_shape ∷ other_shapes
+luksrd_shapes = header_command (codes "isLuks") ∷ header_command (codes "luksUUID")
+    ∷ header_command (codes "luksDump") ∷ header_command (codes "luksCheck") ∷ other_shapes
 
 -- luksrd with its commands
 unfoldable pub luksrd : App

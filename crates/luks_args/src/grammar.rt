@@ -1,12 +1,11 @@
 //! The commands of luksrd as `clap` reads them.
 
-ghost use Rattle.std.specs.Prelude.{◌≡◌, ◌∷◌, ◌++◌, [], IfOk, List, OnOk, codes, false};
+ghost use Rattle.std.specs.Prelude.{◌≡◌, ◌∷◌, ◌++◌, [], IfOk, List, OnOk, false};
 ghost use Rattle.clap.specs.Words.{App, Shape, app_of, rule_of, with_rule};
-ghost use Rattle.luks_args.specs.Grammar.{AreReadAs, BuildsApp, IsReadAs, af_merge_shape};
-ghost use Rattle.luks_args.specs.Grammar.{af_split_shape};
+ghost use Rattle.luks_args.specs.Grammar.{AreReadAs, BuildsApp, IsReadAs};
 ghost use Rattle.luks_args.specs.Grammar.{alone, header_command, header_option, input, luksrd};
-ghost use Rattle.luks_args.specs.Grammar.{luksrd_shapes, option, other_shapes, program, required};
-ghost use Rattle.luks_args.specs.Grammar.{volume_command};
+ghost use Rattle.luks_args.specs.Grammar.{luksrd_shapes, option, other_shapes, program};
+ghost use Rattle.luks_args.specs.Grammar.{stripe_command, volume_command};
 
 use clap::{Arg, Command};
 use std::alloc::{AllocError, Global};
@@ -62,8 +61,8 @@ fn push_other_commands<'a>(alloc: Global, commands: &mut Vec<Command<'a>>) -> Re
 {
     push_command(commands, volume_command(alloc, "testPassphrase"))?;
     push_command(commands, volume_command(alloc, "luksCat"))?;
-    push_command(commands, af_split(alloc))?;
-    push_command(commands, af_merge(alloc))
+    push_command(commands, stripe_command(alloc, "afSplit", "random"))?;
+    push_command(commands, stripe_command(alloc, "afMerge", "key-bytes"))
 }
 
 // Adds the command on headers of that name.
@@ -113,31 +112,15 @@ fn with_image<'a>(alloc: Global, command: Making<'a>) -> Making<'a>
     with_input(alloc, command)
 }
 
-// `afSplit --hash HASH --stripes N --random FILE KEY`
-fn af_split<'a>(alloc: Global) -> Making<'a>
-    ensures { BuildsApp result (alone af_split_shape) }
+// `afSplit --hash HASH --stripes N --random FILE KEY` or
+// `afMerge --hash HASH --stripes N --key-bytes N STRIPES`, by the name and the last option
+fn stripe_command<'a>(alloc: Global, name: &'a str, last: &'a str) -> Making<'a>
+    ensures { BuildsApp result (alone (stripe_command name.entry.now last.entry.now)) }
 {
-    let command = with_stripes(alloc, Ok(Command::new(alloc, "afSplit")));
-    let command = with_option(alloc, command, "random", true);
+    let command = with_option(alloc, Ok(Command::new(alloc, name)), "hash", true);
+    let command = with_option(alloc, command, "stripes", true);
+    let command = with_option(alloc, command, last, true);
     with_input(alloc, command)
-}
-
-// `afMerge --hash HASH --stripes N --key-bytes N STRIPES`
-fn af_merge<'a>(alloc: Global) -> Making<'a>
-    ensures { BuildsApp result (alone af_merge_shape) }
-{
-    let command = with_stripes(alloc, Ok(Command::new(alloc, "afMerge")));
-    let command = with_option(alloc, command, "key-bytes", true);
-    with_input(alloc, command)
-}
-
-// The command with `--hash HASH --stripes N` as well.
-fn with_stripes<'a>(alloc: Global, command: Making<'a>) -> Making<'a>
-    ensures { (as_read : App) → BuildsApp command.entry as_read → BuildsApp result (with_rule
-        (with_rule as_read (required (codes "hash"))) (required (codes "stripes"))) }
-{
-    let command = with_option(alloc, command, "hash", true);
-    with_option(alloc, command, "stripes", true)
 }
 
 // The command with the option `--name` as well.

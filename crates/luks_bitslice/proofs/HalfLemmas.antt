@@ -1,13 +1,16 @@
 -- The halves of vectors of bytes, as lanes of 64 bits.
 use Rattle.std.proofs.Common.{◌≡◌, ℕ, zero, suc, ◌+◌, ◌*◌, ◌/◌, ◌%◌, ◌^◌, ◌<◌, List, [], ◌∷◌, length, arith, refl, sym}
-use Rattle.std.proofs.Common.{ap, ◌∙◌}
-use Rattle.std.specs.Prelude.{slice_index, slice_index_or}
+use Rattle.std.proofs.Common.{ap, ◌∙◌, ◌-◌, inl, inr}
+use Rattle.std.specs.Prelude.{slice_index}
 use Rattle.std.specs.Simd.Lanes.{Each1, chunk, number_l, digits_l}
 use Rattle.std.proofs.Math.Nat.{div-div-eq-div-mul, zero-div, div-one, pow-zero, pow-succ'}
+use Rattle.std.proofs.lemmas.Bool.{cases_lt}
 use Rattle.std.proofs.lemmas.Grind.{same_number_lists}
 use Rattle.std.proofs.lemmas.Simd.{get_or_wider, get_or_narrower, get_or-chunk, Each1-chunk}
+use Rattle.luks_aes.specs.Aes.{state_of}
+use Rattle.luks_aes.proofs.Bytes.{each_below_8}
 use Rattle.luks_bitslice.specs.Lanes.{low_halves, high_halves}
-use Rattle.luks_bitslice.proofs.LaneLemmas.{each_below_16, first_of, second_of}
+use Rattle.luks_bitslice.proofs.LaneLemmas.{of_states}
 
 -- byte i of the number that a list of bytes represents is byte i of the list
 byte_of : (xs : List ℕ) (i : ℕ) → Each1 (λ x. x < 256) xs → number_l 256 xs / 256 ^ i % 256 ≡ slice_index xs i
@@ -57,50 +60,45 @@ byte_in a b h i all also low small =
           ∙ half_byte b h i also low small,
     )
 
-pub firsts_joined : (a b : List ℕ) → Each1 (λ x. x < 256) a → Each1 (λ x. x < 256) b → length a ≡ 16
-    → of_halves a b 0 ≡ low_halves a b
-firsts_joined a b all also k =
-    let lanes = of_halves a b 0 in
-    let at = λ (i : ℕ) (small : i < 8). byte_in a b 0 i all also (omega arith) small in
-    same_number_lists lanes (low_halves a b) refl
-    (each_below_16 (slice_index lanes) (slice_index (low_halves a b))
-    ((at 0 (omega arith)).0 ∙ sym (first_of a b 0 k (omega arith)))
-    ((at 1 (omega arith)).0 ∙ sym (first_of a b 1 k (omega arith)))
-    ((at 2 (omega arith)).0 ∙ sym (first_of a b 2 k (omega arith)))
-    ((at 3 (omega arith)).0 ∙ sym (first_of a b 3 k (omega arith)))
-    ((at 4 (omega arith)).0 ∙ sym (first_of a b 4 k (omega arith)))
-    ((at 5 (omega arith)).0 ∙ sym (first_of a b 5 k (omega arith)))
-    ((at 6 (omega arith)).0 ∙ sym (first_of a b 6 k (omega arith)))
-    ((at 7 (omega arith)).0 ∙ sym (first_of a b 7 k (omega arith)))
-    ((at 0 (omega arith)).1 ∙ sym (second_of a b 0 k (omega arith)))
-    ((at 1 (omega arith)).1 ∙ sym (second_of a b 1 k (omega arith)))
-    ((at 2 (omega arith)).1 ∙ sym (second_of a b 2 k (omega arith)))
-    ((at 3 (omega arith)).1 ∙ sym (second_of a b 3 k (omega arith)))
-    ((at 4 (omega arith)).1 ∙ sym (second_of a b 4 k (omega arith)))
-    ((at 5 (omega arith)).1 ∙ sym (second_of a b 5 k (omega arith)))
-    ((at 6 (omega arith)).1 ∙ sym (second_of a b 6 k (omega arith)))
-    ((at 7 (omega arith)).1 ∙ sym (second_of a b 7 k (omega arith))))
+-- v has byte i of half h of a, and after all of these byte i of half h of b
+abbrev HasHalves : List ℕ → List ℕ → List ℕ → ℕ → ℕ → Type 0
+HasHalves a b v h i =
+    (slice_index v (8 * 0 + i) ≡ slice_index a (8 * h + i)) × (slice_index v (8 * 1 + i) ≡ slice_index b (8 * h + i))
 
-pub lasts_joined : (a b : List ℕ) → Each1 (λ x. x < 256) a → Each1 (λ x. x < 256) b → length a ≡ 16
+halves_joined : (a b v : List ℕ) (h : ℕ) → Each1 (λ x. x < 256) a → Each1 (λ x. x < 256) b → h < 2 → length v ≡ 16
+    → ((i : ℕ) → i < 8 → HasHalves a b v h i) → of_halves a b h ≡ v
+halves_joined a b v h all also low long same =
+    let lanes = of_halves a b h in
+    same_number_lists lanes v (sym long)
+    (λ n inside. elim (cases_lt n 8) [
+      | inl below ↦
+          let place : 8 * 0 + n ≡ n = omega arith in
+          sym (ap (slice_index lanes) place) ∙ (byte_in a b h n all also low below).0 ∙ sym (same n below).0
+          ∙ ap (slice_index v) place
+      | inr above ↦
+          let fits : n < 16 = inside in
+          let place : 8 * 1 + (n - 8) ≡ n = omega arith in
+          let rest : n - 8 < 8 = omega arith in
+          sym (ap (slice_index lanes) place) ∙ (byte_in a b h (n - 8) all also low rest).1 ∙ sym (same (n - 8) rest).1
+          ∙ ap (slice_index v) place
+    ])
+
+halves_at : (a b : List ℕ) → length a ≡ 16 → length b ≡ 16 → (i : ℕ) → i < 8
+    → HasHalves a b (low_halves a b) 0 i × HasHalves a b (high_halves a b) 1 i
+halves_at a b k l =
+    of_states (λ a b c d. (i : ℕ) → i < 8 → HasHalves a b (low_halves a b) 0 i × HasHalves a b (high_halves a b) 1 i)
+    (λ f g h e. each_below_8 (λ i. HasHalves (state_of f) (state_of g) (low_halves (state_of f) (state_of g)) 0 i
+    × HasHalves (state_of f) (state_of g) (high_halves (state_of f) (state_of g)) 1 i)
+    ((refl, refl), (refl, refl)) ((refl, refl), (refl, refl)) ((refl, refl), (refl, refl)) ((refl, refl), (refl, refl))
+    ((refl, refl), (refl, refl)) ((refl, refl), (refl, refl)) ((refl, refl), (refl, refl)) ((refl, refl), (refl, refl)))
+    a b a b k l k l
+
+pub firsts_joined : (a b : List ℕ) → Each1 (λ x. x < 256) a → Each1 (λ x. x < 256) b → length a ≡ 16 → length b ≡ 16
+    → of_halves a b 0 ≡ low_halves a b
+firsts_joined a b all also k l =
+    halves_joined a b (low_halves a b) 0 all also (omega arith) refl (λ i low. (halves_at a b k l i low).0)
+
+pub lasts_joined : (a b : List ℕ) → Each1 (λ x. x < 256) a → Each1 (λ x. x < 256) b → length a ≡ 16 → length b ≡ 16
     → of_halves a b 1 ≡ high_halves a b
-lasts_joined a b all also k =
-    let lanes = of_halves a b 1 in
-    let at = λ (i : ℕ) (small : i < 8). byte_in a b 1 i all also (omega arith) small in
-    same_number_lists lanes (high_halves a b) refl
-    (each_below_16 (slice_index lanes) (slice_index (high_halves a b))
-    ((at 0 (omega arith)).0 ∙ sym (first_of a b 8 k (omega arith)))
-    ((at 1 (omega arith)).0 ∙ sym (first_of a b 9 k (omega arith)))
-    ((at 2 (omega arith)).0 ∙ sym (first_of a b 10 k (omega arith)))
-    ((at 3 (omega arith)).0 ∙ sym (first_of a b 11 k (omega arith)))
-    ((at 4 (omega arith)).0 ∙ sym (first_of a b 12 k (omega arith)))
-    ((at 5 (omega arith)).0 ∙ sym (first_of a b 13 k (omega arith)))
-    ((at 6 (omega arith)).0 ∙ sym (first_of a b 14 k (omega arith)))
-    ((at 7 (omega arith)).0 ∙ sym (first_of a b 15 k (omega arith)))
-    ((at 0 (omega arith)).1 ∙ sym (second_of a b 8 k (omega arith)))
-    ((at 1 (omega arith)).1 ∙ sym (second_of a b 9 k (omega arith)))
-    ((at 2 (omega arith)).1 ∙ sym (second_of a b 10 k (omega arith)))
-    ((at 3 (omega arith)).1 ∙ sym (second_of a b 11 k (omega arith)))
-    ((at 4 (omega arith)).1 ∙ sym (second_of a b 12 k (omega arith)))
-    ((at 5 (omega arith)).1 ∙ sym (second_of a b 13 k (omega arith)))
-    ((at 6 (omega arith)).1 ∙ sym (second_of a b 14 k (omega arith)))
-    ((at 7 (omega arith)).1 ∙ sym (second_of a b 15 k (omega arith))))
+lasts_joined a b all also k l =
+    halves_joined a b (high_halves a b) 1 all also (omega arith) refl (λ i low. (halves_at a b k l i low).1)

@@ -1,11 +1,13 @@
 -- The bytes of vectors.
-use Rattle.std.proofs.Common.{◌≡◌, ℕ, zero, suc, ◌+◌, ◌-◌, ◌*◌, ◌/◌, ◌%◌, ◌<◌, List, [], ◌∷◌, ◌++◌, length, Fits, w8}
-use Rattle.std.proofs.Common.{arith, ap, ◌∙◌}
+use Rattle.std.proofs.Common.{◌≡◌, ℕ, ◌+◌, ◌*◌, ◌/◌, ◌%◌, ◌<◌, List, [], ◌∷◌, length, Fits, w8}
+use Rattle.std.proofs.Common.{arith, refl, sym, ap, subst}
 use Rattle.std.specs.Prelude.{slice_index, slice_index_or}
 use Rattle.std.specs.Int.{bit_at}
 use Rattle.std.specs.Simd.Lanes.{Each1}
 use Rattle.std.proofs.lemmas.Simd.{Each1-get_or}
-use Rattle.std.proofs.lemmas.List.{get_or_append_left, get_or-append_right}
+use Rattle.luks_aes.specs.Aes.{cell, state_of}
+use Rattle.luks_aes.proofs.Bytes.{each_below_8, each_below_16}
+use Rattle.luks_aes.proofs.Undone.{whole_state}
 use Rattle.luks_bitslice.specs.BitPlanes.{HasBits, column_order}
 use Rattle.luks_bitslice.specs.Lanes.{low_words, high_words, low_halves, high_halves, by_rows, by_columns}
 
@@ -13,39 +15,10 @@ use Rattle.luks_bitslice.specs.Lanes.{low_words, high_words, low_halves, high_ha
 pub lane_fits : (v : List ℕ) (p : ℕ) → Each1 (Fits w8) v → length v ≡ 16 → p < 16 → slice_index v p < 256
 lane_fits v p all long low = (Each1-get_or (Fits w8) v p 0 (omega arith) all).fits
 
-pub each_below_16 : (f g : ℕ → ℕ) → f 0 ≡ g 0 → f 1 ≡ g 1 → f 2 ≡ g 2 → f 3 ≡ g 3 → f 4 ≡ g 4 → f 5 ≡ g 5 → f 6 ≡ g 6
-    → f 7 ≡ g 7 → f 8 ≡ g 8 → f 9 ≡ g 9 → f 10 ≡ g 10 → f 11 ≡ g 11 → f 12 ≡ g 12 → f 13 ≡ g 13 → f 14 ≡ g 14 → f 15
-    ≡ g 15
-    → (k : ℕ) → k < 16 → f k ≡ g k
-each_below_16 f g p0 p1 p2 p3 p4 p5 p6 p7 p8 p9 p10 p11 p12 p13 p14 p15 zero low = p0
-each_below_16 f g p0 p1 p2 p3 p4 p5 p6 p7 p8 p9 p10 p11 p12 p13 p14 p15 (suc zero) low = p1
-each_below_16 f g p0 p1 p2 p3 p4 p5 p6 p7 p8 p9 p10 p11 p12 p13 p14 p15 (suc (suc zero)) low = p2
-each_below_16 f g p0 p1 p2 p3 p4 p5 p6 p7 p8 p9 p10 p11 p12 p13 p14 p15 (suc (suc (suc zero))) low = p3
-each_below_16 f g p0 p1 p2 p3 p4 p5 p6 p7 p8 p9 p10 p11 p12 p13 p14 p15 (suc (suc (suc (suc zero)))) low = p4
-each_below_16 f g p0 p1 p2 p3 p4 p5 p6 p7 p8 p9 p10 p11 p12 p13 p14 p15 (suc (suc (suc (suc (suc zero))))) low = p5
-each_below_16 f g p0 p1 p2 p3 p4 p5 p6 p7 p8 p9 p10 p11 p12 p13 p14 p15 (suc (suc (suc (suc (suc (suc zero)))))) low =
-    p6
-each_below_16 f g p0 p1 p2 p3 p4 p5 p6 p7 p8 p9 p10 p11 p12 p13 p14 p15 (suc (suc (suc (suc (suc (suc (suc zero)))))))
-    low = p7
-each_below_16 f g p0 p1 p2 p3 p4 p5 p6 p7 p8 p9 p10 p11 p12 p13 p14 p15
-    (suc (suc (suc (suc (suc (suc (suc (suc zero)))))))) low = p8
-each_below_16 f g p0 p1 p2 p3 p4 p5 p6 p7 p8 p9 p10 p11 p12 p13 p14 p15
-    (suc (suc (suc (suc (suc (suc (suc (suc (suc zero))))))))) low = p9
-each_below_16 f g p0 p1 p2 p3 p4 p5 p6 p7 p8 p9 p10 p11 p12 p13 p14 p15
-    (suc (suc (suc (suc (suc (suc (suc (suc (suc (suc zero)))))))))) low = p10
-each_below_16 f g p0 p1 p2 p3 p4 p5 p6 p7 p8 p9 p10 p11 p12 p13 p14 p15
-    (suc (suc (suc (suc (suc (suc (suc (suc (suc (suc (suc zero))))))))))) low = p11
-each_below_16 f g p0 p1 p2 p3 p4 p5 p6 p7 p8 p9 p10 p11 p12 p13 p14 p15
-    (suc (suc (suc (suc (suc (suc (suc (suc (suc (suc (suc (suc zero)))))))))))) low = p12
-each_below_16 f g p0 p1 p2 p3 p4 p5 p6 p7 p8 p9 p10 p11 p12 p13 p14 p15
-    (suc (suc (suc (suc (suc (suc (suc (suc (suc (suc (suc (suc (suc zero))))))))))))) low = p13
-each_below_16 f g p0 p1 p2 p3 p4 p5 p6 p7 p8 p9 p10 p11 p12 p13 p14 p15
-    (suc (suc (suc (suc (suc (suc (suc (suc (suc (suc (suc (suc (suc (suc zero)))))))))))))) low = p14
-each_below_16 f g p0 p1 p2 p3 p4 p5 p6 p7 p8 p9 p10 p11 p12 p13 p14 p15
-    (suc (suc (suc (suc (suc (suc (suc (suc (suc (suc (suc (suc (suc (suc (suc zero))))))))))))))) low = p15
-each_below_16 f g p0 p1 p2 p3 p4 p5 p6 p7 p8 p9 p10 p11 p12 p13 p14 p15
-    (suc (suc (suc (suc (suc (suc (suc (suc (suc (suc (suc (suc (suc (suc (suc (suc k)))))))))))))))) low = absurd
-    (omega arith)
+-- eight vectors, from what holds of each of them
+pub eight : (P : ℕ → List ℕ → Type 0) (a b c d e f g h : List ℕ) → P 0 a → P 1 b → P 2 c → P 3 d → P 4 e → P 5 f → P 6 g
+    → P 7 h → (j : ℕ) → j < 8 → P j (slice_index_or (a ∷ b ∷ c ∷ d ∷ e ∷ f ∷ g ∷ h ∷ []) j [])
+eight P a b c d e f g h = each_below_8 (λ j. P j (slice_index_or (a ∷ b ∷ c ∷ d ∷ e ∷ f ∷ g ∷ h ∷ []) j []))
 
 -- a vector has the bits of its bytes
 pub shown : (v : List ℕ) (f : ℕ → ℕ) → length v ≡ 16 → ((p : ℕ) → p < 16 → slice_index v p ≡ f p)
@@ -54,209 +27,62 @@ shown v f long same = record { len = long; at = λ p k low small. ap (λ b. bit_
 
 -- ---- four blocks and four rows of bytes
 
-left : (v : List ℕ) (k : ℕ) → length v ≡ 16 → k < 16 → slice_index (v ++ v) k ≡ slice_index v k
-left v k long low = get_or_append_left v v 0 k (omega arith)
+-- what holds of four states holds of any four vectors of 16 bytes
+pub of_states : (P : List ℕ → List ℕ → List ℕ → List ℕ → Type 0)
+    → ((f g h e : ℕ → ℕ → ℕ) → P (state_of f) (state_of g) (state_of h) (state_of e))
+    → (a b c d : List ℕ) → length a ≡ 16 → length b ≡ 16 → length c ≡ 16 → length d ≡ 16 → P a b c d
+of_states P all a b c d k l m n =
+    subst (λ (x : List ℕ). P x b c d) (sym (whole_state a k))
+    (subst (λ (x : List ℕ). P (state_of (cell a)) x c d) (sym (whole_state b l))
+    (subst (λ (x : List ℕ). P (state_of (cell a)) (state_of (cell b)) x d) (sym (whole_state c m))
+    (subst (λ (x : List ℕ). P (state_of (cell a)) (state_of (cell b)) (state_of (cell c)) x) (sym (whole_state d n))
+    (all (cell a) (cell b) (cell c) (cell d)))))
 
-pub row_0 : (a b c d : List ℕ) → length a ≡ 16 → length b ≡ 16 → length c ≡ 16 → length d ≡ 16 → (p : ℕ) → p < 16
-    → slice_index (low_halves (low_words (by_rows a) (by_rows b)) (low_words (by_rows c) (by_rows d))) p
-    ≡ slice_index (slice_index_or (a ∷ b ∷ c ∷ d ∷ []) (p / 4) []) (0 + 4 * column_order (p % 4))
-row_0 a b c d k l m n =
-    each_below_16 (λ p. slice_index (low_halves (low_words (by_rows a) (by_rows b)) (low_words (by_rows c)
-    (by_rows d))) p)
-    (λ p. slice_index (slice_index_or (a ∷ b ∷ c ∷ d ∷ []) (p / 4) []) (0 + 4 * column_order (p % 4)))
-    (left a 0 k (omega arith))
-    (left a 4 k (omega arith))
-    (left a 12 k (omega arith))
-    (left a 8 k (omega arith))
-    (left b 0 l (omega arith))
-    (left b 4 l (omega arith))
-    (left b 12 l (omega arith))
-    (left b 8 l (omega arith))
-    (left c 0 m (omega arith))
-    (left c 4 m (omega arith))
-    (left c 12 m (omega arith))
-    (left c 8 m (omega arith))
-    (left d 0 n (omega arith))
-    (left d 4 n (omega arith))
-    (left d 12 n (omega arith))
-    (left d 8 n (omega arith))
+-- byte p of row r of four blocks, and byte i of the block that has number m in four rows
+abbrev pub byte_in_row : List ℕ → List ℕ → List ℕ → List ℕ → ℕ → ℕ → ℕ
+byte_in_row a b c d r p = slice_index (slice_index_or (a ∷ b ∷ c ∷ d ∷ []) (p / 4) []) (r + 4 * column_order (p % 4))
 
-pub row_1 : (a b c d : List ℕ) → length a ≡ 16 → length b ≡ 16 → length c ≡ 16 → length d ≡ 16 → (p : ℕ) → p < 16
-    → slice_index (high_halves (low_words (by_rows a) (by_rows b)) (low_words (by_rows c) (by_rows d))) p
-    ≡ slice_index (slice_index_or (a ∷ b ∷ c ∷ d ∷ []) (p / 4) []) (1 + 4 * column_order (p % 4))
-row_1 a b c d k l m n =
-    each_below_16 (λ p. slice_index (high_halves (low_words (by_rows a) (by_rows b)) (low_words (by_rows c)
-    (by_rows d))) p)
-    (λ p. slice_index (slice_index_or (a ∷ b ∷ c ∷ d ∷ []) (p / 4) []) (1 + 4 * column_order (p % 4)))
-    (left a 1 k (omega arith))
-    (left a 5 k (omega arith))
-    (left a 13 k (omega arith))
-    (left a 9 k (omega arith))
-    (left b 1 l (omega arith))
-    (left b 5 l (omega arith))
-    (left b 13 l (omega arith))
-    (left b 9 l (omega arith))
-    (left c 1 m (omega arith))
-    (left c 5 m (omega arith))
-    (left c 13 m (omega arith))
-    (left c 9 m (omega arith))
-    (left d 1 n (omega arith))
-    (left d 5 n (omega arith))
-    (left d 13 n (omega arith))
-    (left d 9 n (omega arith))
+abbrev pub byte_in_block : List ℕ → List ℕ → List ℕ → List ℕ → ℕ → ℕ → ℕ
+byte_in_block a b c d m i = slice_index (slice_index_or (a ∷ b ∷ c ∷ d ∷ []) (i % 4) []) (4 * m + column_order (i / 4))
 
-pub row_2 : (a b c d : List ℕ) → length a ≡ 16 → length b ≡ 16 → length c ≡ 16 → length d ≡ 16 → (p : ℕ) → p < 16
-    → slice_index (low_halves (high_words (by_rows a) (by_rows b)) (high_words (by_rows c) (by_rows d))) p
-    ≡ slice_index (slice_index_or (a ∷ b ∷ c ∷ d ∷ []) (p / 4) []) (2 + 4 * column_order (p % 4))
-row_2 a b c d k l m n =
-    each_below_16 (λ p. slice_index (low_halves (high_words (by_rows a) (by_rows b)) (high_words (by_rows c)
-    (by_rows d)))
-    p)
-    (λ p. slice_index (slice_index_or (a ∷ b ∷ c ∷ d ∷ []) (p / 4) []) (2 + 4 * column_order (p % 4)))
-    (left a 2 k (omega arith))
-    (left a 6 k (omega arith))
-    (left a 14 k (omega arith))
-    (left a 10 k (omega arith))
-    (left b 2 l (omega arith))
-    (left b 6 l (omega arith))
-    (left b 14 l (omega arith))
-    (left b 10 l (omega arith))
-    (left c 2 m (omega arith))
-    (left c 6 m (omega arith))
-    (left c 14 m (omega arith))
-    (left c 10 m (omega arith))
-    (left d 2 n (omega arith))
-    (left d 6 n (omega arith))
-    (left d 14 n (omega arith))
-    (left d 10 n (omega arith))
+abbrev RowsAt : List ℕ → List ℕ → List ℕ → List ℕ → ℕ → Type 0
+RowsAt a b c d p =
+    let low = low_words (by_rows a) (by_rows b) in
+    let high = high_words (by_rows a) (by_rows b) in
+    let other_low = low_words (by_rows c) (by_rows d) in
+    let other_high = high_words (by_rows c) (by_rows d) in
+    (slice_index (low_halves low other_low) p ≡ byte_in_row a b c d 0 p)
+    × (slice_index (high_halves low other_low) p ≡ byte_in_row a b c d 1 p)
+    × (slice_index (low_halves high other_high) p ≡ byte_in_row a b c d 2 p)
+    × (slice_index (high_halves high other_high) p ≡ byte_in_row a b c d 3 p)
 
-pub row_3 : (a b c d : List ℕ) → length a ≡ 16 → length b ≡ 16 → length c ≡ 16 → length d ≡ 16 → (p : ℕ) → p < 16
-    → slice_index (high_halves (high_words (by_rows a) (by_rows b)) (high_words (by_rows c) (by_rows d))) p
-    ≡ slice_index (slice_index_or (a ∷ b ∷ c ∷ d ∷ []) (p / 4) []) (3 + 4 * column_order (p % 4))
-row_3 a b c d k l m n =
-    each_below_16 (λ p. slice_index (high_halves (high_words (by_rows a) (by_rows b)) (high_words (by_rows c)
-    (by_rows d))) p)
-    (λ p. slice_index (slice_index_or (a ∷ b ∷ c ∷ d ∷ []) (p / 4) []) (3 + 4 * column_order (p % 4)))
-    (left a 3 k (omega arith))
-    (left a 7 k (omega arith))
-    (left a 15 k (omega arith))
-    (left a 11 k (omega arith))
-    (left b 3 l (omega arith))
-    (left b 7 l (omega arith))
-    (left b 15 l (omega arith))
-    (left b 11 l (omega arith))
-    (left c 3 m (omega arith))
-    (left c 7 m (omega arith))
-    (left c 15 m (omega arith))
-    (left c 11 m (omega arith))
-    (left d 3 n (omega arith))
-    (left d 7 n (omega arith))
-    (left d 15 n (omega arith))
-    (left d 11 n (omega arith))
+pub rows_at : (a b c d : List ℕ) → length a ≡ 16 → length b ≡ 16 → length c ≡ 16 → length d ≡ 16
+    → (p : ℕ) → p < 16 → RowsAt a b c d p
+rows_at =
+    of_states (λ a b c d. (p : ℕ) → p < 16 → RowsAt a b c d p)
+    (λ f g h e. each_below_16 (λ p. RowsAt (state_of f) (state_of g) (state_of h) (state_of e) p)
+    (refl, refl, refl, refl) (refl, refl, refl, refl) (refl, refl, refl, refl) (refl, refl, refl, refl)
+    (refl, refl, refl, refl) (refl, refl, refl, refl) (refl, refl, refl, refl) (refl, refl, refl, refl)
+    (refl, refl, refl, refl) (refl, refl, refl, refl) (refl, refl, refl, refl) (refl, refl, refl, refl)
+    (refl, refl, refl, refl) (refl, refl, refl, refl) (refl, refl, refl, refl) (refl, refl, refl, refl))
 
-pub first_of : (v w : List ℕ) (k : ℕ) → length v ≡ 16 → k < 16 → slice_index (v ++ w) k ≡ slice_index v k
-first_of v w k long low = get_or_append_left v w 0 k (omega arith)
+abbrev BlocksAt : List ℕ → List ℕ → List ℕ → List ℕ → ℕ → Type 0
+BlocksAt a b c d i =
+    let low = low_words a b in
+    let high = high_words a b in
+    let other_low = low_words c d in
+    let other_high = high_words c d in
+    (slice_index (by_columns (low_halves low other_low)) i ≡ byte_in_block a b c d 0 i)
+    × (slice_index (by_columns (high_halves low other_low)) i ≡ byte_in_block a b c d 1 i)
+    × (slice_index (by_columns (low_halves high other_high)) i ≡ byte_in_block a b c d 2 i)
+    × (slice_index (by_columns (high_halves high other_high)) i ≡ byte_in_block a b c d 3 i)
 
-pub second_of : (v w : List ℕ) (k : ℕ) → length v ≡ 16 → k < 16 → slice_index (v ++ w) (16 + k) ≡ slice_index w k
-second_of v w k long low =
-    let place : 16 + k - 16 ≡ k = omega arith in
-    get_or-append_right v w 16 (16 + k) 0 long (omega arith) ∙ ap (slice_index w) place
-
-pub block_0 : (a b c d : List ℕ) → length a ≡ 16 → length b ≡ 16 → length c ≡ 16 → length d ≡ 16 → (i : ℕ) → i < 16
-    → slice_index (by_columns (low_halves (low_words a b) (low_words c d))) i
-    ≡ slice_index (slice_index_or (a ∷ b ∷ c ∷ d ∷ []) (i % 4) []) (4 * 0 + column_order (i / 4))
-block_0 a b c d k l m n =
-    each_below_16 (λ i. slice_index (by_columns (low_halves (low_words a b) (low_words c d))) i)
-    (λ i. slice_index (slice_index_or (a ∷ b ∷ c ∷ d ∷ []) (i % 4) []) (4 * 0 + column_order (i / 4)))
-    (first_of a b 0 k (omega arith))
-    (second_of a b 0 k (omega arith))
-    (first_of c d 0 m (omega arith))
-    (second_of c d 0 m (omega arith))
-    (first_of a b 1 k (omega arith))
-    (second_of a b 1 k (omega arith))
-    (first_of c d 1 m (omega arith))
-    (second_of c d 1 m (omega arith))
-    (first_of a b 3 k (omega arith))
-    (second_of a b 3 k (omega arith))
-    (first_of c d 3 m (omega arith))
-    (second_of c d 3 m (omega arith))
-    (first_of a b 2 k (omega arith))
-    (second_of a b 2 k (omega arith))
-    (first_of c d 2 m (omega arith))
-    (second_of c d 2 m (omega arith))
-
-pub block_1 : (a b c d : List ℕ) → length a ≡ 16 → length b ≡ 16 → length c ≡ 16 → length d ≡ 16 → (i : ℕ) → i < 16
-    → slice_index (by_columns (high_halves (low_words a b) (low_words c d))) i
-    ≡ slice_index (slice_index_or (a ∷ b ∷ c ∷ d ∷ []) (i % 4) []) (4 * 1 + column_order (i / 4))
-block_1 a b c d k l m n =
-    each_below_16 (λ i. slice_index (by_columns (high_halves (low_words a b) (low_words c d))) i)
-    (λ i. slice_index (slice_index_or (a ∷ b ∷ c ∷ d ∷ []) (i % 4) []) (4 * 1 + column_order (i / 4)))
-    (first_of a b 4 k (omega arith))
-    (second_of a b 4 k (omega arith))
-    (first_of c d 4 m (omega arith))
-    (second_of c d 4 m (omega arith))
-    (first_of a b 5 k (omega arith))
-    (second_of a b 5 k (omega arith))
-    (first_of c d 5 m (omega arith))
-    (second_of c d 5 m (omega arith))
-    (first_of a b 7 k (omega arith))
-    (second_of a b 7 k (omega arith))
-    (first_of c d 7 m (omega arith))
-    (second_of c d 7 m (omega arith))
-    (first_of a b 6 k (omega arith))
-    (second_of a b 6 k (omega arith))
-    (first_of c d 6 m (omega arith))
-    (second_of c d 6 m (omega arith))
-
-pub block_2 : (a b c d : List ℕ) → length a ≡ 16 → length b ≡ 16 → length c ≡ 16 → length d ≡ 16 → (i : ℕ) → i < 16
-    → slice_index (by_columns (low_halves (high_words a b) (high_words c d))) i
-    ≡ slice_index (slice_index_or (a ∷ b ∷ c ∷ d ∷ []) (i % 4) []) (4 * 2 + column_order (i / 4))
-block_2 a b c d k l m n =
-    each_below_16 (λ i. slice_index (by_columns (low_halves (high_words a b) (high_words c d))) i)
-    (λ i. slice_index (slice_index_or (a ∷ b ∷ c ∷ d ∷ []) (i % 4) []) (4 * 2 + column_order (i / 4)))
-    (first_of a b 8 k (omega arith))
-    (second_of a b 8 k (omega arith))
-    (first_of c d 8 m (omega arith))
-    (second_of c d 8 m (omega arith))
-    (first_of a b 9 k (omega arith))
-    (second_of a b 9 k (omega arith))
-    (first_of c d 9 m (omega arith))
-    (second_of c d 9 m (omega arith))
-    (first_of a b 11 k (omega arith))
-    (second_of a b 11 k (omega arith))
-    (first_of c d 11 m (omega arith))
-    (second_of c d 11 m (omega arith))
-    (first_of a b 10 k (omega arith))
-    (second_of a b 10 k (omega arith))
-    (first_of c d 10 m (omega arith))
-    (second_of c d 10 m (omega arith))
-
-pub block_3 : (a b c d : List ℕ) → length a ≡ 16 → length b ≡ 16 → length c ≡ 16 → length d ≡ 16 → (i : ℕ) → i < 16
-    → slice_index (by_columns (high_halves (high_words a b) (high_words c d))) i
-    ≡ slice_index (slice_index_or (a ∷ b ∷ c ∷ d ∷ []) (i % 4) []) (4 * 3 + column_order (i / 4))
-block_3 a b c d k l m n =
-    each_below_16 (λ i. slice_index (by_columns (high_halves (high_words a b) (high_words c d))) i)
-    (λ i. slice_index (slice_index_or (a ∷ b ∷ c ∷ d ∷ []) (i % 4) []) (4 * 3 + column_order (i / 4)))
-    (first_of a b 12 k (omega arith))
-    (second_of a b 12 k (omega arith))
-    (first_of c d 12 m (omega arith))
-    (second_of c d 12 m (omega arith))
-    (first_of a b 13 k (omega arith))
-    (second_of a b 13 k (omega arith))
-    (first_of c d 13 m (omega arith))
-    (second_of c d 13 m (omega arith))
-    (first_of a b 15 k (omega arith))
-    (second_of a b 15 k (omega arith))
-    (first_of c d 15 m (omega arith))
-    (second_of c d 15 m (omega arith))
-    (first_of a b 14 k (omega arith))
-    (second_of a b 14 k (omega arith))
-    (first_of c d 14 m (omega arith))
-    (second_of c d 14 m (omega arith))
-
-pub each_below_4 : (P : ℕ → Type 0) → P 0 → P 1 → P 2 → P 3 → (k : ℕ) → k < 4 → P k
-each_below_4 P p q r s zero low = p
-each_below_4 P p q r s (suc zero) low = q
-each_below_4 P p q r s (suc (suc zero)) low = r
-each_below_4 P p q r s (suc (suc (suc zero))) low = s
-each_below_4 P p q r s (suc (suc (suc (suc k)))) low = absurd (omega arith)
+pub blocks_at : (a b c d : List ℕ) → length a ≡ 16 → length b ≡ 16 → length c ≡ 16 → length d ≡ 16
+    → (i : ℕ) → i < 16 → BlocksAt a b c d i
+blocks_at =
+    of_states (λ a b c d. (i : ℕ) → i < 16 → BlocksAt a b c d i)
+    (λ f g h e. each_below_16 (λ i. BlocksAt (state_of f) (state_of g) (state_of h) (state_of e) i)
+    (refl, refl, refl, refl) (refl, refl, refl, refl) (refl, refl, refl, refl) (refl, refl, refl, refl)
+    (refl, refl, refl, refl) (refl, refl, refl, refl) (refl, refl, refl, refl) (refl, refl, refl, refl)
+    (refl, refl, refl, refl) (refl, refl, refl, refl) (refl, refl, refl, refl) (refl, refl, refl, refl)
+    (refl, refl, refl, refl) (refl, refl, refl, refl) (refl, refl, refl, refl) (refl, refl, refl, refl))

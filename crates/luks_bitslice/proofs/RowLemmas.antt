@@ -1,6 +1,6 @@
 -- Rows: XOR, and rotation by columns.
-use Rattle.std.proofs.Common.{◌≡◌, ℕ, ◌+◌, ◌/◌, ◌%◌, ◌<◌, true, eqb, ltb, List, [], ◌∷◌, ◌++◌, length, arith, refl, sym, ap}
-use Rattle.std.proofs.Common.{◌∙◌}
+use Rattle.std.proofs.Common.{◌≡◌, ℕ, ◌+◌, ◌/◌, ◌%◌, ◌<◌, true, eqb, ltb, List, [], ◌∷◌, ◌++◌, length, arith, refl}
+use Rattle.std.proofs.Common.{◌∙◌, sym, ap}
 use Rattle.std.specs.Prelude.{slice_index}
 use Rattle.std.specs.Int.{bit_at}
 use Rattle.std.specs.Int.Bits.{bit_xor}
@@ -48,33 +48,20 @@ sources One = 2 ∷ 0 ∷ 3 ∷ 1 ∷ 6 ∷ 4 ∷ 7 ∷ 5 ∷ 10 ∷ 8 ∷ 11 �
 sources Two = 3 ∷ 2 ∷ 1 ∷ 0 ∷ 7 ∷ 6 ∷ 5 ∷ 4 ∷ 11 ∷ 10 ∷ 9 ∷ 8 ∷ 15 ∷ 14 ∷ 13 ∷ 12 ∷ []
 sources Three = 1 ∷ 3 ∷ 0 ∷ 2 ∷ 5 ∷ 7 ∷ 4 ∷ 6 ∷ 9 ∷ 11 ∷ 8 ∷ 10 ∷ 13 ∷ 15 ∷ 12 ∷ 14 ∷ []
 
-all_inside : (by : Columns) → agree_below (λ q. ltb (rotated_index (column_count by) q) 128) (λ q. true) 128 ≡ true
-all_inside One = refl
-all_inside Two = refl
-all_inside Three = refl
-
-all_from : (by : Columns) → agree_below (λ q. eqb (rotated_index (column_count by) q / 8)
-    (slice_index (sources by) (q / 8))) (λ q. true) 128 ≡ true
-all_from One = refl
-all_from Two = refl
-all_from Three = refl
-
-all_same_bit : (by : Columns) → agree_below (λ q. eqb (rotated_index (column_count by) q % 8) (q % 8)) (λ q. true) 128
-    ≡ true
-all_same_bit One = refl
-all_same_bit Two = refl
-all_same_bit Three = refl
-
-sixteen : (by : Columns) → length (sources by) ≡ 16
-sixteen One = refl
-sixteen Two = refl
-sixteen Three = refl
+-- the same, if the indices are computed
+computed_plane : (a ks : List ℕ) (y t : ℕ → ℕ) (j : ℕ) → IsBitPlane y j a → length ks ≡ 16
+    → agree_below (λ q. ltb (t q) 128) (λ q. true) 128 ≡ true
+    → agree_below (λ q. eqb (t q / 8) (slice_index ks (q / 8))) (λ q. true) 128 ≡ true
+    → agree_below (λ q. eqb (t q % 8) (q % 8)) (λ q. true) 128 ≡ true
+    → IsBitPlane (λ q. y (t q)) j (pick_l 0 (a ++ a) ks)
+computed_plane a ks y t j is long inside place bit =
+    shuffled_plane a ks y t j is long
+    (λ q low. ltb-true (t q) 128 (agree_below_at (λ q. ltb (t q) 128) (λ q. true) 128 q inside low))
+    (same_below (λ q. t q / 8) (λ q. slice_index ks (q / 8)) 128 place)
+    (same_below (λ q. t q % 8) (λ q. q % 8) 128 bit)
 
 pub rotated : (by : Columns) (a : List ℕ) (y : ℕ → ℕ) (j : ℕ) → IsBitPlane y j a
     → IsBitPlane (λ q. y (rotated_index (column_count by) q)) j (pick_l 0 (a ++ a) (sources by))
-rotated by a y j is =
-    let t = rotated_index (column_count by) in
-    shuffled_plane a (sources by) y t j is (sixteen by)
-    (λ q low. ltb-true (t q) 128 (agree_below_at (λ q. ltb (t q) 128) (λ q. true) 128 q (all_inside by) low))
-    (same_below (λ q. t q / 8) (λ q. slice_index (sources by) (q / 8)) 128 (all_from by))
-    (same_below (λ q. t q % 8) (λ q. q % 8) 128 (all_same_bit by))
+rotated One a y j is = computed_plane a (sources One) y (rotated_index 1) j is refl refl refl refl
+rotated Two a y j is = computed_plane a (sources Two) y (rotated_index 2) j is refl refl refl refl
+rotated Three a y j is = computed_plane a (sources Three) y (rotated_index 3) j is refl refl refl refl

@@ -1,2 +1,1 @@
-pub mod OpenLemmas
 pub mod StoredLemmas

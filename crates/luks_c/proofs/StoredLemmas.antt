@@ -10,7 +10,7 @@ use Rattle.luks_cipher.specs.Sector.{Cipher, is_mode_key_length}
 use Rattle.luks_cipher.specs.declared.mode.Mode.{Mode}
 use Rattle.luks_cipher.specs.declared.mode.Mode.TheVariants.{XtsPlain64, XtsPlain, CbcEssivSha256, CbcPlain64}
 use Rattle.luks_verdict.proofs.MadeLemmas.{segment_made}
-use Rattle.luks_verdict.specs.Segment.{segment_from, segment_of_all}
+use Rattle.luks_verdict.specs.Segment.{segment_from}
 use Rattle.luks_verdict.specs.SectorSize.{HasWholeSectors, has_whole_sectors, bytes_of}
 use Rattle.luks_verdict.specs.declared.sector_size.SectorSize.{SectorSize}
 use Rattle.luks_verdict.specs.declared.sector_size.SectorSize.TheVariants.{B512, B1024, B2048, B4096}
@@ -38,9 +38,6 @@ whole_are : (size : Option ℕ) (z : SectorSize) → HasWholeSectors size z → 
 whole_are None z whole = refl
 whole_are (Some bytes) z whole = ap (λ n. n == 0) (whole bytes refl)
 
-abbrev made_of : ℕ → Option ℕ → ℕ → Option SectorSize → Option Mode → Option Segment
-made_of offset size iv z mode = segment_of_all (Some offset) (Some size) (Some iv) z mode
-
 module _ (c : LuksrdVolume) (v : UnlockedVolume) (stored : Stores c v) where
   pub stored_sector : sector_size_in c.sector_size ≡ Some v.segment.sector_size
   stored_sector = ap sector_size_in stored.sector_size ∙ size_again v.segment.sector_size
@@ -59,14 +56,9 @@ module _ (c : LuksrdVolume) (v : UnlockedVolume) (stored : Stores c v) where
   unfolding segment_from
   stored_segment =
       let s = v.segment in
-      ap (λ (z : Option SectorSize). made_of c.offset (size_stored_in c) c.iv_tweak z (mode_in c.mode)) stored_sector
-      ∙ (ap (made_of c.offset (size_stored_in c) c.iv_tweak (Some s.sector_size)) stored_mode
-      ∙ (ap (λ (offset : ℕ). made_of offset (size_stored_in c) c.iv_tweak (Some s.sector_size) (Some s.mode))
-      stored.offset
-      ∙ (ap (λ (size : Option ℕ). made_of s.offset size c.iv_tweak (Some s.sector_size) (Some s.mode)) stored_size
-      ∙ (ap (λ (iv : ℕ). made_of s.offset s.size iv (Some s.sector_size) (Some s.mode)) stored.iv_tweak
-      ∙ sym (segment_made s.offset s.size s.iv_tweak s.sector_size s.mode s.whole_sectors
-      (whole_are s.size s.sector_size s.whole_sectors))))))
+      rw (stored_sector, stored_mode, stored.offset, stored_size, stored.iv_tweak)
+      (sym (segment_made s.offset s.size s.iv_tweak s.sector_size s.mode s.whole_sectors
+      (whole_are s.size s.sector_size s.whole_sectors)))
 
   -- if the mode has keys of this length, the code of decrypting is that of the range: the struct is not refused as one
   -- that holds no volume

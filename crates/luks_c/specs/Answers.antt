@@ -51,8 +51,7 @@ pub record Refused (c : LuksrdOptions) (header pass : List ℕ) (code : ℕ) (me
   pub says : StoresMessage message refusal
   pub opening : OpeningMessage refusal
   pub read : refusal ≢ ReadFailed
-  pub refuses : aborts refusal ≡ false → (image : List ℕ) → BeginsAs image header
-      → Refuses options image pass refusal
+  pub refuses : aborts refusal ≡ false → (image : List ℕ) → BeginsAs image header → Refuses options image pass refusal
 
 -- the number of bytes in an ending's message
 abbrev pub fault_bytes : VolumeFault → ℕ

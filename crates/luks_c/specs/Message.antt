@@ -12,13 +12,10 @@ pub record StoresText (c : LuksrdMessage) (status : ℕ) (text : List ℕ) : Typ
   pub is_text : take c.len c.text ≡ take c.len text
   pub is_rest : drop c.len c.text ≡ replicate (1016 - c.len) 0
 
--- the line of a message without its newline
-abbrev pub sentence_of : Message → List ℕ
-sentence_of message = take (length (line_of message) - 1) (line_of message)
-
--- the struct holds this message
+-- the struct holds this message: its status, and its line without the newline
 abbrev pub StoresMessage : LuksrdMessage → Message → Type 0
-StoresMessage c message = StoresText c (status_of message) (sentence_of message)
+StoresMessage c message =
+    StoresText c (status_of message) (take (length (line_of message) - 1) (line_of message))
 
 -- the struct holds the status and the sentence of this code
 abbrev pub StoresCode : LuksrdMessage → ℕ → Type 0

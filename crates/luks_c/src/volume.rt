@@ -19,11 +19,11 @@ const CAPACITY: usize = 64;
 pub struct LuksrdVolume {
     /// The offset of the payload in its image, in bytes.
     pub offset: u64,
-    /// The payload's length in bytes, if it is fixed, and else 0.
+    /// The payload's length in bytes if it is fixed, otherwise 0.
     pub size: u64,
     /// The data unit number of the first sector.
     pub iv_tweak: u64,
-    /// 1 if the payload's length is fixed, and else 0.
+    /// 1 if the payload's length is fixed, otherwise 0.
     pub has_size: u32,
     /// The length of a sector in bytes.
     pub sector_size: u32,

@@ -11,13 +11,11 @@ use Rattle.luks_header.specs.declared.header.Header.TheVariants.{V1, V2}
 use Rattle.luks_verdict.specs.Slot.{material_end}
 use Rattle.luks_verdict.specs.declared.refusal.SegmentFault.{SegmentFault}
 use Rattle.luks_verdict.specs.declared.refusal.SkipReason.{SkipReason}
-use Rattle.luks_verdict.specs.declared.refusal.SkipReason.TheVariants.{State, Kind, Member, Argon2i, Argon2id, Kdf}
-use Rattle.luks_verdict.specs.declared.refusal.SkipReason.TheVariants.{Hash, Encryption, KeySize, Stripes, Iterations}
-use Rattle.luks_verdict.specs.declared.refusal.SkipReason.TheVariants.{Area, Digest}
+use Rattle.luks_verdict.specs.declared.refusal.SkipReason.TheVariants.{Argon2i, Argon2id}
 use Rattle.luks_verdict.specs.declared.segment.Segment.{Segment}
 use Rattle.luks_verdict.specs.declared.slot.Slot.{Slot}
 use Rattle.luks_verdict.specs.declared.slot.Verdict.{Verdict}
-use Rattle.luks_verdict.specs.declared.slot.Verdict.TheVariants.{Usable, Disabled, Skipped}
+use Rattle.luks_verdict.specs.declared.slot.Verdict.TheVariants.{Usable, Skipped}
 use Rattle.luks_check.specs.Findings2.{pair_finding_line}
 use Rattle.luks_dump.specs.DumpLine.{field}
 
@@ -43,19 +41,9 @@ segment_finding (Err fault) = field (codes "segment") (fault_text fault)
 -- whether a skipped key slot is a finding. A slot that uses Argon2 is not: luksrd cannot open it, and does not check
 -- the rest of it
 abbrev pub is_finding : SkipReason → Bool
-is_finding State = true
-is_finding Kind = true
-is_finding Member = true
 is_finding Argon2i = false
 is_finding Argon2id = false
-is_finding Kdf = true
-is_finding Hash = true
-is_finding Encryption = true
-is_finding KeySize = true
-is_finding Stripes = true
-is_finding Iterations = true
-is_finding Area = true
-is_finding Digest = true
+is_finding _ = true
 
 -- the finding about the skipped key slot with this number
 abbrev pub skip_finding : ℕ → SkipReason → List ℕ
@@ -63,9 +51,8 @@ skip_finding number reason =
     if is_finding reason then field (codes "slot " ++ decimal number) (reason_text reason) else []
 
 abbrev pub slot_finding : ℕ × Verdict → List ℕ
-slot_finding (number, Usable slot) = []
-slot_finding (number, Disabled) = []
 slot_finding (number, Skipped reason) = skip_finding number reason
+slot_finding _ = []
 
 -- the findings about these key slots
 abbrev pub slot_findings : List (ℕ × Verdict) → List ℕ

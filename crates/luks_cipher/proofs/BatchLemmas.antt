@@ -1,11 +1,10 @@
 -- Batches of 32 blocks of a unit.
-use Rattle.std.proofs.Common.{◌≡◌, ℕ, zero, suc, ◌+◌, ◌-◌, ◌*◌, ◌<◌, ◌≤◌, List, ◌++◌, length, take, drop}
-use Rattle.std.proofs.Common.{append_assoc, arith, refl, sym, ap, subst, ◌∙◌}
+use Rattle.std.proofs.Common.{◌≡◌, ℕ, zero, suc, ◌+◌, ◌-◌, ◌*◌, ◌<◌, ◌≤◌, List, length, take, drop}
+use Rattle.std.proofs.Common.{arith, refl, sym, ap, subst, ◌∙◌}
 use Rattle.std.specs.Int.Bits.{bit_xor}
 use Rattle.std.specs.Simd.Lanes.{zip2, put_chunk}
 use Rattle.std.proofs.lemmas.Simd.{get_or-zip2, length-zip2, put_chunk_whole}
-use Rattle.std.proofs.lemmas.List.{append-nil, take_all, take-take, drop-take, drop-drop}
-use Rattle.std.proofs.lemmas.Slice.{take-put_mid, drop-put_mid}
+use Rattle.std.proofs.lemmas.List.{take_all, take-take, drop-take, drop-drop}
 use borrow.Rule.Slice.PartMut.{put_mid}
 use Rattle.luks_aes.specs.Field.{◌⊕◌}
 use Rattle.luks_aes.specs.Aes.{cell, decrypted}
@@ -14,8 +13,8 @@ use Rattle.luks_aes.proofs.InvMixedLemmas.{same_cells}
 use Rattle.luks_cipher.specs.Xts.{data_key, doubled, tweak_of, block_xor, block_at, block_decrypted, joined}
 use Rattle.luks_cipher.specs.Batches.{tweak_after, with_tweaks}
 use Rattle.luks_cipher.specs.Cbc.{block_before}
-use Rattle.luks_cipher.proofs.TweakLemmas.{IsDoneBefore}
-use Rattle.luks_cipher.proofs.UnitsUndone.{joined_at, joined_same}
+use Rattle.luks_cipher.proofs.TweakLemmas.{IsDoneBefore, done_many}
+use Rattle.luks_cipher.proofs.UnitsUndone.{sum_len, joined_at, joined_same}
 
 -- ---- XORs of blocks
 
@@ -32,51 +31,22 @@ piece_sum piece iv long same =
     ∙ same_cells (cell sum) (λ r c. cell piece r c ⊕ cell iv r c)
     (λ r c low small. get_or-zip2 bit_xor piece iv (r + 4 * c) 0 0 0 (omega arith) (omega arith))
 
-pub sum_len : (a b : List ℕ) → length (block_xor a b) ≡ 16
-unfolding block_xor
-sum_len a b = refl
-
 -- ---- joined blocks
-
-joined_more : (f : ℕ → List ℕ) (a b : ℕ) → joined f (a + b) ≡ joined f a ++ joined (λ n. f (a + n)) b
-unfolding joined
-joined_more f a zero =
-    let none : a + 0 ≡ a = omega arith in
-    rw none (sym (append-nil (joined f a)))
-joined_more f a (suc b) =
-    let next : a + suc b ≡ suc (a + b) = omega arith in
-    rw next (ap (λ x. x ++ f (a + b)) (joined_more f a b) ∙ append_assoc (joined f a) (joined (λ n. f (a + n)) b)
-    (f (a + b)))
-
--- a unit with n more blocks done at once
-done_many : (f : ℕ → List ℕ) (old new piece : List ℕ) (at k j n : ℕ) → at ≡ 16 * j → k ≡ 16 * n
-    → IsDoneBefore f old new j → 16 * j + 16 * n ≤ length new → length piece ≡ 16 * n
-    → piece ≡ joined (λ m. f (j + m)) n → IsDoneBefore f old (put_mid at k new piece) (j + n)
-done_many f old new piece at k j n place size before capacity long is =
-    let next = 16 * (j + n) in
-    let split : next ≡ 16 * j + 16 * n = omega arith in
-    let rest : drop next new ≡ drop next old =
-    rw (split, ← drop-drop (16 * n) (16 * j) new, ← drop-drop (16 * n) (16 * j) old) (ap (drop (16 * n)) before.left) in
-    let start : take at new ≡ joined f j = ap (λ i. take i new) place ∙ before.done in
-    record {
-      done = take-put_mid at k new piece next (omega arith) (omega arith)
-          ∙ (λ i. start i ++ is i) ∙ sym (joined_more f j n);
-      left = drop-put_mid at k new piece next (omega arith) (omega arith) (omega arith) ∙ rest;
-    }
 
 -- the same relation with an equal count of blocks
 pub done_moved : (f : ℕ → List ℕ) (old new : List ℕ) (j k : ℕ) → j ≡ k → IsDoneBefore f old new j
     → IsDoneBefore f old new k
 done_moved f old new j k same is = subst (λ (n : ℕ). IsDoneBefore f old new n) same is
 
--- a unit with batch i done too
-pub batch_done : (f : ℕ → List ℕ) (old new piece : List ℕ) (i : ℕ) → IsDoneBefore f old new (32 * i)
-    → 512 * i + 512 ≤ length new → length piece ≡ 512 → piece ≡ joined (λ m. f (32 * i + m)) 32
+-- a unit with batch i done too, from what each block of the batch becomes
+pub batch_done : (f g : ℕ → List ℕ) (old new piece : List ℕ) (i : ℕ) → IsDoneBefore f old new (32 * i)
+    → 512 * i + 512 ≤ length new → length piece ≡ 512 → piece ≡ joined g 32
+    → ((n : ℕ) → n < 32 → g n ≡ f (32 * i + n))
     → IsDoneBefore f old (put_mid (512 * i) (512 * i + 512 - 512 * i) new piece) (32 * (i + 1))
-batch_done f old new piece i before capacity long is =
+batch_done f g old new piece i before capacity long is same =
     done_moved f old _ (32 * i + 32) (32 * (i + 1)) (omega arith)
     (done_many f old new piece (512 * i) (512 * i + 512 - 512 * i) (32 * i) 32 (omega arith) (omega arith) before
-    (omega arith) (omega arith) is)
+    (omega arith) (omega arith) (is ∙ joined_same g (λ m. f (32 * i + m)) 32 same))
 
 -- block m of batch i, as the code reads it
 pub batch_block : (old new : List ℕ) (i : ℕ) → drop (16 * (32 * i)) new ≡ drop (16 * (32 * i)) old
@@ -95,7 +65,7 @@ batch_block old new i left m low =
 
 -- ---- tweaks
 
-tweak_more : (key : List ℕ) (number j n : ℕ) → tweak_after (tweak_of key number j) n ≡ tweak_of key number (j + n)
+pub tweak_more : (key : List ℕ) (number j n : ℕ) → tweak_after (tweak_of key number j) n ≡ tweak_of key number (j + n)
 unfolding tweak_of tweak_after
 tweak_more key number j zero =
     let none : j + 0 ≡ j = omega arith in
@@ -150,19 +120,6 @@ xts_batch key tweak old s t new masked back unmasked =
     (ap (λ x. block_at x n) masked ∙ joined_at mask 32 n (λ j below. sum_len (block_at old j) (tweak_after tweak j))
     low)))
 
--- a decrypted batch that has the blocks of a unit from block j on
-pub xts_unit_batch : (key : List ℕ) (number j : ℕ) (tweak old batch new : List ℕ) → tweak ≡ tweak_of key number j
-    → ((m : ℕ) → m < 32 → block_at batch m ≡ block_at old (j + m))
-    → new ≡ joined (λ n. block_decrypted key (tweak_after tweak n) (block_at batch n)) 32
-    → new ≡ joined (λ m. block_decrypted key (tweak_of key number (j + m)) (block_at old (j + m))) 32
-xts_unit_batch key number j tweak old batch new first same is =
-    is
-    ∙ joined_same (λ n. block_decrypted key (tweak_after tweak n) (block_at batch n))
-    (λ m. block_decrypted key (tweak_of key number (j + m)) (block_at old (j + m))) 32
-    (λ n low.
-    let here = ap (λ x. tweak_after x n) first ∙ tweak_more key number j n in
-    (λ i. block_decrypted key (here i) (same n low i)))
-
 -- ---- CBC
 
 pub cbc_batch : (key before old t new : List ℕ) → ((n : ℕ) → n < 32 → block_at t n ≡ decrypted key (block_at old n))
@@ -174,7 +131,7 @@ cbc_batch key before old t new back is =
     (λ n. block_xor (decrypted key (block_at old n)) (block_before before old n)) 32
     (λ n low. ap (λ b. block_xor b (block_before before old n)) (back n low))
 
-before_same : (iv before old batch : List ℕ) (j n : ℕ) → before ≡ block_before iv old j
+pub before_same : (iv before old batch : List ℕ) (j n : ℕ) → before ≡ block_before iv old j
     → ((m : ℕ) → m < 32 → block_at batch m ≡ block_at old (j + m)) → n ≤ 32
     → block_before before batch n ≡ block_before iv old (j + n)
 unfolding block_before
@@ -184,18 +141,6 @@ before_same iv before old batch j zero first same low =
 before_same iv before old batch j (suc n) first same low =
     let next : j + suc n ≡ suc (j + n) = omega arith in
     rw next (same n (omega arith))
-
-pub cbc_unit_batch : (key iv : List ℕ) (j : ℕ) (before old batch new : List ℕ) → before ≡ block_before iv old j
-    → ((m : ℕ) → m < 32 → block_at batch m ≡ block_at old (j + m))
-    → new ≡ joined (λ n. block_xor (decrypted key (block_at batch n)) (block_before before batch n)) 32
-    → new ≡ joined (λ m. block_xor (decrypted key (block_at old (j + m))) (block_before iv old (j + m))) 32
-cbc_unit_batch key iv j before old batch new first same is =
-    is
-    ∙ joined_same (λ n. block_xor (decrypted key (block_at batch n)) (block_before before batch n))
-    (λ m. block_xor (decrypted key (block_at old (j + m))) (block_before iv old (j + m))) 32
-    (λ n low.
-    let here = before_same iv before old batch j n first same (omega arith) in
-    (λ i. block_xor (decrypted key (same n low i)) (here i)))
 
 -- the block before the batch after batch i
 pub before_next : (iv before old batch last : List ℕ) (i : ℕ) → before ≡ block_before iv old (32 * i)

@@ -1,13 +1,14 @@
 -- The halves of a key, doubled tweaks, and the blocks of a data unit.
-use Rattle.std.proofs.Common.{◌≡◌, ℕ, ◌-◌, ◌*◌, ◌/◌, ◌≤◌, List, ◌+◌, ◌++◌, length}
-use Rattle.std.proofs.Common.{take, drop, length-append, add-one, arith, refl, sym, ap, ◌∙◌}
+use Rattle.std.proofs.Common.{◌≡◌, ℕ, zero, suc, ◌-◌, ◌*◌, ◌/◌, ◌≤◌, List, ◌+◌, ◌++◌, length}
+use Rattle.std.proofs.Common.{take, drop, length-append, append_assoc, add-one, arith, refl, sym, ap, subst, ◌∙◌}
 use Rattle.std.specs.Int.{w128, to_le_bytes}
-use Rattle.std.proofs.lemmas.List.{take_at, drop_at, take_all, drop-drop}
+use Rattle.std.proofs.lemmas.List.{append-nil, take_at, drop_at, take_all, drop-drop}
 use Rattle.std.proofs.lemmas.Slice.{take-put_mid, drop-put_mid}
 use borrow.Rule.Slice.PartMut.{put_mid}
 use Rattle.luks_aes.specs.Aes.{encrypted, decrypted}
+use Rattle.luks_aes.specs.Bytes.{IsBytes}
 use Rattle.luks_cipher.specs.Xts.{data_key, tweak_key, doubled, tweak_of, block_at, joined, block_xor}
-use Rattle.luks_cipher.specs.Xts.{block_encrypted, block_decrypted, xts_encrypted, xts_decrypted}
+use Rattle.luks_cipher.specs.Xts.{block_encrypted, block_decrypted}
 
 -- ---- the two halves of a key
 pub halves : (a b key : List ℕ) → length a ≡ length b → a ++ b ≡ key → (data_key key ≡ a) × (tweak_key key ≡ b)
@@ -41,26 +42,54 @@ pub done_none : (f : ℕ → List ℕ) (old : List ℕ) → IsDoneBefore f old o
 unfolding joined
 done_none f old = record { done = refl; left = refl }
 
+joined_more : (f : ℕ → List ℕ) (a b : ℕ) → joined f (a + b) ≡ joined f a ++ joined (λ n. f (a + n)) b
+unfolding joined
+joined_more f a zero =
+    let none : a + 0 ≡ a = omega arith in
+    rw none (sym (append-nil (joined f a)))
+joined_more f a (suc b) =
+    let next : a + suc b ≡ suc (a + b) = omega arith in
+    rw next (ap (λ x. x ++ f (a + b)) (joined_more f a b) ∙ append_assoc (joined f a) (joined (λ n. f (a + n)) b)
+    (f (a + b)))
+
+-- a unit with n more blocks done at once
+pub done_many : (f : ℕ → List ℕ) (old new piece : List ℕ) (at k j n : ℕ) → at ≡ 16 * j → k ≡ 16 * n
+    → IsDoneBefore f old new j → 16 * j + 16 * n ≤ length new → length piece ≡ 16 * n
+    → piece ≡ joined (λ m. f (j + m)) n → IsDoneBefore f old (put_mid at k new piece) (j + n)
+done_many f old new piece at k j n place size before capacity long is =
+    let next = 16 * (j + n) in
+    let split : next ≡ 16 * j + 16 * n = omega arith in
+    let rest : drop next new ≡ drop next old =
+    rw (split, ← drop-drop (16 * n) (16 * j) new, ← drop-drop (16 * n) (16 * j) old) (ap (drop (16 * n)) before.left) in
+    let start : take at new ≡ joined f j = ap (λ i. take i new) place ∙ before.done in
+    record {
+      done = take-put_mid at k new piece next (omega arith) (omega arith)
+          ∙ (λ i. start i ++ is i) ∙ sym (joined_more f j n);
+      left = drop-put_mid at k new piece next (omega arith) (omega arith) (omega arith) ∙ rest;
+    }
+
 pub done_more : (f : ℕ → List ℕ) (old new piece : List ℕ) (j : ℕ) → IsDoneBefore f old new j → 16 * j + 16 ≤ length new
     → length piece ≡ 16 → piece ≡ f j → IsDoneBefore f old (put_mid (16 * j) (16 * j + 16 - 16 * j) new piece) (j + 1)
 unfolding joined
 done_more f old new piece j before capacity size is =
-    let at = 16 * j in
-    let next = 16 * (j + 1) in
-    let split : next ≡ at + 16 = omega arith in
-    let put = put_mid at (at + 16 - at) new piece in
-    let rest : drop next new ≡ drop next old =
-    rw (split, ← drop-drop 16 at new, ← drop-drop 16 at old) (ap (drop 16) before.left) in
-    record {
-      done = take-put_mid at (at + 16 - at) new piece next (omega arith) (omega arith)
-          ∙ rw (add-one, before.done, is) refl;
-      left = drop-put_mid at (at + 16 - at) new piece next (omega arith) (omega arith) (omega arith) ∙ rest;
-    }
+    let here : j ≡ j + 0 = omega arith in
+    done_many f old new piece (16 * j) (16 * j + 16 - 16 * j) j 1 refl (omega arith) before (omega arith) (omega arith)
+    (is ∙ ap f here)
 
 pub done_all : (f : ℕ → List ℕ) (old new : List ℕ) (j n : ℕ) → IsDoneBefore f old new j → length new ≡ 16 * j → j ≡ n
     → new ≡ joined f n
 done_all f old new j n before size at_end =
     sym (take_all (16 * j) new (omega arith)) ∙ before.done ∙ ap (joined f) at_end
+
+-- a unit of bytes whose first j blocks are done, with the block that the next one needs
+pub record IsProgress (f t : ℕ → List ℕ) (old new own : List ℕ) (j : ℕ) : Type 0 where
+  pub bytes : IsBytes old
+  pub next : own ≡ t j
+  pub done : IsDoneBefore f old new j
+
+pub progress_moved : (f t : ℕ → List ℕ) (old new own : List ℕ) (j k : ℕ) → j ≡ k → IsProgress f t old new own j
+    → IsProgress f t old new own k
+progress_moved f t old new own j k same is = subst (λ (n : ℕ). IsProgress f t old new own n) same is
 
 -- the slice that the code reads is block j
 pub block_is : (old new : List ℕ) (j : ℕ) → drop (16 * j) new ≡ drop (16 * j) old
@@ -82,15 +111,3 @@ pub next_tweak : (key : List ℕ) (number j : ℕ) (tweak next : List ℕ) → t
     → next ≡ doubled tweak → next ≡ tweak_of key number (j + 1)
 unfolding tweak_of
 next_tweak key number j tweak next same is = rw add-one (is ∙ ap doubled same)
-
-pub encrypted_unit : (key : List ℕ) (number : ℕ) (old new : List ℕ) (j : ℕ)
-    → IsDoneBefore (λ j. block_encrypted key (tweak_of key number j) (block_at old j)) old new j
-    → length new ≡ 16 * j → j ≡ length old / 16 → new ≡ xts_encrypted key number old
-unfolding xts_encrypted
-encrypted_unit key number old new j before size at_end = done_all _ old new j (length old / 16) before size at_end
-
-pub decrypted_unit : (key : List ℕ) (number : ℕ) (old new : List ℕ) (j : ℕ)
-    → IsDoneBefore (λ j. block_decrypted key (tweak_of key number j) (block_at old j)) old new j
-    → length new ≡ 16 * j → j ≡ length old / 16 → new ≡ xts_decrypted key number old
-unfolding xts_decrypted
-decrypted_unit key number old new j before size at_end = done_all _ old new j (length old / 16) before size at_end

@@ -3,7 +3,7 @@ use Rattle.std.proofs.Common.{◌≡◌, ℕ, zero, suc, ◌+◌, ◌*◌, ◌%�
 use Rattle.std.proofs.Common.{length-drop, inl, inr, arith, refl, sym, ap, ◌∙◌}
 use Rattle.std.specs.Int.{w128, to_le_bytes, from_le_bytes}
 use Rattle.std.proofs.lemmas.Bool.{cases_lt}
-use Rattle.std.proofs.lemmas.List.{length-take-le, take-append-le, drop-append-le, take_all, drop_at}
+use Rattle.std.proofs.lemmas.List.{take-append-le, drop-append-le, take_all, drop_at}
 use Rattle.std.proofs.Math.Seq.{take-add}
 use Rattle.luks_aes.specs.Field.{◌⊕◌}
 use Rattle.luks_aes.specs.Aes.{cell, encrypted, decrypted}
@@ -14,6 +14,7 @@ use Rattle.luks_aes.proofs.ByteLists.{IsState, made_state, xor_byte, bytes_nil, 
 use Rattle.luks_aes.proofs.ByteLists.{encrypted_state}
 use Rattle.luks_aes.proofs.Undone.{whole_state, same_states, xor_twice, decrypted-encrypted}
 use Rattle.luks_aes.proofs.Redone.{decrypted_state, encrypted-decrypted}
+use Rattle.luks_aes_batch.proofs.KeyLemmas.{block_state}
 
 -- ---- one block
 
@@ -28,6 +29,10 @@ unfolding block_xor
 sum_twice a b len =
     same_states (λ r c. (cell a r c ⊕ cell b r c) ⊕ cell b r c) (cell a) (λ r c. xor_twice (cell a r c) (cell b r c))
     ∙ sym (whole_state a len)
+
+pub sum_len : (a b : List ℕ) → length (block_xor a b) ≡ 16
+unfolding block_xor
+sum_len a b = refl
 
 block_undone : (key tweak block : List ℕ) → IsBytes key → IsState tweak → IsState block
     → block_decrypted key tweak (block_encrypted key tweak block) ≡ block
@@ -108,64 +113,53 @@ joined_blocks unit (suc n) =
     let more : 16 * suc n ≡ 16 * n + 16 = omega arith in
     rw (more, joined_blocks unit n) (sym (take-add (16 * n) 16 unit))
 
-pub block_state : (unit : List ℕ) (n j : ℕ) → length unit ≡ 16 * n → j < n → IsBytes unit → IsState (block_at unit j)
-block_state unit n j size low all = record {
-  len =
-      let capacity : 16 ≤ length (drop (16 * j) unit) = rw (length-drop (16 * j) unit) (omega arith) in
-      length-take-le 16 (drop (16 * j) unit) capacity;
-  bytes = bytes_take 16 (drop (16 * j) unit) (bytes_drop (16 * j) unit all);
-}
-
 -- ---- data units
 
 block_encrypted_len : (key tweak block : List ℕ) → length (block_encrypted key tweak block) ≡ 16
-unfolding block_encrypted block_xor
-block_encrypted_len key tweak block = refl
-
--- if g undoes f on each block, it undoes f on a unit
-both_ways : (f g : ℕ → List ℕ → List ℕ) (unit : List ℕ) (n : ℕ) → length unit ≡ 16 * n → IsBytes unit
-    → ((j : ℕ) (block : List ℕ) → length (f j block) ≡ 16)
-    → ((j : ℕ) (block : List ℕ) → IsState block → g j (f j block) ≡ block)
-    → joined (λ j. g j (block_at (joined (λ j. f j (block_at unit j)) n) j)) n ≡ unit
-both_ways f g unit n size all sizes undoes =
-    let there : ℕ → List ℕ = λ j. f j (block_at unit j) in
-    joined_same (λ j. g j (block_at (joined there n) j)) (block_at unit) n
-    (λ j low.
-    ap (g j) (joined_at there n j (λ k below. sizes k (block_at unit k)) low)
-    ∙ undoes j (block_at unit j) (block_state unit n j size low all))
-    ∙ joined_blocks unit n ∙ take_all (16 * n) unit (omega arith)
+unfolding block_encrypted
+block_encrypted_len key tweak block = sum_len (encrypted (data_key key) (block_xor block tweak)) tweak
 
 block_decrypted_len : (key tweak block : List ℕ) → length (block_decrypted key tweak block) ≡ 16
-unfolding block_decrypted block_xor
-block_decrypted_len key tweak block = refl
+unfolding block_decrypted
+block_decrypted_len key tweak block = sum_len (decrypted (data_key key) (block_xor block tweak)) tweak
 
 pub joined_count : (f : ℕ → List ℕ) (n : ℕ) → ((j : ℕ) → length (f j) ≡ 16) → length (joined f n) / 16 ≡ n
 joined_count f n sizes = rw (joined_length f n (λ j low. sizes j)) (omega arith)
+
+-- if g undoes f on each block, it undoes f on a unit
+unit_undone : (f g : ℕ → List ℕ → List ℕ) (unit : List ℕ) → length unit % 16 ≡ 0 → IsBytes unit
+    → ((j : ℕ) (block : List ℕ) → length (f j block) ≡ 16)
+    → ((j : ℕ) (block : List ℕ) → IsState block → g j (f j block) ≡ block)
+    → joined (λ j. g j (block_at (joined (λ j. f j (block_at unit j)) (length unit / 16)) j))
+    (length (joined (λ j. f j (block_at unit j)) (length unit / 16)) / 16) ≡ unit
+unit_undone f g unit whole all sizes undoes =
+    let n = length unit / 16 in
+    let size : length unit ≡ 16 * n = omega arith in
+    let there : ℕ → List ℕ = λ j. f j (block_at unit j) in
+    let count = joined_count there n (λ j. sizes j (block_at unit j)) in
+    rw count
+    (joined_same (λ j. g j (block_at (joined there n) j)) (block_at unit) n
+    (λ j low.
+    ap (g j) (joined_at there n j (λ k below. sizes k (block_at unit k)) low)
+    ∙ undoes j (block_at unit j) (block_state unit n j size low all))
+    ∙ joined_blocks unit n ∙ take_all (16 * n) unit (omega arith))
 
 -- decryption undoes encryption
 pub xts_decrypted-xts_encrypted : (key : List ℕ) (number : ℕ) (unit : List ℕ) → IsBytes key → IsBytes unit
     → length unit % 16 ≡ 0 → xts_decrypted key number (xts_encrypted key number unit) ≡ unit
 unfolding xts_encrypted xts_decrypted
 xts_decrypted-xts_encrypted key number unit keys all whole =
-    let n = length unit / 16 in
-    let count = joined_count (λ j. block_encrypted key (tweak_of key number j) (block_at unit j)) n
-    (λ j. block_encrypted_len key (tweak_of key number j) (block_at unit j)) in
-    rw count
-    (both_ways (λ j. block_encrypted key (tweak_of key number j)) (λ j. block_decrypted key (tweak_of key number j))
-    unit n (omega arith) all
+    unit_undone (λ j. block_encrypted key (tweak_of key number j)) (λ j. block_decrypted key (tweak_of key number j))
+    unit whole all
     (λ j block. block_encrypted_len key (tweak_of key number j) block)
-    (λ j block is. block_undone key (tweak_of key number j) block keys (tweak_state key number j keys) is))
+    (λ j block is. block_undone key (tweak_of key number j) block keys (tweak_state key number j keys) is)
 
 -- encryption undoes decryption
 pub xts_encrypted-xts_decrypted : (key : List ℕ) (number : ℕ) (unit : List ℕ) → IsBytes key → IsBytes unit
     → length unit % 16 ≡ 0 → xts_encrypted key number (xts_decrypted key number unit) ≡ unit
 unfolding xts_encrypted xts_decrypted
 xts_encrypted-xts_decrypted key number unit keys all whole =
-    let n = length unit / 16 in
-    let count = joined_count (λ j. block_decrypted key (tweak_of key number j) (block_at unit j)) n
-    (λ j. block_decrypted_len key (tweak_of key number j) (block_at unit j)) in
-    rw count
-    (both_ways (λ j. block_decrypted key (tweak_of key number j)) (λ j. block_encrypted key (tweak_of key number j))
-    unit n (omega arith) all
+    unit_undone (λ j. block_decrypted key (tweak_of key number j)) (λ j. block_encrypted key (tweak_of key number j))
+    unit whole all
     (λ j block. block_decrypted_len key (tweak_of key number j) block)
-    (λ j block is. block_redone key (tweak_of key number j) block keys (tweak_state key number j keys) is))
+    (λ j block is. block_redone key (tweak_of key number j) block keys (tweak_state key number j keys) is)

@@ -1,21 +1,25 @@
--- How a run of a command is compared with the outcome that is specified for it.
+-- How a run of a command is compared with the outcome that is specified for it: with an attached header, and with a
+-- detached one. Then header and key areas come from the header's file, and the payload from the image, at the segment's
+-- own offset.
 use Rattle.std.specs.Prelude.{◌≡◌, ℕ, ◌<◌, ◌^◌, max, List, length, Option, Some, Bool, true, ◌&&◌, not, ◌⊎◌, is_err}
+use Rattle.std.specs.Prelude.{false}
 use Rattle.luks_io.specs.Counts.{Reads, Writes, with_ahead}
 use Rattle.luks_io.specs.declared.counts.ReadCounts.{ReadCounts}
 use Rattle.luks_io.specs.declared.counts.WriteCounts.{WriteCounts}
 use Rattle.luks_io.specs.Devices.{Appended, ConsumedExactly, IfKnown}
-use Rattle.luks_cli.specs.VolumeParts.{PromptCat}
+use Rattle.luks_cli.specs.Unlocking.{PromptCat, PromptDetachedCat}
 use Rattle.luks_request.specs.Request.{Request, VolumeRequest, test_passphrase, luks_cat, af_split}
-use Rattle.luks_cli.specs.Outcome.{outcome_of}
+use Rattle.luks_cli.specs.Outcome.{outcome_of, detached_outcome_of}
+use Rattle.luks_runs.specs.Location.{HeaderReader, detached_header_of}
 use Rattle.luks_runs.specs.Payload.{max_needed}
-use Rattle.luks_runs.specs.Run.{Promptness, RunMatches, ConsumedNothing, AnyPromptness}
-use Rattle.luks_runs.specs.Run.{is_run_read_failure, is_run_write_failure}
-use Rattle.luks_runs.specs.Stripe.{max_key_len}
-use Rattle.luks_runs.specs.StripeParts.{PromptSplit}
-use Rattle.luks_unlock.specs.Found.{HasSegment}
-use Rattle.luks_unlock.specs.Volume.{slot_outcome, volume_of, volume_outcome}
+use Rattle.luks_runs.specs.Run.{Promptness, RunMatches, ConsumedNothing, AnyPromptness, is_run_read_failure}
+use Rattle.luks_runs.specs.Run.{is_run_write_failure, DetachedRunMatches}
+use Rattle.luks_runs.specs.Stripe.{max_key_len, PromptSplit}
+use Rattle.luks_unlock.specs.Found.{HasSegment, HasSegmentBy}
+use Rattle.luks_unlock.specs.Volume.{slot_outcome, volume_by, volume_outcome}
 use Rattle.luks_verdict.specs.declared.segment.Segment.{Segment}
 use Rattle.luks_report.specs.declared.message.Message.{Message}
+use Rattle.luks_unlock.specs.OpeningMessages.{OpeningMessage}
 
 -- how promptly a command ends if it is aborted, with this image
 abbrev pub promptness_of : Request → List ℕ → Promptness
@@ -47,8 +51,7 @@ IsCounted _ image = Unit {0}
 abbrev pub RunsAsStated : Request → Message → Option (List ℕ) → Option (List ℕ) → Option (List ℕ) → Option (List ℕ)
     → Option (List ℕ) → Option (List ℕ) → Type 0
 RunsAsStated request message image image' secret secret' written written' =
-    IfKnown image
-    (λ known. (known_secret : List ℕ) → KnowsSecret request secret known_secret → IsCounted request known
+    IfKnown image (λ known. (known_secret : List ℕ) → KnowsSecret request secret known_secret → IsCounted request known
     → RunMatches (promptness_of request known) (outcome_of request known known_secret) message
     (ConsumedExactly known image') (ConsumedOfSecret request known_secret secret') (Appended written written'))
 
@@ -62,13 +65,13 @@ ReadsFirst _ = Unit {0}
 abbrev pub Knows : Option (List ℕ) → (List ℕ → Type 0) → Type 0
 Knows device Holds = (known : List ℕ) × (device ≡ Some known) × Holds known
 
--- the command has no second input, or needs none of it: the header, the segment, the order of the key slots or, for
--- `afSplit`, the length of the key to be split ends the run
-abbrev pub NeedsNoSecret : Request → Option (List ℕ) → Type 0
-NeedsNoSecret (test_passphrase o) image = Knows image (λ known. is_err (volume_of o known) ≡ true)
-NeedsNoSecret (luks_cat o) image = Knows image (λ known. is_err (volume_of o known) ≡ true)
-NeedsNoSecret (af_split s) image = Knows image (λ known. (length known ≡ 0) ⊎ (max_key_len < length known))
-NeedsNoSecret _ image = Unit {0}
+-- the command has no second input, or needs none of it: the header, read in this way, the segment, the order of the key
+-- slots or, for `afSplit`, the length of the key to be split ends the run
+abbrev pub NeedsNoSecret : HeaderReader → Request → Option (List ℕ) → Type 0
+NeedsNoSecret read (test_passphrase o) image = Knows image (λ known. is_err (volume_by read o known) ≡ true)
+NeedsNoSecret read (luks_cat o) image = Knows image (λ known. is_err (volume_by read o known) ≡ true)
+NeedsNoSecret read (af_split s) image = Knows image (λ known. (length known ≡ 0) ⊎ (max_key_len < length known))
+NeedsNoSecret read _ image = Unit {0}
 
 -- what a run adds to the counts of a source: a failure if a read of it failed, at most one end, and no needless read.
 -- No more read-ahead is allowed than before
@@ -89,8 +92,7 @@ AllowsPayload IsOf consumed ahead most = (most ≡ ahead)
 -- how much read-ahead `luksCat` allows: to open the volume, it consumes as much of the image as `testPassphrase` does
 abbrev pub CatAllows : VolumeRequest → Option (List ℕ) → Option (List ℕ) → ℕ → ℕ → Type 0
 CatAllows o image secret ahead most =
-    IfKnown image
-    (λ known. IfKnown secret (λ passphrase.
+    IfKnown image (λ known. IfKnown secret (λ passphrase.
     AllowsPayload (HasSegment known) (volume_outcome (slot_outcome passphrase) o known passphrase).input_consumed
     ahead most))
 
@@ -99,13 +101,75 @@ abbrev pub ReadsImage : Request → Option (List ℕ) → Option (List ℕ) → 
 ReadsImage (luks_cat o) image secret = ReadsPayload (CatAllows o image secret)
 ReadsImage _ image secret = ReadsOnce
 
--- what a run that reads its first input in this way adds to the counts of its devices: a failure of that or of the
--- second input if a read failed, one of the output if a write failed, at most one end of each input, and no needless
--- call
-pub record CountsCalls (ReadsIt : Bool → ReadCounts → ReadCounts → Type 0) (message : Message)
-    (input input' secret secret' : ReadCounts) (out out' : WriteCounts) : Type 0 where
+-- what a part of a run that reads its first input in this way adds to the counts of both inputs: a failure of one of
+-- them if a read failed, at most one end of each, and no needless read
+pub record CountsReads (ReadsIt : Bool → ReadCounts → ReadCounts → Type 0) (failed : Bool)
+    (input input' secret secret' : ReadCounts) : Type 0 where
   -- if a read failed, it was one of the first input
   pub in_input : Bool
-  pub input_reads : ReadsIt (in_input && is_run_read_failure message) input input'
-  pub secret_reads : ReadsOnce (not in_input && is_run_read_failure message) secret secret'
+  pub input_reads : ReadsIt (in_input && failed) input input'
+  pub secret_reads : ReadsOnce (not in_input && failed) secret secret'
+
+-- the same for all devices: a failure of the output, too, if a write failed, and no needless call
+pub record CountsCalls (ReadsIt : Bool → ReadCounts → ReadCounts → Type 0) (message : Message)
+    (input input' secret secret' : ReadCounts) (out out' : WriteCounts) : Type 0 where
+  pub reads : CountsReads ReadsIt (is_run_read_failure message) input input' secret secret'
+  pub out_writes : Writes (is_run_write_failure message) out out'
+
+-- how promptly a command ends if it is aborted
+abbrev pub detached_promptness_of : Request → List ℕ → Promptness
+detached_promptness_of (luks_cat o) file = PromptDetachedCat file
+detached_promptness_of request file = AnyPromptness
+
+-- the payload's image knows its bytes, if the command reads any of it
+abbrev pub KnowsPayload : Request → Option (List ℕ) → List ℕ → Type 0
+KnowsPayload (luks_cat o) device image = device ≡ Some image
+KnowsPayload request device image = Unit {0}
+
+-- what was consumed of the payload's image
+abbrev pub ConsumedOfPayload : Request → List ℕ → Option (List ℕ) → ℕ → Type 0
+ConsumedOfPayload (luks_cat o) image left = ConsumedExactly image left
+ConsumedOfPayload request image left = ConsumedNothing
+
+-- if the inputs of a command know their bytes, and the payload's image is not too long to be counted, the run has the
+-- outcome that is specified for those bytes, or was aborted on the way to it
+abbrev pub RunsDetached : Request → Message → Option (List ℕ) → Option (List ℕ) → Option (List ℕ) → Option (List ℕ)
+    → Option (List ℕ) → Option (List ℕ) → Option (List ℕ) → Option (List ℕ) → Type 0
+RunsDetached request message header header' image image' secret secret' written written' =
+    IfKnown header (λ file. (known : List ℕ) → KnowsPayload request image known → (known_secret : List ℕ)
+    → KnowsSecret request secret known_secret → IsCounted request known
+    → DetachedRunMatches (detached_promptness_of request file)
+    (detached_outcome_of request file known known_secret) message
+    (ConsumedExactly file header') (ConsumedOfPayload request known image')
+    (ConsumedOfSecret request known_secret secret') (Appended written written'))
+
+-- the run ended before a key was found, with a message of opening other than a failed read, since that read may be the
+-- payload's
+abbrev pub EndsWithoutKey : Message → Type 0
+EndsWithoutKey message = OpeningMessage message × (is_run_read_failure message ≡ false)
+
+-- the payload's image is not read: only `luksCat` reads it, and only after a key was found
+abbrev pub NeedsNoPayload : Request → Message → Type 0
+NeedsNoPayload (luks_cat o) message = EndsWithoutKey message
+NeedsNoPayload request message = Unit {0}
+
+-- how much read-ahead `luksCat` allows for its payload's image, of which nothing is consumed to open the volume
+abbrev pub DetachedCatAllows : Option (List ℕ) → Option (List ℕ) → ℕ → ℕ → Type 0
+DetachedCatAllows header secret ahead most =
+    IfKnown header
+    (λ file. IfKnown secret (λ passphrase. AllowsPayload (HasSegmentBy detached_header_of file) 0 ahead most))
+
+-- what a command adds to the counts of its payload's image: only `luksCat` reads one
+abbrev pub ReadsPayloadImage : Request → Option (List ℕ) → Option (List ℕ) → Bool → ReadCounts → ReadCounts → Type 0
+ReadsPayloadImage (luks_cat o) header secret = ReadsPayload (DetachedCatAllows header secret)
+ReadsPayloadImage request header secret = ReadsOnce
+
+-- what a run that reads the payload's image in this way adds to the counts of its devices: a failure of one of its
+-- inputs if a read failed, one of the output if a write failed, at most one end of each input, and no needless call
+pub record CountsCallsDetached (ReadsIt : Bool → ReadCounts → ReadCounts → Type 0) (message : Message)
+    (header header' image image' secret secret' : ReadCounts) (out out' : WriteCounts) : Type 0 where
+  -- if a read failed, it was one of the payload's image
+  pub in_payload : Bool
+  pub reads : CountsReads ReadsOnce (not in_payload && is_run_read_failure message) header header' secret secret'
+  pub payload_reads : ReadsIt (in_payload && is_run_read_failure message) image image'
   pub out_writes : Writes (is_run_write_failure message) out out'

@@ -1,33 +1,65 @@
--- The effects of opening a volume on its devices, with an attached or a detached header.
-use Rattle.std.specs.Prelude.{◌≡◌, ℕ, ◌<◌, ◌≤◌, ◌⊎◌, List, length, max, take, Option, Some}
-use Rattle.std.specs.Prelude.{Result, Err, Bool, ◌&&◌, not}
+-- The effects of opening a volume on its devices, with an attached or a detached header, and how promptly the commands
+-- on volumes are aborted.
+use Rattle.std.specs.Prelude.{◌≡◌, ℕ, ◌≤◌, ◌⊎◌, List, length, max, take, Option, Some, Result, Err, ◌+◌, ◌-◌, ◌*◌, ◌/◌}
+use Rattle.std.specs.Prelude.{◌<◌}
 use Rattle.luks_io.specs.Devices.{Appended, ConsumedExactly}
 use Rattle.luks_header.specs.Header.{header_read_len}
 use Rattle.luks_verdict.specs.declared.segment.Segment.{Segment}
 use Rattle.luks_open.specs.Order.{OrderModel}
 use Rattle.luks_open.specs.declared.opening.Opened.{Opened}
-use Rattle.luks_io.specs.declared.counts.ReadCounts.{ReadCounts}
-use Rattle.luks_report.specs.Texts.{opened_line}
 use Rattle.luks_request.specs.Request.{VolumeRequest}
 use Rattle.luks_report.specs.declared.message.Message.{Message}
-use Rattle.luks_report.specs.declared.message.Message.TheVariants.{Done, OutOfMemory, WriteFailed}
 use Rattle.luks_runs.specs.KeyFile.{NoKeyFileRead, max_key_file_len}
-use Rattle.luks_runs.specs.Location.{reader_for}
-use Rattle.luks_runs.specs.Run.{RunMatches, is_run_read_failure}
-use Rattle.luks_unlock.specs.Found.{HasSegmentBy}
+use Rattle.luks_runs.specs.Location.{reader_for, detached_header_of}
+use Rattle.luks_runs.specs.Run.{Promptness, RunMatches}
+use Rattle.luks_unlock.specs.Found.{HasSegmentBy, HasSegment}
 use Rattle.luks_unlock.specs.Trying.{TriesSlots}
 use Rattle.luks_unlock.specs.Volume.{OnOpened, volume_outcome_by}
 use Rattle.luks_unlock.specs.declared.unlocked.UnlockedVolume.{UnlockedVolume}
-use Rattle.luks_cli.specs.CommandRun.{ReadsOnce}
-use Rattle.luks_cli.specs.VolumeParts.{ConsumesLoaded, PromptCat}
 use Rattle.luks_runs.specs.declared.location.HeaderLocation.{HeaderLocation}
 use Rattle.luks_runs.specs.declared.location.HeaderLocation.TheVariants.{Attached, Detached}
+use Rattle.luks_payload.specs.Plain.{sector_len, sector_start}
+use Rattle.luks_report.specs.declared.message.Message.TheVariants.{ReadFailed, WriteFailed}
 
--- opening was aborted: with an attached header it was as prompt as `luksCat`, and with a detached one it wrote nothing
-abbrev pub PromptOpening : HeaderLocation → List ℕ → Message → ℕ → ℕ → ℕ → Type 0
-PromptOpening Attached image message input_consumed secret_consumed output =
-    PromptCat image message input_consumed secret_consumed output
-PromptOpening Detached image message input_consumed secret_consumed output = output ≡ 0
+-- whatever is done with a volume consumes at least the bytes of its image that are loaded, and the whole key file
+pub record ConsumesLoaded (secret : List ℕ) (on_opened : OnOpened) : Type 0 where
+  pub loaded : (segment : Segment) (opened : Opened) (loaded : ℕ)
+      → loaded ≤ (on_opened segment opened loaded).input_consumed
+  pub whole : (segment : Segment) (opened : Opened) (loaded : ℕ)
+      → (on_opened segment opened loaded).secret_consumed ≡ length secret
+
+-- the bytes read for the header end at or before the payload's start, or more bytes than those were consumed. Both
+-- can fail only if a damaged primary header has a size that reaches past the payload's start, and no byte past that
+-- size was consumed
+abbrev pub IsPastHeader : Segment → ℕ → ℕ → Type 0
+IsPastHeader s header_len consumed = (header_len ≤ s.offset) ⊎ (header_len < consumed)
+
+-- forwarding a payload is aborted: if a write fails, no byte of the image past the sector in which it failed was
+-- consumed, except for the header's; if a read fails, the output is the whole sectors that were consumed
+abbrev pub PromptForwarding : Segment → ℕ → Message → ℕ → ℕ → Type 0
+PromptForwarding s header_len WriteFailed consumed output =
+    consumed ≤ max header_len (sector_start s (output / sector_len s + 1))
+PromptForwarding s header_len ReadFailed consumed output = IsPastHeader s header_len consumed
+    → output ≡ (consumed - s.offset) / sector_len s * sector_len s
+PromptForwarding s header_len _ consumed output = Unit {0}
+
+-- `luksCat` was aborted, and forwarding the image's payload was prompt
+abbrev pub PromptCat : List ℕ → Message → ℕ → ℕ → ℕ → ℕ → Type 0
+PromptCat image message input_consumed payload_consumed secret_consumed output =
+    (segment : Segment) → HasSegment image segment → PromptForwarding segment
+    (header_read_len image) message input_consumed output
+
+-- `luksCat` with a detached header was aborted, and forwarding the payload was prompt; of its image nothing is consumed
+-- for a header
+abbrev pub PromptDetachedCat : List ℕ → Message → ℕ → ℕ → ℕ → ℕ → Type 0
+PromptDetachedCat file message header_consumed payload_consumed secret_consumed output =
+    (segment : Segment) → HasSegmentBy detached_header_of file segment
+    → PromptForwarding segment 0 message payload_consumed output
+
+-- opening was aborted: it was as prompt as `luksCat`
+abbrev pub PromptOpening : HeaderLocation → List ℕ → Promptness
+PromptOpening Attached = PromptCat
+PromptOpening Detached = PromptDetachedCat
 
 -- the volume was not opened, and the message says why: nothing was written, and the run matches the specified outcome,
 -- whatever the command would do with an open volume
@@ -45,7 +77,6 @@ pub record Unlocks (location : HeaderLocation) (o : VolumeRequest) (image secret
   pub outcome : (on_opened : OnOpened)
       → volume_outcome_by (reader_for location) on_opened o image secret ≡ on_opened segment opened (length loaded)
   pub has : HasSegmentBy (reader_for location) image segment
-  pub has_header : header_read_len image ≤ length loaded
   pub no_further : location ≡ Attached → length loaded ≤ max (header_read_len image) segment.offset
   pub prefix : loaded ≡ take (length loaded) image
   pub input_consumed : ConsumedExactly image image' (length loaded)
@@ -60,18 +91,3 @@ UnlockEffect named segment order pass area area' rest left secret' result =
     × TriesSlots named segment order pass area area' rest left result)
     ⊎ ((message : Message) × (result ≡ Err message) × NoKeyFileRead pass secret' message × (area' ≡ area)
     × (left ≡ Some rest))
-
--- what opening a volume, or a part of that, adds to the counts of both inputs: a failure of one of them if a read
--- failed, at most one end of each, and no needless read
-pub record CountsReads (message : Message) (input input' secret secret' : ReadCounts) : Type 0 where
-  pub in_input : Bool
-  pub input_reads : ReadsOnce (in_input && is_run_read_failure message) input input'
-  pub secret_reads : ReadsOnce (not in_input && is_run_read_failure message) secret secret'
-
--- the line about the key slot that opened was written, or a write failed within it, or memory for it ran out
-abbrev pub WritesOpenedLine : ℕ → Option (List ℕ) → Option (List ℕ) → Message → Type 0
-WritesOpenedLine slot written written' Done = Appended written written' (opened_line slot)
-WritesOpenedLine slot written written' WriteFailed = (count : ℕ) × (count < length (opened_line slot))
-    × Appended written written' (take count (opened_line slot))
-WritesOpenedLine slot written written' OutOfMemory = written' ≡ written
-WritesOpenedLine slot written written' _ = ⊥

@@ -1,12 +1,13 @@
 //! Runs of commands.
 
 ghost use Rattle.std.specs.Prelude.{◌≡◌, false};
+ghost use Rattle.luks_header.specs.Header.{header_of};
 ghost use Rattle.luks_request.specs.Request.{has_header_file, request_of};
 ghost use Rattle.luks_runs.specs.Run.{result_message};
 ghost use Rattle.luks_cli.specs.CommandRun.{CountsCalls, NeedsNoSecret};
 ghost use Rattle.luks_cli.specs.CommandRun.{ReadsFirst, ReadsImage, RunsAsStated};
 ghost use Rattle.luks_cli.specs.Honest.{WritesPlain};
-ghost use Rattle.luks_cli.specs.CommandMessages.{MayReport};
+ghost use Rattle.luks_cli.specs.Outcome.{MayReport};
 
 pub use detached::execute_detached;
 use luks_io::sink::Sink;
@@ -64,7 +65,7 @@ pub fn execute<I: Source, K: Source, O: Sink>(
         (I.to_come image.old) (K.to_come secret.old)
         (O.written out.old) (O.written out.new) }
     ensures only { MayReport (request_of command.now) result.message }
-    ensures unneeded { NeedsNoSecret (request_of command.now) (I.to_come image.old)
+    ensures unneeded { NeedsNoSecret header_of (request_of command.now) (I.to_come image.old)
         → secret.new ≡ secret.old }
     ensures reads_first { ReadsFirst (request_of command.now) → result.message ≡ Message.ReadFailed
         → out.new ≡ out.old }

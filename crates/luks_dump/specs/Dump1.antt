@@ -23,13 +23,9 @@ state_text slot Enabled = enabled_text slot.iterations (encode_lower slot.salt) 
 state_text slot Disabled = codes "DISABLED"
 state_text slot (Damaged number) = codes "DAMAGED state=" ++ encode_lower (to_be_bytes w32 number)
 
--- the text of a key slot
-abbrev pub slot_text : StoredSlot → List ℕ
-slot_text slot = state_text slot slot.state
-
 -- the line of the key slot with this number
 unfoldable pub slot1_line : ℕ → StoredSlot → List ℕ
-slot1_line number slot = field (codes "Slot " ++ decimal number) (slot_text slot)
+slot1_line number slot = field (codes "Slot " ++ decimal number) (state_text slot slot.state)
 
 -- the lines of key slots, the first of which has this number
 unfoldable pub slot1_lines : ℕ → List StoredSlot → List ℕ

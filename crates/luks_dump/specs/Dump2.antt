@@ -1,11 +1,9 @@
 -- The texts of a LUKS2 header: the fields of its binary header, its key slots, its segment and its digests.
-use Rattle.std.specs.Prelude.{ℕ, ◌∷◌, ◌++◌, [], zero, suc, List, Option, Some, None, Result, Ok, Err, codes, flat_map}
-use Rattle.std.specs.Prelude.{length}
+use Rattle.std.specs.Prelude.{ℕ, ◌∷◌, ◌++◌, [], List, Option, Some, None, Result, Ok, Err, codes, flat_map, length}
 use Rattle.std.specs.Fmt.{decimal}
 use Rattle.luks_cipher.specs.Sector.{mode_name}
 use Rattle.luks_kdf.specs.Hash.{hash_name}
 use Rattle.luks_kdf.specs.declared.hash.Hash.{Hash}
-use Rattle.luks_verdict.specs.Rule.{max_slots}
 use Rattle.luks_verdict.specs.SectorSize.{bytes_of}
 use Rattle.luks_verdict.specs.SegmentFault.{fault_text}
 use Rattle.luks_verdict.specs.SkipReason.{reason_text}
@@ -19,10 +17,10 @@ use Rattle.luks2_binary.specs.declared.header.HeaderRole.{HeaderRole}
 use Rattle.luks2_binary.specs.declared.header.HeaderRole.TheVariants.{Primary, Secondary}
 use Rattle.luks2_metadata.specs.Digest2.{digests2_of}
 use Rattle.luks2_metadata.specs.Segment2.{segment2_of}
-use Rattle.luks2_metadata.specs.Slot2.{verdict2_at}
-use Rattle.luks2_metadata.specs.declared.bounds.Bounds.{Bounds}
 use Rattle.luks2_metadata.specs.declared.digest.Digest.{Digest}
 use Rattle.luks_header.specs.Header.{bounds2_of}
+use Rattle.luks_header.specs.SlotVerdicts.{verdicts_of}
+use Rattle.luks_header.specs.declared.header.Header.TheVariants.{V2}
 use Rattle.serde_json.specs.Data.{Data}
 use Rattle.luks_dump.specs.Escaping.{escaped}
 use Rattle.luks_dump.specs.DumpLine.{field}
@@ -71,23 +69,13 @@ verdict_text (Usable slot) = usable_text slot.parts
 verdict_text Disabled = codes "DISABLED"
 verdict_text (Skipped reason) = codes "SKIPPED " ++ reason_text reason
 
--- the line of the key slot with this number, if there is one
-abbrev pub slot2_line : ℕ → Option Verdict → List ℕ
-slot2_line number None = []
-slot2_line number (Some verdict) = field (codes "Slot " ++ decimal number) (verdict_text verdict)
+-- the line of a key slot with its number
+abbrev pub slot2_line : ℕ × Verdict → List ℕ
+slot2_line (number, verdict) = field (codes "Slot " ++ decimal number) (verdict_text verdict)
 
--- the lines of the numbers below n, in ascending order
-unfoldable pub lines_below : (ℕ → List ℕ) → ℕ → List ℕ
-lines_below line zero = []
-lines_below line (suc n) = lines_below line n ++ line n
-
--- the line of the key slot with this number, in a header with these bounds. The number of iterations has no limit here
-abbrev pub slot_line_at : Data → Bounds → ℕ → List ℕ
-slot_line_at tree bounds number = slot2_line number (verdict2_at tree bounds None number)
-
--- the lines of the key slots
-unfoldable pub slot2_lines : Data → Bounds → List ℕ
-slot2_lines tree bounds = lines_below (slot_line_at tree bounds) max_slots
+-- the lines of key slots
+abbrev pub slot2_lines : List (ℕ × Verdict) → List ℕ
+slot2_lines verdicts = flat_map slot2_line verdicts
 
 -- ---- the segment
 
@@ -141,12 +129,12 @@ digest_lines digests = flat_map digest_line digests
 
 -- ---- dumps
 
--- the dump of a header
+-- the dump of a header. The number of iterations has no limit here
 unfoldable pub dump2_of : Header2 → Data → List ℕ
 dump2_of h tree =
     role_lines h
     ++ text2_lines h
-    ++ slot2_lines tree (bounds2_of h)
+    ++ slot2_lines (verdicts_of (V2 h tree) None)
     ++ segment_line (segment2_of tree (bounds2_of h))
     ++ digest_lines (digests2_of tree)
 

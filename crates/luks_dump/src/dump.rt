@@ -25,6 +25,6 @@ pub fn dump_text(alloc: Global, header: &Header) -> Result<String, AllocError>
 {
     match header {
         Header::V1(header) => luks1::dump_text(alloc, header),
-        Header::V2(header, metadata) => luks2::dump_text(alloc, header, metadata),
+        Header::V2(binary, metadata) => luks2::dump_text(alloc, header, binary, metadata),
     }
 }

@@ -2,11 +2,11 @@
 use Rattle.std.specs.Prelude.{◌≡◌, ◌⊎◌, ℕ, Bool, true, false, List, Option, Some, None, Result, Ok, Err, length, min}
 use Rattle.std.specs.Prelude.{nat_lt, if◌then◌else◌}
 use Rattle.luks_io.specs.Devices.{ConsumedExactly, ConsumedFewer, ConsumedAtMost, counted}
+use Rattle.luks_area.specs.Area.{HeaderAreaModel}
 use Rattle.luks_area.specs.Fields.{at}
 use Rattle.luks1_header.specs.Header1.{header1_len, header1_of, is_luks1}
 use Rattle.luks2_binary.specs.Choice2.{header2_of}
 use Rattle.luks2_binary.specs.ReadLen2.{header2_read_len, probe2_len}
-use Rattle.luks2_binary.specs.Reading2.{ConsumedUpToReadLen, ConsumedReadLen, ConsumedBeforeProbe2}
 use Rattle.luks2_binary.specs.Header2.{end2_of}
 use Rattle.luks2_binary.specs.Text2.{json_text_of}
 use Rattle.luks2_binary.specs.declared.header.Header2.{Header2}
@@ -83,18 +83,7 @@ ReadsNoHeader image left ends ends' Memory =
     ConsumedBeforeProbe image left ends ends' ⊎ (HasHeader2 image × ConsumedHeaderLen image left ends ends')
 ReadsNoHeader image left ends ends' fault = (header_of image ≡ Err fault) × ConsumedHeaderLen image left ends ends'
 
--- like `ConsumedHeaderLen`, but only for an image that does not start as LUKS1: some of its bytes were loaded before,
--- and further ones were appended to them
-abbrev pub ConsumedHeaderLenBehind : List ℕ → List ℕ → List ℕ → List ℕ → Option (List ℕ) → ℕ → ℕ → Type 0
-ConsumedHeaderLenBehind image loaded loaded' rest left ends ends' = ConsumedReadLen image loaded loaded' rest left
-    × (ends' ≡ counted (falls_short image) ends)
-
--- like `ReadsNoHeader`, for such an image
-abbrev pub ReadsNoHeaderBehind : List ℕ → List ℕ → List ℕ → List ℕ → Option (List ℕ) → ℕ → ℕ → HeaderFault → Type 0
-ReadsNoHeaderBehind image loaded loaded' rest left ends ends' Read =
-    ConsumedUpToReadLen image loaded loaded' rest left × (ends' ≡ ends)
-ReadsNoHeaderBehind image loaded loaded' rest left ends ends' Memory =
-    (ConsumedBeforeProbe2 image loaded loaded' rest left × (ends' ≡ ends))
-    ⊎ (HasHeader2 image × ConsumedHeaderLenBehind image loaded loaded' rest left ends ends')
-ReadsNoHeaderBehind image loaded loaded' rest left ends ends' fault =
-    (header_of image ≡ Err fault) × ConsumedHeaderLenBehind image loaded loaded' rest left ends ends'
+-- the image has this header, as many of its bytes are loaded as are read for it, and its end was hit if it falls short
+abbrev pub IsRead : List ℕ → HeaderAreaModel → Header → Type 0
+IsRead image area header =
+    (header_of image ≡ Ok header) × (length area.bytes ≡ header_read_len image) × (area.ended ≡ falls_short image)

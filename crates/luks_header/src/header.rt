@@ -1,13 +1,13 @@
 //! Which header an image has.
 
-ghost use Rattle.std.specs.Prelude.{◌≡◌, ◌++◌, Bool, Some, Ok, Err, IfOk, IfErr};
+ghost use Rattle.std.specs.Prelude.{◌≡◌, ℕ, Bool, List, Some, Ok, Err, IfOk, IfErr, OnOk};
 ghost use Rattle.std.specs.Prelude.{[], length, take, true, false};
 ghost use Rattle.luks_io.specs.Devices.{ConsumedExactly, IfKnown};
 ghost use Rattle.luks_io.specs.Counts.{Reads};
 ghost use Rattle.luks_area.specs.Area.{is_read_fault};
 ghost use Rattle.luks1_header.specs.Header1.{is_luks1};
-ghost use Rattle.luks2_binary.specs.Reading2.{ConsumedReadLen};
-ghost use Rattle.luks_header.specs.Header.{ReadsNoHeaderBehind, ReadsNoHeader, bounds2_of};
+ghost use Rattle.luks2_binary.specs.Reading2.{LoadedPrefixOf, OfEach};
+ghost use Rattle.luks_header.specs.Header.{IsRead, ReadsNoHeader, bounds2_of};
 ghost use Rattle.luks_header.specs.Header.{header_read_len, detached_of, falls_short, header_of};
 
 use luks_area::area::HeaderArea;
@@ -116,21 +116,17 @@ fn read2<S: Source>(
 ) -> Result<Header, HeaderFault>
     requires first { (length area.old.bytes ≡ 592) × (area.old.ended ≡ false)
         × (is_luks1 area.old.bytes ≡ false) }
-    ensures consumed { IfOk result (λ header. IfKnown (S.to_come source.old) (λ rest.
-        (header_of (area.old.bytes ++ rest) ≡ Ok header)
-        × ConsumedReadLen (area.old.bytes ++ rest) area.old.bytes area.new.bytes rest
-        (S.to_come source.new))) }
-    ensures no_header { IfErr result (λ fault. IfKnown (S.to_come source.old) (λ rest.
-        ReadsNoHeaderBehind (area.old.bytes ++ rest) area.old.bytes area.new.bytes rest
-        (S.to_come source.new)
-        (S.counts source.old).ends (S.counts source.new).ends fault)) }
-    ensures of_area { IfOk result (λ header. (header_of area.new.bytes ≡ Ok header)
-        × (length area.new.bytes ≡ header_read_len area.new.bytes)) }
+    ensures found { IfOk result (λ header. OfEach area.new.bytes area.new.ended
+        (λ image. IsRead image area.new header)) }
+    ensures holds { OnOk result ((image : List ℕ)
+        → LoadedPrefixOf image area.old (S.to_come source.old)
+        → LoadedPrefixOf image area.new (S.to_come source.new)) }
+    ensures no_header { IfErr result (λ fault. (image : List ℕ)
+        → LoadedPrefixOf image area.old (S.to_come source.old)
+        → ReadsNoHeader image (S.to_come source.new)
+        (S.counts source.old).ends (S.counts source.new).ends fault) }
     ensures reads { Reads (is_read_fault result) area.new.ended
         (S.counts source.old) (S.counts source.new) }
-    ensures ended { IfOk result (λ header. area.new.ended ≡ falls_short area.new.bytes) }
-    ensures emptied { area.new.ended ≡ true
-        → IfKnown (S.to_come source.old) (λ _. S.to_come source.new ≡ Some []) }
 {
     let header = read_header2(area, source)?;
     let metadata = Metadata::read(alloc, header.json_text(area.as_slice()))?;

@@ -1,10 +1,12 @@
 //! Key slots and their verdicts.
 
-ghost use Rattle.std.specs.Prelude.{◌≡◌, ◌≤◌, true, IfOk, OnErr, option_map, vec_len};
+ghost use Rattle.std.specs.Prelude.{◌≡◌, ◌≤◌, ◌++◌, [], true, IfOk, OnErr, OnOk, option_map};
+ghost use Rattle.std.specs.Prelude.{vec_len};
+ghost use Rattle.std.specs.List.{cons_option};
 ghost use Rattle.luks_verdict.specs.Rule.{max_slots};
 ghost use Rattle.luks_verdict.specs.Slot.{verdict_kind_of};
-ghost use Rattle.luks_header.specs.SlotVerdicts.{can_be_tried, has_name_out_of_range, slot_at};
-ghost use Rattle.luks_header.specs.SlotVerdicts.{verdict_at, verdicts_of};
+ghost use Rattle.luks_header.specs.SlotVerdicts.{can_be_tried, has_name_out_of_range, numbered};
+ghost use Rattle.luks_header.specs.SlotVerdicts.{slot_at, verdict_at, verdicts_of};
 
 use crate::header::{Header, bounds};
 use luks_verdict::refusal::SkipReason;
@@ -73,6 +75,21 @@ pub fn verdict(
     }
 }
 
+// Appends the verdict, with the number, if there is one.
+fn push_verdict(
+    verdicts: &mut Vec<(u8, Verdict)>,
+    number: u8,
+    verdict: Option<Verdict>,
+) -> Result<(), AllocError>
+    ensures { OnOk result (verdicts.new.items
+        ≡ verdicts.old.items ++ cons_option (numbered number verdict) []) }
+{
+    if let Some(verdict) = verdict {
+        verdicts.push((number, verdict))?;
+    }
+    Ok(())
+}
+
 /// The key slots of a header by ascending number, each with its verdict: at most 32 slots. A slot
 /// with more iterations than the limit is skipped.
 ///
@@ -89,9 +106,8 @@ pub fn slots(
 {
     let mut verdicts = Vec::new(alloc);
     for number in 0..MAX_SLOTS {
-        if let Some(verdict) = verdict(alloc, header, limit, number)? {
-            verdicts.push((number, verdict))?;
-        }
+        let verdict = verdict(alloc, header, limit, number)?;
+        push_verdict(&mut verdicts, number, verdict)?;
     }
     Ok(verdicts)
 }

@@ -5,7 +5,7 @@ use Rattle.std.proofs.lemmas.List.{drop-drop, drop_all}
 use Rattle.luks_io.specs.Devices.{Appended, ConsumedExactly, IfKnown}
 
 module _ (known : List ℕ) (r r' : Option (List ℕ)) where
-  -- m bytes were consumed, and then n more of those behind them
+  -- m bytes were consumed, and then n more of those after them
   pub consumed_behind : (m n : ℕ) → ConsumedExactly known r m → ConsumedExactly (drop m known) r' n
       → ConsumedExactly known r' (m + n)
   consumed_behind m n before then = record {
@@ -20,8 +20,7 @@ module _ (known : List ℕ) (r r' : Option (List ℕ)) where
 
   -- the same, for a given sum of m and n
   pub consumed_sum : (m n sum : ℕ) → m + n ≡ sum → ConsumedExactly known r m
-      → IfKnown r (λ rest. ConsumedExactly rest r' n)
-      → ConsumedExactly known r' sum
+      → IfKnown r (λ rest. ConsumedExactly rest r' n) → ConsumedExactly known r' sum
   consumed_sum m n sum is before next = subst (ConsumedExactly known r') is (consumed_more m n before next)
 
   -- m bytes were consumed, and then fewer than were requested: these were all

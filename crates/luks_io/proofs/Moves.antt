@@ -1,42 +1,33 @@
 -- The steps of the loops that move bytes piece by piece.
-use Rattle.std.proofs.Common.{◌≡◌, ◌==◌, ◌&&◌, ℕ, ◌+◌, ◌-◌, ◌≤◌, List, ◌++◌, Option, ◌∙◌, ap, sym, subst}
-use Rattle.std.proofs.Common.{take, drop, length, take_all, length-append, length-drop, length-take-le, append-nil}
-use Rattle.std.proofs.Common.{Some, None, [], min, arith}
+use Rattle.std.proofs.Common.{◌≡◌, ℕ, ◌+◌, ◌-◌, ◌≤◌, List, ◌++◌, Option, ◌∙◌, ap, sym, subst, take, drop, length}
+use Rattle.std.proofs.Common.{take_all, length-append, length-take-le, append-nil, Some, None, [], min, arith}
 use Rattle.std.specs.Io.KnownBytes.{Appends, Consumes, Keeps}
 use Rattle.std.proofs.KnownBytes.{Consumes-kept, Consumes-trans, Appends-trans}
 use Rattle.std.proofs.Transfers.{drop-appended}
 use Rattle.std.proofs.Math.Seq.{take-add, take-append-add}
-use Rattle.std.proofs.lemmas.List.{take-append-le}
+use Rattle.std.proofs.lemmas.List.{take-append-le, take_rest, take_at}
 use Rattle.luks_io.specs.Devices.{Appended, ConsumedInto, IfKnown}
 use borrow.Rule.Slice.PartMut.{post_of, put_mid}
 
--- the rest of a list, read as a range, is the rest
-rest_of : (xs : List ℕ) (at : ℕ) → take (length xs - at) (drop at xs) ≡ drop at xs
-rest_of xs at = take_all (length xs - at) (drop at xs) (omega (arith, length-drop at xs))
-
 -- the first bytes of a list were written, and then the next n
 pub Appends-next : (a b c : Option (List ℕ)) (xs : List ℕ) (at n : ℕ) → Appends a b (take at xs)
-    → Appends b c (take n (take (length xs - at) (drop at xs)))
-    → Appends a c (take (at + n) xs)
+    → Appends b c (take n (take (length xs - at) (drop at xs))) → Appends a c (take (at + n) xs)
 Appends-next a b c xs at n p q =
     subst (Appends a c) (sym (take-add at n xs))
-    (Appends-trans a b c (take at xs) (take n (drop at xs)) p (subst (λ l. Appends b c (take n l)) (rest_of xs at) q))
+    (Appends-trans a b c (take at xs) (take n (drop at xs)) p (subst (λ l. Appends b c (take n l)) (take_rest xs at) q))
 
--- the first `at` bytes of a buffer, with `ys` behind them: the first at + n bytes end with the first n of `ys`
+-- the first `at` bytes of a buffer, with `ys` after them: the first at + n bytes end with the first n of `ys`
 prefix_of : (xs ys rest : List ℕ) (at n : ℕ) → at ≤ length xs → n ≤ length ys
     → take (at + n) (take at xs ++ (ys ++ rest)) ≡ take at xs ++ take n ys
 prefix_of xs ys rest at n within few =
     ap (λ k. take (k + n) (take at xs ++ (ys ++ rest))) (sym (length-take-le at xs within))
-    ∙ take-append-add (take at xs) (ys ++ rest) n
-    ∙ ap (λ l. take at xs ++ l) (take-append-le n ys rest few)
+    ∙ take-append-add (take at xs) (ys ++ rest) n ∙ ap (λ l. take at xs ++ l) (take-append-le n ys rest few)
 
--- the first `at` bytes of a buffer stay, whatever comes behind them
+-- the first `at` bytes of a buffer stay, whatever comes after them
 prefix_stays : (xs rest : List ℕ) (at : ℕ) → at ≤ length xs → take at (take at xs ++ rest) ≡ take at xs
-prefix_stays xs rest at within =
-    let cut : length (take at xs) ≡ at = length-take-le at xs within in
-    take-append-le at (take at xs) rest (omega (arith, cut)) ∙ take_all at (take at xs) (omega (arith, cut))
+prefix_stays xs rest at within = take_at (take at xs) rest at (length-take-le at xs within)
 
--- the first bytes of a buffer were consumed, and then n more were read behind them
+-- the first bytes of a buffer were consumed, and then n more were read after them
 pub Consumes-next : (a b c : Option (List ℕ)) (xs ys : List ℕ) (at n : ℕ) → at ≤ length xs → n ≤ length ys
     → Consumes a b (take at xs) → Consumes b c (take n ys)
     → Consumes a c (take (at + n) (put_mid at (length xs - at) xs ys))
@@ -61,8 +52,7 @@ consumed-prefix (Some xs) (Some ys) buf at within p known is =
 
 -- if a buffer was filled whole, the source knew at least as many bytes
 pub consumed-whole : (a b : Option (List ℕ)) (buf : List ℕ) (at : ℕ) → at ≤ length buf → length buf ≤ at
-    → Consumes a b (take at buf)
-    → IfKnown a (λ known. at ≡ min (length buf) (length known))
+    → Consumes a b (take at buf) → IfKnown a (λ known. at ≡ min (length buf) (length known))
 consumed-whole a b buf at within all p known is = omega (arith, (consumed-prefix a b buf at within p known is).0.within)
 
 module _ (a b c : Option (List ℕ)) (xs ys : List ℕ) (at : ℕ) where
@@ -74,12 +64,12 @@ module _ (a b c : Option (List ℕ)) (xs ys : List ℕ) (at : ℕ) where
       consumed-prefix a c (take at xs ++ rest) at (omega (arith, cut, length-append (take at xs) rest))
       (subst (Consumes a c) (sym (prefix_stays xs rest at within)) p)
 
-  -- the first bytes of a buffer were consumed, and then a read behind them failed
+  -- the first bytes of a buffer were consumed, and then a read after them failed
   pub consumed-kept : at ≤ length xs → Consumes a b (take at xs) → Keeps b c
       → IfKnown a (λ known. ConsumedInto known c (put_mid at (length xs - at) xs ys) at)
   consumed-kept within p q = consumed_same within (Consumes-kept a b c (take at xs) p q)
 
-  -- the first bytes of a buffer were consumed, and then a read behind them gave nothing
+  -- the first bytes of a buffer were consumed, and then a read after them gave nothing
   pub consumed-nothing : (n : ℕ) → n ≡ 0 → at ≤ length xs → Consumes a b (take at xs) → Consumes b c (take n ys)
       → IfKnown a (λ known. ConsumedInto known c (put_mid at (length xs - at) xs ys) at)
   consumed-nothing n none within p q =

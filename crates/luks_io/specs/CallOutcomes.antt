@@ -30,8 +30,7 @@ write_result count = if count == 0 then Err record {} else Ok count
 -- the result is that of the first answer that is not an interruption, or a failure after `tries` retries; no further
 -- call is made
 abbrev pub ReportsFirstOf : (ℕ → Result ℕ DeviceFault) → ℕ → List CallOutcome → Result ℕ DeviceFault
-    → Option (List CallOutcome)
-    → Type 0
+    → Option (List CallOutcome) → Type 0
 ReportsFirstOf result_for tries [] reported after = Unit {0}
 ReportsFirstOf result_for tries (Moved count ∷ rest) reported after =
     (reported ≡ result_for count) × (after ≡ Some rest)
@@ -42,8 +41,7 @@ ReportsFirstOf result_for (suc tries) (Interrupted ∷ rest) reported after =
 
 -- a device whose answers are known reports the first that is not an interruption, as above
 abbrev pub ReportsFirst : (ℕ → Result ℕ DeviceFault) → Option (List CallOutcome) → ℕ → Result ℕ DeviceFault
-    → Option (List CallOutcome)
-    → Type 0
+    → Option (List CallOutcome) → Type 0
 ReportsFirst result_for before tries reported after = (known : List CallOutcome) → before ≡ Some known
     → ReportsFirstOf result_for tries known reported after
 
@@ -51,11 +49,9 @@ ReportsFirst result_for before tries reported after = (known : List CallOutcome)
 abbrev pub OutcomeConsumes : Option (List ℕ) → Option (List ℕ) → CallOutcome → List ℕ → Type 0
 OutcomeConsumes before after (Moved n) buf = (n ≤ length buf) × Consumes before after (take n buf)
     × (n ≡ 0 → 0 < length buf → IsAtEnd after)
-OutcomeConsumes before after Interrupted buf = Keeps before after
-OutcomeConsumes before after Failed buf = Keeps before after
+OutcomeConsumes before after _ buf = Keeps before after
 
 -- `write(buf)`: the effect of its answer on the bytes, in the terms of std
 abbrev pub OutcomeAppends : Option (List ℕ) → Option (List ℕ) → CallOutcome → List ℕ → Type 0
 OutcomeAppends before after (Moved n) buf = (n ≤ length buf) × Appends before after (take n buf)
-OutcomeAppends before after Interrupted buf = Keeps before after
-OutcomeAppends before after Failed buf = Keeps before after
+OutcomeAppends before after _ buf = Keeps before after

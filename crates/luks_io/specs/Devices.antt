@@ -8,20 +8,20 @@ use Rattle.std.specs.Prelude.{drop, length, take, MatchResult, Result, Ok, Err, 
 abbrev pub IfKnown : Option (List ℕ) → (List ℕ → Type 0) → Type 0
 IfKnown device Holds = (known : List ℕ) → device ≡ Some known → Holds known
 
--- the first `count` of a source's remaining bytes were consumed, and those behind them remain
+-- the first `count` of a source's remaining bytes were consumed, and those after them remain
 pub record ConsumedExactly (known : List ℕ) (left' : Option (List ℕ)) (count : ℕ) : Type 0 where
   pub within : count ≤ length known
   pub left : left' ≡ Some (drop count known)
 
--- the first ones of those bytes were consumed: at most `most`
+-- the first of a source's remaining bytes were consumed: at most `most`
 abbrev pub ConsumedAtMost : List ℕ → Option (List ℕ) → ℕ → Type 0
 ConsumedAtMost known left most = (count : ℕ) × (count ≤ most) × ConsumedExactly known left count
 
--- the first ones of those bytes were consumed: fewer than `all`
+-- the first of a source's remaining bytes were consumed: fewer than `all`
 abbrev pub ConsumedFewer : List ℕ → Option (List ℕ) → ℕ → Type 0
 ConsumedFewer known left all = (count : ℕ) × (count < all) × ConsumedExactly known left count
 
--- the first ones of those bytes were consumed: at least `least`, and fewer than `all`
+-- the first of a source's remaining bytes were consumed: at least `least`, and fewer than `all`
 abbrev pub ConsumedBetween : List ℕ → Option (List ℕ) → ℕ → ℕ → Type 0
 ConsumedBetween known left least all = (count : ℕ) × (least ≤ count) × (count < all) × ConsumedExactly known left count
 

@@ -22,9 +22,8 @@ ForwardEffect (Some (Err fault)) untouched count transformed left left' before a
 
 -- whether forwarding was aborted
 abbrev pub is_aborted : Option (Result (Unit {0}) WriteFault) → Bool
-is_aborted None = false
-is_aborted (Some (Ok _)) = false
 is_aborted (Some (Err _)) = true
+is_aborted _ = false
 
 -- the bytes that stay buffered
 abbrev pub buffered_after : Option (Result (Unit {0}) WriteFault) → ℕ → List ℕ → List ℕ

@@ -6,7 +6,7 @@ ghost use Rattle.luks_io.specs.Counts.{after_read, after_write, given, unread};
 
 use crate::DeviceFault;
 
-/// The counts of a source's reads.
+/// The counts of a source's reads, and how far it may read ahead.
 #[derive(Clone, Copy, Debug, PartialEq, Eq)]
 pub struct ReadCounts {
     /// Reads that failed.

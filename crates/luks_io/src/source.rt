@@ -33,7 +33,7 @@ pub trait Source {
 
     /// Allows read-ahead for the next `count` bytes: they will be requested, unless the source ends
     /// or a call of some device fails first. A source may consume them before they are requested;
-    /// the bytes that it gives are the same. A later call replaces an earlier one.
+    /// the bytes that it gives are the same. It may also ignore the call.
     fn allow_read_ahead(&mut self, count: u64)
         ensures bytes { to_come self.new ≡ to_come self.old }
         ensures counts { counts self.new ≡ with_ahead (counts self.new).ahead (counts self.old) }
@@ -69,7 +69,7 @@ pub struct ReadFault {
 }
 
 /// Fills the buffer with the next bytes of the source, and returns how many there were: fewer than
-/// the buffer has only if the source is at its end. One read, the last, hits that end.
+/// the buffer holds only if the source has ended. One read, the last, hits that end.
 ///
 /// # Errors
 ///

@@ -21,7 +21,7 @@ pub trait Transform {
         ensures { bytes.new ≡ transformed self.now bytes.old };
 }
 
-/// Transforms some bytes of a buffer in place, and writes them. The bytes behind them do not
+/// Transforms some bytes of a buffer in place, and writes them. The bytes after them do not
 /// change.
 pub(crate) fn put_transformed<C: Transform, O: Sink>(
     buffer: &mut [u8],

@@ -49,22 +49,10 @@ length-diffused h block =
     let pieces = length_pieces h block (div_ceil (length block) (digest_len h)) in
     omega (arith, bounds.0, pieces)
 
--- before the first piece is diffused, the block is unchanged
-pub diffuse_start : (h : Hash) (block : List ℕ) (size : ℕ)
-    → block ≡ joined (diffused_piece h block) 0 ++ drop (0 * size) block
-unfolding joined
-diffuse_start h block size = ap (λ n. drop n block) (no_pieces size)
-  where
-    no_pieces : (size : ℕ) → 0 ≡ 0 * size
-    no_pieces size = omega arith
-
 -- one more piece is diffused; the block was `before` at first and is `now` with j pieces diffused
-pub diffuse_step : (h : Hash) (before now new : List ℕ) (size j end : ℕ)
-    → size ≡ digest_len h
-    → j * size < length before
-    → length now ≡ length before
-    → now ≡ joined (diffused_piece h before) j ++ drop (j * size) before
-    → end ≡ min (j * size + size) (length now)
+pub diffuse_step : (h : Hash) (before now new : List ℕ) (size j end : ℕ) → size ≡ digest_len h
+    → j * size < length before → length now ≡ length before
+    → now ≡ joined (diffused_piece h before) j ++ drop (j * size) before → end ≡ min (j * size + size) (length now)
     → new ≡ take (length (take (end - j * size) (drop (j * size) now)))
     (hash_of h (to_be_bytes w32 j ++ take (end - j * size) (drop (j * size) now)))
     → take (j * size) now ++ (new ++ drop (end - j * size) (drop (j * size) now))
@@ -84,8 +72,7 @@ diffuse_step h before now new size j end is_size inside same_length is_now is_en
 -- after the last piece the block is diffused
 pub diffuse_end : (h : Hash) (before now : List ℕ) (size count j : ℕ)
     → size ≡ digest_len h → count ≡ div_ceil (length before) size → j ≡ count
-    → now ≡ joined (diffused_piece h before) j ++ drop (j * size) before
-    → now ≡ diffused h before
+    → now ≡ joined (diffused_piece h before) j ++ drop (j * size) before → now ≡ diffused h before
 unfolding diffused
 diffuse_end h before now size count j is_size is_count is_last is_now =
     let some : 0 < size = omega (arith, (digest_sizes h).least) in
@@ -139,8 +126,7 @@ stripe_at-last len xs last i before whole =
     ap (take len) (drop_prefix (i * len) xs last before) ∙ take_all len last (omega arith)
 
 -- the key that n stripes merge to, from their number n
-pub merged_by_number : (h : Hash) (len : ℕ) (stripes : List ℕ) (n : ℕ) → 0 < len
-    → length stripes ≡ n * len
+pub merged_by_number : (h : Hash) (len : ℕ) (stripes : List ℕ) (n : ℕ) → 0 < len → length stripes ≡ n * len
     → merged h len stripes ≡ xor (splitter_block h len stripes (n - 1)) (stripe_at len stripes (n - 1))
 unfolding merged
 merged_by_number h len stripes n some whole =
@@ -161,14 +147,12 @@ merged_push h len before last i some whole one =
 
 -- with the last stripe of a split, all stripes merge to the key
 merged_last : (h : Hash) (len : ℕ) (random key : List ℕ) (before : ℕ) → 0 < len → length key ≡ len
-    → length random ≡ before * len
-    → merged h len (random ++ xor (splitter_block h len random before) key) ≡ key
+    → length random ≡ before * len → merged h len (random ++ xor (splitter_block h len random before) key) ≡ key
 merged_last h len random key before some is_len whole =
     let d = splitter_block h len random before in
     let length_d : length d ≡ len = length-splitter_block h len random before (omega arith) in
     let length_last : length (xor d key) ≡ len = length-xor d key (length_d ∙ sym is_len) ∙ length_d in
-    merged_push h len random (xor d key) before some whole length_last
-    ∙ xor-undone d key (length_d ∙ sym is_len)
+    merged_push h len random (xor d key) before some whole length_last ∙ xor-undone d key (length_d ∙ sym is_len)
 
 -- the stripes of a split key merge to the key
 pub merged_split : (h : Hash) (random key stripes : List ℕ) → 0 < length key
@@ -182,8 +166,7 @@ pub chain_more : (h : Hash) (len : ℕ) (stripes : List ℕ) (i : ℕ) (chain : 
     → splitter_with chain stripe ≡ splitter_after h len stripes (i + 1)
 unfolding splitter_block
 chain_more h len stripes i chain stripe is_chain is_stripe =
-    rw add-one
-    (ap (λ (c : AfSplitterModel). splitter_with c stripe) is_chain
+    rw add-one (ap (λ (c : AfSplitterModel). splitter_with c stripe) is_chain
     ∙ ap (λ (s : List ℕ). splitter_with (splitter_after h len stripes i) s) is_stripe)
 
 -- the value of a splitter before any stripe
@@ -203,16 +186,14 @@ chain_push h len before stripe i chain whole one is_chain =
     (sym (stripe_at-last len before stripe i whole one))
 
 -- if some bytes and one more stripe are n stripes, those bytes are a whole number of stripes
-pub whole_stripes : (len bytes n : ℕ) → 0 < len → 1 ≤ n → bytes + len ≡ n * len
-    → bytes ≡ bytes / len * len
+pub whole_stripes : (len bytes n : ℕ) → 0 < len → 1 ≤ n → bytes + len ≡ n * len → bytes ≡ bytes / len * len
 whole_stripes len bytes zero some one all = absurd (omega arith)
 whole_stripes len bytes (suc m) some one all =
     let before : bytes ≡ m * len = omega arith in
     before ∙ sym (ap (λ k. k * len) (ap (λ b. b / len) before ∙ mul-div_cancel m some))
 
 -- one stripe remains after all but one of n stripes
-pub one_left : (len bytes n : ℕ) → 0 < len → 1 ≤ n → bytes ≡ n * len
-    → bytes - (bytes / len - 1) * len ≡ len
+pub one_left : (len bytes n : ℕ) → 0 < len → 1 ≤ n → bytes ≡ n * len → bytes - (bytes / len - 1) * len ≡ len
 one_left len bytes zero some one all = absurd (omega arith)
 one_left len bytes (suc m) some one all =
     let number : bytes / len ≡ suc m = ap (λ b. b / len) all ∙ mul-div_cancel (suc m) some in
@@ -227,7 +208,5 @@ pub IsSplit-unique : (h : Hash) (random key stripes other : List ℕ) → 0 < le
     → IsSplit h random key stripes → IsSplit h random key other → stripes ≡ other
 IsSplit-unique h random key stripes other some one two =
     let number : one.0 ≡ two.0 =
-    sym (mul-div_cancel one.0 some)
-    ∙ (ap (λ b. b / length key) (sym one.1 ∙ two.1) ∙ mul-div_cancel two.0 some) in
-    one.2
-    ∙ (ap (λ n. random ++ xor (splitter_block h (length key) random n) key) number ∙ sym two.2)
+    sym (mul-div_cancel one.0 some) ∙ (ap (λ b. b / length key) (sym one.1 ∙ two.1) ∙ mul-div_cancel two.0 some) in
+    one.2 ∙ (ap (λ n. random ++ xor (splitter_block h (length key) random n) key) number ∙ sym two.2)

@@ -111,6 +111,8 @@ pub(crate) fn derive_in_lanes<E: Lanes>(
     ensures work { work.new
         ≡ capped (work.old + iterations * div_ceil (length out.old) (digest_len E.function)) }
 {
+    // The clause of `count` says that the count is within its range: it is capped from the start.
+    let _before = work.count();
     let keyed = Keyed::<E>::new(pass);
     let blocks = key_blocks::<E>(pass);
     let group = E::WIDTH * E::hash().size();

@@ -1,6 +1,6 @@
 -- Facts for callers about the key slots to be tried and their key material.
-use Rattle.std.proofs.Common.{◌≡◌, ◌∙◌, ℕ, false, ◌+◌, ◌-◌, ◌*◌, ◌/◌, ◌<◌, ◌≤◌, List, [], ◌∷◌, ◌++◌, take}
-use Rattle.std.proofs.Common.{Option, Some, None, Ok, refl, ap, arith}
+use Rattle.std.proofs.Common.{◌≡◌, ◌∙◌, ℕ, false, ◌+◌, ◌*◌, ◌/◌, ◌<◌, ◌≤◌, List, [], ◌∷◌, take, Option, Some, Ok, refl}
+use Rattle.std.proofs.Common.{ap, arith}
 use Rattle.std.specs.List.{AllByRecursion}
 use Rattle.luks_cipher.proofs.UnitsUndone.{joined_same}
 use Rattle.luks_cipher.specs.Sector.{Cipher, sector_decrypted}
@@ -21,29 +21,24 @@ use Rattle.luks_open.specs.Opening.{first_opening, if_matches_digest, slot_key, 
 use Rattle.luks_open.specs.Order.{OrderModel, key_material_end, order_of}
 use Rattle.luks_open.specs.declared.entry.Entry.{Entry}
 use Rattle.luks_open.specs.declared.opening.Opened.{Opened}
-use Rattle.luks_open.proofs.OrderLemmas.{All-key_material_end, All-order, IsOf, key_material_end-le}
+use Rattle.luks_open.proofs.OrderLemmas.{All-key_material_end, key_material_end-le, each_of_header}
+use Rattle.std.specs.Prelude.{slice_index_or}
+use Rattle.std.proofs.lemmas.List.Elements.{recursion_from_All}
 
 -- with an attached header, the key material of all key slots to be tried ends at or before the payload's start
 pub key_areas_before_payload : (header : Header) (segment : Segment) (named limit : Option ℕ) (order : OrderModel)
-    → is_detached header ≡ false
-    → segment_of header ≡ Ok segment
+    → is_detached header ≡ false → segment_of header ≡ Ok segment
     → order_of header named limit ≡ Ok order → key_material_end order.entries ≤ segment.offset
 key_areas_before_payload header segment named limit order attached is_segment is_order =
     key_material_end-le segment.offset order.entries
-    (of_entries order.entries (All-order header named limit order is_order))
-  where
-    of_entries : (entries : List Entry) → AllByRecursion (IsOf header limit) entries
-        → AllByRecursion (λ (entry : Entry). material_end entry.slot ≤ segment.offset) entries
-    of_entries [] all = tt
-    of_entries (entry ∷ entries) all = (
-      before_payload header segment limit entry.number entry.slot attached is_segment all.0.usable,
-      of_entries entries all.1,
-    )
+    (recursion_from_All (λ (entry : Entry). material_end entry.slot ≤ segment.offset) order.entries (λ k d below.
+    let entry = slice_index_or order.entries k d in
+    let is = each_of_header header named limit order is_order k d below in
+    before_payload header segment limit entry.number entry.slot attached is_segment is.usable))
 
 -- key material that ends at or before offset n gives the same key from the first n bytes alone
 recovered_beginning : (af : Hash) (cipher : Cipher) (image : List ℕ) (offset key_bytes stripes n : ℕ)
-    → offset + need_of key_bytes stripes ≤ n
-    → recovered af cipher (take n image) offset key_bytes stripes
+    → offset + need_of key_bytes stripes ≤ n → recovered af cipher (take n image) offset key_bytes stripes
     ≡ recovered af cipher image offset key_bytes stripes
 unfolding recovered decrypted_material
 recovered_beginning af cipher image offset key_bytes stripes n before =
@@ -69,11 +64,9 @@ key_beginning entry n image pass before =
         ap Some (recovered_beginning af
         (mode, derived_key kdf pass parts.salt parts.iterations parts.area_key_bytes) image
         parts.area_offset parts.key_bytes parts.stripes n before)
-    of_read (Some kdf) (Some af) None = refl
-    of_read (Some kdf) None mode = refl
-    of_read None af mode = refl
+    of_read _ _ _ = refl
 
--- the bytes of the image behind the key material do not change what a passphrase opens
+-- the bytes of the image after the key material do not change what a passphrase opens
 pub opening_beginning : (order : OrderModel) (n : ℕ) (image pass : List ℕ) → key_material_end order.entries ≤ n
     → opening_of order (take n image) pass ≡ opening_of order image pass
 unfolding opening_of first_opening

@@ -1,6 +1,6 @@
 -- Key material that is decrypted a sector at a time, and merged a stripe at a time.
 use Rattle.std.proofs.Common.{◌≡◌, ◌∙◌, ℕ, zero, suc, ◌+◌, ◌-◌, ◌*◌, ◌/◌, ◌%◌, ◌<◌, ◌≤◌, ◌⊎◌, inl, inr, true, List, []}
-use Rattle.std.proofs.Common.{◌++◌, length, replicate, take, drop, refl, sym, ap, subst, append_assoc, mul_assoc, arith}
+use Rattle.std.proofs.Common.{◌++◌, length, replicate, take, drop, refl, sym, ap, append_assoc, mul_assoc, arith}
 use Rattle.std.proofs.Common.{length-append, length-drop, add-one}
 use Rattle.std.proofs.Math.Seq.{take-add, take-append-add}
 use Rattle.std.proofs.lemmas.Bool.Decides.{nat_tests}
@@ -18,12 +18,24 @@ use Rattle.luks_open.specs.Candidate.{decrypted_material, material_sector, recov
 one_of_three : (len : ℕ) → is_key_length len ≡ true → (len ≡ 16) ⊎ (len ≡ 32) ⊎ (len ≡ 64)
 one_of_three len is = grind (arith, nat_tests)
 
+-- a property of 16, 32 and 64 is one of the length of every key
+by_length : (P : ℕ → Type 0) → P 16 → P 32 → P 64 → (len : ℕ) → is_key_length len ≡ true → P len
+by_length P a b c len is = of_three (one_of_three len is)
+  where
+    of_three : (len ≡ 16) ⊎ (len ≡ 32) ⊎ (len ≡ 64) → P len
+    of_three (inl h) = rw h a
+    of_three (inr (inl h)) = rw h b
+    of_three (inr (inr h)) = rw h c
+
+-- a key has at least one byte
+pub some_bytes : (len : ℕ) → is_key_length len ≡ true → 1 ≤ len
+some_bytes = by_length (λ n. 1 ≤ n) (omega arith) (omega arith) (omega arith)
+
 -- how stripes lie in sectors: the stripes before the last one fill `whole` sectors, and `rest` more of them are in the
 -- next sector, which also has the last one
 pub record AreInSectors (len stripes whole rest : ℕ) : Type 0 where
   -- whole stripes fill a sector
   pub fits : 512 / len * len ≡ 512
-  pub some : 1 ≤ len
   -- the next sector is within the key material, and has the last stripe
   pub there : 512 * whole + 512 ≤ need_of len stripes
   pub within : rest * len + len ≤ 512
@@ -31,56 +43,19 @@ pub record AreInSectors (len stripes whole rest : ℕ) : Type 0 where
   pub all : len * stripes ≡ whole * 512 + (rest * len + len)
 
 pub in_sectors : (len stripes whole rest : ℕ) → is_key_length len ≡ true → 1 ≤ stripes
-    → whole ≡ (stripes - 1) / (512 / len)
-    → rest ≡ (stripes - 1) % (512 / len) → AreInSectors len stripes whole rest
+    → whole ≡ (stripes - 1) / (512 / len) → rest ≡ (stripes - 1) % (512 / len) → AreInSectors len stripes whole rest
 unfolding need_of
-in_sectors len stripes whole rest is some is_whole is_rest = of_len (one_of_three len is)
-  where
-    of_16 : whole ≡ (stripes - 1) / 32 → rest ≡ (stripes - 1) % 32 → AreInSectors 16 stripes whole rest
-    of_16 w r = record {
-      fits = refl;
-      some = omega arith;
-      there = omega arith;
-      within = omega arith;
-      before = omega arith;
-      all =
-          omega arith;
-    }
-
-    of_32 : whole ≡ (stripes - 1) / 16 → rest ≡ (stripes - 1) % 16 → AreInSectors 32 stripes whole rest
-    of_32 w r = record {
-      fits = refl;
-      some = omega arith;
-      there = omega arith;
-      within = omega arith;
-      before = omega arith;
-      all =
-          omega arith;
-    }
-
-    of_64 : whole ≡ (stripes - 1) / 8 → rest ≡ (stripes - 1) % 8 → AreInSectors 64 stripes whole rest
-    of_64 w r = record {
-      fits = refl;
-      some = omega arith;
-      there = omega arith;
-      within = omega arith;
-      before = omega arith;
-      all =
-          omega arith;
-    }
-
-    same : (n : ℕ) → len ≡ n → AreInSectors n stripes whole rest → AreInSectors len stripes whole rest
-    same n h = subst (λ n. AreInSectors n stripes whole rest) (sym h)
-
-    of_len : (len ≡ 16) ⊎ (len ≡ 32) ⊎ (len ≡ 64) → AreInSectors len stripes whole rest
-    of_len (inl h) = same 16 h (of_16 (rw h at is_whole) (rw h at is_rest))
-    of_len (inr (inl h)) = same 32 h (of_32 (rw h at is_whole) (rw h at is_rest))
-    of_len (inr (inr h)) = same 64 h (of_64 (rw h at is_whole) (rw h at is_rest))
+in_sectors len stripes whole rest is some =
+    by_length
+    (λ n. whole ≡ (stripes - 1) / (512 / n) → rest ≡ (stripes - 1) % (512 / n) → AreInSectors n stripes whole rest)
+    (λ w r. record { fits = refl; there = omega arith; within = omega arith; before = omega arith; all = omega arith })
+    (λ w r. record { fits = refl; there = omega arith; within = omega arith; before = omega arith; all = omega arith })
+    (λ w r. record { fits = refl; there = omega arith; within = omega arith; before = omega arith; all = omega arith })
+    len is
 
 -- the chain after one more stripe
 pub chain_more_stripes : (h : Hash) (len : ℕ) (before stripes stripe : List ℕ) (number i : ℕ) (chain : AfSplitterModel)
-    → (i + 1) * len ≤ length stripes
-    → length before ≡ number * len → stripe ≡ take len (drop (i * len) stripes)
+    → (i + 1) * len ≤ length stripes → length before ≡ number * len → stripe ≡ take len (drop (i * len) stripes)
     → chain ≡ splitter_after h len (before ++ take (i * len) stripes) (number + i)
     → splitter_with chain stripe ≡ splitter_after h len (before ++ take ((i + 1) * len) stripes) (number + (i + 1))
 chain_more_stripes h len before stripes stripe number i chain there whole is_stripe is =
@@ -90,9 +65,7 @@ chain_more_stripes h len before stripes stripe number i chain there whole is_str
     let all : length (before ++ prefix) ≡ (number + i) * len =
     omega (arith, length-append before prefix, length-take-le (i * len) stripes (omega arith)) in
     let further : (before ++ prefix) ++ stripe ≡ before ++ take ((i + 1) * len) stripes =
-    append_assoc before prefix stripe
-    ∙ ap (λ s. before ++ s)
-    (ap (λ s. prefix ++ s) is_stripe
+    append_assoc before prefix stripe ∙ ap (λ s. before ++ s) (ap (λ s. prefix ++ s) is_stripe
     ∙ (sym (take-add (i * len) len stripes) ∙ ap (λ n. take n stripes) (next i len))) in
     let count : number + i + 1 ≡ number + (i + 1) = omega arith in
     chain_push h len (before ++ prefix) stripe (number + i) chain all one is
@@ -123,22 +96,16 @@ prefix_of_joined f q n part below whole short =
     let count : suc q + (n - suc q) ≡ n = omega arith in
     let all : joined f n ≡ joined f q ++ (f q ++ further.0) =
     ap (joined f) (sym count) ∙ (further.1 ∙ append_assoc (joined f q) (f q) further.0) in
-    ap (take (q * 512 + part)) all
-    ∙ (ap (λ n. take (n + part) (joined f q ++ (f q ++ further.0))) (sym whole)
+    ap (take (q * 512 + part)) all ∙ (ap (λ n. take (n + part) (joined f q ++ (f q ++ further.0))) (sym whole)
     ∙ (take-append-add (joined f q) (f q ++ further.0) part
     ∙ ap (λ s. joined f q ++ s) (take-append-le part (f q) further.0 short)))
 
 -- the length with one more sector
 pub length-joined_more : (f : ℕ → List ℕ) (i : ℕ) (sector : List ℕ) → length (joined f i) ≡ i * 512 → sector ≡ f i
-    → length sector ≡ 512
-    → length (joined f (i + 1)) ≡ (i + 1) * 512
+    → length sector ≡ 512 → length (joined f (i + 1)) ≡ (i + 1) * 512
 unfolding joined
 length-joined_more f i sector before is whole =
     rw add-one (let one = ap length is in omega (arith, length-append (joined f i) (f i)))
-
-pub length-joined_none : (f : ℕ → List ℕ) → length (joined f 0) ≡ 0
-unfolding joined
-length-joined_none f = refl
 
 -- whole sectors consist of whole stripes
 pub whole_sectors : (number in_sector len : ℕ) → in_sector * len ≡ 512 → number * 512 ≡ number * in_sector * len
@@ -146,8 +113,7 @@ whole_sectors number in_sector len fits = ap (λ n. number * n) (sym fits) ∙ s
 
 -- the chain before any sector
 pub sectors_none : (h : Hash) (len in_sector : ℕ) (f : ℕ → List ℕ) (chain : AfSplitterModel)
-    → chain ≡ record { hash = h; block = replicate len 0 }
-    → chain ≡ splitter_after h len (joined f 0) (0 * in_sector)
+    → chain ≡ record { hash = h; block = replicate len 0 } → chain ≡ splitter_after h len (joined f 0) (0 * in_sector)
 sectors_none h len in_sector f chain start =
     let nothing : 0 * in_sector ≡ 0 = omega arith in
     rw nothing (chain_start h len (joined f 0) chain start)
@@ -162,23 +128,18 @@ sector_more h len in_sector f i sector chain fits is whole h_is =
     let all : take (in_sector * len) sector ≡ f i = ap (λ n. take n sector) fits
     ∙ (take_all 512 sector (omega arith) ∙ is) in
     let count : i * in_sector + in_sector ≡ suc i * in_sector = omega arith in
-    rw add-one (h_is
-    ∙ (ap (λ s. splitter_after h len (joined f i ++ s) (i * in_sector + in_sector)) all
+    rw add-one (h_is ∙ (ap (λ s. splitter_after h len (joined f i ++ s) (i * in_sector + in_sector)) all
     ∙ ap (λ n. splitter_after h len (joined f i ++ f i) n) count))
 
 -- the key that key material holds, computed from the chain before the last stripe
 pub recovered_by_last : (h : Hash) (key : Cipher) (image : List ℕ) (offset len stripes whole rest : ℕ) (sector last :
-    List ℕ)
-    (chain : AfSplitterModel)
-    → AreInSectors len stripes whole rest
+    List ℕ) (chain : AfSplitterModel) → AreInSectors len stripes whole rest → 1 ≤ len
     → length (joined (material_sector key image offset) whole) ≡ whole * 512
-    → sector ≡ material_sector key image offset whole → length sector ≡ 512
-    → last ≡ take len (drop (rest * len) sector)
+    → sector ≡ material_sector key image offset whole → length sector ≡ 512 → last ≡ take len (drop (rest * len) sector)
     → chain ≡ splitter_after h len (joined (material_sector key image offset) whole ++ take (rest * len) sector)
-    (whole * (512 / len) + rest)
-    → xor chain.block last ≡ recovered h key image offset len stripes
+    (whole * (512 / len) + rest) → xor chain.block last ≡ recovered h key image offset len stripes
 unfolding recovered decrypted_material
-recovered_by_last h key image offset len stripes whole rest sector last chain place before is_sector full is_last
+recovered_by_last h key image offset len stripes whole rest sector last chain place some before is_sector full is_last
     is_chain =
     let f = material_sector key image offset in
     let prefix = joined f whole ++ take (rest * len) sector in
@@ -186,15 +147,12 @@ recovered_by_last h key image offset len stripes whole rest sector last chain pl
     let long : rest * len + len ≤ length (f whole) = omega (arith, ap length is_sector, place.within) in
     let below : whole < count = omega (arith, place.there) in
     let stripes_are : take (len * stripes) (joined f count) ≡ prefix ++ last =
-    ap (λ n. take n (joined f count)) place.all
-    ∙ (prefix_of_joined f whole count (rest * len + len) below before long
-    ∙ (ap (λ s. joined f whole ++ take (rest * len + len) s) (sym is_sector)
-    ∙ (ap (λ s. joined f whole ++ s)
+    ap (λ n. take n (joined f count)) place.all ∙ (prefix_of_joined f whole count (rest * len + len) below before long
+    ∙ (ap (λ s. joined f whole ++ take (rest * len + len) s) (sym is_sector) ∙ (ap (λ s. joined f whole ++ s)
     (take-add (rest * len) len sector ∙ ap (λ s. take (rest * len) sector ++ s) (sym is_last))
     ∙ sym (append_assoc (joined f whole) (take (rest * len) sector) last)))) in
     let one : length last ≡ len =
-    ap length is_last
-    ∙ length-take-le len (drop (rest * len) sector)
+    ap length is_last ∙ length-take-le len (drop (rest * len) sector)
     (omega (arith, length-drop (rest * len) sector, place.within)) in
     let number : length prefix ≡ (whole * (512 / len) + rest) * len =
     omega (
@@ -204,5 +162,5 @@ recovered_by_last h key image offset len stripes whole rest sector last chain pl
       place.before,
     ) in
     ap (λ (c : AfSplitterModel). xor c.block last) is_chain
-    ∙ (sym (merged_push h len prefix last (whole * (512 / len) + rest) place.some number one)
+    ∙ (sym (merged_push h len prefix last (whole * (512 / len) + rest) some number one)
     ∙ ap (merged h len) (sym stripes_are))

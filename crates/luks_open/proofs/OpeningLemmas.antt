@@ -1,6 +1,6 @@
 -- Entries that are tried one after the other.
-use Rattle.std.proofs.Common.{◌≡◌, ◌∙◌, ℕ, ◌+◌, ◌^◌, ◌<◌, ◌≤◌, List, [], ◌∷◌, length, drop, get_or, Option, Some, None}
-use Rattle.std.proofs.Common.{sym, ap, arith}
+use Rattle.std.proofs.Common.{◌≡◌, ◌∙◌, ℕ, ◌+◌, ◌<◌, ◌≤◌, List, [], ◌∷◌, length, drop, get_or, Option, Some, None, sym}
+use Rattle.std.proofs.Common.{ap, arith}
 use Rattle.std.specs.Prelude.{if◌then◌else◌, is_some, sum_by}
 use Rattle.std.proofs.lemmas.List.{drop_all, drop_more}
 use Rattle.std.proofs.lemmas.List.Sums.{sum_by-cons}
@@ -12,29 +12,18 @@ use Rattle.luks_open.specs.declared.entry.Entry.{Entry}
 abbrev pub work_on : List Entry → List ℕ → List ℕ → ℕ
 work_on entries image pass = sum_by evaluations_of (tried_of entries image pass)
 
--- if the first entry does not open, the others decide what opens, and its evaluations are added to theirs
-tried_past : (entries : List Entry) (image pass : List ℕ) (entry : Entry) → slot_key entry image pass ≡ None
-    → (first_opening (entry ∷ entries) image pass ≡ first_opening entries image pass)
-    × (work_on (entry ∷ entries) image pass ≡ evaluations_of entry + work_on entries image pass)
+-- whether the first entry opens decides what opens, and whether the others are tried too
+tried_with : (entries : List Entry) (image pass : List ℕ) (entry : Entry) (key : Option (List ℕ))
+    → slot_key entry image pass ≡ key
+    → (first_opening (entry ∷ entries) image pass ≡ opened_or entry.number key (first_opening entries image pass))
+    × (work_on (entry ∷ entries) image pass
+    ≡ evaluations_of entry + sum_by evaluations_of (if is_some key then [] else tried_of entries image pass))
 unfolding first_opening tried_of
-tried_past entries image pass entry none =
+tried_with entries image pass entry key is =
     let rest = tried_of entries image pass in (
-      ap (λ (key : Option (List ℕ)). opened_or entry.number key (first_opening entries image pass)) none,
-      ap (λ (key : Option (List ℕ)). sum_by evaluations_of (entry ∷ (if is_some key then [] else rest))) none
-          ∙ sum_by-cons evaluations_of entry rest,
-    )
-
--- if the first entry opens, it is the one that opens, and only its evaluations count
-tried_last : (entries : List Entry) (image pass : List ℕ) (entry : Entry) (key : List ℕ)
-    → slot_key entry image pass ≡ Some key
-    → (first_opening (entry ∷ entries) image pass ≡ Some record { slot = entry.number; key = key })
-    × (work_on (entry ∷ entries) image pass ≡ evaluations_of entry)
-unfolding first_opening tried_of
-tried_last entries image pass entry key some =
-    let rest = tried_of entries image pass in (
-      ap (λ (key : Option (List ℕ)). opened_or entry.number key (first_opening entries image pass)) some,
-      ap (λ (key : Option (List ℕ)). sum_by evaluations_of (entry ∷ (if is_some key then [] else rest))) some
-          ∙ (sum_by-cons evaluations_of entry [] ∙ omega arith),
+      ap (λ (key : Option (List ℕ)). opened_or entry.number key (first_opening entries image pass)) is,
+      ap (λ (key : Option (List ℕ)). sum_by evaluations_of (entry ∷ (if is_some key then [] else rest))) is
+          ∙ sum_by-cons evaluations_of entry (if is_some key then [] else rest),
     )
 
 -- none of the first i entries opened, and the count of work went from `start` to `now`
@@ -52,12 +41,12 @@ from_entry entries i entry there is = drop_more entries i entry there
 pub go_on : (entries : List Entry) (image pass : List ℕ) (i start now new : ℕ) (entry : Entry)
     → NoneOpenedBefore entries image pass i start now
     → i < length entries → entry ≡ get_or entries i entry → slot_key entry image pass ≡ None
-    → new ≡ capped (now + evaluations_of entry)
-    → NoneOpenedBefore entries image pass (i + 1) start new
+    → new ≡ capped (now + evaluations_of entry) → NoneOpenedBefore entries image pass (i + 1) start new
 go_on entries image pass i start now new entry before there is none is_new =
     let rest = from_entry entries i entry there is in
-    let past = tried_past (drop (i + 1) entries) image pass entry none in
-    let left = ap (λ (s : List Entry). work_on s image pass) rest ∙ past.1 in
+    let past = tried_with (drop (i + 1) entries) image pass entry None none in
+    let left : work_on (drop i entries) image pass ≡ evaluations_of entry + work_on (drop (i + 1) entries) image pass =
+    ap (λ (s : List Entry). work_on s image pass) rest ∙ past.1 in
     record {
       value = sym (ap (λ (s : List Entry). first_opening s image pass) rest ∙ past.0) ∙ before.value;
       work = omega (arith, is_new, left, before.work);
@@ -66,21 +55,20 @@ go_on entries image pass i start now new entry before there is none is_new =
 
 pub go_last : (entries : List Entry) (image pass : List ℕ) (i start now new : ℕ) (entry : Entry) (key : List ℕ)
     → NoneOpenedBefore entries image pass i start now → i < length entries → entry ≡ get_or entries i entry
-    → slot_key entry image pass ≡ Some key
-    → new ≡ capped (now + evaluations_of entry)
+    → slot_key entry image pass ≡ Some key → new ≡ capped (now + evaluations_of entry)
     → (first_opening entries image pass ≡ Some record { slot = entry.number; key = key })
     × (new ≡ capped (start + work_on entries image pass))
 go_last entries image pass i start now new entry key before there is some is_new =
     let rest = from_entry entries i entry there is in
-    let last = tried_last (drop (i + 1) entries) image pass entry key some in
-    let left = ap (λ (s : List Entry). work_on s image pass) rest ∙ last.1 in (
+    let last = tried_with (drop (i + 1) entries) image pass entry (Some key) some in
+    let left : work_on (drop i entries) image pass ≡ evaluations_of entry + sum_by evaluations_of [] =
+    ap (λ (s : List Entry). work_on s image pass) rest ∙ last.1 in (
       sym before.value ∙ (ap (λ (s : List Entry). first_opening s image pass) rest ∙ last.0),
       omega (arith, is_new, left, before.work),
     )
 
 pub go_out : (entries : List Entry) (image pass : List ℕ) (i start now : ℕ) → NoneOpenedBefore entries image pass i
-    start now
-    → length entries ≤ i
+    start now → length entries ≤ i
     → (first_opening entries image pass ≡ None) × (now ≡ capped (start + work_on entries image pass))
 unfolding first_opening tried_of
 go_out entries image pass i start now before all =

@@ -2,7 +2,7 @@
 use Rattle.std.proofs.Common.{◌≡◌, ◌∙◌, ℕ, ◌+◌, ◌==◌, ◌<◌, ◌≤◌, max, Bool, true, false, List, [], ◌∷◌, length, drop}
 use Rattle.std.proofs.Common.{get_or, Option, Some, None, Ok, IsOk, IsSome, refl, sym, ap, subst, arith}
 use Rattle.std.specs.Prelude.{if◌then◌else◌, option_map}
-use Rattle.std.specs.List.{AllByRecursion}
+use Rattle.std.specs.List.{AllByRecursion, All}
 use Rattle.std.proofs.lemmas.Bool.{eq-eqb}
 use Rattle.std.proofs.lemmas.List.{drop_more}
 use Rattle.std.proofs.lemmas.Option.{same_Some}
@@ -12,9 +12,8 @@ use Rattle.luks_verdict.specs.Slot.{material_end, verdict_kind_of}
 use Rattle.luks_verdict.specs.Table.{ascending}
 use Rattle.luks_verdict.specs.declared.digest.KeyDigest.{KeyDigest}
 use Rattle.luks_verdict.specs.declared.refusal.SkipReason.{SkipReason}
-use Rattle.luks_verdict.specs.declared.slot.Slot.{Slot}
 use Rattle.luks_verdict.specs.declared.slot.Verdict.{Verdict}
-use Rattle.luks_verdict.specs.declared.slot.Verdict.TheVariants.{Usable, Disabled, Skipped}
+use Rattle.luks_verdict.specs.declared.slot.Verdict.TheVariants.{Usable}
 use Rattle.luks_verdict.specs.declared.slot.VerdictKind.TheVariants.{Usable as KindUsable}
 use Rattle.luks_verdict.proofs.VerdictLemmas.{usable_from_open}
 use Rattle.luks_verdict.proofs.TableLemmas.{AllByRecursion-append, All-ascending}
@@ -25,6 +24,7 @@ use Rattle.luks_header.proofs.KnownLemmas.{digest_of_usable}
 use Rattle.luks_open.specs.Order.{OrderModel, entries_of, entry_at, entry_of, key_material_end, order_of, skipped_at}
 use Rattle.luks_open.specs.Order.{order_of_all, order_of_named, unless_none, usable_at, usable_with_priority}
 use Rattle.luks_open.specs.declared.entry.Entry.{Entry}
+use Rattle.std.proofs.lemmas.List.Elements.{All-from_recursion}
 
 -- an entry is one of this header: its key slot can be tried, and this is its digest
 pub record IsOf (header : Header) (limit : Option ℕ) (entry : Entry) : Type 0 where
@@ -41,10 +41,7 @@ entry_of-some number (Some (Usable slot)) (Some digest) entry is =
       sym (ap (λ (e : Entry). Some (Usable e.slot)) same),
       sym (ap (λ (e : Entry). Some e.digest) same),
     )
-entry_of-some number (Some (Usable slot)) None entry is = absurd cc
-entry_of-some number (Some Disabled) digest entry is = absurd cc
-entry_of-some number (Some (Skipped reason)) digest entry is = absurd cc
-entry_of-some number None digest entry is = absurd cc
+entry_of-some number _ _ entry is = absurd cc
 
 -- an entry that was found in a header is one of this header
 entry_at-some : (header : Header) (limit : Option ℕ) (number : ℕ) (entry : Entry)
@@ -57,15 +54,6 @@ entry_at-some header limit number entry is =
       digest = ap (digest_for header) made.0 ∙ made.2;
     }
 
--- a key slot that can be tried has an entry
-pub entry_there : (header : Header) (limit : Option ℕ) (number : ℕ) (slot : Slot)
-    → verdict_at header limit number ≡ Some (Usable slot)
-    → (entry : Entry) × (entry_at header limit number ≡ Some entry)
-unfolding entry_at
-entry_there header limit number slot usable =
-    let its_digest = digest_of_usable header limit number slot usable in
-    (record { number = number; slot = slot; digest = its_digest.0 }, rw (usable, its_digest.1) refl)
-
 -- an entry that was found by its priority is one of this header too
 usable_at-some : (header : Header) (limit : Option ℕ) (priority number : ℕ) (entry : Entry)
     → usable_at header limit priority number ≡ Some entry → IsOf header limit entry
@@ -77,12 +65,9 @@ usable_at-some header limit priority number entry is = of_verdict (verdict_at he
     of_test false h = absurd cc
 
     of_verdict : (verdict : Option Verdict) → usable_with_priority priority (entry_at header limit number) verdict ≡
-        Some entry
-        → IsOf header limit entry
-    of_verdict None h = absurd cc
-    of_verdict (Some Disabled) h = absurd cc
-    of_verdict (Some (Skipped reason)) h = absurd cc
+        Some entry → IsOf header limit entry
     of_verdict (Some (Usable slot)) h = of_test (slot.parts.priority == priority) h
+    of_verdict _ h = absurd cc
 
 -- if an order is made from entries, it has exactly these
 order-unless_none : (entries : List Entry) (skipped : List (ℕ × SkipReason)) (order : OrderModel)
@@ -109,16 +94,21 @@ All-order header (Some number) limit order is = of_verdict (verdict_at header li
     of_entry None e = tt
     of_entry (Some entry) e = (entry_at-some header limit number entry e, tt)
 
-    of_verdict : (verdict : Option Verdict) → order_of_named (entry_at header limit number) verdict ≡ Ok order
+    of_verdict : (verdict : Option Verdict)
+        → order_of_named (entry_at header limit number) (option_map verdict_kind_of verdict) ≡ Ok order
         → AllByRecursion (IsOf header limit) order.entries
-    of_verdict None h = absurd cc
-    of_verdict (Some Disabled) h = absurd cc
-    of_verdict (Some (Skipped reason)) h = absurd cc
     of_verdict (Some (Usable slot)) h =
         let alone : OrderModel = record { entries = entries_of (entry_at header limit number); skipped = [] } in
         let same : alone ≡ order = cc in
         subst (λ (t : OrderModel). AllByRecursion (IsOf header limit) t.entries) same
         (of_entry (entry_at header limit number) refl)
+    of_verdict _ h = absurd cc
+
+-- the same for the entry of each number
+pub each_of_header : (header : Header) (named limit : Option ℕ) (order : OrderModel)
+    → order_of header named limit ≡ Ok order → All (IsOf header limit) order.entries
+each_of_header header named limit order is =
+    All-from_recursion (IsOf header limit) order.entries (All-order header named limit order is)
 
 -- ---- headers with a key slot to try
 
@@ -132,10 +122,11 @@ some_tried (entry ∷ entries) skipped some = refl
 pub usable_there : (header : Header) (limit : Option ℕ) (priority number : ℕ)
     → option_map verdict_kind_of (verdict_at header limit number) ≡ Some (KindUsable priority)
     → IsSome (usable_at header limit priority number)
+unfolding entry_at
 usable_there header limit priority number is =
     let usable = usable_from_open (verdict_at header limit number) priority is in
-    let there = entry_there header limit number usable.0 usable.1 in
-    rw (usable.1, eq-eqb usable.0.parts.priority priority usable.2, there.1) refl
+    let its_digest = digest_of_usable header limit number usable.0 usable.1 in
+    rw (usable.1, eq-eqb usable.0.parts.priority priority usable.2, its_digest.1) refl
 
 -- ---- the end of the last key material
 
@@ -165,8 +156,7 @@ pub key_material_end-drop : (entries : List Entry) (i : ℕ) (entry : Entry) →
 unfolding key_material_end
 key_material_end-drop entries i entry there is =
     ap key_material_end (drop_more entries i entry there)
-    ∙ ap (λ (e : Entry). key_material_end (e ∷ drop (i + 1) entries))
-    (sym is)
+    ∙ ap (λ (e : Entry). key_material_end (e ∷ drop (i + 1) entries)) (sym is)
 
 pub key_material_end-nil : key_material_end [] ≡ 0
 unfolding key_material_end

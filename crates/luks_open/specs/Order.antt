@@ -1,13 +1,16 @@
 -- The key slots to be tried, and their order.
 use Rattle.std.specs.Prelude.{◌≡◌, ℕ, ◌==◌, ◌⊎◌, max, MatchResult, if◌then◌else◌, List, [], ◌∷◌, ◌++◌, Option, Some}
-use Rattle.std.specs.Prelude.{None, Result, Ok, Err}
+use Rattle.std.specs.Prelude.{None, Result, Ok, Err, option_map}
 use Rattle.luks_verdict.specs.Rule.{max_slots}
-use Rattle.luks_verdict.specs.Slot.{material_end}
+use Rattle.luks_verdict.specs.Slot.{material_end, verdict_kind_of}
 use Rattle.luks_verdict.specs.Table.{ascending}
 use Rattle.luks_verdict.specs.declared.digest.KeyDigest.{KeyDigest}
 use Rattle.luks_verdict.specs.declared.refusal.SkipReason.{SkipReason}
 use Rattle.luks_verdict.specs.declared.slot.Verdict.{Verdict}
-use Rattle.luks_verdict.specs.declared.slot.Verdict.TheVariants.{Usable, Skipped, Disabled as VerdictDisabled}
+use Rattle.luks_verdict.specs.declared.slot.Verdict.TheVariants.{Usable, Skipped}
+use Rattle.luks_verdict.specs.declared.slot.VerdictKind.{VerdictKind}
+use Rattle.luks_verdict.specs.declared.slot.VerdictKind.TheVariants.{Usable as KindUsable, Disabled as KindDisabled}
+use Rattle.luks_verdict.specs.declared.slot.VerdictKind.TheVariants.{Skipped as KindSkipped}
 use Rattle.luks_header.specs.HeaderDigests.{digest_for}
 use Rattle.luks_header.specs.SlotVerdicts.{verdict_at}
 use Rattle.luks_header.specs.declared.header.Header.{Header}
@@ -35,22 +38,17 @@ entry_at header limit number = entry_of number (verdict_at header limit number) 
 -- this entry, if the key slot has this priority
 abbrev pub usable_with_priority : ℕ → Option Entry → Option Verdict → Option Entry
 usable_with_priority priority entry (Some (Usable slot)) = if slot.parts.priority == priority then entry else None
-usable_with_priority priority entry (Some VerdictDisabled) = None
-usable_with_priority priority entry (Some (Skipped reason)) = None
-usable_with_priority priority entry None = None
+usable_with_priority priority entry _ = None
 
 -- the entry of the key slot of this number, if it can be tried and has this priority
 abbrev pub usable_at : Header → Option ℕ → ℕ → ℕ → Option Entry
 usable_at header limit priority number =
-    usable_with_priority priority (entry_at header limit number)
-    (verdict_at header limit number)
+    usable_with_priority priority (entry_at header limit number) (verdict_at header limit number)
 
 -- the number of a key slot and the reason why it is skipped, if it is
 abbrev pub skipped_with_reason : ℕ → Option Verdict → Option (ℕ × SkipReason)
-skipped_with_reason number (Some (Usable slot)) = None
-skipped_with_reason number (Some VerdictDisabled) = None
 skipped_with_reason number (Some (Skipped reason)) = Some (number, reason)
-skipped_with_reason number None = None
+skipped_with_reason number _ = None
 
 -- the number of this key slot and the reason why it is skipped, if it is
 abbrev pub skipped_at : Header → Option ℕ → ℕ → Option (ℕ × SkipReason)
@@ -72,17 +70,18 @@ abbrev pub entries_of : Option Entry → List Entry
 entries_of (Some entry) = entry ∷ []
 entries_of None = []
 
--- the order if a key slot with this verdict is named: it alone is tried, whatever its priority
-abbrev pub order_of_named : Option Entry → Option Verdict → Result OrderModel OpenFault
+-- the order if a key slot with a verdict of this kind is named: it alone is tried, whatever its priority
+abbrev pub order_of_named : Option Entry → Option VerdictKind → Result OrderModel OpenFault
 order_of_named entry None = Err NoSuchSlot
-order_of_named entry (Some (Usable slot)) = Ok record { entries = entries_of entry; skipped = [] }
-order_of_named entry (Some VerdictDisabled) = Err Disabled
-order_of_named entry (Some (Skipped reason)) = Err (NamedSkipped reason)
+order_of_named entry (Some (KindUsable priority)) = Ok record { entries = entries_of entry; skipped = [] }
+order_of_named entry (Some KindDisabled) = Err Disabled
+order_of_named entry (Some (KindSkipped reason)) = Err (NamedSkipped reason)
 
 -- the key slots of a header to be tried, by the named key slot and the limit on iterations, or why there are none
 unfoldable pub order_of : Header → Option ℕ → Option ℕ → Result OrderModel OpenFault
 order_of header None limit = order_of_all header limit
-order_of header (Some named) limit = order_of_named (entry_at header limit named) (verdict_at header limit named)
+order_of header (Some named) limit =
+    order_of_named (entry_at header limit named) (option_map verdict_kind_of (verdict_at header limit named))
 
 -- an answer is the specified one, or memory ran out
 abbrev pub IsOrMemory : {T : Type 0} → Result T OpenFault → Result T OpenFault → Type 0

@@ -3,6 +3,7 @@
 ghost use Rattle.std.specs.Prelude.{◌≡◌, ◌++◌, Err, IfOk, IsOk, IsSome, OnOk, OnErr, option_map};
 ghost use Rattle.std.specs.Prelude.{[], ◌∷◌, ◌≤◌, length};
 ghost use Rattle.luks_verdict.specs.Rule.{max_slots};
+ghost use Rattle.luks_verdict.specs.Slot.{verdict_kind_of};
 ghost use Rattle.luks_verdict.specs.Table.{ascending};
 ghost use Rattle.luks_open.specs.Order.{IsOrMemory, order_of, skipped_at, entries_of, entry_at};
 ghost use Rattle.luks_open.specs.Order.{order_of_all, order_of_named, usable_at};
@@ -131,12 +132,11 @@ fn order_named(
     limit: Option<u32>,
     named: u8,
 ) -> Result<Order, OpenFault>
-    ensures answer { IsOrMemory
-        (order_of_named (entry_at header.now limit named) (verdict_at header.now limit named))
-        result }
+    ensures answer { IsOrMemory (order_of_named (entry_at header.now limit named)
+        (option_map verdict_kind_of (verdict_at header.now limit named))) result }
     ensures memory { result ≡ Err OpenFault.Memory
         → IsOk (order_of_named (entry_at header.now limit named)
-        (verdict_at header.now limit named)) }
+        (option_map verdict_kind_of (verdict_at header.now limit named))) }
 {
     match verdict_kind(header, limit, named) {
         None => Err(OpenFault::NoSuchSlot),

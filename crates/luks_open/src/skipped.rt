@@ -5,7 +5,7 @@ ghost use Rattle.std.specs.Prelude.{◌≡◌, ◌+◌, ◌<◌, ◌≤◌, List
 use luks_header::refusal::SkipReason;
 use std::marker::Model;
 
-/// The largest number of key slots in a header.
+/// The most key slots that can be skipped: a header has no more.
 const MAX_SKIPPED: usize = 32;
 
 /// The value of the unused elements.

@@ -3,8 +3,8 @@ use Rattle.std.proofs.Common.{◌≡◌, ℕ, ◌+◌, ◌-◌, ◌<◌, ◌≤�
 use Rattle.std.proofs.Common.{drop, length, length-append, length-drop, length-take-le, append-nil, min, take_all}
 use Rattle.std.proofs.Common.{arith, subst, take, nat_lt, true, false}
 use Rattle.std.proofs.lemmas.Bool.{cases_lt, le-ltb, lt-ltb}
-use Rattle.std.proofs.lemmas.List.{drop_all, take-append-le}
-use Rattle.std.proofs.Math.Seq.{take-append-add, take-append_seam}
+use Rattle.std.proofs.lemmas.List.{drop_all, take-append-le, nil_from_length, take_at, take_min}
+use Rattle.std.proofs.Math.Seq.{take-append-add}
 use Rattle.luks_cipher.specs.Sector.{Cipher, sector_decrypted}
 use Rattle.std.specs.Io.KnownBytes.{Consumes}
 use Rattle.luks_io.specs.Devices.{ConsumedExactly}
@@ -44,8 +44,7 @@ unit_filled cipher number len got bytes buf unit long whole same is =
 
 -- a buffer was filled with the first bytes of a sector, and then with a piece after them
 module _ (loaded len : ℕ) (prefix new old piece : List ℕ) (is : loaded ≡ min (length prefix) len)
-    (sized : length old ≡ len)
-    (written : new ≡ take loaded prefix) where
+    (sized : length old ≡ len) (written : new ≡ take loaded prefix) where
   long : length new ≡ loaded
   long = ap length written ∙ length-take-le loaded prefix (omega arith)
 
@@ -67,11 +66,9 @@ module _ (loaded len : ℕ) (prefix new old piece : List ℕ) (is : loaded ≡ m
       let none : drop (length (new ++ drop loaded old) - loaded) (drop loaded (new ++ drop loaded old)) ≡ [] =
       drop_all (length (new ++ drop loaded old) - loaded) (drop loaded (new ++ drop loaded old))
       (omega (arith, length-drop loaded (new ++ drop loaded old))) in
-      let first : take loaded (new ++ drop loaded old) ≡ new =
-      take-append-le loaded new (drop loaded old) (omega (arith, long)) ∙ take_all loaded new (omega (arith, long)) in
       ap (λ l. take loaded (new ++ drop loaded old) ++ (piece ++ l)) none
       ∙ ap (λ l. take loaded (new ++ drop loaded old) ++ l) (append-nil piece)
-      ∙ ap (λ l. l ++ piece) (first ∙ written ∙ ap (λ n. take n prefix) is)
+      ∙ ap (λ l. l ++ piece) (take_at new (drop loaded old) loaded long ∙ written ∙ ap (λ n. take n prefix) is)
 
 -- a sector that was filled with bytes of `prefix`, and then with those of a piece
 module _ (len : ℕ) (prefix piece sector : List ℕ) (is : sector ≡ take (min (length prefix) len) prefix ++ piece)
@@ -79,63 +76,47 @@ module _ (len : ℕ) (prefix piece sector : List ℕ) (is : sector ≡ take (min
   first_len : length (take (min (length prefix) len) prefix) ≡ min (length prefix) len
   first_len = length-take-le (min (length prefix) len) prefix (omega arith)
 
-  begins_few : length prefix ≤ len → BeginsWith prefix sector
-  begins_few few =
-      let all : min (length prefix) len ≡ length prefix = omega arith in
-      let whole : sector ≡ prefix ++ piece = is ∙ ap (λ l. l ++ piece)
-      (ap (λ n. take n prefix) all ∙ take_all (length prefix) prefix (omega arith)) in
-      let size : length prefix ≤ length sector = omega (arith, ap length whole, length-append prefix piece) in
-      rw whole (take-append_seam prefix piece) ∙ sym (take_all (length sector) prefix size)
-
-  begins_many : len < length prefix → BeginsWith prefix sector
-  begins_many many =
-      let size : length sector ≡ len = ap length is
-      ∙ length-append (take (min (length prefix) len) prefix) piece ∙ (omega (arith, first_len)) in
-      let part : sector ≡ take len prefix = sym (take_all len sector (omega arith))
-      ∙ ap (take len) is
-      ∙ take-append-le len (take (min (length prefix) len) prefix) piece (omega (arith, first_len))
-      ∙ take_all len (take (min (length prefix) len) prefix) (omega (arith, first_len))
-      ∙ ap (λ n. take n prefix) (omega arith) in
-      take_all (length prefix) sector (omega arith) ∙ part ∙ ap (λ n. take n prefix) (sym size)
-
   -- the sector starts with the bytes of `prefix`
   pub begins : BeginsWith prefix sector
-  begins = elim (cases_lt len (length prefix)) [ inl many ↦ begins_many many | inr few ↦ begins_few few ]
+  begins =
+      let first = take (min (length prefix) len) prefix in
+      let size : length sector ≡ len = ap length is ∙ length-append first piece ∙ (omega (arith, first_len)) in
+      let cut : take (length sector) prefix ≡ first =
+      ap (λ n. take n prefix) size ∙ sym (take_min len prefix) ∙ ap (λ n. take n prefix) (omega arith) in
+      elim (cases_lt len (length prefix)) [
+        | inl many ↦
+            take_all (length prefix) sector (omega arith) ∙ is
+            ∙ ap (λ l. first ++ l) (nil_from_length piece (omega arith)) ∙ append-nil first ∙ sym cut
+        | inr few ↦
+            ap (take (length prefix)) is ∙ take_at first piece (length prefix) (first_len ∙ (omega arith)) ∙ sym cut
+      ]
 
-  module _ (known : List ℕ) (left' : Option (List ℕ)) (n : ℕ) (all : n ≡ min (length piece) (length known))
-      (same : take n piece ≡ take n known) (consumption : ConsumedExactly known left' n) where
-    filled_few : length prefix ≤ len → FilledSector len prefix known left' sector (min (length prefix) len + n)
-    filled_few few =
-        let loaded : min (length prefix) len ≡ length prefix = omega arith in
-        let whole : sector ≡ prefix ++ piece = is ∙ ap (λ l. l ++ piece)
-        (ap (λ n. take n prefix) loaded ∙ take_all (length prefix) prefix (omega arith)) in
-        let count : n ≡ length prefix + n - length prefix = omega arith in
-        rw loaded (record {
-          all = omega (arith, length-append prefix known);
-          bytes = ap (take (length prefix + n)) whole ∙ take-append-add prefix piece n
-              ∙ ap (λ l. prefix ++ l) same ∙ sym (take-append-add prefix known n);
-          consumption = subst (ConsumedExactly known left') count consumption;
-        })
-
-    filled_many : len < length prefix → FilledSector len prefix known left' sector (min (length prefix) len + n)
-    filled_many many =
-        let got : min (length prefix) len + n ≡ len = omega arith in
-        let none : n ≡ len - length prefix = omega arith in
-        rw got (record {
-          all = omega (arith, length-append prefix known);
-          bytes = ap (take len) is
-              ∙ take-append-le len (take (min (length prefix) len) prefix) piece (omega (arith, first_len))
-              ∙ take_all len (take (min (length prefix) len) prefix) (omega (arith, first_len))
-              ∙ ap (λ n. take n prefix) (omega arith) ∙ sym (take-append-le len prefix known (omega arith));
-          consumption = subst (ConsumedExactly known left') none consumption;
-        })
-
-    -- the sector continues with the bytes of the source
-    pub filled_sector : (loaded : ℕ) → loaded ≡ min (length prefix) len
-        → FilledSector len prefix known left' sector (loaded + n)
-    filled_sector loaded first =
-        subst (λ m. FilledSector len prefix known left' sector (m + n)) (sym first)
-        (elim (cases_lt len (length prefix)) [ inl many ↦ filled_many many | inr few ↦ filled_few few ])
+  -- the sector continues with the bytes of the source
+  pub filled_sector : (known : List ℕ) (left' : Option (List ℕ)) (n : ℕ) → n ≡ min (length piece) (length known)
+      → take n piece ≡ take n known → ConsumedExactly known left' n → (loaded : ℕ) → loaded ≡ min (length prefix) len
+      → FilledSector len prefix known left' sector (loaded + n)
+  filled_sector known left' n all same consumption loaded is_loaded =
+      let first = take (min (length prefix) len) prefix in
+      let filled : take (min (length prefix) len + n) sector ≡ take (min (length prefix) len) prefix ++ take n known =
+      ap (take (min (length prefix) len + n)) is
+      ∙ ap (λ k. take (k + n) (first ++ piece)) (sym first_len) ∙ take-append-add first piece n
+      ∙ ap (λ l. first ++ l) same in
+      let count : n ≡ min (length prefix) len + n - length prefix = omega arith in
+      subst (λ k. FilledSector len prefix known left' sector (k + n)) (sym is_loaded) (record {
+        all = omega (arith, length-append prefix known);
+        bytes = elim (cases_lt len (length prefix)) [
+          | inl many ↦
+              let none : n ≡ 0 = omega arith in
+              filled
+              ∙ rw none (append-nil first ∙ sym (take-append-le (min (length prefix) len) prefix known (omega arith))
+              ∙ ap (λ k. take k (prefix ++ known)) (omega arith))
+          | inr few ↦
+              let whole : min (length prefix) len ≡ length prefix = omega arith in
+              filled ∙ rw whole (ap (λ l. l ++ take n known) (take_all (length prefix) prefix (omega arith))
+              ∙ sym (take-append-add prefix known n))
+        ];
+        consumption = subst (ConsumedExactly known left') count consumption;
+      })
 
 -- the forwarded bytes are the next bytes of the source, if these are known
 forwarded_bytes : (known bytes : List ℕ) (left left' : Option (List ℕ)) (len : ℕ) → length bytes ≡ len

@@ -48,46 +48,30 @@ module _ (z : ℕ) (some : 0 < z) where
       let whole = one_more_fits n size z below in
       omega arith
 
-  -- if the next sector is incomplete, the sectors before it are all of the payload's
-  pub all_whole : (size : Option ℕ) (n more : ℕ) → n < max_sectors_of size z → more < z
-      → n ≡ payload_bytes size (n * z + more) / z
-  all_whole None n more below torn = sym (div-mul-add n z more torn)
-  all_whole (Some size) n more below torn =
+  -- if the next sector is incomplete, the sectors before it are all of the payload's, which ends with the image
+  pub at_torn : (size : Option ℕ) (n more offset : ℕ) → n < max_sectors_of size z → more < z
+      → (n ≡ payload_bytes size (n * z + more) / z)
+      × (payload_end_in size offset (offset + (n * z + more)) ≡ offset + (n * z + more))
+  at_torn None n more offset below torn = (sym (div-mul-add n z more torn), refl)
+  at_torn (Some size) n more offset below torn =
       let whole = one_more_fits n size z below in
       let least : min size (n * z + more) ≡ n * z + more = omega arith in
-      rw least (sym (div-mul-add n z more torn))
+      (rw least (sym (div-mul-add n z more torn)), omega arith)
 
-  -- if the next sector is incomplete, the payload ends with the image
-  pub ends_at_end : (size : Option ℕ) (n more offset : ℕ) → n < max_sectors_of size z → more < z
-      → payload_end_in size offset (offset + (n * z + more)) ≡ offset + (n * z + more)
-  ends_at_end None n more offset below torn = refl
-  ends_at_end (Some size) n more offset below torn =
-      let whole = one_more_fits n size z below in
-      omega arith
-
-  -- at the limit, if the image has fewer than 2^64 bytes, the payload has all its sectors and ends without a fault
-  pub at_limit : (size : Option ℕ) (n len : ℕ) → 512 ≤ z → ForSome size (λ bytes. bytes % z ≡ 0)
-      → n ≡ max_sectors_of size z → n * z ≤ len → len < 2 ^ 64
-      → (n ≡ payload_bytes size len / z) × (ending_of_len size z len ≡ Ok End)
-  at_limit None n len least whole is there few =
+  -- at the limit, if the image has fewer than 2^64 bytes, the payload has all its sectors, and ends without a fault
+  -- where its last sector does
+  pub at_limit : (size : Option ℕ) (n offset total : ℕ) → 512 ≤ z → ForSome size (λ bytes. bytes % z ≡ 0)
+      → n ≡ max_sectors_of size z → offset + n * z ≤ total → total < 2 ^ 64
+      → (n ≡ payload_bytes size (total - offset) / z) × (ending_of_len size z (total - offset) ≡ Ok End)
+      × (payload_end_in size offset total ≡ offset + n * z)
+  at_limit None n offset total least whole is there few =
       let many : n * 512 ≤ n * z = mul-le-mul_left n least in
       absurd (omega arith)
-  at_limit (Some size) n len least whole is there few =
+  at_limit (Some size) n offset total least whole is there few =
       let all = exact_sectors size z n (whole size refl) is in
-      let smaller : min size len ≡ size = omega arith in
-      let enough : nat_lt len size ≡ false = le-ltb len size (omega arith) in
-      (rw smaller is, rw enough refl)
-
-  -- at the limit, if the image has fewer than 2^64 bytes, the payload ends where its last sector does
-  pub at_limit_end : (size : Option ℕ) (n offset len : ℕ) → 512 ≤ z → ForSome size (λ bytes. bytes % z ≡ 0)
-      → n ≡ max_sectors_of size z → offset + n * z ≤ len
-      → len < 2 ^ 64 → payload_end_in size offset len ≡ offset + n * z
-  at_limit_end None n offset len least whole is there few =
-      let many : n * 512 ≤ n * z = mul-le-mul_left n least in
-      absurd (omega arith)
-  at_limit_end (Some size) n offset len least whole is there few =
-      let all = exact_sectors size z n (whole size refl) is in
-      omega arith
+      let smaller : min size (total - offset) ≡ size = omega arith in
+      let enough : nat_lt (total - offset) size ≡ false = le-ltb (total - offset) size (omega arith) in
+      (rw smaller is, rw enough refl, omega arith)
 
 -- a payload of which the image has no bytes has no sectors
 pub none_whole : (size : Option ℕ) (z : ℕ) → payload_bytes size 0 / z ≡ 0

@@ -24,21 +24,19 @@ use Rattle.luks_payload.specs.PumpEffects.{WritesSectors, hits_eof_at, is_runnin
 use Rattle.luks_payload.specs.declared.state.State.{State}
 use Rattle.luks_payload.specs.declared.state.State.TheVariants.{BeforePayload, InPayload, Ended, Faulted}
 use Rattle.luks_payload.specs.declared.fault.VolumeFault.{VolumeFault}
-use Rattle.luks_payload.specs.declared.fault.VolumeFault.TheVariants.{CutBeforePayload, Tail, Short, Read, Write}
+use Rattle.luks_payload.specs.declared.fault.VolumeFault.TheVariants.{CutBeforePayload, Read, Write}
 use Rattle.luks_payload.specs.declared.state.Step.{Step}
 use Rattle.luks_payload.specs.declared.state.Step.TheVariants.{Sector, End}
-use Rattle.luks_payload.proofs.SectorLemmas.{all_whole, at_limit, at_limit_end, before_end, by_ending}
-use Rattle.luks_payload.proofs.SectorLemmas.{ends_at_end, ends_before, is_whole, is_within, none_whole}
+use Rattle.luks_payload.proofs.SectorLemmas.{at_limit, before_end, by_ending, ends_before, is_whole, is_within}
+use Rattle.luks_payload.proofs.SectorLemmas.{none_whole, at_torn}
 
 module _ (s : Segment) (image : List ℕ) (count : ℕ) where
   -- an end with the specified answer is the effect of a step
   steps_from_end : (cipher : Cipher) (already : ℕ) (left' before after : Option (List ℕ))
       (answer : Result Step VolumeFault) (len : ℕ) → answer ≡ ending_of_len s.size (sector_len s) len
-      → EndEffect image s count already answer left'
-      → StepEffect s cipher count already image answer left' before after
+      → EndEffect image s count already answer left' → StepEffect s cipher count already image answer left' before after
   steps_from_end cipher already l b a answer len is =
-      rw is (by_ending
-      (λ x. EndEffect image s count already x l → StepEffect s cipher count already image x l b a)
+      rw is (by_ending (λ x. EndEffect image s count already x l → StepEffect s cipher count already image x l b a)
       (λ e. e) (λ n e. e) (λ n e. e) s.size (sector_len s) len)
 
   module _ (prefix : List ℕ) (left : Option (List ℕ)) (positioned : PositionedAt image prefix
@@ -59,28 +57,27 @@ module _ (s : Segment) (image : List ℕ) (count : ℕ) where
 
     -- the sector was consumed
     pub sector_consumed : (left' : Option (List ℕ)) → count < max_sectors s
-        → IfKnown left (λ rest. ConsumedExactly rest left' (sector_len s - length prefix))
+        → ConsumedExactly (drop (sector_start s count + length prefix) image) left' (sector_len s - length prefix)
         → ConsumesSector image s count (sector_start s count + length prefix) left'
     sector_consumed left' below next =
         let least = (sector_blocks s.sector_size).long in
-        let within = (next (drop (sector_start s count + length prefix) image) positioned.consumption.left).within in
+        let within = next.within in
+        let all : sector_start s count + length prefix + (sector_len s - length prefix)
+        ≡ max (sector_start s count + length prefix) (sector_start s (count + 1)) = omega arith in
         record {
           is_one = is_whole (sector_len s) (omega arith) s.size count (bytes_from_start s image) below
               (omega (arith, there, long));
-          consumption = consumed_sum image left left' (sector_start s count + length prefix)
-              (sector_len s - length prefix) _ (omega arith) positioned.consumption next;
+          consumption = subst (ConsumedExactly image left') all (consumed_behind image left left'
+              (sector_start s count + length prefix) (sector_len s - length prefix) positioned.consumption next);
         }
 
     -- a read or a write failed
     pub step_aborted : (cipher : Cipher) (left' before after : Option (List ℕ)) (fault : VolumeFault)
-        → count < max_sectors s
-        → IfKnown left (λ rest. AbortsInSector cipher (unit_number s count) (sector_len s) prefix rest left' before
-        after fault)
+        → count < max_sectors s → AbortsInSector cipher (unit_number s count) (sector_len s) prefix
+        (drop (sector_start s count + length prefix) image) left' before after fault
         → StepEffect s cipher count (sector_start s count + length prefix) image (Err fault) left' before after
-    step_aborted cipher left' b a Read below stops =
+    step_aborted cipher left' b a Read below (count', few, next) =
         let least = (sector_blocks s.sector_size).long in
-        let (count', few, next) = stops (drop (sector_start s count + length prefix) image)
-        positioned.consumption.left in
         let within = next.within in
         let end = is_within (sector_len s) (omega arith) s.size count s.offset (length image)
         (sector_start s count + length prefix + count') below (omega arith) (omega (arith, there, long)) in (
@@ -89,31 +86,19 @@ module _ (s : Segment) (image : List ℕ) (count : ℕ) where
           omega arith,
           consumed_behind image left left' (sector_start s count + length prefix) count' positioned.consumption next,
         )
-    step_aborted cipher left' b a Write below stops =
-        let (next, more) = stops (drop (sector_start s count + length prefix) image) positioned.consumption.left in (
-          sector_consumed left' below (λ rest is. (stops rest is).0),
-          rw joined at more,
-        )
-    step_aborted cipher left' b a CutBeforePayload below stops =
-        absurd (stops (drop (sector_start s count + length prefix) image) positioned.consumption.left)
-    step_aborted cipher left' b a (Tail _) below stops =
-        absurd (stops (drop (sector_start s count + length prefix) image) positioned.consumption.left)
-    step_aborted cipher left' b a (Short _) below stops =
-        absurd (stops (drop (sector_start s count + length prefix) image) positioned.consumption.left)
+    step_aborted cipher left' b a Write below (next, more) = (sector_consumed left' below next, rw joined at more)
+    step_aborted cipher left' b a _ below stops = absurd stops
 
     -- the sector's plaintext was written
     pub sector_appended : (cipher : Cipher) (before after : Option (List ℕ))
         → IfKnown left (λ rest. Appended before after (unit_plain cipher (unit_number s count)
-        (take (sector_len s) (prefix ++ rest))))
-        → Appended before after (sector_plaintext s cipher image count)
+        (take (sector_len s) (prefix ++ rest)))) → Appended before after (sector_plaintext s cipher image count)
     sector_appended cipher b a adds =
         rw joined at (adds (drop (sector_start s count + length prefix) image) positioned.consumption.left)
 
     -- the image ended before the sector did
     pub steps_torn : (cipher : Cipher) (left' before after : Option (List ℕ)) (answer : Result Step VolumeFault)
-        (got : ℕ)
-        → count < max_sectors s
-        → IfKnown left (λ rest. (got ≡ min (sector_len s) (length (prefix ++ rest)))
+        (got : ℕ) → count < max_sectors s → IfKnown left (λ rest. (got ≡ min (sector_len s) (length (prefix ++ rest)))
         × ConsumedExactly rest left' (got - length prefix)) → got < sector_len s
         → answer ≡ ending_of_len s.size (sector_len s) (count * sector_len s + got)
         → StepEffect s cipher count (sector_start s count + length prefix) image answer left' before after
@@ -125,19 +110,18 @@ module _ (s : Segment) (image : List ℕ) (count : ℕ) where
         omega (arith, (next rest positioned.consumption.left).0, length-append prefix rest, there, long) in
         let len : bytes_from_start s image ≡ count * sector_len s + got = omega arith in
         let behind : nat_lt (length image) s.offset ≡ false = le-ltb (length image) s.offset (omega arith) in
+        let ends = at_torn (sector_len s) some s.size count got s.offset below torn in
         let end : payload_end_of s image ≡ length image =
-        ap (λ n. payload_end_in s.size s.offset n) whole
-        ∙ ends_at_end (sector_len s) some s.size count got s.offset below torn ∙ sym whole in
+        ap (λ n. payload_end_in s.size s.offset n) whole ∙ ends.1 ∙ sym whole in
         let all : max (sector_start s count + length prefix) (length image) ≡ length image = omega (arith, there) in
         let more : sector_start s count + length prefix + (got - length prefix) ≡ length image =
         omega (arith, there) in
         steps_from_end cipher (sector_start s count + length prefix) left' b a answer (count * sector_len s + got) is
         (record {
-          all = rw len (all_whole (sector_len s) some s.size count got below torn);
+          all = rw len ends.0;
           as_specified = rw (behind, len) is;
           consumption = rw (end, all) (consumed_sum image left left' (sector_start s count + length prefix)
-              (got - length prefix)
-              (length image) more positioned.consumption (λ rest is. (next rest is).1));
+              (got - length prefix) (length image) more positioned.consumption (λ rest is. (next rest is).1));
         })
 
     -- the limit is reached
@@ -149,16 +133,14 @@ module _ (s : Segment) (image : List ℕ) (count : ℕ) where
         let some : 0 < sector_len s = omega arith in
         let from : sector_start s count ≤ length image = omega (arith, there) in
         let behind : nat_lt (length image) s.offset ≡ false = le-ltb (length image) s.offset (omega (arith, there)) in
-        let ends = at_limit (sector_len s) some s.size count (bytes_from_start s image) least s.whole_sectors is
-        (omega (arith, there)) (omega arith) in
-        let end = at_limit_end (sector_len s) some s.size count s.offset (length image) least s.whole_sectors is from
+        let ends = at_limit (sector_len s) some s.size count s.offset (length image) least s.whole_sectors is from
         few in
         let same : max (sector_start s count + length prefix) (s.offset + count * sector_len s)
         ≡ sector_start s count + length prefix = omega arith in
         record {
           all = ends.0;
           as_specified = rw behind (sym ends.1);
-          consumption = rw (end, same) positioned.consumption;
+          consumption = rw (ends.2, same) positioned.consumption;
         }
 
 -- the image ends in a sector: a step may give this answer, and hit the end if it gives it
@@ -224,25 +206,20 @@ module _ (p : PumpModel) (image : List ℕ) (r r' : Option (List ℕ)) (early : 
   skips (Err CutBeforePayload) ok err =
       let (few, next) = err (drop p.consumed_before image) consumption.left in
       let long = length-drop p.consumed_before image in
-      let is : r' ≡ Some (drop (length image) image) = next.left
-      ∙ ap Some (drop-drop (length (drop p.consumed_before image)) p.consumed_before image
-      ∙ ap (λ n. drop n image) (omega (arith, consumption.within))) in
-      (omega (arith, consumption.within), record { within = omega arith; left = is })
+      let whole : p.consumed_before + length (drop p.consumed_before image) ≡ length image =
+      omega (arith, consumption.within) in (
+        omega (arith, consumption.within),
+        subst (ConsumedExactly image r') whole
+            (consumed_behind image r r' p.consumed_before (length (drop p.consumed_before image)) consumption next),
+      )
   skips (Err Read) ok err =
-      let (count, few, next) = err (drop p.consumed_before image) consumption.left in
-      let long = length-drop p.consumed_before image in
-      let within = next.within in (
+      let (count, few, next) = err (drop p.consumed_before image) consumption.left in (
         p.consumed_before + count,
         omega arith,
         omega arith,
-        record {
-          within = omega (arith, consumption.within);
-          left = next.left ∙ ap Some (drop-drop count p.consumed_before image);
-        },
+        consumed_behind image r r' p.consumed_before count consumption next,
       )
-  skips (Err (Tail _)) ok err = absurd (err (drop p.consumed_before image) consumption.left)
-  skips (Err (Short _)) ok err = absurd (err (drop p.consumed_before image) consumption.left)
-  skips (Err Write) ok err = absurd (err (drop p.consumed_before image) consumption.left)
+  skips (Err _) ok err = absurd (err (drop p.consumed_before image) consumption.left)
 
 -- the pump with these parts
 abbrev pub pumped : Segment → Cipher → ℕ → ℕ → State → List ℕ → PumpModel
@@ -267,9 +244,7 @@ module _ (s : Segment) (cipher : Cipher) (consumed count : ℕ) (prefix image : 
   skip_aborted Read none there (place, first, last, consumption) =
       let end = before_end s.size s.offset (length image) place (omega arith) consumption.within in
       (place, first, omega arith, consumption)
-  skip_aborted (Tail _) none there stops = absurd stops
-  skip_aborted (Short _) none there stops = absurd stops
-  skip_aborted Write none there stops = absurd stops
+  skip_aborted _ none there stops = absurd stops
 
   pub steps_unskipped : (state : State) (fault : VolumeFault) (T : Type 0)
       → PositionedIn image (pumped s cipher consumed count state prefix) r → SkipsAgain state (Err fault) T
@@ -285,10 +260,7 @@ module _ (s : Segment) (cipher : Cipher) (consumed count : ℕ) (prefix image : 
   steps_unskipped InPayload fault T positioned again none stops =
       let same = again.0 in
       cc
-  steps_unskipped Ended fault T positioned again none stops =
-      let not = positioned.running in
-      cc
-  steps_unskipped (Faulted _) fault T positioned again none stops =
+  steps_unskipped _ fault T positioned again none stops =
       let not = positioned.running in
       cc
 
@@ -299,8 +271,7 @@ was_before BeforePayload fault T again running = refl
 was_before InPayload fault T again running =
     let not = again.0 in
     cc
-was_before Ended fault T again running = cc
-was_before (Faulted _) fault T again running = cc
+was_before _ fault T again running = cc
 
 -- the reads of a failed skip are those of its step, which makes no write
 module _ (s : Segment) (count : ℕ) (fault : VolumeFault) (only : (fault ≡ CutBeforePayload) ⊎ (fault ≡ Read)) where
@@ -335,23 +306,17 @@ module _ (s : Segment) (cipher : Cipher) (count already : ℕ) (image : List ℕ
 
   steps_earlier : (answer : Result Step VolumeFault) → StepEffect s cipher count s.offset image answer l b a
       → StepEffect s cipher count already image answer l b a
-  steps_earlier (Ok Sector) (takes, adds) =
-      (takes_earlier takes, adds)
-  steps_earlier (Ok End) ends = ends_earlier (Ok End) ends
-  steps_earlier (Err CutBeforePayload) ends = ends_earlier (Err CutBeforePayload) ends
-  steps_earlier (Err (Tail bytes)) ends = ends_earlier (Err (Tail bytes)) ends
-  steps_earlier (Err (Short bytes)) ends = ends_earlier (Err (Short bytes)) ends
+  steps_earlier (Ok Sector) (takes, adds) = (takes_earlier takes, adds)
   steps_earlier (Err Read) (n, first, last, consumption) = (n, omega arith, last, consumption)
-  steps_earlier (Err Write) (takes, adds) =
-      (takes_earlier takes, adds)
+  steps_earlier (Err Write) (takes, adds) = (takes_earlier takes, adds)
+  steps_earlier ending ends = ends_earlier ending ends
 
 -- a step continues where its skip left the source
 module _ (s : Segment) (cipher : Cipher) (consumed count : ℕ) (prefix image : List ℕ)
     (r r' r'' before after : Option (List ℕ)) (answer : Result Step VolumeFault) where
   pub steps_skipped : (state : State) (T : Type 0)
       → PositionedIn image (pumped s cipher consumed count state prefix) r → consumed ≤ s.offset
-      → SkipsAgain state (Ok tt) T
-      → (T → r' ≡ r) → (state ≡ BeforePayload → (count ≡ 0) × (prefix ≡ []))
+      → SkipsAgain state (Ok tt) T → (T → r' ≡ r) → (state ≡ BeforePayload → (count ≡ 0) × (prefix ≡ []))
       → (state ≡ BeforePayload → SkipEffect (pumped s cipher consumed count state prefix) image (Ok tt) r')
       → (PositionedAt image prefix (sector_start s count) r'
       → StepEffect s cipher count (sector_start s count + length prefix) image answer r'' before after)
@@ -368,10 +333,7 @@ module _ (s : Segment) (cipher : Cipher) (consumed count : ℕ) (prefix image : 
       (steps (record { next = next; consumption = subst (ConsumedExactly image r') start consumption })))
   steps_skipped InPayload T positioned early again same none skipped steps = steps
       (rw (same again.1) positioned.positioned)
-  steps_skipped Ended T positioned early again same none skipped steps =
-      let not = positioned.running in
-      absurd (cc)
-  steps_skipped (Faulted _) T positioned early again same none skipped steps =
+  steps_skipped _ T positioned early again same none skipped steps =
       let not = positioned.running in
       absurd (cc)
 

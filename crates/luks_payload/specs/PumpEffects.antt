@@ -29,15 +29,12 @@ pub record PumpModel : Type 0 where
 abbrev pub is_running : State → Bool
 is_running BeforePayload = true
 is_running InPayload = true
-is_running Ended = false
-is_running (Faulted _) = false
+is_running _ = false
 
 -- the offset of the next byte in the image
 abbrev pub next_offset : State → ℕ → ℕ → ℕ
 next_offset BeforePayload consumed next = consumed
-next_offset InPayload consumed next = next
-next_offset Ended consumed next = next
-next_offset (Faulted _) consumed next = next
+next_offset _ consumed next = next
 
 -- the offset in the image of the next byte that a pump skips or forwards
 abbrev pub position : PumpModel → ℕ
@@ -63,9 +60,8 @@ state_after_skip (Faulted fault) _ = Faulted fault
 -- a skip touches nothing and repeats its answer if the pump is not before its payload
 abbrev pub SkipsAgain : State → Result (Unit {0}) VolumeFault → Type 0 → Type 0
 SkipsAgain BeforePayload answer untouched = Unit {0}
-SkipsAgain InPayload answer untouched = (answer ≡ Ok tt) × untouched
-SkipsAgain Ended answer untouched = (answer ≡ Ok tt) × untouched
 SkipsAgain (Faulted fault) answer untouched = (answer ≡ Err fault) × untouched
+SkipsAgain _ answer untouched = (answer ≡ Ok tt) × untouched
 
 -- a skip consumed the image up to the payload's start, or was aborted
 abbrev pub SkipEffect : PumpModel → List ℕ → Result (Unit {0}) VolumeFault → Option (List ℕ) → Type 0
@@ -73,9 +69,7 @@ SkipEffect p image (Ok _) left = ConsumedExactly image left p.segment.offset
 SkipEffect p image (Err CutBeforePayload) left = (length image < p.segment.offset)
     × ConsumedExactly image left (length image)
 SkipEffect p image (Err Read) left = ConsumedBetween image left p.consumed_before p.segment.offset
-SkipEffect p image (Err (Tail _)) left = ⊥
-SkipEffect p image (Err (Short _)) left = ⊥
-SkipEffect p image (Err Write) left = ⊥
+SkipEffect p image _ left = ⊥
 
 -- a pump after a step
 abbrev pub after_step : PumpModel → Result Step VolumeFault → PumpModel
@@ -94,39 +88,30 @@ StepsIdle (Faulted fault) full answer untouched = (answer ≡ Err fault) × unto
 -- a step that forwards a sector has written it, and one that ends or fails before a write has written nothing
 abbrev pub WritesSectors : Result Step VolumeFault → Type 0 → Type 0 → Type 0
 WritesSectors (Ok Sector) written unwritten = written
-WritesSectors (Ok End) written unwritten = unwritten
-WritesSectors (Err CutBeforePayload) written unwritten = unwritten
-WritesSectors (Err (Tail _)) written unwritten = unwritten
-WritesSectors (Err (Short _)) written unwritten = unwritten
-WritesSectors (Err Read) written unwritten = unwritten
 WritesSectors (Err Write) written unwritten = Unit {0}
+WritesSectors _ written unwritten = unwritten
 
 -- how the payload ends after `count` sectors: at its limit, or because less than one sector remains in the source
 abbrev pub EndsAt : Segment → ℕ → Result Step VolumeFault → Type 0
 EndsAt s count answer = ((count ≡ max_sectors s) × (answer ≡ Ok End))
-    ⊎ ((count < max_sectors s)
-    × ((more : ℕ) × (more < sector_len s)
+    ⊎ ((count < max_sectors s) × ((more : ℕ) × (more < sector_len s)
     × (answer ≡ ending_of_len s.size (sector_len s) (count * sector_len s + more))))
 
 -- the answers that a step may give, whatever its devices do
 abbrev pub MayAnswer : State → Segment → ℕ → Result Step VolumeFault → Type 0
 MayAnswer state s count (Ok Sector) = count < max_sectors s
-MayAnswer state s count (Ok End) = EndsAt s count (Ok End)
 MayAnswer state s count (Err CutBeforePayload) = state ≡ BeforePayload
-MayAnswer state s count (Err (Tail bytes)) = EndsAt s count (Err (Tail bytes))
-MayAnswer state s count (Err (Short bytes)) = EndsAt s count (Err (Short bytes))
 MayAnswer state s count (Err Read) = Unit {0}
 MayAnswer state s count (Err Write) = Unit {0}
+MayAnswer state s count ending = EndsAt s count ending
 
 -- whether a step after `count` sectors hit the end of its source; it did not if a limit ended the payload
 abbrev pub hits_eof_at : Segment → ℕ → Result Step VolumeFault → Bool
-hits_eof_at s count (Ok Sector) = false
 hits_eof_at s count (Ok End) = nat_lt count (max_sectors s)
 hits_eof_at s count (Err CutBeforePayload) = true
 hits_eof_at s count (Err (Tail _)) = true
 hits_eof_at s count (Err (Short _)) = true
-hits_eof_at s count (Err Read) = false
-hits_eof_at s count (Err Write) = false
+hits_eof_at s count _ = false
 
 -- sector `count` was consumed from the image, of which `already` bytes had been consumed before, and nothing past it
 pub record ConsumesSector (image : List ℕ) (segment : Segment) (count already : ℕ) (left : Option (List ℕ))
@@ -147,16 +132,10 @@ abbrev pub StepEffect : Segment → Cipher → ℕ → ℕ → List ℕ → Resu
     → Option (List ℕ) → Type 0
 StepEffect s cipher count already image (Ok Sector) left before after =
     ConsumesSector image s count already left × Appended before after (sector_plaintext s cipher image count)
-StepEffect s cipher count already image (Ok End) left before after = EndEffect image s count already (Ok End) left
-StepEffect s cipher count already image (Err CutBeforePayload) left before after =
-    EndEffect image s count already (Err CutBeforePayload) left
-StepEffect s cipher count already image (Err (Tail bytes)) left before after =
-    EndEffect image s count already (Err (Tail bytes)) left
-StepEffect s cipher count already image (Err (Short bytes)) left before after =
-    EndEffect image s count already (Err (Short bytes)) left
 StepEffect s cipher count already image (Err Read) left before after =
     ConsumedBetween image left already (min (sector_start s (count + 1)) (payload_end_of s image + 1))
 StepEffect s cipher count already image (Err Write) left before after =
     ConsumesSector image s count already left
     × ((written : ℕ) × (written < sector_len s) × Appended before after (take written
     (sector_plaintext s cipher image count)))
+StepEffect s cipher count already image ending left before after = EndEffect image s count already ending left

@@ -6,7 +6,7 @@ use Rattle.luks_io.specs.Devices.{Appended, ConsumedExactly, ConsumedFewer, IfKn
 use Rattle.luks_verdict.specs.declared.segment.Segment.{Segment}
 use Rattle.luks_payload.specs.Plain.{unit_plain, sector_len}
 use Rattle.luks_payload.specs.declared.fault.VolumeFault.{VolumeFault}
-use Rattle.luks_payload.specs.declared.fault.VolumeFault.TheVariants.{CutBeforePayload, Tail, Short, Read, Write}
+use Rattle.luks_payload.specs.declared.fault.VolumeFault.TheVariants.{CutBeforePayload, Read, Write}
 
 -- whether a read failed in a call with this answer
 abbrev pub is_pump_read_failure : {T : Type 0} → Result T VolumeFault → Bool
@@ -27,9 +27,7 @@ is_cut_before_payload _ = false
 abbrev pub StopsDiscarding : ℕ → List ℕ → Option (List ℕ) → VolumeFault → Type 0
 StopsDiscarding count known left CutBeforePayload = (length known < count) × ConsumedExactly known left (length known)
 StopsDiscarding count known left Read = ConsumedFewer known left count
-StopsDiscarding count known left (Tail _) = ⊥
-StopsDiscarding count known left (Short _) = ⊥
-StopsDiscarding count known left Write = ⊥
+StopsDiscarding count known left _ = ⊥
 
 -- the bytes of an image at this offset are `prefix`, and those after them remain in the source
 pub record PositionedAt (image prefix : List ℕ) (place : ℕ) (left' : Option (List ℕ)) : Type 0 where
@@ -57,12 +55,9 @@ abbrev pub AbortsInSector : Cipher → ℕ → ℕ → List ℕ → List ℕ →
     → VolumeFault → Type 0
 AbortsInSector cipher number len prefix known left' before after Read = ConsumedFewer known left' (len - length prefix)
 AbortsInSector cipher number len prefix known left' before after Write =
-    ConsumedExactly known left' (len - length prefix)
-    × ((count : ℕ) × (count < len)
+    ConsumedExactly known left' (len - length prefix) × ((count : ℕ) × (count < len)
     × Appended before after (take count (unit_plain cipher number (take len (prefix ++ known)))))
-AbortsInSector cipher number len prefix known left' before after CutBeforePayload = ⊥
-AbortsInSector cipher number len prefix known left' before after (Tail _) = ⊥
-AbortsInSector cipher number len prefix known left' before after (Short _) = ⊥
+AbortsInSector cipher number len prefix known left' before after _ = ⊥
 
 -- the sector with this unit number, which starts with the bytes of `prefix`, was consumed, and was written if it is
 -- whole: it has `got` bytes

@@ -159,7 +159,7 @@ impl<'a> Pump<'a> {
         }
     }
 
-    /// Consumes the image's bytes up to the payload's start and no more. Further calls touch
+    /// Consumes the image's bytes up to the payload's start, and none after it. Further calls touch
     /// nothing.
     ///
     /// # Errors

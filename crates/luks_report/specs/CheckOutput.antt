@@ -5,18 +5,10 @@ pub use Rattle.luks_check.specs.Findings.{findings_of}
 use Rattle.luks_report.specs.declared.message.Message.{Message}
 use Rattle.luks_report.specs.declared.message.Message.TheVariants.{Done, Findings}
 
--- what `luksCheck` prints of these findings
-abbrev pub findings_text : List ℕ → List ℕ
-findings_text findings = if length findings == 0 then codes "clean" ++ 10 ∷ [] else findings
-
--- how `luksCheck` ends with these findings
-abbrev pub message_for_findings : List ℕ → Message
-message_for_findings findings = if length findings == 0 then Done else Findings
-
--- what `luksCheck` prints of a header
+-- what `luksCheck` prints of a header: its findings, or that there are none
 unfoldable pub check_of : Header → List ℕ
-check_of header = findings_text (findings_of header)
+check_of header = if length (findings_of header) == 0 then codes "clean" ++ 10 ∷ [] else findings_of header
 
 -- how `luksCheck` of a header ends
 unfoldable pub message_for_check : Header → Message
-message_for_check header = message_for_findings (findings_of header)
+message_for_check header = if length (findings_of header) == 0 then Done else Findings

@@ -9,8 +9,9 @@ use crate::message::Message;
 #[derive(Clone, Copy, Debug, PartialEq, Eq)]
 pub struct Report {
     /// 0: success; 1: wrong arguments, a key file that is too long, a refused segment, no key slot
-    /// to try, findings, or, for `isLuks`, no LUKS header; 2: no key opens the volume; 3: out of
-    /// memory; 4: an input is not valid; 6: a read or a write failed.
+    /// to try, a named key slot that cannot be tried, findings, or, for `isLuks`, no LUKS header;
+    /// 2: no key opens the volume; 3: out of memory; 4: an input is not valid; 6: a read or a write
+    /// failed.
     pub status: u8,
     /// What is printed on standard error.
     pub message: Message,

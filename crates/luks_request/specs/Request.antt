@@ -111,12 +111,7 @@ volume_request o = record {
 }
 
 abbrev pub split_request : SplitArgs → SplitRequest
-split_request s = record {
-  hash = s.hash;
-  stripes = s.stripes.count;
-  random = s.random.now;
-  key = s.key.now;
-}
+split_request s = record { hash = s.hash; stripes = s.stripes.count; random = s.random.now; key = s.key.now }
 
 abbrev pub merge_request : MergeArgs → MergeRequest
 merge_request m = record {

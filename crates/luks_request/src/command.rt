@@ -47,7 +47,7 @@ pub struct VolumeArgs<'a> {
     pub header: Option<&'a str>,
     /// The name of the input with the passphrase.
     pub key_file: &'a str,
-    /// The one key slot to try. Without it, every key slot that can be tried is.
+    /// The only key slot to try. If none is named, all that can be tried are tried.
     pub key_slot: Option<SlotNumber>,
     /// The most iterations that a key slot or a digest may have.
     pub max_iterations: Option<IterationLimit>,

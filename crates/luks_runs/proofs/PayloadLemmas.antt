@@ -1,7 +1,7 @@
 -- Forwarding a payload sector by sector.
 use Rattle.std.proofs.Common.{◌≡◌, ℕ, zero, suc, ◌+◌, ◌-◌, ◌*◌, ◌/◌, ◌%◌, ◌^◌, ◌<◌, ◌≤◌, ◌⊎◌, inl, inr, List, [], ◌++◌}
 use Rattle.std.proofs.Common.{Option, None, Some, Result, Ok, Err, ◌∙◌, ap, sym, refl, take, drop, length, take_all}
-use Rattle.std.proofs.Common.{length-take-le, length-drop, length-append, append-nil, add-one, max, arith, false}
+use Rattle.std.proofs.Common.{length-take-le, length-drop, length-append, append-nil, add-one, max, min, arith, false}
 use Rattle.std.proofs.lemmas.Bool.{cases_lt}
 use Rattle.std.proofs.lemmas.List.{drop-drop, drop-take, drop_all, take-append-le}
 use Rattle.std.proofs.Math.Nat.{div-eq_of_lt-le, div-mul-le_self, mul-le-mul_left, mul-le-mul_right}
@@ -20,9 +20,7 @@ use Rattle.luks_payload.specs.Plain.{sector_start, sectors_of, unit_plain, paylo
 use Rattle.luks_payload.specs.PumpEffects.{EndEffect, PumpModel, PositionedIn, StepEffect, WritesSectors, after_step}
 use Rattle.luks_payload.specs.PumpEffects.{next_offset, position, consumed_by}
 use Rattle.luks_payload.specs.declared.fault.VolumeFault.{VolumeFault}
-use Rattle.luks_payload.specs.declared.fault.VolumeFault.TheVariants.{CutBeforePayload as VolumeCutBeforePayload}
-use Rattle.luks_payload.specs.declared.fault.VolumeFault.TheVariants.{Tail as VolumeTail}
-use Rattle.luks_payload.specs.declared.fault.VolumeFault.TheVariants.{Short as VolumeShort, Read, Write}
+use Rattle.luks_payload.specs.declared.fault.VolumeFault.TheVariants.{Read, Write}
 use Rattle.luks_payload.specs.declared.state.State.{State}
 use Rattle.luks_payload.specs.declared.state.State.TheVariants.{BeforePayload, InPayload, Ended, Faulted}
 use Rattle.luks_payload.specs.declared.state.Step.{Step}
@@ -77,21 +75,11 @@ pub within_len : (size : Option ℕ) (len : ℕ) → payload_bytes size len ≤ 
 within_len None len = omega arith
 within_len (Some size) len = omega arith
 
--- n bytes of a payload end at the payload's end or before it
-within_end : (size : Option ℕ) (offset len n : ℕ) → 0 < n → n ≤ payload_bytes size (len - offset)
-    → offset + n ≤ payload_end_in size offset len
-within_end None offset len n some few = omega arith
-within_end (Some size) offset len n some few = omega arith
-
--- an offset within whole sectors of a payload is within the payload
-offset_in_size : (size : Option ℕ) (offset len n place : ℕ) → place ≤ offset + n → n ≤ payload_bytes size (len - offset)
-    → place ≤ len → place ≤ payload_end_in size offset len
-offset_in_size None offset len n place few there within = within
-offset_in_size (Some size) offset len n place few there within = omega arith
-
-end_there : (size : Option ℕ) (offset len : ℕ) → payload_end_in size offset len ≤ len
-end_there None offset len = omega arith
-end_there (Some size) offset len = omega arith
+-- where a payload ends, by the number of its bytes
+payload_ends : (size : Option ℕ) (offset len : ℕ)
+    → payload_end_in size offset len ≡ min len (offset + payload_bytes size (len - offset))
+payload_ends None offset len = omega arith
+payload_ends (Some size) offset len = omega arith
 
 module _ (s : Segment) (image : List ℕ) where
   -- a sector of the payload ends at the payload's end or before it
@@ -102,11 +90,11 @@ module _ (s : Segment) (image : List ℕ) where
       let more : (i + 1) * sector_len s
       ≤ sectors_of s image * sector_len s = mul-le-mul_right (sector_len s) (omega arith) in
       let some : 1 * sector_len s ≤ (i + 1) * sector_len s = mul-le-mul_right (sector_len s) (omega arith) in
-      within_end s.size s.offset (length image) ((i + 1) * sector_len s) (omega (arith, z.long)) (omega arith)
+      omega (arith, z.long, payload_ends s.size s.offset (length image), within_len s.size (length image - s.offset))
 
   -- and so it is in the image
   sector_there : (i : ℕ) → i < sectors_of s image → sector_start s (i + 1) ≤ length image
-  sector_there i below = omega (arith, sector_before_end i below, end_there s.size s.offset (length image))
+  sector_there i below = omega (arith, sector_before_end i below, payload_ends s.size s.offset (length image))
 
   -- an image of fewer than 2^64 bytes has fewer than 2^64 - 1 sectors
   pub few_sectors : length image < 2 ^ 64 → sectors_of s image < 2 ^ 64 - 1
@@ -142,8 +130,7 @@ prefix_after_sector prefix image start z next = elim (cases_lt z (length prefix)
       let more : length prefix ≡ z + (length prefix - z) = omega arith in
       let rest : drop z prefix ≡ take (length prefix - z) (drop (start + z) image) =
       ap (drop z) next ∙ ap (λ n. drop z (take n (drop start image))) more
-      ∙ drop-take z (length prefix - z) (drop start image)
-      ∙ ap (take (length prefix - z)) (drop-drop z start image) in
+      ∙ drop-take z (length prefix - z) (drop start image) ∙ ap (take (length prefix - z)) (drop-drop z start image) in
       rest ∙ ap (λ n. take n (drop (start + z) image)) (sym (length-drop z prefix))
   | inr few ↦ let none : drop z prefix ≡ [] = drop_all z prefix (omega arith) in rw none refl
 ]
@@ -166,9 +153,7 @@ pub record Forwarding (p : PumpModel) (image : List ℕ) (loaded : ℕ) (left be
 
 pub forwarding_start : (p : PumpModel) (image : List ℕ) (loaded : ℕ) (left w : Option (List ℕ)) → p.count ≡ 0
     → p.consumed_before ≤ p.segment.offset → ((p.state ≡ BeforePayload) × (p.prefix ≡ [])) ⊎ (p.state ≡ InPayload)
-    → consumed_by p ≡ loaded
-    → PositionedIn image p left
-    → Forwarding p image loaded left w w
+    → consumed_by p ≡ loaded → PositionedIn image p left → Forwarding p image loaded left w w
 unfolding joined
 forwarding_start p image loaded left w none early bare consumed_to positioned = record {
   positioned = positioned;
@@ -238,8 +223,7 @@ module _ (p : PumpModel) (image : List ℕ) (loaded : ℕ) (l b w l' w' : Option
           bare = inr refl;
           consumed_to = next_consumed_end;
           few = omega (arith, sector.is_one);
-          wrote = rw add-one
-              (adds-more b w w' (joined (sector_plaintext p.segment p.cipher image) p.count)
+          wrote = rw add-one (adds-more b w w' (joined (sector_plaintext p.segment p.cipher image) p.count)
               (sector_plaintext p.segment p.cipher image p.count) so_far.wrote step.1);
         }
 
@@ -250,8 +234,7 @@ module _ (p : PumpModel) (image : List ℕ) (loaded : ℕ) (l b w l' w' : Option
         let within = so_far.positioned.positioned.consumption.within in
         let all : p.count * z ≤ sectors_of p.segment image * z = mul-le-mul_right z so_far.few in
         let whole = div-mul-le_self (payload_bytes p.segment.size (length image - p.segment.offset)) z in
-        offset_in_size p.segment.size p.segment.offset (length image) (p.count * z) (position p)
-        (omega (arith, place)) (omega arith) (omega arith)
+        omega (arith, place, payload_ends p.segment.size p.segment.offset (length image))
 
     -- the payload ended as specified
     ended : (answer : Result Step VolumeFault) → EndEffect image p.segment p.count (consumed_by p) answer l' → w' ≡ w
@@ -283,15 +266,8 @@ module _ (p : PumpModel) (image : List ℕ) (loaded : ℕ) (l b w l' w' : Option
         ≡ p.count = div-eq_of_lt-le (sector_len p.segment) (omega arith) (omega (arith, step.2, z.long)) in
         let whole = take_whole (sector_plaintext p.segment p.cipher image) (sector_len p.segment)
         (sectors_of p.segment image)
-        p.count (sector_size p.segment image p.cipher) so_far.few in (
-          end,
-          p.count,
-          sym row,
-          so_far.few,
-          omega (arith, step.2),
-          step.3,
-          rw (same, whole) so_far.wrote,
-        )
+        p.count (sector_size p.segment image p.cipher) so_far.few in
+        (end, p.count, sym row, so_far.few, omega (arith, step.2), step.3, rw (same, whole) so_far.wrote)
 
     -- a write failed within the next sector
     unwritten : StepEffect p.segment p.cipher p.count (consumed_by p) image (Err Write) l' w w'
@@ -318,11 +294,9 @@ module _ (p : PumpModel) (image : List ℕ) (loaded : ℕ) (l b w l' w' : Option
         → WritesSectors (Err fault) Wrote Same
         → StepEffect p.segment p.cipher p.count (consumed_by p) image (Err fault) l' w w'
         → ForwardsPayload p.segment p.cipher image loaded l' b w' (message_for_payload fault)
-    forwarding_aborts VolumeCutBeforePayload _ Same same is step = ended (Err VolumeCutBeforePayload) step (same is)
-    forwarding_aborts (VolumeTail bytes) _ Same same is step = ended (Err (VolumeTail bytes)) step (same is)
-    forwarding_aborts (VolumeShort bytes) _ Same same is step = ended (Err (VolumeShort bytes)) step (same is)
     forwarding_aborts Read _ Same same is step = lost step (same is)
     forwarding_aborts Write _ Same same is step = unwritten step
+    forwarding_aborts fault _ Same same is step = ended (Err fault) step (same is)
 
 -- ---- a pump that starts with loaded bytes
 
@@ -335,22 +309,19 @@ module _ (loaded image : List ℕ) (offset : ℕ) (within : offset ≤ length lo
   pub loaded_end : offset + length (take (length loaded - offset) (drop offset loaded)) ≡ length loaded
   loaded_end = omega (arith, prefix_length)
 
-  pub positioned_within : loaded ≡ take (length loaded) image
-      → take (length loaded - offset) (drop offset loaded)
+  pub positioned_within : loaded ≡ take (length loaded) image → take (length loaded - offset) (drop offset loaded)
       ≡ take (length (take (length loaded - offset) (drop offset loaded))) (drop offset image)
   positioned_within prefix =
       let more : length loaded ≡ offset + (length loaded - offset) = omega arith in
       take_all (length loaded - offset) (drop offset loaded) (omega (arith, length-drop offset loaded))
       ∙ ap (drop offset) prefix ∙ ap (λ n. drop offset (take n image)) more
-      ∙ drop-take offset (length loaded - offset) image
-      ∙ ap (λ n. take n (drop offset image)) (sym prefix_length)
+      ∙ drop-take offset (length loaded - offset) image ∙ ap (λ n. take n (drop offset image)) (sym prefix_length)
 
 -- ---- read-ahead
 
 -- no more read-ahead was allowed than before or than the payload needs
 pub reads_with_ahead_allowed : (s : Segment) (loaded : ℕ) (before after : ReadCounts) → after ≡ with_ahead after.ahead
-    before
-    → after.ahead ≤ max (max_needed s.size s.offset loaded) before.ahead
+    before → after.ahead ≤ max (max_needed s.size s.offset loaded) before.ahead
     → Reads false false (with_payload_ahead s loaded before) after
 reads_with_ahead_allowed s loaded before after is few = record {
   failures = ap (λ (c : ReadCounts). c.failures) is;

@@ -9,8 +9,8 @@ use Rattle.luks_report.specs.Dump.{dump_of, uuid_of}
 use Rattle.luks_report.specs.Faults.{message_for_header}
 use Rattle.luks_report.specs.declared.message.Message.{Message}
 use Rattle.luks_report.specs.declared.message.Message.TheVariants.{Done, No}
-use Rattle.luks_runs.specs.RunOutcome.{Outcome, no_output}
-use Rattle.luks_runs.specs.HeaderReading.{HeaderReader}
+use Rattle.luks_runs.specs.Run.{Outcome, no_output}
+use Rattle.luks_runs.specs.Location.{HeaderReader}
 use Rattle.luks_runs.specs.declared.headers.Printout.{Printout}
 use Rattle.luks_runs.specs.declared.headers.Printout.TheVariants.{Uuid, Dump, Check}
 
@@ -26,15 +26,11 @@ printout_text Uuid = uuid_of
 printout_text Dump = dump_of
 printout_text Check = check_of
 
--- the message says only that the text was printed
-abbrev pub always_done : Header → Message
-always_done header = Done
-
 -- the message once a text is printed
 abbrev pub printout_message : Printout → Header → Message
-printout_message Uuid = always_done
-printout_message Dump = always_done
-printout_message Check = message_for_check
+printout_message Uuid header = Done
+printout_message Dump header = Done
+printout_message Check header = message_for_check header
 
 -- what is printed of the header, if there is one
 abbrev pub printed : (Header → List ℕ) → Result Header HeaderFault → List ℕ
@@ -47,19 +43,11 @@ message_printing message_for (Ok header) = message_for header
 message_printing message_for (Err fault) = message_for_header fault
 
 -- `isLuks`: nothing is written
-unfoldable pub is_luks_outcome : List ℕ → Outcome
+abbrev pub is_luks_outcome : List ℕ → Outcome
 is_luks_outcome image = no_output (message_for_is_luks (header_of image)) (header_read_len image) 0
 
--- the outcome of a command that prints a text of a header read by `read`
-unfoldable pub print_outcome_by : HeaderReader → (Header → List ℕ) → (Header → Message) → List ℕ → Outcome
-print_outcome_by read text message_for image = record {
-  output = printed text (read image);
-  message = message_printing message_for (read image);
-  input_consumed = header_read_len image;
-  secret_consumed = 0;
-  payload_consumed = 0;
-}
-
--- the outcome of a command that prints a text of an attached header
-abbrev pub print_outcome : (Header → List ℕ) → (Header → Message) → List ℕ → Outcome
-print_outcome = print_outcome_by header_of
+-- the outcome of a command that prints this text of a header read by `read`
+abbrev pub print_outcome_by : HeaderReader → Printout → List ℕ → Outcome
+print_outcome_by read printout image =
+    record (no_output (message_printing (printout_message printout) (read image)) (header_read_len image) 0)
+    { output = printed (printout_text printout) (read image) }

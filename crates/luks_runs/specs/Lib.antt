@@ -1,11 +1,7 @@
 pub mod HeaderOutcome
-pub mod HeaderReading
 pub mod KeyFile
 pub mod Location
 pub mod Payload
-pub mod Printing
 pub mod Run
 pub mod RunMessages
-pub mod RunOutcome
 pub mod Stripe
-pub mod StripeParts

@@ -38,8 +38,7 @@ ForwardsPayload s cipher image loaded_len left before after WriteFailed =
     × Appended before after (take (count * sector_len s + written) (plain_of s cipher image))
 ForwardsPayload s cipher image loaded_len left before after message =
     (message ≡ message_at_end (ending_of s image)) × ConsumedExactly image left
-    (max loaded_len (payload_end_of s image))
-    × Appended before after (plain_of s cipher image)
+    (max loaded_len (payload_end_of s image)) × Appended before after (plain_of s cipher image)
 
 -- the same for every image shorter than 2^64 bytes that starts with these loaded bytes, if the source has the rest
 abbrev pub ForwardsLoaded : Segment → Cipher → List ℕ → Option (List ℕ) → Option (List ℕ) → Option (List ℕ)

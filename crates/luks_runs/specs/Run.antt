@@ -1,10 +1,31 @@
--- The effects of a run on its devices, and what it still satisfies if it is aborted. Each device is treated by itself:
--- a run consumes this many bytes of the first and of the second input, and writes this output; what that means for a
--- device is a separate fact.
+-- The outcome of a run, its effects on its devices, and what it still satisfies if it is aborted. Each device is
+-- treated by itself: a run consumes this many bytes of the first and of the second input, and writes this output; what
+-- that means for a device is a separate fact.
 use Rattle.std.specs.Prelude.{◌≡◌, ℕ, ◌<◌, ◌≤◌, List, length, take, Bool, true, false, MatchBool, Result, Ok, Err}
-use Rattle.luks_runs.specs.RunOutcome.{Outcome}
+use Rattle.std.specs.Prelude.{Option, []}
 use Rattle.luks_report.specs.declared.message.Message.{Message}
 use Rattle.luks_report.specs.declared.message.Message.TheVariants.{Done, OutOfMemory, ReadFailed, WriteFailed}
+use Rattle.luks_io.specs.Devices.{Appended}
+
+-- the output, the message, and how many bytes are consumed of each input. `input_consumed` counts the input that is
+-- read first: the image, the file with a detached header, the key, or the stripes. `payload_consumed` counts the
+-- payload's image if the header is detached; otherwise it is 0, since the payload is in the image that was counted
+pub record Outcome : Type 0 where
+  pub output : List ℕ
+  pub message : Message
+  pub input_consumed : ℕ
+  pub secret_consumed : ℕ
+  pub payload_consumed : ℕ
+
+-- an outcome without output
+abbrev pub no_output : Message → ℕ → ℕ → Outcome
+no_output message input_consumed secret_consumed = record {
+  output = [];
+  message = message;
+  input_consumed = input_consumed;
+  secret_consumed = secret_consumed;
+  payload_consumed = 0;
+}
 
 -- an allocation, a read or a write failed
 abbrev pub aborts : Message → Bool
@@ -13,68 +34,63 @@ aborts ReadFailed = true
 aborts WriteFailed = true
 aborts _ = false
 
--- how promptly a run was aborted: a fact about its message, the bytes of the first and of the second input that it
--- consumed, and the length of its output
+-- how promptly a run was aborted: a fact about its message, the bytes that it consumed of the first input, of the
+-- payload's image and of the second input, and the length of its output
 abbrev pub Promptness : Type 1
-Promptness = Message → ℕ → ℕ → ℕ → Type 0
+Promptness = Message → ℕ → ℕ → ℕ → ℕ → Type 0
 
 -- no promptness is specified
 abbrev pub AnyPromptness : Promptness
-AnyPromptness _ _ _ _ = Unit {0}
+AnyPromptness _ _ _ _ _ = Unit {0}
 
--- a run that runs out of memory writes nothing
-abbrev pub IsSilent : Message → ℕ → Type 0
-IsSilent OutOfMemory output = output ≡ 0
-IsSilent _ output = Unit {0}
-
--- the output has a valid length: at most that of the specified output, and less if a write failed
+-- the output has a valid length: at most that of the specified output, less if a write failed, and none if memory ran
+-- out
 abbrev pub IsPrefixLen : Message → ℕ → ℕ → Type 0
+IsPrefixLen OutOfMemory output stated = output ≡ 0
 IsPrefixLen WriteFailed output stated = output < stated
 IsPrefixLen _ output stated = output ≤ stated
 
 -- an aborted run: its output is a prefix of the specified one, and no input was consumed further than specified
 pub record Aborted (pace : Promptness) (outcome : Outcome) (message : Message)
-    (ConsumedInput ConsumedSecret : ℕ → Type 0)
-    (Wrote : List ℕ → Type 0) : Type 0 where
+    (ConsumedInput ConsumedPayload ConsumedSecret : ℕ → Type 0) (Wrote : List ℕ → Type 0) : Type 0 where
   pub input_consumed : ℕ
+  pub payload_consumed : ℕ
   pub secret_consumed : ℕ
   pub output_len : ℕ
   pub input_within : input_consumed ≤ outcome.input_consumed
+  pub payload_within : payload_consumed ≤ outcome.payload_consumed
   pub secret_within : secret_consumed ≤ outcome.secret_consumed
   pub output_within : IsPrefixLen message output_len (length outcome.output)
-  pub is_silent : IsSilent message output_len
-  pub is_prompt : pace message input_consumed secret_consumed output_len
+  pub is_prompt : pace message input_consumed payload_consumed secret_consumed output_len
   pub input : ConsumedInput input_consumed
+  pub payload : ConsumedPayload payload_consumed
   pub secret : ConsumedSecret secret_consumed
   pub output : Wrote (take output_len outcome.output)
 
 -- a run that was not aborted: the specified message, output and bytes consumed
-pub record Completed (outcome : Outcome) (message : Message) (ConsumedInput ConsumedSecret : ℕ → Type 0)
-    (Wrote : List ℕ → Type 0) : Type 0 where
+pub record Completed (outcome : Outcome) (message : Message)
+    (ConsumedInput ConsumedPayload ConsumedSecret : ℕ → Type 0) (Wrote : List ℕ → Type 0) : Type 0 where
   pub as_specified : message ≡ outcome.message
   pub input : ConsumedInput outcome.input_consumed
+  pub payload : ConsumedPayload outcome.payload_consumed
   pub secret : ConsumedSecret outcome.secret_consumed
   pub output : Wrote outcome.output
 
--- the run has this outcome, or was aborted on the way to it
-abbrev pub RunMatches : Promptness → Outcome → Message → (ℕ → Type 0) → (ℕ → Type 0) → (List ℕ → Type 0) → Type 0
-RunMatches pace outcome message ConsumedInput ConsumedSecret Wrote =
-    MatchBool (aborts message) (Aborted pace outcome message ConsumedInput ConsumedSecret Wrote)
-    (Completed outcome message ConsumedInput ConsumedSecret Wrote)
-
--- the run has this outcome, with the payload in another image than the header: it consumes as many bytes of the
--- payload's image as specified, or no more than that if it is aborted
-pub record DetachedRunMatches (pace : ℕ → Promptness) (outcome : Outcome) (message : Message)
-    (ConsumedInput ConsumedPayload ConsumedSecret : ℕ → Type 0) (Wrote : List ℕ → Type 0) : Type 0 where
-  pub payload_consumed : ℕ
-  pub payload_within : MatchBool (aborts message) (payload_consumed ≤ outcome.payload_consumed)
-      (payload_consumed ≡ outcome.payload_consumed)
-  pub payload : ConsumedPayload payload_consumed
-  pub run : RunMatches (pace payload_consumed) outcome message ConsumedInput ConsumedSecret Wrote
+-- the run has this outcome, or was aborted on the way to it; the payload is in another image than the header
+abbrev pub DetachedRunMatches : Promptness → Outcome → Message → (ℕ → Type 0) → (ℕ → Type 0) → (ℕ → Type 0)
+    → (List ℕ → Type 0) → Type 0
+DetachedRunMatches pace outcome message ConsumedInput ConsumedPayload ConsumedSecret Wrote =
+    MatchBool (aborts message) (Aborted pace outcome message ConsumedInput ConsumedPayload ConsumedSecret Wrote)
+    (Completed outcome message ConsumedInput ConsumedPayload ConsumedSecret Wrote)
 
 -- nothing is consumed of an input that a command does not have
 abbrev pub ConsumedNothing : ℕ → Type 0
 ConsumedNothing count = count ≡ 0
+
+-- the same with no image for the payload alone
+abbrev pub RunMatches : Promptness → Outcome → Message → (ℕ → Type 0) → (ℕ → Type 0) → (List ℕ → Type 0) → Type 0
+RunMatches pace outcome message ConsumedInput ConsumedSecret Wrote =
+    DetachedRunMatches pace outcome message ConsumedInput ConsumedNothing ConsumedSecret Wrote
 
 -- the message of a part of a run
 abbrev pub result_message : {T : Type 0} → Result T Message → Message
@@ -90,3 +106,11 @@ is_run_read_failure _ = false
 abbrev pub is_run_write_failure : Message → Bool
 is_run_write_failure WriteFailed = true
 is_run_write_failure _ = false
+
+-- printing a text, with the message `whole_message` if it is printed whole: memory ran out before its first byte, a
+-- write failed within it, or all of it was written
+abbrev pub Prints : List ℕ → Message → Option (List ℕ) → Option (List ℕ) → Message → Type 0
+Prints text whole_message before after OutOfMemory = after ≡ before
+Prints text whole_message before after WriteFailed = (n : ℕ) × (n < length text) × Appended before after (take n text)
+Prints text whole_message before after ReadFailed = ⊥
+Prints text whole_message before after message = (message ≡ whole_message) × Appended before after text

@@ -18,14 +18,10 @@ IsLuksMessage _ = ⊥
 
 -- the messages of a command that prints a text of the header
 abbrev pub PrintMessage : Message → Type 0
-PrintMessage Done = Unit {0}
+PrintMessage No = ⊥
 PrintMessage NotLuks = Unit {0}
-PrintMessage Cut = Unit {0}
-PrintMessage Json = Unit {0}
-PrintMessage OutOfMemory = Unit {0}
-PrintMessage ReadFailed = Unit {0}
 PrintMessage WriteFailed = Unit {0}
-PrintMessage _ = ⊥
+PrintMessage message = IsLuksMessage message
 
 -- the messages of a check, which may have findings
 abbrev pub CheckMessage : Message → Type 0

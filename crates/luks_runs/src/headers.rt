@@ -5,7 +5,7 @@ ghost use Rattle.luks_io.specs.Devices.{Appended, ConsumedExactly, IfKnown};
 ghost use Rattle.luks_io.specs.Counts.{Reads, Writes};
 ghost use Rattle.luks_runs.specs.HeaderOutcome.{message_for_is_luks, is_luks_outcome};
 ghost use Rattle.luks_runs.specs.HeaderOutcome.{print_outcome_by, printout_text, printout_message};
-ghost use Rattle.luks_runs.specs.Printing.{Prints};
+ghost use Rattle.luks_runs.specs.Run.{Prints};
 ghost use Rattle.luks_runs.specs.Run.{ConsumedNothing, RunMatches, AnyPromptness, result_message};
 ghost use Rattle.luks_runs.specs.Run.{is_run_read_failure, is_run_write_failure};
 ghost use Rattle.luks_runs.specs.RunMessages.{IsLuksMessage, PrintoutMessage};
@@ -95,8 +95,7 @@ pub fn print<S: Source, O: Sink>(
 ) -> Result<(), Message>
     ensures run { IfKnown (S.to_come image.old) (λ known.
         RunMatches AnyPromptness
-        (print_outcome_by (reader_for location) (printout_text printout)
-        (printout_message printout) known)
+        (print_outcome_by (reader_for location) printout known)
         (result_message result) (ConsumedExactly known (S.to_come image.new)) ConsumedNothing
         (Appended (O.written out.old) (O.written out.new))) }
     ensures only { PrintoutMessage printout (result_message result) }

@@ -1,4 +1,4 @@
-//! The location of a header, and reading it there.
+//! Where a header is stored, and how it is read from there.
 
 ghost use Rattle.std.specs.Prelude.{◌≡◌, Bool, Ok, IfOk, IfErr, length, take};
 ghost use Rattle.luks_io.specs.Counts.{Reads};

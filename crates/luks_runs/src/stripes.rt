@@ -9,9 +9,9 @@ ghost use Rattle.luks_runs.specs.Run.{ConsumedNothing, RunMatches, AnyPromptness
 ghost use Rattle.luks_runs.specs.Run.{is_run_read_failure, is_run_write_failure};
 ghost use Rattle.luks_runs.specs.RunMessages.{MergeMessage, SplitMessage};
 ghost use Rattle.luks_runs.specs.Stripe.{IsKeyLen, max_key_len, merge_outcome, split_outcome};
-ghost use Rattle.luks_runs.specs.StripeParts.{NoKeyRead, ForwardedBytes, AbortsAtStripe};
-ghost use Rattle.luks_runs.specs.StripeParts.{AbortsInStripe, AbortsReadingStripes};
-ghost use Rattle.luks_runs.specs.StripeParts.{ReadsForSplit, is_few, PromptSplit};
+ghost use Rattle.luks_runs.specs.Stripe.{NoKeyRead, ForwardedBytes, AbortsAtStripe};
+ghost use Rattle.luks_runs.specs.Stripe.{AbortsInStripe, AbortsReadingStripes};
+ghost use Rattle.luks_runs.specs.Stripe.{ReadsForSplit, is_few, PromptSplit};
 
 use luks_io::sink::{Sink, put_all};
 use luks_io::source::{Source, fill};

@@ -1,9 +1,72 @@
--- Bytes that are put together from parts of known lengths, as headers are from fields, are read back part by part.
-use Rattle.std.proofs.Common.{◌≡◌, ◌∙◌, ℕ, zero, suc, ◌+◌, List, [], ◌∷◌, ◌++◌, length, get_or, refl, ap, arith}
-use Rattle.std.proofs.Common.{length-append}
-use Rattle.std.proofs.lemmas.List.{take_at}
+-- Bytes at an offset: of concatenated lists, of fields padded with zeros, and of bytes that are put together from parts
+-- of known lengths, as headers are from fields.
+use Rattle.std.proofs.Common.{◌≡◌, ◌∙◌, ℕ, ◌+◌, ◌-◌, ◌≤◌, List, ◌++◌, length, take, drop, replicate, refl, sym, ap}
+use Rattle.std.proofs.Common.{arith, length-append, length-drop, zero, suc, [], ◌∷◌, get_or, take_at}
+use Rattle.std.proofs.lemmas.List.{drop-append-le, drop-drop, drop-take, drop_at, length-replicate, length-take-le}
+use Rattle.std.proofs.lemmas.List.{take-append-le, take-take, take_all}
 use Rattle.luks_area.specs.Fields.{at}
-use Rattle.luks_seal.proofs.SlicingLemmas.{at_within_second}
+use Rattle.luks_seal.specs.Pieces.{padded}
+
+-- a part that is within the first of two lists
+pub at_first : (place len : ℕ) (xs ys : List ℕ) → place + len ≤ length xs → at place len (xs ++ ys) ≡ at place len xs
+at_first place len xs ys there =
+    ap (take len) (drop-append-le place xs ys (omega arith))
+    ∙ take-append-le len (drop place xs) ys (omega (arith, length-drop place xs))
+
+-- a part that starts within the second of two lists
+pub at_within_second : (place k len : ℕ) (xs ys : List ℕ) → place ≡ length xs + k → at place len (xs ++ ys) ≡ at k len
+    ys
+at_within_second place k len xs ys is =
+    ap (take len)
+    (ap (λ n. drop n (xs ++ ys)) is ∙ sym (drop-drop k (length xs) (xs ++ ys))
+    ∙ ap (drop k) (drop_at xs ys (length xs) refl))
+
+-- a part that is the second of two lists
+pub at_second : (place len : ℕ) (xs ys : List ℕ) → place ≡ length xs → length ys ≡ len → at place len (xs ++ ys) ≡ ys
+at_second place len xs ys is all =
+    at_within_second place 0 len xs ys (omega arith) ∙ take_all len ys (omega arith)
+
+-- a part of a part
+pub at_at : (place len start size : ℕ) (xs : List ℕ) → place + len ≤ size
+    → at place len (at start size xs) ≡ at (start + place) len xs
+at_at place len start size xs inside =
+    let whole : place + (size - place) ≡ size = omega arith in
+    ap (λ n. take len (drop place (take n (drop start xs)))) (sym whole)
+    ∙ ap (take len) (drop-take place (size - place) (drop start xs))
+    ∙ take-take len (size - place) (drop place (drop start xs)) (omega arith)
+    ∙ ap (take len) (drop-drop place start xs)
+
+-- bytes within a part are bytes of that part
+pub at_inside : (start k len place size : ℕ) (xs part : List ℕ) → start ≡ place + k → k + len ≤ size
+    → at place size xs ≡ part → at start len xs ≡ at k len part
+at_inside start k len place size xs part starts inside is =
+    ap (λ n. at n len xs) starts ∙ sym (at_at k len place size xs inside) ∙ ap (at k len) is
+
+-- a part that ends within a list has its full length
+pub length-at : (place len : ℕ) (xs : List ℕ) → place + len ≤ length xs → length (at place len xs) ≡ len
+length-at place len xs there = length-take-le len (drop place xs) (omega (arith, length-drop place xs))
+
+-- padded bytes have the stated length, if that is not too short
+pub length-padded : (capacity : ℕ) (xs : List ℕ) → length xs ≤ capacity → length (padded capacity xs) ≡ capacity
+unfolding padded
+length-padded capacity xs fits =
+    omega (
+      arith,
+      length-append xs (replicate (capacity - length xs) 0),
+      length-replicate {A = ℕ} (capacity - length xs) 0,
+    )
+
+-- bytes of padded bytes are bytes of the bytes themselves
+pub at_padded : (place len capacity : ℕ) (xs : List ℕ) → place + len ≤ length xs
+    → at place len (padded capacity xs) ≡ at place len xs
+unfolding padded
+at_padded place len capacity xs there = at_first place len xs (replicate (capacity - length xs) 0) there
+
+-- padded bytes begin with the bytes themselves
+pub padded_begins : (len capacity : ℕ) (xs : List ℕ) → len ≡ length xs → at 0 len (padded capacity xs) ≡ xs
+padded_begins len capacity xs is = at_padded 0 len capacity xs (omega arith) ∙ take_all len xs (omega arith)
+
+-- ---- parts, which are read back one by one
 
 -- a part and its length
 pub record Part : Type 0 where
@@ -37,17 +100,18 @@ part_there (suc k) (first ∷ parts) =
     (joined_parts parts) (omega (arith, first.is))
     ∙ part_there k parts
 
--- a part is where it begins
-pub part_at : (k : ℕ) (parts : List Part) (bytes : List ℕ) → bytes ≡ joined_parts parts
-    → at (begin_of k parts) (part_of k parts).len bytes ≡ (part_of k parts).bytes
-part_at k parts bytes are = ap (at (begin_of k parts) (part_of k parts).len) are ∙ part_there k parts
-
 length-joined_parts : (parts : List Part) → length (joined_parts parts) ≡ begin_of (length parts) parts
 length-joined_parts [] = refl
 length-joined_parts (first ∷ parts) =
     omega (arith, length-append first.bytes (joined_parts parts), first.is, length-joined_parts parts)
 
--- the bytes are as long as all parts together
-pub length-parts : (parts : List Part) (bytes : List ℕ) → bytes ≡ joined_parts parts
-    → length bytes ≡ begin_of (length parts) parts
-length-parts parts bytes are = ap length are ∙ length-joined_parts parts
+-- the parts of some bytes: each is where it begins, and the bytes are as long as all parts together
+pub record AreParts (bytes : List ℕ) (parts : List Part) : Type 0 where
+  pub part_at : (k : ℕ) → at (begin_of k parts) (part_of k parts).len bytes ≡ (part_of k parts).bytes
+  pub len : length bytes ≡ begin_of (length parts) parts
+
+pub are_parts : (bytes : List ℕ) (parts : List Part) → bytes ≡ joined_parts parts → AreParts bytes parts
+are_parts bytes parts are = record {
+  part_at = λ k. ap (at (begin_of k parts) (part_of k parts).len) are ∙ part_there k parts;
+  len = ap length are ∙ length-joined_parts parts;
+}

@@ -1,9 +1,5 @@
-pub mod PieceLemmas
-pub mod SlicingLemmas
 pub mod FieldLemmas
 pub mod SlotLemmas
 pub mod RuleLemmas
-pub mod ByteLemmas
-pub mod DerivedLemmas
-pub mod SectorLemmas
 pub mod MaterialLemmas
+pub mod SectorLemmas

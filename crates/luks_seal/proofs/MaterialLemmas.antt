@@ -1,24 +1,130 @@
--- Key material: the stripes of a key in whole sectors, encrypted.
-use Rattle.std.proofs.Common.{◌≡◌, ◌∙◌, ℕ, ◌+◌, ◌-◌, ◌*◌, ◌/◌, ◌<◌, ◌≤◌, List, length, take, refl, sym, ap, arith}
-use Rattle.std.proofs.Common.{length-append, Some}
-use Rattle.std.specs.Int.{div_ceil}
-use Rattle.std.proofs.Math.Nat.{mul-le-mul_right}
+-- What consists of bytes: digests, derived keys, stripes and padded fields. Key material: the stripes of a key in whole
+-- sectors, encrypted.
+use Rattle.std.proofs.Common.{ℕ, zero, suc, ◌-◌, List, [], ◌∷◌, ◌++◌, length, replicate, slice_index, arith, ◌≡◌, ◌∙◌}
+use Rattle.std.proofs.Common.{◌+◌, ◌*◌, ◌/◌, ◌<◌, ◌≤◌, refl, sym, ap, length-append, Some, mul-le-mul_right}
+use Rattle.std.specs.Int.{div_ceil, to_be_bytes, w32, w64}
+use Rattle.std.specs.Int.Bits.{xor_lt}
+use Rattle.sha1.specs.Sha1.{digest_bytes as digest1_bytes, sha1}
+use Rattle.sha2.specs.Sha256.{digest_bytes as digest256_bytes, sha224, sha256}
+use Rattle.sha2.specs.Sha512.{digest_bytes as digest512_bytes, sha384, sha512}
 use Rattle.luks_aes.specs.Bytes.{IsBytes}
+use Rattle.luks_aes.proofs.ByteLists.{bytes_append, bytes_cons, bytes_nil, bytes_take, bytes_drop}
+use Rattle.luks_kdf.specs.Bytes.{joined, xor}
+use Rattle.luks_kdf.specs.Hash.{hash_of, digest_len}
+use Rattle.luks_kdf.specs.Stripes.{splitter_block, diffused, diffused_piece, piece_of, stripe_at}
+use Rattle.luks_kdf.specs.declared.hash.Hash.{Hash}
+use Rattle.luks_kdf.specs.declared.hash.Hash.TheVariants.{Sha1, Sha224, Sha256, Sha384, Sha512}
+use Rattle.luks_seal.specs.Pieces.{padded, stripes_of, encrypted_material, wrapping_number, sector_padded}
+use Rattle.luks_kdf.specs.Hmac.{hmac_of}
+use Rattle.luks_kdf.specs.Pbkdf2.{derived_key, t_of, u_of}
 use Rattle.luks_area.specs.Fields.{at}
 use Rattle.luks_cipher.specs.declared.mode.Mode.{Mode}
-use Rattle.luks_kdf.specs.Bytes.{xor}
-use Rattle.luks_kdf.specs.Pbkdf2.{derived_key}
-use Rattle.luks_kdf.specs.Stripes.{splitter_block}
-use Rattle.luks_kdf.specs.declared.hash.Hash.{Hash}
 use Rattle.luks_kdf.proofs.BytesLemmas.{length-xor}
 use Rattle.luks_kdf.proofs.StripesLemmas.{length-splitter_block}
 use Rattle.luks_verdict.specs.Rule.{need_of}
 use Rattle.luks_verdict.specs.declared.slot.SlotParts.{SlotParts}
-use Rattle.luks_seal.specs.Pieces.{encrypted_material, stripes_of, wrapping_number, sector_padded}
 use Rattle.luks_seal.specs.Sealed.{GivesKey, IsMaterial, IsStoredEncrypted}
-use Rattle.luks_seal.proofs.ByteLemmas.{padded_bytes, stripes_bytes}
-use Rattle.luks_seal.proofs.SectorLemmas.{length-sectors_encrypted, sectors_are_stored, stored_under}
-use Rattle.luks_seal.proofs.SlicingLemmas.{length-padded, padded_begins}
+use Rattle.luks_seal.proofs.SectorLemmas.{length-sectors_encrypted, sectors_are_stored}
+use Rattle.luks_seal.proofs.FieldLemmas.{length-padded, padded_begins}
+
+pub zeros_bytes : (n : ℕ) → IsBytes (replicate n 0)
+zeros_bytes zero = bytes_nil
+zeros_bytes (suc n) = bytes_cons (omega arith) (zeros_bytes n)
+
+word_bytes : (n : ℕ) → IsBytes (to_be_bytes w32 n)
+word_bytes n =
+    bytes_cons (omega arith) (bytes_cons (omega arith) (bytes_cons (omega arith) (bytes_cons (omega arith) bytes_nil)))
+
+long_bytes : (n : ℕ) → IsBytes (to_be_bytes w64 n)
+long_bytes n =
+    bytes_cons (omega arith) (bytes_cons (omega arith) (bytes_cons (omega arith) (bytes_cons (omega arith)
+    (bytes_cons (omega arith) (bytes_cons (omega arith) (bytes_cons (omega arith) (bytes_cons (omega arith)
+    bytes_nil)))))))
+
+-- the words of a hash value consist of bytes
+words1_bytes : (h : List ℕ) (n : ℕ) → IsBytes (digest1_bytes h n)
+unfolding digest1_bytes
+words1_bytes h zero = bytes_nil
+words1_bytes h (suc n) = bytes_append _ _ (words1_bytes h n) (word_bytes (slice_index h n))
+
+words256_bytes : (h : List ℕ) (n : ℕ) → IsBytes (digest256_bytes h n)
+unfolding digest256_bytes
+words256_bytes h zero = bytes_nil
+words256_bytes h (suc n) = bytes_append _ _ (words256_bytes h n) (word_bytes (slice_index h n))
+
+words512_bytes : (h : List ℕ) (n : ℕ) → IsBytes (digest512_bytes h n)
+unfolding digest512_bytes
+words512_bytes h zero = bytes_nil
+words512_bytes h (suc n) = bytes_append _ _ (words512_bytes h n) (long_bytes (slice_index h n))
+
+-- a digest consists of bytes
+pub hash_bytes : (h : Hash) (message : List ℕ) → IsBytes (hash_of h message)
+unfolding sha1 sha224 sha256 sha384 sha512
+hash_bytes Sha1 message = words1_bytes _ 5
+hash_bytes Sha224 message = bytes_take 28 _ (words256_bytes _ 8)
+hash_bytes Sha256 message = words256_bytes _ 8
+hash_bytes Sha384 message = bytes_take 48 _ (words512_bytes _ 8)
+hash_bytes Sha512 message = words512_bytes _ 8
+
+-- joined pieces consist of bytes, if each piece does
+pub joined_bytes : (piece : ℕ → List ℕ) (n : ℕ) → ((i : ℕ) → IsBytes (piece i)) → IsBytes (joined piece n)
+unfolding joined
+joined_bytes piece zero each = bytes_nil
+joined_bytes piece (suc n) each = bytes_append _ _ (joined_bytes piece n each) (each n)
+
+-- a diffused block consists of bytes, whatever the block was
+diffused_bytes : (h : Hash) (block : List ℕ) → IsBytes (diffused h block)
+unfolding diffused diffused_piece
+diffused_bytes h block =
+    joined_bytes (diffused_piece h block) (div_ceil (length block) (digest_len h))
+    (λ j. bytes_take (length (piece_of h block j)) _ (hash_bytes h (to_be_bytes w32 j ++ piece_of h block j)))
+
+chain_bytes : (h : Hash) (len : ℕ) (stripes : List ℕ) (i : ℕ) → IsBytes (splitter_block h len stripes i)
+unfolding splitter_block
+chain_bytes h len stripes zero = zeros_bytes len
+chain_bytes h len stripes (suc i) = diffused_bytes h (xor (splitter_block h len stripes i) (stripe_at len stripes i))
+
+pub xor_bytes : (xs ys : List ℕ) → IsBytes xs → IsBytes ys → IsBytes (xor xs ys)
+unfolding xor
+xor_bytes [] ys first second = bytes_nil
+xor_bytes (x ∷ xs) [] first second = bytes_nil
+xor_bytes (x ∷ xs) (y ∷ ys) first second =
+    bytes_cons (xor_lt 8 x y (first.each 0) (second.each 0))
+    (xor_bytes xs ys (bytes_drop 1 (x ∷ xs) first) (bytes_drop 1 (y ∷ ys) second))
+
+-- the stripes of a key consist of bytes, if the key and the random stripes do
+pub stripes_bytes : (hash : Hash) (key : List ℕ) (count : ℕ) (random : List ℕ) → IsBytes key → IsBytes random
+    → IsBytes (stripes_of hash key count random)
+unfolding stripes_of
+stripes_bytes hash key count random keys drawn =
+    bytes_append random _ drawn
+    (xor_bytes (splitter_block hash (length key) random (count - 1)) key
+    (chain_bytes hash (length key) random (count - 1)) keys)
+
+-- bytes padded with zeros are bytes
+pub padded_bytes : (capacity : ℕ) (xs : List ℕ) → IsBytes xs → IsBytes (padded capacity xs)
+unfolding padded
+padded_bytes capacity xs all = bytes_append xs _ all (zeros_bytes (capacity - length xs))
+
+-- ---- keys that PBKDF2 derives, whatever they are derived from
+
+u_bytes : (h : Hash) (password salt : List ℕ) (i j : ℕ) → IsBytes (u_of h password salt i (suc j))
+unfolding u_of hmac_of
+u_bytes h password salt i j = hash_bytes h _
+
+t_bytes : (h : Hash) (password salt : List ℕ) (i c : ℕ) → IsBytes (t_of h password salt i c)
+unfolding t_of
+t_bytes h password salt i zero = zeros_bytes (digest_len h)
+t_bytes h password salt i (suc c) =
+    xor_bytes (t_of h password salt i c) (u_of h password salt i (suc c)) (t_bytes h password salt i c)
+    (u_bytes h password salt i c)
+
+pub derived_bytes : (h : Hash) (password salt : List ℕ) (c n : ℕ) → IsBytes (derived_key h password salt c n)
+unfolding derived_key
+derived_bytes h password salt c n =
+    bytes_take n _
+    (joined_bytes (λ i. t_of h password salt (suc i) c) (div_ceil n (digest_len h))
+    (λ i. t_bytes h password salt (suc i) c))
 
 -- ---- whole sectors
 
@@ -28,22 +134,9 @@ unfolding sector_padded
 length-whole_sectors bytes =
     length-padded (div_ceil (length bytes) 512 * 512) bytes (omega arith) ∙ omega arith
 
--- bytes padded to whole sectors begin with those bytes
-whole_sectors_begin : (n : ℕ) (bytes : List ℕ) → n ≡ length bytes → take n (sector_padded bytes) ≡ bytes
-unfolding sector_padded
-whole_sectors_begin n bytes is = padded_begins n (div_ceil (length bytes) 512 * 512) bytes is
-
 whole_sectors_bytes : (bytes : List ℕ) → IsBytes bytes → IsBytes (sector_padded bytes)
 unfolding sector_padded
 whole_sectors_bytes bytes all = padded_bytes (div_ceil (length bytes) 512 * 512) bytes all
-
--- encrypted key material is as long as its stripes padded to whole sectors
-length-encrypted_material : (mode : Mode) (area_key stripes : List ℕ)
-    → length (encrypted_material (mode, area_key) stripes) ≡ (length stripes + 511) / 512 * 512
-unfolding encrypted_material
-length-encrypted_material mode area_key stripes =
-    let len = length-whole_sectors stripes in
-    length-sectors_encrypted (mode, area_key) 0 1 512 (sector_padded stripes) refl (omega arith) ∙ len
 
 -- ---- stripes
 
@@ -69,32 +162,30 @@ module _ (af : Hash) (key : List ℕ) (count : ℕ) (random : List ℕ) (drawn :
   -- encrypted, they are as long as the key material of a slot
   pub length-material : (mode : Mode) (area_key : List ℕ)
       → length (encrypted_material (mode, area_key) (stripes_of af key count random)) ≡ need_of (length key) count
-  unfolding need_of
+  unfolding need_of encrypted_material
   length-material mode area_key =
-      length-encrypted_material mode area_key (stripes_of af key count random)
+      let stripes = stripes_of af key count random in
+      let len = length-whole_sectors stripes in
+      length-sectors_encrypted (mode, area_key) 0 1 512 (sector_padded stripes) refl (omega (arith, len))
+      ∙ len
       ∙ ap (λ n. (n + 511) / 512 * 512) length-stripes_of
 
-  -- the stripes have at most 256,000 bytes
-  few_stripes : length key * count ≤ 256000
-  few_stripes =
-      let few : length key * count ≤ 64 * count = mul-le-mul_right {m = length key} {n = 64} count drawn.key_most in
-      omega (arith, few, drawn.few)
-
-  -- the stripes in whole sectors are key material of the key
-  made_material : (parts : SlotParts) → parts.stripes ≡ count
-      → IsMaterial af parts key (sector_padded (stripes_of af key count random))
-  unfolding stripes_of need_of
-  made_material parts is = record {
-    random = random;
-    split = (
-      count - 1,
-      drawn.len,
-      whole_sectors_begin (length key * parts.stripes) (stripes_of af key count random)
-          (ap (λ n. length key * n) is ∙ sym length-stripes_of),
-    );
-    len = length-whole_sectors (stripes_of af key count random)
-        ∙ ap (λ n. (n + 511) / 512 * 512) (length-stripes_of ∙ ap (λ n. length key * n) (sym is));
-  }
+-- the stripes in whole sectors are key material of the key
+made_material : (af : Hash) (parts : SlotParts) (key random : List ℕ) → AreRandomStripes key parts.stripes random
+    → IsMaterial af parts key (sector_padded (stripes_of af key parts.stripes random))
+unfolding stripes_of need_of sector_padded
+made_material af parts key random drawn =
+    let stripes = stripes_of af key parts.stripes random in
+    let long = length-stripes_of af key parts.stripes random drawn in
+    record {
+      random = random;
+      split = (
+        parts.stripes - 1,
+        drawn.len,
+        padded_begins (length key * parts.stripes) (div_ceil (length stripes) 512 * 512) stripes (sym long),
+      );
+      len = length-whole_sectors stripes ∙ ap (λ n. (n + 511) / 512 * 512) long;
+    }
 
 -- ---- key material in an image
 
@@ -109,9 +200,8 @@ material_is_stored mode area_key stripes place image bytes few there is =
     let len = length-whole_sectors stripes in
     let same : (i : ℕ) → i < length (sector_padded stripes) / 512 → wrapping_number 0 1 i ≡ i =
     λ i low. omega (arith, len) in
-    stored_under (mode, area_key) (wrapping_number 0 1) (λ i. i) 512 place (sector_padded stripes) image same
-    (sectors_are_stored (mode, area_key) 0 1 512 (sector_padded stripes) refl (omega (arith, len)) place image
-    (whole_sectors_bytes stripes bytes) there is)
+    sectors_are_stored (mode, area_key) 0 1 512 (sector_padded stripes) refl (omega (arith, len)) (λ i. i) same place
+    image (whole_sectors_bytes stripes bytes) there is
 
 -- what a key slot with these parts is made from
 pub record IsMade (parts : SlotParts) (kdf af : Hash) (mode : Mode) (key random : List ℕ) : Type 0 where
@@ -134,8 +224,10 @@ pub gives_key : (parts : SlotParts) (kdf af : Hash) (mode : Mode) (passphrase ke
 gives_key parts kdf af mode passphrase key random image made there is =
     let stripes = stripes_of af key parts.stripes random in
     let long = length-stripes_of af key parts.stripes random made.drawn in
-    let material = made_material af key parts.stripes random made.drawn parts refl in
+    let material = made_material af parts key random made.drawn in
     let area_key = derived_key kdf passphrase parts.salt parts.iterations parts.area_key_bytes in
+    let few : length key * parts.stripes ≤ 64 * parts.stripes =
+    mul-le-mul_right {m = length key} {n = 64} parts.stripes made.drawn.key_most in
     record {
       kdf = kdf;
       af = af;
@@ -148,7 +240,7 @@ gives_key parts kdf af mode passphrase key random image made there is =
       is_material = material;
       is_stored = material_is_stored mode area_key stripes parts.area_offset image
           (stripes_bytes af key parts.stripes random made.bytes made.random_bytes)
-          (omega (arith, long, few_stripes af key parts.stripes random made.drawn))
+          (omega (arith, long, few, made.drawn.few))
           (omega (arith, there, material.len))
           (ap (λ n. at parts.area_offset n image) material.len ∙ is);
     }

@@ -1,7 +1,8 @@
 -- Numbers that volumes are made from are in the ranges of the rules for both formats, and names are read back.
-use Rattle.std.proofs.Common.{◌≡◌, ◌≢◌, ℕ, ◌+◌, ◌^◌, ◌<◌, ◌≤◌, true, false, Some, None, refl, arith}
-use Rattle.std.proofs.lemmas.Bool.{le-ltb, ne_eqb}
+use Rattle.std.proofs.Common.{◌≡◌, ◌≢◌, ℕ, ◌+◌, ◌^◌, ◌<◌, ◌≤◌, true, false, Some, None, refl, arith, le-ltb, ne_eqb}
+use Rattle.std.proofs.Common.{List, codes, length, Option}
 use Rattle.luks_area.specs.Area.{max_loaded_len}
+use Rattle.luks_area.specs.Fields.{text_of}
 use Rattle.luks_cipher.specs.Sector.{mode_named, mode_name}
 use Rattle.luks_cipher.specs.declared.mode.Mode.{Mode}
 use Rattle.luks_cipher.specs.declared.mode.Mode.TheVariants.{XtsPlain64, XtsPlain, CbcEssivSha256, CbcPlain64}
@@ -10,6 +11,7 @@ use Rattle.luks_kdf.specs.declared.hash.Hash.{Hash}
 use Rattle.luks_kdf.specs.declared.hash.Hash.TheVariants.{Sha1, Sha224, Sha256, Sha384, Sha512}
 use Rattle.luks_verdict.specs.Rule.{area_out_of_range, is_digest, iterations_out_of_range, max_digest_len}
 use Rattle.luks_verdict.specs.Rule.{max_iteration_count, max_stripes, min_digest_len, stripes_out_of_range}
+use Rattle.luks_seal.specs.Pieces.{padded}
 
 pub iterations_fit : (iterations : ℕ) → 1 ≤ iterations → iterations < 2 ^ 32
     → iterations_out_of_range None iterations ≡ false
@@ -30,7 +32,7 @@ unfolding is_digest
 digest_fits iterations len some few least most =
     rw (iterations_fit iterations some few, le-ltb len min_digest_len least, le-ltb max_digest_len len most) refl
 
--- an area that is behind the headers, large enough, before the payload and within what is loaded
+-- an area that is after the headers, large enough, before the payload and within what is loaded
 pub area_fits : (start payload offset size need : ℕ) → start ≤ offset → need ≤ size → offset + need ≤ payload
     → payload ≤ max_loaded_len → area_out_of_range start (Some payload) offset size need ≡ false
 unfolding area_out_of_range
@@ -42,15 +44,27 @@ area_fits start payload offset size need behind enough before loadable =
       le-ltb max_loaded_len (offset + need) (omega arith),
     ) refl
 
-pub mode_by_name : (mode : Mode) → mode_named (mode_name mode) ≡ Some mode
-mode_by_name XtsPlain64 = refl
-mode_by_name XtsPlain = refl
-mode_by_name CbcEssivSha256 = refl
-mode_by_name CbcPlain64 = refl
+-- a name fills a field of 32 bytes, is read back from it, and is the name of this
+pub record IsName {X : Type 0} (named : List ℕ → Option X) (x : X) (name : List ℕ) : Type 0 where
+  pub len : length (padded 32 name) ≡ 32
+  pub read : text_of (padded 32 name) ≡ name
+  pub by_name : named name ≡ Some x
 
-pub hash_by_name : (hash : Hash) → hash_named (hash_name hash) ≡ Some hash
-hash_by_name Sha1 = refl
-hash_by_name Sha224 = refl
-hash_by_name Sha256 = refl
-hash_by_name Sha384 = refl
-hash_by_name Sha512 = refl
+pub cipher_is_named : IsName Some (codes "aes") (codes "aes")
+unfolding padded
+cipher_is_named = record { len = refl; read = refl; by_name = refl }
+
+pub mode_is_named : (mode : Mode) → IsName mode_named mode (mode_name mode)
+unfolding padded
+mode_is_named XtsPlain64 = record { len = refl; read = refl; by_name = refl }
+mode_is_named XtsPlain = record { len = refl; read = refl; by_name = refl }
+mode_is_named CbcEssivSha256 = record { len = refl; read = refl; by_name = refl }
+mode_is_named CbcPlain64 = record { len = refl; read = refl; by_name = refl }
+
+pub hash_is_named : (hash : Hash) → IsName hash_named hash (hash_name hash)
+unfolding padded
+hash_is_named Sha1 = record { len = refl; read = refl; by_name = refl }
+hash_is_named Sha224 = record { len = refl; read = refl; by_name = refl }
+hash_is_named Sha256 = record { len = refl; read = refl; by_name = refl }
+hash_is_named Sha384 = record { len = refl; read = refl; by_name = refl }
+hash_is_named Sha512 = record { len = refl; read = refl; by_name = refl }

@@ -1,20 +1,48 @@
--- Sectors that are each encrypted by themselves are stored in an image as `Sealed` states.
-use Rattle.std.proofs.Common.{◌≡◌, ◌∙◌, ℕ, zero, suc, ◌+◌, ◌*◌, ◌/◌, ◌%◌, ◌<◌, ◌≤◌, List, length, inl, inr, refl, sym}
-use Rattle.std.proofs.Common.{ap, arith, length-append}
+-- Pieces that are joined, sectors that are each encrypted by themselves and stored in an image as `Sealed` states, and
+-- the image of a volume of either format: headers, areas, zeros up to the payload, and the payload.
+use Rattle.std.proofs.Common.{◌≡◌, ◌∙◌, ℕ, ◌+◌, ◌-◌, ◌*◌, ◌/◌, ◌<◌, List, ◌++◌, length, take, drop, refl, ap, arith}
+use Rattle.std.proofs.Common.{add-one, append_assoc, zero, suc, ◌%◌, ◌≤◌, inl, inr, sym, length-append}
+use Rattle.std.proofs.Common.{mul-le-mul_right}
+use Rattle.std.proofs.lemmas.Grind.{common_steps}
+use Rattle.luks_cipher.specs.Sector.{Cipher, sector_encrypted}
+use Rattle.luks_kdf.specs.Bytes.{joined}
+use Rattle.luks_seal.specs.Pieces.{encrypted_sector, wrapping_number, sector_at, sectors_encrypted, padded}
 use Rattle.std.proofs.lemmas.Bool.{cases_lt}
-use Rattle.std.proofs.Math.Nat.{mul-le-mul_right}
 use Rattle.luks_aes.specs.Aes.{add_round_key, cipher, encrypted}
 use Rattle.luks_aes.specs.Bytes.{IsBytes}
 use Rattle.luks_area.specs.Fields.{at}
 use Rattle.luks_cipher.specs.Cbc.{cbc_encrypted, chained}
-use Rattle.luks_cipher.specs.Sector.{Cipher, sector_encrypted}
 use Rattle.luks_cipher.specs.Xts.{block_encrypted, block_xor, xts_encrypted}
 use Rattle.luks_cipher.specs.declared.mode.Mode.TheVariants.{XtsPlain64, XtsPlain, CbcEssivSha256, CbcPlain64}
 use Rattle.luks_cipher.proofs.ModeLemmas.{blocks_length}
-use Rattle.luks_kdf.specs.Bytes.{joined}
-use Rattle.luks_seal.specs.Pieces.{encrypted_sector, sector_at, sectors_encrypted, wrapping_number}
 use Rattle.luks_seal.specs.Sealed.{IsStoredEncrypted}
-use Rattle.luks_seal.proofs.SlicingLemmas.{at_at, at_first, at_second, length-at}
+use Rattle.luks_seal.proofs.FieldLemmas.{at_at, at_first, at_second, length-at, at_inside, at_padded, at_within_second}
+use Rattle.luks_seal.proofs.FieldLemmas.{length-padded}
+
+-- one more piece is appended to those that follow the first bytes
+pub pieces_more : (piece : ℕ → List ℕ) (n : ℕ) (first before after : List ℕ) → before ≡ first ++ joined piece n
+    → after ≡ before ++ piece n → after ≡ first ++ joined piece (n + 1)
+unfolding joined
+pieces_more piece n first before after is next =
+    rw (add-one, ← append_assoc) (next ∙ ap (λ bytes. bytes ++ piece n) is)
+
+-- each whole piece has `size` bytes
+pub piece_len : (i size : ℕ) (bytes : List ℕ) → i < length bytes / size
+    → length (take (i * size + size - i * size) (drop (i * size) bytes)) ≡ size
+piece_len i size bytes below = grind (arith, common_steps)
+
+module _ (cipher : Cipher) (first step size : ℕ) (bytes : List ℕ) where
+  -- one more sector is encrypted
+  pub sectors_more : (i number : ℕ) (before after : List ℕ)
+      → before ≡ joined (encrypted_sector cipher first step size bytes) i
+      → number ≡ wrapping_number first step i
+      → after ≡ before
+      ++ sector_encrypted cipher.0 cipher.1 number (take (i * size + size - i * size) (drop (i * size) bytes))
+      → after ≡ joined (encrypted_sector cipher first step size bytes) (i + 1)
+  unfolding joined encrypted_sector
+  sectors_more i number before after is numbered next =
+      let len : i * size + size - i * size ≡ size = omega arith in
+      rw add-one (next ∙ rw (is, numbered, len) refl)
 
 pub length-sector_encrypted : (cipher : Cipher) (number : ℕ) (unit : List ℕ) → length unit % 16 ≡ 0
     → length (sector_encrypted cipher.0 cipher.1 number unit) ≡ length unit
@@ -102,28 +130,81 @@ module _ (cipher : Cipher) (first step size : ℕ) (plain : List ℕ) (blocks : 
   sector_is i low =
       piece_at (encrypted_sector cipher first step size plain) size (length plain / size) i sector_length low
 
-  -- if an image has the encrypted sectors at this offset, the sectors are stored encrypted there
-  pub sectors_are_stored : (place : ℕ) (image : List ℕ) → IsBytes plain → place + length plain ≤ length image
+  -- if an image has the encrypted sectors at this offset, the sectors are stored encrypted there, under their numbers
+  pub sectors_are_stored : (number : ℕ → ℕ)
+      → ((i : ℕ) → i < length plain / size → wrapping_number first step i ≡ number i) → (place : ℕ) (image : List ℕ)
+      → IsBytes plain → place + length plain ≤ length image
       → at place (length plain) image ≡ sectors_encrypted cipher first step size plain
-      → IsStoredEncrypted cipher (wrapping_number first step) size place plain image
-  sectors_are_stored place image bytes there is = record {
+      → IsStoredEncrypted cipher number size place plain image
+  sectors_are_stored number same place image bytes there is = record {
     bytes = bytes;
     whole = whole;
     there = there;
     units = λ i low.
         sym (at_at (i * size) size place (length plain) image (sector_within (length plain) size i whole low))
-        ∙ (ap (at (i * size) size) is ∙ sector_is i low);
+        ∙ (ap (at (i * size) size) is
+        ∙ (sector_is i low
+        ∙ ap (λ n. sector_encrypted cipher.0 cipher.1 n (at (i * size) size plain)) (same i low)));
   }
 
--- sectors that are stored under some numbers are stored under any numbers equal to them
-pub stored_under : (cipher : Cipher) (number other : ℕ → ℕ) (size place : ℕ) (plain image : List ℕ)
-    → ((i : ℕ) → i < length plain / size → number i ≡ other i)
-    → IsStoredEncrypted cipher number size place plain image → IsStoredEncrypted cipher other size place plain image
-stored_under cipher number other size place plain image same is_stored = record {
-  bytes = is_stored.bytes;
-  whole = is_stored.whole;
-  there = is_stored.there;
-  units = λ i low.
-      is_stored.units i low
-      ∙ ap (λ n. sector_encrypted cipher.0 cipher.1 n (at (i * size) size plain)) (same i low);
-}
+-- ---- an image
+
+-- where an image has its parts: the headers are followed by the areas, and the plaintext is stored from `start` on
+pub record IsImage (image headers : List ℕ) (area : ℕ → List ℕ) (count start : ℕ) (cipher : Cipher) (number : ℕ → ℕ)
+    (size : ℕ) (plain : List ℕ) : Type 0 where
+  pub len : length image ≡ start + length plain
+  pub in_headers : (place n : ℕ) → place + n ≤ length headers → at place n image ≡ at place n headers
+  pub in_area : (k place n : ℕ) → k < count → place ≡ length headers + length (joined area k) → n ≤ length (area k)
+      → at place n image ≡ at 0 n (area k)
+  pub stored : (place : ℕ) → place ≡ start → IsStoredEncrypted cipher number size place plain image
+
+module _ (headers : List ℕ) (area : ℕ → List ℕ) (count start : ℕ) (payload : List ℕ)
+    (fits : length headers + length (joined area count) ≤ start) where
+  length-prefix : length (padded start (headers ++ joined area count)) ≡ start
+  length-prefix =
+      length-padded start (headers ++ joined area count) (omega (arith, length-append headers (joined area count)))
+
+  before_there : (place n : ℕ) → place + n ≤ length headers + length (joined area count)
+      → at place n (padded start (headers ++ joined area count) ++ payload) ≡ at place n (headers ++ joined area count)
+  before_there place n inside =
+      let before = headers ++ joined area count in
+      at_first place n (padded start before) payload (omega (arith, length-prefix))
+      ∙ at_padded place n start before (omega (arith, length-append headers (joined area count)))
+
+  headers_there : (place n : ℕ) → place + n ≤ length headers
+      → at place n (padded start (headers ++ joined area count) ++ payload) ≡ at place n headers
+  headers_there place n inside =
+      before_there place n (omega arith) ∙ at_first place n headers (joined area count) inside
+
+  area_there : (k place n : ℕ) → k < count → place ≡ length headers + length (joined area k) → n ≤ length (area k)
+      → at place n (padded start (headers ++ joined area count) ++ payload) ≡ at 0 n (area k)
+  area_there k place n low is inside =
+      let offset = length (joined area k) in
+      let within = piece_within area count k low in
+      before_there place n (omega (arith, within))
+      ∙ at_within_second place offset n headers (joined area count) is
+      ∙ at_inside offset 0 n offset (length (area k)) (joined area count) (area k) (omega arith) (omega arith)
+      (piece_there area count k low)
+
+-- the image that is put together from these parts, with a plaintext of whole sectors
+pub image_made : (headers : List ℕ) (area : ℕ → List ℕ) (count start : ℕ) (cipher : Cipher) (first step size : ℕ)
+    (plain : List ℕ) → length headers + length (joined area count) ≤ start → size % 16 ≡ 0 → length plain % size ≡ 0
+    → IsBytes plain
+    → IsImage (padded start (headers ++ joined area count) ++ sectors_encrypted cipher first step size plain)
+    headers area count start cipher (wrapping_number first step) size plain
+image_made headers area count start cipher first step size plain fits blocks whole bytes =
+    let prefix = padded start (headers ++ joined area count) in
+    let payload = sectors_encrypted cipher first step size plain in
+    let begins = length-prefix headers area count start payload fits in
+    let long = length-sectors_encrypted cipher first step size plain blocks whole in
+    let all : length (prefix ++ payload) ≡ start + length plain =
+    omega (arith, length-append prefix payload, begins, long) in
+    record {
+      len = all;
+      in_headers = headers_there headers area count start payload fits;
+      in_area = area_there headers area count start payload fits;
+      stored = λ place is.
+          sectors_are_stored cipher first step size plain blocks whole (wrapping_number first step) (λ i low. refl)
+          place (prefix ++ payload) bytes (omega (arith, is, all))
+          (at_second place (length plain) prefix payload (is ∙ sym begins) long);
+    }

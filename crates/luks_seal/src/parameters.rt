@@ -12,7 +12,7 @@ pub struct Seal1<'a> {
     pub hash: Hash,
     /// The mode in which the payload and the key material are encrypted.
     pub mode: Mode,
-    /// The volume key, of a length that the mode has.
+    /// The volume key. Its length is one of those of the mode.
     pub key: &'a [u8],
     /// How many stripes hold the key, from 1 to 4000.
     pub stripes: u32,
@@ -66,7 +66,7 @@ pub struct Seal2<'a> {
     pub secondary_salt: [u8; 64],
     /// The mode in which the payload is encrypted.
     pub mode: Mode,
-    /// The volume key, of a length that the mode has.
+    /// The volume key. Its length is one of those of the mode.
     pub key: &'a [u8],
     /// The length of a sector of the payload.
     pub sector_size: SectorSize,

@@ -3,7 +3,7 @@
 
 ghost use Rattle.luks_aes.specs.Bytes.{IsBytes};
 
-/// The elements of a slice of bytes are bytes.
+/// Each element of a slice of bytes is below 256.
 pub fn bytes(bytes: &[u8])
     ensures { IsBytes bytes.now }
 {}

@@ -1,6 +1,6 @@
 //! What the tests of several crates share for sealed volumes: parameters that are in their ranges.
 //!
-//! Nothing but tests uses it.
+//! Only tests use it.
 #![tactic(auto)]
 
 pub mod bytes;

@@ -1,7 +1,7 @@
 -- Words that are stored twice in a lane, and the rounds of SHA-256 in that lane.
-use Rattle.std.proofs.Common.{◌≡◌, ℕ, zero, suc, List, [], ◌∷◌, refl, ◌∙◌}
+use Rattle.std.proofs.Common.{◌≡◌, ℕ, zero, suc, List, [], ◌∷◌, refl, ◌∙◌, length, arith, ◌<◌}
 use Rattle.std.proofs.lemmas.List.{length-map}
-use Rattle.std.specs.Prelude.{slice_set}
+use Rattle.std.specs.Prelude.{slice_set, slice_index_or}
 use Rattle.sha2.specs.Sha256.{IsWindow, schedule}
 use Rattle.sha2.proofs.Schedule256.{IsWindow_first}
 use Rattle.luks_sha_lanes.specs.Lanes.{IsBlock, lane, word}
@@ -28,22 +28,9 @@ pub pair_at : (j : ℕ) (b h : List ℕ) (w v : List (List ℕ)) (n k : ℕ) →
     → IsPairAt j b h w v k
 pair_at j b h w v n k e held = rw (← e) held
 
--- one more vector before the others
-pub twice_cons : (j : ℕ) (a : List ℕ) (x : List (List ℕ)) → IsTwice j a → AllTwice j x → AllTwice j (a ∷ x)
-twice_cons j a x one all zero = one
-twice_cons j a x one all (suc k) = all k
-
-pub twice_none : (j : ℕ) → AllTwice j []
-twice_none j k = refl
-
--- eight vectors before the others
-pub twice_of_eight : (j : ℕ) (a b c d e f g h : List ℕ) (rest : List (List ℕ)) → IsTwice j a → IsTwice j b → IsTwice j c
-    → IsTwice j d → IsTwice j e → IsTwice j f → IsTwice j g → IsTwice j h → AllTwice j rest
-    → AllTwice j (a ∷ b ∷ c ∷ d ∷ e ∷ f ∷ g ∷ h ∷ rest)
-twice_of_eight j a b c d e f g h rest p0 p1 p2 p3 p4 p5 p6 p7 all =
-    twice_cons j a (b ∷ c ∷ d ∷ e ∷ f ∷ g ∷ h ∷ rest) p0
-    (twice_cons j b (c ∷ d ∷ e ∷ f ∷ g ∷ h ∷ rest) p1
-    (twice_cons j c (d ∷ e ∷ f ∷ g ∷ h ∷ rest) p2
-    (twice_cons j d (e ∷ f ∷ g ∷ h ∷ rest) p3
-    (twice_cons j e (f ∷ g ∷ h ∷ rest) p4
-    (twice_cons j f (g ∷ h ∷ rest) p5 (twice_cons j g (h ∷ rest) p6 (twice_cons j h rest p7 all)))))))
+-- all words of some vectors are stored twice if those of each vector are
+pub all_twice : (j : ℕ) (x : List (List ℕ)) → ((k : ℕ) → k < length x → IsTwice j (slice_index_or x k []))
+    → AllTwice j x
+all_twice j [] each k = refl
+all_twice j (v ∷ x) each zero = each 0 (omega arith)
+all_twice j (v ∷ x) each (suc k) = all_twice j x (λ m below. each (suc m) (omega arith)) k

@@ -1,75 +1,46 @@
 -- A SHA-256 digest and its padding as one block, in two lanes.
-use Rattle.std.proofs.Common.{◌≡◌, ℕ, ◌*◌, ◌/◌, ◌^◌, ◌<◌, List, [], ◌∷◌, ◌++◌, length, replicate, refl, ap, ◌∙◌}
-use Rattle.std.proofs.Common.{arith, length-append}
+use Rattle.std.proofs.Common.{◌≡◌, ℕ, ◌*◌, ◌/◌, ◌<◌, List, [], ◌∷◌, ◌++◌, length, replicate, refl, ap, arith}
+use Rattle.std.proofs.Common.{length-append}
 use Rattle.std.specs.Prelude.{slice_index, slice_index_or}
 use Rattle.sha2.specs.Sha256.{compress, digest_bytes, hash_after, initial_hash_256, padded_message, padding, sha256}
 use Rattle.sha2.specs.Sha256.{word_at}
 use Rattle.luks_sha_lanes.specs.Lanes.{after_digest, lane}
 use Rattle.luks_sha_lanes.specs.Lanes256.{AllTwice, IsTwice}
 use Rattle.luks_sha_lanes.proofs.ChainLemmas.{IsChained}
-use Rattle.luks_sha_lanes.proofs.Lane256Lemmas.{twice_none, twice_of_eight}
-use Rattle.luks_sha_lanes.proofs.LaneLemmas.{word_of_lane, word_splat, words_fit}
+use Rattle.luks_sha_lanes.proofs.LaneLemmas.{word_splat}
 use Rattle.luks_sha_lanes.proofs.PaddedLemmas.{IsTwoBlocks, two_blocks, word_from_its_bytes}
 use Rattle.luks_sha_lanes.proofs.WordLemmas.{below_sixteen, below_two, length-digest_bytes}
-
--- the words of a digest after one block, and of its padding
-abbrev padded_words : List ℕ → List ℕ
-padded_words h =
-    slice_index h 0 ∷ slice_index h 1 ∷ slice_index h 2 ∷ slice_index h 3 ∷ slice_index h 4 ∷ slice_index h 5
-    ∷ slice_index h 6 ∷ slice_index h 7
-    ∷ 0x80000000 ∷ 0 ∷ 0 ∷ 0 ∷ 0 ∷ 0 ∷ 0 ∷ 768 ∷ []
-
-digest_word : (h : List ℕ) → ((k : ℕ) → slice_index h k < 2 ^ 32) → (k : ℕ) → k < 16
-    → slice_index (padded_words h) k ≡ word_at (digest_bytes h 8 ++ padding 96) (4 * k)
-unfolding digest_bytes
-digest_word h fits =
-    let word = word_from_its_bytes h fits in
-    below_sixteen (λ k. slice_index (padded_words h) k ≡ word_at (digest_bytes h 8 ++ padding 96) (4 * k))
-    (word 0) (word 1) (word 2) (word 3) (word 4) (word 5) (word 6) (word 7) refl refl refl refl refl refl refl refl
+use Rattle.luks_sha_lanes.proofs.Lane256Lemmas.{all_twice}
 
 -- a vector with a number stored twice in both lanes: the number times 2 ^ 32 + 1
 abbrev both : ℕ → List ℕ
 both k = replicate 2 (k * 4294967297)
 
-abbrev padding_vectors : List (List ℕ)
-padding_vectors = both 0x80000000 ∷ both 0 ∷ both 0 ∷ both 0 ∷ both 0 ∷ both 0 ∷ both 0 ∷ both 768 ∷ []
-
+-- the words of a digest after one block and of its padding, each stored twice in both lanes
 abbrev padded_vectors : List (List ℕ) → List (List ℕ)
 padded_vectors d =
-    slice_index_or d 0 [] ∷ slice_index_or d 1 [] ∷ slice_index_or d 2 [] ∷ slice_index_or d 3 [] ∷ slice_index_or d 4
-    [] ∷ slice_index_or d 5 [] ∷ slice_index_or d 6 [] ∷ slice_index_or d 7 [] ∷ padding_vectors
-
-lane_padded : (j : ℕ) → j < 2 → (d : List (List ℕ)) → lane j (padded_vectors d) ≡ padded_words (lane j d)
-lane_padded j in_lane d =
-    rw (
-      word_of_lane j d 0,
-      word_of_lane j d 1,
-      word_of_lane j d 2,
-      word_of_lane j d 3,
-      word_of_lane j d 4,
-      word_of_lane j d 5,
-      word_of_lane j d 6,
-      word_of_lane j d 7,
-      word_splat 2 9223372039002259456 j in_lane,
-      word_splat 2 0 j in_lane,
-      word_splat 2 3298534884096 j in_lane,
-    ) refl
+    slice_index_or d 0 [] ∷ slice_index_or d 1 [] ∷ slice_index_or d 2 [] ∷ slice_index_or d 3 []
+    ∷ slice_index_or d 4 [] ∷ slice_index_or d 5 [] ∷ slice_index_or d 6 [] ∷ slice_index_or d 7 []
+    ∷ both 0x80000000 ∷ both 0 ∷ both 0 ∷ both 0 ∷ both 0 ∷ both 0 ∷ both 0 ∷ both 768 ∷ []
 
 pub padded_twice : (j : ℕ) → j < 2 → (d : List (List ℕ)) → AllTwice j d → AllTwice j (padded_vectors d)
 padded_twice j in_lane d all =
     let high : IsTwice j (both 0x80000000) = below_two (λ j. IsTwice j (both 0x80000000)) refl refl j in_lane in
     let none : IsTwice j (both 0) = below_two (λ j. IsTwice j (both 0)) refl refl j in_lane in
     let size : IsTwice j (both 768) = below_two (λ j. IsTwice j (both 768)) refl refl j in_lane in
-    twice_of_eight j (slice_index_or d 0 []) (slice_index_or d 1 []) (slice_index_or d 2 []) (slice_index_or d 3 [])
-    (slice_index_or d 4 []) (slice_index_or d 5 []) (slice_index_or d 6 []) (slice_index_or d 7 []) padding_vectors
-    (all 0) (all 1) (all 2) (all 3) (all 4) (all 5) (all 6) (all 7)
-    (twice_of_eight j (both 0x80000000) (both 0) (both 0) (both 0) (both 0) (both 0) (both 0) (both 768) []
-    high none none none none none none size (twice_none j))
+    all_twice j (padded_vectors d) (below_sixteen (λ k. IsTwice j (slice_index_or (padded_vectors d) k []))
+    (all 0) (all 1) (all 2) (all 3) (all 4) (all 5) (all 6) (all 7) high none none none none none none size)
 
 pub padded_words_of : (j : ℕ) → j < 2 → (d : List (List ℕ)) → (k : ℕ) → k < 16
     → slice_index (lane j (padded_vectors d)) k ≡ word_at (digest_bytes (lane j d) 8 ++ padding 96) (4 * k)
-padded_words_of j in_lane d k below =
-    ap (λ (l : List ℕ). slice_index l k) (lane_padded j in_lane d) ∙ digest_word (lane j d) (words_fit j d) k below
+unfolding digest_bytes
+padded_words_of j in_lane d =
+    let word = word_from_its_bytes j d in
+    let none = word_splat 2 0 j in_lane in
+    below_sixteen
+    (λ k. slice_index (lane j (padded_vectors d)) k ≡ word_at (digest_bytes (lane j d) 8 ++ padding 96) (4 * k))
+    (word 0) (word 1) (word 2) (word 3) (word 4) (word 5) (word 6) (word 7)
+    (word_splat 2 9223372039002259456 j in_lane) none none none none none none (word_splat 2 3298534884096 j in_lane)
 
 -- ---- the hash of one block and a digest
 
@@ -83,8 +54,7 @@ unfolding after_digest sha256
 sha256_behind b w whole =
     let d = digest_bytes w 8 in
     let size = length-digest_bytes w 8 in
-    ap (λ (h : List ℕ). digest_bytes h 8)
-    (hash_of_two initial_hash_256 (padded_message (b ++ d)) b (d ++ padding 96)
+    ap (λ (h : List ℕ). digest_bytes h 8) (hash_of_two initial_hash_256 (padded_message (b ++ d)) b (d ++ padding 96)
     (two_blocks b d 32 whole size (omega (arith, size, length-append d (padding 96)))))
 
 pub chained256 : IsChained sha256 (compress initial_hash_256) (after_digest compress 8) 8

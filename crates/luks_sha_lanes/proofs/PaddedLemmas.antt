@@ -1,12 +1,14 @@
 -- A digest after one block, and the padding that fills its block.
-use Rattle.std.proofs.Common.{◌≡◌, ℕ, ◌+◌, ◌/◌, ◌^◌, ◌<◌, List, ◌++◌, length, drop, take, arith, refl, sym}
-use Rattle.std.proofs.Common.{append_assoc, length-append}
-use Rattle.std.specs.Prelude.{slice_index}
+use Rattle.std.proofs.Common.{◌≡◌, ℕ, ◌+◌, ◌/◌, List, ◌++◌, length, drop, take, arith, refl, sym, append_assoc}
+use Rattle.std.proofs.Common.{length-append, [], ◌∙◌}
+use Rattle.std.specs.Prelude.{slice_index, slice_index_or}
 use Rattle.std.specs.Int.{from_be_bytes, to_be_bytes, w32}
 use Rattle.std.proofs.lemmas.List.{take_all}
 use Rattle.std.proofs.lemmas.Nat.{from_be_bytes-to_be_bytes_4}
 use Rattle.sha2.specs.Sha256.{padded_message, padding}
 use Rattle.luks_sha_lanes.proofs.WordLemmas.{drop_prefix, take_prefix}
+use Rattle.luks_sha_lanes.specs.Lanes.{lane, word}
+use Rattle.luks_sha_lanes.proofs.LaneLemmas.{word_of_lane, words_fit}
 
 -- the message p is the blocks b and c
 pub record IsTwoBlocks (p b c : List ℕ) : Type 0 where
@@ -29,7 +31,8 @@ two_blocks b d n whole size rest =
       second = rw (drop_prefix 64 b tail whole) (take_all 64 tail (omega arith));
     })
 
--- a word is read back from its bytes
-pub word_from_its_bytes : (h : List ℕ) → ((k : ℕ) → slice_index h k < 2 ^ 32) → (k : ℕ)
-    → slice_index h k ≡ from_be_bytes w32 (to_be_bytes w32 (slice_index h k))
-word_from_its_bytes h fits k = sym (from_be_bytes-to_be_bytes_4 (slice_index h k) (fits k))
+-- the word in a lane of vector k is read back from its bytes
+pub word_from_its_bytes : (j : ℕ) (d : List (List ℕ)) (k : ℕ)
+    → word j (slice_index_or d k []) ≡ from_be_bytes w32 (to_be_bytes w32 (slice_index (lane j d) k))
+word_from_its_bytes j d k =
+    sym (from_be_bytes-to_be_bytes_4 (slice_index (lane j d) k) (words_fit j d k) ∙ word_of_lane j d k)

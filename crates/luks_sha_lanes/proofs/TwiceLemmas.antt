@@ -1,6 +1,6 @@
 -- If a word is stored twice in 64 bits and shifted to the right, the low half is the word rotated.
-use Rattle.std.proofs.Common.{◌≡◌, ℕ, ◌+◌, ◌-◌, ◌*◌, ◌/◌, ◌%◌, ◌^◌, ◌<◌, List, [], ◌∷◌, length, bit_and}
-use Rattle.std.proofs.Common.{bit_or, bit_xor, ap, sym, ◌∙◌, arith, refl, pow-add, add_comm, mod-lt, pow_pos}
+use Rattle.std.proofs.Common.{◌≡◌, ℕ, ◌+◌, ◌*◌, ◌/◌, ◌%◌, ◌^◌, ◌<◌, List, [], ◌∷◌, length, bit_and, bit_or, bit_xor, ap}
+use Rattle.std.proofs.Common.{sym, ◌∙◌, arith, refl, pow-add, add_comm, mod-lt, pow_pos, ap₂}
 use Rattle.std.specs.Int.Bits.{or_shifted_r}
 use Rattle.std.specs.Simd.Lanes.{zip2}
 use Rattle.std.proofs.lemmas.Nat.{and_mask, mod-pow-add, mod_low, shr_below, shr_high, shr_split, shl-shr, xor_mod}
@@ -12,9 +12,7 @@ use Rattle.luks_sha_lanes.specs.Lanes256.{IsTwice}
 -- a property of the list of any two elements holds for every list of length 2
 pub two_lanes : (P : List ℕ → Type 0) → ((a b : ℕ) → P (a ∷ b ∷ [])) → (xs : List ℕ) → length xs ≡ 2 → P xs
 two_lanes P p (a ∷ b ∷ []) h = p a b
-two_lanes P p [] h = absurd (omega arith)
-two_lanes P p (a ∷ []) h = absurd (omega arith)
-two_lanes P p (a ∷ b ∷ c ∷ xs) h = absurd (omega arith)
+two_lanes P p _ h = absurd (omega arith)
 
 cleared : (x j : ℕ) → x * 2 ^ j % 2 ^ j ≡ 0
 cleared x j = ap (λ (n : ℕ). n % 2 ^ j) (omega arith) ∙ mod_low x j 0 (pow_pos j)
@@ -42,33 +40,15 @@ twice_rotated x k j whole fits =
     rw (shifted, kept, high) (sym (or_shifted_r (x % 2 ^ k) j q small))
 
 -- the same for a lane
-lane_rotated : (a k j : ℕ) → k + j ≡ 32 → a ≡ a % 2 ^ 32 * 2 ^ 32 + a % 2 ^ 32
+pub lane_rotated : (a k j : ℕ) → k + j ≡ 32 → a ≡ a % 2 ^ 32 * 2 ^ 32 + a % 2 ^ 32
     → a / 2 ^ k % 2 ^ 32 ≡ bit_or (a % 2 ^ 32 / 2 ^ k) (a % 2 ^ 32 * 2 ^ j % 2 ^ 32)
 lane_rotated a k j whole is = ap (λ (n : ℕ). n / 2 ^ k % 2 ^ 32) is ∙ twice_rotated (a % 2 ^ 32) k j whole (half_lt a)
 
-abbrev rotated : ℕ → ℕ → ℕ → ℕ
-rotated x k j = bit_or (x / 2 ^ k) (x * 2 ^ j % 2 ^ 32)
-
 -- the low half of the XOR of three numbers is the XOR of their low halves
-low_sum : (a b c : ℕ) → bit_xor (bit_xor a b) c % 2 ^ 32 ≡ bit_xor (bit_xor (a % 2 ^ 32) (b % 2 ^ 32)) (c % 2 ^ 32)
-low_sum a b c = xor_mod (bit_xor a b) c 32 ∙ ap (λ (n : ℕ). bit_xor n (c % 2 ^ 32)) (xor_mod a b 32)
-
-pub three_rotated : (k1 j1 k2 j2 k3 j3 : ℕ) → k1 + j1 ≡ 32 → k2 + j2 ≡ 32 → k3 + j3 ≡ 32
-    → (a : ℕ) → a ≡ a % 2 ^ 32 * 2 ^ 32 + a % 2 ^ 32
-    → bit_xor (bit_xor (a / 2 ^ k1) (a / 2 ^ k2)) (a / 2 ^ k3) % 2 ^ 32
-    ≡ bit_xor (bit_xor (rotated (a % 2 ^ 32) k1 j1) (rotated (a % 2 ^ 32) k2 j2)) (rotated (a % 2 ^ 32) k3 j3)
-three_rotated k1 j1 k2 j2 k3 j3 w1 w2 w3 a is =
-    low_sum (a / 2 ^ k1) (a / 2 ^ k2) (a / 2 ^ k3)
-    ∙ rw (lane_rotated a k1 j1 w1 is, lane_rotated a k2 j2 w2 is, lane_rotated a k3 j3 w3 is) refl
-
--- the XOR of two rotations and of a shift by n bits, which reads the upper copy
-pub two_rotated : (k1 j1 k2 j2 n : ℕ) → k1 + j1 ≡ 32 → k2 + j2 ≡ 32
-    → (a : ℕ) → a ≡ a % 2 ^ 32 * 2 ^ 32 + a % 2 ^ 32 → a / 2 ^ n % 2 ^ 32 ≡ a % 2 ^ 32 / 2 ^ (n - 32)
-    → bit_xor (bit_xor (a / 2 ^ k1) (a / 2 ^ k2)) (a / 2 ^ n) % 2 ^ 32
-    ≡ bit_xor (bit_xor (rotated (a % 2 ^ 32) k1 j1) (rotated (a % 2 ^ 32) k2 j2)) (a % 2 ^ 32 / 2 ^ (n - 32))
-two_rotated k1 j1 k2 j2 n w1 w2 a is shifted =
-    low_sum (a / 2 ^ k1) (a / 2 ^ k2) (a / 2 ^ n)
-    ∙ rw (lane_rotated a k1 j1 w1 is, lane_rotated a k2 j2 w2 is, shifted) refl
+pub low_sum : (a b c x y z : ℕ) → a % 2 ^ 32 ≡ x → b % 2 ^ 32 ≡ y → c % 2 ^ 32 ≡ z
+    → bit_xor (bit_xor a b) c % 2 ^ 32 ≡ bit_xor (bit_xor x y) z
+low_sum a b c x y z first second third =
+    xor_mod (bit_xor a b) c 32 ∙ ap₂ bit_xor (xor_mod a b 32 ∙ ap₂ bit_xor first second) third
 
 -- both lanes of a vector shifted to the right by k bits
 abbrev shifted : List ℕ → ℕ → List ℕ
@@ -78,8 +58,7 @@ abbrev Sums : ℕ → ℕ → ℕ → (ℕ → ℕ) → List ℕ → Type 0
 Sums k m n f x = (j : ℕ) → j < 2 → IsTwice j x
     → word j (zip2 bit_xor (zip2 bit_xor (shifted x k) (shifted x m)) (shifted x n)) ≡ f (word j x)
 
-pub sum_of_shifts : (k m n : ℕ) (f : ℕ → ℕ)
-    → ((a : ℕ) → a ≡ a % 2 ^ 32 * 2 ^ 32 + a % 2 ^ 32
+pub sum_of_shifts : (k m n : ℕ) (f : ℕ → ℕ) → ((a : ℕ) → a ≡ a % 2 ^ 32 * 2 ^ 32 + a % 2 ^ 32
     → bit_xor (bit_xor (a / 2 ^ k) (a / 2 ^ m)) (a / 2 ^ n) % 2 ^ 32 ≡ f (a % 2 ^ 32))
     → (x : List ℕ) → length x ≡ 2 → Sums k m n f x
 sum_of_shifts k m n f law = two_lanes (Sums k m n f) (λ a b. below_two _ (law a) (law b))

@@ -1,7 +1,7 @@
 -- The words of digests, and their bytes.
 use Rattle.std.proofs.Common.{◌≡◌, ℕ, zero, suc, ◌+◌, ◌*◌, ◌/◌, ◌%◌, ◌^◌, ◌<◌, ◌≤◌, List, [], ◌∷◌, ◌++◌, length, take}
 use Rattle.std.proofs.Common.{drop, bit_xor, refl, sym, subst, ap, ap₂, ◌∙◌, arith, append_assoc, length-append}
-use Rattle.std.proofs.Common.{length-drop, inl, inr}
+use Rattle.std.proofs.Common.{length-drop, inl, inr, add_assoc}
 use Rattle.std.specs.Prelude.{slice_index}
 use Rattle.std.specs.Int.{to_be_bytes, w32}
 use Rattle.std.specs.Simd.Lanes.{zip2}
@@ -31,8 +31,7 @@ pub below_eight : (P : ℕ → Type 0) → P 0 → P 1 → P 2 → P 3 → P 4 �
 below_eight P a0 a1 a2 a3 b0 b1 b2 b3 k h =
     let place : 4 * (k / 4) + k % 4 ≡ k = omega arith in
     subst P place (below_two (λ row. (col : ℕ) → col < 4 → P (4 * row + col))
-    (below_four _ a0 a1 a2 a3) (below_four _ b0 b1 b2 b3)
-    (k / 4) (omega arith) (k % 4) (omega arith))
+    (below_four _ a0 a1 a2 a3) (below_four _ b0 b1 b2 b3) (k / 4) (omega arith) (k % 4) (omega arith))
 
 pub below_sixteen : (P : ℕ → Type 0) → P 0 → P 1 → P 2 → P 3 → P 4 → P 5 → P 6 → P 7
     → P 8 → P 9 → P 10 → P 11 → P 12 → P 13 → P 14 → P 15 → (k : ℕ) → k < 16 → P k
@@ -68,10 +67,9 @@ xor_word x y = rw (xor_byte x y 24, xor_byte x y 16, xor_byte x y 8, xor_mod x y
 zip2_joined : (a b x y : List ℕ) → length a ≡ length b
     → zip2 bit_xor (a ++ x) (b ++ y) ≡ zip2 bit_xor a b ++ zip2 bit_xor x y
 zip2_joined [] [] x y h = refl
-zip2_joined [] (b ∷ rest) x y h = absurd (omega arith)
-zip2_joined (a ∷ more) [] x y h = absurd (omega arith)
 zip2_joined (a ∷ more) (b ∷ rest) x y h =
     ap (λ (l : List ℕ). bit_xor a b ∷ l) (zip2_joined more rest x y (omega arith))
+zip2_joined _ _ x y h = absurd (omega arith)
 
 xor_digests : (a b c : List ℕ) (n : ℕ)
     → ((k : ℕ) → k < n → slice_index c k ≡ bit_xor (slice_index a k) (slice_index b k))
@@ -112,8 +110,7 @@ xor_of_words n a b = xor_digests a b (xor_words n a b) n (slice_index-xor_words 
 -- ---- words that are read from bytes
 
 -- the first i bytes and four more
-take_four : (bs : List ℕ) (i : ℕ) → i + 4 ≤ length bs
-    → take (i + 4) bs
+take_four : (bs : List ℕ) (i : ℕ) → i + 4 ≤ length bs → take (i + 4) bs
     ≡ take i bs ++ slice_index bs i ∷ slice_index bs (i + 1) ∷ slice_index bs (i + 2) ∷ slice_index bs (i + 3) ∷ []
 take_four bs i h =
     let e4 : i + 4 ≡ i + 3 + 1 = omega arith in
@@ -149,22 +146,12 @@ words_of_bytes h bs fits (suc n) long each =
     ap₂ ◌++◌ (words_of_bytes h bs fits n (omega arith) (λ k below. each k (omega arith))) word
     ∙ sym (ap (λ m. take m bs) next ∙ take_four bs i (omega arith))
 
--- a byte and a word of the bytes from index `at` on
-read_at : (bs : List ℕ) (at i k : ℕ) → k ≡ at + i → slice_index (drop at bs) i ≡ slice_index bs k
-read_at bs at i k e = get_or-drop at bs i 0 ∙ ap (slice_index bs) (sym e)
-
+-- a word of the bytes from index `at` on
 word_from : (bs : List ℕ) (at i : ℕ) → word_at (drop at bs) i ≡ word_at bs (at + i)
-word_from bs at i =
-    rw (
-      read_at bs at i (at + i) refl,
-      read_at bs at (i + 1) (at + i + 1) (omega arith),
-      read_at bs at (i + 2) (at + i + 2) (omega arith),
-      read_at bs at (i + 3) (at + i + 3) (omega arith),
-    ) refl
+word_from bs at i = simp (get_or-drop, add_assoc)
 
 -- the words that are read from digest j of several have the bytes of that digest
-pub words_of_digest : (h bs : List ℕ) → ((i : ℕ) → slice_index bs i < 256) → (n j : ℕ)
-    → 4 * n * j + 4 * n ≤ length bs
+pub words_of_digest : (h bs : List ℕ) → ((i : ℕ) → slice_index bs i < 256) → (n j : ℕ) → 4 * n * j + 4 * n ≤ length bs
     → ((k : ℕ) → k < n → slice_index h k ≡ word_at bs (4 * n * j + 4 * k)) → digest_bytes h n ≡ digest_at (4 * n) j bs
 words_of_digest h bs fits n j long each =
     let at : ℕ = 4 * n * j in
@@ -177,8 +164,7 @@ pub two_digests : (f : ℕ → List ℕ) (a b : List ℕ) (size : ℕ) → lengt
 two_digests f a b size one two is_a is_b =
     let none : size * 0 ≡ 0 = omega arith in
     let all : size * 1 ≡ size = omega arith in
-    rw (is_a, is_b) (below_two (λ j. digest_at size j (f 0 ++ f 1) ≡ f j)
-    (rw none (take_prefix size (f 0) (f 1) one))
+    rw (is_a, is_b) (below_two (λ j. digest_at size j (f 0 ++ f 1) ≡ f j) (rw none (take_prefix size (f 0) (f 1) one))
     (rw (all, drop_prefix size (f 0) (f 1) one) (take_all size (f 1) (omega arith))))
 
 -- ---- digests that are written one after the other

@@ -24,15 +24,12 @@ digest_at size j bytes = take size (drop (size * j) bytes)
 -- ---- the same on the words of digests: `after_digest h d` is the hash value after one block and the digest whose
 -- ---- words are d, if it was h after the block
 
--- the words of HMAC of the digest whose words are d, by the hash values inner and outer of the key's two blocks
-unfoldable pub iteration : (List ℕ → List ℕ → List ℕ) → List ℕ → List ℕ → List ℕ → List ℕ
-iteration after_digest inner outer d = after_digest outer (after_digest inner d)
-
--- the words of the digest after n more iterations
+-- the words of the digest after n more iterations: each is the HMAC of the one before, by the hash values inner and
+-- outer of the key's two blocks
 unfoldable pub iterations : (List ℕ → List ℕ → List ℕ) → List ℕ → List ℕ → List ℕ → ℕ → List ℕ
 iterations after_digest inner outer d zero = d
 iterations after_digest inner outer d (suc n) =
-    iteration after_digest inner outer (iterations after_digest inner outer d n)
+    after_digest outer (after_digest inner (iterations after_digest inner outer d n))
 
 -- the XOR of the first n words of two digests
 unfoldable pub xor_words : ℕ → List ℕ → List ℕ → List ℕ

@@ -1,27 +1,236 @@
--- `luksCat` of an honestly sealed volume writes its plaintext.
-use Rattle.std.proofs.Common.{◌≡◌, ◌∙◌, ℕ, ◌≤◌, List, [], ◌∷◌, ◌++◌, length, Option, None, Some, Ok, refl, sym, ap}
-use Rattle.std.proofs.Common.{subst, arith}
+-- Honestly sealed volumes: what is stored decrypts to what was sealed, each passphrase opens its key slot, and
+-- `luksCat` writes the plaintext.
+use Rattle.std.proofs.Common.{◌≡◌, ℕ, ◌%◌, ◌^◌, List, length, ◌∙◌, zero, suc, ◌+◌, ◌*◌, ◌/◌, ◌<◌, ◌≤◌, take, drop, refl}
+use Rattle.std.proofs.Common.{sym, ap, arith, length-drop, ◌-◌, false, Option, None, Some, Ok, true, [], ◌∷◌, ◌++◌}
+use Rattle.std.proofs.Common.{subst}
+use Rattle.std.specs.Int.{to_le_bytes, w128}
+use Rattle.std.proofs.Math.Nat.{div-mul_cancel, dvd_of_mod-eq-zero}
+use Rattle.std.proofs.Math.Seq.{take-add}
+use Rattle.std.proofs.lemmas.List.{length-take-le, take_all}
+use Rattle.std.specs.Prelude.{nat_lt}
+use Rattle.std.proofs.lemmas.Bool.{le-ltb}
 use Rattle.std.specs.List.{AllByRecursion, Contains}
+use Rattle.std.proofs.lemmas.Bool.Decides.{nat_tests}
+use Rattle.std.proofs.lemmas.Option.{same_Some}
+use Rattle.std.proofs.lemmas.Slice.Eq.{bytes_eq-Decides}
 use Rattle.std.proofs.lemmas.List.Elements.{All-nil, recursion_from_All}
-use Rattle.luks_header.proofs.KnownLemmas.{is_attached}
-use Rattle.luks_open.specs.Opening.{answer_of, first_opening, slot_key, opening_of}
-use Rattle.luks_open.specs.Order.{entry_at, key_material_end, order_of}
+use Rattle.luks_aes.specs.Bytes.{IsBytes}
+use Rattle.luks_aes.proofs.ByteLists.{encrypted_state, bytes_drop, bytes_take}
+use Rattle.luks_kdf.specs.declared.hash.Hash.TheVariants.{Sha256}
+use Rattle.luks_kdf.specs.Stripes.{merged}
+use Rattle.luks_kdf.specs.declared.hash.Hash.{Hash}
+use Rattle.luks_kdf.proofs.StripesLemmas.{merged_split}
+use Rattle.luks_kdf.specs.Pbkdf2.{derived_key}
+use Rattle.luks_cipher.specs.Sector.{essiv_iv, plain64_iv, sector_decrypted, sector_encrypted, Cipher}
+use Rattle.luks_cipher.specs.Sector.{is_mode_key_length}
+use Rattle.luks_cipher.specs.declared.mode.Mode.{Mode}
+use Rattle.luks_cipher.specs.declared.mode.Mode.TheVariants.{XtsPlain64, XtsPlain, CbcEssivSha256, CbcPlain64}
+use Rattle.luks_cipher.proofs.ChainsUndone.{cbc_decrypted-cbc_encrypted}
+use Rattle.luks_cipher.proofs.UnitsUndone.{le_state, xts_decrypted-xts_encrypted, joined_same}
+use Rattle.luks_cipher.specs.Xts.{joined}
+use Rattle.luks_cipher.proofs.ModeLemmas.{key_length_of_mode}
+use Rattle.luks_area.specs.Fields.{at}
+use Rattle.luks_verdict.specs.Rule.{need_of}
+use Rattle.luks_verdict.specs.declared.slot.SlotParts.{SlotParts}
+use Rattle.luks_verdict.specs.declared.segment.Segment.{Segment}
+use Rattle.luks_verdict.proofs.SectorLemmas.{sector_blocks}
+use Rattle.luks_verdict.specs.declared.digest.KeyDigest.{KeyDigest}
+use Rattle.luks_verdict.specs.declared.slot.Slot.{Slot}
+use Rattle.luks_header.specs.HeaderSegment.{segment_of}
+use Rattle.luks_header.specs.declared.header.Header.{Header}
+use Rattle.luks_header.proofs.KnownLemmas.{known_usable, slot_of_usable, is_attached}
+use Rattle.luks_open.specs.Candidate.{decrypted_material, material_sector, recovered, candidate_of, matches_digest}
+use Rattle.luks_open.specs.Opening.{first_opening, slot_key, opened_or, answer_of, opening_of}
 use Rattle.luks_open.specs.declared.entry.Entry.{Entry}
+use Rattle.luks_open.proofs.OrderLemmas.{IsOf, All-order}
+use Rattle.luks_open.specs.Order.{entry_at, key_material_end, order_of}
 use Rattle.luks_open.specs.declared.opening.Opened.{Opened}
 use Rattle.luks_open.proofs.CallerLemmas.{key_areas_before_payload}
-use Rattle.luks_open.proofs.OrderLemmas.{All-order, IsOf}
-use Rattle.luks_seal.specs.Sealed.{Sealed, SealsKey}
-use Rattle.luks_request.specs.Request.{VolumeRequest}
+use Rattle.luks_payload.proofs.SectorLemmas.{one_more_fits}
+use Rattle.luks_payload.specs.Plain.{ending_of, ending_of_len, plain_of, sector_len, sector_plaintext, unit_number}
+use Rattle.luks_payload.specs.Plain.{unit_plain, payload_bytes}
+use Rattle.luks_payload.specs.declared.state.Step.TheVariants.{End}
+use Rattle.luks_seal.proofs.MaterialLemmas.{hash_bytes}
+use Rattle.luks_seal.specs.Sealed.{IsMaterial, IsStoredEncrypted, EndsWith, SealsPlain, GivesKey, IsDigestOf, SealsKey}
+use Rattle.luks_seal.specs.Sealed.{Sealed}
+use Rattle.luks_seal.proofs.MaterialLemmas.{derived_bytes}
 use Rattle.luks_report.specs.Faults.{message_at_end}
 use Rattle.luks_report.specs.declared.message.Message.TheVariants.{Done}
-use Rattle.luks_runs.specs.RunOutcome.{Outcome}
-use Rattle.luks_unlock.specs.Honest.{GivesNoOther, OpensHonest}
-use Rattle.luks_unlock.specs.Volume.{Volume, found_outcome, unlock_read_len, opened_outcome, payload_outcome, volume_by}
-use Rattle.luks_unlock.specs.Volume.{volume_outcome, volume_outcome_by}
+use Rattle.luks_request.specs.Request.{VolumeRequest}
+use Rattle.luks_runs.specs.Run.{Outcome}
+use Rattle.luks_runs.specs.declared.location.HeaderLocation.TheVariants.{Attached}
 use Rattle.luks_runs.specs.KeyFile.{max_key_file_len}
-use Rattle.luks_unlock.proofs.HonestPayload.{ending_again, plain_again}
-use Rattle.luks_unlock.proofs.HonestSlots.{first_again, key_again}
-use Rattle.luks_unlock.proofs.OutcomeLemmas.{found_whole}
+use Rattle.luks_unlock.specs.Honest.{GivesNoOther, OpensHonest}
+use Rattle.luks_unlock.specs.Volume.{Volume, unlock_read_len, opened_outcome, payload_outcome, volume_outcome}
+use Rattle.luks_unlock.proofs.VolumeLemmas.{found_whole, found_is}
+
+-- ---- decryption of a sector undoes its encryption, in every mode
+
+sector_decrypted-sector_encrypted : (mode : Mode) (key : List ℕ) (number : ℕ) (sector : List ℕ) → IsBytes key
+    → IsBytes sector → length sector % 16 ≡ 0
+    → sector_decrypted mode key number (sector_encrypted mode key number sector) ≡ sector
+sector_decrypted-sector_encrypted XtsPlain64 key number sector keys all whole =
+    xts_decrypted-xts_encrypted key number sector keys all whole
+sector_decrypted-sector_encrypted XtsPlain key number sector keys all whole =
+    xts_decrypted-xts_encrypted key (number % 2 ^ 32) sector keys all whole
+sector_decrypted-sector_encrypted CbcEssivSha256 key number sector keys all whole =
+    cbc_decrypted-cbc_encrypted key (essiv_iv key number) sector keys
+    (encrypted_state _ (to_le_bytes w128 number) (hash_bytes Sha256 key) (le_state number)) all whole
+sector_decrypted-sector_encrypted CbcPlain64 key number sector keys all whole =
+    cbc_decrypted-cbc_encrypted key (plain64_iv number) sector keys (le_state number) all whole
+
+-- ---- bytes that are stored encrypted are what the data units decrypt to
+
+-- joining the first n units of a list gives its first `n * size` bytes
+joined_units : (bytes : List ℕ) (size n : ℕ) → joined (λ i. at (i * size) size bytes) n ≡ take (n * size) bytes
+unfolding joined
+joined_units bytes size zero = let none : 0 * size ≡ 0 = omega arith in rw none refl
+joined_units bytes size (suc n) =
+    let more : suc n * size ≡ n * size + size = omega arith in
+    rw (more, joined_units bytes size n) (sym (take-add (n * size) size bytes))
+
+module _ (cipher : Cipher) (number : ℕ → ℕ) (size place : ℕ) (plain image : List ℕ)
+    (is_stored : IsStoredEncrypted cipher number size place plain image) (keys : IsBytes cipher.1)
+    (blocks : size % 16 ≡ 0) where
+  -- each unit of the image decrypts to that unit of the plain bytes, and so all together
+  units_undone : (unit : ℕ → List ℕ)
+      → ((i : ℕ) → unit i ≡ sector_decrypted cipher.0 cipher.1 (number i) (at (place + i * size) size image))
+      → joined unit (length plain / size) ≡ plain
+  units_undone unit is =
+      let all : length plain / size * size ≡ length plain =
+      div-mul_cancel size (dvd_of_mod-eq-zero size is_stored.whole) in
+      let each : (i : ℕ) → i < length plain / size → unit i ≡ at (i * size) size plain = λ i below.
+      let inside = one_more_fits i (length plain) size below in
+      let long = length-take-le size (drop (i * size) plain) (omega (arith, length-drop (i * size) plain)) in
+      is i ∙ ap (sector_decrypted cipher.0 cipher.1 (number i)) (is_stored.units i below)
+      ∙ sector_decrypted-sector_encrypted cipher.0 cipher.1 (number i) (at (i * size) size plain) keys
+      (bytes_take size (drop (i * size) plain) (bytes_drop (i * size) plain is_stored.bytes))
+      (ap (λ n. n % 16) long ∙ blocks) in
+      joined_same unit (λ i. at (i * size) size plain) (length plain / size) each
+      ∙ joined_units plain size (length plain / size) ∙ take_all (length plain / size * size) plain (omega arith)
+
+-- key material that was made of a key merges to that key
+unlocked_again : (af : Hash) (cipher : Cipher) (parts : SlotParts) (key material image : List ℕ)
+    → 0 < length key → IsBytes cipher.1 → IsMaterial af parts key material
+    → IsStoredEncrypted cipher (λ i. i) 512 parts.area_offset material image
+    → recovered af cipher image parts.area_offset (length key) parts.stripes ≡ key
+unfolding recovered decrypted_material
+unlocked_again af cipher parts key material image some keys made is_stored =
+    let offset = parts.area_offset in
+    let stripes = parts.stripes in
+    let sectors : joined (material_sector cipher image offset) (length material / 512) ≡ material =
+    units_undone cipher (λ i. i) 512 offset material image is_stored keys refl (material_sector cipher image offset)
+    (λ i. let same : offset + 512 * i ≡ offset + i * 512 = omega arith in
+    ap (λ place. sector_decrypted cipher.0 cipher.1 i (at place 512 image)) same) in
+    let all : joined (material_sector cipher image offset) (need_of (length key) stripes / 512) ≡ material =
+    ap (λ n. joined (material_sector cipher image offset) (n / 512)) (sym made.len) ∙ sectors in
+    ap (λ (bytes : List ℕ). merged af (length key) (take (length key * stripes) bytes)) all
+    ∙ merged_split af made.random key (take (length key * stripes) material) some made.split
+
+-- ---- the payload is the plaintext, and it is whole
+
+module _ (offset : ℕ) (plain image : List ℕ) (there : offset + length plain ≤ length image) where
+  -- the payload is as long as the plaintext
+  all_plain : (size : Option ℕ) → EndsWith size plain (offset + length plain) image
+      → payload_bytes size (length image - offset) ≡ length plain
+  all_plain None ends = omega arith
+  all_plain (Some size) ends = omega arith
+
+  -- the payload ends without a fault if the plaintext is whole sectors
+  ends_well : (size : Option ℕ) (sector : ℕ) → EndsWith size plain (offset + length plain) image
+      → length plain % sector ≡ 0 → ending_of_len size sector (length image - offset) ≡ Ok End
+  ends_well None sector ends whole =
+      let all : length image - offset ≡ length plain = omega arith in
+      let none : (length image - offset) % sector ≡ 0 = ap (λ n. n % sector) all ∙ whole in
+      rw none refl
+  ends_well (Some size) sector ends whole =
+      let enough : nat_lt (length image - offset) size ≡ false = le-ltb (length image - offset) size (omega arith) in
+      rw enough refl
+
+module _ (segment : Segment) (image key plain : List ℕ) (seals : SealsPlain segment image key plain) where
+  plain_again : IsBytes key → plain_of segment (segment.mode, key) image ≡ plain
+  unfolding unit_plain
+  plain_again keys =
+      ap (λ n. joined (sector_plaintext segment (segment.mode, key) image) (n / sector_len segment))
+      (all_plain segment.offset plain image seals.is_stored.there segment.size seals.ends)
+      ∙ units_undone (segment.mode, key) (unit_number segment) (sector_len segment) segment.offset plain image
+      seals.is_stored keys (sector_blocks segment.sector_size).blocks (sector_plaintext segment (segment.mode, key)
+      image) (λ i. refl)
+
+  ending_again : ending_of segment image ≡ Ok End
+  ending_again =
+      let probed : nat_lt (length image) segment.offset ≡ false =
+      le-ltb (length image) segment.offset (omega (arith, seals.is_stored.there)) in
+      rw probed
+      (ends_well segment.offset plain image seals.is_stored.there segment.size (sector_len segment) seals.ends
+      seals.is_stored.whole)
+
+-- ---- one key slot
+
+-- a key whose length a mode allows is not empty
+some_key : (mode : Mode) (n : ℕ) → is_mode_key_length mode n ≡ true → 0 < n
+some_key mode n is = let known = key_length_of_mode mode n is in grind (arith, nat_tests)
+
+module _ (passphrase key image : List ℕ) where
+  -- the key slot's candidate is the key that its material was made of
+  candidate_again : (slot : Slot) → 0 < length key → GivesKey slot.parts passphrase key image
+      → candidate_of slot image passphrase ≡ Some key
+  unfolding candidate_of
+  candidate_again slot some gives =
+      let parts = slot.parts in
+      rw (gives.is_kdf, gives.is_af, gives.is_mode, gives.key_bytes)
+      (ap Some (unlocked_again gives.af
+      (gives.mode, derived_key gives.kdf passphrase parts.salt parts.iterations parts.area_key_bytes) parts key
+      gives.material image some (derived_bytes gives.kdf passphrase parts.salt parts.iterations parts.area_key_bytes)
+      gives.is_material gives.is_stored))
+
+  -- the key matches its digest
+  matches_again : (digest : KeyDigest) → IsDigestOf digest key → matches_digest digest key ≡ true
+  unfolding matches_digest
+  matches_again digest is =
+      rw is.is_hash ((bytes_eq-Decides (derived_key is.hash key digest.salt digest.iterations (length digest.value))
+      digest.value).1 (sym is.value))
+
+  -- a sealed key slot opens under its passphrase and gives the key
+  key_again : (header : Header) (segment : Segment) (limit : Option ℕ) (entry : Entry)
+      → segment_of header ≡ Ok segment → IsOf header limit entry
+      → SealsKey header image key entry.number passphrase → slot_key entry image passphrase ≡ Some key
+  unfolding slot_key
+  key_again header segment limit entry is_segment is seals =
+      let same_slot : entry.slot ≡ seals.slot =
+      same_Some _ _ (sym (slot_of_usable header limit entry.number entry.slot is.usable)
+      ∙ slot_of_usable header None entry.number seals.slot seals.usable) in
+      let same_digest : entry.digest ≡ seals.digest = same_Some _ _ (sym is.digest ∙ seals.is_digest) in
+      let known = known_usable header segment None entry.number seals.slot is_segment seals.usable in
+      let some : 0 < length key =
+      subst (λ (n : ℕ). 0 < n) seals.gives.key_bytes
+      (some_key segment.mode seals.slot.parts.key_bytes known.volume_key) in
+      let candidate = candidate_again seals.slot some seals.gives in
+      rw (same_slot, same_digest, candidate, matches_again seals.digest seals.digest_of_key) refl
+
+-- ---- the first key slot that opens
+
+-- if no key slot before one that gives the key gives another key, the first key slot that opens gives that key
+first_again : (before : List Entry) (entry : Entry) (after : List Entry) (image passphrase key : List ℕ)
+    → AllByRecursion (GivesNoOther image passphrase key) before → slot_key entry image passphrase ≡ Some key
+    → (number : ℕ) × (first_opening (before ++ entry ∷ after) image passphrase
+    ≡ Some (record { slot = number; key = key }))
+unfolding first_opening
+first_again [] entry after image passphrase key no_other gives =
+    (entry.number, ap (λ (k : Option (List ℕ)). opened_or entry.number k (first_opening after image passphrase)) gives)
+first_again (other ∷ before) entry after image passphrase key no_other gives =
+    of_first (first_again before entry after image passphrase key no_other.1 gives)
+    (slot_key other image passphrase) refl
+  where
+    of_first : ((number : ℕ) × (first_opening (before ++ entry ∷ after) image passphrase
+        ≡ Some (record { slot = number; key = key })))
+        → (found : Option (List ℕ)) → slot_key other image passphrase ≡ found
+        → (number : ℕ) × (first_opening (other ∷ before ++ entry ∷ after) image passphrase
+        ≡ Some (record { slot = number; key = key }))
+    of_first rest None e = (rest.0, rw e rest.1)
+    of_first rest (Some found) e = (other.number, rw (e, no_other.0 found e) refl)
+
+-- ---- the volume
 
 -- a key slot with a passphrase of a sealed volume is sealed with that passphrase
 sealed_with : (image key plain passphrase : List ℕ) (passphrases : List (ℕ × List ℕ)) (number : ℕ)
@@ -41,9 +250,10 @@ module _ (o : VolumeRequest) (image passphrase plain : List ℕ) (honest : Opens
   abbrev volume : Volume
   volume = record { header = honest.sealed.header; segment = honest.sealed.segment; order = honest.order }
 
-  -- the key slot of the passphrase gives the volume key
-  gives_key : slot_key honest.first.entry image passphrase ≡ Some honest.key
-  gives_key =
+  -- the passphrase opens the volume with the volume key
+  opens : (number : ℕ) × (opening_of honest.order image passphrase ≡ Ok (record { slot = number; key = honest.key }))
+  unfolding opening_of
+  opens =
       let sealed = honest.sealed in
       let first = honest.first in
       let tried = All-order sealed.header o.key_slot o.max_iterations honest.order honest.is_order in
@@ -51,45 +261,32 @@ module _ (o : VolumeRequest) (image passphrase plain : List ℕ) (honest : Opens
       (subst (AllByRecursion (IsOf sealed.header o.max_iterations)) first.are tried) in
       let seals = sealed_with image honest.key plain passphrase honest.passphrases honest.number sealed
       honest.is_passphrase in
-      key_again passphrase honest.key image sealed.header sealed.segment o.max_iterations first.entry sealed.is_segment
-      is (subst (λ (n : ℕ). SealsKey sealed.header image honest.key n passphrase) (sym first.is_number) seals)
-
-  -- the passphrase opens the volume with that key
-  opens : (number : ℕ) × (opening_of honest.order image passphrase ≡ Ok (record { slot = number; key = honest.key }))
-  unfolding opening_of
-  opens =
-      let first = honest.first in
+      let gives = key_again passphrase honest.key image sealed.header sealed.segment o.max_iterations first.entry
+      sealed.is_segment is
+      (subst (λ (n : ℕ). SealsKey sealed.header image honest.key n passphrase) (sym first.is_number) seals) in
       let found = first_again first.before first.entry first.after image passphrase honest.key
-      (recursion_from_All (GivesNoOther image passphrase honest.key) first.before first.no_other) gives_key in (
+      (recursion_from_All (GivesNoOther image passphrase honest.key) first.before first.no_other) gives in (
         found.0,
         ap (λ (entries : List Entry). answer_of (first_opening entries image passphrase) honest.order.skipped)
-            first.are
-            ∙ ap (λ (opened : Option Opened). answer_of opened honest.order.skipped) found.1,
+            first.are ∙ ap (λ (opened : Option Opened). answer_of opened honest.order.skipped) found.1,
       )
-
-  -- the image contains the key material of all key slots to be tried
-  areas_within : key_material_end honest.order.entries ≤ length image
-  areas_within =
-      let sealed = honest.sealed in
-      let before = key_areas_before_payload sealed.header sealed.segment o.key_slot o.max_iterations honest.order
-      (is_attached image sealed.header sealed.is_header) sealed.is_segment honest.is_order in
-      omega (arith, before, sealed.payload.is_stored.there)
-
-  -- the volume is found
-  found : volume_outcome (payload_outcome image passphrase) o image passphrase
-      ≡ found_outcome (payload_outcome image passphrase) o.key_slot volume image passphrase
-  unfolding volume_outcome_by volume_by
-  found = rw (honest.sealed.is_header, honest.sealed.is_segment, honest.is_order) refl
 
   opened_is : (number : ℕ) × (volume_outcome (payload_outcome image passphrase) o image passphrase
       ≡ payload_outcome image passphrase honest.sealed.segment (record { slot = number; key = honest.key })
       (unlock_read_len image volume))
-  opened_is = (
-    opens.0,
-    found
-        ∙ found_whole (payload_outcome image passphrase) o.key_slot volume image passphrase honest.short areas_within
-        ∙ ap (opened_outcome (payload_outcome image passphrase) o.key_slot volume image passphrase) opens.1,
-  )
+  opened_is =
+      let sealed = honest.sealed in
+      let before = key_areas_before_payload sealed.header sealed.segment o.key_slot o.max_iterations honest.order
+      (is_attached image sealed.header sealed.is_header) sealed.is_segment honest.is_order in
+      let within : key_material_end honest.order.entries ≤ length image =
+      omega (arith, before, sealed.payload.is_stored.there) in
+      let cat = payload_outcome image passphrase in (
+        opens.0,
+        found_is Attached o image passphrase sealed.header sealed.segment honest.order sealed.is_header
+            sealed.is_segment honest.is_order cat
+            ∙ found_whole cat o.key_slot volume image passphrase honest.short within
+            ∙ ap (opened_outcome cat o.key_slot volume image passphrase) opens.1,
+      )
 
   -- `luksCat` writes the plaintext and succeeds
   pub unsealed : ((volume_outcome (payload_outcome image passphrase) o image passphrase).output ≡ plain)

@@ -1,7 +1,6 @@
 -- The first 33,554,432 bytes of an image decide how it is opened. A header area never has more.
-use Rattle.std.proofs.Common.{◌≡◌, ◌∙◌, ℕ, ◌≤◌, List, [], ◌∷◌, Result, Ok, Err, Bool}
-use Rattle.std.proofs.Common.{true, false, inl, inr, ap, sym, refl, take, take_all, length, length-take-le, max, arith}
-use Rattle.std.specs.List.{AllByRecursion}
+use Rattle.std.proofs.Common.{◌≡◌, ◌∙◌, ℕ, ◌≤◌, List, [], ◌∷◌, Result, Ok, Err, Bool, true, false, inl, inr, ap, sym}
+use Rattle.std.proofs.Common.{refl, take, take_all, length, length-take-le, max, arith, lit≤}
 use Rattle.std.specs.Prelude.{ok_or, if◌then◌else◌}
 use Rattle.std.proofs.lemmas.Bool.{cases_lt, le-ltb}
 use Rattle.std.proofs.lemmas.List.{take-take}
@@ -17,7 +16,7 @@ use Rattle.luks2_binary.proofs.StableLemmas.{stable_by}
 use Rattle.luks2_binary.proofs.ValidLemmas.{fits_parts, size_range, valid_range}
 use Rattle.luks2_binary.proofs.WalkLemmas.{furthest}
 use Rattle.luks2_binary.specs.Choice2.{binary_at, fits, header2_of, is_valid}
-use Rattle.luks2_binary.specs.ReadLen2.{header2_read_len, probe2_len, probe_end}
+use Rattle.luks2_binary.specs.ReadLen2.{header2_read_len, probe2_len, probe_end, greatest}
 use Rattle.luks2_binary.specs.Reading2.{IsPrefixOf}
 use Rattle.luks2_binary.specs.Header2.{sizes}
 use Rattle.luks2_binary.specs.Text2.{json_text_of}
@@ -33,7 +32,7 @@ use Rattle.luks_open.specs.declared.fault.OpenFault.{OpenFault}
 use Rattle.luks_open.specs.declared.opening.Opened.{Opened}
 use Rattle.luks_report.specs.declared.message.Message.{Message}
 use Rattle.luks_request.specs.Request.{VolumeRequest}
-use Rattle.luks_runs.specs.HeaderReading.{as_detached}
+use Rattle.luks_runs.specs.Location.{as_detached}
 use Rattle.luks_runs.specs.Location.{reader_for}
 use Rattle.luks_runs.specs.declared.location.HeaderLocation.{HeaderLocation}
 use Rattle.luks_runs.specs.declared.location.HeaderLocation.TheVariants.{Attached, Detached}
@@ -41,6 +40,10 @@ use Rattle.luks_unlock.specs.Volume.{OnOpened, Volume, found_outcome, opened_out
 use Rattle.luks_unlock.specs.Volume.{volume_in_header, volume_outcome_by}
 
 -- ---- the end of the search for a LUKS2 header
+
+furthest_by : (b : Bool) (here rest most : ℕ) → here ≤ most → rest ≤ most → max here (if b then 0 else rest) ≤ most
+furthest_by true here rest most near far = omega arith
+furthest_by false here rest most near far = omega arith
 
 module _ (image : List ℕ) where
   probe_by : (place : ℕ) (b : Bool) → fits image place ≡ b → place ≤ 4194304 → probe_end image place ≤ 8388608
@@ -52,46 +55,18 @@ module _ (image : List ℕ) where
   probe_near : (place : ℕ) → place ≤ 4194304 → probe_end image place ≤ 8388608
   probe_near place = probe_by place (fits image place) refl
 
-furthest_by : (b : Bool) (here rest most : ℕ) → here ≤ most → rest ≤ most → max here (if b then 0 else rest) ≤ most
-furthest_by true here rest most near far = omega arith
-furthest_by false here rest most near far = omega arith
+  -- the search at offsets within the first 4 MiB stays within the first 8 MiB
+  furthest_within : (places : List ℕ) → greatest places ≤ 4194304
+      → furthest (is_valid image) (probe_end image) places ≤ 8388608
+  unfolding furthest
+  furthest_within [] near = omega arith
+  furthest_within (place ∷ places) near =
+      furthest_by (is_valid image place) (probe_end image place) (furthest (is_valid image) (probe_end image) places)
+      8388608 (probe_near place (omega arith)) (furthest_within places (omega arith))
 
-furthest_within : (valid : ℕ → Bool) (probe : ℕ → ℕ) (most : ℕ) (places : List ℕ)
-    → AllByRecursion (λ place. probe place ≤ most) places → furthest valid probe places ≤ most
-unfolding furthest
-furthest_within valid probe most [] all = omega arith
-furthest_within valid probe most (place ∷ places) all =
-    furthest_by (valid place) (probe place) (furthest valid probe places) most all.0
-    (furthest_within valid probe most places all.1)
-
-search_within : (image : List ℕ) → furthest (is_valid image) (probe_end image) sizes ≤ 8388608
-unfolding sizes
-search_within image =
-    furthest_within (is_valid image) (probe_end image) 8388608 _ (
-      probe_near image 16384 (omega arith),
-      (
-        probe_near image 32768 (omega arith),
-        (
-          probe_near image 65536 (omega arith),
-          (
-            probe_near image 131072 (omega arith),
-            (
-              probe_near image 262144 (omega arith),
-              (
-                probe_near image 524288 (omega arith),
-                (
-                  probe_near image 1048576 (omega arith),
-                  (
-                    probe_near image 2097152 (omega arith),
-                    (probe_near image 4194304 (omega arith), tt),
-                  ),
-                ),
-              ),
-            ),
-          ),
-        ),
-      ),
-    )
+  search_within : furthest (is_valid image) (probe_end image) sizes ≤ 8388608
+  unfolding sizes
+  search_within = furthest_within sizes (lit≤ tt)
 
 -- the search for a LUKS2 header stays within the first 8 MiB
 probe2_within : (image : List ℕ) → probe2_len image ≤ 8388608
@@ -99,125 +74,110 @@ probe2_within image = by (is_valid image 0) refl where
   by : (b : Bool) → is_valid image 0 ≡ b → probe2_len image ≤ 8388608
   by true is = omega (arith, probe_primary image is, (valid_range image 0 is).2)
   by false is =
-      omega (
-        arith,
-        probe_other image is,
-        search_len_is image,
-        search_within image,
-        probe_near image 0 (omega arith),
-      )
+      let first = probe_near image 0 (omega arith) in
+      omega (arith, first, probe_other image is, search_len_is image, search_within image)
 
 -- ---- the header of the first bytes
 
-module _ (image : List ℕ) (n : ℕ) (far : 8388608 ≤ n) where
-  prefix_of : n ≤ length image → IsPrefixOf (take n image) false image
-  prefix_of more =
-      let long = length-take-le n image more in
-      record { begins = ap (λ k. take k image) long; within = omega (arith, long); ends = λ wrong. absurd (cc) }
+module _ (image : List ℕ) (n : ℕ) (far : 8388608 ≤ n) (more : n ≤ length image) where
+  long : length (take n image) ≡ n
+  long = length-take-le n image more
 
-  prefix2 : n ≤ length image
-      → (header2_of (take n image) ≡ header2_of image) × (header2_read_len (take n image) ≡ header2_read_len image)
+  begins : take (length (take n image)) image ≡ take n image
+  begins = ap (λ k. take k image) long
+
+  prefix2 : (header2_of (take n image) ≡ header2_of image) × (header2_read_len (take n image) ≡ header2_read_len image)
   unfolding header2_of header2_read_len
-  prefix2 more =
-      let long = length-take-le n image more in
+  prefix2 =
       let within = probe2_within image in
-      let same = stable_by (take n image) image (prefix_of more) (is_valid image 0) refl (omega (arith, long)) in
+      let prefix : IsPrefixOf (take n image) false image =
+      record { begins = begins; within = omega (arith, long); ends = λ wrong. absurd (cc) } in
+      let same = stable_by (take n image) image prefix (is_valid image 0) refl (omega (arith, long)) in
       (ap (λ chosen. ok_or chosen NotLuks) same.0, omega (arith, same.1, long))
 
-  text_prefix : n ≤ length image → (header : Header2) → header2_of image ≡ Ok header
-      → json_text_of (take n image) header ≡ json_text_of image header
+  with_text_prefix : (r : Result Header2 HeaderFault) → header2_of image ≡ r
+      → with_text (take n image) r ≡ with_text image r
   unfolding header2_read_len
-  text_prefix more header found =
-      let same = prefix2 more in
+  with_text_prefix (Ok header) found =
       let within = probe2_within image in
       let cut : take (header2_read_len (take n image)) (take n image) ≡ take (header2_read_len image) image =
-      ap (λ k. take k (take n image)) same.1 ∙ take-take (header2_read_len image) n image (omega arith) in
-      sym (json_beginning (take n image) header (same.0 ∙ found))
-      ∙ ap (λ bytes. json_text_of bytes header) cut
-      ∙ json_beginning image header found
+      ap (λ k. take k (take n image)) prefix2.1 ∙ take-take (header2_read_len image) n image (omega arith) in
+      ap (λ text. with_metadata header (tree_of text))
+      (sym (json_beginning (take n image) header (prefix2.0 ∙ found))
+      ∙ ap (λ bytes. json_text_of bytes header) cut ∙ json_beginning image header found)
+  with_text_prefix (Err fault) found = refl
 
-  with_text_prefix : n ≤ length image → (r : Result Header2 HeaderFault) → header2_of image ≡ r
-      → with_text (take n image) r ≡ with_text image r
-  with_text_prefix more (Ok header) is =
-      ap (λ text. with_metadata header (tree_of text)) (text_prefix more header is)
-  with_text_prefix more (Err fault) is = refl
-
-  header_by : n ≤ length image → is_luks1 (take n image) ≡ is_luks1 image → (b : Bool) → is_luks1 image ≡ b
-      → (header_of (take n image) ≡ header_of image) × (header_read_len (take n image) ≡ header_read_len image)
-  unfolding header_of header_read_len
-  header_by more begins true is =
-      let long = length-take-le n image more in
-      let short = le-ltb (length (take n image)) 592 (omega (arith, long)) in
-      let shorter = le-ltb (length image) 592 (omega arith) in
-      (rw (begins, is, short, shorter, take-take 592 n image (omega arith)) refl, rw (begins, is) (omega (arith, long)))
-  header_by more begins false is =
-      let same = prefix2 more in (
-        rw (begins, is, same.0) (with_text_prefix more (header2_of image) refl),
-        rw (begins, is) same.1,
-      )
+  begins_alike : is_luks1 (take n image) ≡ is_luks1 image
+  begins_alike = sym (begins_longer (take n image) image (omega (arith, long)) begins)
 
   -- the first bytes of an image have the header of the whole image, and reading it consumes as many bytes
-  pub header_prefix : (header_of (take n image) ≡ header_of image)
-      × (header_read_len (take n image) ≡ header_read_len image)
-  header_prefix = elim (cases_lt n (length image)) [
-    | inl more ↦
-        (let long = length-take-le n image (omega arith) in
-        header_by (omega arith)
-        (sym (begins_longer (take n image) image (omega (arith, long)) (ap (λ k. take k image) long)))
-        (is_luks1 image) refl)
-    | inr all ↦ (let same = take_all n image all in (ap header_of same, ap header_read_len same))
-  ]
+  header_by : (b : Bool) → is_luks1 image ≡ b
+      → (header_of (take n image) ≡ header_of image) × (header_read_len (take n image) ≡ header_read_len image)
+  unfolding header_of header_read_len
+  header_by true is =
+      let short = le-ltb (length (take n image)) 592 (omega (arith, long)) in
+      let shorter = le-ltb (length image) 592 (omega arith) in (
+        rw (begins_alike, is, short, shorter, take-take 592 n image (omega arith)) refl,
+        rw (begins_alike, is) (omega (arith, long)),
+      )
+  header_by false is = (
+    rw (begins_alike, is, prefix2.0) (with_text_prefix (header2_of image) refl),
+    rw (begins_alike, is) prefix2.1,
+  )
 
 -- ---- opening by the first bytes
 
 module _ (location : HeaderLocation) (o : VolumeRequest) (image pass : List ℕ) (n : ℕ) (far : max_loaded_len ≤ n)
-    (on_opened : OnOpened) where
-  opened_prefix : (v : Volume) (r : Result Opened OpenFault)
-      → opened_outcome on_opened o.key_slot v (take n image) pass r
-      ≡ opened_outcome on_opened o.key_slot v image pass r
-  opened_prefix v (Ok opened) =
-      ap (λ cost. on_opened v.segment opened (max cost (key_material_end v.order.entries)))
-      (header_prefix image n (omega arith)).1
-  opened_prefix v (Err fault) = rw (header_prefix image n (omega arith)).1 refl
+    (more : n ≤ length image) (on_opened : OnOpened) where
+  same_header : (header_of (take n image) ≡ header_of image) × (header_read_len (take n image) ≡ header_read_len image)
+  same_header = header_by image n (omega arith) more (is_luks1 image) refl
 
-  found_prefix : n ≤ length image → (v : Volume)
-      → found_outcome on_opened o.key_slot v (take n image) pass ≡ found_outcome on_opened o.key_slot v image pass
+  opened_prefix : (v : Volume) (r : Result Opened OpenFault)
+      → opened_outcome on_opened o.key_slot v (take n image) pass r ≡ opened_outcome on_opened o.key_slot v image pass r
+  opened_prefix v (Ok opened) =
+      ap (λ cost. on_opened v.segment opened (max cost (key_material_end v.order.entries))) same_header.1
+  opened_prefix v (Err fault) = rw same_header.1 refl
+
+  after_prefix : (r : Result Volume Message)
+      → outcome_after on_opened o.key_slot (take n image) pass r ≡ outcome_after on_opened o.key_slot image pass r
   unfolding found_outcome
-  found_prefix more v =
-      let long = length-take-le n image more in
+  after_prefix (Ok v) =
       let within = key_material_end-within v.order.entries in
+      let long = length-take-le n image more in
       let all = le-ltb (length (take n image)) (key_material_end v.order.entries) (omega (arith, long)) in
       let whole = le-ltb (length image) (key_material_end v.order.entries) (omega arith) in
       let opening = opening_beginning v.order n image pass (omega arith) in
-      let cost = (header_prefix image n (omega arith)).1 in
+      let cost = same_header.1 in
       rw (all, whole, cost, opening, opened_prefix v (opening_of v.order image pass)) refl
-
-  after_prefix : n ≤ length image → (r : Result Volume Message)
-      → outcome_after on_opened o.key_slot (take n image) pass r ≡ outcome_after on_opened o.key_slot image pass r
-  after_prefix more (Ok v) = found_prefix more v
-  after_prefix more (Err message) = rw (header_prefix image n (omega arith)).1 refl
+  after_prefix (Err message) = rw same_header.1 refl
 
   reading_prefix : reader_for location (take n image) ≡ reader_for location image
   reading_prefix = by location where
     by : (location : HeaderLocation) → reader_for location (take n image) ≡ reader_for location image
-    by Attached = (header_prefix image n (omega arith)).0
-    by Detached = ap as_detached (header_prefix image n (omega arith)).0
+    by Attached = same_header.0
+    by Detached = ap as_detached same_header.0
 
-  -- a command has the same outcome on the first bytes of an image as on all of it
-  pub outcome_prefix : volume_outcome_by (reader_for location) on_opened o (take n image) pass
+  -- a command has the same outcome on the first bytes of a longer image as on all of it
+  longer_prefix : volume_outcome_by (reader_for location) on_opened o (take n image) pass
       ≡ volume_outcome_by (reader_for location) on_opened o image pass
   unfolding volume_outcome_by volume_by
-  outcome_prefix = elim (cases_lt n (length image)) [
-    | inl more ↦
-        ap (λ r. outcome_after on_opened o.key_slot (take n image) pass (volume_in_header o r)) reading_prefix
-        ∙ after_prefix (omega arith) (volume_in_header o (reader_for location image))
-    | inr all ↦ ap (λ bytes. volume_outcome_by (reader_for location) on_opened o bytes pass) (take_all n image all)
-  ]
+  longer_prefix =
+      ap (λ r. outcome_after on_opened o.key_slot (take n image) pass
+      (volume_in_header o.key_slot o.max_iterations r)) reading_prefix
+      ∙ after_prefix (volume_in_header o.key_slot o.max_iterations (reader_for location image))
+
+-- and so it has on the first bytes of any image
+outcome_prefix : (location : HeaderLocation) (o : VolumeRequest) (image pass : List ℕ) (n : ℕ) → max_loaded_len ≤ n
+    → (on_opened : OnOpened) → volume_outcome_by (reader_for location) on_opened o (take n image) pass
+    ≡ volume_outcome_by (reader_for location) on_opened o image pass
+outcome_prefix location o image pass n far on_opened = elim (cases_lt n (length image)) [
+  | inl more ↦ longer_prefix location o image pass n far (omega arith) on_opened
+  | inr all ↦ ap (λ bytes. volume_outcome_by (reader_for location) on_opened o bytes pass) (take_all n image all)
+]
 
 -- a command has the same outcome on images with the same first bytes
 pub outcome_decided : (location : HeaderLocation) (o : VolumeRequest) (a b pass : List ℕ) (on_opened : OnOpened)
-    → take max_loaded_len a ≡ take max_loaded_len b
-    → volume_outcome_by (reader_for location) on_opened o a pass
+    → take max_loaded_len a ≡ take max_loaded_len b → volume_outcome_by (reader_for location) on_opened o a pass
     ≡ volume_outcome_by (reader_for location) on_opened o b pass
 outcome_decided location o a b pass on_opened same =
     sym (outcome_prefix location o a pass max_loaded_len (omega arith) on_opened)

@@ -1,46 +1,44 @@
--- Finding the volume of an image.
+-- Finding the volume of an image, and the outcome of a command that opens it.
 use Rattle.std.proofs.Common.{◌≡◌, ◌∙◌, ℕ, ◌⊎◌, inl, inr, List, [], ◌∷◌, Option, Some, Ok, Err, true, false, ap, refl}
-use Rattle.std.proofs.Common.{Bool, min, sym, length, length-take-le, take, append-nil, arith}
-use Rattle.std.specs.Prelude.{is_err}
+use Rattle.std.proofs.Common.{Bool, min, sym, length, append-nil, arith, ◌+◌, ◌-◌, ◌<◌, ◌≤◌, ◌++◌, Result, take, drop}
+use Rattle.std.proofs.Common.{length-drop, length-take-le, max}
+use Rattle.std.specs.Prelude.{is_err, nat_lt}
+use Rattle.std.proofs.lemmas.Bool.Decides.{nat_tests}
+use Rattle.std.proofs.lemmas.List.{drop-drop}
+use Rattle.std.proofs.Math.Seq.{take-add}
 use Rattle.luks_io.proofs.CountsLemmas.{reads_more}
 use Rattle.luks_io.specs.Counts.{Reads}
 use Rattle.luks_io.specs.Devices.{ConsumedExactly, counted}
 use Rattle.luks_io.specs.declared.counts.ReadCounts.{ReadCounts}
-use Rattle.luks_header.specs.Header.{ReadsNoHeader, header_read_len, header_of}
+use Rattle.luks_area.specs.Area.{ConsumedOnto, HeaderAreaModel}
+use Rattle.luks_area.specs.declared.fault.HeaderFault.{HeaderFault}
+use Rattle.luks_area.specs.declared.fault.HeaderFault.TheVariants.{Read as HeaderRead, Memory as HeaderMemory}
+use Rattle.luks_verdict.specs.declared.segment.Segment.{Segment}
+use Rattle.luks_header.specs.Header.{ReadsNoHeader, header_read_len}
 use Rattle.luks_header.proofs.HeaderLemmas.{memory_below}
 use Rattle.luks_header.specs.HeaderSegment.{segment_of}
 use Rattle.luks_header.specs.declared.header.Header.{Header}
-use Rattle.luks_area.specs.Area.{ConsumedOnto, HeaderAreaModel}
-use Rattle.luks_area.specs.declared.fault.HeaderFault.{HeaderFault}
-use Rattle.luks_area.specs.declared.fault.HeaderFault.TheVariants.{NotLuks as HeaderNotLuks, Cut as HeaderCut}
-use Rattle.luks_area.specs.declared.fault.HeaderFault.TheVariants.{Json as HeaderJson}
-use Rattle.luks_area.specs.declared.fault.HeaderFault.TheVariants.{Read as HeaderRead, Memory as HeaderMemory}
-use Rattle.luks_verdict.specs.declared.refusal.SegmentFault.{SegmentFault}
-use Rattle.luks_verdict.specs.declared.segment.Segment.{Segment}
-use Rattle.luks_open.specs.Order.{OrderModel, order_of}
+use Rattle.luks_open.specs.Order.{OrderModel, order_of, key_material_end}
 use Rattle.luks_open.specs.declared.fault.OpenFault.{OpenFault}
-use Rattle.luks_open.specs.declared.fault.OpenFault.TheVariants.{NoSuchSlot as OpenNoSuchSlot, Disabled, NamedSkipped}
-use Rattle.luks_open.specs.declared.fault.OpenFault.TheVariants.{NothingTried as OpenNothingTried, NoKey as OpenNoKey}
 use Rattle.luks_open.specs.declared.fault.OpenFault.TheVariants.{Memory}
+use Rattle.luks_open.proofs.CallerLemmas.{opening_beginning}
+use Rattle.luks_open.specs.Opening.{opening_of}
+use Rattle.luks_open.specs.declared.opening.Opened.{Opened}
 use Rattle.luks_report.specs.Faults.{message_for_header, message_for_opening}
+use Rattle.luks_report.specs.declared.message.Message.{Message}
+use Rattle.luks_report.specs.declared.message.Message.TheVariants.{OutOfMemory, ReadFailed, Cut, KeyFileLength}
 use Rattle.luks_request.specs.Request.{VolumeRequest}
-use Rattle.luks_runs.proofs.HeaderConsumption.{header_read_len_within, reading_fault}
+use Rattle.luks_runs.proofs.HeaderRuns.{reading_fault, header_read_len_within}
+use Rattle.luks_runs.specs.Run.{is_run_read_failure}
+use Rattle.luks_runs.specs.Location.{LoadedFrom, reader_for}
+use Rattle.luks_runs.specs.declared.location.HeaderLocation.{HeaderLocation}
+use Rattle.luks_runs.specs.Run.{no_output}
+use Rattle.luks_runs.specs.KeyFile.{max_key_file_len}
 use Rattle.luks_unlock.specs.Found.{FindsNoVolume, FindsVolume}
 use Rattle.luks_unlock.specs.Trying.{HitsMaterialEof}
 use Rattle.luks_unlock.specs.declared.found.FoundVolume.{FoundVolume}
-use Rattle.luks_runs.specs.Run.{is_run_read_failure}
-use Rattle.luks_runs.specs.Location.{LoadedFrom, reader_for}
-use Rattle.luks_unlock.specs.Volume.{volume_by, volume_in_header}
-use Rattle.luks_runs.specs.declared.location.HeaderLocation.{HeaderLocation}
-use Rattle.luks_report.specs.declared.message.Message.{Message}
-use Rattle.luks_report.specs.declared.message.Message.TheVariants.{OutOfMemory, ReadFailed, SegmentRefused}
-
--- the loaded area is as long as what reading the header consumes
-pub loaded_read_len : (image area : List ℕ) → area ≡ take (header_read_len image) image
-    → length area ≡ header_read_len image
-loaded_read_len image area prefix =
-    ap length prefix ∙ length-take-le (header_read_len image) image (header_read_len_within
-    image)
+use Rattle.luks_unlock.specs.Volume.{volume_by, volume_in_header, OnOpened, Volume, found_outcome, opened_outcome}
+use Rattle.luks_unlock.specs.Volume.{outcome_after, volume_outcome_by}
 
 -- nothing is consumed from an image of which no bytes remain
 pub none_behind : (area rest : List ℕ) (left : Option (List ℕ)) (most : ℕ) → left ≡ Some rest → rest ≡ []
@@ -72,8 +70,7 @@ ends_for_good failed ended a b c first kept then = record {
 -- reads without a failure and further reads count as one run of reads, if none was made after the end
 pub reads_on : (failed ended ended' : Bool) (a b c : ReadCounts) → Reads false ended a b → (ended ≡ true → c ≡ b)
     → Reads failed ended' b c → (last : Bool) × Reads failed last a c
-reads_on failed true ended' a b c first kept then =
-    (true, ends_for_good failed ended' a b c first (kept refl) then)
+reads_on failed true ended' a b c first kept then = (true, ends_for_good failed ended' a b c first (kept refl) then)
 reads_on failed false ended' a b c first kept then = (ended', reads_more failed ended' a b c first then)
 
 -- if the further reads did not hit the end, the run hit it if and only if the first reads did
@@ -86,50 +83,38 @@ reads_within failed false a b c first kept then = reads_more failed false a b c 
 pub opening_reads : (named : Option ℕ) (fault : OpenFault) (a b : ReadCounts) → Reads false false a b
     → (ended : Bool) × Reads (is_run_read_failure (message_for_opening named fault)) ended a b
     × HitsMaterialEof (message_for_opening named fault) ended
-opening_reads named OpenNoSuchSlot a b reads = (false, reads, refl)
-opening_reads named Disabled a b reads = (false, reads, refl)
-opening_reads named (NamedSkipped reason) a b reads = (false, reads, refl)
-opening_reads named (OpenNothingTried skipped) a b reads = (false, reads, refl)
-opening_reads named (OpenNoKey skipped) a b reads = (false, reads, refl)
 opening_reads named Memory a b reads = (false, reads, refl)
+opening_reads named _ a b reads = (false, reads, refl)
 
 -- ---- the header of an image
 
 module _ (location : HeaderLocation) (o : VolumeRequest) (image : List ℕ) (left : Option (List ℕ)) where
-  no_header : (fault : HeaderFault) → header_of image ≡ Err fault
-      → volume_by (reader_for location) o image ≡ Err (message_for_header fault)
-  unfolding volume_by
-  no_header fault none = rw (reading_fault location image fault none) refl
-
+  -- if there is no header, or reading it was aborted, no volume is found
   pub aborts_without_header : (ends ends' : ℕ) (fault : HeaderFault) → ReadsNoHeader image left ends ends' fault
       → FindsNoVolume (reader_for location) o image left (message_for_header fault)
-  aborts_without_header ends ends' HeaderNotLuks stop = (no_header HeaderNotLuks stop.0, stop.1.0)
-  aborts_without_header ends ends' HeaderCut stop = (no_header HeaderCut stop.0, stop.1.0)
-  aborts_without_header ends ends' HeaderJson stop = (no_header HeaderJson stop.0, stop.1.0)
+  unfolding volume_by
   aborts_without_header ends ends' HeaderRead stop = stop.0
   aborts_without_header ends ends' HeaderMemory stop = memory_below image left ends ends' stop
+  aborts_without_header ends ends' fault stop = (rw (reading_fault location image fault stop.0) refl, stop.1.0)
 
-  module _ (header : Header) (found : reader_for location image ≡ Ok header) where
-    -- if there is no volume with this header, or memory for the order of its key slots ran out, no volume is found
-    pub aborts_without_slots : ConsumedExactly image left (header_read_len image) → (message : Message)
-        → (message ≡ OutOfMemory) ⊎ (volume_in_header o (Ok header) ≡ Err message)
-        → FindsNoVolume (reader_for location) o image left message
-    unfolding volume_by
-    aborts_without_slots rest OutOfMemory why = (header_read_len image, omega arith, rest)
-    aborts_without_slots rest ReadFailed why = (header_read_len image, omega arith, rest)
-    aborts_without_slots rest _ (inl memory) = cc
-    aborts_without_slots rest _ (inr why) = (rw found why, rest)
+  -- if there is no volume with this header, or memory for the order of its key slots ran out, no volume is found
+  pub aborts_without_slots : (header : Header) → reader_for location image ≡ Ok header
+      → ConsumedExactly image left (header_read_len image) → (message : Message)
+      → (message ≡ OutOfMemory) ⊎ (volume_in_header o.key_slot o.max_iterations (Ok header) ≡ Err message)
+      → FindsNoVolume (reader_for location) o image left message
+  unfolding volume_by
+  aborts_without_slots header found rest OutOfMemory why = (header_read_len image, omega arith, rest)
+  aborts_without_slots header found rest ReadFailed why = (header_read_len image, omega arith, rest)
+  aborts_without_slots header found rest _ (inl memory) = cc
+  aborts_without_slots header found rest _ (inr why) = (rw found why, rest)
 
-  module _ (header : Header) (found : reader_for location image ≡ Ok header) (segment : Segment)
-      (is : segment_of header ≡ Ok segment) where
-    pub volume_is : (order : OrderModel) → order_of header o.key_slot o.max_iterations ≡ Ok order
-        → volume_by (reader_for location) o image ≡ Ok (record { header = header; segment = segment; order = order })
-    unfolding volume_by
-    volume_is order ordered = rw (found, is, ordered) refl
-
-    pub volume_found : (order : OrderModel) → order_of header o.key_slot o.max_iterations ≡ Ok order
-        → is_err (volume_by (reader_for location) o image) ≡ false
-    volume_found order ordered = rw (volume_is order ordered) refl
+-- the header of an image, its segment and its order make its volume
+pub volume_is : (location : HeaderLocation) (o : VolumeRequest) (image : List ℕ) (header : Header) (segment : Segment)
+    (order : OrderModel) → reader_for location image ≡ Ok header → segment_of header ≡ Ok segment
+    → order_of header o.key_slot o.max_iterations ≡ Ok order
+    → volume_by (reader_for location) o image ≡ Ok (record { header = header; segment = segment; order = order })
+unfolding volume_by
+volume_is location o image header segment order found is ordered = rw (found, is, ordered) refl
 
 -- an image in which a volume was found has one
 pub there_is_volume : (location : HeaderLocation) (o : VolumeRequest) (volume : FoundVolume)
@@ -137,21 +122,128 @@ pub there_is_volume : (location : HeaderLocation) (o : VolumeRequest) (volume : 
     → FindsVolume location o volume left left' counts counts' → left ≡ Some known
     → is_err (volume_by (reader_for location) o known) ≡ true → ⊥
 there_is_volume location o volume left left' counts counts' known found is none =
-    let there = volume_found location o known left' volume.header (found.header known is).0 volume.segment
-    found.slots.segment volume.order found.slots.order in
-    let wrong : false ≡ true = sym there ∙ none in
+    let there = volume_is location o known volume.header volume.segment volume.order (found.header known is).0
+    found.slots.segment found.slots.order in
+    let wrong : false ≡ true = rw there at none in
     cc
 
--- ---- the key slots of a header
+-- if a header has no order of key slots, there is no volume with it, unless memory ran out
+pub no_order : (o : VolumeRequest) (header : Header) (segment : Segment) → segment_of header ≡ Ok segment
+    → (fault : OpenFault) → (fault ≡ Memory) ⊎ (order_of header o.key_slot o.max_iterations ≡ Err fault)
+    → (message_for_opening o.key_slot fault ≡ OutOfMemory)
+    ⊎ (volume_in_header o.key_slot o.max_iterations (Ok header) ≡ Err (message_for_opening o.key_slot fault))
+no_order o header segment is fault (inl memory) = inl (rw memory refl)
+no_order o header segment is fault (inr why) = inr (rw (is, why) refl)
 
-module _ (o : VolumeRequest) (header : Header) where
-  pub no_segment : (fault : SegmentFault) → segment_of header ≡ Err fault
-      → volume_in_header o (Ok header) ≡ Err (SegmentRefused fault)
-  no_segment fault none = rw none refl
+-- ---- the outcome of a volume that was found
 
-  pub no_order : (segment : Segment) → segment_of header ≡ Ok segment → (fault : OpenFault)
-      → (fault ≡ Memory) ⊎ (order_of header o.key_slot o.max_iterations ≡ Err fault)
-      → (message_for_opening o.key_slot fault ≡ OutOfMemory)
-      ⊎ (volume_in_header o (Ok header) ≡ Err (message_for_opening o.key_slot fault))
-  no_order segment is fault (inl memory) = inl (rw memory refl)
-  no_order segment is fault (inr why) = inr (rw (is, why) refl)
+module _ (on_opened : OnOpened) (named : Option ℕ) (v : Volume) (image secret : List ℕ) where
+  pub found_long : max_key_file_len < length secret → found_outcome on_opened named v image secret
+      ≡ no_output KeyFileLength (header_read_len image) (max_key_file_len + 1)
+  unfolding found_outcome
+  found_long long = let yes : nat_lt max_key_file_len (length secret) ≡ true = grind (arith, nat_tests) in rw yes refl
+
+  pub found_cut : length secret ≤ max_key_file_len → length image < key_material_end v.order.entries
+      → found_outcome on_opened named v image secret ≡ no_output Cut (length image) (length secret)
+  unfolding found_outcome
+  found_cut short few =
+      let no : nat_lt max_key_file_len (length secret) ≡ false = grind (arith, nat_tests) in
+      let yes : nat_lt (length image) (key_material_end v.order.entries) ≡ true = grind (arith, nat_tests) in
+      rw (no, yes) refl
+
+  pub found_whole : length secret ≤ max_key_file_len → key_material_end v.order.entries ≤ length image
+      → found_outcome on_opened named v image secret
+      ≡ opened_outcome on_opened named v image secret (opening_of v.order image secret)
+  unfolding found_outcome
+  found_whole short enough =
+      let no : nat_lt max_key_file_len (length secret) ≡ false = grind (arith, nat_tests) in
+      let none : nat_lt (length image) (key_material_end v.order.entries) ≡ false = grind (arith, nat_tests) in
+      rw (no, none) refl
+
+-- ---- the loaded area
+
+module _ (image area area' : List ℕ) (i : Option (List ℕ)) (loaded : ℕ)
+    (prefix : area ≡ take (header_read_len image) image) where
+  pub prefix_length : length area ≡ header_read_len image
+  prefix_length = ap length prefix ∙ length-take-le (header_read_len image) image (header_read_len_within image)
+
+  -- if `n` more bytes were appended to the area, it has that many more of the image's first bytes
+  pub area_more : (n : ℕ) → ConsumedOnto area area' (drop (header_read_len image) image) i n
+      → (area' ≡ take (header_read_len image + n) image) × ConsumedExactly image i (header_read_len image + n)
+  area_more n grows = (
+    grows.1 ∙ ap (λ l. l ++ take n (drop (header_read_len image) image)) prefix
+        ∙ sym (take-add (header_read_len image) n image),
+    record {
+      within = omega (arith, grows.0.within, length-drop (header_read_len image) image, header_read_len_within image);
+      left = grows.0.left ∙ ap Some (drop-drop n (header_read_len image) image);
+    },
+  )
+
+  module _ (grows : ConsumedOnto area area' (drop (header_read_len image) image) i
+      (min (loaded - length area) (length (drop (header_read_len image) image)))) where
+    -- where loading ends: after as many bytes as were to be loaded, or at the image's end, but not before the header's
+    abbrev end : ℕ
+    end = max (header_read_len image) (min loaded (length image))
+
+    grown : (length area' ≡ end) × (area' ≡ take end image) × ConsumedExactly image i end
+    grown =
+        let more = area_more _ grows in
+        let sum : header_read_len image + min (loaded - length area) (length (drop (header_read_len image) image))
+        ≡ end =
+        omega (arith, prefix_length, length-drop (header_read_len image) image, header_read_len_within image) in
+        (ap length more.0 ∙ length-take-le _ image more.1.within ∙ sum, rw sum at more.0, rw sum at more.1)
+
+    -- if the area has fewer bytes than were to be loaded, the image ended first, and all of it was consumed
+    pub area_cut : length area' < loaded → (length image < loaded) × ConsumedExactly image i (length image)
+    area_cut short =
+        let all : end ≡ length image = omega (arith, grown.0, header_read_len_within image) in
+        (omega (arith, grown.0, header_read_len_within image), rw all at grown.2)
+
+    -- if the area has all bytes that were to be loaded, they are the image's first bytes, and no more were consumed
+    pub area_loaded : loaded ≤ length area'
+        → (loaded ≤ length image) × (length area' ≡ max (header_read_len image) loaded)
+        × (area' ≡ take (max (header_read_len image) loaded) image)
+        × ConsumedExactly image i (max (header_read_len image) loaded)
+    area_loaded enough =
+        let all : end ≡ max (header_read_len image) loaded = omega (arith, grown.0, header_read_len_within image) in
+        (omega (arith, grown.0, header_read_len_within image), grown.0 ∙ all, rw all at grown.1, rw all at grown.2)
+
+-- ---- the outcome on an image
+
+-- the volume with this header, this segment and this order
+abbrev pub volume_with : Header → Segment → OrderModel → Volume
+volume_with header segment order = record { header = header; segment = segment; order = order }
+
+module _ (location : HeaderLocation) (o : VolumeRequest) (image pass : List ℕ) where
+  pub outcome_is : (on_opened : OnOpened) (r : Result Volume Message) → volume_by (reader_for location) o image ≡ r
+      → volume_outcome_by (reader_for location) on_opened o image pass ≡ outcome_after on_opened o.key_slot image pass r
+  unfolding volume_outcome_by
+  outcome_is on_opened r is = rw is refl
+
+  -- the header has this segment and these key slots to be tried
+  module _ (header : Header) (segment : Segment) (order : OrderModel) (found : reader_for location image ≡ Ok header)
+      (is_segment : segment_of header ≡ Ok segment)
+      (ordered : order_of header o.key_slot o.max_iterations ≡ Ok order) where
+    pub found_is : (on_opened : OnOpened) → volume_outcome_by (reader_for location) on_opened o image pass
+        ≡ found_outcome on_opened o.key_slot (volume_with header segment order) image pass
+    found_is on_opened =
+        outcome_is on_opened (Ok (volume_with header segment order))
+        (volume_is location o image header segment order found is_segment ordered)
+
+    -- if the key areas were loaded and trying the key slots has this result, the outcome is that of the result
+    pub tried_is : (short : length pass ≤ max_key_file_len) (area area' : List ℕ) (i : Option (List ℕ))
+        (prefix : area ≡ take (header_read_len image) image)
+        (grows : ConsumedOnto area area' (drop (header_read_len image) image) i
+        (min (key_material_end order.entries - length area) (length (drop (header_read_len image) image))))
+        (enough : key_material_end order.entries ≤ length area') (r : Result Opened OpenFault)
+        (tried : opening_of order area' pass ≡ r) (on_opened : OnOpened)
+        → volume_outcome_by (reader_for location) on_opened o image pass
+        ≡ opened_outcome on_opened o.key_slot (volume_with header segment order) image pass r
+    tried_is short area area' i prefix grows enough r tried on_opened =
+        let v = volume_with header segment order in
+        let loaded = area_loaded image area area' i (key_material_end order.entries) prefix grows enough in
+        let whole : opening_of order image pass ≡ r =
+        sym (opening_beginning order (max (header_read_len image) (key_material_end order.entries)) image pass
+        (omega arith)) ∙ ap (λ l. opening_of order l pass) (sym loaded.2) ∙ tried in
+        found_is on_opened ∙ found_whole on_opened o.key_slot v image pass short loaded.0
+        ∙ ap (opened_outcome on_opened o.key_slot v image pass) whole

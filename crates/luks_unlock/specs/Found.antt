@@ -10,8 +10,7 @@ use Rattle.luks_open.specs.Order.{order_of}
 use Rattle.luks_request.specs.Request.{VolumeRequest}
 use Rattle.luks_report.specs.declared.message.Message.{Message}
 use Rattle.luks_report.specs.declared.message.Message.TheVariants.{OutOfMemory, ReadFailed}
-use Rattle.luks_runs.specs.HeaderReading.{HeaderReader}
-use Rattle.luks_runs.specs.Location.{LoadedFrom, reader_for}
+use Rattle.luks_runs.specs.Location.{HeaderReader, LoadedFrom, reader_for}
 use Rattle.luks_runs.specs.declared.location.HeaderLocation.{HeaderLocation}
 use Rattle.luks_unlock.specs.Volume.{volume_by}
 use Rattle.luks_unlock.specs.declared.found.FoundVolume.{FoundVolume}
@@ -44,6 +43,5 @@ pub record FindsVolume (location : HeaderLocation) (o : VolumeRequest) (volume :
   pub of_area : reader_for location volume.area.bytes ≡ Ok volume.header
   pub area : length volume.area.bytes ≡ header_read_len volume.area.bytes
   pub header : IfKnown before (λ known. (reader_for location known ≡ Ok volume.header)
-      × (volume.area.bytes ≡ take (header_read_len known) known)
-      × ConsumedExactly known after (header_read_len known))
+      × (volume.area.bytes ≡ take (header_read_len known) known) × ConsumedExactly known after (header_read_len known))
   pub loaded : LoadedFrom volume.area before after counts counts'

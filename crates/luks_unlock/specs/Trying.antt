@@ -35,8 +35,7 @@ TriesSlots named segment order pass area area' rest left (Err message) =
     × AbortsConsuming (key_material_end order.entries - length area) area area' rest left fault)
     ⊎ (ConsumedMaterial order area area' rest left × ((message ≡ Cut × (length area' < key_material_end order.entries))
     ⊎ ((fault : OpenFault) × (message ≡ message_for_opening named fault)
-    × (key_material_end order.entries ≤ length area')
-    × (opening_of order area' pass ≡ Err fault))))
+    × (key_material_end order.entries ≤ length area') × (opening_of order area' pass ≡ Err fault))))
 
 -- the count of work was raised once by the evaluations of HMAC that opening costs, or not at all
 abbrev pub CountsTrials : OrderModel → List ℕ → List ℕ → ℕ → ℕ → Type 0

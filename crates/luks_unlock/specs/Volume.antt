@@ -17,8 +17,8 @@ use Rattle.luks_payload.specs.Plain.{ending_of, payload_end_of, plain_of}
 use Rattle.luks_report.specs.Texts.{opened_line}
 use Rattle.luks_report.specs.declared.message.Message.TheVariants.{Done, Cut, KeyFileLength, SegmentRefused}
 use Rattle.luks_runs.specs.KeyFile.{max_key_file_len}
-use Rattle.luks_runs.specs.RunOutcome.{Outcome, no_output}
-use Rattle.luks_runs.specs.HeaderReading.{HeaderReader}
+use Rattle.luks_runs.specs.Run.{Outcome, no_output}
+use Rattle.luks_runs.specs.Location.{HeaderReader}
 use Rattle.luks_report.specs.declared.message.Message.{Message}
 
 -- a volume: its header, its segment, and the key slots to be tried
@@ -33,20 +33,19 @@ volume_in_order named header segment (Ok order) = Ok (record { header = header; 
 volume_in_order named header segment (Err fault) = Err (message_for_opening named fault)
 
 -- the volume with this segment
-abbrev pub volume_in_segment : VolumeRequest → Header → Result Segment SegmentFault → Result Volume Message
-volume_in_segment o header (Ok segment) =
-    volume_in_order o.key_slot header segment (order_of header o.key_slot o.max_iterations)
-volume_in_segment o header (Err fault) = Err (SegmentRefused fault)
+abbrev pub volume_in_segment : Option ℕ → Option ℕ → Header → Result Segment SegmentFault → Result Volume Message
+volume_in_segment named limit header (Ok segment) = volume_in_order named header segment (order_of header named limit)
+volume_in_segment named limit header (Err fault) = Err (SegmentRefused fault)
 
--- the volume with this header
-abbrev pub volume_in_header : VolumeRequest → Result Header HeaderFault → Result Volume Message
-volume_in_header o (Ok header) = volume_in_segment o header (segment_of header)
-volume_in_header o (Err fault) = Err (message_for_header fault)
+-- the volume with this header, by the named key slot and the limit on iterations
+abbrev pub volume_in_header : Option ℕ → Option ℕ → Result Header HeaderFault → Result Volume Message
+volume_in_header named limit (Ok header) = volume_in_segment named limit header (segment_of header)
+volume_in_header named limit (Err fault) = Err (message_for_header fault)
 
 -- the volume whose header is read in this way, or the message if there is none: about its header first, then about its
 -- segment, then about the order of its key slots
 unfoldable pub volume_by : HeaderReader → VolumeRequest → List ℕ → Result Volume Message
-volume_by read o image = volume_in_header o (read image)
+volume_by read o image = volume_in_header o.key_slot o.max_iterations (read image)
 
 -- the volume of an image
 abbrev pub volume_of : VolumeRequest → List ℕ → Result Volume Message

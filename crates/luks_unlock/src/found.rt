@@ -67,8 +67,9 @@ fn segment_and_slots(
     ensures segment { IfOk result (λ found. segment_of header.now ≡ Ok found.0) }
     ensures order { IfOk result (λ found. let o = volume_request opening.now in
         order_of header.now o.key_slot o.max_iterations ≡ Ok found.1) }
-    ensures err { IfErr result (λ message. (message ≡ Message.OutOfMemory)
-        ⊎ (volume_in_header (volume_request opening.now) (Ok header.now) ≡ Err message)) }
+    ensures err { IfErr result (λ message. let o = volume_request opening.now in
+        (message ≡ Message.OutOfMemory)
+        ⊎ (volume_in_header o.key_slot o.max_iterations (Ok header.now) ≡ Err message)) }
     ensures only { IfErr result OpeningMessage }
     ensures unread { IfErr result (λ message. message ≢ Message.ReadFailed) }
 {

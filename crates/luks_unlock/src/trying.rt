@@ -1,6 +1,6 @@
 //! Trying the key slots of a volume under a passphrase.
 
-ghost use Rattle.std.specs.Prelude.{◌≡◌, Bool, [], IfOk, IfErr, true};
+ghost use Rattle.std.specs.Prelude.{◌≡◌, ◌<◌, ◌≤◌, Bool, [], IfOk, IfErr, false, length, true};
 ghost use Rattle.luks_io.specs.Counts.{Reads};
 ghost use Rattle.luks_io.specs.Devices.{IfKnown};
 ghost use Rattle.luks_request.specs.Request.{volume_request};
@@ -11,6 +11,7 @@ ghost use Rattle.luks_unlock.specs.Trying.{CountsTrials, HitsMaterialEof, TriesS
 
 use crate::found::{FoundVolume, named_slot};
 use crate::unlocked::UnlockedVolume;
+use luks_header::area::HeaderArea;
 use luks_io::source::Source;
 use luks_kdf::Work;
 use luks_open::opening::open;
@@ -45,7 +46,7 @@ pub fn try_slots<I: Source>(
 {
     let segment = volume.segment;
     let end = held_end(&volume.order);
-    if volume.area.has_ended() && volume.area.as_slice().len() < end {
+    if is_cut(&volume.area, end) {
         return Err(Message::Cut);
     }
     if !volume.area.extend_to(image, end)? {
@@ -61,4 +62,14 @@ pub fn try_slots<I: Source>(
         Ok(opened) => Ok(UnlockedVolume::new(segment, opened)),
         Err(fault) => Err(Message::of_opening(named_slot(opening), fault)),
     }
+}
+
+/// Whether the end of the image was hit before `end` bytes of it were loaded.
+fn is_cut(area: &HeaderArea, end: usize) -> bool
+    ensures cut { result ≡ true
+        → (area.now.ended ≡ true) × (length area.now.bytes < end) }
+    ensures whole { result ≡ false → area.now.ended ≡ true → end ≤ length area.now.bytes }
+{
+    let len = area.as_slice().len();
+    area.has_ended() && len < end
 }

@@ -6,14 +6,13 @@ use Rattle.std.proofs.Math.Bool.{Bool-set}
 use Rattle.std.proofs.Math.Nat.{ℕ_set}
 use Rattle.std.proofs.lemmas.Option.{none-some, same_Some}
 use Rattle.luks_cipher.specs.declared.mode.Mode.{Mode}
-use Rattle.luks_verdict.specs.Digest.{digest_from, digest_of, has_no_usable_digest, is_usable}
+use Rattle.luks_verdict.specs.Digest.{digest_from, digest_of, digest_with, has_no_usable_digest, is_usable}
 use Rattle.luks_verdict.specs.Evidence.{evidence_if}
 use Rattle.luks_verdict.specs.Rule.{InRange, IsDigest, in_range, iterations_out_of_range, usable_digest}
 use Rattle.luks_verdict.specs.SectorSize.{HasWholeSectors, has_whole_sectors, whole_by_test}
 use Rattle.luks_verdict.specs.Segment.{refused_or, segment_by, segment_of_all, segment_with}
 use Rattle.luks_verdict.specs.Slot.{are_in_range, parts_end, slot_from, slot_of, slot_with}
 use Rattle.luks_verdict.specs.declared.digest.DigestParts.{DigestParts}
-use Rattle.luks_verdict.specs.declared.digest.KeyDigest.{KeyDigest}
 use Rattle.luks_verdict.specs.declared.refusal.SegmentFault.{SegmentFault}
 use Rattle.luks_verdict.specs.declared.sector_size.SectorSize.{SectorSize}
 use Rattle.luks_verdict.specs.declared.segment.Segment.{Segment}
@@ -38,8 +37,7 @@ unfolding slot_of
 slot_made parts range is =
     let all : IsProp (InRange parts.iterations parts.stripes (parts_end parts)) = hlevel (le_prop) in
     ap (λ (r : InRange parts.iterations parts.stripes (parts_end parts)). Some (slot_with parts r))
-    (all range (in_range parts.iterations parts.stripes (parts_end parts) is))
-    ∙ sym (slot_from-yes parts is)
+    (all range (in_range parts.iterations parts.stripes (parts_end parts) is)) ∙ sym (slot_from-yes parts is)
 
 pub digest_from-yes : (parts : DigestParts) (is : is_usable parts ≡ true)
     → digest_from parts ≡ Some (digest_of parts is)
@@ -50,26 +48,13 @@ pub digest_from-no : (parts : DigestParts) → is_usable parts ≡ false → dig
 unfolding digest_from
 digest_from-no parts is = ap (option_map (digest_of parts)) (evidence_if-no (is_usable parts) is)
 
-made_digest : (parts : DigestParts) → IsDigest parts.iterations (length parts.value) → KeyDigest
-made_digest parts usable =
-    record { hash = parts.hash; iterations = parts.iterations; salt = parts.salt; value = parts.value; usable = usable }
-
 pub digest_made : (parts : DigestParts) (usable : IsDigest parts.iterations (length parts.value))
-    → is_usable parts ≡ true
-    → Some record {
-      hash = parts.hash;
-      iterations = parts.iterations;
-      salt = parts.salt;
-      value = parts.value;
-      usable =
-          usable;
-    } ≡ digest_from parts
-unfolding made_digest digest_of
+    → is_usable parts ≡ true → Some (digest_with parts usable) ≡ digest_from parts
+unfolding digest_of
 digest_made parts usable is =
     let all : IsProp (IsDigest parts.iterations (length parts.value)) = hlevel (le_prop) in
-    ap (λ (u : IsDigest parts.iterations (length parts.value)). Some (made_digest parts u))
-    (all usable (usable_digest parts.iterations (length parts.value) is))
-    ∙ sym (digest_from-yes parts is)
+    ap (λ (u : IsDigest parts.iterations (length parts.value)). Some (digest_with parts u))
+    (all usable (usable_digest parts.iterations (length parts.value) is)) ∙ sym (digest_from-yes parts is)
 
 pub segment_of_all-yes : (offset : ℕ) (size : Option ℕ) (iv_tweak : ℕ) (sector_size : SectorSize) (mode : Mode)
     (is : has_whole_sectors size sector_size ≡ true)
@@ -80,16 +65,14 @@ segment_of_all-yes offset size iv_tweak sector_size mode is =
     (evidence_if-yes (has_whole_sectors size sector_size) is)
 
 pub segment_made : (offset : ℕ) (size : Option ℕ) (iv_tweak : ℕ) (sector_size : SectorSize) (mode : Mode)
-    (whole : HasWholeSectors size sector_size)
-    → has_whole_sectors size sector_size ≡ true
+    (whole : HasWholeSectors size sector_size) → has_whole_sectors size sector_size ≡ true
     → Some (segment_with offset size iv_tweak sector_size mode whole)
     ≡ segment_of_all (Some offset) (Some size) (Some iv_tweak) (Some sector_size) (Some mode)
 unfolding segment_by
 segment_made offset size iv_tweak sector_size mode whole is =
     let all : IsProp (HasWholeSectors size sector_size) = hlevel (ℕ_set) in
     ap (λ (w : HasWholeSectors size sector_size). Some (segment_with offset size iv_tweak sector_size mode w))
-    (all whole (whole_by_test size sector_size is))
-    ∙ sym (segment_of_all-yes offset size iv_tweak sector_size mode is)
+    (all whole (whole_by_test size sector_size is)) ∙ sym (segment_of_all-yes offset size iv_tweak sector_size mode is)
 
 -- a segment with a fault is refused with that fault
 pub refused_or-fault : (found : Option SegmentFault) (segment : Option Segment) (made : found ≡ None → segment ≢ None)

@@ -2,7 +2,7 @@
 use Rattle.std.proofs.Common.{◌≡◌, ℕ, ◌%◌, ◌≤◌, refl, arith}
 use Rattle.luks_verdict.specs.SectorSize.{bytes_of}
 use Rattle.luks_verdict.specs.declared.sector_size.SectorSize.{SectorSize}
-use Rattle.luks_verdict.specs.declared.sector_size.SectorSize.TheVariants.{B512, B1024, B2048, B4096}
+use Rattle.luks_verdict.specs.declared.sector_size.SectorSize.TheVariants.{B512}
 
 -- a length of sectors: 512 to 4096 bytes, and whole blocks of the cipher
 pub record IsSectorLen (n : ℕ) : Type 0 where
@@ -12,6 +12,4 @@ pub record IsSectorLen (n : ℕ) : Type 0 where
 
 pub sector_blocks : (size : SectorSize) → IsSectorLen (bytes_of size)
 sector_blocks B512 = record { long = omega arith; short = omega arith; blocks = refl }
-sector_blocks B1024 = record { long = omega arith; short = omega arith; blocks = refl }
-sector_blocks B2048 = record { long = omega arith; short = omega arith; blocks = refl }
-sector_blocks B4096 = record { long = omega arith; short = omega arith; blocks = refl }
+sector_blocks _ = record { long = omega arith; short = omega arith; blocks = refl }

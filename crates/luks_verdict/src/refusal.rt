@@ -23,9 +23,8 @@ pub enum SkipReason {
     Hash,
     /// LUKS2: the encryption of the key material is not `aes-` and the name of a mode.
     Encryption,
-    /// LUKS2: the length of the key material's key is not one of its mode, or that of the volume
-    /// key is not one of the payload's mode; if the segment is refused, the volume key may have a
-    /// length of any mode.
+    /// LUKS2: the key material's key has no length of its mode, or the volume key has none of the
+    /// payload's mode. If the segment is refused, the volume key may have a length of any mode.
     KeySize,
     /// The number of stripes is not 1 to 4000.
     Stripes,

@@ -1,7 +1,7 @@
 //! Tests of the crates on volumes, through their public calls: `luks_access`, `luks_open`,
 //! `luks_payload`, and `luks1_seal` and `luks2_seal` with `luks_seal` below both.
 //!
-//! They are a crate of their own, so that the crates below are not proved once more with them.
+//! They are in a crate of their own, so that the crates below are not proved again with them.
 #![tactic(auto)]
 
 #[cfg(test)]

@@ -5,8 +5,8 @@ use crate::target::is_output;
 use std::fs::{self, File};
 use std::io::{self, BufReader, ErrorKind, Read, Stdin};
 
-/// An open input. A regular file is read ahead. A pipe, a device and standard input are read only
-/// as far as requested, so that the next program can read what a run leaves.
+/// An open input. A regular file is read ahead here. A pipe, a device and standard input are read
+/// only as far as a command requests or allows, so that the next program can read the rest.
 #[derive(Drop)]
 pub enum Input {
     File(BufReader<File>),
@@ -23,7 +23,7 @@ pub enum InputFault {
 }
 
 impl Input {
-    /// Opens the named file, or standard input for `-`. It refuses a folder and the target of
+    /// Opens the named file, or standard input for `-`. It refuses a directory and the target of
     /// standard output.
     pub fn open(rt: &HostRuntime, name: &str) -> Result<Input, InputFault> {
         if name == "-" {

@@ -50,7 +50,7 @@ impl<W: Write> Write for RetryingWriter<W> {
     }
 }
 
-/// Opens `/dev/null` in place of one of the descriptors 0 to 2, if one is closed. Otherwise the
+/// If one of the descriptors 0 to 2 is closed, opens `/dev/null` in its place. Without that, the
 /// first input would become standard input, or the output would be written into it. The file
 /// occupies that descriptor until it is dropped. It is open for reading only, so that a write to a
 /// closed output fails and is reported.

@@ -1,18 +1,44 @@
-use Rattle.std.proofs.Common.{◌∙◌, Some, ap, sym}
+use Rattle.std.proofs.Common.{◌∙◌, Some, ap, sym, ◌≡◌, ◌≢◌, arith}
 use Rattle.luks_io.specs.Memory.{MemSourceModel}
-use Rattle.luks_c.proofs.OpenLemmas.{no_read, opened_for, refused_for, some_code}
 use Rattle.luks_cipher.proofs.ModeLemmas.{longest_mode_key}
+use Rattle.luks_io.specs.Devices.{counted}
+use Rattle.luks_report.specs.declared.message.Message.{Message}
+use Rattle.luks_report.specs.declared.message.Message.TheVariants.{Done, ReadFailed}
+use Rattle.luks_runs.specs.Run.{is_run_read_failure}
+use Rattle.luks_unlock.proofs.PrefixLemmas.{outcome_decided}
+use Rattle.luks_unlock.specs.OpeningMessages.{OpeningMessage}
+use Rattle.luks_c.specs.Codes.{code_for}
 use Rattle.luks_c.proofs.luksrd_open.Goals as goal
+
+-- no read of a source over memory fails
+no_read : (m : Message) → 0 ≡ counted (is_run_read_failure m) 0 → m ≢ ReadFailed
+no_read ReadFailed count = absurd (omega (arith, count))
+no_read _ count = λ is. cc
+
+-- the code of a refusal is not that of success
+some_code : (m : Message) → OpeningMessage m → code_for m ≢ 0
+some_code Done only = absurd only
+some_code _ only = λ is. absurd (omega arith)
 
 pub store-requires : goal.store-requires
 store-requires c = longest_mode_key _ _ c.in-Ok.opened.key_length
 
 pub returns-in-Ok-clause-opens : goal.returns-in-Ok-clause-opens
 returns-in-Ok-clause-opens c done =
-    opened_for c.args.options.now c.args.header.now c.args.passphrase.now c.set.new.self c.in-Some.options
-    c.in-Some.ensures.made c.store.new.self _
-    (c.in-Ok.ensures.opens c.args.header.now (ap (λ (g : MemSourceModel). Some g.left) c.new.ensures)) c.store.ensures
-    c.set.ensures
+    let known = c.in-Ok.ensures.opens c.args.header.now (ap (λ (g : MemSourceModel). Some g.left) c.new.ensures) in
+    record {
+      options = c.in-Some.options;
+      are = c.in-Some.ensures.made;
+      opened = c.in-Ok.opened;
+      filled = c.store.ensures;
+      opens = λ image begins. record {
+        loaded = known.opens.loaded;
+        outcome = λ o has on_opened.
+            outcome_decided c.in-Some.options.location o image c.args.header.now c.args.passphrase.now on_opened begins
+            ∙ known.opens.outcome o has on_opened;
+      };
+      says = c.set.ensures;
+    }
 
 pub returns-in-Err-clause-opens : goal.returns-in-Err-clause-opens
 returns-in-Err-clause-opens c none =
@@ -20,7 +46,20 @@ returns-in-Err-clause-opens c none =
 
 pub returns-in-Err-clause-refuses : goal.returns-in-Err-clause-refuses
 returns-in-Err-clause-refuses c some other =
-    refused_for c.args.options.now c.args.header.now c.args.passphrase.now c.set-in-Err.new.self c.in-Some.options
-    c.in-Some.ensures.made c.in-Err.refusal c.code_of.result c.code_of.ensures c.set-in-Err.ensures
-    c.in-Err.ensures.only (no_read c.in-Err.refusal c.in-Err.ensures.reads.1.failures)
-    (c.in-Err.ensures.refuses c.args.header.now (ap (λ (g : MemSourceModel). Some g.left) c.new.ensures))
+    let known = c.in-Err.ensures.refuses c.args.header.now (ap (λ (g : MemSourceModel). Some g.left) c.new.ensures) in
+    record {
+      options = c.in-Some.options;
+      are = c.in-Some.ensures.made;
+      refusal = c.in-Err.refusal;
+      is_code = c.code_of.ensures;
+      says = c.set-in-Err.ensures;
+      opening = c.in-Err.ensures.only;
+      read = no_read c.in-Err.refusal c.in-Err.ensures.reads.1.failures;
+      refuses = λ never image begins. record {
+        header_consumed = (known.refuses never).header_consumed;
+        secret_consumed = (known.refuses never).secret_consumed;
+        outcome = λ o has on_opened.
+            outcome_decided c.in-Some.options.location o image c.args.header.now c.args.passphrase.now on_opened begins
+            ∙ (known.refuses never).outcome o has on_opened;
+      };
+    }

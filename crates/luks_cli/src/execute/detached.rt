@@ -2,10 +2,11 @@
 
 ghost use Rattle.std.specs.Prelude.{◌≡◌, true};
 ghost use Rattle.luks_request.specs.Request.{has_header_file, request_of};
-ghost use Rattle.luks_cli.specs.Detached.{CountsCallsDetached, NeedsNoPayload};
-ghost use Rattle.luks_cli.specs.Detached.{NeedsNoSecretDetached, ReadsPayloadImage, RunsDetached};
-ghost use Rattle.luks_cli.specs.CommandRun.{ReadsFirst};
-ghost use Rattle.luks_cli.specs.CommandMessages.{MayReport};
+ghost use Rattle.luks_runs.specs.Location.{detached_header_of};
+ghost use Rattle.luks_cli.specs.CommandRun.{CountsCallsDetached, NeedsNoPayload};
+ghost use Rattle.luks_cli.specs.CommandRun.{ReadsPayloadImage, RunsDetached};
+ghost use Rattle.luks_cli.specs.CommandRun.{NeedsNoSecret, ReadsFirst};
+ghost use Rattle.luks_cli.specs.Outcome.{MayReport};
 
 use super::{report, volumes};
 use luks_io::sink::Sink;
@@ -20,11 +21,11 @@ use std::alloc::Global;
 /// Runs a command with a detached header over the header's file, the image with the payload, the
 /// second input and the output.
 ///
-/// Does the same as [`execute`](super::execute), but the header and the key areas come from the
+/// This is [`execute`](super::execute), except that the header and the key areas come from the
 /// header's file, and the payload from the image, at the segment's own offset. Only `luksCat` reads
 /// the image, after a key was found: if a write fails, no byte of the image past the current sector
 /// was consumed, and if a read of it fails, all its whole sectors that were consumed are written.
-/// No clause here is about honestly sealed volumes.
+/// Unlike there, no clause is about honestly sealed volumes.
 pub fn execute_detached<H: Source, I: Source, K: Source, O: Sink>(
     alloc: Global,
     command: &Command<'_>,
@@ -38,7 +39,7 @@ pub fn execute_detached<H: Source, I: Source, K: Source, O: Sink>(
         (H.to_come header.old) (H.to_come header.new) (I.to_come image.old) (I.to_come image.new)
         (K.to_come secret.old) (K.to_come secret.new) (O.written out.old) (O.written out.new) }
     ensures only { MayReport (request_of command.now) result.message }
-    ensures unneeded { NeedsNoSecretDetached (request_of command.now) (H.to_come header.old)
+    ensures unneeded { NeedsNoSecret detached_header_of (request_of command.now) (H.to_come header.old)
         → secret.new ≡ secret.old }
     ensures untouched { NeedsNoPayload (request_of command.now) result.message
         → image.new ≡ image.old }

@@ -9,18 +9,20 @@ ghost use Rattle.luks_unlock.specs.OpeningMessages.{OpeningMessage};
 ghost use Rattle.luks_unlock.specs.Trying.{CountsTrials, opened_of};
 ghost use Rattle.luks_unlock.specs.Volume.{detached_payload_outcome, payload_outcome, slot_outcome};
 ghost use Rattle.luks_unlock.specs.Volume.{volume_by, volume_of, volume_outcome, volume_outcome_by};
+ghost use Rattle.luks_report.specs.Texts.{opened_line};
 ghost use Rattle.luks_request.specs.Request.{volume_request};
 ghost use Rattle.luks_runs.specs.RunMessages.{PayloadMessage};
 ghost use Rattle.luks_runs.specs.Payload.{ForwardsLoaded, with_payload_ahead};
-ghost use Rattle.luks_runs.specs.HeaderReading.{detached_header_of};
+ghost use Rattle.luks_runs.specs.Run.{Prints};
+ghost use Rattle.luks_runs.specs.Location.{detached_header_of};
 ghost use Rattle.luks_runs.specs.Run.{RunMatches, DetachedRunMatches, AnyPromptness};
 ghost use Rattle.luks_runs.specs.Run.{is_run_read_failure, is_run_write_failure, result_message};
 ghost use Rattle.luks_runs.specs.Location.{LoadedFrom, reader_for};
-ghost use Rattle.luks_cli.specs.CommandRun.{CatAllows, CountsCalls, ReadsOnce, ReadsPayload};
-ghost use Rattle.luks_cli.specs.Detached.{CountsCallsDetached, DetachedCatAllows, EndsWithoutKey};
-ghost use Rattle.luks_cli.specs.Unlocking.{CountsReads, EndsLocked, UnlockEffect};
-ghost use Rattle.luks_cli.specs.Unlocking.{WritesOpenedLine, Unlocks};
-ghost use Rattle.luks_cli.specs.VolumeParts.{PromptCat, PromptDetachedCat};
+ghost use Rattle.luks_cli.specs.CommandRun.{CatAllows, CountsCalls, CountsReads, ReadsOnce};
+ghost use Rattle.luks_cli.specs.CommandRun.{ReadsPayload};
+ghost use Rattle.luks_cli.specs.CommandRun.{CountsCallsDetached, DetachedCatAllows, EndsWithoutKey};
+ghost use Rattle.luks_cli.specs.Unlocking.{EndsLocked, UnlockEffect, Unlocks};
+ghost use Rattle.luks_cli.specs.Unlocking.{PromptCat, PromptDetachedCat};
 
 use luks_header::area::HeaderArea;
 use luks_io::memory::MemSource;
@@ -63,8 +65,8 @@ fn unlock_found<I: Source, K: Source>(
         passphrase volume.old.area.bytes volume.new.area.bytes rest (I.to_come image.new)
         (K.to_come secret.new) result)) }
     ensures only { IfErr result OpeningMessage }
-    ensures counts { CountsReads (result_message result) (I.counts image.old) (I.counts image.new)
-        (K.counts secret.old) (K.counts secret.new) }
+    ensures counts { CountsReads ReadsOnce (is_run_read_failure (result_message result))
+        (I.counts image.old) (I.counts image.new) (K.counts secret.old) (K.counts secret.new) }
     ensures work { IfKnown (K.to_come secret.old) (λ passphrase. CountsTrials volume.old.order
         volume.new.area.bytes passphrase work.old work.new) }
     ensures ended { volume.old.area.ended ≡ true → image.new ≡ image.old }
@@ -104,8 +106,8 @@ fn unlock<I: Source, K: Source>(
         is_err (volume_by (reader_for location) (volume_request opening.now) known) ≡ true
         → secret.new ≡ secret.old) }
     ensures only { IfErr result OpeningMessage }
-    ensures counts { CountsReads (result_message result) (I.counts image.old) (I.counts image.new)
-        (K.counts secret.old) (K.counts secret.new) }
+    ensures counts { CountsReads ReadsOnce (is_run_read_failure (result_message result))
+        (I.counts image.old) (I.counts image.new) (K.counts secret.old) (K.counts secret.new) }
     ensures loaded { IfOk result (λ unlocked. LoadedFrom unlocked.area (I.to_come image.old)
         (I.to_come image.new) (I.counts image.old) (I.counts image.new)) }
 {
@@ -122,8 +124,8 @@ fn unlock<I: Source, K: Source>(
 
 /// Writes the line about the key slot that opened a volume.
 fn write_opened_line<O: Sink>(alloc: Global, slot: u8, out: &mut O) -> Result<(), Message>
-    ensures written { WritesOpenedLine slot (O.written out.old) (O.written out.new)
-        (result_message result) }
+    ensures written { Prints (opened_line slot) Message.Done (O.written out.old)
+        (O.written out.new) (result_message result) }
     ensures writes { Writes (is_run_write_failure (result_message result))
         (O.counts out.old) (O.counts out.new) }
 {

@@ -2,7 +2,7 @@
 
 ghost use Rattle.std.specs.Prelude.{◌≡◌, ◌++◌, IfOk, OnOk, length, string_bytes, ◌≤◌};
 ghost use Rattle.luks_dump.specs.Dump1.{cipher_line, dump1_of, enabled_text, number_lines};
-ghost use Rattle.luks_dump.specs.Dump1.{slot1_line, slot1_lines, slot_text, text1_lines};
+ghost use Rattle.luks_dump.specs.Dump1.{slot1_line, slot1_lines, state_text, text1_lines};
 ghost use Rattle.luks_dump.specs.Dump1.{uuid1_line};
 
 use crate::escaping::{escape, push_escaped_text};
@@ -106,7 +106,7 @@ fn push_slot(
 /// The text of a key slot.
 #[tactic(auto, unfolding(crate::specs::Dump1::state_text))]
 fn describe_slot(alloc: Global, slot: &StoredSlot) -> Result<String, AllocError>
-    ensures { IfOk result (λ text. string_bytes text ≡ slot_text slot.now) }
+    ensures { IfOk result (λ text. string_bytes text ≡ state_text slot.now slot.now.state) }
 {
     match slot.state {
         SlotState::Enabled => {

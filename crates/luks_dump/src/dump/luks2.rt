@@ -2,10 +2,11 @@
 
 ghost use Rattle.std.specs.Prelude.{◌≡◌, ◌++◌, IfOk, OnOk, string_bytes};
 ghost use Rattle.luks_dump.specs.Dump2.{dump2_of, role_lines, role_text, text2_lines, uuid2_line};
+ghost use Rattle.luks_header.specs.declared.header.Header.TheVariants.{V2};
 
 use crate::escaping::escape;
 use crate::field::{push_field, push_number, push_text};
-use luks_header::header::bounds;
+use luks_header::header::{Header, bounds};
 use luks2_binary::header::{Header2, HeaderRole};
 use luks2_json::tree::Metadata;
 use std::alloc::{AllocError, Global};
@@ -24,20 +25,22 @@ pub(crate) fn uuid_text(alloc: Global, header: &Header2) -> Result<String, Alloc
     Ok(lines)
 }
 
-/// The dump of a header and of its JSON area.
+/// The dump of a header: of its binary header and of its JSON area.
 #[tactic(auto, unfolding(crate::specs::Dump2::dump2_of))]
 pub(crate) fn dump_text(
     alloc: Global,
+    whole: &Header,
     header: &Header2,
     metadata: &Metadata,
 ) -> Result<String, AllocError>
+    requires { whole.now ≡ V2 header.now metadata.now }
     ensures { IfOk result (λ lines. string_bytes lines ≡ dump2_of header.now metadata.now) }
 {
     let bounds = bounds(header);
     let mut lines = String::new(alloc);
     push_role(alloc, &mut lines, header)?;
     push_texts(alloc, &mut lines, header)?;
-    slots::push_slots(alloc, &mut lines, metadata, bounds)?;
+    slots::push_slots(alloc, &mut lines, whole)?;
     payload::push_segment(alloc, &mut lines, metadata, bounds)?;
     digests::push_digests(alloc, &mut lines, metadata)?;
     Ok(lines)

@@ -1,6 +1,6 @@
 use Rattle.std.proofs.Common.{◌≡◌, ◌∙◌, ◌++◌, ap, arith}
 use Rattle.luks_kdf.specs.Bytes.{joined}
-use Rattle.luks_seal.proofs.PieceLemmas.{pieces_more}
+use Rattle.luks_seal.proofs.SectorLemmas.{pieces_more}
 use Rattle.luks1_seal.specs.Layout1.{area1_of}
 use Rattle.luks1_seal.proofs.luks1.push_areas.Goals as goal
 

@@ -1,6 +1,5 @@
 use Rattle.std.proofs.Common.{ℕ, ◌<◌, get_or}
-use Rattle.luks_seal.specs.declared.parameters.Slot1.{Slot1}
-use Rattle.luks1_seal.specs.Typed1.{IsTypedSlot1}
+use Rattle.luks1_seal.specs.Ranges1.{IsTypedSlot1, Slot1}
 use Rattle.luks1_seal.proofs.typed.slots1.Given as goal
 
 -- each slot so far has what its types guarantee

@@ -1,5 +1,5 @@
 use Rattle.std.proofs.Common.{◌≡◌, ◌+◌, ◌*◌, ◌≤◌}
-use Rattle.luks2_seal.specs.SlotAreas.{area_start}
+use Rattle.luks2_seal.specs.Ranges2.{area_start}
 use Rattle.luks2_seal.proofs.areas.area_start.Given as goal
 
 -- the areas so far are added

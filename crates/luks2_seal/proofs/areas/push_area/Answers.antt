@@ -3,17 +3,7 @@ use Rattle.std.proofs.lemmas.Result.{on_ok_weaker}
 use Rattle.luks_kdf.proofs.Pbkdf2Lemmas.{length-derived_key}
 use Rattle.luks_seal.specs.Pieces.{padded}
 use Rattle.luks2_seal.specs.Layout2.{area_key_of, area_of}
-use Rattle.luks2_seal.proofs.RangeLemmas.{some_key, short_key}
 use Rattle.luks2_seal.proofs.areas.push_area.Goals as goal
-
-pub area_size-size-requires-clause-key : goal.area_size-size-requires-clause-key
-area_size-size-requires-clause-key c = short_key c.args.seal.now c.requires.fits
-
-pub stripes_of-requires-clause-some : goal.stripes_of-requires-clause-some
-stripes_of-requires-clause-some c = some_key c.args.seal.now c.requires.fits
-
-pub stripes_of-requires-clause-capacity : goal.stripes_of-requires-clause-capacity
-stripes_of-requires-clause-capacity c = short_key c.args.seal.now c.requires.fits
 
 -- the key of an area has the length that is set
 pub encrypted_material-requires : goal.encrypted_material-requires

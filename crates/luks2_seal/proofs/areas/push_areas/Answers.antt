@@ -1,6 +1,6 @@
 use Rattle.std.proofs.Common.{◌≡◌, ◌∙◌, ◌++◌, ap, arith}
 use Rattle.luks_kdf.specs.Bytes.{joined}
-use Rattle.luks_seal.proofs.PieceLemmas.{pieces_more}
+use Rattle.luks_seal.proofs.SectorLemmas.{pieces_more}
 use Rattle.luks2_seal.specs.Layout2.{area_at}
 use Rattle.luks2_seal.proofs.areas.push_areas.Goals as goal
 

@@ -1,5 +1,5 @@
 use Rattle.std.proofs.Common.{◌≡◌, drop}
-use Rattle.luks2_seal.specs.SlotAreas.{slot_numbered}
+use Rattle.luks2_seal.specs.Ranges2.{slot_numbered}
 use Rattle.luks2_seal.proofs.areas.slot_numbered.Given as goal
 
 -- no slot so far has the number

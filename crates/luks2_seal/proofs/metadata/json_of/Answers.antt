@@ -3,7 +3,7 @@ use Rattle.std.proofs.lemmas.Result.{IfOk-weaker}
 use Rattle.serde_json.specs.Data.{depth}
 use Rattle.serde_json.specs.Written.{compact_text, has_float}
 use Rattle.luks2_seal.specs.Metadata2.{json_of}
-use Rattle.luks2_seal.proofs.FlatLemmas.{metadata_flat, text_read}
+use Rattle.luks2_seal.proofs.MetadataLemmas.{metadata_flat, text_read}
 use Rattle.luks2_seal.proofs.metadata.json_of.Goals as goal
 
 pub returns-clause-text : goal.returns-clause-text

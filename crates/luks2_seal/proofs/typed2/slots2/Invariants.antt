@@ -1,6 +1,5 @@
 use Rattle.std.proofs.Common.{ℕ, ◌<◌, get_or}
-use Rattle.luks_seal.specs.declared.parameters.Slot2.{Slot2}
-use Rattle.luks2_seal.specs.Typed2.{IsTypedSlot2}
+use Rattle.luks2_seal.specs.Ranges2.{IsTypedSlot2, Slot2}
 use Rattle.luks2_seal.proofs.typed2.slots2.Given as goal
 
 -- each slot so far has what its types guarantee

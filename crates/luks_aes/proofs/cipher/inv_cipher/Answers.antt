@@ -24,7 +24,8 @@ loop-round-preserved c =
     let u = c.args.inv_mixed.now in
     let round = c.loop-round.round in
     let bytes : IsBytes w = record { each = λ i. search rules } in
-    let shifted = inv_sub_bytes_state _ (inv_shift_rows_state _ (state_from_words c.loop-round.state)) in (
+    let state = state_from_words c.loop-round.state in
+    let shifted = inv_sub_bytes_state _ (inv_shift_rows_state _ state.bytes).bytes in (
       omega arith,
       c.with_round_key-state-in-loop-round.ensures
           ∙ ap (λ s. add_round_key s u (round - 1)) c.inv_mixed_columns-substituted.ensures

@@ -1,8 +1,20 @@
-use Rattle.luks_aes.proofs.ColumnLemmas.{columns_inv_mixed}
+use Rattle.std.proofs.Common.{[], ◌∷◌}
+use Rattle.luks_aes.specs.Aes.{inv_sbox, matrix_cell, multiplied_columns, inv_shift_rows, inv_sub_bytes}
+use Rattle.luks_aes.specs.Columns.{bytes_of_words}
+use Rattle.luks_aes.proofs.ColumnLemmas.{columns_are, column_from_words}
 use Rattle.luks_aes.proofs.columns.inv_mixed_columns.Goals as goal
 
 pub returns : goal.returns
+unfolding bytes_of_words multiplied_columns inv_shift_rows inv_sub_bytes
 returns c =
-    columns_inv_mixed c.args.s _ _ _ _ _ _ _ _ c.to_le_bytes-a.ensures c.to_le_bytes-b.ensures c.to_le_bytes-c.ensures
-    c.to_le_bytes-d.ensures
-    c.inv_mixed.ensures c.inv_mixed-2.ensures c.inv_mixed-3.ensures c.inv_mixed-4.ensures
+    let k = 14 ∷ 11 ∷ 13 ∷ 9 ∷ [] in
+    let first = c.to_le_bytes-a.ensures in
+    let second = c.to_le_bytes-b.ensures in
+    let third = c.to_le_bytes-c.ensures in
+    let fourth = c.to_le_bytes-d.ensures in
+    columns_are (matrix_cell k (inv_sub_bytes (inv_shift_rows (bytes_of_words c.args.s))))
+    c.inv_mixed.result c.inv_mixed-2.result c.inv_mixed-3.result c.inv_mixed-4.result
+    (column_from_words k inv_sbox _ first fourth third second c.inv_mixed.ensures)
+    (column_from_words k inv_sbox _ second first fourth third c.inv_mixed-2.ensures)
+    (column_from_words k inv_sbox _ third second first fourth c.inv_mixed-3.ensures)
+    (column_from_words k inv_sbox _ fourth third second first c.inv_mixed-4.ensures)

@@ -5,10 +5,11 @@ use Rattle.luks_aes.specs.Aes.{inv_sub_bytes, inv_shift_rows}
 use Rattle.luks_aes.specs.Columns.{key_byte}
 use Rattle.luks_aes.proofs.ByteLists.{expansion_bytes}
 use Rattle.luks_aes.proofs.CipherLemmas.{inv_round_after}
+use Rattle.luks_aes.proofs.Redone.{inv_after_state}
 use Rattle.luks_bitslice.specs.BitPlanes.{column_index}
 use Rattle.luks_aes_batch.specs.RoundKeys.{rows_of, HasRoundKey, HasInvMixedKey}
 use Rattle.luks_aes_batch.proofs.StateLemmas.{all_as}
-use Rattle.luks_aes_batch.proofs.RoundLemmas.{cells, after_bytes, rows_keyed, rows_plain, states_same, rotated_same}
+use Rattle.luks_aes_batch.proofs.RoundLemmas.{cells, rows_keyed, rows_plain, states_same, rotated_same}
 use Rattle.luks_aes_batch.proofs.key.decrypted_rows.Goals as goal
 
 pub loop-round-init : goal.loop-round-init
@@ -44,8 +45,8 @@ loop-round-preserved c =
           let before = l.invariant.hold key s is rounds bytes all hold in
           let place : round - 1 - 1 + 1 ≡ round - 1 = omega arith in
           let between = c.key_between.ensures w (rounds_of key) is.between_keys (omega (arith, rounds)) in
-          let after = c.inv_round_batch.ensures _ w (round - 1) (λ m. after_bytes (s m) w nr (nr - round) (all m)
-          words) words before
+          let after = c.inv_round_batch.ensures _ w (round - 1) (λ m. (inv_after_state (s m) w nr (nr - round) (all m)
+          words).bytes) words before
           (subst (λ (n : ℕ). HasInvMixedKey w n 0x63 (rows_of c.key_between.result.now)) place between).represented in
           rotated_same _ _ _
           (λ m. inv_round_after (s m) w _ nr (nr - round) (nr - (round - 1)) (round - 1) refl (omega arith)
@@ -63,5 +64,5 @@ returns c = λ key s is rounds bytes all hold.
     let before = c.loop-round.invariant.hold key s is rounds bytes all hold in
     states_same _ _ 0 _
     (λ m i. add_round_key (inv_sub_bytes (inv_shift_rows (inv_state_after (s m) (rounds i) w (end i)))) w 0)
-    (c.last_inv_round_batch.ensures _ w 0 (λ m. after_bytes (s m) w nr (nr - round)
-    (all m) words) words before is.last_key.represented)
+    (c.last_inv_round_batch.ensures _ w 0 (λ m. (inv_after_state (s m) w nr (nr - round)
+    (all m) words).bytes) words before is.last_key.represented)

@@ -1,7 +1,7 @@
 use Rattle.std.proofs.Common.{◌≡◌, ◌+◌, ◌*◌, ◌/◌, ◌%◌, [], ◌∷◌, arith, sym, ap, ◌∙◌}
 use Rattle.std.specs.Prelude.{slice_index, slice_index_or}
+use Rattle.luks_aes.proofs.Bytes.{each_below_4}
 use Rattle.luks_bitslice.specs.BitPlanes.{column_order}
-use Rattle.luks_bitslice.proofs.LaneLemmas.{each_below_4}
 use Rattle.luks_aes_batch.proofs.packing.put_group.Goals as goal
 
 pub returns-clause-written : goal.returns-clause-written

@@ -2,9 +2,10 @@ use Rattle.std.proofs.Common.{◌≡◌, ◌+◌, ◌*◌, ◌/◌, ◌%◌, ◌
 use Rattle.std.specs.Prelude.{slice_index}
 use Rattle.std.specs.Int.{bit_at}
 use Rattle.std.proofs.lemmas.Bool.{cases_lt}
+use Rattle.std.proofs.lemmas.Nat.Bits.{same_from_bits_below}
 use Rattle.luks_bitslice.specs.BitPlanes.{column_order}
 use Rattle.luks_aes_batch.specs.States.{state_byte}
-use Rattle.luks_aes_batch.proofs.OutLemmas.{byte_of_rows, same_bits, placed_bits, state_byte_at_index}
+use Rattle.luks_aes_batch.proofs.OutLemmas.{byte_of_rows, placed_bits, state_byte_at_index}
 use Rattle.luks_aes_batch.proofs.PackingLemmas.{ordered_below}
 use Rattle.luks_aes_batch.proofs.packing.unpack.Goals as goal
 
@@ -41,7 +42,7 @@ returns c =
     let place = state_byte_at_index s n i low inside in
     let row = i % 4 in
     let byte : state_byte s 0 row (8 * p + n / 4) < 256 = (represented.at row (omega arith)).bytes (8 * p + n / 4) in
-    same_bits _ _ (l.invariant.bytes.each (16 * n + i)) (omega (arith, byte, place))
+    same_from_bits_below 8 _ _ (l.invariant.bytes.each (16 * n + i)) (omega (arith, byte, place))
     (λ k bit.
     ap (λ x. bit_at x k) (l.invariant.done n i (omega arith) inside)
     ∙ placed_bits (state_byte s 0) c.groups-a.result c.groups-b.result c.groups-c.result c.groups-d.result (n / 4)

@@ -1,9 +1,10 @@
-use Rattle.std.proofs.Common.{◌+◌, ◌*◌, ◌/◌, ◌%◌, [], ◌∷◌, length, ap, ◌∙◌}
+use Rattle.std.proofs.Common.{[], ◌∷◌, length, ap, ◌∙◌}
 use Rattle.std.specs.Prelude.{slice_index, slice_index_or}
 use Rattle.std.specs.Int.{bit_at}
-use Rattle.luks_bitslice.specs.BitPlanes.{column_order, HasBits}
+use Rattle.luks_aes.proofs.Bytes.{each_below_4}
+use Rattle.luks_bitslice.specs.BitPlanes.{HasBits}
 use Rattle.luks_bitslice.specs.Lanes.{low_words, high_words, low_halves, high_halves}
-use Rattle.luks_bitslice.proofs.LaneLemmas.{each_below_4, shown, row_0, row_1, row_2, row_3}
+use Rattle.luks_bitslice.proofs.LaneLemmas.{shown, byte_in_row, rows_at}
 use Rattle.luks_bitslice.proofs.lanes.blocks_to_rows.Goals as goal
 
 pub returns : goal.returns
@@ -22,20 +23,12 @@ returns c =
     let row1 = c.high_halves.ensures ∙ (λ i. high_halves (low i) (other_low i)) in
     let row2 = c.low_halves-2.ensures ∙ (λ i. low_halves (high i) (other_high i)) in
     let row3 = c.high_halves-2.ensures ∙ (λ i. high_halves (high i) (other_high i)) in
+    let at = rows_at a b third d c.fits-a.0 c.fits-b.0 c.fits-c.0 c.fits-d.0 in
     each_below_4
-    (λ r. HasBits (λ p k. bit_at (slice_index (slice_index_or (a ∷ b ∷ third ∷ d ∷ []) (p / 4) [])
-    (r + 4 * column_order (p % 4))) k)
+    (λ r. HasBits (λ p k. bit_at (byte_in_row a b third d r p) k)
     (slice_index_or (c.low_halves.result ∷ c.high_halves.result ∷ c.low_halves-2.result ∷ c.high_halves-2.result ∷ []) r
     []))
-    (shown _ (λ p. slice_index (slice_index_or (a ∷ b ∷ third ∷ d ∷ []) (p / 4) []) (0 + 4 * column_order (p % 4)))
-    (ap length row0)
-    (λ p low. ap (λ l. slice_index l p) row0 ∙ row_0 a b third d c.fits-a.0 c.fits-b.0 c.fits-c.0 c.fits-d.0 p low))
-    (shown _ (λ p. slice_index (slice_index_or (a ∷ b ∷ third ∷ d ∷ []) (p / 4) []) (1 + 4 * column_order (p % 4)))
-    (ap length row1)
-    (λ p low. ap (λ l. slice_index l p) row1 ∙ row_1 a b third d c.fits-a.0 c.fits-b.0 c.fits-c.0 c.fits-d.0 p low))
-    (shown _ (λ p. slice_index (slice_index_or (a ∷ b ∷ third ∷ d ∷ []) (p / 4) []) (2 + 4 * column_order (p % 4)))
-    (ap length row2)
-    (λ p low. ap (λ l. slice_index l p) row2 ∙ row_2 a b third d c.fits-a.0 c.fits-b.0 c.fits-c.0 c.fits-d.0 p low))
-    (shown _ (λ p. slice_index (slice_index_or (a ∷ b ∷ third ∷ d ∷ []) (p / 4) []) (3 + 4 * column_order (p % 4)))
-    (ap length row3)
-    (λ p low. ap (λ l. slice_index l p) row3 ∙ row_3 a b third d c.fits-a.0 c.fits-b.0 c.fits-c.0 c.fits-d.0 p low))
+    (shown _ (byte_in_row a b third d 0) (ap length row0) (λ p below. ap (λ l. slice_index l p) row0 ∙ (at p below).0))
+    (shown _ (byte_in_row a b third d 1) (ap length row1) (λ p below. ap (λ l. slice_index l p) row1 ∙ (at p below).1))
+    (shown _ (byte_in_row a b third d 2) (ap length row2) (λ p below. ap (λ l. slice_index l p) row2 ∙ (at p below).2))
+    (shown _ (byte_in_row a b third d 3) (ap length row3) (λ p below. ap (λ l. slice_index l p) row3 ∙ (at p below).3))

@@ -6,4 +6,4 @@ use Rattle.luks_bitslice.proofs.lanes.high_halves.Goals as goal
 pub returns : goal.returns
 returns c =
     lasts_joined c.args.a c.args.b (below_from_Fits w8 c.args.a c.fits-a.1) (below_from_Fits w8 c.args.b c.fits-b.1)
-    c.fits-a.0
+    c.fits-a.0 c.fits-b.0

@@ -1,8 +1,8 @@
-use Rattle.std.proofs.Common.{◌≡◌, ◌+◌, ◌*◌, ◌/◌, ◌%◌, ◌<◌, [], ◌∷◌, ap, ◌∙◌}
+use Rattle.std.proofs.Common.{◌≡◌, ◌<◌, [], ◌∷◌, ap, ◌∙◌}
 use Rattle.std.specs.Prelude.{slice_index, slice_index_or}
-use Rattle.luks_bitslice.specs.BitPlanes.{column_order}
+use Rattle.luks_aes.proofs.Bytes.{each_below_4}
 use Rattle.luks_bitslice.specs.Lanes.{low_halves, high_halves, by_columns}
-use Rattle.luks_bitslice.proofs.LaneLemmas.{each_below_4, block_0, block_1, block_2, block_3}
+use Rattle.luks_bitslice.proofs.LaneLemmas.{byte_in_block, blocks_at}
 use Rattle.luks_bitslice.proofs.lanes.rows_to_blocks.Goals as goal
 
 pub returns : goal.returns
@@ -23,13 +23,14 @@ returns c =
     ∙ (λ i. low_halves (high i) (other_high i))) in
     let block3 = c.by_columns-4.ensures ∙ ap by_columns (c.high_halves-2.ensures
     ∙ (λ i. high_halves (high i) (other_high i))) in
+    let at = blocks_at a b third d c.fits-a.0 c.fits-b.0 c.fits-c.0 c.fits-d.0 in
     λ m k small.
     each_below_4
     (λ m. k < 16 → slice_index (slice_index_or (c.by_columns.result ∷ c.by_columns-2.result ∷ c.by_columns-3.result ∷
     c.by_columns-4.result ∷ []) m []) k
-    ≡ slice_index (slice_index_or (a ∷ b ∷ third ∷ d ∷ []) (k % 4) []) (4 * m + column_order (k / 4)))
-    (λ low. ap (λ l. slice_index l k) block0 ∙ block_0 a b third d c.fits-a.0 c.fits-b.0 c.fits-c.0 c.fits-d.0 k low)
-    (λ low. ap (λ l. slice_index l k) block1 ∙ block_1 a b third d c.fits-a.0 c.fits-b.0 c.fits-c.0 c.fits-d.0 k low)
-    (λ low. ap (λ l. slice_index l k) block2 ∙ block_2 a b third d c.fits-a.0 c.fits-b.0 c.fits-c.0 c.fits-d.0 k low)
-    (λ low. ap (λ l. slice_index l k) block3 ∙ block_3 a b third d c.fits-a.0 c.fits-b.0 c.fits-c.0 c.fits-d.0 k low)
+    ≡ byte_in_block a b third d m k)
+    (λ below. ap (λ l. slice_index l k) block0 ∙ (at k below).0)
+    (λ below. ap (λ l. slice_index l k) block1 ∙ (at k below).1)
+    (λ below. ap (λ l. slice_index l k) block2 ∙ (at k below).2)
+    (λ below. ap (λ l. slice_index l k) block3 ∙ (at k below).3)
     m small

@@ -1,7 +1,7 @@
 use Rattle.std.proofs.Common.{arith}
-use Rattle.luks_bitslice.specs.BitPlanes.{rotated_index}
+use Rattle.luks_bitslice.specs.BitPlanes.{IsBitPlane, rotated_index}
 use Rattle.luks_bitslice.specs.Columns.{column_count}
-use Rattle.luks_bitslice.proofs.Tables.{eight}
+use Rattle.luks_bitslice.proofs.LaneLemmas.{eight}
 use Rattle.luks_bitslice.proofs.rows.row_rotated.Goals as goal
 
 pub returns : goal.returns
@@ -9,7 +9,7 @@ returns c = λ y is.
     let t = rotated_index (column_count c.args.by) in
     record {
       bytes = λ q. is.bytes (t q);
-      at = eight (λ q. y (t q)) _ _ _ _ _ _ _ _
+      at = eight (IsBitPlane (λ q. y (t q))) _ _ _ _ _ _ _ _
           (c.plane_rotated.ensures y 0 (is.at 0 (omega arith)))
           (c.plane_rotated-2.ensures y 1 (is.at 1 (omega arith)))
           (c.plane_rotated-3.ensures y 2 (is.at 2 (omega arith)))

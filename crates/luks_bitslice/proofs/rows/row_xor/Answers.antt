@@ -1,14 +1,15 @@
 use Rattle.std.proofs.Common.{arith}
 use Rattle.luks_aes.specs.Field.{◌⊕◌}
 use Rattle.luks_aes.proofs.ByteLists.{xor_byte}
-use Rattle.luks_bitslice.proofs.Tables.{eight}
+use Rattle.luks_bitslice.specs.BitPlanes.{IsBitPlane}
+use Rattle.luks_bitslice.proofs.LaneLemmas.{eight}
 use Rattle.luks_bitslice.proofs.RowLemmas.{sum_plane}
 use Rattle.luks_bitslice.proofs.rows.row_xor.Goals as goal
 
 pub returns : goal.returns
 returns c = λ y z is also. record {
   bytes = λ q. xor_byte (y q) (z q) (is.bytes q) (also.bytes q);
-  at = eight (λ q. y q ⊕ z q) _ _ _ _ _ _ _ _
+  at = eight (IsBitPlane (λ q. y q ⊕ z q)) _ _ _ _ _ _ _ _
       (sum_plane (is.at 0 (omega arith)) (also.at 0 (omega arith)) c.xor.ensures)
       (sum_plane (is.at 1 (omega arith)) (also.at 1 (omega arith)) c.xor-2.ensures)
       (sum_plane (is.at 2 (omega arith)) (also.at 2 (omega arith)) c.xor-3.ensures)

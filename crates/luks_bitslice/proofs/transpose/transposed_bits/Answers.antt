@@ -1,5 +1,7 @@
 use Rattle.std.proofs.Common.{arith, refl}
-use Rattle.luks_bitslice.proofs.TransposeLemmas.{shows_also, each_below_8, eight_shown}
+use Rattle.luks_bitslice.specs.BitPlanes.{HasBits}
+use Rattle.luks_bitslice.proofs.LaneLemmas.{eight}
+use Rattle.luks_bitslice.proofs.TransposeLemmas.{shows_also, equal_below_8}
 use Rattle.luks_bitslice.proofs.transpose.transposed_bits.Goals as goal
 
 pub returns : goal.returns
@@ -28,12 +30,12 @@ returns c = λ f is.
     let c6 = c.swap_high-c6.ensures _ _ b2 b6 in
     let c3 = c.swap_low-c3.ensures _ _ b3 b7 in
     let c7 = c.swap_high-c7.ensures _ _ b3 b7 in
-    eight_shown (λ j p k. f k p j) _ _ _ _ _ _ _ _
-    (shows_also _ (λ p k. f k p 0) _ c0 (λ p. each_below_8 _ (λ k. f k p 0) refl refl refl refl refl refl refl refl))
-    (shows_also _ (λ p k. f k p 1) _ c1 (λ p. each_below_8 _ (λ k. f k p 1) refl refl refl refl refl refl refl refl))
-    (shows_also _ (λ p k. f k p 2) _ c2 (λ p. each_below_8 _ (λ k. f k p 2) refl refl refl refl refl refl refl refl))
-    (shows_also _ (λ p k. f k p 3) _ c3 (λ p. each_below_8 _ (λ k. f k p 3) refl refl refl refl refl refl refl refl))
-    (shows_also _ (λ p k. f k p 4) _ c4 (λ p. each_below_8 _ (λ k. f k p 4) refl refl refl refl refl refl refl refl))
-    (shows_also _ (λ p k. f k p 5) _ c5 (λ p. each_below_8 _ (λ k. f k p 5) refl refl refl refl refl refl refl refl))
-    (shows_also _ (λ p k. f k p 6) _ c6 (λ p. each_below_8 _ (λ k. f k p 6) refl refl refl refl refl refl refl refl))
-    (shows_also _ (λ p k. f k p 7) _ c7 (λ p. each_below_8 _ (λ k. f k p 7) refl refl refl refl refl refl refl refl))
+    eight (λ j. HasBits (λ p k. f k p j)) _ _ _ _ _ _ _ _
+    (shows_also _ (λ p k. f k p 0) _ c0 (λ p. equal_below_8 _ (λ k. f k p 0) refl refl refl refl refl refl refl refl))
+    (shows_also _ (λ p k. f k p 1) _ c1 (λ p. equal_below_8 _ (λ k. f k p 1) refl refl refl refl refl refl refl refl))
+    (shows_also _ (λ p k. f k p 2) _ c2 (λ p. equal_below_8 _ (λ k. f k p 2) refl refl refl refl refl refl refl refl))
+    (shows_also _ (λ p k. f k p 3) _ c3 (λ p. equal_below_8 _ (λ k. f k p 3) refl refl refl refl refl refl refl refl))
+    (shows_also _ (λ p k. f k p 4) _ c4 (λ p. equal_below_8 _ (λ k. f k p 4) refl refl refl refl refl refl refl refl))
+    (shows_also _ (λ p k. f k p 5) _ c5 (λ p. equal_below_8 _ (λ k. f k p 5) refl refl refl refl refl refl refl refl))
+    (shows_also _ (λ p k. f k p 6) _ c6 (λ p. equal_below_8 _ (λ k. f k p 6) refl refl refl refl refl refl refl refl))
+    (shows_also _ (λ p k. f k p 7) _ c7 (λ p. equal_below_8 _ (λ k. f k p 7) refl refl refl refl refl refl refl refl))

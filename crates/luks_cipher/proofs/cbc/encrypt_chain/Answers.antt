@@ -6,37 +6,36 @@ use Rattle.luks_cipher.proofs.cbc.encrypt_chain.Goals as goal
 
 pub loop-j-init : goal.loop-j-init
 unfolding chained
-loop-j-init c = record {
-  bytes = record { each = search rules };
-  iv = record { len = omega arith; bytes = record { each = search rules } };
-  last = refl;
-  done = done_none _ _;
-}
+loop-j-init c = (
+  record { len = omega arith; bytes = record { each = search rules } },
+  record { bytes = record { each = search rules }; next = refl; done = done_none _ _ },
+)
 
 pub loop-j-preserved : goal.loop-j-preserved
 unfolding chained
 loop-j-preserved c =
     let j = c.loop-j.j in
-    let before = c.loop-j.invariant in
+    let before = c.loop-j.invariant.1 in
     let block = block_is c.args.unit.now c.loop-j.unit j before.done.left in
-    let last = before.last in
-    let value = c.encrypt_link-next.ensures.value ∙ rw (block, last) refl in
-    record {
-      bytes = before.bytes;
-      iv = before.iv;
-      last = rw add-one (c.encrypt_link-next.ensures.next ∙ value);
-      done = done_more _ _ _ _ j before.done (omega arith) (omega arith) value;
-    }
+    let next = before.next in
+    let value = c.encrypt_link-next.ensures.value ∙ rw (block, next) refl in (
+      c.loop-j.invariant.0,
+      record {
+        bytes = before.bytes;
+        next = rw add-one (c.encrypt_link-next.ensures.next ∙ value);
+        done = done_more _ _ _ _ j before.done (omega arith) (omega arith) value;
+      },
+    )
 
 pub returns-clause-value : goal.returns-clause-value
 unfolding cbc_encrypted
 returns-clause-value c =
     let last = c.loop-j.j in
-    done_all _ c.args.unit.now c.loop-j.unit last (length c.args.unit.now / 16) c.loop-j.invariant.done (omega arith)
+    done_all _ c.args.unit.now c.loop-j.unit last (length c.args.unit.now / 16) c.loop-j.invariant.1.done (omega arith)
     (omega arith)
 
 pub returns-clause-undone : goal.returns-clause-undone
 returns-clause-undone c =
     ap (cbc_decrypted c.args.key.now c.args.iv) (returns-clause-value c)
     ∙ cbc_decrypted-cbc_encrypted c.args.key.now c.args.iv c.args.unit.now c.holds_bytes.ensures
-    c.loop-j.invariant.iv c.loop-j.invariant.bytes (omega arith)
+    c.loop-j.invariant.0 c.loop-j.invariant.1.bytes (omega arith)

@@ -1,13 +1,29 @@
-use Rattle.std.proofs.Common.{refl, rules}
-use Rattle.luks_request.specs.Request.{luks_cat, volume_request}
+use Rattle.std.proofs.Common.{refl, rules, ◌∙◌, List, ℕ, Option, subst}
+use Rattle.luks_request.specs.Request.{luks_cat, volume_request, Request}
 use Rattle.luks_runs.specs.Run.{result_message}
-use Rattle.luks_cli.proofs.CallLemmas.{calls_of_image, calls_of_is_luks, calls_of_split}
-use Rattle.luks_cli.proofs.HonestVolumes.{writes_plain}
+use Rattle.luks_cli.proofs.CallLemmas.{calls_of_image, calls_of_is_luks}
 use Rattle.luks_cli.proofs.execute.execute.Goals as goal
+use Rattle.luks_io.specs.Devices.{Appended}
+use Rattle.luks_report.specs.declared.message.Message.{Message}
+use Rattle.luks_unlock.proofs.HonestVolumes.{unsealed}
+use Rattle.luks_cli.specs.Honest.{WritesPlain}
+use Rattle.luks_cli.specs.CommandRun.{RunsAsStated}
+
+-- a run of `luksCat` that matches its outcome and is not aborted writes the plaintext of an honestly sealed volume
+writes_plain : (request : Request) (message : Message)
+    (image image' secret secret' written written' : Option (List ℕ))
+    → RunsAsStated request message image image' secret secret' written written'
+    → WritesPlain request message image secret written written'
+writes_plain (luks_cat o) message image image' secret secret' written written' runs =
+    λ known is passphrase is_secret plain counted honest whole.
+    let run = rw whole at (runs known is passphrase is_secret counted) in
+    let outcome = unsealed o known passphrase plain honest in
+    (run.as_specified ∙ outcome.1, subst (λ (bytes : List ℕ). Appended written written' bytes) outcome.0 run.output)
+writes_plain _ message image image' secret secret' written written' runs = tt
 
 pub returns-in-IsLuks : goal.returns-in-IsLuks
 returns-in-IsLuks g c = rw (c.report.ensures, c.in-IsLuks.is) (record {
-  run = search rules;
+  run = λ known is _ _ _. c.is_luks.ensures.run _ known is;
   honest = search rules;
   only = c.is_luks.ensures.only;
   unneeded = λ _. refl;
@@ -17,7 +33,7 @@ returns-in-IsLuks g c = rw (c.report.ensures, c.in-IsLuks.is) (record {
 
 pub returns-in-LuksUuid : goal.returns-in-LuksUuid
 returns-in-LuksUuid g c = rw (c.report-in-LuksUuid.ensures, c.in-LuksUuid.is) (record {
-  run = search rules;
+  run = λ known is _ _ _. c.print.ensures.run known is;
   honest = search rules;
   only = c.print.ensures.only;
   unneeded = λ _. refl;
@@ -27,7 +43,7 @@ returns-in-LuksUuid g c = rw (c.report-in-LuksUuid.ensures, c.in-LuksUuid.is) (r
 
 pub returns-in-LuksDump : goal.returns-in-LuksDump
 returns-in-LuksDump g c = rw (c.report-in-LuksDump.ensures, c.in-LuksDump.is) (record {
-  run = search rules;
+  run = λ known is _ _ _. c.print-in-LuksDump.ensures.run known is;
   honest = search rules;
   only = c.print-in-LuksDump.ensures.only;
   unneeded = λ _. refl;
@@ -38,7 +54,7 @@ returns-in-LuksDump g c = rw (c.report-in-LuksDump.ensures, c.in-LuksDump.is) (r
 
 pub returns-in-LuksCheck : goal.returns-in-LuksCheck
 returns-in-LuksCheck g c = rw (c.report-in-LuksCheck.ensures, c.in-LuksCheck.is) (record {
-  run = search rules;
+  run = λ known is _ _ _. c.print-in-LuksCheck.ensures.run known is;
   honest = search rules;
   only = c.print-in-LuksCheck.ensures.only;
   unneeded = λ _. refl;
@@ -75,7 +91,10 @@ returns-in-AfSplit g c = rw (c.report-in-AfSplit.ensures, c.in-AfSplit.is) (reco
   only = c.split.ensures.only;
   unneeded = λ needs. c.split.ensures.unneeded needs.0 needs.1 needs.2;
   reads_first = λ wrong. absurd wrong;
-  calls = calls_of_split (result_message c.split.result) _ _ _ _ _ _ c.split.ensures.reads c.split.ensures.writes;
+  calls = let reads = c.split.ensures.reads in record {
+    reads = record { in_input = reads.in_key; input_reads = (_, reads.key); secret_reads = (_, reads.random) };
+    out_writes = c.split.ensures.writes;
+  };
 })
 
 pub returns-in-AfMerge : goal.returns-in-AfMerge

@@ -1,84 +1,47 @@
 //! The lines of key slots.
 
-ghost use Rattle.std.specs.Prelude.{◌≡◌, ◌++◌, None, Some, IfOk, OnOk, string_bytes};
-ghost use Rattle.luks_dump.specs.Dump2.{hash_text, slot2_line, slot_line_at, slot2_lines};
-ghost use Rattle.luks_dump.specs.Dump2.{usable_text, verdict_text};
-ghost use Rattle.luks2_metadata.specs.Slot2.{verdict2_at};
+ghost use Rattle.std.specs.Prelude.{◌≡◌, ◌++◌, None, IfOk, OnOk, string_bytes};
+ghost use Rattle.luks_dump.specs.Dump2.{hash_text, slot2_line, slot2_lines, usable_text};
+ghost use Rattle.luks_dump.specs.Dump2.{verdict_text};
+ghost use Rattle.luks_header.specs.SlotVerdicts.{verdicts_of};
 
 use crate::field::push_field;
-use luks_header::header::Bounds;
+use luks_header::header::Header;
+use luks_header::slot::slots;
 use luks_kdf::Hash;
-use luks_verdict::rule::MAX_SLOTS;
-use luks_verdict::slot::{SlotParts, Verdict, VerdictKind};
-use luks2_json::tree::Metadata;
-use luks2_metadata::slot::{slot, verdict_kind};
+use luks_verdict::slot::{SlotParts, Verdict};
 use std::alloc::{AllocError, Global};
 
-/// Adds a line for each key slot of a header with these bounds.
-#[tactic(auto, unfolding(crate::specs::Dump2::slot2_lines))]
+/// Adds a line for each key slot of a header.
 pub(super) fn push_slots(
     alloc: Global,
     lines: &mut String,
-    metadata: &Metadata,
-    bounds: Bounds,
+    header: &Header,
 ) -> Result<(), AllocError>
-    ensures { OnOk result
-        (string_bytes lines.new ≡ string_bytes lines.old ++ slot2_lines metadata.now bounds) }
+    ensures { OnOk result (string_bytes lines.new
+        ≡ string_bytes lines.old ++ slot2_lines (verdicts_of header.now None)) }
 {
-    for number in 0..MAX_SLOTS {
-        push_slot(alloc, lines, metadata, bounds, number)?;
+    let verdicts = slots(alloc, header, None)?;
+    push_all(alloc, lines, verdicts.as_slice())
+}
+
+// Adds a line for each of these key slots.
+fn push_all(alloc: Global, lines: &mut String, verdicts: &[(u8, Verdict)]) -> Result<(), AllocError>
+    ensures { OnOk result
+        (string_bytes lines.new ≡ string_bytes lines.old ++ slot2_lines verdicts.now) }
+{
+    for verdict in verdicts {
+        push_slot(alloc, lines, verdict)?;
     }
     Ok(())
 }
 
-// Adds the line of the key slot with this number, if there is one.
-fn push_slot(
-    alloc: Global,
-    lines: &mut String,
-    metadata: &Metadata,
-    bounds: Bounds,
-    number: u8,
-) -> Result<(), AllocError>
-    ensures { OnOk result
-        (string_bytes lines.new ≡ string_bytes lines.old
-        ++ slot_line_at metadata.now bounds number) }
-{
-    match verdict(alloc, metadata, bounds, number)? {
-        Some(verdict) => push_verdict(alloc, lines, number, &verdict),
-        None => Ok(()),
-    }
-}
-
-// The verdict on the key slot with this number, if there is one.
-fn verdict(
-    alloc: Global,
-    metadata: &Metadata,
-    bounds: Bounds,
-    number: u8,
-) -> Result<Option<Verdict>, AllocError>
-    ensures { IfOk result (λ verdict. verdict ≡ verdict2_at metadata.now bounds None number) }
-{
-    match verdict_kind(metadata, bounds, None, number) {
-        None => Ok(None),
-        Some(VerdictKind::Disabled) => Ok(Some(Verdict::Disabled)),
-        Some(VerdictKind::Skipped(reason)) => Ok(Some(Verdict::Skipped(reason))),
-        Some(VerdictKind::Usable(_)) => match slot(alloc, metadata, bounds, number)? {
-            Some(slot) => Ok(Some(Verdict::Usable(slot))),
-            None => unreachable!(),
-        },
-    }
-}
-
 // Adds the line of a key slot.
-fn push_verdict(
-    alloc: Global,
-    lines: &mut String,
-    number: u8,
-    verdict: &Verdict,
-) -> Result<(), AllocError>
+fn push_slot(alloc: Global, lines: &mut String, verdict: &(u8, Verdict)) -> Result<(), AllocError>
     ensures { OnOk result
-        (string_bytes lines.new ≡ string_bytes lines.old ++ slot2_line number (Some verdict.now)) }
+        (string_bytes lines.new ≡ string_bytes lines.old ++ slot2_line verdict.now) }
 {
+    let (number, verdict) = verdict;
     let name = format!(in alloc; "Slot {number}")?;
     let text = describe(alloc, verdict)?;
     push_field(lines, name.as_str(), text.as_str())

@@ -19,5 +19,4 @@ returns-else-out-size-clause-key g c = λ pass holds_inner holds_outer is_inner 
     c.copy_from_slice.ensures.after
     ∙ group_of_digests h pass c.args.salt.now c.args.number c.args.iterations g.E.Lanes.WIDTH (length c.args.out.now)
     c.div_ceil-count.result c.sum_group.new.t (rw is_size at c.div_ceil-count.ensures) lanes.some_bytes
-    c.requires.capacity
-    (c.sum_group.ensures pass holds_inner holds_outer is_inner is_outer)
+    c.requires.capacity (c.sum_group.ensures pass holds_inner holds_outer is_inner is_outer)

@@ -1,17 +1,21 @@
-use Rattle.std.proofs.Common.{◌≡◌, ◌∙◌, ℕ, ◌+◌, ◌-◌, ◌*◌, ◌<◌, ap, ap₂, drop, length, arith, length-drop}
+use Rattle.std.proofs.Common.{◌≡◌, ◌∙◌, ℕ, ◌+◌, ◌-◌, ◌*◌, ◌<◌, ap, ap₂, drop, length, arith, length-drop, min}
 use Rattle.std.proofs.lemmas.List.{length-take}
 use Rattle.luks_kdf.specs.Hash.{digest_len}
-use Rattle.luks_kdf.proofs.BytesLemmas.{cut_start, cut_step, piece_begins}
-use Rattle.luks_kdf.proofs.LaneLemmas.{count_end, count_group, count_start, group_at}
+use Rattle.luks_kdf.proofs.BytesLemmas.{cut, cut_step, none_replaced, piece_begins}
+use Rattle.luks_kdf.proofs.LaneLemmas.{count_end, count_group, group_at}
 use Rattle.luks_kdf.proofs.LaneLemmas.{group_from, groups_end, has_lanes, length-blocks}
-use Rattle.luks_kdf.proofs.Pbkdf2Lemmas.{block_t}
+use Rattle.luks_kdf.proofs.Pbkdf2Lemmas.{block_t, count_none}
+use Rattle.std.specs.Int.{div_ceil}
 use Rattle.luks_kdf.proofs.lanes.derive_in_lanes.Goals as goal
 
 pub fill-init : goal.fill-init
 fill-init g c = (
-  cut_start (group_at (block_t g.E.Engine.function c.args.pass.now c.args.salt.now c.args.iterations) g.E.Lanes.WIDTH)
-      (c.WIDTH.result * c.size.result) (length c.args.out.now) c.args.out.now,
-  count_start c.args.work.now c.args.iterations _ (omega arith),
+  none_replaced (cut (group_at (block_t g.E.Engine.function c.args.pass.now c.args.salt.now c.args.iterations)
+      g.E.Lanes.WIDTH) (c.WIDTH.result * c.size.result) (length c.args.out.now)) (c.WIDTH.result * c.size.result)
+      c.args.out.now,
+  count_none c.args.work.now c.args.iterations
+      (min (g.E.Lanes.WIDTH * 0) (div_ceil (length c.args.out.now) (digest_len g.E.Engine.function))) (omega arith)
+      (omega arith),
 )
 
 pub fill-preserved : goal.fill-preserved
@@ -49,20 +53,18 @@ fill-preserved g c =
           c.derive_group.ensures.work,
     )
 
-pub returns-clause-key : goal.returns-clause-key
-returns-clause-key g c =
+pub returns : goal.returns
+returns g c =
     let h = g.E.Engine.function in
     let w = g.E.Lanes.WIDTH in
+    let group = c.WIDTH.result * c.size.result in
+    let count = c.div_ceil-count.result in
+    let known = g.met.E.Lanes.known in
     let is_size : c.size.result ≡ digest_len h = c.size.ensures ∙ ap digest_len c.hash.ensures in
-    groups_end h c.args.pass.now c.args.salt.now c.args.out.now c.fill.out c.args.iterations w
-    (c.WIDTH.result * c.size.result) c.div_ceil-count.result c.fill.i g.met.E.Lanes.known
-    (ap₂ ◌*◌ c.WIDTH.ensures is_size) c.div_ceil-count.ensures (omega arith) c.fill.invariant.0
-
-pub returns-clause-work : goal.returns-clause-work
-returns-clause-work g c =
-    let h = g.E.Engine.function in
-    let w = g.E.Lanes.WIDTH in
-    let is_size : c.size.result ≡ digest_len h = c.size.ensures ∙ ap digest_len c.hash.ensures in
-    count_end h w (c.WIDTH.result * c.size.result) c.args.work.now c.fill.work c.args.iterations (length c.args.out.now)
-    c.div_ceil-count.result c.fill.i g.met.E.Lanes.known (ap₂ ◌*◌ c.WIDTH.ensures is_size) c.requires.some
-    c.div_ceil-count.ensures (omega arith) c.fill.invariant.1
+    let is_group : group ≡ w * digest_len h = ap₂ ◌*◌ c.WIDTH.ensures is_size in
+    record {
+      key = groups_end h c.args.pass.now c.args.salt.now c.args.out.now c.fill.out c.args.iterations w group count
+          c.fill.i known is_group c.div_ceil-count.ensures (omega arith) c.fill.invariant.0;
+      work = count_end h w group c.args.work.now c.fill.work c.args.iterations (length c.args.out.now) count c.fill.i
+          known is_group c.requires.some c.div_ceil-count.ensures (omega arith) c.fill.invariant.1;
+    }

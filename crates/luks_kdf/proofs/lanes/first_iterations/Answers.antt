@@ -14,7 +14,6 @@ first-preserved g c = λ pass holds_inner holds_outer i below.
     let capacity : length c.args.u.now ≡ g.E.Lanes.WIDTH * size = rw is_size c.requires.capacity in
     let so_far = c.first.invariant pass holds_inner holds_outer in
     let first = c.first_iteration.ensures pass holds_inner holds_outer in
-    rw (← is_size)
-    (written_next size c.first.k i c.first.u c.first_iteration.new.u _
+    rw (← is_size) (written_next size c.first.k i c.first.u c.first_iteration.new.u _
     (λ k. u_of h pass c.args.salt.now (c.args.number + k) 1) (omega (arith, ends, capacity))
     (ap length first ∙ (length-first_u h pass c.args.salt.now _ ∙ sym is_size)) (rw (← is_size) at so_far) first below)

@@ -9,6 +9,5 @@ use Rattle.luks_kdf.proofs.lanes.first_iterations.Given as goal
 abbrev pub invariant-first : goal.invariant-first
 invariant-first g l =
     (pass : List ℕ) → g.E.Engine.holds l.keyed.inner (inner_block g.E.Engine.function pass)
-    → g.E.Engine.holds l.keyed.outer (outer_block g.E.Engine.function pass)
-    → (i : ℕ) → i < l.k
+    → g.E.Engine.holds l.keyed.outer (outer_block g.E.Engine.function pass) → (i : ℕ) → i < l.k
     → digest_at (digest_len g.E.Engine.function) i l.u ≡ u_of g.E.Engine.function pass l.salt (l.number + i) 1

@@ -13,5 +13,4 @@ returns g c = λ pass holds_inner holds_outer is_inner is_outer k below.
     (c.first_iterations.ensures pass holds_inner holds_outer k below) c.requires.iterations
     (c.add_chains.ensures k below
     ∙ ap (λ (t : List ℕ). chain_xor (hash_of h) blocks.inner blocks.outer first (digest_at (digest_len h) k t)
-    (c.args.iterations - 1))
-    c.copy_from_slice.ensures.after)
+    (c.args.iterations - 1)) c.copy_from_slice.ensures.after)

@@ -25,8 +25,7 @@ stripe-requires c =
 
 pub stripes-preserved : goal.stripes-preserved
 stripes-preserved c =
-    c.stripe.ensures.next
-    ∙ chain_more c.args.hash c.args.len c.args.stripes.now c.stripes.i c.stripes.splitter _
+    c.stripe.ensures.next ∙ chain_more c.args.hash c.args.len c.args.stripes.now c.stripes.i c.stripes.splitter _
     c.stripes.invariant (slice-stripe_at c.args.len c.args.stripes.now c.stripes.i)
 
 pub returns-clause-len : goal.returns-clause-len

@@ -5,10 +5,6 @@ use Rattle.luks_open.proofs.digest.key_matches_digest.Goals as goal
 pub derived-derived-requires-clause-iterations : goal.derived-derived-requires-clause-iterations
 derived-derived-requires-clause-iterations c = search rules
 
-pub returns-clause-value : goal.returns-clause-value
+pub returns : goal.returns
 unfolding matches_digest
-returns-clause-value c = search rules
-
-pub returns-clause-work : goal.returns-clause-work
-unfolding matches_digest
-returns-clause-work c = search rules
+returns c = record { value = search rules; work = search rules }

@@ -1,17 +1,18 @@
 use Rattle.std.proofs.Common.{◌≡◌, ◌∙◌, ◌+◌, ◌-◌, ◌*◌, ◌/◌, ◌%◌, refl, ap, arith, length, take, drop}
 use Rattle.luks_cipher.specs.Xts.{joined}
 use Rattle.luks_open.specs.Candidate.{material_sector}
-use Rattle.luks_open.proofs.MaterialLemmas.{in_sectors, length-joined_more, length-joined_none, sector_more}
-use Rattle.luks_open.proofs.MaterialLemmas.{sectors_none, recovered_by_last, whole_sectors}
+use Rattle.luks_open.proofs.MaterialLemmas.{in_sectors, length-joined_more, sector_more}
+use Rattle.luks_open.proofs.MaterialLemmas.{sectors_none, recovered_by_last, some_bytes, whole_sectors}
 use Rattle.luks_open.proofs.material.recover_by.Goals as goal
 
 pub sectors-init : goal.sectors-init
+unfolding joined
 sectors-init c =
     let f = material_sector c.args.key.now c.args.image.now c.args.offset in
     let len = length c.args.out.now in
     record {
       len = c.new-splitter.ensures.len;
-      before = length-joined_none f;
+      before = refl;
       absorbed = sectors_none c.args.af len (512 / len) f c.new-splitter.result c.new-splitter.ensures.start;
     }
 
@@ -62,7 +63,7 @@ returns c =
     ap (λ n. take n (drop (rest * len) sector)) (omega arith) in
     c.last.ensures
     ∙ recovered_by_last c.args.af c.args.key.now c.args.image.now c.args.offset len c.args.stripes whole rest sector _
-    c.absorb_stripes-2.new.splitter place
+    c.absorb_stripes-2.new.splitter place (some_bytes len c.requires.key_bytes)
     before c.decrypt_sector-2.ensures full is_last
     (c.absorb_stripes-2.ensures.absorbed c.args.af (joined f whole) (whole * (512 / len))
     (before ∙ whole_sectors whole (512 / len) len place.fits) absorbed)

@@ -9,7 +9,6 @@ abbrev pub invariant-sectors : goal.invariant-sectors
 invariant-sectors l = record {
   len : length l.splitter.block ≡ l.len;
   before : length (joined (material_sector l.key l.image l.offset) l.number) ≡ l.number * 512;
-  absorbed : l.splitter
-      ≡ splitter_after l.fn.af l.len (joined (material_sector l.key l.image l.offset) l.number)
+  absorbed : l.splitter ≡ splitter_after l.fn.af l.len (joined (material_sector l.key l.image l.offset) l.number)
       (l.number * l.in_sector);
 }

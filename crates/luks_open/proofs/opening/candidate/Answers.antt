@@ -22,14 +22,8 @@ never c =
     let none : c.new.result ≡ None = c.in_err-cipher.was in
     cc
 
-pub returns-in_err-cipher-clause-value : goal.returns-in_err-cipher-clause-value
-returns-in_err-cipher-clause-value c = absurd (never c)
-
-pub returns-in_err-cipher-clause-some : goal.returns-in_err-cipher-clause-some
-returns-in_err-cipher-clause-some c = absurd (never c)
-
-pub returns-in_err-cipher-clause-work : goal.returns-in_err-cipher-clause-work
-returns-in_err-cipher-clause-work c = absurd (never c)
+pub returns-in_err-cipher : goal.returns-in_err-cipher
+returns-in_err-cipher c = absurd (never c)
 
 pub derived-area_key-requires-clause-some : goal.derived-area_key-requires-clause-some
 derived-area_key-requires-clause-some c = search rules

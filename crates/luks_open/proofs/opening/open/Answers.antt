@@ -11,20 +11,17 @@ first_opening-requires c =
     (All-IsTriable c.args.header.now segment.0 order.0 order.1 c.args.order.now (length c.args.area.now.bytes) segment.1
     order.2 c.requires.loaded)
 
-pub returns-in-Some-clause-key_length : goal.returns-in-Some-clause-key_length
-returns-in-Some-clause-key_length c segment is_segment =
+pub returns-in-Some : goal.returns-in-Some
+unfolding opening_of work_of
+returns-in-Some c =
     let order = c.requires.order in
-    rw c.in-Some.is at (c.first_opening.ensures.len segment.mode
-    (rw c.entries.ensures
-    (All-volume_key c.args.header.now segment order.0 order.1 c.args.order.now is_segment order.2)))
-
-pub returns-in-Some-clause-value : goal.returns-in-Some-clause-value
-unfolding opening_of
-returns-in-Some-clause-value c = search rules
-
-pub returns-in-Some-clause-work : goal.returns-in-Some-clause-work
-unfolding work_of
-returns-in-Some-clause-work c = search rules
+    record {
+      value = search rules;
+      work = search rules;
+      key_length = λ segment is_segment.
+          rw c.in-Some.is at (c.first_opening.ensures.len segment.mode (rw c.entries.ensures
+          (All-volume_key c.args.header.now segment order.0 order.1 c.args.order.now is_segment order.2)));
+    }
 
 pub returns-in-None-clause-work : goal.returns-in-None-clause-work
 unfolding work_of

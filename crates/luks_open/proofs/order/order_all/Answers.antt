@@ -27,16 +27,10 @@ returns-in_err-push_usable-2-clause-memory c = λ memory.
       c.in_err-push_usable-2.ensures.err,
     ))
 
-pub returns-then-is_empty-clause-answer : goal.returns-then-is_empty-clause-answer
+pub returns-then-is_empty : goal.returns-then-is_empty
 unfolding order_of_all
-returns-then-is_empty-clause-answer c = search rules
+returns-then-is_empty c = record { answer = search rules; memory = λ memory. absurd cc }
 
-pub returns-then-is_empty-clause-memory : goal.returns-then-is_empty-clause-memory
-returns-then-is_empty-clause-memory c = λ memory. absurd cc
-
-pub returns-clause-answer : goal.returns-clause-answer
+pub returns : goal.returns
 unfolding order_of_all
-returns-clause-answer c = search rules
-
-pub returns-clause-memory : goal.returns-clause-memory
-returns-clause-memory c = λ memory. absurd cc
+returns c = record { answer = search rules; memory = λ memory. absurd cc }

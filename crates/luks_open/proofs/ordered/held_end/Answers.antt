@@ -22,12 +22,4 @@ returns-clause-value c =
     omega (arith, c.loop-entry.invariant, ap key_material_end none, key_material_end-nil)
 
 pub returns-clause-within : goal.returns-clause-within
-returns-clause-within c =
-    let none = drop_all c.loop-entry.entry-index c.entries-entry-items.result.now (omega arith) in
-    omega (
-      arith,
-      c.loop-entry.invariant,
-      ap key_material_end none,
-      key_material_end-nil,
-      key_material_end-within c.args.order.now.entries,
-    )
+returns-clause-within c = omega (arith, returns-clause-value c, key_material_end-within c.args.order.now.entries)

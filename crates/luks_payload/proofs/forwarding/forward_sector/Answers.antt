@@ -11,8 +11,7 @@ returns-in_err-answer-clause-forwards g c =
     rw (p.1, p.2) (record {
       known = λ known is.
           write_aborted_forwarded c.args.cipher.now c.args.number (length c.args.sector.now) known _ _ _ _
-          c.args.prefix.now
-          c.in_err-answer.field-0.0.written none forwarded.0 forwarded.1 is;
+          c.args.prefix.now c.in_err-answer.field-0.0.written none forwarded.0 forwarded.1 is;
       unread = λ is. absurd cc;
       only = inr refl;
     })

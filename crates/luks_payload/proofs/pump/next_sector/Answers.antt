@@ -29,7 +29,7 @@ returns-in_err-got g c =
       only = may_break c.args.segment.now c.args.count _ only;
       run = λ image few positioned.
           step_aborted c.args.segment.now image c.args.count c.args.prefix.now _ positioned c.args.cipher.now _ _ _ _
-          below (rw (sized, c.unit_number.ensures) at aborted.forwards.known);
+          below ((rw (sized, c.unit_number.ensures) at aborted.forwards.known) _ positioned.consumption.left);
       writes_sectors = writes_no_sector c.args.segment.now c.args.count _ only _ _ aborted.forwards.unread;
       reads = broken_reads c.args.segment.now c.args.count _ only _ _ aborted.reads;
       writes = broken_writes c.args.segment.now c.args.count _ only _ _ aborted.writes;
@@ -72,7 +72,7 @@ returns g c =
       only = below;
       run = λ image few positioned. (
         sector_consumed c.args.segment.now image c.args.count c.args.prefix.now _ positioned _ below
-            (λ rest is. rw got at (some.forwards.consumed rest is).1),
+            (rw got at (some.forwards.consumed _ positioned.consumption.left).1),
         sector_appended c.args.segment.now image c.args.count c.args.prefix.now _ positioned c.args.cipher.now _ _
             (rw (c.unit_number.ensures, got) at (some.forwards.written full)),
       );

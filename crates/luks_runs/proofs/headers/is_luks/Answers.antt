@@ -1,11 +1,14 @@
-use Rattle.luks_runs.proofs.HeaderRuns.{is_luks_found, is_luks_refused}
+use Rattle.std.proofs.Common.{refl}
+use Rattle.luks_io.proofs.Consuming.{adds-none}
+use Rattle.luks_runs.proofs.HeaderRuns.{is_luks_refused}
 use Rattle.luks_runs.proofs.headers.is_luks.Goals as goal
 use Rattle.luks_runs.proofs.headers.is_luks.Goals.{in-Ok, in-Err}
 
 pub returns-clause-run : goal.returns-clause-run
 returns-clause-run g c written known is = elim c.match-read_header.branch [
   | in-Ok w ↦ let read = w.in-Ok.ensures.consumed known is in
-      rw w.result-is (is_luks_found known _ _ _ read.0 read.2)
+      rw (w.result-is, read.0)
+      (record { as_specified = refl; input = read.2; payload = refl; secret = refl; output = adds-none _ })
   | in-Err w ↦ let stop = w.in-Err.ensures.no_header known is in
       rw (w.result-is, w.refusal_of.ensures) (is_luks_refused known _ _ _ _ w.in-Err.fault stop)
 ]

@@ -9,8 +9,7 @@ abbrev pub invariant-pieces : goal.invariant-pieces
 invariant-pieces g l = record {
   within : vec_len l.secret ≤ max_key_file_len + 1;
   reads : Reads false false (g.S.Source.counts l.initial.source) (g.S.Source.counts l.source);
-  consumed : IfKnown (g.S.Source.to_come l.initial.source)
-      (λ known. (l.secret.items ≡ take (vec_len l.secret) known)
+  consumed : IfKnown (g.S.Source.to_come l.initial.source) (λ known. (l.secret.items ≡ take (vec_len l.secret) known)
       × ConsumedExactly known (g.S.Source.to_come l.source) (vec_len l.secret));
 }
 

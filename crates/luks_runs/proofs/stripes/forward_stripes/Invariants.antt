@@ -2,7 +2,7 @@ use Rattle.std.proofs.Common.{◌≡◌, ◌*◌, false, length}
 use Rattle.luks_io.specs.Devices.{IfKnown}
 use Rattle.luks_io.specs.Counts.{Reads, Writes}
 use Rattle.luks_kdf.specs.Stripes.{splitter_after}
-use Rattle.luks_runs.specs.StripeParts.{ForwardedBytes}
+use Rattle.luks_runs.specs.Stripe.{ForwardedBytes}
 use Rattle.luks_runs.proofs.stripes.forward_stripes.Given as goal
 
 -- the stripes so far were consumed, written and chained, and no call was needless

@@ -1,11 +1,13 @@
+use Rattle.std.proofs.Common.{refl}
 use Rattle.std.proofs.lemmas.Result.{err_from_is_err_and}
-use Rattle.luks_runs.proofs.MergeLemmas.{runs_to_end, runs_without_key, runs_without_stripes}
+use Rattle.luks_report.specs.declared.message.Message.TheVariants.{Done, WriteFailed}
+use Rattle.luks_runs.proofs.StripeLemmas.{runs_with_key, merges_without_stripes}
 use Rattle.luks_runs.proofs.stripes.merge.Goals as goal
 
 pub returns-in_err-read_merged_key-clause-run : goal.returns-in_err-read_merged_key-clause-run
 returns-in_err-read_merged_key-clause-run g c =
     let p = err_from_is_err_and c.from_residual.result c.from_residual.ensures.1 in
-    rw (p.1, p.2) (λ bytes is. runs_without_stripes _ _ _ bytes _ _ _ (c.in_err-read_merged_key.ensures.err bytes is))
+    rw (p.1, p.2) (λ bytes is. merges_without_stripes _ _ _ bytes _ _ _ (c.in_err-read_merged_key.ensures.err bytes is))
 
 pub returns-in_err-put_all-clause-run : goal.returns-in_err-put_all-clause-run
 returns-in_err-put_all-clause-run g c =
@@ -14,13 +16,12 @@ returns-in_err-put_all-clause-run g c =
     let failed = c.in_err-put_all.ensures.err in
     rw (p.1, p.2) (λ bytes is.
     let consumed = c.in_ok-read_merged_key.ensures.ok bytes is in
-    runs_without_key m.hash m.stripes.count m.key_bytes.bytes bytes _ _ _ c.read_merged_key.new.key consumed.1
-    consumed.0 _
-    failed.0 failed.1)
+    runs_with_key m.hash m.stripes.count m.key_bytes.bytes bytes _ _ _ c.read_merged_key.new.key consumed.1 consumed.0
+    WriteFailed (c.in_err-put_all.field-0.0.written, failed.0, failed.1))
 
 pub returns-clause-run : goal.returns-clause-run
 returns-clause-run g c bytes is =
     let m = c.args.merging.now in
     let consumed = c.in_ok-read_merged_key.ensures.ok bytes is in
-    runs_to_end m.hash m.stripes.count m.key_bytes.bytes bytes _ _ _ c.read_merged_key.new.key consumed.1 consumed.0
-    c.in_ok-put_all.ensures.ok
+    runs_with_key m.hash m.stripes.count m.key_bytes.bytes bytes _ _ _ c.read_merged_key.new.key consumed.1 consumed.0
+    Done (refl, c.in_ok-put_all.ensures.ok)

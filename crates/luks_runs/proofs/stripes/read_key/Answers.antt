@@ -13,8 +13,6 @@ returns-in_err-len-clause-err g c =
 pub returns-clause-key : goal.returns-clause-key
 returns-clause-key g c key is =
     let next = c.in_ok-len.ensures.bytes key is in
-    let whole : c.in_ok-len.len ≡ length key = omega (arith, c.in_ok-len.ensures.end key is) in (
-      whole,
-      next.1 ∙ take_all c.in_ok-len.len key (omega arith),
-      consumed-all key _ c.in_ok-len.len (omega arith) next.0.left,
-    )
+    let len = c.in_ok-len.len in
+    let whole : len ≡ length key = omega (arith, c.in_ok-len.ensures.end key is) in
+    (whole, next.1 ∙ take_all len key (omega arith), consumed-all key _ len (omega arith) next.0.left)

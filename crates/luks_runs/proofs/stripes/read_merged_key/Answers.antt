@@ -1,7 +1,7 @@
 use Rattle.std.proofs.Common.{◌≡◌, ◌≤◌, ◌+◌, ◌-◌, ◌∙◌, length, length-take-le, arith}
 use Rattle.std.proofs.Math.Nat.{mul-le-mul_right}
 use Rattle.std.proofs.lemmas.Result.{err_from_is_err_and}
-use Rattle.luks_runs.proofs.MergeLemmas.{key_merged, stops_at, stripe_more}
+use Rattle.luks_runs.proofs.StripeLemmas.{key_merged, reading_stops_at, stripe_more}
 use Rattle.luks_runs.proofs.stripes.read_merged_key.Goals as goal
 
 pub returns-in_err-read_stripe-clause-err : goal.returns-in_err-read_stripe-clause-err
@@ -17,7 +17,7 @@ returns-in_err-read_stripe-clause-err g c =
     let below : m.stripes.count - 1 + 1 ≤ m.stripes.count = omega arith in
     rw (p.1, p.2) (λ bytes is.
     let consumed = rw (stripe, c.get.ensures) at (c.in_ok-splitter.ensures.ok bytes is) in
-    stops_at bytes _ _ _ consumed.1 _ _ _ (mul-le-mul_right _ below) next)
+    reading_stops_at bytes _ _ _ consumed.1 _ _ _ (mul-le-mul_right _ below) next)
 
 pub returns-clause-ok : goal.returns-clause-ok
 returns-clause-ok g c bytes is =

@@ -1,7 +1,7 @@
 use Rattle.std.proofs.Common.{inl, inr, true, false}
 use Rattle.std.proofs.lemmas.Result.{err_from_is_err_and}
 use Rattle.luks_io.proofs.CountsLemmas.{no_reads}
-use Rattle.luks_runs.proofs.SplitLemmas.{runs_without_key}
+use Rattle.luks_runs.proofs.StripeLemmas.{runs_without_key}
 use Rattle.luks_runs.proofs.stripes.split.Goals as goal
 
 pub returns-in_err-len-clause-run : goal.returns-in_err-len-clause-run

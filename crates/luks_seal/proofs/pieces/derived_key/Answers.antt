@@ -4,14 +4,10 @@ use Rattle.luks_kdf.proofs.BytesLemmas.{take_prefix}
 use Rattle.luks_seal.proofs.pieces.derived_key.Goals as goal
 
 pub pbkdf2-requires-clause-some : goal.pbkdf2-requires-clause-some
-pbkdf2-requires-clause-some c =
-    let len = c.in_ok-key.ensures.len in
-    omega (arith, len)
+pbkdf2-requires-clause-some c = omega (arith, c.in_ok-key.ensures.len)
 
 pub pbkdf2-requires-clause-capacity : goal.pbkdf2-requires-clause-capacity
-pbkdf2-requires-clause-capacity c =
-    let len = c.in_ok-key.ensures.len in
-    omega (arith, len)
+pbkdf2-requires-clause-capacity c = omega (arith, c.in_ok-key.ensures.len)
 
 pub returns : goal.returns
 returns c =

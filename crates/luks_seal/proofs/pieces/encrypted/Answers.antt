@@ -1,8 +1,8 @@
-use Rattle.std.proofs.Common.{◌≡◌, ◌∙◌, ◌/◌, ◌%◌, ◌≤◌, ap, arith, length, subst, sym}
+use Rattle.std.proofs.Common.{◌≡◌, ◌∙◌, ◌/◌, ◌%◌, ◌≤◌, ap, arith, length, subst, sym, refl}
 use Rattle.luks_kdf.specs.Bytes.{joined}
 use Rattle.luks_verdict.proofs.SectorLemmas.{sector_blocks}
-use Rattle.luks_seal.specs.Pieces.{encrypted_sector, sectors_encrypted}
-use Rattle.luks_seal.proofs.PieceLemmas.{piece_len, sectors_more}
+use Rattle.luks_seal.specs.Pieces.{sectors_encrypted}
+use Rattle.luks_seal.proofs.SectorLemmas.{piece_len, sectors_more}
 use Rattle.luks_seal.proofs.pieces.encrypted.Goals as goal
 
 pub fill-init : goal.fill-init
@@ -17,15 +17,8 @@ fill-preserved c =
 pub returns : goal.returns
 unfolding sectors_encrypted
 returns c =
-    let cipher = c.args.cipher.now in
-    let first = c.args.first in
-    let step = c.args.step in
-    let plain = c.args.plain.now in
-    let size = c.bytes-size.result in
-    let at_end : c.fill.i ≡ length plain / size = omega arith in
-    c.fill.invariant
-    ∙ (ap (joined (encrypted_sector cipher first step size plain)) at_end
-    ∙ ap (λ z. joined (encrypted_sector cipher first step z plain) (length plain / z)) c.bytes-size.ensures)
+    let at_end : c.fill.i ≡ length c.args.plain.now / c.bytes-size.result = omega arith in
+    c.fill.invariant ∙ rw (at_end, c.bytes-size.ensures) refl
 
 pub push_sector-requires : goal.push_sector-requires
 push_sector-requires c =

@@ -1,10 +1,9 @@
-use Rattle.std.proofs.Common.{arith, refl}
+use Rattle.std.proofs.Common.{arith}
 use Rattle.luks_sha_lanes.proofs.LaneLemmas.{word_of_lane, word_splat_fits}
 use Rattle.luks_sha_lanes.proofs.block1.round.Goals as goal
 
 pub returns : goal.returns
 returns g c = λ j in_lane.
-    let v = c.args.v in
     rw (
       c.five.ensures,
       c.add-3.ensures j in_lane,
@@ -14,9 +13,4 @@ returns g c = λ j in_lane.
       c.rotated.ensures j in_lane,
       c.rotated-2.ensures j in_lane,
       word_splat_fits g.row.N c.args.k j in_lane (omega arith),
-      word_of_lane j v 0,
-      word_of_lane j v 1,
-      word_of_lane j v 2,
-      word_of_lane j v 3,
-      word_of_lane j v 4,
-    ) refl
+    ) (simp word_of_lane)

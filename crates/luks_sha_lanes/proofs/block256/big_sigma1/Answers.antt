@@ -1,7 +1,8 @@
 use Rattle.std.proofs.Common.{refl}
 use Rattle.sha2.specs.Sha256.{big_sigma1}
-use Rattle.luks_sha_lanes.proofs.TwiceLemmas.{sum_of_shifts, three_rotated}
+use Rattle.luks_sha_lanes.proofs.TwiceLemmas.{lane_rotated, low_sum, sum_of_shifts}
 use Rattle.luks_sha_lanes.proofs.block256.big_sigma1.Goals as goal
 
 pub returns : goal.returns
-returns c = sum_of_shifts 6 11 25 big_sigma1 (three_rotated 6 26 11 21 25 7 refl refl refl) c.args.x c.fits-x.0
+returns c = sum_of_shifts 6 11 25 big_sigma1 (λ a is. low_sum _ _ _ _ _ _ (lane_rotated a 6 26 refl is)
+    (lane_rotated a 11 21 refl is) (lane_rotated a 25 7 refl is)) c.args.x c.fits-x.0

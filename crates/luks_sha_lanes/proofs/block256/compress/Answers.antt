@@ -1,9 +1,10 @@
-use Rattle.std.proofs.Common.{◌≡◌, ◌*◌, ◌∙◌, [], ap, arith, refl}
+use Rattle.std.proofs.Common.{◌≡◌, ◌*◌, ◌∙◌, [], ap, arith, refl, ◌∷◌}
 use Rattle.sha2.specs.Sha256.{add_state, compress, rounds}
 use Rattle.luks_sha_lanes.specs.Lanes.{lane}
 use Rattle.luks_sha_lanes.specs.Lanes256.{IsPairAt}
-use Rattle.luks_sha_lanes.proofs.Lane256Lemmas.{pair_at, twice_none, twice_of_eight, window_of_block}
+use Rattle.luks_sha_lanes.proofs.Lane256Lemmas.{pair_at, window_of_block, all_twice}
 use Rattle.luks_sha_lanes.proofs.LaneLemmas.{word_of_lane}
+use Rattle.luks_sha_lanes.proofs.WordLemmas.{below_eight}
 use Rattle.luks_sha_lanes.proofs.block256.compress.Goals as goal
 
 pub schedule-init : goal.schedule-init
@@ -40,11 +41,11 @@ returns g c = λ j b in_lane twice words block.
     let state = c.args.state.now in
     let done : 16 * c.schedule.group ≡ 64 = omega (arith, c.schedule.auto.group-end (omega arith)) in
     let held = pair_at j b (lane j state) _ _ _ _ done (c.schedule.invariant j b in_lane twice words block) in (
-      twice_of_eight j c.twice.result c.twice-2.result c.twice-3.result c.twice-4.result c.twice-5.result
-          c.twice-6.result c.twice-7.result c.twice-8.result [] (c.twice.ensures.twice j in_lane)
-          (c.twice-2.ensures.twice j in_lane) (c.twice-3.ensures.twice j in_lane) (c.twice-4.ensures.twice j in_lane)
-          (c.twice-5.ensures.twice j in_lane) (c.twice-6.ensures.twice j in_lane) (c.twice-7.ensures.twice j in_lane)
-          (c.twice-8.ensures.twice j in_lane) (twice_none j),
+      all_twice j (c.twice.result ∷ c.twice-2.result ∷ c.twice-3.result ∷ c.twice-4.result ∷ c.twice-5.result
+          ∷ c.twice-6.result ∷ c.twice-7.result ∷ c.twice-8.result ∷ [])
+          (below_eight _ (c.twice.ensures.twice j in_lane) (c.twice-2.ensures.twice j in_lane)
+          (c.twice-3.ensures.twice j in_lane) (c.twice-4.ensures.twice j in_lane) (c.twice-5.ensures.twice j in_lane)
+          (c.twice-6.ensures.twice j in_lane) (c.twice-7.ensures.twice j in_lane) (c.twice-8.ensures.twice j in_lane)),
       rw (
         c.twice.ensures.word j in_lane,
         c.add.ensures j in_lane,

@@ -1,10 +1,9 @@
-use Rattle.std.proofs.Common.{◌≡◌, ◌+◌, ◌%◌, refl, arith}
+use Rattle.std.proofs.Common.{◌≡◌, ◌+◌, ◌%◌, arith}
 use Rattle.luks_sha_lanes.proofs.LaneLemmas.{word_of_lane}
 use Rattle.luks_sha_lanes.proofs.block256.next_word.Goals as goal
 
 pub returns-clause-value : goal.returns-clause-value
 returns-clause-value c = λ j lane twice.
-    let w = c.args.w.now in
     let p = c.args.place in
     let at : p % 16 ≡ p = omega arith in
     rw (
@@ -15,8 +14,4 @@ returns-clause-value c = λ j lane twice.
       c.small_sigma1.ensures j lane (twice ((p + 14) % 16)),
       c.small_sigma0.ensures j lane (twice ((p + 1) % 16)),
       at,
-      word_of_lane j w ((p + 14) % 16),
-      word_of_lane j w ((p + 9) % 16),
-      word_of_lane j w ((p + 1) % 16),
-      word_of_lane j w p,
-    ) refl
+    ) (simp word_of_lane)

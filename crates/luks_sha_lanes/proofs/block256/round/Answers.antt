@@ -1,10 +1,9 @@
-use Rattle.std.proofs.Common.{refl, arith}
+use Rattle.std.proofs.Common.{arith}
 use Rattle.luks_sha_lanes.proofs.LaneLemmas.{word_of_lane, word_splat_fits}
 use Rattle.luks_sha_lanes.proofs.block256.round.Goals as goal
 
 pub returns-clause-value : goal.returns-clause-value
 returns-clause-value c = λ j lane twice.
-    let v = c.args.v in
     rw (
       c.twice.ensures.word j lane,
       c.add-3.ensures j lane,
@@ -20,12 +19,4 @@ returns-clause-value c = λ j lane twice.
       c.ch.ensures j lane,
       c.big_sigma1.ensures j lane (twice 4),
       word_splat_fits 2 c.args.k j lane (omega arith),
-      word_of_lane j v 0,
-      word_of_lane j v 1,
-      word_of_lane j v 2,
-      word_of_lane j v 3,
-      word_of_lane j v 4,
-      word_of_lane j v 5,
-      word_of_lane j v 6,
-      word_of_lane j v 7,
-    ) refl
+    ) (simp word_of_lane)

@@ -15,8 +15,8 @@ returns c = λ j in_lane.
     two_digests (λ k. digest_bytes (lane k c.add_iterations-after.result) 8) c.store.new.out c.store-2.new.out 32
     (length-digest_bytes _ 8) (length-digest_bytes _ 8) c.store.ensures c.store-2.ensures j in_lane
     ∙ sum_of_lane sha256 (compress initial_hash_256) (after_digest compress 8) 8 chained256
-    c.args.inner.now c.args.outer.now (digest_at 32 j c.args.last.now) (digest_at 32 j c.args.sums.now) _ _ _ _ _
-    c.args.count c.requires.inner c.requires.outer (inside.value j in_lane) (outside.value j in_lane)
+    c.args.inner.now c.args.outer.now c.requires.inner c.requires.outer (digest_at 32 j c.args.last.now)
+    (digest_at 32 j c.args.sums.now) _ _ _ _ _ c.args.count (inside.value j in_lane) (outside.value j in_lane)
     (digests.words j in_lane) (c.load_digests-before.ensures.words j in_lane)
     (c.add_iterations-after.ensures j in_lane (inside.twice j in_lane) (outside.twice j in_lane)
     (digests.twice j in_lane))

@@ -1,5 +1,5 @@
 use Rattle.std.proofs.Common.{◌≡◌, ◌∙◌, ap, ap₂, refl, arith, add-one}
-use Rattle.luks_sha_lanes.specs.Chains.{sums, iteration, iterations, xor_words}
+use Rattle.luks_sha_lanes.specs.Chains.{sums, iterations, xor_words}
 use Rattle.sha1.specs.Sha1.{compress}
 use Rattle.luks_sha_lanes.specs.Lanes.{after_digest}
 use Rattle.luks_sha_lanes.proofs.iterations1.add_iterations.Goals as goal
@@ -9,7 +9,7 @@ unfolding sums iterations
 iterations-init g c = λ j in_lane. (refl, refl)
 
 pub iterations-preserved : goal.iterations-preserved
-unfolding sums iteration iterations
+unfolding sums iterations
 iterations-preserved g c = λ j in_lane.
     let so_far = c.iterations.invariant j in_lane in
     let middle = c.after_digest-middle.ensures j in_lane in

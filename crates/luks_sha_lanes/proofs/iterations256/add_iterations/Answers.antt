@@ -1,5 +1,5 @@
 use Rattle.std.proofs.Common.{◌≡◌, ◌∙◌, ap, ap₂, refl, arith, add-one}
-use Rattle.luks_sha_lanes.specs.Chains.{sums, iteration, iterations, xor_words}
+use Rattle.luks_sha_lanes.specs.Chains.{sums, iterations, xor_words}
 use Rattle.sha2.specs.Sha256.{compress}
 use Rattle.luks_sha_lanes.specs.Lanes.{after_digest}
 use Rattle.luks_sha_lanes.proofs.iterations256.add_iterations.Goals as goal
@@ -9,7 +9,7 @@ unfolding sums iterations
 iterations-init c = λ j in_lane inner outer last. (last, refl, refl)
 
 pub iterations-preserved : goal.iterations-preserved
-unfolding sums iteration iterations
+unfolding sums iterations
 iterations-preserved c = λ j in_lane inner outer last.
     let so_far = c.iterations.invariant j in_lane inner outer last in
     let middle = c.after_digest-middle.ensures j in_lane inner so_far.0 in

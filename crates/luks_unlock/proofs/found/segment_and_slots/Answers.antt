@@ -1,14 +1,13 @@
 use Rattle.std.proofs.lemmas.Result.{err_from_is_err_and}
-use Rattle.std.proofs.Common.{inr, sym}
+use Rattle.std.proofs.Common.{inr, sym, refl}
 use Rattle.luks_request.specs.Request.{volume_request}
-use Rattle.luks_unlock.proofs.VolumeLemmas.{no_order, no_segment}
+use Rattle.luks_unlock.proofs.VolumeLemmas.{no_order}
 use Rattle.luks_unlock.proofs.found.segment_and_slots.Goals as goal
 
 pub returns-in_err-segment-clause-err : goal.returns-in_err-segment-clause-err
 returns-in_err-segment-clause-err c =
     let p = err_from_is_err_and c.from_residual.result c.from_residual.ensures.1 in
-    rw (p.1, p.2) (inr (no_segment (volume_request c.args.opening.now) c.args.header.now _
-    (sym c.in_err-segment.ensures)))
+    rw (p.1, p.2) (inr (rw (← c.in_err-segment.ensures) refl))
 
 pub returns-in-Err-clause-err : goal.returns-in-Err-clause-err
 returns-in-Err-clause-err c =

@@ -1,11 +1,8 @@
 use Rattle.std.proofs.lemmas.Result.{err_from_is_err_and}
-use Rattle.std.proofs.Common.{◌∙◌, ◌<◌, ap, inl, inr, length, refl, sym, arith}
+use Rattle.std.proofs.Common.{inl, inr, refl, sym}
 use Rattle.luks_header.proofs.HeaderLemmas.{short_from_not_whole}
-use Rattle.luks_open.specs.Order.{key_material_end}
 use Rattle.luks_unlock.proofs.VolumeLemmas.{none_behind, opening_reads}
 use Rattle.luks_unlock.proofs.trying.try_slots.Goals as goal
-use Rattle.luks_unlock.proofs.trying.try_slots.Goals.{else-has_ended-via-then-has_ended+else-as_slice-end}
-use Rattle.luks_unlock.proofs.trying.try_slots.Goals.{else-has_ended-via-else-has_ended}
 
 pub returns-in_err-extend_to-clause-run : goal.returns-in_err-extend_to-clause-run
 returns-in_err-extend_to-clause-run g c =
@@ -51,40 +48,28 @@ returns-in-Err-clause-run g c = rw (c.of_opening.ensures, c.named_slot.ensures) 
     ))
 
 -- the image's end was hit before, and not all key areas are loaded
-pub returns-then-as_slice-end-clause-run : goal.returns-then-as_slice-end-clause-run
-returns-then-as_slice-end-clause-run g c rest there nothing =
-    let none = nothing (sym c.has_ended.ensures ∙ c.if-has_ended.true) in
-    let few : length c.args.volume.now.area.bytes < key_material_end c.args.volume.now.order.entries = omega (
-      arith,
-      c.if-as_slice-end.true,
-      ap length c.as_slice.ensures.value,
-      c.held_end-end.ensures.value,
-    ) in
-    inr (none_behind c.args.volume.now.area.bytes rest _ _ there none, inl (refl, few))
+pub returns-then-is_cut-clause-run : goal.returns-then-is_cut-clause-run
+returns-then-is_cut-clause-run g c rest there nothing =
+    let cut = c.is_cut.ensures.cut c.if-is_cut.true in
+    inr (
+      none_behind c.args.volume.now.area.bytes rest _ _ there (nothing cut.0),
+      inl (refl, rw c.held_end-end.ensures.value at cut.1),
+    )
+
+-- the image's end was hit before, and all key areas are loaded
+pub returns-in_err-extend_to-clause-ended : goal.returns-in_err-extend_to-clause-ended
+returns-in_err-extend_to-clause-ended g c ended =
+    (c.extend_to.ensures.already (c.is_cut.ensures.whole c.if-is_cut.false ended)).2
 
 pub returns-then-not-branch-clause-ended : goal.returns-then-not-branch-clause-ended
-returns-then-not-branch-clause-ended g c ended = elim c.else-has_ended.branch [
-  | else-has_ended-via-then-has_ended+else-as_slice-end w ↦
-      (c.extend_to.ensures.already (omega (arith, w.if-as_slice-end.false, ap length w.as_slice.ensures.value))).2
-  | else-has_ended-via-else-has_ended w ↦
-      absurd (let wrong = sym ended ∙ (sym c.has_ended.ensures ∙ w.if-has_ended.false) in cc)
-]
+returns-then-not-branch-clause-ended g c ended =
+    (c.extend_to.ensures.already (c.is_cut.ensures.whole c.if-is_cut.false ended)).2
 
 pub returns-in-Ok-clause-ended : goal.returns-in-Ok-clause-ended
-returns-in-Ok-clause-ended g c ended = elim c.else-has_ended.branch [
-  | else-has_ended-via-then-has_ended+else-as_slice-end w ↦
-      (c.extend_to.ensures.already (omega (arith, w.if-as_slice-end.false, ap length w.as_slice.ensures.value))).2
-  | else-has_ended-via-else-has_ended w ↦
-      absurd (let wrong = sym ended ∙ (sym c.has_ended.ensures ∙ w.if-has_ended.false) in cc)
-]
+returns-in-Ok-clause-ended g c ended = (c.extend_to.ensures.already (c.is_cut.ensures.whole c.if-is_cut.false ended)).2
 
 pub returns-in-Err-clause-ended : goal.returns-in-Err-clause-ended
-returns-in-Err-clause-ended g c ended = elim c.else-has_ended.branch [
-  | else-has_ended-via-then-has_ended+else-as_slice-end w ↦
-      (c.extend_to.ensures.already (omega (arith, w.if-as_slice-end.false, ap length w.as_slice.ensures.value))).2
-  | else-has_ended-via-else-has_ended w ↦
-      absurd (let wrong = sym ended ∙ (sym c.has_ended.ensures ∙ w.if-has_ended.false) in cc)
-]
+returns-in-Err-clause-ended g c ended = (c.extend_to.ensures.already (c.is_cut.ensures.whole c.if-is_cut.false ended)).2
 
 pub returns-in-Err-clause-reads : goal.returns-in-Err-clause-reads
 returns-in-Err-clause-reads g c =

@@ -1,15 +1,14 @@
 use Rattle.std.proofs.Common.{◌≡◌, ◌+◌, ◌%◌, ◌≤◌, ◌∙◌, length, length-take-le, arith}
+use Rattle.std.proofs.Math.Nat.{mod-le}
 use Rattle.luks_payload.specs.Plain.{plain_of}
 use Rattle.luks_verdict.proofs.SectorLemmas.{sector_blocks}
-use Rattle.luks_access.proofs.RangeLemmas.{is_sector, part_read}
+use Rattle.luks_access.proofs.RangeLemmas.{part_read}
 use Rattle.luks_access.proofs.range.Plaintext.read_part.Goals as goal
 
 pub returns : goal.returns
 returns g c known there all =
     let text = c.args.self.now in
     let size = c.bytes-size.ensures in
-    let sector = is_sector text.segment.now.sector_size c.args.offset text.len text.multiple (omega arith) in
-    let skip : c.args.offset % c.bytes-size.result ≤ c.args.offset = rw size sector.skip in
     let part : c.args.offset % c.bytes-size.result + length c.args.buf.now ≤ c.bytes-size.result =
     rw size c.requires.part in
     let short : c.bytes-size.result ≤ 4096 = rw size (sector_blocks text.segment.now.sector_size).short in
@@ -17,5 +16,5 @@ returns g c known there all =
     c.read_sectors.auto.buf ∙ length-take-le c.bytes-size.result c.args.sector.now (omega arith) in
     part_read (plain_of text.segment.now text.cipher.now known) c.read_sectors.new.buf c.copy_from_slice.new.self
     c.args.offset (c.args.offset % c.bytes-size.result) (length c.args.buf.now)
-    (c.in_ok-read_sectors.ensures known there all) skip (omega arith) c.copy_from_slice.ensures.len
-    c.copy_from_slice.ensures.after
+    (c.in_ok-read_sectors.ensures known there all) (mod-le c.args.offset c.bytes-size.result) (omega arith)
+    c.copy_from_slice.ensures.len c.copy_from_slice.ensures.after

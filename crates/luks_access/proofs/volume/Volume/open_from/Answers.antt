@@ -1,8 +1,8 @@
 use Rattle.std.proofs.Common.{ap}
 use Rattle.std.proofs.lemmas.Result.{err_from_is_err_and}
 use Rattle.luks_request.specs.Request.{volume_request}
-use Rattle.luks_access.proofs.OpeningLemmas.{aborted_only, cat_of, opened_by, plain_of_honest, refused_unfound}
-use Rattle.luks_access.proofs.OpeningLemmas.{refused_unopened}
+use Rattle.luks_access.proofs.OpeningLemmas.{opened_by, refused_unfound, refused_unopened, volume_opened}
+use Rattle.luks_access.proofs.OpeningLemmas.{volume_refused}
 use Rattle.luks_unlock.proofs.VolumeLemmas.{nothing_left, reads_on}
 use Rattle.luks_access.proofs.volume.Volume.open_from.Goals as goal
 
@@ -10,56 +10,29 @@ pub returns-clause-opens : goal.returns-clause-opens
 returns-clause-opens g c known is =
     let found = c.in_ok-found.ensures.found in
     let read = found.header known is in
-    opened_by c.args.options.now (volume_request c.opening-opening.result) known c.args.pass.now _
-    c.opening-opening.ensures _ _ _ read.0 found.slots.segment found.slots.order _ _ read.1 _
-    (c.in_ok-unlocked.ensures.run _ read.2.left
-    (nothing_left _ _ _ _ _ known _ found.loaded is read.2.left)).1
-
-pub returns-clause-cats : goal.returns-clause-cats
-returns-clause-cats g c known is =
-    cat_of c.args.options.now known c.args.pass.now _ (returns-clause-opens g c known is)
-
-pub returns-clause-honest : goal.returns-clause-honest
-returns-clause-honest g c known is =
-    plain_of_honest c.args.options.now known c.args.pass.now _ (returns-clause-opens g c known is)
+    volume_opened c.args.options.now known c.args.pass.now _
+    (opened_by c.args.options.now (volume_request c.opening-opening.result) known c.args.pass.now _
+    c.opening-opening.ensures _ found.slots read.0 _ read.1 _
+    (c.in_ok-unlocked.ensures.run _ read.2.left (nothing_left _ _ _ _ _ known _ found.loaded is read.2.left)).1)
 
 pub returns-in_err-found-clause-refuses : goal.returns-in_err-found-clause-refuses
 returns-in_err-found-clause-refuses g c =
     let p = err_from_is_err_and c.from_residual.result c.from_residual.ensures.1 in
-    rw (p.1, p.2) (λ known is never.
-    refused_unfound c.args.options.now (volume_request c.opening-opening.result) known c.args.pass.now _
-    c.opening-opening.ensures _ never (c.in_err-found.ensures.err known is))
-
-pub returns-in_err-found-clause-refuses_no_honest : goal.returns-in_err-found-clause-refuses_no_honest
-returns-in_err-found-clause-refuses_no_honest g c =
-    let p = err_from_is_err_and c.from_residual.result c.from_residual.ensures.1 in
     rw (p.1, p.2) (λ known is.
-    aborted_only c.args.options.now known c.args.pass.now _ c.in_err-found.ensures.only (λ never.
+    volume_refused c.args.options.now known c.args.pass.now _ c.in_err-found.ensures.only (λ never.
     refused_unfound c.args.options.now (volume_request c.opening-opening.result) known c.args.pass.now _
     c.opening-opening.ensures _ never (c.in_err-found.ensures.err known is)))
 
 pub returns-in_err-unlocked-clause-refuses : goal.returns-in_err-unlocked-clause-refuses
 returns-in_err-unlocked-clause-refuses g c =
     let p = err_from_is_err_and c.from_residual-in_err-unlocked.result c.from_residual-in_err-unlocked.ensures.1 in
-    rw (p.1, p.2) (λ known is never.
-    let found = c.in_ok-found.ensures.found in
-    let read = found.header known is in
-    refused_unopened c.args.options.now (volume_request c.opening-opening.result) known c.args.pass.now _
-    c.opening-opening.ensures _ _ _ read.0 found.slots.segment found.slots.order _ _ read.1 _ never
-    (c.in_err-unlocked.ensures.run _ read.2.left
-    (nothing_left _ _ _ _ _ known _ found.loaded is read.2.left)).1)
-
-pub returns-in_err-unlocked-clause-refuses_no_honest : goal.returns-in_err-unlocked-clause-refuses_no_honest
-returns-in_err-unlocked-clause-refuses_no_honest g c =
-    let p = err_from_is_err_and c.from_residual-in_err-unlocked.result c.from_residual-in_err-unlocked.ensures.1 in
     rw (p.1, p.2) (λ known is.
-    aborted_only c.args.options.now known c.args.pass.now _ c.in_err-unlocked.ensures.only (λ never.
+    volume_refused c.args.options.now known c.args.pass.now _ c.in_err-unlocked.ensures.only (λ never.
     let found = c.in_ok-found.ensures.found in
     let read = found.header known is in
     refused_unopened c.args.options.now (volume_request c.opening-opening.result) known c.args.pass.now _
-    c.opening-opening.ensures _ _ _ read.0 found.slots.segment found.slots.order _ _ read.1 _ never
-    (c.in_err-unlocked.ensures.run _ read.2.left
-    (nothing_left _ _ _ _ _ known _ found.loaded is read.2.left)).1))
+    c.opening-opening.ensures _ found.slots read.0 _ read.1 _ never
+    (c.in_err-unlocked.ensures.run _ read.2.left (nothing_left _ _ _ _ _ known _ found.loaded is read.2.left)).1))
 
 -- the key slots were tried after the volume was found
 pub returns-in_err-unlocked-clause-reads : goal.returns-in_err-unlocked-clause-reads

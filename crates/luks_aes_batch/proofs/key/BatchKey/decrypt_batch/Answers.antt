@@ -16,8 +16,8 @@ returns c = λ n low.
     let key_bytes = c.rounds-rounds.ensures.key_bytes in
     let hold = c.decrypted_rows-rows.ensures key (block_in old) c.self.invariant c.rounds-rounds.ensures.value key_bytes
     (λ m. bytes_take 16 _ (bytes_drop _ old bytes)) c.pack.ensures in
-    let state = decrypted_state key (block_in old n) key_bytes (block_state old n (omega arith) low bytes) in
+    let state = decrypted_state key (block_in old n) key_bytes (block_state old 32 n (omega arith) low bytes) in
     block_is c.unpack.new.batch (decrypted key (block_in old n)) n
-    (block_state c.unpack.new.batch n (omega arith) low after) state.len
+    (block_state c.unpack.new.batch 32 n (omega arith) low after) state.len
     (λ i inside. c.unpack.ensures (λ m. decrypted key (block_in old m)) hold n i low inside)
     ∙ ap (λ (k : List ℕ). decrypted k (block_in old n)) c.self.view_is

@@ -4,42 +4,29 @@ use Rattle.luks_cipher.specs.Cbc.{cbc_decrypted, cbc_encrypted}
 use Rattle.luks_cipher.proofs.ChainsUndone.{to_iv, from_iv}
 use Rattle.luks_cipher.proofs.sector.SectorCipher.decrypt_unit.Goals as goal
 
-pub returns-in-CbcEssivSha256-clause-undone : goal.returns-in-CbcEssivSha256-clause-undone
-returns-in-CbcEssivSha256-clause-undone c =
+pub returns-in-CbcEssivSha256 : goal.returns-in-CbcEssivSha256
+returns-in-CbcEssivSha256 c =
     let view = c.self.view_is in
     let arm = c.in-CbcEssivSha256.is in
     let digest = rw arm at c.self.invariant.digest in
     let iv = c.encrypt_block.ensures.value ∙ (λ i. encrypted (digest i) (c.number_block-iv.ensures i)) in
-    rw (← view, arm) (from_iv cbc_encrypted _ _ _ _ _ iv c.decrypt_chain.ensures.undone)
+    let chain = c.decrypt_chain.ensures in
+    record {
+      value = rw (← view, arm) (to_iv cbc_decrypted _ _ _ _ _ iv chain.value);
+      undoes = rw (← view, arm) (λ plain bytes same is.
+          chain.undoes plain bytes same (to_iv cbc_encrypted _ _ _ _ _ (sym iv) is));
+      undone = rw (← view, arm) (from_iv cbc_encrypted _ _ _ _ _ iv chain.undone);
+    }
 
-pub returns-in-CbcPlain64-clause-value : goal.returns-in-CbcPlain64-clause-value
-returns-in-CbcPlain64-clause-value c =
+pub returns-in-CbcPlain64 : goal.returns-in-CbcPlain64
+returns-in-CbcPlain64 c =
     let view = c.self.view_is in
     let arm = c.in-CbcPlain64.is in
-    rw (← view, arm)
-    (to_iv cbc_decrypted _ _ _ _ _ c.number_block.ensures c.decrypt_chain-in-CbcPlain64.ensures.value)
-
-pub returns-in-CbcPlain64-clause-undone : goal.returns-in-CbcPlain64-clause-undone
-returns-in-CbcPlain64-clause-undone c =
-    let view = c.self.view_is in
-    let arm = c.in-CbcPlain64.is in
-    rw (← view, arm)
-    (from_iv cbc_encrypted _ _ _ _ _ c.number_block.ensures
-    c.decrypt_chain-in-CbcPlain64.ensures.undone)
-
-pub returns-in-CbcEssivSha256-clause-undoes : goal.returns-in-CbcEssivSha256-clause-undoes
-returns-in-CbcEssivSha256-clause-undoes c =
-    let view = c.self.view_is in
-    let arm = c.in-CbcEssivSha256.is in
-    let digest = rw arm at c.self.invariant.digest in
-    let iv = c.encrypt_block.ensures.value ∙ (λ i. encrypted (digest i) (c.number_block-iv.ensures i)) in
-    rw (← view, arm) (λ plain bytes same is.
-    c.decrypt_chain.ensures.undoes plain bytes same (to_iv cbc_encrypted _ _ _ _ _ (sym iv) is))
-
-pub returns-in-CbcPlain64-clause-undoes : goal.returns-in-CbcPlain64-clause-undoes
-returns-in-CbcPlain64-clause-undoes c =
-    let view = c.self.view_is in
-    let arm = c.in-CbcPlain64.is in
-    rw (← view, arm) (λ plain bytes same is.
-    c.decrypt_chain-in-CbcPlain64.ensures.undoes plain bytes same
-    (to_iv cbc_encrypted _ _ _ _ _ (sym c.number_block.ensures) is))
+    let iv = c.number_block.ensures in
+    let chain = c.decrypt_chain-in-CbcPlain64.ensures in
+    record {
+      value = rw (← view, arm) (to_iv cbc_decrypted _ _ _ _ _ iv chain.value);
+      undoes = rw (← view, arm) (λ plain bytes same is.
+          chain.undoes plain bytes same (to_iv cbc_encrypted _ _ _ _ _ (sym iv) is));
+      undone = rw (← view, arm) (from_iv cbc_encrypted _ _ _ _ _ iv chain.undone);
+    }

@@ -1,14 +1,15 @@
-use Rattle.std.proofs.Common.{◌≡◌, ◌*◌, ◌/◌, length, ap, arith, ◌∙◌, rules}
+use Rattle.std.proofs.Common.{◌≡◌, ℕ, ◌*◌, ◌/◌, length, ap, arith, ◌∙◌, rules}
 use Rattle.luks_cipher.specs.Xts.{tweak_of, block_decrypted, xts_encrypted, xts_decrypted}
-use Rattle.luks_cipher.proofs.TweakLemmas.{done_none, done_next, next_tweak, decrypted_unit}
-use Rattle.luks_cipher.proofs.BatchLemmas.{done_moved, batch_done, batch_block, batch_tweak, xts_unit_batch}
+use Rattle.luks_cipher.specs.Batches.{tweak_after}
+use Rattle.luks_cipher.proofs.TweakLemmas.{done_none, done_next, next_tweak, progress_moved, done_all}
+use Rattle.luks_cipher.proofs.BatchLemmas.{batch_done, batch_block, batch_tweak, tweak_more}
 use Rattle.luks_cipher.proofs.UnitsUndone.{xts_decrypted-xts_encrypted, xts_encrypted-xts_decrypted}
 use Rattle.luks_cipher.proofs.xts.XtsKey.decrypt_unit.Goals as goal
 
 pub loop-i-init : goal.loop-i-init
 loop-i-init c = record {
   bytes = record { each = search rules };
-  next_tweak = c.first_tweak-tweak.ensures.value;
+  next = c.first_tweak-tweak.ensures.value;
   done = done_none _ _;
 }
 
@@ -19,41 +20,38 @@ loop-i-preserved c =
     let number = c.args.number in
     let unit = c.args.unit.now in
     let before = c.loop-i.invariant in
+    let tweak = λ (n : ℕ). ap (λ t. tweak_after t n) before.next ∙ tweak_more key number (32 * i) n in
     record {
       bytes = before.bytes;
-      next_tweak = batch_tweak key number i _ _ before.next_tweak c.decrypt_batch-next.ensures.next;
-      done = batch_done _ _ _ c.decrypt_batch-next.new.batch i before.done (omega arith) (omega arith)
-          (xts_unit_batch key number (32 * i) c.loop-i.tweak unit _ _ before.next_tweak
-          (batch_block unit c.loop-i.unit i before.done.left) c.decrypt_batch-next.ensures.value);
+      next = batch_tweak key number i _ _ before.next c.decrypt_batch-next.ensures.next;
+      done = batch_done _ _ _ _ c.decrypt_batch-next.new.batch i before.done (omega arith) (omega arith)
+          c.decrypt_batch-next.ensures.value
+          (λ n low t. block_decrypted key (tweak n t) (batch_block unit c.loop-i.unit i before.done.left n low t));
     }
 
 pub loop-j-init : goal.loop-j-init
 loop-j-init c =
-    let before = c.loop-i.invariant in
     let at : 32 * c.loop-i.i ≡ 32 * (length c.args.unit.now / 512) = omega arith in
-    record {
-      bytes = before.bytes;
-      next_tweak = before.next_tweak ∙ ap (tweak_of c.args.self.now c.args.number) at;
-      done = done_moved _ _ _ _ _ at before.done;
-    }
+    progress_moved _ _ _ _ _ _ _ at c.loop-i.invariant
 
 pub loop-j-preserved : goal.loop-j-preserved
 loop-j-preserved c =
     let before = c.loop-j.invariant in
     record {
       bytes = before.bytes;
-      next_tweak = next_tweak _ _ _ _ _ before.next_tweak c.doubled-next.ensures;
+      next = next_tweak _ _ _ _ _ before.next c.doubled-next.ensures;
       done = done_next (block_decrypted c.args.self.now) (tweak_of c.args.self.now c.args.number) _ _ _ _ c.loop-j.j
-          before.done (omega arith) (omega arith) before.next_tweak c.decrypt_piece.ensures;
+          before.done (omega arith) (omega arith) before.next c.decrypt_piece.ensures;
     }
 
 pub returns : goal.returns
+unfolding xts_decrypted
 returns c =
     let last = c.loop-j.j in
     let key = c.args.self.now in
     let unit = c.args.unit.now in
-    let value = decrypted_unit key c.args.number unit c.loop-j.unit last c.loop-j.invariant.done (omega arith)
-    (omega arith) in
+    let value : c.loop-j.unit ≡ xts_decrypted key c.args.number unit =
+    done_all _ unit c.loop-j.unit last (length unit / 16) c.loop-j.invariant.done (omega arith) (omega arith) in
     record {
       value = value;
       undoes = λ plain bytes same is.

@@ -1,22 +1,15 @@
-use Rattle.std.proofs.Common.{◌≡◌, ◌*◌}
-use Rattle.luks_aes.specs.Bytes.{IsBytes}
+use Rattle.std.proofs.Common.{◌*◌}
 use Rattle.luks_cipher.specs.Xts.{tweak_of, block_at, block_decrypted}
-use Rattle.luks_cipher.proofs.TweakLemmas.{IsDoneBefore}
+use Rattle.luks_cipher.proofs.TweakLemmas.{IsProgress}
 use Rattle.luks_cipher.proofs.xts.XtsKey.decrypt_unit.Given as goal
 
--- the unit consisted of bytes at first, the tweak is that of the next block, and the blocks before it are done
+-- the tweak is that of the next block, and the blocks before it are done
 abbrev pub invariant-loop-i : goal.invariant-loop-i
-invariant-loop-i l = record {
-  bytes : IsBytes l.fn.unit;
-  next_tweak : l.tweak ≡ tweak_of l.self l.number (32 * l.i);
-  done : IsDoneBefore (λ j. block_decrypted l.self (tweak_of l.self l.number j) (block_at l.fn.unit j)) l.fn.unit
-      l.unit (32 * l.i);
-}
+invariant-loop-i l =
+    IsProgress (λ j. block_decrypted l.self (tweak_of l.self l.number j) (block_at l.fn.unit j))
+    (tweak_of l.self l.number) l.fn.unit l.unit l.tweak (32 * l.i)
 
 abbrev pub invariant-loop-j : goal.invariant-loop-j
-invariant-loop-j l = record {
-  bytes : IsBytes l.fn.unit;
-  next_tweak : l.tweak ≡ tweak_of l.self l.number l.j;
-  done : IsDoneBefore (λ j. block_decrypted l.self (tweak_of l.self l.number j) (block_at l.fn.unit j)) l.fn.unit
-      l.unit l.j;
-}
+invariant-loop-j l =
+    IsProgress (λ j. block_decrypted l.self (tweak_of l.self l.number j) (block_at l.fn.unit j))
+    (tweak_of l.self l.number) l.fn.unit l.unit l.tweak l.j

@@ -1,19 +1,12 @@
 use Rattle.std.proofs.Common.{refl}
-use Rattle.luks_runs.specs.HeaderOutcome.{printout_text, printout_message}
-use Rattle.luks_runs.specs.HeaderReading.{detached_header_of}
-use Rattle.luks_runs.specs.Run.{AnyPromptness, result_message}
-use Rattle.luks_runs.specs.declared.headers.Printout.TheVariants.{Uuid, Dump, Check}
+use Rattle.luks_runs.specs.Run.{result_message}
 use Rattle.luks_cli.proofs.CallLemmas.{detached_calls_without_payload, calls_of_image, calls_of_is_luks, none_read}
 use Rattle.luks_cli.specs.CommandRun.{ReadsOnce}
-use Rattle.luks_cli.proofs.DetachedRuns.{no_payload_for_is_luks, no_payload_for_text, no_payload_for_slot}
-use Rattle.luks_cli.proofs.DetachedRuns.{detached_runs_without_payload}
 use Rattle.luks_cli.proofs.execute.detached.execute_detached.Goals as goal
 
 pub returns-in-IsLuks : goal.returns-in-IsLuks
 returns-in-IsLuks g c = rw (c.report.ensures, c.in-IsLuks.is) (record {
-  run = λ file there known payload pass secret counted.
-      detached_runs_without_payload AnyPromptness _ _ _ _ _ (no_payload_for_is_luks file) (c.is_luks.ensures.run _ file
-      there);
+  run = λ file there known payload pass secret counted. c.is_luks.ensures.run _ file there;
   only = c.is_luks.ensures.only;
   unneeded = λ _. refl;
   untouched = λ _. refl;
@@ -24,9 +17,7 @@ returns-in-IsLuks g c = rw (c.report.ensures, c.in-IsLuks.is) (record {
 
 pub returns-in-LuksUuid : goal.returns-in-LuksUuid
 returns-in-LuksUuid g c = rw (c.report-in-LuksUuid.ensures, c.in-LuksUuid.is) (record {
-  run = λ file there known payload pass secret counted.
-      detached_runs_without_payload AnyPromptness _ _ _ _ _ (no_payload_for_text detached_header_of (printout_text Uuid)
-      (printout_message Uuid) file) (c.print.ensures.run file there);
+  run = λ file there known payload pass secret counted. c.print.ensures.run file there;
   only = c.print.ensures.only;
   unneeded = λ _. refl;
   untouched = λ _. refl;
@@ -37,9 +28,7 @@ returns-in-LuksUuid g c = rw (c.report-in-LuksUuid.ensures, c.in-LuksUuid.is) (r
 
 pub returns-in-LuksDump : goal.returns-in-LuksDump
 returns-in-LuksDump g c = rw (c.report-in-LuksDump.ensures, c.in-LuksDump.is) (record {
-  run = λ file there known payload pass secret counted.
-      detached_runs_without_payload AnyPromptness _ _ _ _ _ (no_payload_for_text detached_header_of (printout_text Dump)
-      (printout_message Dump) file) (c.print-in-LuksDump.ensures.run file there);
+  run = λ file there known payload pass secret counted. c.print-in-LuksDump.ensures.run file there;
   only = c.print-in-LuksDump.ensures.only;
   unneeded = λ _. refl;
   untouched = λ _. refl;
@@ -51,10 +40,7 @@ returns-in-LuksDump g c = rw (c.report-in-LuksDump.ensures, c.in-LuksDump.is) (r
 
 pub returns-in-LuksCheck : goal.returns-in-LuksCheck
 returns-in-LuksCheck g c = rw (c.report-in-LuksCheck.ensures, c.in-LuksCheck.is) (record {
-  run = λ file there known payload pass secret counted.
-      detached_runs_without_payload AnyPromptness _ _ _ _ _
-      (no_payload_for_text detached_header_of (printout_text Check)
-      (printout_message Check) file) (c.print-in-LuksCheck.ensures.run file there);
+  run = λ file there known payload pass secret counted. c.print-in-LuksCheck.ensures.run file there;
   only = c.print-in-LuksCheck.ensures.only;
   unneeded = λ _. refl;
   untouched = λ _. refl;
@@ -66,9 +52,7 @@ returns-in-LuksCheck g c = rw (c.report-in-LuksCheck.ensures, c.in-LuksCheck.is)
 
 pub returns-in-TestPassphrase : goal.returns-in-TestPassphrase
 returns-in-TestPassphrase g c = rw (c.report-in-TestPassphrase.ensures, c.in-TestPassphrase.is) (record {
-  run = λ file there known payload pass secret counted.
-      detached_runs_without_payload AnyPromptness _ _ _ _ _ (no_payload_for_slot detached_header_of _ file pass)
-      (c.test_passphrase.ensures.run file there pass secret);
+  run = λ file there known payload pass secret counted. c.test_passphrase.ensures.run file there pass secret;
   only = c.test_passphrase.ensures.only;
   unneeded = λ needs. c.test_passphrase.ensures.unneeded needs.0 needs.1 needs.2;
   untouched = λ _. refl;

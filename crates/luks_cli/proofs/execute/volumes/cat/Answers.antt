@@ -1,20 +1,19 @@
 use Rattle.std.proofs.lemmas.Result.{err_from_is_err_and}
 use Rattle.std.proofs.Common.{◌∙◌, Some, ap, inr, max, sym, true}
 use Rattle.luks_io.specs.Memory.{MemSourceModel}
-use Rattle.luks_runs.specs.RunOutcome.{Outcome}
+use Rattle.luks_runs.specs.Run.{Outcome, result_message}
 use Rattle.luks_runs.specs.Payload.{max_needed}
-use Rattle.luks_runs.specs.Run.{result_message}
 use Rattle.luks_unlock.specs.Volume.{slot_outcome}
-use Rattle.luks_cli.proofs.CallLemmas.{calls_unopened, calls_without_payload, no_more_ahead, none_failed, payload_after}
-use Rattle.luks_cli.proofs.OpenedRuns.{never_memory, never_read, runs_loaded, runs_forwarded, unread_is}
+use Rattle.luks_cli.proofs.CallLemmas.{calls_unopened, none_failed, payload_after, reads_without_payload}
+use Rattle.luks_cli.proofs.OpenedRuns.{loaded_from_none, loaded_whole, never_read, runs_forwarded}
 use Rattle.luks_cli.proofs.execute.volumes.cat.Goals as goal
 
 pub returns-clause-run : goal.returns-clause-run
 returns-clause-run g c known is pass has counted =
     let u = c.in_ok-unlocked.ensures.ok known is pass has in
     let forwarded = rw c.as_slice-loaded.ensures.value at (c.write_plain-2.ensures.run known counted) in
-    runs_forwarded _ known pass _ _ _ _ _ u _ _ _ (result_message c.write_plain-2.result)
-    (never_memory _ c.write_plain-2.ensures.only) (forwarded u.prefix u.input_consumed)
+    runs_forwarded _ known pass _ _ _ _ _ u _ _ _ _ (result_message c.write_plain-2.result)
+    c.write_plain-2.ensures.only (forwarded u.prefix u.input_consumed) (λ n most consumption. consumption)
 
 pub returns-clause-calls : goal.returns-clause-calls
 returns-clause-calls g c =
@@ -23,19 +22,20 @@ returns-clause-calls g c =
     let unended = sym c.has_ended.ensures ∙ c.if-has_ended.false in
     let reads = rw c.as_slice-loaded.ensures.value at c.write_plain-2.ensures.reads in
     record {
-      in_input = true;
-      input_reads = (
-        _,
-        (λ known is pass has. let u = unlocked.ok known is pass has in inr (
-          segment,
-          u.has,
-          ap (λ (o : Outcome). max (max_needed segment.size segment.offset o.input_consumed)
-              (g.I.Source.counts c.args.image.now).ahead)
-              (sym (u.outcome (slot_outcome pass))),
-        )),
-        (reads.0, payload_after _ _ segment _ _ _ _ (rw unended at unlocked.loaded.reads) reads.1),
-      );
-      secret_reads = none_failed _ _ _ unlocked.counts.secret_reads;
+      reads = record {
+        in_input = true;
+        input_reads = (
+          _,
+          (λ known is pass has. let u = unlocked.ok known is pass has in inr (
+            segment,
+            u.has,
+            ap (λ (o : Outcome). max (max_needed segment.size segment.offset o.input_consumed)
+                (g.I.Source.counts c.args.image.now).ahead) (sym (u.outcome (slot_outcome pass))),
+          )),
+          (reads.0, payload_after _ _ segment _ _ _ _ (rw unended at unlocked.loaded.reads) reads.1),
+        );
+        secret_reads = none_failed _ _ _ unlocked.counts.secret_reads;
+      };
       out_writes = c.write_plain-2.ensures.writes;
     }
 
@@ -43,8 +43,7 @@ pub returns-in_err-unlocked-clause-calls : goal.returns-in_err-unlocked-clause-c
 returns-in_err-unlocked-clause-calls g c =
     let p = err_from_is_err_and c.from_residual.result c.from_residual.ensures.1 in
     let stop = c.in_err-unlocked.ensures in
-    rw (p.1, p.2)
-    (calls_without_payload _ _ _ _ _ _ _ _ _ _ (calls_unopened _ _ _ _ _ _ stop.only stop.counts))
+    rw (p.1, p.2) (calls_unopened _ _ _ _ _ _ _ stop.only (reads_without_payload _ _ _ _ _ _ _ _ stop.counts))
 
 -- ---- the image's end was hit: its payload is forwarded from memory
 
@@ -52,21 +51,19 @@ pub returns-then-has_ended-clause-run : goal.returns-then-has_ended-clause-run
 returns-then-has_ended-clause-run g c known is pass has counted =
     let unlocked = c.in_ok-unlocked.ensures in
     let u = unlocked.ok known is pass has in
-    let ended = sym c.has_ended.ensures ∙ c.if-has_ended.true in
+    let none = unlocked.loaded.emptied (sym c.has_ended.ensures ∙ c.if-has_ended.true) known is in
     let unread = never_read (result_message c.write_plain.result) c.write_plain.ensures.reads.1.failures in
     let forwarded = rw c.as_slice-loaded.ensures.value at (c.write_plain.ensures.run known counted) in
     let source = ap (λ (m : MemSourceModel). Some m.left) c.new.ensures in
-    runs_loaded _ known pass _ _ _ _ _ u _ _ _ (result_message c.write_plain.result)
-    (unlocked.loaded.emptied ended known is) (never_memory _ c.write_plain.ensures.only)
-    (unread_is (result_message c.write_plain.result) unread) (λ consumed. forwarded u.prefix (rw source consumed))
+    runs_forwarded _ known pass _ _ _ _ _ u _ _ _ _ (result_message c.write_plain.result)
+    c.write_plain.ensures.only (forwarded u.prefix (rw source (loaded_from_none _ known pass _ _ _ _ _ u none)))
+    (λ n most consumption. loaded_whole _ known pass _ _ _ _ _ u none n (most unread) consumption.within)
 
 pub returns-then-has_ended-clause-calls : goal.returns-then-has_ended-clause-calls
 returns-then-has_ended-clause-calls g c =
     let counts = c.in_ok-unlocked.ensures.counts in
     let unread = never_read (result_message c.write_plain.result) c.write_plain.ensures.reads.1.failures in
     record {
-      in_input = true;
-      input_reads = rw unread (no_more_ahead _ _ _ _ _ _ (none_failed _ _ _ counts.input_reads));
-      secret_reads = none_failed _ _ _ counts.secret_reads;
+      reads = rw unread (reads_without_payload _ _ _ _ _ _ _ _ counts);
       out_writes = c.write_plain.ensures.writes;
     }

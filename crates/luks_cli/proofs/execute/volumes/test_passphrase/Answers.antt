@@ -1,8 +1,9 @@
 use Rattle.std.proofs.lemmas.Result.{err_from_is_err_and}
-use Rattle.std.proofs.Common.{true}
+use Rattle.std.proofs.Common.{refl}
 use Rattle.luks_unlock.specs.Volume.{slot_outcome}
-use Rattle.luks_runs.specs.Run.{AnyPromptness, result_message}
-use Rattle.luks_cli.proofs.CallLemmas.{calls_unopened, none_failed}
+use Rattle.luks_runs.specs.Run.{AnyPromptness, ConsumedNothing, result_message}
+use Rattle.luks_cli.proofs.CallLemmas.{calls_unopened}
+use Rattle.luks_cli.specs.CommandRun.{ReadsOnce}
 use Rattle.luks_cli.proofs.OpenedRuns.{runs_at, runs_slot, slot_message, slot_reads_nothing, slot_consumes_loaded}
 use Rattle.luks_cli.proofs.execute.volumes.test_passphrase.Goals as goal
 
@@ -10,7 +11,7 @@ pub returns-in_err-unlocked-clause-run : goal.returns-in_err-unlocked-clause-run
 returns-in_err-unlocked-clause-run g c =
     let p = err_from_is_err_and c.from_residual.result c.from_residual.ensures.1 in
     rw (p.1, p.2) (λ known is pass has.
-    runs_at _ AnyPromptness _ _ _ _ _ (λ image secret output is. tt)
+    runs_at _ AnyPromptness _ _ _ ConsumedNothing _ _ (λ input payload secret output is. tt) refl
     (c.in_err-unlocked.ensures.err known is pass has (slot_outcome pass) (slot_consumes_loaded pass) _))
 
 pub returns-clause-run : goal.returns-clause-run
@@ -33,16 +34,10 @@ pub returns-in_err-unlocked-clause-calls : goal.returns-in_err-unlocked-clause-c
 returns-in_err-unlocked-clause-calls g c =
     let p = err_from_is_err_and c.from_residual.result c.from_residual.ensures.1 in
     let stop = c.in_err-unlocked.ensures in
-    rw (p.1, p.2) (calls_unopened _ _ _ _ _ _ stop.only stop.counts)
+    rw (p.1, p.2) (calls_unopened ReadsOnce _ _ _ _ _ _ stop.only stop.counts)
 
 pub returns-clause-calls : goal.returns-clause-calls
 returns-clause-calls g c =
     let not_read = slot_reads_nothing c.in_ok-unlocked.unlocked.volume.slot _ _
     (result_message c.write_opened_line.result) c.write_opened_line.ensures.written in
-    let counts = c.in_ok-unlocked.ensures.counts in
-    record {
-      in_input = true;
-      input_reads = rw not_read (none_failed _ _ _ counts.input_reads);
-      secret_reads = none_failed _ _ _ counts.secret_reads;
-      out_writes = c.write_opened_line.ensures.writes;
-    }
+    record { reads = rw not_read c.in_ok-unlocked.ensures.counts; out_writes = c.write_opened_line.ensures.writes }

@@ -25,10 +25,8 @@ returns-in_err-opened-clause-err g c =
     let found = c.in_ok-volume.ensures.found in
     let read = found.header known is in
     runs_without_key c.args.location (volume_request c.args.opening.now) known pass _ _ _ _ _ _ read.0
-    found.slots.segment found.slots.order _ _ read.1 on_opened takes
-    (record { within = read.2.within; left = refl }) _
-    (c.in_err-opened.ensures.run _ read.2.left pass has
-    (nothing_left _ _ _ _ _ known _ found.loaded is read.2.left)))
+    found.slots.segment found.slots.order _ _ read.1 on_opened takes (record { within = read.2.within; left = refl }) _
+    (c.in_err-opened.ensures.run _ read.2.left pass has (nothing_left _ _ _ _ _ known _ found.loaded is read.2.left)))
 
 pub returns-in_err-opened-clause-unneeded : goal.returns-in_err-opened-clause-unneeded
 returns-in_err-opened-clause-unneeded g c known is none =
@@ -49,8 +47,7 @@ returns-clause-ok g c known is pass has =
     let read = found.header known is in
     rw c.area_of-area.ensures (unlocks_volume c.args.location (volume_request c.args.opening.now) known pass
     _ _ (Some []) _ _ _ read.0 found.slots.segment found.slots.order _ _ read.1 _
-    (c.in_ok-opened.ensures.run _ read.2.left pass has
-    (nothing_left _ _ _ _ _ known _ found.loaded is read.2.left)))
+    (c.in_ok-opened.ensures.run _ read.2.left pass has (nothing_left _ _ _ _ _ known _ found.loaded is read.2.left)))
 
 pub returns-clause-unneeded : goal.returns-clause-unneeded
 returns-clause-unneeded g c known is none =

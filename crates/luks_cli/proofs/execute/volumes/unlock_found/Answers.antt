@@ -1,7 +1,8 @@
 use Rattle.std.proofs.lemmas.Result.{err_from_is_err_and}
-use Rattle.std.proofs.Common.{◌≡◌, ◌≤◌, ap, arith, inl, inr, length, refl, true}
+use Rattle.std.proofs.Common.{◌≡◌, ◌≤◌, ap, arith, false, inl, inr, length, refl, true}
 use Rattle.luks_runs.specs.KeyFile.{max_key_file_len}
-use Rattle.luks_cli.proofs.CallLemmas.{reads_of_secret, within_areas}
+use Rattle.luks_cli.proofs.CallLemmas.{within_areas}
+use Rattle.luks_io.proofs.CountsLemmas.{no_reads}
 use Rattle.luks_cli.proofs.execute.volumes.unlock_found.Goals as goal
 
 pub returns-in_err-passphrase-clause-run : goal.returns-in_err-passphrase-clause-run
@@ -12,18 +13,16 @@ returns-in_err-passphrase-clause-run g c =
 pub returns-in_err-passphrase-clause-counts : goal.returns-in_err-passphrase-clause-counts
 returns-in_err-passphrase-clause-counts g c =
     let p = err_from_is_err_and c.from_residual.result c.from_residual.ensures.1 in
-    rw (p.1, p.2) (reads_of_secret _ _ _ _ _ c.in_err-passphrase.ensures.reads.1)
+    let passphrase = c.in_err-passphrase.ensures.reads in
+    rw (p.1, p.2)
+    (record { in_input = false; input_reads = (false, no_reads _); secret_reads = (passphrase.0, passphrase.1) })
 
 pub returns-clause-run : goal.returns-clause-run
 returns-clause-run g c rest there pass has nothing =
     let whole = c.in_ok-passphrase.ensures.ok pass has in
-    let short : length pass
-    ≤ max_key_file_len = omega (
-      arith,
-      ap length whole.0,
-      c.in_ok-passphrase.passphrase.ok.0,
-      c.in_ok-passphrase.ensures.few,
-    ) in
+    let few = c.in_ok-passphrase.ensures.few in
+    let short : length pass ≤ max_key_file_len =
+    omega (arith, ap length whole.0, c.in_ok-passphrase.passphrase.ok.0, few) in
     inl (short, whole.1, rw (c.deref.ensures.value, whole.0) at (c.try_slots.ensures.run rest there nothing))
 
 pub returns-clause-counts : goal.returns-clause-counts

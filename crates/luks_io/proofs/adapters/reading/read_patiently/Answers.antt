@@ -1,12 +1,17 @@
 use Rattle.std.proofs.Common.{rules, arith, refl}
 use Rattle.luks_io.specs.CallOutcomes.{read_result}
-use Rattle.luks_io.proofs.Reporting.{reports_again, reports_failed, reports_last, reports_moved}
+use Rattle.luks_io.specs.declared.adapters.CallOutcome.TheVariants.{Failed, Moved}
+use Rattle.luks_io.proofs.Reporting.{reports_again, reports_from, reports_last}
 use Rattle.luks_io.proofs.adapters.reading.read_patiently.Goals as goal
 
-pub returns-in-Moved-clause-reported : goal.returns-in-Moved-clause-reported
-returns-in-Moved-clause-reported g c =
-    c.tries.invariant.reported _ _
-    (reports_moved read_result _ _ c.tries.tries c.in-Moved.count _ refl c.in-Moved.ensures.next)
+pub returns-in-Moved : goal.returns-in-Moved
+returns-in-Moved g c = record {
+  reported = c.tries.invariant.reported _ _
+      (reports_from read_result _ _ _ _ c.tries.tries (Moved c.in-Moved.count) (λ rest left. (refl, left))
+      c.in-Moved.ensures.next);
+  bound = search rules;
+  bytes = search rules;
+}
 
 pub tries-preserved : goal.tries-preserved
 tries-preserved g c = record {
@@ -20,21 +25,13 @@ returns-in-Interrupted-2-clause-reported g c =
     c.tries.invariant.reported _ _ (reports_last read_result _ _ c.tries.tries (omega arith)
     c.in-Interrupted.ensures.next)
 
-pub returns-in-Failed-clause-reported : goal.returns-in-Failed-clause-reported
-returns-in-Failed-clause-reported g c =
-    c.tries.invariant.reported _ _ (reports_failed read_result _ _ c.tries.tries c.in-Failed.ensures.next)
+pub returns-in-Failed : goal.returns-in-Failed
+returns-in-Failed g c = record {
+  reported = c.tries.invariant.reported _ _
+      (reports_from read_result _ _ _ _ c.tries.tries Failed (λ rest left. (refl, left)) c.in-Failed.ensures.next);
+  bound = search rules;
+  bytes = search rules;
+}
 
 pub tries-init : goal.tries-init
 tries-init g c = search rules
-
-pub returns-in-Moved-clause-bound : goal.returns-in-Moved-clause-bound
-returns-in-Moved-clause-bound g c = search rules
-
-pub returns-in-Moved-clause-bytes : goal.returns-in-Moved-clause-bytes
-returns-in-Moved-clause-bytes g c = search rules
-
-pub returns-in-Failed-clause-bound : goal.returns-in-Failed-clause-bound
-returns-in-Failed-clause-bound g c = search rules
-
-pub returns-in-Failed-clause-bytes : goal.returns-in-Failed-clause-bytes
-returns-in-Failed-clause-bytes g c = search rules

@@ -1,7 +1,8 @@
-use Rattle.std.proofs.Common.{◌≡◌, Ok, Err, rules, arith, refl}
+use Rattle.std.proofs.Common.{◌≡◌, Ok, Err, rules, arith, refl, sym}
 use Rattle.std.proofs.lemmas.Bool.{ne_eqb}
 use Rattle.luks_io.specs.CallOutcomes.{write_result}
-use Rattle.luks_io.proofs.Reporting.{reports_again, reports_failed, reports_last, reports_moved}
+use Rattle.luks_io.specs.declared.adapters.CallOutcome.TheVariants.{Failed, Moved}
+use Rattle.luks_io.proofs.Reporting.{reports_again, reports_from, reports_last}
 use Rattle.luks_io.proofs.adapters.writing.write_patiently.Goals as goal
 
 pub tries-preserved : goal.tries-preserved
@@ -18,35 +19,30 @@ returns-in-Interrupted-2-clause-reported g c some =
 
 pub returns-in-Failed-clause-reported : goal.returns-in-Failed-clause-reported
 returns-in-Failed-clause-reported g c some =
-    c.tries.invariant.reported _ _ (reports_failed write_result _ _ c.tries.tries c.in-Failed.ensures.next)
+    c.tries.invariant.reported _ _
+    (reports_from write_result _ _ _ _ c.tries.tries Failed (λ rest left. (refl, left)) c.in-Failed.ensures.next)
 
 pub returns-in-Moved-eq0-clause-reported : goal.returns-in-Moved-eq0-clause-reported
 returns-in-Moved-eq0-clause-reported g c some =
     let none : write_result c.in-Moved-eq0.field-0 ≡ Err record {} = rw c.in-Moved-eq0.field-0-test refl in
     c.tries.invariant.reported _ _
-    (reports_moved write_result _ _ c.tries.tries c.in-Moved-eq0.field-0 _ none c.in-Moved-eq0.ensures.next)
+    (reports_from write_result _ _ _ _ c.tries.tries (Moved c.in-Moved-eq0.field-0) (λ rest left. (sym none, left))
+    c.in-Moved-eq0.ensures.next)
 
 pub returns-in-Moved-clause-reported : goal.returns-in-Moved-clause-reported
 returns-in-Moved-clause-reported g c some =
     let moved : write_result c.in-Moved.count
     ≡ Ok c.in-Moved.count = rw (ne_eqb c.in-Moved.count 0 c.in-Moved.count-test.1) refl in
     c.tries.invariant.reported _ _
-    (reports_moved write_result _ _ c.tries.tries c.in-Moved.count _ moved c.in-Moved.ensures.next)
+    (reports_from write_result _ _ _ _ c.tries.tries (Moved c.in-Moved.count) (λ rest left. (sym moved, left))
+    c.in-Moved.ensures.next)
 
 pub tries-init : goal.tries-init
 tries-init g c = search rules
 
-pub returns-then-is_empty-clause-reported : goal.returns-then-is_empty-clause-reported
-returns-then-is_empty-clause-reported g c = search rules
-
-pub returns-then-is_empty-clause-empty : goal.returns-then-is_empty-clause-empty
-returns-then-is_empty-clause-empty g c = search rules
-
-pub returns-then-is_empty-clause-bound : goal.returns-then-is_empty-clause-bound
-returns-then-is_empty-clause-bound g c = search rules
-
-pub returns-then-is_empty-clause-bytes : goal.returns-then-is_empty-clause-bytes
-returns-then-is_empty-clause-bytes g c = search rules
+pub returns-then-is_empty : goal.returns-then-is_empty
+returns-then-is_empty g c =
+    record { reported = search rules; empty = search rules; bound = search rules; bytes = search rules }
 
 pub returns-in-Moved-clause-bound : goal.returns-in-Moved-clause-bound
 returns-in-Moved-clause-bound g c = search rules

@@ -9,8 +9,7 @@ returns-clause-forwards g c =
     rw (← c.self.view_is)
     (forwards_buffered at.buffer.items put.new.buffer at.buffer.len at.start at.end c.args.count _ _ _
     (g.C.Transform.transformed c.args.transform.now) put.result _ (omega arith) (omega arith) (search rules)
-    (search rules)
-    (search rules) (search rules) (search rules))
+    (search rules) (search rules) (search rules) (search rules))
 
 pub returns-clause-leaves : goal.returns-clause-leaves
 returns-clause-leaves g c =

@@ -9,8 +9,7 @@ returns-then-used-eq1 c = λ j below.
     let first : j ≡ 0 = omega arith in
     let last = c.args.last.now in
     let sums = c.args.sums.now in
-    rw first
-    (take-append-le 20 c.add_chains.new.sums (drop 20 sums) (omega (arith, length-take 20 sums))
+    rw first (take-append-le 20 c.add_chains.new.sums (drop 20 sums) (omega (arith, length-take 20 sums))
     ∙ (c.add_chains.ensures 0 (omega arith)
     ∙ ap₂ (λ (u t : List ℕ). chain_xor sha1 c.args.inner.now c.args.outer.now u t c.args.count)
     (take-take 20 20 last (omega arith)) (take-take 20 20 sums (omega arith))))

@@ -9,7 +9,5 @@ returns-clause-next c =
     let with_block : List ℕ → AfSplitterModel = λ block. record { hash = c.self.inside.hash; block = block } in
     let whole : length c.diffuse.new.block ≡ c.self.inside.len =
     omega (arith, length-take c.self.inside.len c.self.inside.block) in
-    rw (← c.self.view_is)
-    (ap with_block
-    (take_prefix c.self.inside.len c.diffuse.new.block _ whole
+    rw (← c.self.view_is) (ap with_block (take_prefix c.self.inside.len c.diffuse.new.block _ whole
     ∙ (c.diffuse.ensures ∙ ap (diffused c.self.inside.hash) c.xor_into.ensures)))

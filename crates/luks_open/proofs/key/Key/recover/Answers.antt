@@ -8,7 +8,6 @@ pub returns-clause-key : goal.returns-clause-key
 returns-clause-key c =
     let cut = length-take c.self.inside.len c.self.inside.bytes in
     let whole : length c.recover.new.out ≡ c.self.inside.len = omega (arith, cut) in
-    take_prefix c.self.inside.len c.recover.new.out _ whole
-    ∙ (c.recover.ensures
+    take_prefix c.self.inside.len c.recover.new.out _ whole ∙ (c.recover.ensures
     ∙ ap (λ bytes. recovered c.args.af c.args.key.now c.args.image.now c.args.offset (length bytes) c.args.stripes)
     c.self.view_is)

@@ -14,8 +14,7 @@ returns-in_err-skip-clause-run g c =
     let was = c.args.self.now in
     rw (p.1, p.2) (λ image few positioned.
     steps_unskipped was.segment was.cipher was.consumed_before was.count was.prefix image _ _ _ _
-    was.state _ _ positioned
-    c.in_err-skip.ensures.again c.in_err-skip.ensures.fresh
+    was.state _ _ positioned c.in_err-skip.ensures.again c.in_err-skip.ensures.fresh
     (λ first. c.in_err-skip.ensures.run image first positioned))
 
 pub returns-in_err-skip-clause-reads : goal.returns-in_err-skip-clause-reads
@@ -41,8 +40,7 @@ returns-clause-run g c image few positioned =
     let skip = c.in_ok-skip.ensures in
     let now = c.self.view_is ∙ skip.pump in
     steps_skipped was.segment was.cipher was.consumed_before was.count was.prefix image _ _ _ _ _ _
-    was.state _ positioned
-    (subst (λ (p : PumpModel). p.consumed_before ≤ p.segment.offset) now c.self.invariant.0)
+    was.state _ positioned (subst (λ (p : PumpModel). p.consumed_before ≤ p.segment.offset) now c.self.invariant.0)
     skip.again (λ same. ap g.S.Source.to_come same) skip.fresh (λ first. skip.run image first positioned)
     (subst (λ (p : PumpModel).
     PositionedAt image p.prefix (sector_start p.segment p.count) (g.S.Source.to_come c.skip.new.source)

@@ -1,22 +1,19 @@
-use Rattle.std.proofs.Common.{◌≡◌, ◌∙◌, ap, sym, refl, true, false}
+use Rattle.std.proofs.Common.{◌∙◌, ap, sym, refl}
 use Rattle.std.specs.Prelude.{not}
-use Rattle.luks_verdict.specs.Digest.{is_usable}
 use Rattle.luks_verdict.proofs.MadeLemmas.{no_usable_digest-no, no_usable_digest-yes}
 use Rattle.luks_verdict.proofs.digest.DigestParts.no_usable_digest.Goals as goal
 
 pub returns-then-not-usable_digest : goal.returns-then-not-usable_digest
 returns-then-not-usable_digest c parts iterations len =
-    let is : is_usable parts
-    ≡ false = rw (iterations, len, ← c.from.ensures, ← c.usable_digest.ensures) c.if-not-usable_digest.true in
-    ap not c.if-not-usable_digest.true ∙ sym (no_usable_digest-no c.args.limit parts is)
+    ap not c.if-not-usable_digest.true ∙ sym (no_usable_digest-no c.args.limit parts
+    (rw (iterations, len, ← c.from.ensures, ← c.usable_digest.ensures) c.if-not-usable_digest.true))
 
 pub returns-else-not-usable_digest : goal.returns-else-not-usable_digest
 returns-else-not-usable_digest c parts iterations len =
-    let is : is_usable parts
-    ≡ true = rw (iterations, len, ← c.from.ensures, ← c.usable_digest.ensures) c.if-not-usable_digest.false in
     rw (
       c.iterations_out_of_range.ensures,
       c.from-else-not-usable_digest.ensures,
-      no_usable_digest-yes c.args.limit parts is,
+      no_usable_digest-yes c.args.limit parts
+          (rw (iterations, len, ← c.from.ensures, ← c.usable_digest.ensures) c.if-not-usable_digest.false),
       iterations,
     ) refl

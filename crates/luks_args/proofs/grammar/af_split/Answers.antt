@@ -1,9 +1,0 @@
-use Rattle.std.proofs.Common.{codes}
-use Rattle.clap.specs.Words.{new_app}
-use Rattle.luks_args.proofs.grammar.af_split.Goals as goal
-
-pub returns : goal.returns
-returns c =
-    let start = c.with_stripes-command.ensures (new_app (codes "afSplit"))
-    (record { app = c.new.ensures.app; local = c.new.ensures.local }) in
-    c.with_input.ensures _ (c.with_option-command.ensures _ start)

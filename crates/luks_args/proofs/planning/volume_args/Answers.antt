@@ -1,5 +1,0 @@
-use Rattle.std.proofs.Common.{rules}
-use Rattle.luks_args.proofs.planning.volume_args.Goals as goal
-
-pub returns : goal.returns
-returns c = search rules

@@ -1,5 +1,0 @@
-use Rattle.std.proofs.Common.{rules}
-use Rattle.luks_report.proofs.faults.MessageFromSegmentFault.from.Goals as goal
-
-pub returns : goal.returns
-returns c = search rules
