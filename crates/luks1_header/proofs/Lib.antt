@@ -1,3 +1,1 @@
-pub mod NameLemmas
-pub mod SegmentLemmas
-pub mod SlotLemmas
+pub mod ValidationLemmas

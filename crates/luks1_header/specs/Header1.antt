@@ -6,13 +6,9 @@ use Rattle.luks1_header.specs.declared.header.StoredSlot.{StoredSlot}
 use Rattle.luks1_header.specs.declared.header.SlotState.{SlotState}
 use Rattle.luks1_header.specs.declared.header.SlotState.TheVariants.{Enabled, Disabled, Damaged}
 
--- the first bytes of a LUKS1 image: the letters LUKS, the bytes BA BE, and the version 1 in two bytes
-abbrev pub magic_and_version : List ℕ
-magic_and_version = 0x4c ∷ 0x55 ∷ 0x4b ∷ 0x53 ∷ 0xba ∷ 0xbe ∷ 0x00 ∷ 0x01 ∷ []
-
--- the image starts with that magic and version
+-- the image starts with the letters LUKS, the bytes BA BE, and the version 1 in two bytes
 unfoldable pub is_luks1 : List ℕ → Bool
-is_luks1 image = bytes_eq (at 0 8 image) magic_and_version
+is_luks1 image = bytes_eq (at 0 8 image) (0x4c ∷ 0x55 ∷ 0x4b ∷ 0x53 ∷ 0xba ∷ 0xbe ∷ 0x00 ∷ 0x01 ∷ [])
 
 -- the length of the header in bytes
 abbrev pub header1_len : ℕ

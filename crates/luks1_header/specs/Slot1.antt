@@ -5,9 +5,8 @@ use Rattle.luks_cipher.specs.Sector.{mode_named}
 use Rattle.luks_cipher.specs.declared.mode.Mode.{Mode}
 use Rattle.luks_kdf.specs.Hash.{hash_named}
 use Rattle.luks_kdf.specs.declared.hash.Hash.{Hash}
-use Rattle.luks_verdict.specs.Digest.{digest_from, has_no_usable_digest}
 use Rattle.luks_verdict.specs.Rule.{iterations_out_of_range, area_out_of_range, stripes_out_of_range, need_of}
-use Rattle.luks_verdict.specs.Slot.{verdict_by, slot_from}
+use Rattle.luks_verdict.specs.Slot.{digest_from, has_no_usable_digest, slot_from, verdict_by}
 use Rattle.luks_verdict.specs.Table.{first_match}
 use Rattle.luks_verdict.specs.declared.digest.DigestParts.{DigestParts}
 use Rattle.luks_verdict.specs.declared.digest.KeyDigest.{KeyDigest}

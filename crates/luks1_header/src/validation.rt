@@ -1,9 +1,7 @@
 //! Verdicts on the key slots, the digest and the segment of a header.
 
 ghost use Rattle.std.specs.Prelude.{◌≡◌, ◌*◌, option_map, IfOk};
-ghost use Rattle.luks_cipher.specs.Sector.{mode_named};
-ghost use Rattle.luks_verdict.specs.Digest.{has_no_usable_digest};
-ghost use Rattle.luks_verdict.specs.Slot.{verdict_kind_of};
+ghost use Rattle.luks_verdict.specs.Slot.{has_no_usable_digest, verdict_kind_of};
 ghost use Rattle.luks1_header.specs.Segment1.{fault1_of, segment1_of, overlaps_header1};
 ghost use Rattle.luks1_header.specs.Slot1.{digest1_of, hash1_of, is_disabled, area1_out_of_range};
 ghost use Rattle.luks1_header.specs.Slot1.{mode1_of, payload1_start, reason1_of, slot1_at};
@@ -20,20 +18,9 @@ use luks_verdict::sector_size::SectorSize;
 use luks_verdict::segment::{Segment, SegmentParts};
 use luks_verdict::slot::{Slot, SlotParts, VerdictKind};
 use std::alloc::{AllocError, Global};
-use std::str;
 
 /// The offset of the first byte after the header.
 const HEADER_END: u64 = HEADER1_LEN as u64;
-
-// The mode with this name.
-fn mode_of(name: &[u8]) -> Option<Mode>
-    ensures { result ≡ mode_named name.now }
-{
-    match str::from_utf8(name) {
-        Ok(name) => Mode::from_name(name),
-        Err(_) => None,
-    }
-}
 
 impl Header1 {
     /// The hash function of the slots, the stripes and the digest, if its name is known.
@@ -51,7 +38,7 @@ impl Header1 {
         ensures { result ≡ mode1_of self.now }
     {
         if self.cipher_name.as_bytes() == b"aes".as_slice() {
-            mode_of(self.cipher_mode.as_bytes())
+            Mode::from_bytes(self.cipher_mode.as_bytes())
         } else {
             None
         }

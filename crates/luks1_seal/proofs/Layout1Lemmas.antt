@@ -1,6 +1,6 @@
 -- The image of a volume of LUKS1: how long its parts are, where they are stored, and what a reader finds in the header.
-use Rattle.std.proofs.Common.{◌≡◌, ◌==◌, ◌∙◌, ℕ, ◌+◌, ◌-◌, ◌*◌, ◌<◌, ◌≤◌, List, [], ◌∷◌, ◌++◌, length, Option, Some}
-use Rattle.std.proofs.Common.{None, refl, sym, arith, append_assoc, append-nil, length-append, codes, zero, suc, ◌^◌}
+use Rattle.std.proofs.Common.{◌≡◌, ◌==◌, ◌∙◌, ℕ, ◌+◌, ◌-◌, ◌*◌, ◌<◌, ◌≤◌, List, [], ◌∷◌, ◌++◌, length, Some}
+use Rattle.std.proofs.Common.{refl, sym, arith, append_assoc, append-nil, length-append, codes, zero, suc, ◌^◌}
 use Rattle.std.proofs.Common.{false, ap, slice_get, mul-le-mul_right}
 use Rattle.std.specs.Int.{to_be_bytes, w32}
 use Rattle.std.specs.Option.{option_map_or}
@@ -13,8 +13,8 @@ use Rattle.luks_kdf.specs.Pbkdf2.{derived_key}
 use Rattle.luks_kdf.proofs.Pbkdf2Lemmas.{length-derived_key}
 use Rattle.luks_verdict.specs.Rule.{need_of}
 use Rattle.luks_seal.specs.Pieces.{padded, wrapping_number}
-use Rattle.luks_seal.proofs.FieldLemmas.{Part, part, at_padded, length-padded, padded_begins, at_inside, AreParts}
-use Rattle.luks_seal.proofs.FieldLemmas.{are_parts}
+use Rattle.luks_seal.proofs.FieldLemmas.{Part, part, padded_begins, length-padded, at_inside, AreParts, are_parts}
+use Rattle.luks_seal.proofs.FieldLemmas.{IsThere}
 use Rattle.luks_seal.proofs.SectorLemmas.{IsImage, image_made, pieces_length, piece_at}
 use Rattle.luks_seal.proofs.MaterialLemmas.{AreRandomStripes, length-material}
 use Rattle.luks_seal.proofs.RuleLemmas.{cipher_is_named, hash_is_named, mode_is_named}
@@ -134,11 +134,11 @@ key_slots_read bytes (suc (suc (suc (suc (suc (suc (suc (suc n)))))))) low = abs
 module _ (p : Seal1) (fits : AreParameters1 p) (typed : AreTyped1 p) where
   -- ---- the key slots
 
-  length-state1 : (found : Option Slot1) → ((slot : Slot1) → found ≡ Some slot → length slot.salt ≡ 32)
-      → length (state1_of found) ≡ 40
+  length-state1 : (number : ℕ) → length (state1_of (slot1_numbered number p.slots.now)) ≡ 40
   unfolding state1_of
-  length-state1 None salt = omega (arith, length-padded 36 [] (omega arith))
-  length-state1 (Some slot) salt = omega (arith, salt slot refl)
+  length-state1 number =
+      found_has IsTypedSlot1 (λ found. length (state1_of found) ≡ 40) (λ (slot : Slot1). slot.number == number)
+      p.slots.now typed.slots (omega (arith, length-padded 36 [] (omega arith))) (λ slot is. omega (arith, is.salt))
 
   pub length-key_slot1 : (number : ℕ) → length (key_slot1_of p number) ≡ 48
   unfolding key_slot1_of
@@ -146,9 +146,7 @@ module _ (p : Seal1) (fits : AreParameters1 p) (typed : AreTyped1 p) where
       let state = state1_of (slot1_numbered number p.slots.now) in
       let place = to_be_bytes w32 (8 + number * area_sectors_of p) in
       let stripes = to_be_bytes w32 p.stripes in
-      let long = length-state1 (slot1_numbered number p.slots.now) (λ slot is.
-      (found_has IsTypedSlot1 (λ (other : Slot1). other.number == number) p.slots.now typed.slots slot is).salt) in
-      omega (arith, length-append (state ++ place) stripes, length-append state place, long)
+      omega (arith, length-append (state ++ place) stripes, length-append state place, length-state1 number)
 
   -- ---- the header
 
@@ -178,12 +176,9 @@ module _ (p : Seal1) (fits : AreParameters1 p) (typed : AreTyped1 p) where
       (derived_key p.hash p.key.now p.digest_salt p.digest_iterations 20) p.digest_salt
       (to_be_bytes w32 p.digest_iterations) (padded 40 p.uuid.now) (joined (key_slot1_of p) 8))
 
-  pub length-prefix1 : length (header1_start_bytes p) ≡ 592
-  length-prefix1 = header1_are.len
-
   length-header1 : length (header1_bytes p) ≡ 4096
   unfolding header1_bytes
-  length-header1 = length-padded 4096 (header1_start_bytes p) (omega (arith, length-prefix1))
+  length-header1 = length-padded 4096 (header1_start_bytes p) (omega (arith, header1_are.len))
 
   -- ---- the areas
 
@@ -197,28 +192,22 @@ module _ (p : Seal1) (fits : AreParameters1 p) (typed : AreTyped1 p) where
     len = of_slot.2;
   }
 
-  length-material1 : (slot : Slot1) → FitsSlot1 ((p.stripes - 1) * length p.key.now) slot
-      → length (material1_of p slot) ≡ need_of (length p.key.now) p.stripes
-  unfolding material1_of
-  length-material1 slot of_slot =
-      length-material p.hash p.key.now p.stripes slot.random.now (random_stripes1 slot of_slot) p.mode
-      (area_key1_of p slot)
-
-  length-area1_at : (found : Option Slot1)
-      → ((slot : Slot1) → found ≡ Some slot → FitsSlot1 ((p.stripes - 1) * length p.key.now) slot)
-      → length (padded (area_sectors_of p * 512) (option_map_or (material1_of p) found [])) ≡ area_sectors_of p * 512
-  unfolding need_of
-  length-area1_at None of_slot = length-padded (area_sectors_of p * 512) [] (omega arith)
-  length-area1_at (Some slot) of_slot =
-      length-padded (area_sectors_of p * 512) (material1_of p slot)
-      (omega (arith, length-material1 slot (of_slot slot refl)))
+  -- an area is large enough for its key material
+  pub material1_fits : (slot : Slot1) → FitsSlot1 ((p.stripes - 1) * length p.key.now) slot
+      → length (material1_of p slot) ≤ area_sectors_of p * 512
+  unfolding material1_of need_of
+  material1_fits slot of_slot =
+      let len = length-material p.hash p.key.now p.stripes slot.random.now (random_stripes1 slot of_slot)
+      (p.mode, area_key1_of p slot) in
+      omega (arith, len)
 
   length-area1 : (number : ℕ) → length (area1_of p number) ≡ area_sectors_of p * 512
   unfolding area1_of
   length-area1 number =
-      length-area1_at (slot1_numbered number p.slots.now)
-      (found_has (FitsSlot1 ((p.stripes - 1) * length p.key.now)) (λ (slot : Slot1). slot.number == number) p.slots.now
-      fits.slots)
+      length-padded (area_sectors_of p * 512) (option_map_or (material1_of p) (slot1_numbered number p.slots.now) [])
+      (found_has (FitsSlot1 ((p.stripes - 1) * length p.key.now))
+      (λ found. length (option_map_or (material1_of p) found []) ≤ area_sectors_of p * 512)
+      (λ (slot : Slot1). slot.number == number) p.slots.now fits.slots (omega arith) material1_fits)
 
   -- ---- the image
 
@@ -233,19 +222,12 @@ module _ (p : Seal1) (fits : AreParameters1 p) (typed : AreTyped1 p) where
       image_made (header1_bytes p) (area1_of p) 8 (p.payload_sectors * 512) (p.mode, p.key.now) 0 1 512 p.plain.now
       (omega (arith, length-header1, length-areas1 8, fits.counts.3)) refl fits.plain.0 typed.plain
 
-  -- the header is at the start of the image
-  pub image_header : (place len : ℕ) → place + len ≤ 592
-      → at place len (image1_of p) ≡ at place len (header1_start_bytes p)
+  -- the image starts with the header
+  pub whole_header : at 0 592 (image1_of p) ≡ header1_start_bytes p
   unfolding header1_bytes
-  image_header place len inside =
-      image1.in_headers place len (omega (arith, length-header1))
-      ∙ at_padded place len 4096 (header1_start_bytes p) (omega (arith, length-prefix1))
-
-  in_slots : (number : ℕ) → number < 8 → at (208 + 48 * number) 48 (header1_start_bytes p) ≡ key_slot1_of p number
-  in_slots number low =
-      at_inside (208 + 48 * number) (number * 48) 48 208 384 (header1_start_bytes p) (joined (key_slot1_of p) 8)
-      (omega arith) (omega arith) (header1_are.part_at 10)
-      ∙ piece_at (key_slot1_of p) 48 8 number (λ j below. length-key_slot1 j) low
+  whole_header =
+      image1.in_headers 0 592 (omega (arith, length-header1))
+      ∙ padded_begins 592 4096 (header1_start_bytes p) (sym header1_are.len)
 
   -- the header is read from the 592 bytes
   pub header1_read : read_header1 (header1_start_bytes p) ≡ found_header p
@@ -253,17 +235,13 @@ module _ (p : Seal1) (fits : AreParameters1 p) (typed : AreTyped1 p) where
   header1_read =
       let bytes = header1_start_bytes p in
       let key_fits = longest_mode_key p.mode (length p.key.now) fits.key in
-      let cipher : text_of (at 8 32 bytes) ≡ codes "aes" = ap text_of (header1_are.part_at 1) ∙ cipher_is_named.read in
-      let mode : text_of (at 40 32 bytes) ≡ mode_name p.mode =
-      ap text_of (header1_are.part_at 2) ∙ (mode_is_named p.mode).read in
-      let hash : text_of (at 72 32 bytes) ≡ hash_name p.hash =
-      ap text_of (header1_are.part_at 3) ∙ (hash_is_named p.hash).read in
-      let payload = number_read (at 104 4 bytes) p.payload_sectors (omega (arith, fits.counts.4))
-      (header1_are.part_at 4) in
+      let cipher = ap text_of (header1_are.part_at 1) ∙ cipher_is_named.read in
+      let mode = ap text_of (header1_are.part_at 2) ∙ (mode_is_named p.mode).read in
+      let hash = ap text_of (header1_are.part_at 3) ∙ (hash_is_named p.hash).read in
+      let payload = number_read _ p.payload_sectors (omega (arith, fits.counts.4)) (header1_are.part_at 4) in
       let key = number_read (at 108 4 bytes) (length p.key.now) (omega (arith, key_fits)) (header1_are.part_at 5) in
-      let digest : at 112 20 bytes ≡ derived_key p.hash p.key.now p.digest_salt p.digest_iterations 20 =
-      header1_are.part_at 6 in
-      let salt : at 132 32 bytes ≡ p.digest_salt = header1_are.part_at 7 in
+      let digest = header1_are.part_at 6 in
+      let salt = header1_are.part_at 7 in
       let turns = number_read (at 164 4 bytes) p.digest_iterations typed.iterations (header1_are.part_at 8) in
       rw (cipher, mode, hash, payload, key, digest, salt, turns) refl
 
@@ -278,27 +256,16 @@ module _ (p : Seal1) (fits : AreParameters1 p) (typed : AreTyped1 p) where
         ≤ 512 * p.payload_sectors
     unfolding need_of
     ends_before =
-        let below : (slot.number + 1) * area_sectors_of p ≤ 8 * area_sectors_of p =
-        mul-le-mul_right {m = slot.number + 1} {n = 8} (area_sectors_of p) (omega (arith, low)) in
+        let below = mul-le-mul_right {m = slot.number + 1} {n = 8} (area_sectors_of p) (omega (arith, low)) in
         omega (arith, below, fits.counts.3)
 
-    -- its area begins with its key material
-    area_begins : at 0 (need_of (length p.key.now) p.stripes) (area1_of p slot.number) ≡ material1_of p slot
+    -- its key material begins its area; the first area is at byte 4096
+    pub material_there : IsThere (512 * (8 + slot.number * area_sectors_of p)) (material1_of p slot) (image1_of p)
     unfolding area1_of
-    area_begins =
-        rw used.found
-        (padded_begins (need_of (length p.key.now) p.stripes) (area_sectors_of p * 512) (material1_of p slot)
-        (sym (length-material1 slot used.fits)))
-
-    -- the areas start at byte 4096
-    pub image_material : at (512 * (8 + slot.number * area_sectors_of p)) (need_of (length p.key.now) p.stripes)
-        (image1_of p) ≡ material1_of p slot
-    unfolding need_of
-    image_material =
-        image1.in_area slot.number (512 * (8 + slot.number * area_sectors_of p))
-        (need_of (length p.key.now) p.stripes) low (omega (arith, length-header1, length-areas1 slot.number))
-        (omega (arith, length-area1 slot.number))
-        ∙ area_begins
+    material_there =
+        image1.in_area slot.number (512 * (8 + slot.number * area_sectors_of p)) (area_sectors_of p * 512)
+        (material1_of p slot) low (omega (arith, length-header1, length-areas1 slot.number)) (rw used.found refl)
+        (material1_fits slot used.fits)
 
     slot_bytes_read : key_slot_of (key_slot1_of p slot.number) ≡ found_slot p slot
     unfolding key_slot1_of
@@ -312,5 +279,8 @@ module _ (p : Seal1) (fits : AreParameters1 p) (typed : AreTyped1 p) where
     pub slot_read : slice_get (key_slots_of (header1_start_bytes p)) slot.number ≡ Some (found_slot p slot)
     slot_read =
         key_slots_read (header1_start_bytes p) slot.number low
-        ∙ ap (λ b. Some (key_slot_of b)) (in_slots slot.number low)
+        ∙ ap (λ b. Some (key_slot_of b))
+        (at_inside (208 + 48 * slot.number) (slot.number * 48) 48 208 384 (header1_start_bytes p)
+        (joined (key_slot1_of p) 8) (omega arith) (omega (arith, low)) (header1_are.part_at 10)
+        ∙ piece_at (key_slot1_of p) 48 8 slot.number (λ j below. length-key_slot1 j) low)
         ∙ ap Some slot_bytes_read

@@ -1,39 +1,37 @@
 -- The image of a volume of LUKS1 is a sealed volume of its key, its passphrases and its plaintext: a reader finds the
 -- header, the segment and the digest in it, and can try each key slot.
-use Rattle.std.proofs.Common.{◌≡◌, ◌∙◌, ℕ, ◌+◌, ◌*◌, true, false, length, Some, None, Ok, refl, ap, arith, le-ltb, ◌-◌}
-use Rattle.std.proofs.Common.{List, [], ◌∷◌, get_or, bytes_eq, option_map, take_all, sym}
-use Rattle.luks_cipher.specs.Sector.{is_mode_key_length}
+use Rattle.std.proofs.Common.{◌≡◌, ◌∙◌, ℕ, ◌+◌, ◌*◌, true, false, length, Some, None, Ok, refl, ap, arith, le-ltb}
+use Rattle.std.proofs.Common.{List, [], ◌∷◌, get_or, bytes_eq, option_map, sym}
 use Rattle.luks_kdf.proofs.Pbkdf2Lemmas.{length-derived_key}
-use Rattle.luks_verdict.specs.Digest.{digest_of, has_no_usable_digest, is_usable}
 use Rattle.luks_verdict.specs.Rule.{need_of}
 use Rattle.luks_verdict.specs.Segment.{segment_by, segment_from}
-use Rattle.luks_verdict.specs.Slot.{are_in_range, slot_of}
+use Rattle.luks_verdict.specs.Slot.{are_in_range, digest_of, has_no_usable_digest, is_usable, slot_of}
 use Rattle.luks_verdict.specs.declared.sector_size.SectorSize.TheVariants.{B512}
 use Rattle.luks_verdict.specs.declared.slot.Verdict.TheVariants.{Usable}
 use Rattle.luks_verdict.proofs.MadeLemmas.{digest_from-yes, no_usable_digest-yes}
-use Rattle.luks1_header.specs.Segment1.{fault1_of, segment1_of, segment_parts1_of, overlaps_header1}
+use Rattle.luks1_header.specs.Segment1.{fault1_of, segment1_of, overlaps_header1}
 use Rattle.luks1_header.specs.Slot1.{digest1_of, digest_parts1_of, hash1_of, area1_out_of_range, mode1_of}
 use Rattle.luks1_header.specs.Slot1.{payload1_start, reason1_of, slot_parts1_of, verdict1_of, verdict1_at}
-use Rattle.luks1_header.proofs.SegmentLemmas.{segment1-none}
-use Rattle.luks1_header.proofs.SlotLemmas.{slot_there}
+use Rattle.luks1_header.proofs.ValidationLemmas.{segment1-none, slot_there}
 use Rattle.luks_seal.specs.Sealed.{IsDigestOf, GivesKey, Sealed, SealsKey, SealsPlain}
 use Rattle.luks_seal.proofs.RuleLemmas.{area_fits, digest_fits, hash_is_named, iterations_fit, mode_is_named}
 use Rattle.luks_seal.proofs.RuleLemmas.{stripes_fit}
 use Rattle.luks1_seal.specs.Layout1.{area_sectors_of, area_key1_of, image1_of, material1_of}
 use Rattle.luks1_seal.specs.Ranges1.{AreParameters1, AreTyped1, passphrases1_of, Seal1, Slot1}
 use Rattle.std.proofs.lemmas.List.Elements.{All-map}
-use Rattle.luks_area.specs.Fields.{at}
+use Rattle.luks_seal.proofs.FieldLemmas.{at_inside}
 use Rattle.luks1_header.specs.Header1.{is_luks1}
 use Rattle.luks_header.specs.HeaderDigests.{digest_for}
 use Rattle.luks_header.specs.Header.{header_of}
 use Rattle.luks_header.specs.HeaderSegment.{segment_of}
 use Rattle.luks_header.specs.SlotVerdicts.{verdict_at}
 use Rattle.luks_header.specs.declared.header.Header.TheVariants.{V1}
-use Rattle.luks_seal.proofs.MaterialLemmas.{gives_key}
+use Rattle.luks_seal.proofs.MaterialLemmas.{made_material, material_is_stored}
+use Rattle.luks_seal.specs.Pieces.{sector_padded, stripes_of}
 use Rattle.luks_seal.proofs.SlotLemmas.{found_by_number}
 use Rattle.luks1_seal.proofs.Layout1Lemmas.{IsUsed, ends_before, found_header, found_slot, header1_are, header1_read}
-use Rattle.luks1_seal.proofs.Layout1Lemmas.{header1_start_bytes, image1, image_header, image_material, length-prefix1}
-use Rattle.luks1_seal.proofs.Layout1Lemmas.{random_stripes1, slot_read}
+use Rattle.luks1_seal.proofs.Layout1Lemmas.{header1_start_bytes, image1, material_there, random_stripes1, slot_read}
+use Rattle.luks1_seal.proofs.Layout1Lemmas.{whole_header}
 use Rattle.luks_kdf.specs.Pbkdf2.{derived_key}
 use Rattle.luks_verdict.specs.declared.segment.Segment.{Segment}
 
@@ -48,19 +46,15 @@ module _ (p : Seal1) (fits : AreParameters1 p) (typed : AreTyped1 p) where
   unfolding is_luks1
   begins =
       ap (λ (b : List ℕ). bytes_eq b (0x4c ∷ 0x55 ∷ 0x4b ∷ 0x53 ∷ 0xba ∷ 0xbe ∷ 0x00 ∷ 0x01 ∷ []))
-      (image_header p fits typed 0 8 (omega arith) ∙ (header1_are p fits typed).part_at 0)
-
-  whole_header : at 0 592 (image1_of p) ≡ header1_start_bytes p
-  whole_header =
-      image_header p fits typed 0 592 (omega arith)
-      ∙ take_all 592 (header1_start_bytes p) (omega (arith, length-prefix1 p fits typed))
+      (at_inside 0 0 8 0 592 (image1_of p) (header1_start_bytes p) refl (omega arith) (whole_header p fits typed)
+      ∙ (header1_are p fits typed).part_at 0)
 
   header_is : header_of (image1_of p) ≡ Ok (V1 (found_header p))
   unfolding header_of
   header_is =
       let long = (image1 p fits typed).len in
       let capacity = le-ltb (length (image1_of p)) 592 (omega (arith, long, fits.counts.3)) in
-      rw (begins, capacity, whole_header, header1_read p fits typed) refl
+      rw (begins, capacity, whole_header p fits typed, header1_read p fits typed) refl
 
   mode1_is : mode1_of (found_header p) ≡ Some p.mode
   unfolding mode1_of
@@ -72,22 +66,14 @@ module _ (p : Seal1) (fits : AreParameters1 p) (typed : AreTyped1 p) where
 
   -- ---- the segment
 
-  outside : overlaps_header1 (found_header p) ≡ false
-  unfolding overlaps_header1
-  outside = rw (le-ltb (512 * p.payload_sectors) 592 (omega (arith, fits.counts.3))) refl
-
   no_fault : fault1_of (found_header p) ≡ None
-  unfolding fault1_of
+  unfolding fault1_of overlaps_header1
   no_fault =
-      let key : is_mode_key_length p.mode (length p.key.now) ≡ true = fits.key in
-      rw (mode1_is, hash1_is, key, outside) refl
-
-  made : segment_from (segment_parts1_of (found_header p)) ≡ Some (segment1 p)
-  unfolding segment_from
-  made = rw mode1_is refl
+      rw (mode1_is, hash1_is, fits.key, le-ltb (512 * p.payload_sectors) 592 (omega (arith, fits.counts.3))) refl
 
   segment1_is : segment1_of (found_header p) ≡ Ok (segment1 p)
-  segment1_is = segment1-none (found_header p) (segment1 p) no_fault made
+  unfolding segment_from
+  segment1_is = segment1-none (found_header p) (segment1 p) no_fault (rw mode1_is refl)
 
   -- ---- the digest
 
@@ -96,10 +82,6 @@ module _ (p : Seal1) (fits : AreParameters1 p) (typed : AreTyped1 p) where
   digest_usable =
       rw (length-derived_key p.hash p.key.now p.digest_salt p.digest_iterations 20)
       (digest_fits p.digest_iterations 20 fits.counts.2 typed.iterations (omega arith) (omega arith))
-
-  digest1_is : digest1_of (found_header p) ≡ Some (digest_of (digest_parts1_of (found_header p)) digest_usable)
-  unfolding digest1_of
-  digest1_is = digest_from-yes (digest_parts1_of (found_header p)) digest_usable
 
   digest1_of_key : IsDigestOf (digest_of (digest_parts1_of (found_header p)) digest_usable) p.key.now
   unfolding digest_of digest_parts1_of
@@ -145,29 +127,32 @@ module _ (p : Seal1) (fits : AreParameters1 p) (typed : AreTyped1 p) where
     gives1 : GivesKey (slot_parts1_of (found_header p) (found_slot p slot)) slot.passphrase.now p.key.now (image1_of p)
     unfolding slot_parts1_of material1_of area_key1_of
     gives1 =
-        gives_key (slot_parts1_of (found_header p) (found_slot p slot)) p.hash p.hash p.mode slot.passphrase.now
-        p.key.now slot.random.now (image1_of p)
-        (record {
+        let drawn = random_stripes1 p fits typed slot used.fits in
+        record {
+          kdf = p.hash;
+          af = p.hash;
+          mode = p.mode;
           is_kdf = hash1_is;
           is_af = hash1_is;
           is_mode = mode1_is;
           key_bytes = refl;
-          drawn = random_stripes1 p fits typed slot used.fits;
-          bytes = typed.key;
-          random_bytes = used.typed.random;
-        })
-        (omega (arith, ends_before p fits typed slot used, (image1 p fits typed).len))
-        (image_material p fits typed slot used)
+          material = sector_padded (stripes_of p.hash p.key.now p.stripes slot.random.now);
+          is_material = made_material p.hash (slot_parts1_of (found_header p) (found_slot p slot)) p.key.now
+              slot.random.now drawn;
+          is_stored = material_is_stored p.hash p.key.now p.stripes slot.random.now drawn (p.mode, area_key1_of p slot)
+              (512 * (8 + slot.number * area_sectors_of p)) (image1_of p) typed.key used.typed.random
+              (material_there p fits typed slot used);
+        }
 
     seals_key1 : SealsKey (V1 (found_header p)) (image1_of p) p.key.now slot.number slot.passphrase.now
-    unfolding verdict_at verdict1_at digest_for slot_of
+    unfolding verdict_at verdict1_at digest_for slot_of digest1_of
     seals_key1 = record {
       slot = slot_of (slot_parts1_of (found_header p) (found_slot p slot)) ranged;
       digest = digest_of (digest_parts1_of (found_header p)) digest_usable;
       usable = ap (option_map (verdict1_of (found_header p) None)) (slot_read p fits typed slot used)
           ∙ ap Some verdict1_is;
       gives = gives1;
-      is_digest = digest1_is;
+      is_digest = digest_from-yes (digest_parts1_of (found_header p)) digest_usable;
       digest_of_key = digest1_of_key;
     }
 

@@ -1,15 +1,29 @@
--- The choice between the headers, and how far an image is read for it.
-use Rattle.std.proofs.Common.{◌≡◌, ◌∙◌, ℕ, ◌+◌, ◌*◌, ◌≤◌, List, Option, Bool, true, false, ap, sym, refl}
-use Rattle.std.proofs.Common.{length, max, arith}
-use Rattle.std.specs.Prelude.{IfOk, Result, Ok, Err, option_and_then}
+-- The header of an image: which one is chosen, where it is, and how far the image is read for it.
+use Rattle.std.proofs.Common.{◌≡◌, ◌∙◌, ℕ, ◌+◌, ◌-◌, ◌*◌, ◌<◌, ◌≤◌, List, [], ◌∷◌, Option, Some, None, Bool, true}
+use Rattle.std.proofs.Common.{false, ap, sym, refl, take, length, max, arith}
+use Rattle.std.specs.Prelude.{IfOk, Result, Ok, Err, nat_lt, ok_or, option_and_then}
+use Rattle.std.specs.List.{find}
+use Rattle.std.proofs.lemmas.Option.{option_and_then_some}
+use Rattle.luks_kdf.specs.declared.hash.Hash.{Hash}
 use Rattle.luks_area.specs.declared.fault.HeaderFault.{HeaderFault}
-use Rattle.luks2_binary.specs.Choice2.{with_valid_primary, binary_at, chosen2_of, found_at, is_valid, least_valid}
-use Rattle.luks2_binary.specs.Choice2.{size_at}
-use Rattle.luks2_binary.specs.ReadLen2.{probe2_len, probe_end, search_len}
+use Rattle.luks_area.specs.declared.fault.HeaderFault.TheVariants.{NotLuks}
+use Rattle.luks_area.proofs.FieldLemmas.{at_beginning}
+use Rattle.luks_area.specs.Fields.{text_of}
+use Rattle.luks2_binary.specs.Choice2.{with_valid_primary, binary_at, chosen2_of, found_at, header2_of, is_valid}
+use Rattle.luks2_binary.specs.Choice2.{least_valid, size_at}
+use Rattle.luks2_binary.specs.Header2.{binary_len, checksum_hash_in, header2_from, sequence_in, size_in, sizes}
+use Rattle.luks2_binary.specs.ReadLen2.{header2_read_len, probe2_len, probe_end, search_len}
 use Rattle.luks2_binary.specs.Reading2.{IsPrefixOf, OfEach}
+use Rattle.luks2_binary.specs.Text2.{json_area_of, json_text_of, header_offset}
+use Rattle.luks2_binary.specs.declared.header.PairFinding.{PairFinding}
+use Rattle.luks2_binary.specs.declared.header.PairFinding.TheVariants.{PrimaryNotValid, SecondaryNotValid}
+use Rattle.luks2_binary.specs.declared.header.PairFinding.TheVariants.{SequencesDiffer}
 use Rattle.luks2_binary.specs.declared.header.Header2.{Header2}
-use Rattle.luks2_binary.proofs.AgreeLemmas.{at-prefix, probe_fit, probe_least, valid-prefix}
-use Rattle.luks2_binary.proofs.ValidLemmas.{fits_parts, size_is_place, valid_parts, valid_range}
+use Rattle.luks2_binary.specs.declared.header.HeaderRole.{HeaderRole}
+use Rattle.luks2_binary.specs.declared.header.HeaderRole.TheVariants.{Primary, Secondary}
+use Rattle.luks2_binary.proofs.SearchLemmas.{first_is, furthest, search_len_is}
+use Rattle.luks2_binary.proofs.ValidLemmas.{at-prefix, fits-prefix, own_size, probe_fit, probe_least, short-fits}
+use Rattle.luks2_binary.proofs.ValidLemmas.{unfit-is_valid, valid-prefix, valid_parts, valid_range}
 
 module _ (image : List ℕ) where
   -- the choice for an image with a valid primary header
@@ -56,8 +70,7 @@ module _ (loaded : List ℕ) (ended : Bool) (image : List ℕ) (prefix : IsPrefi
       let second : is_valid loaded size ≡ is_valid image size =
       valid-prefix loaded ended image prefix size long
       (λ fit.
-      let parts = fits_parts image size fit in
-      let own = size_is_place size (binary_at image size) parts.1 (λ none. absurd (omega (arith, range.1, none))) in
+      let own = own_size image size fit (λ none. absurd (omega (arith, range.1, none))) in
       omega (arith, own, whole)) in
       rw (
         at-prefix loaded ended image prefix 0 4096 (omega (arith, long)),
@@ -82,3 +95,204 @@ pub found_chosen : (loaded : List ℕ) (ended : Bool) (found : Result (Option He
 found_chosen loaded ended (Ok header) none is = λ image prefix.
     is image prefix ∙ sym (chosen_other image (none image prefix))
 found_chosen loaded ended (Err fault) none is = tt
+
+-- if no offset is valid, there is no first valid one
+none_first : (valid : ℕ → Bool) (places : List ℕ) → ((place : ℕ) → valid place ≡ false) → find valid places ≡ None
+none_first valid [] none = refl
+none_first valid (place ∷ places) none = rw (none place) (none_first valid places none)
+
+-- an image of fewer than 4,096 bytes has no header
+pub none_short : (image : List ℕ) → length image < 4096 → header2_of image ≡ Err NotLuks
+unfolding header2_of
+none_short image short =
+    let none : (place : ℕ) → is_valid image place ≡ false =
+    λ place. unfit-is_valid image place (short-fits image place (omega arith)) in
+    ap (λ chosen. ok_or chosen NotLuks)
+    (chosen_other image (none 0) ∙ ap (option_and_then (found_at image)) (none_first (is_valid image) sizes none))
+
+-- ---- loaded bytes that reach as far as an image is read
+
+module _ (loaded image : List ℕ) (prefix : IsPrefixOf loaded false image) where
+  probe_same : (place : ℕ) → place + 4096 ≤ length loaded → probe_end loaded place ≡ probe_end image place
+  unfolding probe_end
+  probe_same place there =
+      rw (fits-prefix loaded false image prefix place there, at-prefix loaded false image prefix place 4096 there) refl
+
+  -- an offset for which all bytes to be read are loaded
+  place_same : (place : ℕ) → probe_end image place ≤ length loaded
+      → (is_valid loaded place ≡ is_valid image place) × (probe_end loaded place ≡ probe_end image place)
+  place_same place within =
+      let there : place + 4096 ≤ length loaded = omega (arith, within, probe_least image place) in (
+        valid-prefix loaded false image prefix place there (λ fit. omega (arith, within, probe_fit image place fit)),
+        probe_same place there,
+      )
+
+  abbrev AreSame : List ℕ → Type 0
+  AreSame places = (find (is_valid loaded) places ≡ find (is_valid image) places)
+      × (furthest (is_valid loaded) (probe_end loaded) places ≡ furthest (is_valid image) (probe_end image) places)
+
+  walk_same : (places : List ℕ) → furthest (is_valid image) (probe_end image) places ≤ length loaded → AreSame places
+  unfolding furthest
+  walk_same [] within = (refl, refl)
+  walk_same (place ∷ places) within = by (is_valid image place) refl (walk_same places) where
+    by : (b : Bool) → is_valid image place ≡ b
+        → (furthest (is_valid image) (probe_end image) places ≤ length loaded → AreSame places)
+        → AreSame (place ∷ places)
+    by true e next =
+        let same = place_same place (omega (arith, within)) in
+        (rw (same.0, e) refl, rw (same.0, same.1, e) refl)
+    by false e next =
+        let same = place_same place (omega (arith, within)) in
+        let rest = next (let inside = (rw e at within) in omega (arith, inside)) in
+        (rw (same.0, e) rest.0, rw (same.0, same.1, e) (ap (max (probe_end image place)) rest.1))
+
+  found_same : (first : Option ℕ) → find (is_valid image) sizes ≡ first
+      → furthest (is_valid image) (probe_end image) sizes ≤ length loaded
+      → option_and_then (found_at loaded) first ≡ option_and_then (found_at image) first
+  found_same None is within = refl
+  found_same (Some place) is within =
+      let below = first_is (is_valid image) (probe_end image) sizes place is in
+      ap (header2_from Secondary (Some PrimaryNotValid))
+      (at-prefix loaded false image prefix place 4096 (omega (arith, below.1, within, probe_least image place)))
+
+  -- if all bytes to be read of an image are loaded, these have the same header, and as many of them are to be read
+  pub stable_by : (b : Bool) → is_valid image 0 ≡ b → probe2_len image ≤ length loaded
+      → (chosen2_of loaded ≡ chosen2_of image) × (probe2_len loaded ≡ probe2_len image)
+  stable_by true e whole =
+      let first = place_same 0 (omega (arith, probe_first image, whole)) in
+      let size : size_at loaded 0 ≡ size_at image 0 =
+      ap size_in (at-prefix loaded false image prefix 0 4096 (omega (arith, probe_some image, whole))) in (
+        chosen_primary loaded (first.0 ∙ e)
+            ∙ beside_same loaded false image prefix e (λ _. omega (arith, probe_primary image e, whole))
+            ∙ sym (chosen_primary image e),
+        probe_primary loaded (first.0 ∙ e) ∙ ap (λ n. 2 * n) size ∙ sym (probe_primary image e),
+      )
+  stable_by false e whole =
+      let first = place_same 0 (omega (arith, probe_first image, whole)) in
+      let within : furthest (is_valid image) (probe_end image) sizes ≤ length loaded =
+      omega (arith, probe_other image e, search_len_is image, whole) in
+      let walk = walk_same sizes within in (
+        chosen_other loaded (first.0 ∙ e)
+            ∙ ap (option_and_then (found_at loaded)) walk.0
+            ∙ found_same (least_valid image) refl within
+            ∙ sym (chosen_other image e),
+        probe_other loaded (first.0 ∙ e)
+            ∙ ap (max (probe_end loaded 0))
+            (search_len_is loaded ∙ walk.1 ∙ sym (search_len_is image))
+            ∙ ap (λ n. max n (search_len image)) first.1
+            ∙ sym (probe_other image e),
+      )
+
+-- ---- where the header and its JSON text are
+
+-- a header that was made from bytes has this role, the length that they give, and is attached
+made_of : (role : HeaderRole) (finding : Option PairFinding) (binary : List ℕ) (header : Header2)
+    → header2_from role finding binary ≡ Some header
+    → (header.role ≡ role) × (header.size ≡ size_in binary) × (header.detached ≡ false)
+unfolding header2_from
+made_of role finding binary header is = by (checksum_hash_in binary) refl where
+  by : (known : Option Hash) → checksum_hash_in binary ≡ known
+      → (header.role ≡ role) × (header.size ≡ size_in binary) × (header.detached ≡ false)
+  by (Some hash) e = (let made = rw e at is in (cc, cc, cc))
+  by None e = absurd (let made = rw e at is in cc)
+
+-- a header is at this offset of the image, is valid there, is within the bytes that are to be read, and is attached
+record HasHeaderAt (image : List ℕ) (header : Header2) (place : ℕ) : Type 0 where
+  pub valid : is_valid image place ≡ true
+  pub here : header_offset header.role header.size ≡ place
+  pub size : header.size ≡ size_at image place
+  pub probed : place + header.size ≤ probe2_len image
+  pub attached : header.detached ≡ false
+
+-- the sequence number of the header at an offset
+abbrev sequence_at : List ℕ → ℕ → ℕ
+sequence_at image place = sequence_in (binary_at image place)
+
+module _ (image : List ℕ) (header : Header2) where
+  -- a header that was made of the bytes at an offset is there, if its role and length give this offset
+  header_at : (role : HeaderRole) (finding : Option PairFinding) (place : ℕ) → is_valid image place ≡ true
+      → header_offset role (size_at image place) ≡ place → place + size_at image place ≤ probe2_len image
+      → header2_from role finding (binary_at image place) ≡ Some header → HasHeaderAt image header place
+  header_at role finding place valid own probe is =
+      let made = made_of role finding (binary_at image place) header is in
+      record {
+        valid = valid;
+        here = ap (λ p. header_offset p header.size) made.0 ∙ ap (λ n. header_offset role n) made.1 ∙ own;
+        size = made.1;
+        probed = omega (arith, made.1, probe);
+        attached = made.2;
+      }
+
+  -- the header of an image with a valid primary one is at an offset of the image
+  choice_with_primary_at : is_valid image 0 ≡ true → with_valid_primary image ≡ Some header
+      → (place : ℕ) × HasHeaderAt image header place
+  unfolding with_valid_primary
+  choice_with_primary_at valid is =
+      by (is_valid image (size_at image 0)) (nat_lt (sequence_at image 0) (sequence_at image (size_at image 0)))
+      (nat_lt (sequence_at image (size_at image 0)) (sequence_at image 0)) refl refl refl
+    where
+      primary : (finding : Option PairFinding) → header2_from Primary finding (binary_at image 0) ≡ Some header
+          → (place : ℕ) × HasHeaderAt image header place
+      primary finding made =
+          (0, header_at Primary finding 0 valid refl (omega (arith, probe_primary image valid)) made)
+
+      by : (both later earlier : Bool) → is_valid image (size_at image 0) ≡ both
+          → nat_lt (sequence_at image 0) (sequence_at image (size_at image 0)) ≡ later
+          → nat_lt (sequence_at image (size_at image 0)) (sequence_at image 0) ≡ earlier
+          → (place : ℕ) × HasHeaderAt image header place
+      by false _ _ b _ _ = primary (Some SecondaryNotValid) (rw b at is)
+      by true true _ b l _ =
+          let range = valid_range image 0 valid in
+          let fit = valid_parts image (size_at image 0) b in
+          let own = own_size image (size_at image 0) fit.0 (λ none. absurd (omega (arith, range.1, none))) in (
+            size_at image 0,
+            header_at Secondary (Some SequencesDiffer) (size_at image 0) b own
+                (omega (arith, own, probe_primary image valid)) (rw (b, l) at is),
+          )
+      by true false true b l e = primary (Some SequencesDiffer) (rw (b, l, e) at is)
+      by true false false b l e = primary None (rw (b, l, e) at is)
+
+  -- the header that the search finds is at the offset where it was found
+  search_result_at : is_valid image 0 ≡ false → (place : ℕ) → least_valid image ≡ Some place
+      → found_at image place ≡ Some header → HasHeaderAt image header place
+  search_result_at none place least is =
+      let one = first_is (is_valid image) (probe_end image) sizes place least in
+      let some : place ≡ 0 → ⊥ =
+      λ start. (let wrong : true ≡ false = sym one.0 ∙ ap (is_valid image) start ∙ none in cc) in
+      let fit = valid_parts image place one.0 in
+      header_at Secondary (Some PrimaryNotValid) place one.0 (own_size image place fit.0 some)
+      (omega (arith, one.1, probe_fit image place fit.0, search_len_is image, probe_other image none)) is
+
+  -- the header that is chosen is at an offset of the image
+  chosen_header_at : chosen2_of image ≡ Some header → (place : ℕ) × HasHeaderAt image header place
+  chosen_header_at is = by (is_valid image 0) refl where
+    by : (b : Bool) → is_valid image 0 ≡ b → (place : ℕ) × HasHeaderAt image header place
+    by true e = choice_with_primary_at e (sym (chosen_primary image e) ∙ is)
+    by false e =
+        option_and_then_some (found_at image) (least_valid image) header (sym (chosen_other image e) ∙ is)
+        (λ place least made. (place, search_result_at e place least made))
+
+  -- the header of an image is at an offset of it
+  located : header2_of image ≡ Ok header → (place : ℕ) × HasHeaderAt image header place
+  unfolding header2_of
+  located is = by (chosen2_of image) refl where
+    by : (chosen : Option Header2) → chosen2_of image ≡ chosen → (place : ℕ) × HasHeaderAt image header place
+    by (Some found) e =
+        chosen_header_at (e ∙ (let answer = sym (ap (λ o. ok_or o NotLuks) e) ∙ is in ap Some cc))
+    by None e = absurd (let answer = sym (ap (λ o. ok_or o NotLuks) e) ∙ is in cc)
+
+-- a header is read as an attached one
+pub read_attached : (image : List ℕ) (header : Header2) → header2_of image ≡ Ok header → header.detached ≡ false
+read_attached image header is = (located image header is).1.attached
+
+-- the bytes that were read to choose a header have its JSON text: its JSON area ends within them
+pub json_beginning : (image : List ℕ) (header : Header2) → header2_of image ≡ Ok header
+    → json_text_of (take (header2_read_len image) image) header ≡ json_text_of image header
+unfolding header2_read_len json_text_of json_area_of
+json_beginning image header is =
+    let it = located image header is in
+    let range = valid_range image it.0 it.1.valid in
+    let whole = valid_parts image it.0 it.1.valid in
+    let place = header_offset header.role header.size + binary_len in
+    ap text_of (at_beginning place (header.size - binary_len) (header2_read_len image) image
+    (omega (arith, range.1, it.1.here, it.1.size, it.1.probed, whole.1)))

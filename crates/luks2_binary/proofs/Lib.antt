@@ -1,10 +1,4 @@
-pub mod AbsentLemmas
-pub mod AgreeLemmas
 pub mod ChoiceLemmas
 pub mod PrefixLemmas
-pub mod JsonLemmas
 pub mod SearchLemmas
-pub mod SeekingLemmas
-pub mod StableLemmas
 pub mod ValidLemmas
-pub mod WalkLemmas

@@ -1,23 +1,69 @@
--- The search for a secondary header, offset by offset.
-use Rattle.std.proofs.Common.{◌≡◌, ◌∙◌, ℕ, zero, suc, ◌+◌, ◌<◌, ◌≤◌, List, ◌∷◌, Option, Some, None, Bool, true, false}
-use Rattle.std.proofs.Common.{ap, sym, refl, drop, get_or, length, max, add-one, arith}
+-- The search for a secondary header, offset by offset: it gives what its definition states.
+use Rattle.std.proofs.Common.{◌≡◌, ◌∙◌, ℕ, zero, suc, ◌+◌, ◌<◌, ◌≤◌, ◌&&◌, List, [], ◌∷◌, Option, Some, None, Bool}
+use Rattle.std.proofs.Common.{true, false, ap, sym, refl, drop, get_or, length, max, add-one, arith}
 use Rattle.std.proofs.Math.Seq.{drop-cons}
-use Rattle.std.specs.Prelude.{if◌then◌else◌, is_some, nat_le, option_and_then}
-use Rattle.std.specs.List.{find}
+use Rattle.std.specs.Prelude.{if◌then◌else◌, filter, is_some, map, nat_le, nat_lt, not, option_and_then}
+use Rattle.std.specs.List.{find, list_any}
 use Rattle.std.proofs.lemmas.Bool.{leb-true}
 use Rattle.std.proofs.lemmas.List.{drop_all}
 use Rattle.std.proofs.lemmas.List.Sums.{AllPass-from_list_all}
 use Rattle.luks_area.specs.Fields.{at}
 use Rattle.luks2_binary.specs.Choice2.{binary_at, found_at, is_tried, is_valid, least_valid, size_at}
-use Rattle.luks2_binary.specs.ReadLen2.{probe_end, search_len}
+use Rattle.luks2_binary.specs.ReadLen2.{greatest, probe_end, search_len}
 use Rattle.luks2_binary.specs.Reading2.{IsPrefixOf, valid_size}
 use Rattle.luks2_binary.specs.Header2.{header2_from, sizes}
 use Rattle.luks2_binary.specs.declared.header.PairFinding.TheVariants.{PrimaryNotValid}
 use Rattle.luks2_binary.specs.declared.header.Header2.{Header2}
 use Rattle.luks2_binary.specs.declared.header.HeaderRole.TheVariants.{Secondary}
-use Rattle.luks2_binary.proofs.AgreeLemmas.{at-prefix}
-use Rattle.luks2_binary.proofs.ValidLemmas.{valid_range}
-use Rattle.luks2_binary.proofs.WalkLemmas.{are_one, furthest}
+use Rattle.luks2_binary.proofs.ValidLemmas.{at-prefix, valid_range}
+
+-- the end of the bytes that are read to check these offsets, up to the first with a valid header
+unfoldable pub furthest : (ℕ → Bool) → (ℕ → ℕ) → List ℕ → ℕ
+furthest valid probe [] = 0
+furthest valid probe (place ∷ places) = max (probe place) (if valid place then 0 else furthest valid probe places)
+
+-- the first valid offset is valid, and the search reads at least as far as it does for this offset
+pub first_is : (valid : ℕ → Bool) (probe : ℕ → ℕ) (places : List ℕ) (place : ℕ) → find valid places ≡ Some place
+    → (valid place ≡ true) × (probe place ≤ furthest valid probe places)
+unfolding furthest
+first_is valid probe [] place is = absurd (cc)
+first_is valid probe (here ∷ places) place is = by (valid here) refl (first_is valid probe places place) where
+  by : (b : Bool) → valid here ≡ b
+      → (find valid places ≡ Some place → (valid place ≡ true) × (probe place ≤ furthest valid probe places))
+      → (valid place ≡ true) × (probe place ≤ furthest valid probe (here ∷ places))
+  by true e behind =
+      let same : here ≡ place = (let first : Some here ≡ Some place = rw e at is in cc) in
+      (ap valid (sym same) ∙ e, omega (arith, ap probe same))
+  by false e behind = (let rest = behind (rw e at is) in (rest.0, rw e (omega (arith, rest.1))))
+
+module _ (valid : ℕ → Bool) (probe : ℕ → ℕ) where
+  -- no lower one of the nine offsets has a valid header
+  abbrev pub tried : ℕ → Bool
+  tried place = not (list_any (λ other. nat_lt other place && valid other) sizes)
+
+  -- the walk reads as far as the definition states
+  abbrev pub IsOne : Type 0
+  IsOne = furthest valid probe sizes ≡ greatest (map probe (filter tried sizes))
+
+  -- for each offset that is the first valid one, and for none
+  one_by : (a b c d e f g h i : Bool) → valid 16384 ≡ a → valid 32768 ≡ b → valid 65536 ≡ c → valid 131072 ≡ d
+      → valid 262144 ≡ e → valid 524288 ≡ f → valid 1048576 ≡ g → valid 2097152 ≡ h → valid 4194304 ≡ i → IsOne
+  unfolding sizes furthest
+  one_by true _ _ _ _ _ _ _ _ a _ _ _ _ _ _ _ _ = rw a refl
+  one_by false true _ _ _ _ _ _ _ a b _ _ _ _ _ _ _ = rw (a, b) refl
+  one_by false false true _ _ _ _ _ _ a b c _ _ _ _ _ _ = rw (a, b, c) refl
+  one_by false false false true _ _ _ _ _ a b c d _ _ _ _ _ = rw (a, b, c, d) refl
+  one_by false false false false true _ _ _ _ a b c d e _ _ _ _ = rw (a, b, c, d, e) refl
+  one_by false false false false false true _ _ _ a b c d e f _ _ _ = rw (a, b, c, d, e, f) refl
+  one_by false false false false false false true _ _ a b c d e f g _ _ = rw (a, b, c, d, e, f, g) refl
+  one_by false false false false false false false true _ a b c d e f g h _ = rw (a, b, c, d, e, f, g, h) refl
+  one_by false false false false false false false false true a b c d e f g h i = rw (a, b, c, d, e, f, g, h, i) refl
+  one_by false false false false false false false false false a b c d e f g h i = rw (a, b, c, d, e, f, g, h, i) refl
+
+  pub are_one : IsOne
+  are_one =
+      one_by (valid 16384) (valid 32768) (valid 65536) (valid 131072) (valid 262144) (valid 524288) (valid 1048576)
+      (valid 2097152) (valid 4194304) refl refl refl refl refl refl refl refl refl
 
 -- the end of the bytes that are read to check the offsets from number k on
 abbrev pub ahead : List ℕ → ℕ → ℕ
@@ -80,11 +126,10 @@ module _ (image : List ℕ) (k : ℕ) (items : List ℕ) (are : items ≡ sizes)
       rw add-one record { place = searched.place ∙ rw (here, fails) refl; probed = next }
 
   -- a valid header is here: the search ends
-  pub searched_place : is_valid image place ≡ true → least_valid image ≡ Some place
-  searched_place holds = searched.place ∙ rw (here, holds) refl
-
-  pub search_ends : is_valid image place ≡ true → max (so_far image k) (probe_end image place) ≡ search_len image
-  search_ends holds = omega (arith, ahead_holds holds, searched.probed)
+  pub searched_place : is_valid image place ≡ true → (least_valid image ≡ Some place)
+      × (max (so_far image k) (probe_end image place) ≡ search_len image)
+  searched_place holds =
+      (searched.place ∙ rw (here, holds) refl, omega (arith, ahead_holds holds, searched.probed))
 
 -- the end of the bytes that are read to check one more offset
 pub so_far_next : (image items : List ℕ) (k : ℕ) → items ≡ sizes
@@ -102,13 +147,12 @@ pub found_valid : (image : List ℕ) (place : ℕ) (found : Option ℕ) → foun
 found_valid image place found is = sym (ap is_some is ∙ some_if (is_valid image place) (size_at image place))
 
 -- the offsets are in range
-size_range : (k : ℕ) → k < length sizes → get_or sizes k 0 ≤ 4194304
-unfolding sizes
-size_range k inside =
-    leb-true (get_or sizes k 0) 4194304 (AllPass-from_list_all (λ size. nat_le size 4194304) sizes refl k 0 inside)
-
 pub place_range : (items : List ℕ) (k : ℕ) → items ≡ sizes → k < length items → get_or items k 0 ≤ 4194304
-place_range items k are inside = rw are (size_range k (omega (arith, inside, ap length are)))
+unfolding sizes
+place_range items k are inside =
+    let few : k < length sizes = omega (arith, inside, ap length are) in
+    rw are (leb-true (get_or sizes k 0) 4194304
+    (AllPass-from_list_all (λ size. nat_le size 4194304) sizes refl k 0 few))
 
 -- the header that was found is that of the lowest valid offset
 pub found_least : (loaded : List ℕ) (ended : Bool) (image bytes : List ℕ) (place : ℕ) (header : Option Header2)

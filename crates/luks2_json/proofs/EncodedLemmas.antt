@@ -1,36 +1,34 @@
--- A base64 string is decoded group by group.
-use Rattle.std.proofs.Common.{◌≡◌, ◌∙◌, ℕ, ◌+◌, ◌*◌, ◌<◌, ◌≤◌, ◌-◌, Bool, true, false, List, [], ◌++◌, length, take}
-use Rattle.std.proofs.Common.{take_all, drop, Option, Some, None, Ok, Err, refl, sym, ap, subst, arith}
-use Rattle.std.specs.Prelude.{◌&&◌, if◌then◌else◌, not, is_none, option_map, slice_index}
+-- What strings write: bytes in base64, which are decoded group by group, and numbers in decimal digits.
+use Rattle.std.proofs.Common.{◌≡◌, ◌∙◌, ℕ, ◌+◌, ◌*◌, ◌<◌, ◌≤◌, ◌-◌, ◌^◌, Bool, true, false, List, [], ◌++◌, length}
+use Rattle.std.proofs.Common.{take_all, drop, Option, Some, None, Result, Ok, Err, ◌⊎◌, inl, inr, refl, sym, ap, arith}
+use Rattle.std.proofs.Common.{rules, take}
+use Rattle.std.specs.Prelude.{◌&&◌, if◌then◌else◌, nat_lt, not, is_none, is_some, option_map, slice_index}
+use Rattle.std.specs.Char.{is_ascii_digit}
 use Rattle.std.specs.Io.KnownBytes.{prepend_known}
-use Rattle.std.proofs.lemmas.Bool.{agree_below, agree_below_at}
+use Rattle.std.specs.List.{list_all}
+use Rattle.std.specs.Result.{OkIff, result_ok}
+use Rattle.std.specs.Str.Parse.{ParsesUnsigned, digits_value}
+use Rattle.std.proofs.lemmas.Bool.{agree_below_at, cases_lt, le-leb, le-ltb, lt-ltb, not-true}
 use Rattle.std.proofs.lemmas.List.{append-nil, length-append, length-drop, length-take}
+use Rattle.std.proofs.lemmas.Str.Parse.{IsNumeralModel, numerals_by_value, parse_digits, parse_gives}
 use Rattle.base64.proofs.Decoding.{groups_error_first, length-groups_bytes}
 use Rattle.base64.proofs.Streams.{decoded_of-groups, decoded_of-ok}
 use Rattle.base64.specs.Decode.{decode_outcome, decoded_bytes, groups_before_last, groups_error, or_else, lone_error}
 use Rattle.base64.specs.Decode.{suffix_error}
 use Rattle.base64.specs.Engines.{standard}
-use Rattle.base64.specs.GeneralPurpose.{IsDecodeFailure, decode_of, decoded_of, groups_bytes_of, groups_error_of}
-use Rattle.base64.specs.declared.decode.DecodeAllocError.{DecodeAllocError}
-use Rattle.base64.specs.declared.decode.DecodeAllocError.TheVariants.{DecodeError as Failed}
+use Rattle.base64.specs.GeneralPurpose.{decode_of, decoded_of, groups_bytes_of, groups_error_of}
 use Rattle.base64.specs.declared.decode.DecodeError.{DecodeError}
-use Rattle.luks_verdict.proofs.VerdictLemmas.{some_from_not_none}
-use Rattle.luks2_json.specs.Encoded.{begins_with_group, encoded_len, is_in_alphabet, is_symbol}
+use Rattle.luks_verdict.proofs.MadeLemmas.{some_from_not_none}
+use Rattle.luks2_json.specs.Member.{begins_with_group, decimal_of, encoded_len, is_in_alphabet, is_symbol}
+use Rattle.luks2_json.proofs.NumberedLemmas.{none_from_not_some}
 
--- ---- symbols
-
-all_symbols : agree_below is_in_alphabet is_symbol 256 ≡ true
-unfolding is_symbol
-all_symbols = refl
+-- ---- base64: symbols
 
 pub in_alphabet : (byte : ℕ) → byte < 256 → is_in_alphabet byte ≡ is_symbol byte
-in_alphabet byte small = agree_below_at is_in_alphabet is_symbol 256 byte all_symbols small
+unfolding is_symbol
+in_alphabet byte small = agree_below_at is_in_alphabet is_symbol 256 byte refl small
 
--- ---- groups
-
-none_from_is_none : (o : Option DecodeError) → is_none o ≡ true → o ≡ None
-none_from_is_none None is = refl
-none_from_is_none (Some e) is = absurd cc
+-- ---- base64: groups
 
 -- a text begins with a group exactly if its first four bytes decode without an error
 of_one : (has : Bool) (e : DecodeError) (more : Option DecodeError)
@@ -48,7 +46,6 @@ group_is text = sym (of_one _ _ _ ∙ ap (λ b. is_symbol (slice_index text 0) &
     ∙ ap (λ b. is_symbol (slice_index text 1) && b) (of_one _ _ _
     ∙ ap (λ b. is_symbol (slice_index text 2) && b) (of_last _ _))))
 
--- a text that starts with a group encodes three bytes more than the rest of it
 len_known : (prefix : List ℕ) (rest : Option (List ℕ)) → length prefix ≡ 3 → (before : ℕ)
     → option_map (λ (n : ℕ). before + 3 + n) (option_map (λ (bytes : List ℕ). length bytes) rest)
     ≡ option_map (λ (n : ℕ). before + n) (option_map (λ (bytes : List ℕ). length bytes) (prepend_known prefix rest))
@@ -58,25 +55,19 @@ len_known prefix (Some bytes) three before =
     omega (arith, length-append prefix bytes) in
     ap (λ (n : ℕ). Some n) same
 
-len_past : (text : List ℕ) (before : ℕ) → 4 < length text → begins_with_group text ≡ true
-    → option_map (λ (n : ℕ). before + 3 + n) (encoded_len (drop 4 text))
-    ≡ option_map (λ (n : ℕ). before + n) (encoded_len text)
-len_past text before more is =
-    let none = none_from_is_none (groups_error_of standard text 1) (sym (group_is text) ∙ is) in
-    let split = decoded_of-groups standard text [] 1 more none in
-    let whole = rw (append-nil text, append-nil (drop 4 text)) at split in
-    let three : length (groups_bytes_of standard text 1) ≡ 3 = length-groups_bytes standard.decode_table text 1 in
-    rw whole (len_known (groups_bytes_of standard text 1) (decoded_of standard (drop 4 text)) three before)
-
--- the same, with the rest as a part of a slice
+-- a text that starts with a group encodes three bytes more than the rest of it, which is a part of a slice
 pub len_rest : (text : List ℕ) (before : ℕ) → 4 < length text → begins_with_group text ≡ true
     → option_map (λ (n : ℕ). before + 3 + n) (encoded_len (take (length text - 4) (drop 4 text)))
     ≡ option_map (λ (n : ℕ). before + n) (encoded_len text)
 len_rest text before more is =
+    let none = none_from_not_some (groups_error_of standard text 1)
+    (not-true (is_some (groups_error_of standard text 1)) (sym (group_is text) ∙ is)) in
+    let split = decoded_of-groups standard text [] 1 more none in
+    let whole = rw (append-nil text, append-nil (drop 4 text)) at split in
+    let three : length (groups_bytes_of standard text 1) ≡ 3 = length-groups_bytes standard.decode_table text 1 in
     let all : length (drop 4 text) ≤ length text - 4 = omega (arith, length-drop 4 text) in
-    ap (λ rest. option_map (λ (n : ℕ). before + 3 + n) (encoded_len rest))
-    (take_all (length text - 4) (drop 4 text) all)
-    ∙ len_past text before more is
+    rw (take_all (length text - 4) (drop 4 text) all, whole)
+    (len_known (groups_bytes_of standard text 1) (decoded_of standard (drop 4 text)) three before)
 
 outcome_none : (lone groups suffix : Option DecodeError) (e : DecodeError) (bytes : List ℕ) → groups ≡ Some e
     → (d : DecodeError) × (decode_outcome (or_else lone (or_else groups suffix)) bytes ≡ Err d)
@@ -107,6 +98,31 @@ pub encoded_err : (text : List ℕ) (e : DecodeError) → decode_of standard tex
 unfolding decoded_of
 encoded_err text e is = rw is refl
 
-pub encoded_failed : (text : List ℕ) (error : DecodeAllocError) (e : DecodeError)
-    → IsDecodeFailure standard text error → error ≡ Failed e → decoded_of standard text ≡ None
-encoded_failed text error e failure is = encoded_err text e (subst (IsDecodeFailure standard text) is failure)
+-- ---- decimal digits
+
+pub numerals : IsNumeralModel (λ ds. list_all is_ascii_digit ds ≡ true) (digits_value 10)
+numerals = numerals_by_value _ (search rules)
+
+-- a number of 2^64 or more is not read, if only smaller ones are
+none_of_large : {E : Type 0} (P : Type 0) (n : ℕ) (r : Result ℕ E) → OkIff r (P × (n < 2 ^ 64)) n → 2 ^ 64 ≤ n
+    → result_ok r ≡ None
+none_of_large P n (Ok x) h large = absurd (omega (arith, h.0.1))
+none_of_large P n (Err e) h large = refl
+
+-- std's `parse` reads a string of 1 to 20 digits as `decimal_of` states
+pub parse-decimal : {E : Type 0} (text : List ℕ) (r : Result ℕ E) → ParsesUnsigned 64 10 text r
+    → list_all is_ascii_digit text ≡ true → 0 < length text → length text ≤ 20 → result_ok r ≡ decimal_of text
+unfolding decimal_of
+parse-decimal text r h digits some few =
+    rw (lt-ltb 0 (length text) some, le-leb (length text) 20 few, digits)
+    (of_size (cases_lt (digits_value 10 text) (2 ^ 64)))
+  where
+    of_size : (digits_value 10 text < 2 ^ 64) ⊎ (2 ^ 64 ≤ digits_value 10 text)
+        → result_ok r ≡ (if nat_lt (digits_value 10 text) (2 ^ 64) then Some (digits_value 10 text) else None)
+    of_size (inl small) =
+        let is : r ≡ Ok (digits_value 10 text) = parse_gives numerals 64 text r h digits some small in
+        rw (is, lt-ltb (digits_value 10 text) (2 ^ 64) small) refl
+    of_size (inr large) =
+        let none : result_ok r ≡ None = none_of_large (0 < length text) (digits_value 10 text) r
+        (parse_digits numerals 64 text r h digits) large in
+        rw (none, le-ltb (digits_value 10 text) (2 ^ 64) large) refl

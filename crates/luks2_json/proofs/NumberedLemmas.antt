@@ -1,18 +1,56 @@
--- Names that are numbers.
-use Rattle.std.proofs.Common.{◌≡◌, ◌∙◌, ℕ, zero, suc, ◌+◌, ◌-◌, ◌<◌, ◌≤◌, Bool, true, false, List, [], ◌∷◌, ap, sym}
-use Rattle.std.proofs.Common.{refl, subst, arith, add-one, length, inl, inr}
-use Rattle.std.specs.Prelude.{◌||◌, Option, Some, None, is_some, String, bytes_eq, decimal, string_bytes}
+-- Items of arrays, and members of objects whose names are numbers.
+use Rattle.std.proofs.Common.{◌≡◌, ◌∙◌, ℕ, zero, suc, ◌+◌, ◌-◌, ◌<◌, ◌≤◌, Bool, true, false, List, [], ◌∷◌, ◌++◌, ap}
+use Rattle.std.proofs.Common.{sym, refl, subst, arith, add-one, get_or, length, take, inl, inr}
+use Rattle.std.specs.Prelude.{◌&&◌, ◌||◌, Option, Some, None, is_some, String, bytes_eq, decimal, string_bytes}
 use Rattle.std.specs.declared.alloc.Global.{Global}
-use Rattle.std.specs.List.{list_any}
+use Rattle.std.specs.List.{cons_option, list_all, list_any}
 use Rattle.std.specs.Map.{keys_of}
 use Rattle.std.specs.Option.{option_or}
 use Rattle.std.specs.Map.Iter.{TakesFirst, deref}
 use Rattle.std.proofs.lemmas.Iterator.{YieldsList}
 use Rattle.std.proofs.lemmas.Iterator.Consumers.{YieldsList-from_shown}
 use Rattle.std.proofs.lemmas.Bool.{cases_lt}
+use Rattle.std.proofs.lemmas.List.{take_more}
+use Rattle.luks2_json.specs.List.{all_items, any_item, strings_among}
 use Rattle.luks2_json.specs.Numbered.{any_name, is_number_below, lowest}
-use Rattle.serde_json.specs.View.{members_view}
+use Rattle.serde_json.specs.Data.{Data}
+use Rattle.serde_json.specs.Find.{as_str}
+use Rattle.serde_json.specs.View.{items_view, members_view, view}
 use Rattle.serde_json.specs.declared.value.Value.{Value}
+
+-- ---- items of arrays
+
+pub list_all-items : (test : Data → Bool) (values : List Value)
+    → list_all (λ value. test (view value)) values ≡ all_items test (items_view values)
+list_all-items test [] = refl
+list_all-items test (value ∷ rest) = ap (λ others. test (view value) && others) (list_all-items test rest)
+
+pub list_any-items : (test : Data → Bool) (values : List Value)
+    → list_any (λ value. test (view value)) values ≡ any_item test (items_view values)
+list_any-items test [] = refl
+list_any-items test (value ∷ rest) = ap (λ others. test (view value) || others) (list_any-items test rest)
+
+cons_append : (text : Option (List ℕ)) (a b c : List (List ℕ)) → a ≡ b ++ c
+    → cons_option text a ≡ cons_option text b ++ c
+cons_append None a b c is = is
+cons_append (Some text) a b c is = ap (λ others. text ∷ others) is
+
+strings_among-append : (values : List Value) (value : Value)
+    → strings_among (items_view (values ++ value ∷ []))
+    ≡ strings_among (items_view values) ++ cons_option (as_str (view value)) []
+strings_among-append [] value = refl
+strings_among-append (first ∷ rest) value = cons_append (as_str (view first)) _ _ _ (strings_among-append rest value)
+
+-- one more value adds its string, if it is one
+pub texts_more : (values : List Value) (i : ℕ) (value : Value) → i < length values → value ≡ get_or values i value
+    → strings_among (items_view (take (i + 1) values))
+    ≡ strings_among (items_view (take i values)) ++ cons_option (as_str (view value)) []
+texts_more values i value within is =
+    let next : take (i + 1) values ≡ take i values ++ value ∷ [] =
+    take_more values i value within ∙ ap (λ v. take i values ++ v ∷ []) (sym is) in
+    rw next (strings_among-append (take i values) value)
+
+-- ---- names that are numbers
 
 pub none_below : (name : List ℕ) → is_number_below 0 name ≡ false
 unfolding is_number_below

@@ -5,21 +5,17 @@ use Rattle.std.specs.Str.{is_utf8}
 use Rattle.std.proofs.lemmas.Str.{IsUtf8-from_is_utf8, is_utf8-from_IsUtf8}
 use Rattle.luks_area.specs.declared.fault.HeaderFault.{HeaderFault}
 use Rattle.luks_area.specs.declared.fault.HeaderFault.TheVariants.{Json}
-use Rattle.luks2_json.specs.Tree.{has_objects, tree_of, value_of, tree_if_complete}
+use Rattle.luks2_json.specs.Tree.{has_objects, tree_of, value_of}
 use Rattle.serde_json.specs.Data.{Data}
 use Rattle.serde_json.specs.Read.{read}
-
--- the tree of a text that can be read is its value, if that has the objects
-tree_of-read : (text : List ℕ) (tree : Data) → IsUtf8 text → read text ≡ Some tree → tree_of text ≡ tree_if_complete
-    tree
-unfolding tree_of value_of
-tree_of-read text tree utf8 is = rw (is_utf8-from_IsUtf8 text utf8, is) refl
 
 -- a tree that is read is the tree of the text; if the answer is Json, the value lacks an object, and the text has none
 pub answer_of-read : (text : List ℕ) (tree : Data) (result : Result Data HeaderFault) → IsUtf8 text
     → read text ≡ Some tree → result ≡ (if has_objects tree then Ok tree else Err Json)
     → IfOk result (λ said. tree_of text ≡ Some said) × (result ≡ Err Json → tree_of text ≡ None)
-answer_of-read text tree result utf8 read is = of_test (has_objects tree) (tree_of-read text tree utf8 read) is
+unfolding tree_of value_of
+answer_of-read text tree result utf8 found is =
+    of_test (has_objects tree) (rw (is_utf8-from_IsUtf8 text utf8, found) refl) is
   where
     of_test : (has : Bool) → tree_of text ≡ (if has then Some tree else None)
         → result ≡ (if has then Ok tree else Err Json)

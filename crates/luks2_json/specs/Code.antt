@@ -1,38 +1,23 @@
 -- A code for JSON values, by which a proof distinguishes them: every value that a clause mentions needs one.
-use Rattle.std.specs.Prelude.{◌≡◌, ◌⊎◌, ℕ, ℤ, Float, refl}
-use Rattle.std.specs.Coded.{Coded, code_by, coded_ℕ, coded_ℤ, coded_bool, coded_list, coded⊎}
-use Rattle.std.proofs.Common.{ap, arith, inl, inr}
+use Rattle.std.specs.Prelude.{◌≡◌, refl}
+use Rattle.std.specs.Coded.{Coded, coded_ℕ, coded_ℤ, coded_bool, coded_list}
+use Rattle.std.proofs.Common.{ap, arith}
 use Rattle.serde_json.specs.Data.{Num, unsigned, negative, float, Data, null, boolean, number, string, array, object}
 use Rattle.serde_json.specs.Data.{Items, no_items, item, Members, no_members, member}
 use base.Stored.{Gv, gnil, gnum, gcons, coded_float, num}
 
--- ---- numbers
+-- ---- the code: the constructor's number, and its contents
 
-abbrev of_num : Num → ℕ ⊎ (ℤ ⊎ Float)
-of_num (unsigned n) = inl n
-of_num (negative z) = inr (inl z)
-of_num (float x) = inr (inr x)
-
-abbrev to_num : ℕ ⊎ (ℤ ⊎ Float) → Num
-to_num (inl n) = unsigned n
-to_num (inr (inl z)) = negative z
-to_num (inr (inr x)) = float x
-
-pub to_num-of_num : (n : Num) → to_num (of_num n) ≡ n
-to_num-of_num (unsigned n) = refl
-to_num-of_num (negative z) = refl
-to_num-of_num (float x) = refl
-
-abbrev num_code : Coded Num
-num_code = code_by (ℕ ⊎ (ℤ ⊎ Float)) (coded⊎ coded_ℕ (coded⊎ coded_ℤ coded_float)) of_num to_num to_num-of_num
-
--- ---- values: the constructor's number, and its contents
+abbrev code_of_number : Num → Gv
+code_of_number (unsigned n) = gcons (gnum 0) (coded_ℕ.code n)
+code_of_number (negative z) = gcons (gnum 1) (coded_ℤ.code z)
+code_of_number (float x) = gcons (gnum 2) (coded_float.code x)
 
 abbrev mutual
   code_of : Data → Gv
   code_of null = gcons (gnum 0) gnil
   code_of (boolean b) = gcons (gnum 1) (coded_bool.code b)
-  code_of (number n) = gcons (gnum 2) (num_code.code n)
+  code_of (number n) = gcons (gnum 2) (code_of_number n)
   code_of (string s) = gcons (gnum 3) ((coded_list coded_ℕ).code s)
   code_of (array values) = gcons (gnum 4) (items_code_of values)
   code_of (object members) = gcons (gnum 5) (members_code_of members)
@@ -59,11 +44,17 @@ cons_rest (gnum n) = gnil
 cons_rest (gcons a b) = b
 
 -- values with the same code are the same
+same_number : (x y : Num) → code_of_number x ≡ code_of_number y → x ≡ y
+same_number (unsigned a) (unsigned b) p = ap unsigned (coded_ℕ.inj a b (ap cons_rest p))
+same_number (negative a) (negative b) p = ap negative (coded_ℤ.inj a b (ap cons_rest p))
+same_number (float a) (float b) p = ap float (coded_float.inj a b (ap cons_rest p))
+same_number x y p = absurd (let differ = ap (λ (g : Gv). num (first g)) p in omega arith)
+
 mutual
   pub same_value : (x y : Data) → code_of x ≡ code_of y → x ≡ y
   same_value null null p = refl
   same_value (boolean a) (boolean b) p = ap boolean (coded_bool.inj a b (ap cons_rest p))
-  same_value (number a) (number b) p = ap number (num_code.inj a b (ap cons_rest p))
+  same_value (number a) (number b) p = ap number (same_number a b (ap cons_rest p))
   same_value (string a) (string b) p = ap string ((coded_list coded_ℕ).inj a b (ap cons_rest p))
   same_value (array a) (array b) p = ap array (same_items a b (ap cons_rest p))
   same_value (object a) (object b) p = ap object (same_members a b (ap cons_rest p))

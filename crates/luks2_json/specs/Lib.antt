@@ -1,7 +1,4 @@
 pub mod Code
-pub mod Derivation
-pub mod Encoded
-pub mod Encryption
 pub mod List
 pub mod Member
 pub mod Numbered

@@ -1,9 +1,9 @@
 -- Arrays of strings, as digests have them (LUKS2 On-Disk Format Specification 1.1, section 3, the digests object).
-use Rattle.std.specs.Prelude.{ℕ, ◌&&◌, ◌||◌, Bool, true, false, List, [], Option, bytes_eq, is_some, option_and_then}
-use Rattle.std.specs.Prelude.{option_map, unwrap_or}
+use Rattle.std.specs.Prelude.{ℕ, ◌&&◌, ◌||◌, Bool, true, false, List, [], bytes_eq, is_some, option_map, unwrap_or}
 use Rattle.std.specs.List.{cons_option}
+use Rattle.luks2_json.specs.Member.{in_member}
 use Rattle.serde_json.specs.Data.{Data, Items, no_items, item}
-use Rattle.serde_json.specs.Find.{as_array, as_str, get}
+use Rattle.serde_json.specs.Find.{as_array, as_str}
 
 -- all items of the array pass the test
 abbrev pub all_items : (Data → Bool) → Items → Bool
@@ -28,18 +28,15 @@ abbrev pub strings_among : Items → List (List ℕ)
 strings_among no_items = []
 strings_among (item value rest) = cons_option (as_str value) (strings_among rest)
 
--- the items of the array under this name
-abbrev pub array_at : List ℕ → Data → Option Items
-array_at name owner = option_and_then as_array (get name owner)
-
 -- there is an array under this name, and all its items are strings
 unfoldable pub has_strings : List ℕ → Data → Bool
-has_strings name owner = unwrap_or (option_map (all_items is_text) (array_at name owner)) false
+has_strings name owner = unwrap_or (option_map (all_items is_text) (in_member name as_array owner)) false
 
 -- there is an array under this name, and it contains the string
 unfoldable pub array_contains : List ℕ → List ℕ → Data → Bool
-array_contains name text owner = unwrap_or (option_map (any_item (is_the_string text)) (array_at name owner)) false
+array_contains name text owner =
+    unwrap_or (option_map (any_item (is_the_string text)) (in_member name as_array owner)) false
 
 -- the strings in the array under this name
 unfoldable pub strings_at : List ℕ → Data → List (List ℕ)
-strings_at name owner = unwrap_or (option_map strings_among (array_at name owner)) []
+strings_at name owner = unwrap_or (option_map strings_among (in_member name as_array owner)) []

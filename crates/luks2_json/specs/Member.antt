@@ -1,11 +1,16 @@
 -- The types of members (LUKS2 On-Disk Format Specification 1.1, section 3): each definition finds the value that an
 -- object has under a name, if it is present and of that type. JSON's null is a value like others: a member that is null
 -- is present, and is neither a number nor a string nor an object.
-use Rattle.std.specs.Prelude.{ℕ, ◌&&◌, ◌^◌, Bool, false, List, Option, Some, None, bytes_eq, codes, is_some, length}
-use Rattle.std.specs.Prelude.{nat_le, nat_lt, if◌then◌else◌, option_and_then, option_map, unwrap_or}
-use Rattle.std.specs.Char.{is_ascii_digit}
+use Rattle.std.specs.Prelude.{ℕ, ◌&&◌, ◌^◌, Bool, false, List, [], Option, Some, None, bytes_eq, codes, is_some, length}
+use Rattle.std.specs.Prelude.{nat_le, nat_lt, ◌==◌, ◌||◌, not, if◌then◌else◌, option_and_then, option_map, slice_index}
+use Rattle.std.specs.Prelude.{unwrap_or, drop, take}
+use Rattle.std.specs.Char.{is_ascii_alphanumeric, is_ascii_digit}
 use Rattle.std.specs.List.{list_all}
 use Rattle.std.specs.Str.Parse.{digits_value}
+use Rattle.luks_cipher.specs.Sector.{is_key_length, is_mode_key_length, mode_named}
+use Rattle.luks_cipher.specs.declared.mode.Mode.{Mode}
+use Rattle.luks_kdf.specs.Hash.{hash_named}
+use Rattle.luks_kdf.specs.declared.hash.Hash.{Hash}
 use Rattle.base64.specs.Engines.{standard}
 use Rattle.base64.specs.GeneralPurpose.{decoded_of}
 use Rattle.serde_json.specs.Data.{Data}
@@ -55,3 +60,48 @@ in_member name find owner = option_and_then find (get name owner)
 -- the member of this name is there and passes the test
 abbrev pub passes : List ℕ → (Data → Bool) → Data → Bool
 passes name test owner = unwrap_or (option_map test (get name owner)) false
+
+-- ---- the parameters of PBKDF2, which key slots and digests state alike
+
+-- the hash function that the object's member `hash` names, if it is known
+unfoldable pub hash_member : Data → Option Hash
+hash_member owner = option_and_then hash_named (string_member (codes "hash") owner)
+
+-- the iterations of PBKDF2 and its salt (0 and no bytes if they are missing)
+unfoldable pub iterations_in : Data → ℕ
+iterations_in owner = unwrap_or (integer_member (codes "iterations") owner) 0
+
+unfoldable pub salt_in : Data → List ℕ
+salt_in owner = unwrap_or (base64_member (codes "salt") owner) []
+
+-- ---- how sectors are encrypted: the cipher, which is AES, and its mode, in the notation of dm-crypt
+
+-- the mode that a string names after `aes-`, if that mode is known
+unfoldable pub encryption_mode : List ℕ → Option Mode
+encryption_mode encryption =
+    if bytes_eq (take 4 encryption) (codes "aes-") then mode_named (drop 4 encryption) else None
+
+-- a key of the mode can have this many bytes; if the mode is not known, a key of some mode can
+unfoldable pub is_length_for : Option Mode → ℕ → Bool
+is_length_for None bytes = is_key_length bytes
+is_length_for (Some mode) bytes = is_mode_key_length mode bytes
+
+-- ---- base64 in groups of four symbols (RFC 4648, section 4)
+
+-- the byte is a letter, a digit, a plus sign or a slash
+abbrev pub is_in_alphabet : ℕ → Bool
+is_in_alphabet byte = is_ascii_alphanumeric byte || (byte == 43 || byte == 47)
+
+-- the byte has a value in the standard alphabet
+unfoldable pub is_symbol : ℕ → Bool
+is_symbol byte = not (slice_index standard.decode_table byte == 255)
+
+-- each of the first four bytes has a value in the standard alphabet
+abbrev pub begins_with_group : List ℕ → Bool
+begins_with_group text =
+    is_symbol (slice_index text 0)
+    && (is_symbol (slice_index text 1) && (is_symbol (slice_index text 2) && is_symbol (slice_index text 3)))
+
+-- the number of bytes that the text encodes, if it encodes any
+abbrev pub encoded_len : List ℕ → Option ℕ
+encoded_len text = option_map (λ (bytes : List ℕ). length bytes) (decoded_of standard text)

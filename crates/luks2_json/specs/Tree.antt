@@ -19,10 +19,6 @@ has_objects tree = is_object_at (codes "keyslots") tree
     && is_object_at (codes "segments") tree
     && is_object_at (codes "digests") tree
 
--- the value, if it has the objects
-abbrev pub tree_if_complete : Data → Option Data
-tree_if_complete tree = if has_objects tree then Some tree else None
-
--- the tree of the text of a JSON area, if it can be read
+-- the tree of the text of a JSON area, if it can be read and has the objects
 unfoldable pub tree_of : List ℕ → Option Data
-tree_of text = option_and_then tree_if_complete (value_of text)
+tree_of text = option_and_then (λ tree. if has_objects tree then Some tree else None) (value_of text)

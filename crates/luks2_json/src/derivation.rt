@@ -1,8 +1,7 @@
 //! The parameters of PBKDF2. Key slots and digests state them alike.
 
 ghost use Rattle.std.specs.Prelude.{◌≡◌, [], IfOk, unwrap_or};
-ghost use Rattle.luks2_json.specs.Derivation.{hash_member, iterations_in, salt_in};
-ghost use Rattle.luks2_json.specs.Member.{base64_member};
+ghost use Rattle.luks2_json.specs.Member.{base64_member, hash_member, iterations_in, salt_in};
 ghost use Rattle.serde_json.specs.View.{view as data_of};
 
 use crate::member::{base64_member, integer_member, string_member};
@@ -12,7 +11,7 @@ use serde_json::Value;
 use std::alloc::{AllocError, Global};
 
 /// The hash function that the object's member `hash` names, if it is known.
-#[tactic(auto, unfolding(crate::specs::Derivation::hash_member))]
+#[tactic(auto, unfolding(crate::specs::Member::hash_member))]
 pub fn hash_member(object: &Value) -> Option<Hash>
     ensures { result ≡ hash_member (data_of object.now) }
 {
@@ -20,7 +19,7 @@ pub fn hash_member(object: &Value) -> Option<Hash>
 }
 
 /// The object's iterations of PBKDF2, or 0 if they are missing.
-#[tactic(auto, unfolding(crate::specs::Derivation::iterations_in))]
+#[tactic(auto, unfolding(crate::specs::Member::iterations_in))]
 pub fn iterations_in(object: &Value) -> u64
     ensures { result ≡ iterations_in (data_of object.now) }
 {
@@ -39,7 +38,7 @@ pub fn bytes_in(alloc: Global, object: &Value, name: &str) -> Result<HeaderBytes
 }
 
 /// The object's salt of PBKDF2, or no bytes if it is missing.
-#[tactic(auto, unfolding(crate::specs::Derivation::salt_in))]
+#[tactic(auto, unfolding(crate::specs::Member::salt_in))]
 pub fn salt_in(alloc: Global, object: &Value) -> Result<HeaderBytes, AllocError>
     ensures { IfOk result (λ salt. salt ≡ salt_in (data_of object.now)) }
 {

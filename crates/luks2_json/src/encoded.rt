@@ -1,8 +1,8 @@
 //! Bytes in base64: whether a text encodes bytes, and which.
 
 ghost use Rattle.std.specs.Prelude.{◌≡◌, ◌≤◌, IfOk, IfSome, length, option_map};
-ghost use Rattle.luks2_json.specs.Encoded.{begins_with_group, encoded_len, is_in_alphabet};
-ghost use Rattle.luks2_json.specs.Encoded.{is_symbol};
+ghost use Rattle.luks2_json.specs.Member.{begins_with_group, encoded_len, is_in_alphabet};
+ghost use Rattle.luks2_json.specs.Member.{is_symbol};
 ghost use Rattle.base64.specs.Engines.{standard};
 ghost use Rattle.base64.specs.GeneralPurpose.{decoded_of};
 

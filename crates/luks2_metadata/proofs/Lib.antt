@@ -1,3 +1,2 @@
-pub mod DigestLemmas
 pub mod SegmentLemmas
 pub mod SlotLemmas

@@ -1,34 +1,25 @@
 -- The segment of a header.
 use Rattle.std.proofs.Common.{◌≡◌, ◌∙◌, ◌≢◌, ◌≤◌, ℕ, true, false, List, [], ◌∷◌, Option, Some, None, Result, Ok, Err}
-use Rattle.std.proofs.Common.{Ordering, Less, Equal, Greater, String, Global, nat_cmp, is_eq, ap, subst, sym, refl}
-use Rattle.std.proofs.Common.{arith, length}
-use Rattle.std.specs.Prelude.{◌==◌, ◌%◌, ◌||◌, not, nat_lt, codes, is_none, option_map, if◌then◌else◌, string_bytes}
-use Rattle.std.specs.Cmp.Lexicographic.{slice_cmp}
-use Rattle.std.specs.Ordering.{match_ordering}
+use Rattle.std.proofs.Common.{String, Global, ap, subst, sym, refl, arith, length}
+use Rattle.std.specs.Prelude.{◌==◌, ◌%◌, ◌||◌, not, nat_lt, codes, is_none, option_map, if◌then◌else◌}
 use Rattle.std.specs.Result.{result_ok}
-use Rattle.std.proofs.lemmas.Map.Text.{is_eq-slice_cmp}
 use Rattle.std.proofs.lemmas.Bool.{ne_eqb}
-use Rattle.luks2_metadata.specs.Segment2.{are_none, fault2_of, has_requirement, is_empty_array, made2, offset_of}
-use Rattle.luks2_metadata.specs.Segment2.{only_member, payload2_start, payload_mode2_of, segment2_of, segment_faults}
-use Rattle.luks2_metadata.specs.Segment2.{segment_parts2_of, segment_value, overlaps_headers2, offset_is_wrong}
-use Rattle.luks2_metadata.specs.Segment2.{the_segment}
+use Rattle.luks2_metadata.specs.Segment2.{are_none, fault2_of, has_requirement, is_empty_array, iv_tweak_of, made2}
+use Rattle.luks2_metadata.specs.Segment2.{mode2_of, offset_of, only_member, payload2_start, payload_mode2_of}
+use Rattle.luks2_metadata.specs.Segment2.{sector_size_of, segment2_of, segment_faults, segment_parts2_of, segment_value}
+use Rattle.luks2_metadata.specs.Segment2.{size_member, overlaps_headers2, offset_is_wrong, the_segment}
 use Rattle.luks2_metadata.specs.declared.bounds.Bounds.{Bounds}
-use Rattle.luks_cipher.specs.declared.mode.Mode.{Mode}
-use Rattle.luks_verdict.proofs.MadeLemmas.{refused_or-fault, refused_or-none, refused_or-ok}
+use Rattle.luks_verdict.proofs.MadeLemmas.{parts_made, refused_or-fault, refused_or-none, refused_or-ok}
 use Rattle.luks_verdict.proofs.TableLemmas.{none_holds}
-use Rattle.luks_verdict.specs.Evidence.{evidence_if}
-use Rattle.luks_verdict.specs.SectorSize.{has_whole_sectors}
-use Rattle.luks_verdict.specs.Segment.{segment_by, segment_from, segment_of_all}
+use Rattle.luks_verdict.specs.Segment.{segment_from}
 use Rattle.luks_verdict.specs.Table.{first_match}
 use Rattle.luks_verdict.specs.declared.refusal.SegmentFault.{SegmentFault}
 use Rattle.luks_verdict.specs.declared.refusal.SegmentFault.TheVariants.{Requirement, Segments}
-use Rattle.luks_verdict.specs.declared.sector_size.SectorSize.{SectorSize as Sector}
 use Rattle.luks_verdict.specs.declared.segment.Segment.{Segment}
 use Rattle.std.proofs.lemmas.Bool.Decides.{nat_tests}
-use Rattle.std.proofs.lemmas.Option.{same_Some}
 use Rattle.serde_json.specs.Data.{Data, Members, object}
 use Rattle.serde_json.specs.Find.{as_array, as_object, get, get_member}
-use Rattle.serde_json.specs.View.{items_view, members_view, view}
+use Rattle.serde_json.specs.View.{items_view, members_view}
 use Rattle.serde_json.specs.declared.value.Value.{Value}
 
 -- ---- empty arrays
@@ -43,18 +34,10 @@ empty_viewed value values len is same = rw (← is, same) (none_viewed values)
 
 -- ---- the only member
 
-at_ordering : (order : Ordering) (value : Data)
-    → match_ordering order None (Some value) None ≡ (if is_eq order then Some value else None)
-at_ordering Less value = refl
-at_ordering Equal value = refl
-at_ordering Greater value = refl
-
 get_only : (name : List ℕ) (entries : List (String Global × Value)) → length entries ≡ 1
     → get_member name (members_view entries) ≡ only_member name (members_view entries)
 get_only name [] one = absurd (omega arith)
-get_only name (entry ∷ []) one =
-    at_ordering (slice_cmp nat_cmp name (string_bytes entry.0)) (view entry.1)
-    ∙ ap (λ same. if same then Some (view entry.1) else None) (is_eq-slice_cmp name (string_bytes entry.0))
+get_only name (entry ∷ []) one = refl
 get_only name (entry ∷ next ∷ rest) one = absurd (omega arith)
 
 none_only : (name : List ℕ) (entries : List (String Global × Value)) → length entries ≢ 1
@@ -119,22 +102,6 @@ said-there tree segment there = rw there refl
 
 -- ---- a segment that is not refused
 
-mapped : {A B : Type 0} (f : A → B) (o : Option A) (y : B) → option_map f o ≡ Some y → (x : A) × (f x ≡ y)
-mapped f (Some x) y is = (x, same_Some _ _ is)
-mapped f None y is = absurd cc
-
--- the segment that these parts make starts at the stated offset
-offset_made : (offset : Option ℕ) (size : Option (Option ℕ)) (iv_tweak : Option ℕ) (sector_size : Option Sector)
-    (mode : Option Mode) (segment : Segment) → segment_of_all offset size iv_tweak sector_size mode ≡ Some segment
-    → offset ≡ Some segment.offset
-unfolding segment_by
-offset_made (Some offset) (Some size) (Some iv_tweak) (Some sector_size) (Some mode) segment is =
-    let made = mapped (segment_by offset size iv_tweak sector_size mode)
-    (evidence_if (has_whole_sectors size sector_size))
-    segment is in
-    ap (λ (s : Segment). Some s.offset) made.1
-offset_made _ _ _ _ _ segment is = absurd cc
-
 -- with an attached header, a payload with a valid offset starts after the header
 starts_right : (bounds : Bounds) (offset : ℕ) → offset_is_wrong bounds (Some offset) ≡ false → bounds.detached ≡ false
     → bounds.end ≤ offset
@@ -142,16 +109,6 @@ unfolding offset_is_wrong overlaps_headers2
 starts_right bounds offset is attached =
     let right : (nat_lt offset bounds.end || not (offset % 512 == 0)) ≡ false = rw attached at is in
     grind (arith, nat_tests)
-
--- with an attached header, key areas are checked against the segment's offset
-payload_starts : (tree : Data) (bounds : Bounds) (segment : Segment) → segment2_of tree bounds ≡ Ok segment
-    → bounds.detached ≡ false → payload2_start tree bounds ≡ Some segment.offset
-unfolding payload2_start
-payload_starts tree bounds segment is attached =
-    let offset_in : Result Segment SegmentFault → Option ℕ =
-    λ read. option_map (λ (s : Segment). s.offset) (result_ok read) in
-    subst (λ detached. (if detached then None else offset_in (segment2_of tree bounds)) ≡ Some segment.offset)
-    (sym attached) (ap offset_in is)
 
 -- a segment that is not refused has the mode that key slots are checked against; with an attached header, it also has
 -- the offset that they are checked against, and starts after the header
@@ -164,13 +121,19 @@ pub segment2-ok : (tree : Data) (bounds : Bounds) (segment : Segment) → segmen
     → IsSegment2 tree bounds segment
 unfolding segment2_of payload2_start payload_mode2_of fault2_of segment_from segment_parts2_of
 segment2-ok tree bounds segment is =
+    let value = segment_value tree in
     let made = refused_or-ok _ _ (made2 tree bounds) segment is in
     let all = none_holds ((has_requirement tree, Requirement) ∷ (is_none (the_segment tree), Segments)
-    ∷ segment_faults bounds (segment_value tree)) made.0 in
-    let offset : offset_of (segment_value tree) ≡ Some segment.offset = offset_made _ _ _ _ _ segment made.1 in
-    let wrong : offset_is_wrong bounds (offset_of (segment_value tree)) ≡ false = all.1.1.1.1.1.1.1.0 in
+    ∷ segment_faults bounds value) made.0 in
+    let parts = parts_made (offset_of value) (size_member value) (iv_tweak_of value) (sector_size_of value)
+    (mode2_of value) segment made.1 in
+    let wrong : offset_is_wrong bounds (offset_of value) ≡ false = all.1.1.1.1.1.1.1.0 in
+    let offset_in : Result Segment SegmentFault → Option ℕ =
+    λ read. option_map (λ (s : Segment). s.offset) (result_ok read) in
     record {
-      start = payload_starts tree bounds segment is;
+      start = λ attached.
+          subst (λ detached. (if detached then None else offset_in (segment2_of tree bounds)) ≡ Some segment.offset)
+          (sym attached) (ap offset_in is);
       mode = rw is refl;
-      after_header = starts_right bounds segment.offset (subst (λ o. offset_is_wrong bounds o ≡ false) offset wrong);
+      after_header = starts_right bounds segment.offset (subst (λ o. offset_is_wrong bounds o ≡ false) parts.0 wrong);
     }

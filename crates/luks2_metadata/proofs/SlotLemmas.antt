@@ -1,16 +1,17 @@
--- Properties of a slot that there is no reason to skip.
-use Rattle.std.proofs.Common.{◌≡◌, ◌∙◌, ℕ, ◌+◌, ◌≤◌, sym, subst, refl, true, false, Option, Some, None, arith}
-use Rattle.std.specs.Prelude.{not, codes, is_none, option_map, option_and_then, unwrap_or}
+-- Properties of usable digests, and of a slot that there is no reason to skip.
+use Rattle.std.proofs.Common.{◌≡◌, ◌∙◌, ℕ, ◌<◌, ◌≤◌, ap, sym, subst, refl, true, false, Option, Some, None, arith}
+use Rattle.std.specs.Prelude.{not, codes, length, is_none, is_some, option_and_then, option_map, unwrap_or}
 use Rattle.std.proofs.lemmas.Bool.Decides.{nat_tests}
-use Rattle.std.proofs.lemmas.Bool.{and_parts, ltb-false, or_parts}
+use Rattle.std.proofs.lemmas.Bool.{and_parts, ltb-false, not-false, or_parts}
 use Rattle.std.proofs.lemmas.Option.{same_Some}
 use Rattle.luks_cipher.specs.declared.mode.Mode.{Mode}
 use Rattle.luks_cipher.proofs.ModeLemmas.{longest_mode_key}
-use Rattle.luks_verdict.specs.Digest.{has_no_usable_digest}
-use Rattle.luks_verdict.specs.Rule.{exceeds, iterations_out_of_range, is_in_range, area_out_of_range}
-use Rattle.luks_verdict.specs.Rule.{stripes_out_of_range, max_iteration_count, need_of}
-use Rattle.luks_verdict.specs.Slot.{are_in_range, material_end, verdict_kind_of, slot_of}
-use Rattle.luks_verdict.proofs.MadeLemmas.{slot_from-yes}
+use Rattle.luks_verdict.specs.Rule.{exceeds, in_range, iterations_out_of_range, is_in_range, area_out_of_range}
+use Rattle.luks_verdict.specs.Rule.{is_digest, stripes_out_of_range, max_iteration_count}
+use Rattle.luks_verdict.specs.Slot.{are_in_range, digest_of, has_no_usable_digest, material_end, parts_end, slot_of}
+use Rattle.luks_verdict.specs.Slot.{verdict_kind_of}
+use Rattle.luks_verdict.proofs.MadeLemmas.{digest_from-no, digest_from-yes, digest_there, mapped, of_usable}
+use Rattle.luks_verdict.proofs.MadeLemmas.{slot_from-yes, some_from_not_none}
 use Rattle.luks_verdict.specs.declared.digest.KeyDigest.{KeyDigest}
 use Rattle.luks_verdict.specs.declared.slot.Slot.{Slot}
 use Rattle.luks_verdict.specs.declared.slot.Verdict.TheVariants.{Usable}
@@ -18,19 +19,49 @@ use Rattle.luks_verdict.specs.declared.slot.VerdictKind.TheVariants.{Usable as K
 use Rattle.luks_kdf.specs.declared.hash.Hash.{Hash}
 use Rattle.luks_cipher.specs.Sector.{is_mode_key_length}
 use Rattle.luks2_json.specs.Numbered.{object_numbered}
+use Rattle.luks2_json.specs.Member.{is_length_for, iterations_in}
 use Rattle.luks_verdict.proofs.TableLemmas.{none_holds}
-use Rattle.luks_verdict.proofs.VerdictLemmas.{digest_there, of_usable, some_from_not_none, true_from_not}
-use Rattle.luks2_json.specs.Encryption.{is_length_for}
-use Rattle.luks2_metadata.specs.Digest2.{digest2_for}
+use Rattle.luks2_metadata.specs.Digest2.{digest2_for, digest2_of, digest_parts2_of, is_digest2, iterations_of_digest}
+use Rattle.luks2_metadata.specs.Digest2.{value_in}
 use Rattle.luks2_metadata.specs.declared.bounds.Bounds.{Bounds}
 use Rattle.luks2_metadata.specs.Segment2.{payload2_start, payload_mode2_of}
 use Rattle.luks2_metadata.specs.Slot2.{slot_reasons, af_hash_of, are_key_sizes, area_key_size_of, area_mode_of}
-use Rattle.luks2_metadata.specs.Slot2.{area_offset_of, area_size_of, area2_out_of_range, has_unknown_hash}
-use Rattle.luks2_metadata.specs.Slot2.{iterations_of_slot, kdf_hash_of, key_size_of, priority_of, reason2_of}
-use Rattle.luks2_metadata.specs.Slot2.{slot2_at, slot2_of, slot_parts2_of, stripe_count_of, verdict2_at, verdict2_of}
+use Rattle.luks2_metadata.specs.Slot2.{area_offset_of, area2_out_of_range, has_unknown_hash, iterations_of_slot}
+use Rattle.luks2_metadata.specs.Slot2.{kdf_hash_of, key_size_of, priority_of, reason2_of, slot2_at, slot2_of}
+use Rattle.luks2_metadata.specs.Slot2.{slot_parts2_of, stripe_count_of, verdict2_at, verdict2_of}
 use Rattle.serde_json.specs.Data.{Data}
 
--- ---- key lengths
+-- ---- usable digests
+
+-- a digest that lacks a member, has one of a wrong type or names an unknown hash function is not usable
+pub not_digest : (digest : Data) → is_digest2 digest ≡ false → digest2_of digest ≡ None
+unfolding digest2_of
+not_digest digest is = rw is refl
+
+-- a digest whose numbers are out of range is not usable
+pub out_of_range : (digest : Data) → is_digest2 digest ≡ true
+    → is_digest (iterations_in digest) (length (value_in digest)) ≡ false → digest2_of digest ≡ None
+unfolding digest2_of
+out_of_range digest is none = rw is (digest_from-no (digest_parts2_of digest) none)
+
+-- iterations that do not fit into four bytes are out of range
+pub too_many : (iterations len : ℕ) → max_iteration_count < iterations → is_digest iterations len ≡ false
+unfolding is_digest iterations_out_of_range
+too_many iterations len many = grind (arith, nat_tests)
+
+-- a digest whose numbers are in range is usable, and has the stated iterations
+pub digest_in_range : (digest : Data) → is_digest2 digest ≡ true
+    → is_digest (iterations_in digest) (length (value_in digest)) ≡ true
+    → option_map iterations_of_digest (digest2_of digest) ≡ Some (iterations_in digest)
+unfolding digest2_of digest_of
+digest_in_range digest is held = rw (is, digest_from-yes (digest_parts2_of digest) held) refl
+
+-- the iterations of a digest are there if it is
+pub same_some : (o : Option KeyDigest) → is_some (option_map iterations_of_digest o) ≡ is_some o
+same_some None = refl
+same_some (Some key) = refl
+
+-- ---- numbers of a slot that are in range
 
 key_length_few : (mode : Option Mode) (bytes : ℕ) → is_length_for mode bytes ≡ true → bytes ≤ 64
 unfolding is_length_for
@@ -48,46 +79,9 @@ pub stripes_few : (stripes : ℕ) → stripes_out_of_range stripes ≡ false →
 unfolding stripes_out_of_range
 stripes_few stripes is = grind (arith, nat_tests)
 
--- ---- absence of a reason to skip a slot: what follows from it
-
-pub record NoReason (tree : Data) (bounds : Bounds) (limit : Option ℕ) (number : ℕ) (slot : Data) : Type 0 where
-  pub hash : has_unknown_hash slot ≡ false
-  pub encryption : is_none (area_mode_of slot) ≡ false
-  pub key_size : not (are_key_sizes (payload_mode2_of tree bounds) slot) ≡ false
-  pub stripes : stripes_out_of_range (stripe_count_of slot) ≡ false
-  pub iterations : iterations_out_of_range limit (iterations_of_slot slot) ≡ false
-  pub area : area2_out_of_range bounds.end (payload2_start tree bounds) slot ≡ false
-  pub digest : has_no_usable_digest limit (digest2_for tree number) ≡ false
-
-pub no_reason : (tree : Data) (bounds : Bounds) (limit : Option ℕ) (number : ℕ) (slot : Data)
-    → reason2_of tree bounds limit number slot ≡ None → NoReason tree bounds limit number slot
-unfolding reason2_of
-no_reason tree bounds limit number slot none =
-    let all = none_holds (slot_reasons tree bounds limit number slot) none in
-    record {
-      hash = all.1.1.1.1.1.0;
-      encryption = all.1.1.1.1.1.1.0;
-      key_size = all.1.1.1.1.1.1.1.0;
-      stripes = all.1.1.1.1.1.1.1.1.0;
-      iterations = all.1.1.1.1.1.1.1.1.1.0;
-      area = all.1.1.1.1.1.1.1.1.1.1.0;
-      digest = all.1.1.1.1.1.1.1.1.1.1.1.0;
-    }
-
--- if there is no reason to skip a slot, its numbers are in range
-pub range_of : (tree : Data) (bounds : Bounds) (limit : Option ℕ) (number : ℕ) (slot : Data)
-    → NoReason tree bounds limit number slot → are_in_range (slot_parts2_of slot) ≡ true
-unfolding is_in_range iterations_out_of_range stripes_out_of_range slot_parts2_of area2_out_of_range area_out_of_range
-range_of tree bounds limit number slot none =
-    let area = none.area in
-    let stripes = none.stripes in
-    let iterations = none.iterations in
-    grind (arith, nat_tests)
-
 -- a reason that does not hold with a limit does not hold without one
-iterations_in_range_without_limit : (limit : Option ℕ) (iterations : ℕ) → iterations_out_of_range limit iterations ≡
-    false
-    → iterations_out_of_range None iterations ≡ false
+iterations_in_range_without_limit : (limit : Option ℕ) (iterations : ℕ)
+    → iterations_out_of_range limit iterations ≡ false → iterations_out_of_range None iterations ≡ false
 unfolding iterations_out_of_range
 iterations_in_range_without_limit limit iterations is = grind (arith, nat_tests)
 
@@ -97,46 +91,23 @@ unfolding has_no_usable_digest
 usable_digest_without_limit limit None is = is
 usable_digest_without_limit limit (Some digest) is = iterations_in_range_without_limit limit digest.iterations is
 
-no_reason_none : (tree : Data) (bounds : Bounds) (limit : Option ℕ) (number : ℕ) (slot : Data)
-    → reason2_of tree bounds limit number slot ≡ None → reason2_of tree bounds None number slot ≡ None
-unfolding reason2_of
-no_reason_none tree bounds limit number slot none =
-    let all = none_holds (slot_reasons tree bounds limit number slot) none in
-    let no = no_reason tree bounds limit number slot none in
-    rw (
-      all.0,
-      all.1.0,
-      all.1.1.0,
-      all.1.1.1.0,
-      all.1.1.1.1.0,
-      no.hash,
-      no.encryption,
-      no.key_size,
-      no.stripes,
-      iterations_in_range_without_limit limit (iterations_of_slot slot) no.iterations,
-      no.area,
-      usable_digest_without_limit limit (digest2_for tree number) no.digest,
-    ) refl
+known_area : (mode : Option Mode) (bytes : ℕ) → is_none mode ≡ false → is_length_for mode bytes ≡ true
+    → (known : Mode) × (mode ≡ Some known) × (is_mode_key_length known bytes ≡ true)
+unfolding is_length_for
+known_area None bytes none is = absurd cc
+known_area (Some mode) bytes none is = (mode, refl, is)
 
--- if there is no reason to skip a slot, there is what is needed to open it
-pub slot_there : (tree : Data) (bounds : Bounds) (limit : Option ℕ) (number : ℕ) (slot : Data)
-    → reason2_of tree bounds limit number slot ≡ None
-    → (is : are_in_range (slot_parts2_of slot) ≡ true)
-    × (slot2_of tree bounds number slot ≡ Some (slot_of (slot_parts2_of slot) is))
-unfolding slot2_of
-slot_there tree bounds limit number slot none =
-    let no = no_reason tree bounds limit number slot none in
-    let is = range_of tree bounds limit number slot no in
-    (is, rw (no_reason_none tree bounds limit number slot none) (slot_from-yes (slot_parts2_of slot) is))
+-- ---- what follows if there is no reason to skip a slot
 
--- the verdict on such a slot, without what is needed to open it
-pub usable_verdict : (tree : Data) (bounds : Bounds) (limit : Option ℕ) (number : ℕ) (slot : Data)
-    → reason2_of tree bounds limit number slot ≡ None
-    → verdict_kind_of (verdict2_of tree bounds limit number slot) ≡ KindUsable (unwrap_or (priority_of slot) 0)
-unfolding verdict2_of slot_of slot_parts2_of
-usable_verdict tree bounds limit number slot none =
-    let there = slot_there tree bounds limit number slot none in
-    rw (none, there.1) refl
+-- none of these reasons holds
+pub record NoReason (tree : Data) (bounds : Bounds) (limit : Option ℕ) (number : ℕ) (slot : Data) : Type 0 where
+  pub hash : has_unknown_hash slot ≡ false
+  pub encryption : is_none (area_mode_of slot) ≡ false
+  pub key_size : not (are_key_sizes (payload_mode2_of tree bounds) slot) ≡ false
+  pub stripes : stripes_out_of_range (stripe_count_of slot) ≡ false
+  pub iterations : iterations_out_of_range limit (iterations_of_slot slot) ≡ false
+  pub area : area2_out_of_range bounds.end (payload2_start tree bounds) slot ≡ false
+  pub digest : has_no_usable_digest limit (digest2_for tree number) ≡ false
 
 -- a slot's iterations, its stripes and the lengths of its keys fit into four bytes
 pub record IsSmall (slot : Data) : Type 0 where
@@ -144,26 +115,6 @@ pub record IsSmall (slot : Data) : Type 0 where
   pub stripes : stripe_count_of slot ≤ 4000
   pub key : key_size_of slot ≤ 64
   pub area_key : area_key_size_of slot ≤ 64
-
-iterations_few : (limit : Option ℕ) (iterations : ℕ) → iterations_out_of_range limit iterations ≡ false
-    → iterations ≤ max_iteration_count
-unfolding iterations_out_of_range
-iterations_few limit iterations is = grind (arith, nat_tests)
-
-pub small_of : (tree : Data) (bounds : Bounds) (number : ℕ) (slot : Data)
-    → reason2_of tree bounds None number slot ≡ None → IsSmall slot
-small_of tree bounds number slot none =
-    let no = no_reason tree bounds None number slot none in
-    let keys = key_sizes_few (payload_mode2_of tree bounds) slot
-    (true_from_not (are_key_sizes (payload_mode2_of tree bounds) slot) no.key_size) in
-    record {
-      iterations = iterations_few None (iterations_of_slot slot) no.iterations;
-      stripes = stripes_few (stripe_count_of slot) no.stripes;
-      key = keys.1;
-      area_key = keys.0;
-    }
-
--- ---- properties of a usable slot
 
 -- what is needed to open the slot agrees with the header: its hash functions and its area's mode are known, its keys
 -- have valid lengths for their modes, its key material is after the header and before the payload, and there is a
@@ -178,61 +129,108 @@ pub record IsOf2 (tree : Data) (bounds : Bounds) (number : ℕ) (usable : Slot) 
   pub before_payload : exceeds (payload2_start tree bounds) (material_end usable) ≡ false
   pub digest : (digest : KeyDigest) × (digest2_for tree number ≡ Some digest)
 
-known_hashes : (slot : Data) → has_unknown_hash slot ≡ false
-    → ((hash : Hash) × (kdf_hash_of slot ≡ Some hash)) × ((hash : Hash) × (af_hash_of slot ≡ Some hash))
-unfolding has_unknown_hash
-known_hashes slot is =
-    let none = or_parts _ _ is in
-    (some_from_not_none (kdf_hash_of slot) none.0, some_from_not_none (af_hash_of slot) none.1)
+module _ (tree : Data) (bounds : Bounds) (limit : Option ℕ) (number : ℕ) (slot : Data) where
+  pub no_reason : reason2_of tree bounds limit number slot ≡ None → NoReason tree bounds limit number slot
+  unfolding reason2_of
+  no_reason none =
+      let all = none_holds (slot_reasons tree bounds limit number slot) none in
+      record {
+        hash = all.1.1.1.1.1.0;
+        encryption = all.1.1.1.1.1.1.0;
+        key_size = all.1.1.1.1.1.1.1.0;
+        stripes = all.1.1.1.1.1.1.1.1.0;
+        iterations = all.1.1.1.1.1.1.1.1.1.0;
+        area = all.1.1.1.1.1.1.1.1.1.1.0;
+        digest = all.1.1.1.1.1.1.1.1.1.1.1.0;
+      }
 
-known_area : (mode : Option Mode) (bytes : ℕ) → is_none mode ≡ false → is_length_for mode bytes ≡ true
-    → (known : Mode) × (mode ≡ Some known) × (is_mode_key_length known bytes ≡ true)
-unfolding is_length_for
-known_area None bytes none is = absurd cc
-known_area (Some mode) bytes none is = (mode, refl, is)
+  -- its numbers are in range
+  pub range_of : NoReason tree bounds limit number slot → are_in_range (slot_parts2_of slot) ≡ true
+  unfolding is_in_range iterations_out_of_range stripes_out_of_range slot_parts2_of area2_out_of_range area_out_of_range
+  range_of none =
+      let area = none.area in
+      let stripes = none.stripes in
+      let iterations = none.iterations in
+      grind (arith, nat_tests)
 
-area_in_range_bounds : (start : ℕ) (payload : Option ℕ) (offset size need : ℕ)
-    → area_out_of_range start payload offset size need ≡ false
-    → (start ≤ offset) × (exceeds payload (offset + need) ≡ false)
-unfolding area_out_of_range
-area_in_range_bounds start payload offset size need is =
-    let past = or_parts _ _ is in
-    let before = or_parts _ _ past.0 in
-    let capacity = or_parts _ _ before.0 in
-    (ltb-false offset start capacity.0, before.1)
+  no_reason_none : reason2_of tree bounds limit number slot ≡ None → reason2_of tree bounds None number slot ≡ None
+  unfolding reason2_of
+  no_reason_none none =
+      let all = none_holds (slot_reasons tree bounds limit number slot) none in
+      let no = no_reason none in
+      rw (
+        all.0,
+        all.1.0,
+        all.1.1.0,
+        all.1.1.1.0,
+        all.1.1.1.1.0,
+        no.hash,
+        no.encryption,
+        no.key_size,
+        no.stripes,
+        iterations_in_range_without_limit limit (iterations_of_slot slot) no.iterations,
+        no.area,
+        usable_digest_without_limit limit (digest2_for tree number) no.digest,
+      ) refl
 
-usable_is : (tree : Data) (bounds : Bounds) (limit : Option ℕ) (number : ℕ) (slot : Data) (usable : Slot)
-    → verdict2_of tree bounds limit number slot ≡ Usable usable
-    → IsOf2 tree bounds number usable × (slot2_of tree bounds number slot ≡ Some usable)
-unfolding verdict2_of slot_of slot_parts2_of are_key_sizes area2_out_of_range
-usable_is tree bounds limit number slot usable is =
-    let verdict = of_usable (reason2_of tree bounds limit number slot) (slot2_of tree bounds number slot) usable is in
-    let no = no_reason tree bounds limit number slot verdict.0 in
-    let there = slot_there tree bounds limit number slot verdict.0 in
-    let same : usable ≡ slot_of (slot_parts2_of slot) there.0 = same_Some _ _ (sym verdict.1 ∙ there.1) in
-    let hashes = known_hashes slot no.hash in
-    let sizes = and_parts _ _ (true_from_not _ no.key_size) in
-    let place = area_in_range_bounds bounds.end (payload2_start tree bounds) (area_offset_of slot) (area_size_of slot)
-    (need_of (key_size_of slot) (stripe_count_of slot)) no.area in
-    let known : IsOf2 tree bounds number (slot_of (slot_parts2_of slot) there.0) = record {
-      kdf = hashes.0;
-      af = hashes.1;
-      area = known_area (area_mode_of slot) (area_key_size_of slot) no.encryption sizes.0;
-      volume_key = sizes.1;
-      after_header = place.0;
-      before_payload = place.1;
-      digest = digest_there limit (digest2_for tree number) no.digest;
-    } in
-    (subst (IsOf2 tree bounds number) (sym same) known, verdict.1)
+  -- there is what is needed to open it
+  pub slot_there : reason2_of tree bounds limit number slot ≡ None
+      → (is : are_in_range (slot_parts2_of slot) ≡ true)
+      × (slot2_of tree bounds number slot ≡ Some (slot_of (slot_parts2_of slot) is))
+  unfolding slot2_of
+  slot_there none =
+      let is = range_of (no_reason none) in
+      (is, rw (no_reason_none none) (slot_from-yes (slot_parts2_of slot) is))
+
+  -- the verdict on it, without what is needed to open it
+  pub usable_verdict : reason2_of tree bounds limit number slot ≡ None
+      → verdict_kind_of (verdict2_of tree bounds limit number slot) ≡ KindUsable (unwrap_or (priority_of slot) 0)
+  unfolding verdict2_of slot_of slot_parts2_of
+  usable_verdict none =
+      let there = slot_there none in
+      rw (none, there.1) refl
+
+  pub small_of : reason2_of tree bounds limit number slot ≡ None → IsSmall slot
+  unfolding slot_parts2_of
+  small_of none =
+      let no = no_reason none in
+      let range = in_range (iterations_of_slot slot) (stripe_count_of slot) (parts_end (slot_parts2_of slot))
+      (range_of no) in
+      let keys = key_sizes_few (payload_mode2_of tree bounds) slot (not-false _ no.key_size) in
+      record { iterations = range.few_iterations; stripes = range.few_stripes; key = keys.1; area_key = keys.0 }
+
+  -- if the verdict is that the slot can be tried, this is what is needed to open it, and it agrees with the header
+  usable_is : (usable : Slot) → verdict2_of tree bounds limit number slot ≡ Usable usable
+      → IsOf2 tree bounds number usable × (slot2_of tree bounds number slot ≡ Some usable)
+  unfolding verdict2_of slot_of slot_parts2_of has_unknown_hash are_key_sizes area2_out_of_range area_out_of_range
+  usable_is usable is =
+      let verdict = of_usable (reason2_of tree bounds limit number slot) (slot2_of tree bounds number slot) usable is in
+      let no = no_reason verdict.0 in
+      let there = slot_there verdict.0 in
+      let same : usable ≡ slot_of (slot_parts2_of slot) there.0 = same_Some _ _ (sym verdict.1 ∙ there.1) in
+      let hashes = or_parts _ _ no.hash in
+      let sizes = and_parts _ _ (not-false _ no.key_size) in
+      let past = or_parts _ _ no.area in
+      let before = or_parts _ _ past.0 in
+      let capacity = or_parts _ _ before.0 in
+      let known : IsOf2 tree bounds number (slot_of (slot_parts2_of slot) there.0) = record {
+        kdf = some_from_not_none (kdf_hash_of slot) hashes.0;
+        af = some_from_not_none (af_hash_of slot) hashes.1;
+        area = known_area (area_mode_of slot) (area_key_size_of slot) no.encryption sizes.0;
+        volume_key = sizes.1;
+        after_header = ltb-false (area_offset_of slot) bounds.end capacity.0;
+        before_payload = before.1;
+        digest = digest_there limit (digest2_for tree number) no.digest;
+      } in
+      (subst (IsOf2 tree bounds number) (sym same) known, verdict.1)
 
 -- the same for the slot with a number
 pub usable2_at : (tree : Data) (bounds : Bounds) (limit : Option ℕ) (number : ℕ) (usable : Slot)
     → verdict2_at tree bounds limit number ≡ Some (Usable usable)
     → IsOf2 tree bounds number usable × (slot2_at tree bounds number ≡ Some usable)
 unfolding verdict2_at slot2_at
-usable2_at tree bounds limit number usable is = of_slot (object_numbered (codes "keyslots") tree number) is
-  where
-    of_slot : (slot : Option Data) → option_map (verdict2_of tree bounds limit number) slot ≡ Some (Usable usable)
-        → IsOf2 tree bounds number usable × (option_and_then (slot2_of tree bounds number) slot ≡ Some usable)
-    of_slot None h = absurd cc
-    of_slot (Some slot) h = usable_is tree bounds limit number slot usable (same_Some _ _ h)
+usable2_at tree bounds limit number usable is =
+    let slot = mapped (verdict2_of tree bounds limit number) (object_numbered (codes "keyslots") tree number)
+    (Usable usable) is in
+    let known = usable_is tree bounds limit number slot.0 usable slot.2 in
+    (known.0, ap (option_and_then (slot2_of tree bounds number)) slot.1 ∙ known.1)

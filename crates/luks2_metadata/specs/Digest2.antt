@@ -1,14 +1,13 @@
 -- The digests of LUKS2 (LUKS2 On-Disk Format Specification 1.1, section 3, the digests object).
 use Rattle.std.specs.Prelude.{ℕ, ◌&&◌, Bool, List, [], Option, None, codes, decimal, is_some, if◌then◌else◌}
 use Rattle.std.specs.Prelude.{option_and_then, option_map, unwrap_or}
-use Rattle.luks_verdict.specs.Digest.{digest_from}
+use Rattle.luks_verdict.specs.Slot.{digest_from}
 use Rattle.luks_verdict.specs.Rule.{max_slots}
 use Rattle.luks_verdict.specs.Table.{ascending}
 use Rattle.luks_verdict.specs.declared.digest.DigestParts.{DigestParts}
 use Rattle.luks_verdict.specs.declared.digest.KeyDigest.{KeyDigest}
-use Rattle.luks2_json.specs.Derivation.{hash_member, iterations_in, salt_in}
 use Rattle.luks2_json.specs.List.{has_strings, array_contains, strings_at}
-use Rattle.luks2_json.specs.Member.{base64_member, is_type, integer_member}
+use Rattle.luks2_json.specs.Member.{base64_member, hash_member, integer_member, is_type, iterations_in, salt_in}
 use Rattle.luks2_json.specs.Numbered.{lowest, object_numbered}
 use Rattle.luks2_metadata.specs.declared.digest.Digest.{Digest}
 use Rattle.serde_json.specs.Data.{Data}

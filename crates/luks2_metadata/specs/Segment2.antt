@@ -1,12 +1,11 @@
 -- Where the payload of LUKS2 is, or why it cannot be read (LUKS2 On-Disk Format Specification 1.1, section 3, the
 -- segments object and the config object).
 use Rattle.std.specs.Prelude.{◌≡◌, ◌≢◌, ℕ, ◌%◌, ◌==◌, ◌&&◌, ◌||◌, not, nat_lt, Bool, true, false, List, [], ◌∷◌}
-use Rattle.std.specs.Prelude.{Option, Some, None, Result, bytes_eq, codes, is_none, is_some, if◌then◌else◌}
+use Rattle.std.specs.Prelude.{Option, Some, None, Result, codes, is_none, is_some, if◌then◌else◌}
 use Rattle.std.specs.Prelude.{option_and_then, option_map, unwrap_or}
 use Rattle.std.specs.Result.{result_ok}
-use Rattle.std.proofs.lemmas.Bool.{and_parts}
 use Rattle.luks_cipher.specs.declared.mode.Mode.{Mode}
-use Rattle.luks_verdict.specs.Evidence.{evidence_if}
+use Rattle.luks_verdict.specs.Rule.{evidence_if}
 use Rattle.luks_verdict.specs.SectorSize.{has_whole_sectors}
 use Rattle.luks_verdict.specs.Segment.{refused_or, segment_by, segment_from, segment_of_all}
 use Rattle.luks_verdict.specs.Table.{first_match}
@@ -20,9 +19,9 @@ use Rattle.luks_verdict.specs.declared.segment.Segment.{Segment}
 use Rattle.luks_verdict.specs.declared.segment.SegmentParts.{SegmentParts}
 use Rattle.luks2_metadata.specs.declared.bounds.Bounds.{Bounds}
 use Rattle.luks2_json.specs.Member.{decimal_member, has, string_is, is_type, string_member, integer_member, in_member}
-use Rattle.luks2_json.specs.Encryption.{encryption_mode}
+use Rattle.luks2_json.specs.Member.{encryption_mode}
 use Rattle.serde_json.specs.Data.{Data, null, Items, no_items, item, Members, no_members, member}
-use Rattle.serde_json.specs.Find.{as_array, as_object, get}
+use Rattle.serde_json.specs.Find.{as_array, as_object, get, get_member}
 
 -- ---- requirements
 
@@ -55,7 +54,7 @@ has_requirement tree =
 -- the only member, if it has this name
 abbrev pub only_member : List ℕ → Members → Option Data
 only_member name no_members = None
-only_member name (member found value no_members) = if bytes_eq name found then Some value else None
+only_member name (member found value no_members) = get_member name (member found value no_members)
 only_member name (member _ _ (member _ _ _)) = None
 
 -- the segment, if there is exactly one and it is named 0
@@ -165,13 +164,14 @@ made_of_test false make holds none = cc
 
 -- parts that are all present make a segment, if its length is whole sectors or not fixed
 made_of_parts : (offset : Option ℕ) (size : Option (Option ℕ)) (iv_tweak : Option ℕ) (sector_size : Option Sector)
-    (mode : Option Mode) → is_some offset ≡ true → is_some size ≡ true → is_some iv_tweak ≡ true
+    (mode : Option Mode) (encryption sized : Bool)
+    → (is_some offset && is_some size && is_some iv_tweak && encryption && sized) ≡ true
     → is_none sector_size ≡ false → is_none mode ≡ false → size_is_wrong size sector_size ≡ false
     → segment_of_all offset size iv_tweak sector_size mode ≢ None
 unfolding size_is_wrong
-made_of_parts (Some offset) (Some size) (Some iv_tweak) (Some sector_size) (Some mode) o s i z m whole =
+made_of_parts (Some offset) (Some size) (Some iv_tweak) (Some sector_size) (Some mode) _ _ members z m whole =
     made_of_test (has_whole_sectors size sector_size) (segment_by offset size iv_tweak sector_size mode) whole
-made_of_parts _ _ _ _ _ o s i z m whole = absurd cc
+made_of_parts _ _ _ _ _ _ _ members z m whole = absurd cc
 
 -- a valid segment of type crypt has its members
 members_there : (typed crypt members : Bool) → not (typed && (not crypt || members)) ≡ false → not crypt ≡ false
@@ -189,12 +189,8 @@ made2 tree bounds no_fault =
     ∷ segment_faults bounds segment) no_fault in
     let lines = all.1.1 in
     let members = members_there _ _ _ lines.0 lines.1.0 in
-    let whole = and_parts _ _ members in
-    let encryption = and_parts _ _ whole.0 in
-    let iv_tweak = and_parts _ _ encryption.0 in
-    let size = and_parts _ _ iv_tweak.0 in
     made_of_parts (offset_of segment) (size_member segment) (iv_tweak_of segment) (sector_size_of segment)
-    (mode2_of segment) size.0 size.1 iv_tweak.1 lines.1.1.1.1.0 lines.1.1.1.0 lines.1.1.1.1.1.1.0
+    (mode2_of segment) _ _ members lines.1.1.1.1.0 lines.1.1.1.0 lines.1.1.1.1.1.1.0
 
 -- ---- the segment
 

@@ -3,9 +3,8 @@ use Rattle.std.specs.Prelude.{ℕ, ◌&&◌, ◌||◌, not, nat_le, Bool, List, 
 use Rattle.std.specs.Prelude.{is_some, if◌then◌else◌, option_and_then, option_map, unwrap_or}
 use Rattle.luks_cipher.specs.declared.mode.Mode.{Mode}
 use Rattle.luks_kdf.specs.declared.hash.Hash.{Hash}
-use Rattle.luks_verdict.specs.Digest.{has_no_usable_digest}
 use Rattle.luks_verdict.specs.Rule.{iterations_out_of_range, area_out_of_range, stripes_out_of_range, need_of}
-use Rattle.luks_verdict.specs.Slot.{verdict_by, slot_from}
+use Rattle.luks_verdict.specs.Slot.{has_no_usable_digest, slot_from, verdict_by}
 use Rattle.luks_verdict.specs.Table.{first_match}
 use Rattle.luks_verdict.specs.declared.refusal.SkipReason.{SkipReason}
 use Rattle.luks_verdict.specs.declared.refusal.SkipReason.TheVariants.{Kind, Member, Argon2i, Argon2id, Kdf}
@@ -15,10 +14,8 @@ use Rattle.luks_verdict.specs.declared.slot.Slot.{Slot}
 use Rattle.luks_verdict.specs.declared.slot.SlotParts.{SlotParts}
 use Rattle.luks_verdict.specs.declared.slot.Verdict.{Verdict}
 use Rattle.luks2_json.specs.Member.{base64_member, decimal_member, is_type, passes, string_member, integer_member}
-use Rattle.luks2_json.specs.Member.{in_member}
-use Rattle.luks2_json.specs.Derivation.{hash_member, iterations_in, salt_in}
+use Rattle.luks2_json.specs.Member.{in_member, hash_member, iterations_in, salt_in, is_length_for, encryption_mode}
 use Rattle.luks2_metadata.specs.Digest2.{digest2_for}
-use Rattle.luks2_json.specs.Encryption.{is_length_for, encryption_mode}
 use Rattle.luks2_json.specs.Numbered.{object_numbered}
 use Rattle.luks2_metadata.specs.declared.bounds.Bounds.{Bounds}
 use Rattle.luks2_metadata.specs.Segment2.{payload2_start, payload_mode2_of}

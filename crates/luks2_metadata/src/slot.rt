@@ -1,9 +1,8 @@
 //! The verdicts on the key slots of a header.
 
 ghost use Rattle.std.specs.Prelude.{◌≡◌, ◌≤◌, IfOk, option_map};
-ghost use Rattle.luks_verdict.specs.Digest.{has_no_usable_digest};
 ghost use Rattle.luks_verdict.specs.Rule.{max_iteration_count};
-ghost use Rattle.luks_verdict.specs.Slot.{verdict_kind_of};
+ghost use Rattle.luks_verdict.specs.Slot.{has_no_usable_digest, verdict_kind_of};
 ghost use Rattle.luks2_metadata.specs.Digest2.{digest2_for};
 ghost use Rattle.luks2_metadata.specs.Slot2.{af_hash_of, are_key_sizes, area_key_size_of};
 ghost use Rattle.luks2_metadata.specs.Slot2.{area_mode_of, area_offset_of, area_size_of};
@@ -167,7 +166,7 @@ fn area2_out_of_range(header_end: u64, payload: Option<u64>, slot: &Value) -> bo
 }
 
 // There is no usable digest for the slot with this number, or its iterations are out of range.
-#[tactic(auto, unfolding(luks_verdict::specs::Digest::has_no_usable_digest))]
+#[tactic(auto, unfolding(luks_verdict::specs::Slot::has_no_usable_digest))]
 fn has_no_usable_digest(tree: &Value, limit: Option<u32>, number: u8) -> bool
     ensures { result ≡ has_no_usable_digest limit (digest2_for (data_of tree.now) number) }
 {

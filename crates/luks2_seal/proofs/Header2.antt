@@ -2,7 +2,6 @@
 use Rattle.std.proofs.Common.{◌≡◌, ◌≢◌, ◌∙◌, ◌+◌, ◌-◌, ◌≤◌, ◌==◌, ℕ, true, List, [], ◌∷◌, ◌++◌, Some, length, take}
 use Rattle.std.proofs.Common.{drop, ap, arith, refl, sym, append_assoc, append-nil, length-append, ◌||◌, codes, le-leb}
 use Rattle.std.specs.Int.{to_be_bytes, w64}
-use Rattle.std.specs.List.{list_any}
 use Rattle.std.proofs.lemmas.Bool.{eq-eqb, ne_eqb, or_right}
 use Rattle.std.proofs.lemmas.List.{drop_at, take_at}
 use Rattle.std.proofs.lemmas.Nat.{from_be_bytes-to_be_bytes_8}
@@ -13,15 +12,14 @@ use Rattle.luks_kdf.specs.declared.hash.Hash.TheVariants.{Sha256}
 use Rattle.luks_kdf.proofs.HashLemmas.{length-hash_of}
 use Rattle.luks2_binary.specs.Checksum2.{checksum_matches, no_checksum, without_checksum}
 use Rattle.luks2_binary.specs.Choice2.{beginning_at, is_binary_of, binary_at, fits as has_binary, is_valid, size_at}
-use Rattle.luks2_binary.specs.Header2.{checksum_hash_in, hdr_offset_in, sequence_in, size_in, sizes}
+use Rattle.luks2_binary.specs.Header2.{checksum_hash_in, hdr_offset_in, sequence_in, size_in}
 use Rattle.luks_seal.specs.Pieces.{padded}
 use Rattle.luks_seal.proofs.FieldLemmas.{Part, part, at_at, at_inside, length-padded, padded_begins, AreParts}
 use Rattle.luks_seal.proofs.FieldLemmas.{are_parts}
 use Rattle.luks2_seal.specs.Layout2.{fields_end_bytes, fields_of, header2_bytes, middle_of, primary_magic, body_bytes}
-use Rattle.luks2_seal.specs.Layout2.{secondary_magic, start_of}
-use Rattle.luks2_seal.specs.Metadata2.{FitsJson, json_of}
+use Rattle.luks2_seal.specs.Layout2.{secondary_magic, start_of, FitsJson, json_of}
 use Rattle.luks2_seal.specs.Ranges2.{AreParameters2, is_header_size, Seal2}
-use Rattle.luks2_seal.proofs.RangeLemmas.{long_header, short_header}
+use Rattle.luks2_seal.proofs.Bounds.{long_header, short_header}
 
 -- the first 24 bytes of a header have its offset's magic, its size and its sequence number; the offset is 0 or the size
 pub record IsStart (p : Seal2) (magic : List ℕ) (place : ℕ) : Type 0 where
@@ -59,23 +57,23 @@ pub record IsReadAt (p : Seal2) (place : ℕ) (image : List ℕ) : Type 0 where
   pub valid : is_valid image place ≡ true
   pub json : at (place + 4096) (p.hdr_size - 4096) image ≡ padded (p.hdr_size - 4096) (json_of p)
 
--- the checksum of a header
-abbrev header_checksum : Seal2 → List ℕ → List ℕ → ℕ → List ℕ
-header_checksum p magic salt place = hash_of Sha256 (fields_of p magic salt place ++ padded 64 [] ++ body_bytes p)
-
 -- the checksum's field is replaced by other bytes
 zeroed_of : (prefix sum rest zeros : List ℕ) → length prefix ≡ 448 → length sum ≡ 64
     → take 448 (prefix ++ sum ++ rest) ++ zeros ++ drop 512 (prefix ++ sum ++ rest) ≡ prefix ++ zeros ++ rest
 zeroed_of prefix sum rest zeros long filled =
-    let first : take 448 (prefix ++ sum ++ rest) ≡ prefix =
-    ap (take 448) (append_assoc prefix sum rest) ∙ take_at prefix (sum ++ rest) 448 long in
-    let last : drop 512 (prefix ++ sum ++ rest) ≡ rest =
-    drop_at (prefix ++ sum) rest 512 (omega (arith, length-append prefix sum, long, filled)) in
+    let first = ap (take 448) (append_assoc prefix sum rest) ∙ take_at prefix (sum ++ rest) 448 long in
+    let last = drop_at (prefix ++ sum) rest 512 (omega (arith, length-append prefix sum, long, filled)) in
     rw (first, last) refl
 
 module _ (p : Seal2) (fits : AreParameters2 p) (json : FitsJson p) (magic salt : List ℕ) (place : ℕ)
     (start : IsStart p magic place) (salted : length salt ≡ 64) where
   -- ---- parts and lengths
+
+  abbrev made_header : List ℕ
+  made_header = header2_bytes p magic salt place
+
+  abbrev checksum : List ℕ
+  checksum = hash_of Sha256 (fields_of p magic salt place ++ padded 64 [] ++ body_bytes p)
 
   -- the parts of the bytes before the checksum
   abbrev field_parts : List Part
@@ -89,34 +87,29 @@ module _ (p : Seal2) (fits : AreParameters2 p) (json : FitsJson p) (magic salt :
       ∷ part 192 (padded 192 (to_be_bytes w64 place)) (length-padded 192 (to_be_bytes w64 place) (omega arith))
       ∷ []
 
-  fields_are : AreParts (fields_of p magic salt place) field_parts
-  unfolding middle_of fields_end_bytes
-  fields_are = are_parts (fields_of p magic salt place) field_parts (simp (append_assoc, append-nil))
-
   length-fields : length (fields_of p magic salt place) ≡ 448
-  length-fields = fields_are.len
+  unfolding middle_of fields_end_bytes
+  length-fields = (are_parts (fields_of p magic salt place) field_parts (simp (append_assoc, append-nil))).len
 
-  sum_long : length (header_checksum p magic salt place) ≡ 32
+  sum_long : length checksum ≡ 32
   sum_long = length-hash_of Sha256 (fields_of p magic salt place ++ padded 64 [] ++ body_bytes p)
 
-  length-sum : length (padded 64 (header_checksum p magic salt place)) ≡ 64
-  length-sum = length-padded 64 (header_checksum p magic salt place) (omega (arith, sum_long))
-
-  length-text : length (padded (p.hdr_size - 4096) (json_of p)) ≡ p.hdr_size - 4096
-  length-text = length-padded (p.hdr_size - 4096) (json_of p) (omega (arith, json.0))
+  length-sum : length (padded 64 checksum) ≡ 64
+  length-sum = length-padded 64 checksum (omega (arith, sum_long))
 
   -- the parts of the header with its JSON area
   abbrev header_parts : List Part
   header_parts =
       field_parts
-      ++ part 64 (padded 64 (header_checksum p magic salt place)) length-sum
+      ++ part 64 (padded 64 checksum) length-sum
       ∷ part 3584 (padded 3584 []) (length-padded 3584 [] (omega arith))
-      ∷ part (p.hdr_size - 4096) (padded (p.hdr_size - 4096) (json_of p)) length-text
+      ∷ part (p.hdr_size - 4096) (padded (p.hdr_size - 4096) (json_of p))
+      (length-padded (p.hdr_size - 4096) (json_of p) (omega (arith, json.0)))
       ∷ []
 
-  header_are : AreParts (header2_bytes p magic salt place) header_parts
+  header_are : AreParts made_header header_parts
   unfolding header2_bytes body_bytes middle_of fields_end_bytes
-  header_are = are_parts (header2_bytes p magic salt place) header_parts (simp (append_assoc, append-nil))
+  header_are = are_parts made_header header_parts (simp (append_assoc, append-nil))
 
   pub length-header : length (header2_bytes p magic salt place) ≡ p.hdr_size
   length-header = header_are.len ∙ omega (arith, long_header p fits)
@@ -124,67 +117,42 @@ module _ (p : Seal2) (fits : AreParameters2 p) (json : FitsJson p) (magic salt :
   -- ---- fields
 
   -- bytes within the first 24 bytes are bytes of the start
-  in_start : (k len : ℕ) → k + len ≤ 24 → at k len (header2_bytes p magic salt place) ≡ at k len (start_of p magic)
+  in_start : (k len : ℕ) → k + len ≤ 24 → at k len made_header ≡ at k len (start_of p magic)
   in_start k len below =
-      at_inside k k len 0 24 (header2_bytes p magic salt place) (start_of p magic) (omega arith) below
-      (header_are.part_at 0)
-
-  -- the name of the checksum's hash function is in its field
-  name_there : at 72 32 (header2_bytes p magic salt place) ≡ padded 32 (codes "sha256")
-  name_there = header_are.part_at 2
-
-  -- the header's own offset is in its field
-  own_there : at 256 8 (header2_bytes p magic salt place) ≡ to_be_bytes w64 place
-  own_there =
-      let own = to_be_bytes w64 place in
-      at_inside 256 0 8 256 192 (header2_bytes p magic salt place) (padded 192 own) (omega arith) (omega arith)
-      (header_are.part_at 6)
-      ∙ padded_begins 8 192 own refl
+      at_inside k k len 0 24 made_header (start_of p magic) (omega arith) below (header_are.part_at 0)
 
   -- ---- the checksum
 
-  checksum_there : at 448 32 (header2_bytes p magic salt place) ≡ header_checksum p magic salt place
+  -- the name of its hash function is in its field
+  hash_known : checksum_hash_in made_header ≡ Some Sha256
+  unfolding checksum_hash_in padded
+  hash_known = ap (λ field. hash_named (text_of field)) (header_are.part_at 2)
+
+  checksum_there : at 448 32 made_header ≡ checksum
   checksum_there =
-      let sum = header_checksum p magic salt place in
-      at_inside 448 0 32 448 64 (header2_bytes p magic salt place) (padded 64 sum) (omega arith) (omega arith)
-      (header_are.part_at 7)
-      ∙ padded_begins 32 64 sum (sym sum_long)
+      at_inside 448 0 32 448 64 made_header (padded 64 checksum) (omega arith) (omega arith) (header_are.part_at 7)
+      ∙ padded_begins 32 64 checksum (sym sum_long)
 
   -- the bytes that the checksum is computed over
-  zeroed : without_checksum (header2_bytes p magic salt place)
-      ≡ fields_of p magic salt place ++ padded 64 [] ++ body_bytes p
+  zeroed : without_checksum made_header ≡ fields_of p magic salt place ++ padded 64 [] ++ body_bytes p
   unfolding without_checksum no_checksum header2_bytes padded
   zeroed =
-      zeroed_of (fields_of p magic salt place) (padded 64 (header_checksum p magic salt place)) (body_bytes p)
-      no_checksum
-      length-fields length-sum
-
-  hash_known : checksum_hash_in (header2_bytes p magic salt place) ≡ Some Sha256
-  unfolding checksum_hash_in padded
-  hash_known = ap (λ field. hash_named (text_of field)) name_there
+      zeroed_of (fields_of p magic salt place) (padded 64 checksum) (body_bytes p) no_checksum length-fields length-sum
 
   -- the checksum matches
-  intact : checksum_matches (header2_bytes p magic salt place) ≡ true
+  intact : checksum_matches made_header ≡ true
   unfolding checksum_matches
-  intact =
-      let sum = header_checksum p magic salt place in
-      rw (hash_known, zeroed, checksum_there) ((bytes_eq-Decides sum sum).1 refl)
-
-  json_there : at 4096 (p.hdr_size - 4096) (header2_bytes p magic salt place)
-      ≡ padded (p.hdr_size - 4096) (json_of p)
-  json_there = header_are.part_at 9
+  intact = rw (hash_known, zeroed, checksum_there) ((bytes_eq-Decides checksum checksum).1 refl)
 
   -- ---- the header in an image
 
   module _ (image : List ℕ) (there : at place p.hdr_size image ≡ header2_bytes p magic salt place)
       (long : place + p.hdr_size ≤ length image) where
     -- bytes within the first 4096 bytes are bytes of the header
-    in_binary : (k len : ℕ) → k + len ≤ 4096
-        → at k len (binary_at image place) ≡ at k len (header2_bytes p magic salt place)
+    in_binary : (k len : ℕ) → k + len ≤ 4096 → at k len (binary_at image place) ≡ at k len made_header
     in_binary k len below =
         at_at k len place 4096 image below
-        ∙ at_inside (place + k) k len place p.hdr_size image (header2_bytes p magic salt place) refl
-        (omega (arith, long_header p fits)) there
+        ∙ at_inside (place + k) k len place p.hdr_size image made_header refl (omega (arith, long_header p fits)) there
 
     begins_there : at 0 8 (binary_at image place) ≡ beginning_at place
     begins_there = in_binary 0 8 (omega arith) ∙ (in_start 0 8 (omega arith) ∙ start.begins)
@@ -195,24 +163,28 @@ module _ (p : Seal2) (fits : AreParameters2 p) (json : FitsJson p) (magic salt :
         ap be64 (in_binary 8 8 (omega arith) ∙ (in_start 8 8 (omega arith) ∙ start.size))
         ∙ from_be_bytes-to_be_bytes_8 p.hdr_size (omega (arith, short_header p fits))
 
+    -- the header's own offset is in its field
     place_there : hdr_offset_in (binary_at image place) ≡ place
     unfolding hdr_offset_in be64
     place_there =
-        ap be64 (in_binary 256 8 (omega arith) ∙ own_there)
+        let own = to_be_bytes w64 place in
+        ap be64
+        (in_binary 256 8 (omega arith)
+        ∙ (at_inside 256 0 8 256 192 made_header (padded 192 own) (omega arith) (omega arith) (header_are.part_at 6)
+        ∙ padded_begins 8 192 own refl))
         ∙ from_be_bytes-to_be_bytes_8 place (omega (arith, start.within, short_header p fits))
 
     hash_there : checksum_hash_in (binary_at image place) ≡ Some Sha256
-    unfolding checksum_hash_in padded
-    hash_there = ap (λ field. hash_named (text_of field)) (in_binary 72 32 (omega arith) ∙ name_there)
+    unfolding checksum_hash_in
+    hash_there = ap (λ field. hash_named (text_of field)) (in_binary 72 32 (omega arith)) ∙ hash_known
 
     -- the first 4096 bytes are a binary header for its offset
     is_binary : is_binary_of place (binary_at image place) ≡ true
     unfolding is_binary_of is_header_size
     is_binary =
         let begins = (bytes_eq-Decides (beginning_at place) (beginning_at place)).1 refl in
-        let listed : list_any (λ size. size == p.hdr_size) sizes ≡ true = fits.size in
         let same = eq-eqb place place refl in
-        rw (begins_there, begins, size_there, listed, start.own, place_there, same, hash_there) refl
+        rw (begins_there, begins, size_there, fits.size, start.own, place_there, same, hash_there) refl
 
     valid_there : is_valid image place ≡ true
     unfolding is_valid has_binary
@@ -234,7 +206,7 @@ module _ (p : Seal2) (fits : AreParameters2 p) (json : FitsJson p) (magic salt :
       sequence = ap be64 (in_binary 16 8 (omega arith) ∙ (in_start 16 8 (omega arith) ∙ start.sequence));
       hash = hash_there;
       valid = valid_there;
-      json = at_inside (place + 4096) 4096 (p.hdr_size - 4096) place p.hdr_size image
-          (header2_bytes p magic salt place) refl (omega (arith, long_header p fits)) there
-          ∙ json_there;
+      json = at_inside (place + 4096) 4096 (p.hdr_size - 4096) place p.hdr_size image made_header refl
+          (omega (arith, long_header p fits)) there
+          ∙ header_are.part_at 9;
     }

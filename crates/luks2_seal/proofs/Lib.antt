@@ -1,4 +1,4 @@
-pub mod RangeLemmas
+pub mod Bounds
 pub mod TextLemmas
 pub mod MetadataLemmas
 pub mod Verdicts2

@@ -12,9 +12,9 @@ use Rattle.serde_json.specs.Data.{Data, put, string, Members, depth, items_depth
 use Rattle.serde_json.specs.Find.{get_member}
 use Rattle.serde_json.specs.View.{items_of}
 use Rattle.luks2_json.specs.List.{any_item, is_the_string, all_items, is_text}
-use Rattle.luks2_seal.specs.Metadata2.{decimal_value, keyslot_object, keyslots_below, names_below, ReadsBack, af_object}
-use Rattle.luks2_seal.specs.Metadata2.{area_object, config_object, digest_object, json_of, kdf_object, metadata_of}
-use Rattle.luks2_seal.specs.Metadata2.{segment_object, size_value}
+use Rattle.luks2_seal.specs.Layout2.{decimal_value, keyslot_object, keyslots_below, names_below, ReadsBack, af_object}
+use Rattle.luks2_seal.specs.Layout2.{area_object, config_object, digest_object, json_of, kdf_object, metadata_of}
+use Rattle.luks2_seal.specs.Layout2.{segment_object, size_value}
 use Rattle.luks2_seal.specs.Ranges2.{area_start, slot_numbered, area_size_at, Seal2, Slot2}
 use Rattle.std.specs.Cmp.Lexicographic.{slice_cmp}
 use Rattle.std.specs.Ordering.{match_ordering}
@@ -23,10 +23,6 @@ use Rattle.serde_json.specs.Written.{has_float, items_have_float, members_have_f
 use Rattle.luks_seal.proofs.SlotLemmas.{map_or_has}
 
 -- ---- names
-
--- the string of a number is that number's name
-same_name : (n : ℕ) → is_the_string (decimal n) (decimal_value n) ≡ true
-same_name n = (bytes_eq-Decides (decimal n) (decimal n)).1 refl
 
 -- an array passes a test for some item if item k passes it
 any_passes : (test : Data → Bool) (ds : List Data) (d : Data) (k : ℕ) → k < length ds → slice_index_or ds k d ≡ d
@@ -40,10 +36,6 @@ any_passes test (e ∷ ds) d (suc k) low is passes =
 module _ (p : Seal2) where
   -- ---- a slot under its name
 
-  -- numbers that are not equal have names that are not equal
-  names_apart : (n m : ℕ) → n < m → m < 2 ^ 64 → decimal n ≢ decimal m
-  names_apart n m below few = λ same. (let is = decimal_injective n m (omega arith) few same in omega arith)
-
   pub keyslot_found : (n m : ℕ) (slot : Slot2) → slot_numbered n p.slots.now ≡ Some slot → n < m → m < 2 ^ 64
       → get_member (decimal n) (keyslots_below p m) ≡ Some (keyslot_object p slot)
   unfolding keyslots_below
@@ -51,7 +43,8 @@ module _ (p : Seal2) where
   keyslot_found n (suc m) slot is below few = elim (cases_lt n m) [
     | inl earlier ↦
         let before = keyslot_found n m slot is earlier (omega arith) in
-        let apart = names_apart n m earlier (omega arith) in
+        let apart : decimal n ≢ decimal m =
+        λ same. (let equal = decimal_injective n m (omega arith) (omega arith) same in omega (arith, equal, earlier)) in
         map_or_has (λ (ms : Members). get_member (decimal n) ms ≡ Some (keyslot_object p slot))
         (λ (other : Slot2). put (decimal m) (keyslot_object p other) (keyslots_below p m)) (keyslots_below p m)
         (slot_numbered m p.slots.now) before
@@ -83,7 +76,8 @@ module _ (p : Seal2) where
       → any_item (is_the_string (decimal n)) (items_of (names_below p m)) ≡ true
   slot_listed n m slot is below =
       let place = listed n m slot is below in
-      any_passes (is_the_string (decimal n)) (names_below p m) (decimal_value n) place.0 place.1 place.2 (same_name n)
+      any_passes (is_the_string (decimal n)) (names_below p m) (decimal_value n) place.0 place.1 place.2
+      ((bytes_eq-Decides (decimal n) (decimal n)).1 refl)
 
   -- ---- where a slot's area is
 
@@ -154,12 +148,8 @@ put_flat k d (member l e ms) n of_d of_ms =
       | Greater ↦ record { whole = rw (parts.0) (later.whole); flat = omega (arith, of_ms.flat, later.flat) }
     ]
 
-keyslot_flat : (p : Seal2) (slot : Slot2) → IsFlat 2 (keyslot_object p slot)
-unfolding keyslot_object af_object area_object kdf_object
-keyslot_flat p slot = record { whole = refl; flat = omega arith }
-
 keyslots_flat : (p : Seal2) (n : ℕ) → IsFlat 3 (object (keyslots_below p n))
-unfolding keyslots_below
+unfolding keyslots_below keyslot_object af_object area_object kdf_object
 keyslots_flat p zero = record { whole = refl; flat = omega arith }
 keyslots_flat p (suc n) =
     let ms = keyslots_below p n in
@@ -167,33 +157,22 @@ keyslots_flat p (suc n) =
     map_or_has (λ (some : Members). IsFlat 3 (object some))
     (λ (slot : Slot2). put (decimal n) (keyslot_object p slot) ms) ms
     (slot_numbered n p.slots.now) before
-    (λ slot. put_flat (decimal n) (keyslot_object p slot) ms 2 (keyslot_flat p slot) before)
+    (λ slot.
+    put_flat (decimal n) (keyslot_object p slot) ms 2 (record { whole = refl; flat = omega arith }) before)
 
 size_flat : (fixed : Bool) (len : ℕ) → IsFlat 0 (size_value fixed len)
 size_flat true len = record { whole = refl; flat = omega arith }
 size_flat false len = record { whole = refl; flat = omega arith }
 
-digest_flat : (p : Seal2) → IsFlat 2 (digest_object p)
-unfolding digest_object
-digest_flat p =
-    let names = names_are p 32 in
-    record { whole = rw (names.whole) refl; flat = omega (arith, names.flat) }
-
-segment_flat : (p : Seal2) → IsFlat 1 (segment_object p)
-unfolding segment_object
-segment_flat p =
-    let size = size_flat p.fixed (length p.plain.now) in
-    record { whole = rw (size.whole) refl; flat = omega (arith, size.flat) }
-
 pub metadata_flat : (p : Seal2) → IsFlat 127 (metadata_of p)
-unfolding metadata_of config_object
+unfolding metadata_of config_object digest_object segment_object
 metadata_flat p =
-    let digest = digest_flat p in
+    let names = names_are p 32 in
     let keyslots = keyslots_flat p 32 in
-    let segment = segment_flat p in
+    let size = size_flat p.fixed (length p.plain.now) in
     record {
-      whole = rw (digest.whole, keyslots.whole, segment.whole) refl;
-      flat = omega (arith, digest.flat, keyslots.flat, segment.flat);
+      whole = rw (names.whole, keyslots.whole, size.whole) refl;
+      flat = omega (arith, names.flat, keyslots.flat, size.flat);
     }
 
 -- the text that is written of the metadata is read back

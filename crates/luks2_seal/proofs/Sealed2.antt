@@ -1,29 +1,27 @@
 -- The image of a volume of LUKS2 is a sealed volume of its key, its passphrases and its plaintext: where its parts are
 -- stored, the primary header that a reader finds, with the metadata, and the key slots, which it can try.
-use Rattle.std.proofs.Common.{◌≡◌, ◌∙◌, ◌==◌, ℕ, zero, suc, ◌+◌, ◌-◌, ◌*◌, ◌/◌, ◌<◌, List, [], length, Option, Some}
-use Rattle.std.proofs.Common.{None, refl, sym, ap, arith, length-append, take_all, ◌≢◌, ◌≤◌, ◌++◌, replicate, Ok, true}
+use Rattle.std.proofs.Common.{◌≡◌, ◌∙◌, ◌==◌, ℕ, zero, suc, ◌+◌, ◌-◌, ◌*◌, ◌/◌, ◌<◌, List, [], length, Some}
+use Rattle.std.proofs.Common.{None, refl, sym, ap, arith, length-append, take_at, ◌≢◌, ◌≤◌, ◌++◌, replicate, Ok, true}
 use Rattle.std.proofs.Common.{false, get_or, slice_index, Bool, subst, le-ltb, ne_eqb, ◌∷◌, one-add}
 use Rattle.std.specs.Option.{option_map_or}
 use Rattle.luks_area.specs.Fields.{at, be64, text_of}
 use Rattle.luks_kdf.specs.Bytes.{joined}
 use Rattle.luks_verdict.proofs.SectorLemmas.{sector_blocks}
-use Rattle.luks_verdict.specs.Rule.{need_of}
 use Rattle.luks_verdict.specs.SectorSize.{bytes_of}
-use Rattle.luks_seal.specs.Pieces.{encrypted_material, stripes_of, wrapping_number, padded}
+use Rattle.luks_seal.specs.Pieces.{encrypted_material, sector_padded, stripes_of, wrapping_number, padded}
 use Rattle.luks_seal.proofs.SectorLemmas.{IsImage, image_made}
-use Rattle.luks_seal.proofs.MaterialLemmas.{AreRandomStripes, length-material, gives_key}
-use Rattle.luks_seal.proofs.FieldLemmas.{at_first, at_second, length-padded, padded_begins, at_at}
+use Rattle.luks_seal.proofs.MaterialLemmas.{AreRandomStripes, length-material, made_material, material_is_stored}
+use Rattle.luks_seal.proofs.FieldLemmas.{IsThere, at_second, length-padded, at_at}
 use Rattle.luks_seal.proofs.SlotLemmas.{found_has, found_by_number}
-use Rattle.luks2_seal.specs.Layout2.{area_at, area_key_of, area_of, header2_bytes, headers_of, image2_of, payload_of}
-use Rattle.luks2_seal.specs.Layout2.{primary_magic, secondary_magic}
-use Rattle.luks2_seal.specs.Metadata2.{FitsJson, ReadsBack, json_of, metadata_of}
-use Rattle.luks2_seal.specs.Ranges2.{area_size, area_size_at, area_start, slot_numbered, AreParameters2, FitsSlot2}
+use Rattle.luks2_seal.specs.Layout2.{FitsJson, ReadsBack, area_at, area_key_of, area_of, header2_bytes, headers_of}
+use Rattle.luks2_seal.specs.Layout2.{image2_of, json_of, metadata_of, payload_of, primary_magic, secondary_magic}
+use Rattle.luks2_seal.specs.Ranges2.{area_size, area_size_at, area_start, AreParameters2, FitsSlot2}
 use Rattle.luks2_seal.specs.Ranges2.{AreTyped2, Seal2, Slot2, passphrases2_of}
 use Rattle.luks2_seal.proofs.Header2.{length-header, primary_start, secondary_start, IsReadAt, read_there}
-use Rattle.luks2_seal.proofs.RangeLemmas.{short_key}
+use Rattle.luks2_seal.proofs.Bounds.{short_key}
 use Rattle.luks2_seal.proofs.Verdicts2.{need_fits, IsUsed, bounds_of, digest_is, digest_read, of_key, parts_of}
-use Rattle.luks2_seal.proofs.Verdicts2.{fixed_size, segment_is, segment_read, slot_is, slot_parts, slot_usable}
-use Rattle.luks2_seal.proofs.Verdicts2.{ends_before}
+use Rattle.luks2_seal.proofs.TextLemmas.{fixed_size}
+use Rattle.luks2_seal.proofs.Verdicts2.{segment_is, segment_read, slot_is, slot_parts, slot_usable}
 use Rattle.std.specs.Int.{to_be_bytes, w64}
 use Rattle.std.proofs.lemmas.Str.{is_utf8-from_IsUtf8}
 use Rattle.luks_kdf.specs.declared.hash.Hash.TheVariants.{Sha256}
@@ -45,7 +43,6 @@ use Rattle.luks2_metadata.specs.Slot2.{verdict2_at}
 use Rattle.luks_header.specs.HeaderDigests.{digest_for}
 use Rattle.luks_header.specs.HeaderSegment.{segment_of}
 use Rattle.luks_header.specs.SlotVerdicts.{verdict_at}
-use Rattle.luks_header.specs.declared.header.Header.{Header}
 use Rattle.luks_seal.specs.Sealed.{EndsWith, GivesKey, Sealed, SealsKey, SealsPlain}
 
 -- the key material of a slot
@@ -53,14 +50,6 @@ abbrev pub material2_of : Seal2 → Slot2 → List ℕ
 material2_of p slot =
     encrypted_material (p.area_mode, area_key_of p slot)
     (stripes_of slot.af_hash p.key.now slot.stripes slot.random.now)
-
--- if each area is as long as it should be, the areas of the slots below a number end where the next one starts
-areas_end : (p : Seal2) → ((n : ℕ) → length (area_at p n) ≡ area_size_at p n) → (n : ℕ)
-    → 2 * p.hdr_size + length (joined (area_at p) n) ≡ area_start p n
-unfolding joined area_start
-areas_end p sizes zero = omega arith
-areas_end p sizes (suc n) =
-    omega (arith, areas_end p sizes n, sizes n, length-append (joined (area_at p) n) (area_at p n))
 
 -- a text without zero bytes is read back from a field in which zeros follow it
 text_back : (text : List ℕ) (n : ℕ) → ((i : ℕ) → i < length text → slice_index text i ≢ 0)
@@ -85,34 +74,30 @@ module _ (p : Seal2) (fits : AreParameters2 p) (json : FitsJson p) (back : Reads
   drawn slot of_slot =
       record { some = of_slot.3; few = of_slot.4; key_most = short_key p fits; len = of_slot.5 }
 
-  length-material2 : (slot : Slot2) → FitsSlot2 (length p.key.now) slot
-      → length (material2_of p slot) ≡ need_of (length p.key.now) slot.stripes
-  length-material2 slot of_slot =
-      length-material slot.af_hash p.key.now slot.stripes slot.random.now (drawn slot of_slot) p.area_mode
-      (area_key_of p slot)
-
-  length-area : (slot : Slot2) → FitsSlot2 (length p.key.now) slot
-      → length (area_of p slot) ≡ area_size (length p.key.now) slot.stripes
-  unfolding area_of
-  length-area slot of_slot =
-      length-padded (area_size (length p.key.now) slot.stripes) (material2_of p slot)
-      (omega (arith, length-material2 slot of_slot, need_fits (length p.key.now) slot.stripes))
-
-  length-found : (found : Option Slot2)
-      → ((slot : Slot2) → found ≡ Some slot → FitsSlot2 (length p.key.now) slot)
-      → length (option_map_or (area_of p) found [])
-      ≡ option_map_or (λ (slot : Slot2). area_size (length p.key.now) slot.stripes) found 0
-  length-found None of_slot = refl
-  length-found (Some slot) of_slot = length-area slot (of_slot slot refl)
+  -- an area is large enough for its key material
+  material2_fits : (slot : Slot2) → FitsSlot2 (length p.key.now) slot
+      → length (material2_of p slot) ≤ area_size (length p.key.now) slot.stripes
+  material2_fits slot of_slot =
+      let len = length-material slot.af_hash p.key.now slot.stripes slot.random.now (drawn slot of_slot)
+      (p.area_mode, area_key_of p slot) in
+      omega (arith, len, need_fits (length p.key.now) slot.stripes)
 
   length-area_at : (n : ℕ) → length (area_at p n) ≡ area_size_at p n
-  unfolding area_at
+  unfolding area_at area_of
   length-area_at n =
-      length-found (slot_numbered n p.slots.now)
-      (found_has (FitsSlot2 (length p.key.now)) (λ (slot : Slot2). slot.number == n) p.slots.now fits.slots)
+      found_has (FitsSlot2 (length p.key.now))
+      (λ found. length (option_map_or (area_of p) found [])
+      ≡ option_map_or (λ (slot : Slot2). area_size (length p.key.now) slot.stripes) found 0)
+      (λ (slot : Slot2). slot.number == n) p.slots.now fits.slots refl
+      (λ slot of_slot.
+      length-padded (area_size (length p.key.now) slot.stripes) (material2_of p slot) (material2_fits slot of_slot))
 
+  -- the areas of the slots below a number end where the next one starts
   length-areas : (n : ℕ) → 2 * p.hdr_size + length (joined (area_at p) n) ≡ area_start p n
-  length-areas n = areas_end p length-area_at n
+  unfolding joined area_start
+  length-areas zero = omega arith
+  length-areas (suc n) =
+      omega (arith, length-areas n, length-area_at n, length-append (joined (area_at p) n) (area_at p n))
 
   length-primary : length (header2_bytes p primary_magic p.primary_salt 0) ≡ p.hdr_size
   length-primary = length-header p fits json primary_magic p.primary_salt 0 (primary_start p) typed.primary_salt
@@ -134,25 +119,6 @@ module _ (p : Seal2) (fits : AreParameters2 p) (json : FitsJson p) (back : Reads
       image_made (headers_of p) (area_at p) 32 p.offset (p.mode, p.key.now) p.iv_tweak (bytes_of p.sector_size / 512)
       (bytes_of p.sector_size) p.plain.now (omega (arith, length-headers, length-areas 32, fits.offset.2))
       (sector_blocks p.sector_size).blocks fits.plain.0 typed.plain
-
-  -- ---- the headers
-
-  pub image_primary : at 0 p.hdr_size (image2_of p) ≡ header2_bytes p primary_magic p.primary_salt 0
-  unfolding headers_of
-  image_primary =
-      let first = header2_bytes p primary_magic p.primary_salt 0 in
-      let second = header2_bytes p secondary_magic p.secondary_salt p.hdr_size in
-      image2.in_headers 0 p.hdr_size (omega (arith, length-headers))
-      ∙ at_first 0 p.hdr_size first second (omega (arith, length-primary))
-      ∙ take_all p.hdr_size first (omega (arith, length-primary))
-
-  pub image_secondary : at p.hdr_size p.hdr_size (image2_of p)
-      ≡ header2_bytes p secondary_magic p.secondary_salt p.hdr_size
-  unfolding headers_of
-  image_secondary =
-      image2.in_headers p.hdr_size p.hdr_size (omega (arith, length-headers))
-      ∙ at_second p.hdr_size p.hdr_size (header2_bytes p primary_magic p.primary_salt 0)
-      (header2_bytes p secondary_magic p.secondary_salt p.hdr_size) (sym length-primary) length-secondary
 
   -- ---- the header that a reader finds
 
@@ -178,14 +144,23 @@ module _ (p : Seal2) (fits : AreParameters2 p) (json : FitsJson p) (back : Reads
   both_long = omega (arith, area_after_headers p 32, image2.len, fits.offset.2)
 
   primary : IsReadAt p 0 (image2_of p)
+  unfolding headers_of
   primary =
       read_there p fits json primary_magic p.primary_salt 0 (primary_start p) typed.primary_salt (image2_of p)
-      image_primary (omega (arith, both_long))
+      (image2.in_headers 0 p.hdr_size (omega (arith, length-headers))
+      ∙ take_at (header2_bytes p primary_magic p.primary_salt 0)
+      (header2_bytes p secondary_magic p.secondary_salt p.hdr_size) p.hdr_size length-primary)
+      (omega (arith, both_long))
 
   secondary : IsReadAt p p.hdr_size (image2_of p)
+  unfolding headers_of
   secondary =
       read_there p fits json secondary_magic p.secondary_salt p.hdr_size (secondary_start p fits) typed.secondary_salt
-      (image2_of p) image_secondary both_long
+      (image2_of p)
+      (image2.in_headers p.hdr_size p.hdr_size (omega (arith, length-headers))
+      ∙ at_second p.hdr_size p.hdr_size (header2_bytes p primary_magic p.primary_salt 0)
+      (header2_bytes p secondary_magic p.secondary_salt p.hdr_size) (sym length-primary) length-secondary)
+      both_long
 
   -- both headers are valid, with one sequence number
   chosen : chosen2_of (image2_of p) ≡ Some header_is
@@ -199,8 +174,7 @@ module _ (p : Seal2) (fits : AreParameters2 p) (json : FitsJson p) (back : Reads
   not_luks1 : is_luks1 (image2_of p) ≡ false
   unfolding is_luks1 beginning_at
   not_luks1 =
-      let begins : at 0 8 (image2_of p) ≡ beginning_at 0 =
-      sym (at_at 0 8 0 4096 (image2_of p) (omega arith)) ∙ primary.begins in
+      let begins = sym (at_at 0 8 0 4096 (image2_of p) (omega arith)) ∙ primary.begins in
       rw begins refl
 
   -- ---- the JSON text
@@ -212,71 +186,48 @@ module _ (p : Seal2) (fits : AreParameters2 p) (json : FitsJson p) (back : Reads
       ∙ ap text_of primary.json
       ∙ text_back (json_of p) (p.hdr_size - 4096 - length (json_of p)) json.1
 
-  -- the metadata has the objects of key slots, segments and digests
-  objects : has_objects (metadata_of p) ≡ true
-  unfolding has_objects metadata_of
-  objects = refl
-
-  tree_there : tree_of (json_of p) ≡ Some (metadata_of p)
-  unfolding tree_of value_of
-  tree_there = rw (is_utf8-from_IsUtf8 (json_of p) back.0, back.1, objects) refl
-
   -- reading the image gives this header and the metadata
   pub header_read : read_header (image2_of p) ≡ Ok (V2 header_is (metadata_of p))
-  unfolding read_header header2_of
-  header_read = rw (not_luks1, chosen, text_there, tree_there) refl
+  unfolding read_header header2_of tree_of value_of has_objects metadata_of
+  header_read = rw (not_luks1, chosen, text_there, is_utf8-from_IsUtf8 (json_of p) back.0, back.1) refl
 
   -- the header sets these bounds
   pub bounds_there : bounds2_of header_is ≡ bounds_of p
   unfolding bounds2_of header_is
   bounds_there = ap (λ (n : ℕ). record { end = 2 * n; detached = false }) primary.size
 
-  unfoldable header : Header
-  header = V2 header_is (metadata_of p)
-
   -- ---- a key slot
 
   module _ (slot : Slot2) (used : IsUsed p slot) where
-    low : slot.number < 32
-    low = omega (arith, used.fits.0)
-
-    -- its area begins with its key material
-    area_begins : at 0 (need_of (length p.key.now) slot.stripes) (area_at p slot.number) ≡ material2_of p slot
+    -- its key material begins its area
+    material_there : IsThere (area_start p slot.number) (material2_of p slot) (image2_of p)
     unfolding area_at area_of
-    area_begins =
-        rw used.numbered
-        (padded_begins (need_of (length p.key.now) slot.stripes) (area_size (length p.key.now) slot.stripes)
-        (material2_of p slot) (sym (length-material2 slot used.fits)))
-
-    pub image_material : at (area_start p slot.number) (need_of (length p.key.now) slot.stripes) (image2_of p)
-        ≡ material2_of p slot
-    image_material =
-        let size : area_size_at p slot.number ≡ area_size (length p.key.now) slot.stripes = rw used.numbered refl in
-        let enough = need_fits (length p.key.now) slot.stripes in
-        image2.in_area slot.number (area_start p slot.number) (need_of (length p.key.now) slot.stripes) low
-        (omega (arith, length-headers, length-areas slot.number))
-        (omega (arith, length-area_at slot.number, size, enough))
-        ∙ area_begins
+    material_there =
+        image2.in_area slot.number (area_start p slot.number) (area_size (length p.key.now) slot.stripes)
+        (material2_of p slot) (omega (arith, used.fits.0)) (omega (arith, length-headers, length-areas slot.number))
+        (rw used.numbered refl) (material2_fits slot used.fits)
 
     gives2 : GivesKey (parts_of p slot) slot.passphrase.now p.key.now (image2_of p)
     unfolding area_key_of
     gives2 =
-        let need = need_fits (length p.key.now) slot.stripes in
-        gives_key (parts_of p slot) slot.hash slot.af_hash p.area_mode slot.passphrase.now p.key.now slot.random.now
-        (image2_of p)
-        (record {
+        let random = drawn slot used.fits in
+        record {
+          kdf = slot.hash;
+          af = slot.af_hash;
+          mode = p.area_mode;
           is_kdf = refl;
           is_af = refl;
           is_mode = refl;
           key_bytes = refl;
-          drawn = drawn slot used.fits;
-          bytes = typed.key;
-          random_bytes = used.typed.random;
-        })
-        (omega (arith, need, ends_before p fits typed slot used, image2.len)) image_material
+          material = sector_padded (stripes_of slot.af_hash p.key.now slot.stripes slot.random.now);
+          is_material = made_material slot.af_hash (parts_of p slot) p.key.now slot.random.now random;
+          is_stored = material_is_stored slot.af_hash p.key.now slot.stripes slot.random.now random
+              (p.area_mode, area_key_of p slot) (area_start p slot.number) (image2_of p) typed.key used.typed.random
+              material_there;
+        }
 
-    seals_key2 : SealsKey header (image2_of p) p.key.now slot.number slot.passphrase.now
-    unfolding header verdict_at digest_for
+    seals_key2 : SealsKey (V2 header_is (metadata_of p)) (image2_of p) p.key.now slot.number slot.passphrase.now
+    unfolding verdict_at digest_for
     seals_key2 = record {
       slot = slot_is p fits typed slot used;
       digest = digest_is p fits typed;
@@ -300,14 +251,14 @@ module _ (p : Seal2) (fits : AreParameters2 p) (json : FitsJson p) (back : Reads
   -- ---- the volume
 
   pub sealed2 : Sealed (image2_of p) (passphrases2_of p) p.key.now p.plain.now
-  unfolding header segment_of
+  unfolding segment_of
   sealed2 = record {
-    header = header;
+    header = V2 header_is (metadata_of p);
     segment = segment_is p fits typed;
     is_header = header_read;
     is_segment = ap (segment2_of (metadata_of p)) bounds_there ∙ segment_read p fits typed;
     key_bytes = typed.key;
-    slots = All-map (λ slot. SealsKey header (image2_of p) p.key.now slot.0 slot.1)
+    slots = All-map (λ slot. SealsKey (V2 header_is (metadata_of p)) (image2_of p) p.key.now slot.0 slot.1)
         (λ slot. (slot.number, slot.passphrase.now)) p.slots.now
         (λ k d below.
         seals_key2 (get_or p.slots.now k d) (record {

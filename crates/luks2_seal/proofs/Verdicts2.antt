@@ -1,46 +1,39 @@
 -- What is read of the metadata of a sealed volume of LUKS2: a segment that is not refused, the digest of each key slot,
 -- and each key slot with its parts, which there is no reason to skip.
-use Rattle.std.proofs.Common.{◌≡◌, ◌∙◌, ◌*◌, ◌%◌, ◌<◌, ◌≤◌, ◌^◌, ℕ, Bool, true, false, Option, Some, None, Ok, length}
-use Rattle.std.proofs.Common.{ap, arith, refl, sym, true≢false, codes, ◌+◌, le-leb, lt-ltb, bytes_eq, decimal}
-use Rattle.std.proofs.Common.{if◌then◌else◌, option_and_then, option_map, unwrap_or, List}
-use Rattle.std.specs.Char.{is_ascii_digit}
-use Rattle.std.specs.List.{list_all}
-use Rattle.std.proofs.lemmas.Bool.{eq-eqb, false_from_ne_true, le-ltb}
-use Rattle.std.proofs.lemmas.Slice.Eq.{bytes_eq-Decides}
-use Rattle.luks_verdict.specs.SectorSize.{has_whole_sectors, bytes_of}
+use Rattle.std.proofs.Common.{◌≡◌, ◌∙◌, ◌*◌, ◌%◌, ◌<◌, ◌≤◌, ℕ, true, false, Some, None, Ok, length}
+use Rattle.std.proofs.Common.{ap, arith, refl, sym, codes, ◌+◌, le-leb, lt-ltb}
+use Rattle.std.proofs.lemmas.Bool.{eq-eqb, le-ltb}
+use Rattle.luks_verdict.specs.SectorSize.{has_whole_sectors}
 use Rattle.luks_verdict.specs.Segment.{segment_by, segment_from}
-use Rattle.luks_verdict.specs.declared.sector_size.SectorSize.{SectorSize}
-use Rattle.luks_verdict.specs.declared.sector_size.SectorSize.TheVariants.{B512, B1024, B2048, B4096}
 use Rattle.luks_verdict.specs.declared.segment.Segment.{Segment}
 use Rattle.luks_verdict.proofs.MadeLemmas.{segment_of_all-yes, digest_from-yes, slot_from-yes}
-use Rattle.luks2_json.specs.Member.{decimal_of, decimal_member, string_is, string_member, integer_member, base64_member}
-use Rattle.luks2_json.specs.Member.{is_type}
+use Rattle.luks2_json.specs.Member.{decimal_member, string_is, string_member, integer_member, base64_member}
+use Rattle.luks2_json.specs.Member.{hash_member, iterations_in, salt_in, is_length_for}
 use Rattle.luks2_metadata.specs.Segment2.{fault2_of, has_requirement, has_segment_members, is_segment, size_is_wrong}
-use Rattle.luks2_metadata.specs.Segment2.{iv_tweak_of, mode2_of, offset_of, sector_size_of, sector_size_with}
+use Rattle.luks2_metadata.specs.Segment2.{iv_tweak_of, mode2_of, offset_of, sector_size_of}
 use Rattle.luks2_metadata.specs.Segment2.{segment2_of, segment_parts2_of, size_member, overlaps_headers2}
 use Rattle.luks2_metadata.specs.Segment2.{offset_is_wrong, the_segment, payload2_start, payload_mode2_of}
 use Rattle.luks2_metadata.specs.declared.bounds.Bounds.{Bounds}
-use Rattle.luks2_metadata.proofs.SegmentLemmas.{said-there, segment2-none, segment2-ok}
-use Rattle.serde_json.specs.Find.{as_str}
-use Rattle.luks2_seal.specs.Metadata2.{config_object, metadata_of, segment_object, size_value, digest_object, af_object}
-use Rattle.luks2_seal.specs.Metadata2.{area_object, kdf_object, keyslot_object}
+use Rattle.luks2_metadata.proofs.SegmentLemmas.{segment2-none, segment2-ok}
+use Rattle.luks2_metadata.proofs.SlotLemmas.{slot_there}
+use Rattle.luks2_seal.specs.Layout2.{config_object, metadata_of, segment_object, digest_object, af_object}
+use Rattle.luks2_seal.specs.Layout2.{area_object, kdf_object, keyslot_object}
 use Rattle.luks2_seal.specs.Ranges2.{AreParameters2, FitsSlot2, AreTyped2, IsTypedSlot2, slot_numbered, area_size}
 use Rattle.luks2_seal.specs.Ranges2.{area_start, area_size_at, Seal2, Slot2}
 use Rattle.luks2_seal.proofs.MetadataLemmas.{area_after_headers, names_are, slot_listed, keyslot_found, area_before}
-use Rattle.luks2_seal.proofs.TextLemmas.{decimal_read, decimal_digits, mode_read, base64_read}
+use Rattle.luks2_seal.proofs.TextLemmas.{fixed_size, decimal_read, mode_read, base64_read, sector_size_read, size_read}
+use Rattle.luks2_seal.proofs.TextLemmas.{whole_size}
 use Rattle.std.proofs.lemmas.Fmt.{decimal_digit}
 use Rattle.luks_kdf.specs.Hash.{digest_len}
 use Rattle.luks_kdf.specs.Pbkdf2.{derived_key}
 use Rattle.luks_kdf.proofs.HashLemmas.{digest_sizes}
 use Rattle.luks_kdf.proofs.Pbkdf2Lemmas.{length-derived_key}
-use Rattle.luks_verdict.specs.Digest.{digest_of, is_usable, has_no_usable_digest}
 use Rattle.luks_verdict.specs.declared.digest.DigestParts.{DigestParts}
 use Rattle.luks_verdict.specs.declared.digest.KeyDigest.{KeyDigest}
-use Rattle.luks2_json.specs.Derivation.{hash_member, iterations_in, salt_in}
 use Rattle.luks2_json.specs.List.{has_strings, array_contains}
 use Rattle.luks2_json.specs.Numbered.{object_numbered}
 use Rattle.luks2_json.proofs.NumberedLemmas.{lowest_found, lowest_none}
-use Rattle.luks2_metadata.specs.Digest2.{digest2_for, digest2_of, digest_parts2_of, is_digest2, is_of_slot, own_digest}
+use Rattle.luks2_metadata.specs.Digest2.{digest2_for, digest2_of, is_digest2, is_of_slot, own_digest}
 use Rattle.luks2_metadata.specs.Digest2.{own_digest_at, value_in}
 use Rattle.luks_seal.specs.Sealed.{IsDigestOf}
 use Rattle.luks_seal.proofs.MaterialLemmas.{derived_bytes}
@@ -48,50 +41,20 @@ use Rattle.luks_seal.proofs.RuleLemmas.{digest_fits, hash_is_named, area_fits, i
 use Rattle.luks_verdict.specs.declared.slot.SlotParts.{SlotParts}
 use Rattle.luks2_metadata.specs.Slot2.{af_hash_of, area_mode_of, has_members, is_af, is_area, is_kdf, is_pbkdf2}
 use Rattle.luks2_metadata.specs.Slot2.{kdf_hash_of, priority_of, slot_parts2_of, are_key_sizes, has_unknown_hash}
-use Rattle.luks2_metadata.specs.Slot2.{area2_out_of_range, is_kdf_type, iterations_of_slot, reason2_of, slot2_of}
+use Rattle.luks2_metadata.specs.Slot2.{area2_out_of_range, iterations_of_slot, reason2_of, slot2_of}
 use Rattle.luks2_metadata.specs.Slot2.{stripe_count_of, verdict2_at, verdict2_of}
 use Rattle.luks_verdict.specs.Rule.{iterations_out_of_range, stripes_out_of_range, need_of}
-use Rattle.luks_verdict.specs.Slot.{are_in_range, slot_of}
+use Rattle.luks_verdict.specs.Slot.{are_in_range, digest_of, has_no_usable_digest, is_usable, slot_of}
 use Rattle.luks_verdict.specs.declared.slot.Slot.{Slot}
 use Rattle.luks_verdict.specs.declared.slot.Verdict.TheVariants.{Usable}
-use Rattle.luks2_json.specs.Encryption.{is_length_for}
-use Rattle.luks2_metadata.proofs.SlotLemmas.{no_reason, range_of}
+use Rattle.luks2_json.specs.Member.{decimal_member, string_is, string_member, integer_member, base64_member}
+use Rattle.luks2_json.specs.Member.{hash_member, iterations_in, salt_in, is_length_for}
 
 -- ---- the segment
 
 -- the bounds that an attached header of this size sets
 abbrev pub bounds_of : Seal2 → Bounds
 bounds_of p = record { end = 2 * p.hdr_size; detached = false }
-
--- the payload's length, if it is fixed
-abbrev pub fixed_size : Bool → ℕ → Option ℕ
-fixed_size true len = Some len
-fixed_size false len = None
-
--- no number is written as the word `dynamic`
-not_dynamic : (n : ℕ) → n < 2 ^ 64 → bytes_eq (codes "dynamic") (decimal n) ≡ false
-not_dynamic n small =
-    false_from_ne_true (bytes_eq (codes "dynamic") (decimal n)) (λ yes.
-    let is : codes "dynamic" ≡ decimal n = (bytes_eq-Decides (codes "dynamic") (decimal n)).0 yes in
-    true≢false (sym (ap (list_all is_ascii_digit) is ∙ decimal_digits n small)))
-
-size_read : (fixed : Bool) (len : ℕ) → len < 2 ^ 64
-    → (if unwrap_or (option_map (bytes_eq (codes "dynamic")) (as_str (size_value fixed len))) false then Some None
-    else option_map (λ (bytes : ℕ). Some bytes) (option_and_then decimal_of (as_str (size_value fixed len))))
-    ≡ Some (fixed_size fixed len)
-size_read true len small = rw (not_dynamic len small, decimal_read len small) refl
-size_read false len small = refl
-
-sector_size_read : (size : SectorSize) → sector_size_with (bytes_of size) ≡ Some size
-sector_size_read B512 = refl
-sector_size_read B1024 = refl
-sector_size_read B2048 = refl
-sector_size_read B4096 = refl
-
-whole_size : (fixed : Bool) (len : ℕ) (size : SectorSize) → len % bytes_of size ≡ 0
-    → has_whole_sectors (fixed_size fixed len) size ≡ true
-whole_size true len size whole = eq-eqb (len % bytes_of size) 0 whole
-whole_size false len size whole = refl
 
 -- ---- the digest
 
@@ -148,9 +111,9 @@ module _ (p : Seal2) (fits : AreParameters2 p) (typed : AreTyped2 p) where
   unfolding segment_object decimal_member string_member
   iv_tweak_said = decimal_read p.iv_tweak typed.iv_tweak
 
-  sector_size_said : sector_size_of (segment_object p) ≡ Some p.sector_size
+  sectors_said : sector_size_of (segment_object p) ≡ Some p.sector_size
   unfolding sector_size_of segment_object integer_member
-  sector_size_said = sector_size_read p.sector_size
+  sectors_said = sector_size_read p.sector_size
 
   mode_said : mode2_of (segment_object p) ≡ Some p.mode
   unfolding mode2_of segment_object string_member
@@ -173,35 +136,25 @@ module _ (p : Seal2) (fits : AreParameters2 p) (typed : AreTyped2 p) where
   unfolding offset_is_wrong overlaps_headers2
   starts_right =
       let behind : 2 * p.hdr_size ≤ p.offset = omega (arith, area_after_headers p 32, fits.offset.2) in
-      let whole : p.offset % 512 ≡ 0 = omega (arith, fits.offset.0) in
-      rw (le-ltb p.offset (2 * p.hdr_size) behind, eq-eqb (p.offset % 512) 0 whole) refl
-
-  crypt_said : is_segment (segment_object p) ≡ true
-  unfolding is_segment has_segment_members string_is string_member segment_object integer_member
-  crypt_said = rw (offset_said, size_said, iv_tweak_said) refl
+      rw (le-ltb p.offset (2 * p.hdr_size) behind, eq-eqb (p.offset % 512) 0 (omega (arith, fits.offset.0))) refl
 
   -- the segment
   unfoldable pub segment_is : Segment
   segment_is = segment_by p.offset (fixed_size p.fixed (length p.plain.now)) p.iv_tweak p.sector_size p.mode whole
 
   no_fault : fault2_of (metadata_of p) (bounds_of p) ≡ None
-  unfolding fault2_of size_is_wrong string_is segment_object string_member
+  unfolding fault2_of size_is_wrong is_segment has_segment_members segment_object string_is string_member integer_member
   no_fault =
-      rw (requires_none, is_there, crypt_said, mode_said, sector_size_said, offset_said, starts_right, size_said, whole)
+      rw (requires_none, is_there, offset_said, size_said, iv_tweak_said, mode_said, sectors_said, starts_right, whole)
       refl
-
-  segment_made : segment_from (segment_parts2_of (segment_object p)) ≡ Some segment_is
-  unfolding segment_from segment_parts2_of segment_is
-  segment_made =
-      rw (offset_said, size_said, iv_tweak_said, sector_size_said, mode_said)
-      (segment_of_all-yes p.offset (fixed_size p.fixed (length p.plain.now)) p.iv_tweak p.sector_size p.mode whole)
 
   -- the segment that is read back is this one, which is not refused
   pub segment_read : segment2_of (metadata_of p) (bounds_of p) ≡ Ok segment_is
+  unfolding segment_from segment_parts2_of segment_is
   segment_read =
-      let said = said-there (metadata_of p) (segment_object p) is_there in
       segment2-none (metadata_of p) (bounds_of p) segment_is no_fault
-      (ap (λ segment. segment_from (segment_parts2_of segment)) said ∙ segment_made)
+      (rw (is_there, offset_said, size_said, iv_tweak_said, sectors_said, mode_said)
+      (segment_of_all-yes p.offset (fixed_size p.fixed (length p.plain.now)) p.iv_tweak p.sector_size p.mode whole))
 
   -- ---- the digest: its members
 
@@ -213,24 +166,15 @@ module _ (p : Seal2) (fits : AreParameters2 p) (typed : AreTyped2 p) where
   unfolding base64_member digest_object string_member
   digest_salt_said = base64_read p.digest_salt typed.digest_salt
 
-  value_said : base64_member (codes "digest") (digest_object p)
-      ≡ Some (derived_key p.digest_hash p.key.now p.digest_salt p.digest_iterations (digest_len p.digest_hash))
+  value_said : base64_member (codes "digest") (digest_object p) ≡ Some (digest_parts p).value
   unfolding base64_member digest_object string_member
   value_said =
       base64_read _
       (derived_bytes p.digest_hash p.key.now p.digest_salt p.digest_iterations (digest_len p.digest_hash))
 
-  keyslots_said : has_strings (codes "keyslots") (digest_object p) ≡ true
-  unfolding has_strings digest_object
-  keyslots_said = (names_are p 32).texts
-
   digest_is_said : is_digest2 (digest_object p) ≡ true
   unfolding is_digest2 has_strings digest_object string_is string_member integer_member
-  digest_is_said = rw (keyslots_said, hash_said, digest_salt_said, value_said) refl
-
-  digest_parts_said : digest_parts2_of (digest_object p) ≡ digest_parts p
-  unfolding iterations_in salt_in value_in digest_object integer_member
-  digest_parts_said = rw (hash_said, digest_salt_said, value_said) refl
+  digest_is_said = rw ((names_are p 32).texts, hash_said, digest_salt_said, value_said) refl
 
   -- ---- the digest of the key
 
@@ -246,8 +190,9 @@ module _ (p : Seal2) (fits : AreParameters2 p) (typed : AreTyped2 p) where
   digest_is = digest_of (digest_parts p) usable
 
   digest_found : digest2_of (digest_object p) ≡ Some digest_is
-  unfolding digest2_of digest_is
-  digest_found = rw (digest_is_said, digest_parts_said) (digest_from-yes (digest_parts p) usable)
+  unfolding digest2_of digest_is iterations_in salt_in value_in digest_object integer_member
+  digest_found =
+      rw (digest_is_said, hash_said, digest_salt_said, value_said) (digest_from-yes (digest_parts p) usable)
 
   -- the digest is that of the key
   pub of_key : IsDigestOf digest_is p.key.now
@@ -268,13 +213,9 @@ module _ (p : Seal2) (fits : AreParameters2 p) (typed : AreTyped2 p) where
     low = omega (arith, used.fits.0)
 
     -- the digest belongs to the slot
-    of_slot : is_of_slot slot.number (digest_object p) ≡ true
-    unfolding is_of_slot array_contains digest_object
-    of_slot = rw (slot_listed p slot.number 32 slot used.numbered low) refl
-
     own_is : own_digest_at (metadata_of p) slot.number 0 ≡ Some digest_is
-    unfolding own_digest_at own_digest
-    own_is = rw (first_there, of_slot, digest_found) refl
+    unfolding own_digest_at own_digest is_of_slot array_contains digest_object
+    own_is = rw (first_there, slot_listed p slot.number 32 slot used.numbered low, digest_found) refl
 
     pub digest_read : digest2_for (metadata_of p) slot.number ≡ Some digest_is
     unfolding digest2_for
@@ -283,7 +224,7 @@ module _ (p : Seal2) (fits : AreParameters2 p) (typed : AreTyped2 p) where
         ∙ own_is
 
     -- its area ends before the payload
-    pub ends_before : area_start p slot.number + area_size (length p.key.now) slot.stripes ≤ p.offset
+    ends_before : area_start p slot.number + area_size (length p.key.now) slot.stripes ≤ p.offset
     ends_before =
         let size : area_size_at p slot.number ≡ area_size (length p.key.now) slot.stripes = rw used.numbered refl in
         omega (arith, size, area_before p slot.number 32 low, fits.offset.2)
@@ -319,16 +260,12 @@ module _ (p : Seal2) (fits : AreParameters2 p) (typed : AreTyped2 p) where
     unfolding keyslot_object priority_of integer_member
     priority_said = rw (le-leb slot.priority 2 used.fits.1) refl
 
-    pub slot_parts_said : slot_parts2_of (keyslot_object p slot) ≡ parts_of p slot
+    slot_parts_said : slot_parts2_of (keyslot_object p slot) ≡ parts_of p slot
     unfolding slot_parts2_of keyslot_object kdf_object area_object af_object integer_member iterations_in salt_in
     slot_parts_said =
         rw (priority_said, kdf_hash_said, slot_salt_said, af_hash_said, start_said, length_said, area_mode_said) refl
 
     -- ---- a key slot: its kinds
-
-    af_is : is_af (af_object slot) ≡ true
-    unfolding is_af af_object string_is string_member integer_member
-    af_is = refl
 
     area_is : is_area (area_object p slot) ≡ true
     unfolding is_area area_object string_is string_member integer_member
@@ -338,19 +275,11 @@ module _ (p : Seal2) (fits : AreParameters2 p) (typed : AreTyped2 p) where
     unfolding is_kdf is_pbkdf2 kdf_object string_is string_member integer_member
     kdf_is = rw slot_salt_said refl
 
-    pub members_said : has_members (keyslot_object p slot) ≡ true
-    unfolding has_members keyslot_object integer_member
-    members_said = rw (priority_said, af_is, area_is, kdf_is) refl
+    members_said : has_members (keyslot_object p slot) ≡ true
+    unfolding has_members keyslot_object is_af af_object string_is string_member integer_member
+    members_said = rw (priority_said, area_is, kdf_is) refl
 
     -- ---- the values that the slot is checked against
-
-    payload_mode : payload_mode2_of (metadata_of p) (bounds_of p) ≡ Some p.mode
-    unfolding segment_is segment_by
-    payload_mode = (segment2-ok (metadata_of p) (bounds_of p) segment_is segment_read).mode
-
-    payload_start : payload2_start (metadata_of p) (bounds_of p) ≡ Some p.offset
-    unfolding segment_is segment_by
-    payload_start = (segment2-ok (metadata_of p) (bounds_of p) segment_is segment_read).start refl
 
     digested : has_no_usable_digest None (digest2_for (metadata_of p) slot.number) ≡ false
     unfolding has_no_usable_digest digest_is digest_of
@@ -360,8 +289,10 @@ module _ (p : Seal2) (fits : AreParameters2 p) (typed : AreTyped2 p) where
     -- ---- the reasons, one after the other
 
     keys_fit : are_key_sizes (payload_mode2_of (metadata_of p) (bounds_of p)) (keyslot_object p slot) ≡ true
-    unfolding are_key_sizes is_length_for keyslot_object area_object integer_member
-    keys_fit = rw (payload_mode, area_mode_said, fits.keys.0, fits.keys.1) refl
+    unfolding are_key_sizes is_length_for keyslot_object area_object integer_member segment_is segment_by
+    keys_fit =
+        let payload = segment2-ok (metadata_of p) (bounds_of p) segment_is segment_read in
+        rw (payload.mode, area_mode_said, fits.keys.0, fits.keys.1) refl
 
     striped : stripes_out_of_range (stripe_count_of (keyslot_object p slot)) ≡ false
     unfolding keyslot_object af_object integer_member
@@ -373,46 +304,24 @@ module _ (p : Seal2) (fits : AreParameters2 p) (typed : AreTyped2 p) where
 
     area_right : area2_out_of_range (2 * p.hdr_size) (payload2_start (metadata_of p) (bounds_of p))
         (keyslot_object p slot) ≡ false
-    unfolding area2_out_of_range keyslot_object area_object af_object integer_member
+    unfolding area2_out_of_range keyslot_object area_object af_object integer_member segment_is segment_by
     area_right =
-        rw (payload_start, start_said, length_said)
+        let payload = segment2-ok (metadata_of p) (bounds_of p) segment_is segment_read in
+        let need = need_fits (length p.key.now) slot.stripes in
+        rw (payload.start refl, start_said, length_said)
         (area_fits (2 * p.hdr_size) p.offset (area_start p slot.number) (area_size (length p.key.now) slot.stripes)
-        (need_of (length p.key.now) slot.stripes) (area_after_headers p slot.number)
-        (need_fits (length p.key.now) slot.stripes)
-        (omega (arith, ends_before, need_fits (length p.key.now) slot.stripes)) fits.offset.1)
-
-    type_is : is_type (codes "luks2") (keyslot_object p slot) ≡ true
-    unfolding string_is string_member keyslot_object
-    type_is = refl
-
-    kdf_type_is : (type : List ℕ) → is_kdf_type type (keyslot_object p slot) ≡ bytes_eq type (codes "pbkdf2")
-    unfolding string_is string_member keyslot_object kdf_object
-    kdf_type_is type = refl
+        (need_of (length p.key.now) slot.stripes) (area_after_headers p slot.number) need
+        (omega (arith, ends_before, need)) fits.offset.1)
 
     -- no reason to skip the slot holds
     no_reasons : reason2_of (metadata_of p) (bounds_of p) None slot.number (keyslot_object p slot) ≡ None
-    unfolding reason2_of has_unknown_hash
+    unfolding reason2_of has_unknown_hash keyslot_object kdf_object string_is string_member
     no_reasons =
-        rw (
-          type_is,
-          members_said,
-          kdf_type_is (codes "argon2i"),
-          kdf_type_is (codes "argon2id"),
-          kdf_type_is (codes "pbkdf2"),
-          kdf_hash_said,
-          af_hash_said,
-          area_mode_said,
-          keys_fit,
-          striped,
-          counted,
-          area_right,
-          digested,
-        ) refl
+        rw (members_said, kdf_hash_said, af_hash_said, area_mode_said, keys_fit, striped, counted, area_right, digested)
+        refl
 
     in_range : are_in_range (slot_parts2_of (keyslot_object p slot)) ≡ true
-    in_range =
-        range_of (metadata_of p) (bounds_of p) None slot.number (keyslot_object p slot)
-        (no_reason (metadata_of p) (bounds_of p) None slot.number (keyslot_object p slot) no_reasons)
+    in_range = (slot_there (metadata_of p) (bounds_of p) None slot.number (keyslot_object p slot) no_reasons).0
 
     -- the slot, which has the stated parts
     pub slot_is : Slot

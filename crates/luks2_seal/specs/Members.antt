@@ -2,7 +2,7 @@
 use Rattle.std.specs.Prelude.{ℕ, List, [], ◌∷◌}
 use Rattle.std.specs.Borrow.{Bor}
 use Rattle.serde_json.specs.Data.{Data, Members, number, put, string, unsigned}
-use Rattle.luks2_seal.specs.Metadata2.{base64_value, decimal_value, encryption_value}
+use Rattle.luks2_seal.specs.Layout2.{base64_value, decimal_value, encryption_value}
 use Rattle.luks2_seal.specs.declared.members.Content.{Content}
 use Rattle.luks2_seal.specs.declared.members.Content.TheVariants.{Text, Number, Decimal, Bytes, Encryption}
 

@@ -66,7 +66,7 @@ pub(crate) fn area_start(seal: &Seal2<'_>, number: u32) -> u64
 }
 
 /// The key that encrypts a slot's area.
-#[tactic(auto, using(crate::proofs::RangeLemmas::bounds), unfolding(crate::specs::Layout2::area_key_of))]
+#[tactic(auto, using(crate::proofs::Bounds::bounds), unfolding(crate::specs::Layout2::area_key_of))]
 fn area_key_of(alloc: Global, seal: &Seal2<'_>, slot: &Slot2<'_>) -> Result<Vec<u8>, AllocError>
     requires fits { AreParameters2 seal.now }
     requires slot { FitsSlot2 (length seal.now.key.now) slot.now }
@@ -83,7 +83,7 @@ fn area_key_of(alloc: Global, seal: &Seal2<'_>, slot: &Slot2<'_>) -> Result<Vec<
 }
 
 /// Adds a slot's area.
-#[tactic(auto, using(crate::proofs::RangeLemmas::bounds), unfolding(crate::specs::Layout2::area_of))]
+#[tactic(auto, using(crate::proofs::Bounds::bounds), unfolding(crate::specs::Layout2::area_of))]
 fn push_area(
     alloc: Global,
     image: &mut Vec<u8>,

@@ -5,9 +5,7 @@ ghost use Rattle.luks_kdf.specs.Hash.{hash_of};
 ghost use Rattle.luks_kdf.specs.declared.hash.Hash.TheVariants.{Sha256};
 ghost use Rattle.luks_seal.specs.Pieces.{padded};
 ghost use Rattle.luks2_seal.specs.Layout2.{fields_end_bytes, fields_of, header2_bytes, headers_of};
-ghost use Rattle.luks2_seal.specs.Layout2.{middle_of};
-ghost use Rattle.luks2_seal.specs.Layout2.{body_bytes, start_of};
-ghost use Rattle.luks2_seal.specs.Metadata2.{json_of};
+ghost use Rattle.luks2_seal.specs.Layout2.{body_bytes, json_of, middle_of, start_of};
 ghost use Rattle.luks2_seal.specs.Ranges2.{AreParameters2};
 
 use luks_kdf::{Hash, digest};
@@ -78,7 +76,7 @@ fn fields_of(
 }
 
 /// The bytes after the checksum: zeros, and the JSON area.
-#[tactic(auto, using(crate::proofs::RangeLemmas::limits), unfolding(crate::specs::Layout2::body_bytes))]
+#[tactic(auto, using(crate::proofs::Bounds::limits), unfolding(crate::specs::Layout2::body_bytes))]
 fn body_bytes(alloc: Global, seal: &Seal2<'_>, json: &[u8]) -> Result<Vec<u8>, AllocError>
     requires fits { AreParameters2 seal.now }
     requires json { json.now ≡ json_of seal.now }

@@ -3,8 +3,7 @@
 ghost use Rattle.std.specs.Prelude.{◌≡◌, ◌++◌, IfOk, OnOk};
 ghost use Rattle.luks_seal.specs.Ranges.{SealAnswerLate};
 ghost use Rattle.luks_seal.specs.Sealed.{Sealed};
-ghost use Rattle.luks2_seal.specs.Layout2.{image2_of, payload_of};
-ghost use Rattle.luks2_seal.specs.Metadata2.{FitsJson, json_of};
+ghost use Rattle.luks2_seal.specs.Layout2.{FitsJson, image2_of, json_of, payload_of};
 ghost use Rattle.luks2_seal.specs.Ranges2.{AreParameters2, passphrases2_of};
 
 use crate::areas::push_areas;
@@ -60,7 +59,7 @@ fn image_of(alloc: Global, seal: &Seal2<'_>, json: &[u8]) -> Result<Vec<u8>, All
 /// [`Parameters`](SealFault::Parameters) if a parameter is out of range, before any memory is
 /// allocated, or if the JSON text does not fit the header, which is only known after the text is
 /// made; otherwise [`Memory`](SealFault::Memory) if memory runs out.
-#[tactic(auto, using(crate::proofs::RangeLemmas::limits))]
+#[tactic(auto, using(crate::proofs::Bounds::limits))]
 pub fn seal2(alloc: Global, seal: &Seal2<'_>) -> Result<Vec<u8>, SealFault>
     ensures answer { SealAnswerLate (AreParameters2 seal.now) (FitsJson seal.now) result }
     ensures image { IfOk result (λ image. image.items ≡ image2_of seal.now) }

@@ -4,7 +4,7 @@ ghost use Rattle.std.specs.Prelude.{◌≡◌, IfOk, OnOk};
 ghost use Rattle.serde_json.specs.Data.{no_members, object, put};
 ghost use Rattle.serde_json.specs.View.{members_view, view};
 ghost use Rattle.luks2_seal.specs.Members.{data_of, with_members};
-ghost use Rattle.luks2_seal.specs.Metadata2.{base64_value, decimal_value, encryption_value};
+ghost use Rattle.luks2_seal.specs.Layout2.{base64_value, decimal_value, encryption_value};
 
 use base64::engine::general_purpose::STANDARD;
 use luks_cipher::Mode;

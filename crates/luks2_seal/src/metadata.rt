@@ -4,10 +4,10 @@ ghost use Rattle.std.specs.Prelude.{◌≡◌, [], ◌∷◌, IfOk, OnOk, codes,
 ghost use Rattle.luks_kdf.specs.Hash.{digest_len};
 ghost use Rattle.luks_kdf.specs.Pbkdf2.{derived_key};
 ghost use Rattle.luks2_seal.specs.Members.{data_of};
-ghost use Rattle.luks2_seal.specs.Metadata2.{ReadsBack, af_object, area_object, base64_value};
-ghost use Rattle.luks2_seal.specs.Metadata2.{config_object, digest_object, json_of, kdf_object};
-ghost use Rattle.luks2_seal.specs.Metadata2.{keyslot_object, keyslots_below, metadata_of};
-ghost use Rattle.luks2_seal.specs.Metadata2.{names_below, segment_object, size_value};
+ghost use Rattle.luks2_seal.specs.Layout2.{ReadsBack, af_object, area_object, base64_value};
+ghost use Rattle.luks2_seal.specs.Layout2.{config_object, digest_object, json_of, kdf_object};
+ghost use Rattle.luks2_seal.specs.Layout2.{keyslot_object, keyslots_below, metadata_of};
+ghost use Rattle.luks2_seal.specs.Layout2.{names_below, segment_object, size_value};
 ghost use Rattle.luks2_seal.specs.Ranges2.{AreParameters2, FitsSlot2};
 ghost use Rattle.serde_json.specs.Data.{array, member, no_members, object, put, string};
 ghost use Rattle.serde_json.specs.View.{items_of, members_view, view};
@@ -20,7 +20,7 @@ use serde_json::{Map, Value, json, put};
 use std::alloc::{AllocError, Global};
 
 /// Puts `af` into the key slot: how the key is split into stripes.
-#[tactic(auto, unfolding(crate::specs::Metadata2::af_object))]
+#[tactic(auto, unfolding(crate::specs::Layout2::af_object))]
 fn put_af(alloc: Global, map: &mut Map<String, Value>, slot: &Slot2<'_>) -> Result<(), AllocError>
     ensures { OnOk result (members_view map.new.entries
         ≡ put (codes "af") (af_object slot.now) (members_view map.old.entries)) }
@@ -38,7 +38,7 @@ fn put_af(alloc: Global, map: &mut Map<String, Value>, slot: &Slot2<'_>) -> Resu
 }
 
 /// Puts `area` into the key slot: where the key material is, and how it is encrypted.
-#[tactic(auto, using(crate::proofs::RangeLemmas::bounds), unfolding(crate::specs::Metadata2::area_object))]
+#[tactic(auto, using(crate::proofs::Bounds::bounds), unfolding(crate::specs::Layout2::area_object))]
 fn put_area(
     alloc: Global,
     map: &mut Map<String, Value>,
@@ -68,7 +68,7 @@ fn put_area(
 }
 
 /// Puts `kdf` into the key slot: how the key of the area is derived from the passphrase.
-#[tactic(auto, unfolding(crate::specs::Metadata2::kdf_object))]
+#[tactic(auto, unfolding(crate::specs::Layout2::kdf_object))]
 fn put_kdf(alloc: Global, map: &mut Map<String, Value>, slot: &Slot2<'_>) -> Result<(), AllocError>
     ensures { OnOk result (members_view map.new.entries
         ≡ put (codes "kdf") (kdf_object slot.now) (members_view map.old.entries)) }
@@ -98,7 +98,7 @@ fn keyslot_object(alloc: Global, seal: &Seal2<'_>, slot: &Slot2<'_>) -> Result<V
 }
 
 /// Puts the members of a key slot into an empty object.
-#[tactic(auto, unfolding(crate::specs::Metadata2::keyslot_object))]
+#[tactic(auto, unfolding(crate::specs::Layout2::keyslot_object))]
 fn put_keyslot(
     alloc: Global,
     map: &mut Map<String, Value>,
@@ -126,7 +126,7 @@ fn put_keyslot(
 }
 
 /// All key slots, each under its number.
-#[tactic(auto, unfolding(crate::specs::Metadata2::keyslots_below))]
+#[tactic(auto, unfolding(crate::specs::Layout2::keyslots_below))]
 fn keyslots(alloc: Global, seal: &Seal2<'_>) -> Result<Map<String, Value>, AllocError>
     requires { AreParameters2 seal.now }
     ensures { IfOk result (λ map. members_view map.entries ≡ keyslots_below seal.now 32) }
@@ -143,7 +143,7 @@ fn keyslots(alloc: Global, seal: &Seal2<'_>) -> Result<Map<String, Value>, Alloc
 }
 
 /// The numbers of the key slots as strings, in ascending order.
-#[tactic(auto, unfolding(crate::specs::Metadata2::names_below))]
+#[tactic(auto, unfolding(crate::specs::Layout2::names_below))]
 fn keyslot_names(alloc: Global, seal: &Seal2<'_>) -> Result<Vec<Value>, AllocError>
     requires { AreParameters2 seal.now }
     ensures { IfOk result (λ names. map view names.items ≡ names_below seal.now 32) }
@@ -200,7 +200,7 @@ fn digest_object(alloc: Global, seal: &Seal2<'_>) -> Result<Value, AllocError>
 }
 
 /// Puts the members of the digest into an empty object.
-#[tactic(auto, unfolding(crate::specs::Metadata2::digest_object))]
+#[tactic(auto, unfolding(crate::specs::Layout2::digest_object))]
 fn put_digest(
     alloc: Global,
     map: &mut Map<String, Value>,
@@ -245,7 +245,7 @@ fn size_value<'a>(fixed: bool, len: usize) -> Content<'a>
 }
 
 /// Where the payload is, and how it is encrypted.
-#[tactic(auto, unfolding(crate::specs::Metadata2::segment_object))]
+#[tactic(auto, unfolding(crate::specs::Layout2::segment_object))]
 fn segment_object(alloc: Global, seal: &Seal2<'_>) -> Result<Value, AllocError>
     ensures { IfOk result (λ value. view value ≡ segment_object seal.now) }
 {
@@ -266,7 +266,7 @@ fn segment_object(alloc: Global, seal: &Seal2<'_>) -> Result<Value, AllocError>
 }
 
 /// Puts the lengths of the JSON area, and of the space for key material, into the metadata.
-#[tactic(auto, using(crate::proofs::RangeLemmas::limits), unfolding(crate::specs::Metadata2::config_object))]
+#[tactic(auto, using(crate::proofs::Bounds::limits), unfolding(crate::specs::Layout2::config_object))]
 fn put_config(
     alloc: Global,
     map: &mut Map<String, Value>,
@@ -316,7 +316,7 @@ fn put_zeroth(
 }
 
 /// Puts all metadata into an empty object.
-#[tactic(auto, unfolding(crate::specs::Metadata2::metadata_of))]
+#[tactic(auto, unfolding(crate::specs::Layout2::metadata_of))]
 fn put_metadata(
     alloc: Global,
     map: &mut Map<String, Value>,
@@ -339,7 +339,7 @@ fn put_metadata(
 }
 
 /// The JSON text.
-#[tactic(auto, unfolding(crate::specs::Metadata2::json_of))]
+#[tactic(auto, unfolding(crate::specs::Layout2::json_of))]
 pub(crate) fn json_of(alloc: Global, seal: &Seal2<'_>) -> Result<Vec<u8>, AllocError>
     requires { AreParameters2 seal.now }
     ensures text { IfOk result (λ text. text.items ≡ json_of seal.now) }

@@ -78,7 +78,7 @@ fn fits_offset(seal: &Seal2<'_>) -> bool
 }
 
 /// All parameters are in their ranges, as far as they can be checked without the JSON text.
-#[tactic(auto, using(crate::proofs::RangeLemmas::limits))]
+#[tactic(auto, using(crate::proofs::Bounds::limits))]
 pub(crate) fn are_parameters2(seal: &Seal2<'_>) -> bool
     ensures { IsTrue result ↔ AreParameters2 seal.now }
 {

@@ -10,10 +10,8 @@ use Rattle.luks_report.specs.declared.message.Message.{Message}
 use Rattle.luks_report.specs.declared.message.Message.TheVariants.{Done, KeyFileLength, OutOfMemory, ReadFailed}
 use Rattle.luks_report.specs.declared.message.Message.TheVariants.{WriteFailed}
 use Rattle.luks_request.specs.Request.{VolumeRequest}
-use Rattle.luks_runs.specs.Run.{Outcome, no_output}
-use Rattle.luks_runs.specs.Location.{HeaderReader}
-use Rattle.luks_runs.specs.Run.{aborts}
-use Rattle.luks_runs.specs.Location.{reader_for}
+use Rattle.luks_runs.specs.Run.{Outcome, aborts, no_output}
+use Rattle.luks_runs.specs.Location.{HeaderReader, reader_for}
 use Rattle.luks_runs.specs.declared.location.HeaderLocation.{HeaderLocation}
 use Rattle.luks_runs.specs.declared.location.HeaderLocation.TheVariants.{Attached, Detached}
 use Rattle.luks_unlock.proofs.HonestVolumes.{unsealed}
@@ -23,9 +21,8 @@ use Rattle.luks_unlock.specs.OpeningMessages.{OpeningMessage}
 use Rattle.luks_unlock.specs.Trying.{opened_of}
 use Rattle.luks_unlock.specs.declared.found.FoundVolume.{FoundVolume}
 use Rattle.luks_unlock.specs.declared.unlocked.UnlockedVolume.{UnlockedVolume}
-use Rattle.luks_unlock.specs.Volume.{OnOpened, detached_payload_outcome, unlock_read_len, payload_outcome}
-use Rattle.luks_unlock.specs.Volume.{outcome_after, volume_by, volume_in_header, volume_outcome_by, Volume}
-use Rattle.luks_unlock.specs.Volume.{found_outcome}
+use Rattle.luks_unlock.specs.Volume.{OnOpened, Volume, detached_payload_outcome, found_outcome, outcome_after}
+use Rattle.luks_unlock.specs.Volume.{payload_outcome, unlock_read_len, volume_by, volume_in_header, volume_outcome_by}
 use Rattle.luks_verdict.specs.declared.segment.Segment.{Segment}
 use Rattle.luks_payload.proofs.SectorLemmas.{by_ending}
 use Rattle.luks_payload.specs.Plain.{ending_of, ending_of_len, bytes_from_start, sector_len}
@@ -81,9 +78,8 @@ module _ (options : Options) (o : VolumeRequest) (image pass : List ℕ) (i : Op
 
     as_found : (on_opened : OnOpened) → volume_outcome_by (reader_for options.location) on_opened o image pass
         ≡ found_outcome on_opened o.key_slot described image pass
-    as_found on_opened =
+    as_found =
         found_is options.location o image pass volume.header volume.segment volume.order read slots.segment slots.order
-        on_opened
 
     -- the volume was not opened
     pub refused_unopened : (message : Message) → aborts message ≡ false
@@ -166,8 +162,6 @@ volume_refused options image pass message only refuses = record {
   refuses = refuses;
   no_honest = λ o plain attached has never honest.
       let refused = rw attached at ((refuses never).outcome o has (payload_outcome image pass)) in
-      let done : message ≡ Done =
-      sym (ap (λ (out : Outcome). out.message) refused) ∙ (unsealed o image pass plain honest).1 in
-      let P : Message → Type 0 = λ m. OpeningMessage m in
-      subst P done only;
+      let done = sym (ap (λ (out : Outcome). out.message) refused) ∙ (unsealed o image pass plain honest).1 in
+      subst OpeningMessage done only;
 }

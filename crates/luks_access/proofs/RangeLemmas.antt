@@ -1,41 +1,28 @@
 -- Parts of a plaintext: sectors that are decrypted one after the other, and ranges, from those of their parts.
-use Rattle.std.proofs.Common.{◌≡◌, ℕ, zero, suc, ◌+◌, ◌-◌, ◌*◌, ◌/◌, ◌%◌, ◌<◌, ◌≤◌, List, [], ◌++◌, length, take, drop}
-use Rattle.std.proofs.Common.{length-drop, length-take-le, append-nil, append_assoc, add-one, arith, refl, sym, ap, ◌∙◌}
+use Rattle.std.proofs.Common.{◌≡◌, ℕ, suc, ◌+◌, ◌-◌, ◌*◌, ◌/◌, ◌%◌, ◌<◌, ◌≤◌, List, [], ◌++◌, length, take, drop}
+use Rattle.std.proofs.Common.{length-drop, append-nil, append_assoc, add-one, arith, refl, sym, ap, ◌∙◌}
 use Rattle.std.proofs.Common.{length-append, Option, Some, Result, Ok, Err, Bool, true, subst}
-use Rattle.std.proofs.lemmas.List.{drop-drop, drop_all}
+use Rattle.std.proofs.lemmas.List.{drop-drop, drop_all, drop_at, take_at}
 use Rattle.std.proofs.Math.Nat.{div-mul_cancel, dvd_of_mod-eq-zero}
 use Rattle.std.specs.Prelude.{OnOk}
 use Rattle.std.proofs.Math.Seq.{take-add}
 use Rattle.luks_io.specs.Devices.{IfKnown}
-use Rattle.luks_kdf.proofs.BytesLemmas.{take_prefix, drop_prefix}
+use Rattle.luks_cipher.proofs.UnitLemmas.{joined_more}
 use Rattle.luks_cipher.proofs.UnitsUndone.{joined_same}
 use Rattle.luks_cipher.specs.Sector.{Cipher, sector_decrypted}
 use Rattle.luks_cipher.specs.Xts.{joined}
 use Rattle.luks_verdict.specs.declared.segment.Segment.{Segment}
-use Rattle.luks_verdict.proofs.SectorLemmas.{sector_blocks}
-use Rattle.luks_payload.specs.Plain.{bytes_from_start, plain_of, sector_len, sector_plaintext, sector_start, sectors_of}
+use Rattle.luks_payload.specs.Plain.{plain_of, sector_len, sector_plaintext, sector_start, sectors_of}
 use Rattle.luks_payload.specs.Plain.{unit_number, unit_plain, payload_bytes}
+use Rattle.luks_payload.proofs.ForwardingLemmas.{two_parts}
 use Rattle.luks_payload.proofs.SectorLemmas.{one_more_fits}
-use Rattle.luks_runs.proofs.PayloadLemmas.{joined_length, unit_len, within_len, plain_len}
-use Rattle.luks_access.specs.Sectors.{AreStored, plain_at, plain_in, sector_in}
-use Rattle.luks_access.specs.Image.{IsRangeOf}
-use Rattle.luks_access.specs.Range.{ReadsRange, plaintext_len}
+use Rattle.luks_runs.proofs.PayloadLemmas.{joined_length, plain_len, sector_size, take_whole}
+use Rattle.luks_access.specs.Sectors.{AreStored, IsRangeOf, ReadsRange, plain_at, plain_in, plaintext_len, sector_in}
 use Rattle.luks_access.specs.declared.fault.RangeFault.{RangeFault}
 use Rattle.luks_access.specs.declared.fault.RangeFault.TheVariants.{PastEnd, Read, Shorter}
 use Rattle.luks_area.proofs.FieldLemmas.{at_beginning}
 
 -- ---- joined pieces
-
--- a + n joined pieces are the first a of them, followed by n more
-joined_both : (f : ℕ → List ℕ) (a n : ℕ) → joined f (a + n) ≡ joined f a ++ joined (λ j. f (a + j)) n
-unfolding joined
-joined_both f a zero =
-    let e : a + 0 ≡ a = omega arith in
-    rw e (sym (append-nil (joined f a)))
-joined_both f a (suc n) =
-    let e : a + suc n ≡ suc (a + n) = omega arith in
-    rw e
-    (ap (λ l. l ++ f (a + n)) (joined_both f a n) ∙ append_assoc (joined f a) (joined (λ j. f (a + j)) n) (f (a + n)))
 
 -- n pieces from number a on are a part of the joined pieces
 joined_part : (f : ℕ → List ℕ) (z a n total : ℕ) → ((j : ℕ) → j < total → length (f j) ≡ z) → a + n ≤ total
@@ -43,14 +30,11 @@ joined_part : (f : ℕ → List ℕ) (z a n total : ℕ) → ((j : ℕ) → j < 
 joined_part f z a n total sizes few =
     let rest = total - (a + n) in
     let all : total ≡ a + (n + rest) = omega arith in
-    let g : ℕ → List ℕ = λ j. f (a + j) in
     let prefix : length (joined f a) ≡ a * z = joined_length f z a (λ j low. sizes j (omega arith)) in
-    let middle : length (joined g n) ≡ n * z = joined_length g z n (λ j low. sizes (a + j) (omega arith)) in
     ap (λ k. take (n * z) (drop (a * z) (joined f k))) all
-    ∙ (ap (λ l. take (n * z) (drop (a * z) l)) (joined_both f a (n + rest))
-    ∙ (ap (take (n * z)) (drop_prefix (a * z) (joined f a) (joined g (n + rest)) prefix)
-    ∙ (ap (take (n * z)) (joined_both g n rest)
-    ∙ take_prefix (n * z) (joined g n) (joined (λ j. g (n + j)) rest) middle)))
+    ∙ (ap (λ l. take (n * z) (drop (a * z) l)) (joined_more f a (n + rest))
+    ∙ (ap (take (n * z)) (drop_at (joined f a) (joined (λ j. f (a + j)) (n + rest)) (a * z) prefix)
+    ∙ take_whole (λ j. f (a + j)) z (n + rest) n (λ j low. sizes (a + j) (omega arith)) (omega arith)))
 
 -- ---- sectors decrypted one after the other
 
@@ -74,8 +58,8 @@ module _ (s : Segment) (cipher : Cipher) (first : ℕ) (stored : List ℕ) where
       let next : a + size ≡ (j + 1) * size = omega arith in
       let long : length (joined f j) ≡ a =
       omega (arith, ap length is_now, length-append (joined f j) (drop a stored), length-drop a stored) in
-      let prefix : take a now ≡ joined f j = rw is_now (take_prefix a (joined f j) (drop a stored) long) in
-      let back : drop a now ≡ drop a stored = rw is_now (drop_prefix a (joined f j) (drop a stored) long) in
+      let prefix : take a now ≡ joined f j = rw is_now (take_at (joined f j) (drop a stored) a long) in
+      let back : drop a now ≡ drop a stored = rw is_now (drop_at (joined f j) (drop a stored) a long) in
       let here : new ≡ f j = is_new ∙ rw (back, width, is_size) refl in
       let rest : drop (a + size - a) (drop a now) ≡ drop ((j + 1) * size) stored =
       rw (back, width) (drop-drop size a stored ∙ ap (λ n. drop n stored) next) in
@@ -95,16 +79,6 @@ module _ (s : Segment) (cipher : Cipher) (first : ℕ) (stored : List ℕ) where
 -- ---- sectors of an image
 
 module _ (s : Segment) (cipher : Cipher) (image : List ℕ) where
-  -- a sector of the payload has its full length
-  len_of : (j : ℕ) → j < sectors_of s image → length (sector_plaintext s cipher image j) ≡ sector_len s
-  len_of j low =
-      let z = sector_blocks s.sector_size in
-      let all = one_more_fits j (payload_bytes s.size (bytes_from_start s image)) (sector_len s) low in
-      let within = within_len s.size (bytes_from_start s image) in
-      let piece = length-take-le (sector_len s) (drop (sector_start s j) image)
-      (omega (arith, z.long, length-drop (sector_start s j) image)) in
-      unit_len cipher _ _ (ap (λ n. n % 16) piece ∙ z.blocks) ∙ piece
-
   -- sector j of the stored ones is sector `first + j` of the payload
   same_sector : (first : ℕ) (stored : List ℕ) → stored ≡ take (length stored) (drop (sector_start s first) image)
       → (j : ℕ) → j < length stored / sector_len s
@@ -127,7 +101,8 @@ module _ (s : Segment) (cipher : Cipher) (image : List ℕ) where
       div-mul_cancel (sector_len s) (dvd_of_mod-eq-zero (sector_len s) whole) in
       sym (joined_same (λ j. sector_plaintext s cipher image (first + j)) (sector_in s cipher first stored) n
       (same_sector first stored are.there)) ∙ (sym
-      (joined_part (sector_plaintext s cipher image) (sector_len s) first n (sectors_of s image) len_of are.within)
+      (joined_part (sector_plaintext s cipher image) (sector_len s) first n (sectors_of s image)
+      (sector_size s image cipher) are.within)
       ∙ ap (λ k. take k (drop (first * sector_len s) (plain_of s cipher image))) len)
 
 -- ---- parts of a text
@@ -143,15 +118,6 @@ range_joined text a b offset first second =
     sym (ap (λ k. take k (drop offset text)) (length-append a b) ∙ joined)
 
 -- ---- parts that were read
-
--- a list whose first n elements are `a`, with `b` in place of the rest
-two_parts : (a rest b : List ℕ) (n : ℕ) → length a ≡ n
-    → take n (a ++ rest) ++ (b ++ drop (length (a ++ rest) - n) (drop n (a ++ rest))) ≡ a ++ b
-two_parts a rest b n long =
-    let none : drop (length (a ++ rest) - n) (drop n (a ++ rest)) ≡ [] =
-    drop_all (length (a ++ rest) - n) (drop n (a ++ rest)) (omega (arith, length-drop n (a ++ rest))) in
-    ap (λ l. l ++ (b ++ drop (length (a ++ rest) - n) (drop n (a ++ rest)))) (take_prefix n a rest long)
-    ∙ ap (λ l. a ++ l) (ap (λ l. b ++ l) none ∙ append-nil b)
 
 -- a part of a sector that was read whole is a range of the text
 pub part_read : (text unit bytes : List ℕ) (offset skip n : ℕ) → IsRangeOf text (offset - skip) unit → skip ≤ offset
@@ -187,10 +153,10 @@ module _ (s : Segment) (cipher : Cipher) (len : ℕ) (image : Option (List ℕ))
   reads_rest n a rest b (Err Shorter) long first second = second
 
   -- if `len` is the length of the image's plaintext, a range was read, or the image did not become shorter
-  module _ (bytes : List ℕ)
-      (long : (known : List ℕ) → image ≡ Some known → len ≡ length (plain_of s cipher known)) where
+  module _ (bytes : List ℕ) (image_len : ℕ) (counted : IfKnown image (λ known. image_len ≡ length known))
+      (long : (known : List ℕ) → length known ≡ image_len → len ≡ length (plain_of s cipher known)) where
     all_of : (known : List ℕ) → image ≡ Some known → plaintext_len s known ≡ len
-    all_of known is = sym (long known is ∙ plain_len s known cipher)
+    all_of known is = sym (long known (sym (counted known is)) ∙ plain_len s known cipher)
 
     pub range_ends : (result : Result (Unit {0}) RangeFault) → ReadsRange s cipher len image fails offset result bytes
         → OnOk result (IfKnown image (λ known. IsRangeOf (plain_of s cipher known) offset bytes))

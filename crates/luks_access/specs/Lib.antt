@@ -1,4 +1,2 @@
-pub mod Image
 pub mod Opens
-pub mod Range
 pub mod Sectors

@@ -6,10 +6,8 @@ use Rattle.luks_report.specs.declared.message.Message.{Message}
 use Rattle.luks_report.specs.declared.message.Message.TheVariants.{KeyFileLength}
 use Rattle.luks_request.specs.Request.{VolumeRequest}
 use Rattle.luks_runs.specs.KeyFile.{max_key_file_len}
-use Rattle.luks_runs.specs.Run.{Outcome, no_output}
-use Rattle.luks_runs.specs.Run.{aborts}
-use Rattle.luks_runs.specs.Location.{detached_header_of}
-use Rattle.luks_runs.specs.Location.{reader_for}
+use Rattle.luks_runs.specs.Run.{Outcome, aborts, no_output}
+use Rattle.luks_runs.specs.Location.{detached_header_of, reader_for}
 use Rattle.luks_runs.specs.declared.location.HeaderLocation.{HeaderLocation}
 use Rattle.luks_runs.specs.declared.location.HeaderLocation.TheVariants.{Attached, Detached}
 use Rattle.luks_unlock.specs.Honest.{OpensHonest}

@@ -15,7 +15,7 @@ pub enum RangeFault {
 
 impl From<ReadAtFault> for RangeFault {
     ghost use Rattle.std.specs.Prelude.{◌≡◌};
-    ghost use Rattle.luks_access.specs.Range.{range_fault};
+    ghost use Rattle.luks_access.specs.Sectors.{range_fault};
 
     ghost from_gives = { λ it fault. fault ≡ range_fault it };
 

@@ -2,7 +2,7 @@
 
 ghost use Rattle.std.specs.Prelude.{◌≡◌, ◌+◌, ◌<◌, Bool, List, ℕ, Option, Err, OnOk, length, true};
 ghost use Rattle.luks_io.specs.Devices.{IfKnown};
-ghost use Rattle.luks_access.specs.Image.{IsAt};
+ghost use Rattle.luks_access.specs.Sectors.{IsAt};
 
 /// Why bytes of an image were not read.
 #[derive(Clone, Copy, PartialEq, Eq, Debug)]

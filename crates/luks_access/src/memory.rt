@@ -3,7 +3,7 @@
 ghost use Rattle.std.specs.Prelude.{◌≡◌, ◌+◌, ◌<◌, ◌≤◌, List, ℕ, Some, Err};
 ghost use Rattle.std.specs.Prelude.{IfErr, MatchOption, OnOk, false, length, true};
 ghost use Rattle.luks_io.specs.Devices.{IfKnown};
-ghost use Rattle.luks_access.specs.Image.{IsAt};
+ghost use Rattle.luks_access.specs.Sectors.{IsAt};
 
 use crate::image::{ReadAt, ReadAtFault};
 use std::marker::Model;

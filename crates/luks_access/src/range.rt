@@ -2,7 +2,7 @@
 
 ghost use Rattle.std.specs.Prelude.{◌≡◌, ◌+◌, ◌%◌, ◌<◌, ◌≤◌, ◌^◌, length};
 ghost use Rattle.luks_payload.specs.Plain.{sector_len};
-ghost use Rattle.luks_access.specs.Range.{ReadsRange};
+ghost use Rattle.luks_access.specs.Sectors.{ReadsRange};
 
 use crate::fault::RangeFault;
 use crate::image::ReadAt;

@@ -2,7 +2,7 @@
 
 ghost use Rattle.std.specs.Prelude.{◌≡◌};
 ghost use Rattle.luks_io.specs.Counts.{unread};
-ghost use Rattle.luks_access.specs.Image.{remaining_from};
+ghost use Rattle.luks_access.specs.Sectors.{remaining_from};
 
 use crate::image::ReadAt;
 use luks_io::DeviceFault;
@@ -35,7 +35,7 @@ impl<'a, I: ReadAt> ImageSource<'a, I> {
 }
 
 impl<'a, I: ReadAt> Source for ImageSource<'a, I> {
-    ghost use Rattle.luks_access.specs.Image.{remaining_from};
+    ghost use Rattle.luks_access.specs.Sectors.{remaining_from};
 
     ghost to_come = { λ s. remaining_from s.at (I.image s.image.now) };
 

@@ -10,7 +10,7 @@ ghost use Rattle.luks_unlock.specs.Found.{MatchesHeader};
 ghost use Rattle.luks_unlock.specs.OpeningMessages.{OpeningMessage};
 ghost use Rattle.luks_unlock.specs.Trying.{CountsTrials};
 ghost use Rattle.luks_payload.specs.Plain.{ending_of, sector_len};
-ghost use Rattle.luks_access.specs.Image.{IsRangeOf};
+ghost use Rattle.luks_access.specs.Sectors.{IsRangeOf};
 ghost use Rattle.luks_access.specs.Opens.{OpensVolume, RefusesVolume, UnlocksVolume, plaintext_of};
 
 use crate::fault::RangeFault;

@@ -7,11 +7,10 @@ use Rattle.std.proofs.lemmas.Bool.{agree_below_at, ltb-true}
 use Rattle.luks_aes.specs.Field.{◌⊕◌, ◌•◌, times_x, product_of_bits, power_of_x}
 use Rattle.luks_aes.specs.Aes.{sbox, cell, state_of, sub_bytes, shift_rows, multiplied_columns, add_round_key, word_of}
 use Rattle.luks_aes.specs.Aes.{word_at, word_xor, rot_word, sub_word, round_constant, next_word, with_next_word}
-use Rattle.luks_aes.specs.Aes.{words_after, key_expansion, state_after, cipher, encrypted}
+use Rattle.luks_aes.specs.Aes.{words_after, key_expansion, rounds_of, state_after, cipher, encrypted}
 use Rattle.luks_aes.specs.Bytes.{IsBytes}
 use Rattle.luks_aes.specs.declared.sbox.TheConstants.{SBOX}
-use Rattle.luks_aes.proofs.Bytes.{below_256}
-use Rattle.luks_aes.proofs.SboxLemmas.{sbox_entry}
+use Rattle.luks_aes.proofs.Bytes.{below_256, sbox_entry}
 
 -- ---- elements of the field
 
@@ -153,9 +152,7 @@ pub columns_state : (a s : List ℕ) → IsBytes s → IsState (multiplied_colum
 unfolding multiplied_columns
 columns_state a s all =
     made_state _ (λ r c.
-    let one : (k q : ℕ)
-    → slice_index a k • cell s q c
-    < 256 = λ k q. product_byte (slice_index a k) (cell s q c) (all.each (q + 4 * c)) in
+    let one = λ (k : ℕ) (q : ℕ). product_byte (slice_index a k) (cell s q c) (all.each (q + 4 * c)) in
     xor_byte _ _ (xor_byte _ _ (xor_byte _ _ (one 0 r) (one 1 ((r + 1) % 4))) (one 2 ((r + 2) % 4)))
     (one 3 ((r + 3) % 4)))
 
@@ -171,16 +168,10 @@ after_state block w (suc n) is keys =
     let shifted = shift_rows_state _ (sub_bytes_state _ (after_state block w n is keys).bytes).bytes in
     add_round_key_state _ w (suc n) (columns_state (2 ∷ 3 ∷ 1 ∷ 1 ∷ []) _ shifted.bytes).bytes keys
 
-pub cipher_state : (block : List ℕ) (nr : ℕ) (w : List ℕ) → IsState block → IsBytes w → IsState (cipher block nr w)
-unfolding cipher
-cipher_state block nr w is keys =
-    let shifted = shift_rows_state _ (sub_bytes_state _ (after_state block w (nr - 1) is keys).bytes).bytes in
-    add_round_key_state _ w nr shifted.bytes keys
-
 pub encrypted_state : (key block : List ℕ) → IsBytes key → IsState block → IsState (encrypted key block)
-unfolding encrypted
-encrypted_state key block keys is = cipher_state block _ (key_expansion key) is (expansion_bytes key keys)
-
--- a key consists of bytes, since it is a prefix of its schedule
-pub key_bytes : (words : ℕ) (schedule key : List ℕ) → IsBytes schedule → take (4 * words) schedule ≡ key → IsBytes key
-key_bytes words schedule key all view = rw (← view) (bytes_take (4 * words) schedule all)
+unfolding encrypted cipher
+encrypted_state key block keys is =
+    let w = expansion_bytes key keys in
+    let after = after_state block (key_expansion key) (rounds_of key - 1) is w in
+    let shifted = shift_rows_state _ (sub_bytes_state _ after.bytes).bytes in
+    add_round_key_state _ (key_expansion key) (rounds_of key) shifted.bytes w

@@ -1,13 +1,7 @@
 pub mod Bytes
-pub mod SboxLemmas
 pub mod StateLemmas
-pub mod CipherLemmas
 pub mod ScheduleLemmas
 pub mod ByteLists
 pub mod MixingLemmas
 pub mod Undone
-pub mod WordLemmas
-pub mod TableLemmas
 pub mod ColumnLemmas
-pub mod InvMixedLemmas
-pub mod Redone

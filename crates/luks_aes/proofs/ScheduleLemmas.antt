@@ -9,6 +9,7 @@ use Rattle.luks_aes.specs.Aes.{key_expansion}
 use Rattle.luks_aes.specs.Bytes.{IsBytes}
 use Rattle.luks_aes.specs.Schedule.{IsSchedule}
 use Rattle.luks_aes.specs.Columns.{IsMultiplied}
+use Rattle.luks_aes.proofs.ByteLists.{bytes_take}
 
 pub known_key_length : (n : ℕ) → (n ≡ 16) ⊎ ((n ≡ 24) ⊎ (n ≡ 32)) → IsTrue (is_aes_key_length n)
 known_key_length n one =
@@ -79,7 +80,7 @@ expanded_is key schedule inv_mixed is bytes products expanded =
 
 -- ---- a schedule that the code keeps, and its key
 
-module _ (words : ℕ) (schedule inv_mixed key : List ℕ) (len : length schedule ≡ 240)
+module _ {words : ℕ} {schedule inv_mixed key : List ℕ} (len : length schedule ≡ 240)
     (is : IsSchedule words schedule inv_mixed) (view : take (4 * words) schedule ≡ key) where
   -- the number of words of the key that a schedule starts with
   words_are : words_of (take (4 * words) schedule) ≡ words
@@ -112,3 +113,7 @@ module _ (words : ℕ) (schedule inv_mixed key : List ℕ) (len : length schedul
       let i = r + 4 * (4 * n + c) in
       let rounds = rounds_are in
       sym (get_or-take (16 * (words + 6 + 1)) schedule i 0 (omega arith)) ∙ ap (λ l. slice_index l i) schedule_is
+
+  -- a key consists of bytes, since it is a prefix of its schedule
+  pub key_bytes : IsBytes key
+  key_bytes = rw (← view) (bytes_take (4 * words) schedule is.bytes)

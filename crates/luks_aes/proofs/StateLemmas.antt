@@ -1,5 +1,5 @@
 -- States that are written byte by byte.
-use Rattle.std.proofs.Common.{◌≡◌, ℕ, ◌+◌, ◌*◌, ◌%◌, ◌/◌, ◌<◌, ◌≤◌, List, length, inl, inr, arith, ap, ◌∙◌}
+use Rattle.std.proofs.Common.{◌≡◌, ℕ, ◌+◌, ◌%◌, ◌/◌, ◌<◌, ◌≤◌, List, length, inl, inr, arith, ap, ◌∙◌}
 use Rattle.std.specs.Prelude.{slice_index, slice_set}
 use Rattle.std.proofs.lemmas.List.{length-set, get_or-set_same, get_or-set_other}
 use Rattle.std.proofs.lemmas.List.FromFn.{fill_by_all}
@@ -34,8 +34,3 @@ filled_all f t n is all = fill_by_all (λ k. f (k % 4) (k / 4)) t 16 0 is.len (�
 -- byte i of a state is in row i % 4 and column i / 4
 pub cell_at : (s : List ℕ) (i : ℕ) → slice_index s i ≡ cell s (i % 4) (i / 4)
 cell_at s i = ap (slice_index s) (omega arith)
-
--- byte i of round key `round` is in the same row and column
-pub round_key_at : (w : List ℕ) (round i : ℕ)
-    → slice_index w (16 * round + i) ≡ slice_index w (i % 4 + 4 * (4 * round + i / 4))
-round_key_at w round i = ap (slice_index w) (omega arith)

@@ -6,7 +6,7 @@ ghost use Rattle.luks_aes.specs.Bytes.{IsBytes};
 ghost use Rattle.luks_aes.specs.Columns.{IsMultiplied};
 
 use crate::columns::{bytes_of, columns_of, inv_mixed_columns, mixed_columns, with_round_key};
-use crate::state::{add_round_key, inv_shift_rows, inv_sub_bytes, shift_rows, sub_bytes};
+use crate::state::{inv_shift_rows_and_sub_bytes, sub_bytes_and_shift_rows};
 
 /// The block after `rounds` rounds with the round keys of the schedule.
 pub fn cipher(block: [u8; 16], rounds: usize, schedule: &[u8]) -> [u8; 16]
@@ -20,7 +20,9 @@ pub fn cipher(block: [u8; 16], rounds: usize, schedule: &[u8]) -> [u8; 16]
         state = with_round_key(mixed, schedule, round);
     }
     let last = bytes_of(state);
-    add_round_key(shift_rows(sub_bytes(last)), schedule, rounds)
+    let shifted = columns_of(sub_bytes_and_shift_rows(last));
+    let sum = with_round_key(shifted, schedule, rounds);
+    bytes_of(sum)
 }
 
 /// The block whose cipher under the same round keys is `block`. `inv_mixed` has each word of the
@@ -39,5 +41,7 @@ pub fn inv_cipher(block: [u8; 16], rounds: usize, schedule: &[u8], inv_mixed: &[
         state = with_round_key(substituted, inv_mixed, round);
     }
     let last = bytes_of(state);
-    add_round_key(inv_sub_bytes(inv_shift_rows(last)), schedule, 0)
+    let shifted = columns_of(inv_shift_rows_and_sub_bytes(last));
+    let sum = with_round_key(shifted, schedule, 0);
+    bytes_of(sum)
 }

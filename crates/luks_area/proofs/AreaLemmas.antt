@@ -1,7 +1,7 @@
 -- An area that loads further bytes: zeros are appended to its bytes, and a source overwrites the first of these zeros.
 use Rattle.std.proofs.Common.{◌≡◌, ℕ, ◌+◌, ◌-◌, ◌≤◌, List, ◌++◌, Option, ◌∙◌, ap, subst, take, drop, length, min, arith}
-use Rattle.std.proofs.Common.{length-append, length-drop, take_all}
-use Rattle.std.proofs.lemmas.List.{take-append-le, take-take, length-replicate}
+use Rattle.std.proofs.Common.{length-append, length-drop}
+use Rattle.std.proofs.lemmas.List.{take-append-le, take-take, take_rest, length-replicate}
 use Rattle.std.proofs.Math.ListN.{replicate}
 use Rattle.std.proofs.Math.Seq.{take-append_seam, take-append-add}
 use Rattle.luks_io.specs.Devices.{ConsumedInto}
@@ -10,13 +10,12 @@ use Rattle.luks_area.specs.Area.{ConsumedOnto}
 module _ (old whole buf : List ℕ) (loaded n : ℕ) (is-whole : whole ≡ old ++ replicate n 0)
     (is-loaded : loaded ≡ length old)
     (kept : length buf ≡ length (take (length whole - loaded) (drop loaded whole))) where
+  all : length whole ≡ length old + n
+  all = ap length is-whole ∙ length-append old (replicate n 0) ∙ ap (λ k. length old + k) (length-replicate n 0)
+
   -- the buffer that a source fills is as long as the appended zeros
   pub length-capacity : length buf ≡ n
-  length-capacity =
-      kept ∙ ap length (take_all (length whole - loaded) (drop loaded whole) (omega (arith, length-drop loaded whole)))
-      ∙ (let all : length whole ≡ length old + n = ap length is-whole ∙ length-append old (replicate n 0)
-      ∙ ap (λ k. length old + k) (length-replicate n 0) in
-      omega (arith, length-drop loaded whole))
+  length-capacity = kept ∙ ap length (take_rest whole loaded) ∙ (omega (arith, all, length-drop loaded whole))
 
   module _ (rest more new : List ℕ) (len count : ℕ) (is-len : len ≡ length whole) (few : count ≤ length buf)
       (is : new ≡ take (loaded + count) (take len (take loaded whole ++ (buf ++ rest) ++ more))) where
@@ -26,10 +25,8 @@ module _ (old whole buf : List ℕ) (loaded n : ℕ) (is-whole : whole ≡ old +
         let prefix : take loaded whole ≡ old =
         ap (take loaded) is-whole ∙ ap (λ k. take k (old ++ replicate n 0)) is-loaded
         ∙ take-append_seam old (replicate n 0) in
-        let all : length whole ≡ length old + n = ap length is-whole ∙ length-append old (replicate n 0)
-        ∙ ap (λ k. length old + k) (length-replicate n 0) in
-        let capacity = length-capacity in
-        is ∙ take-take (loaded + count) len (take loaded whole ++ (buf ++ rest) ++ more) (omega arith)
+        is ∙ take-take (loaded + count) len (take loaded whole ++ (buf ++ rest) ++ more)
+        (omega (arith, all, length-capacity))
         ∙ take-append-le (loaded + count) (take loaded whole ++ (buf ++ rest)) more
         (omega (arith, ap length prefix, length-append (take loaded whole) (buf ++ rest), length-append buf rest))
         ∙ ap (λ l. take (loaded + count) (l ++ (buf ++ rest))) prefix

@@ -1,5 +1,5 @@
 -- How `clap` parses the arguments of luksrd.
-use Rattle.std.proofs.Common.{◌≡◌, ◌∙◌, ◌||◌, Err, IfOk, IsErrAnd, List, None, Ok, Option, Result, [], ◌∷◌, ◌++◌}
+use Rattle.std.proofs.Common.{◌≡◌, ◌∙◌, ◌||◌, Err, IsErrAnd, List, None, Ok, Option, Result, [], ◌∷◌, ◌++◌}
 use Rattle.std.proofs.Common.{ap, inl, inr, refl, subst, sym, true}
 use Rattle.clap.specs.Words.{App, HasKind, HasMatchesOf, Kinds, Text, fault_of, is_simple, is_simple_and_free, kind_of}
 use Rattle.clap.specs.Words.{subcommand_of, subcommand_rows_of}
@@ -14,31 +14,23 @@ use Rattle.luks_args.specs.Grammar.{AreReadAs, IsReadAs, alone, header_command, 
 use Rattle.luks_args.specs.declared.planning.PlanFault.{PlanFault}
 use Rattle.luks_args.specs.declared.planning.PlanFault.TheVariants.{Usage}
 
-luksrd-free : is_simple_and_free luksrd ≡ true
-unfolding luksrd header_command volume_command stripe_command clap_on_literals
-luksrd-free = refl
-
 pub free : (app : App) → app ≡ luksrd → is_simple_and_free app ≡ true
-free app e = ap is_simple_and_free e ∙ luksrd-free
+unfolding luksrd header_command volume_command stripe_command clap_on_literals
+free app e = ap is_simple_and_free e
 
-module _ {A : Type 0} where
-  faultless : (kinds : Kinds) (found : Option A) → kinds ≡ [] → unless_faulty kinds found ≡ found
-  faultless [] found none = refl
-  faultless (k ∷ ks) found none = cc
-
-  faulty : (kinds : Kinds) (found : Option A) (error : Error) → HasKind kinds error → fault_for (kind_of error) ≡ Usage
-      → unless_faulty kinds found ≡ None
-  faulty [] found error (inl memory) usage = let bad = ap fault_for memory in cc
-  faulty [] found error (inr among) usage = absurd among
-  faulty (k ∷ ks) found error kind usage = refl
+faulty : {A : Type 0} (kinds : Kinds) (found : Option A) (error : Error) → HasKind kinds error
+    → fault_for (kind_of error) ≡ Usage → unless_faulty kinds found ≡ None
+faulty [] found error (inl memory) usage = let bad = ap fault_for memory in cc
+faulty [] found error (inr among) usage = absurd among
+faulty (k ∷ ks) found error kind usage = refl
 
 -- if the arguments have no fault, the parse gives their subcommand
 pub subcommand-ok : (app : App) (words : List Text) (m : ArgMatches) → app ≡ luksrd → fault_of app words ≡ []
     → HasMatchesOf app words m → subcommand_in words ≡ subcommand_rows_of m
 unfolding subcommand_in
 subcommand-ok app words m e none has =
-    faultless (fault_of luksrd words) (subcommand_of luksrd words) (ap (λ (a : App). fault_of a words) (sym e) ∙ none)
-    ∙ ap (λ (a : App). subcommand_of a words) (sym e)
+    ap (λ (a : App). unless_faulty (fault_of a words) (subcommand_of a words)) (sym e)
+    ∙ ap (λ (kinds : Kinds). unless_faulty kinds (subcommand_of app words)) none
     ∙ sym (has (both (is_simple app) _ (free app e)).0).1
 
 -- if `clap` gives an error other than running out of memory, no subcommand is found in the arguments
@@ -49,12 +41,11 @@ subcommand-usage app words error e kind usage =
     faulty (fault_of luksrd words) (subcommand_of luksrd words) error
     (subst (λ (a : App). HasKind (fault_of a words) error) e kind) usage
 
-module _ {T : Type 0} where
-  -- the fault that an error was converted to is the one in the result
-  pub fault_given : (r : Result T PlanFault) (fault : PlanFault) → IsErrAnd r (λ given. given ≡ fault) → r ≡ Err Usage
-      → fault ≡ Usage
-  fault_given (Ok x) fault given usage = cc
-  fault_given (Err x) fault given usage = cc
+-- the fault that an error was converted to is the one in the result
+pub fault_given : {T : Type 0} (r : Result T PlanFault) (fault : PlanFault) → IsErrAnd r (λ given. given ≡ fault)
+    → r ≡ Err Usage → fault ≡ Usage
+fault_given (Ok x) fault given usage = cc
+fault_given (Err x) fault given usage = cc
 
 -- a command appended to those that are read
 pub read_more : (commands : List Command) (shapes : List Shape) (command : Command) (shape : Shape)
@@ -80,10 +71,3 @@ added_shapes old new (c ∷ cs) app (s ∷ ss) is (middle, step, rest) are =
     added_shapes middle new cs (with_subcommand app s) ss
     (step.shape read.local ∙ cc (is, ap (λ (a : App). a.top) read.app)) rest are.1
 added_shapes old new _ app _ is adds are = absurd are
-
-module _ {E : Type 0} where
-  pub built_of : (result : Result Command E) (old : Command) (commands : List Command) (app : App) (shapes : List Shape)
-      → app_of old ≡ app → IfOk result (λ new. AddsInTurn AddsSubcommand old commands new) → AreReadAs commands shapes
-      → IfOk result (λ new. app_of new ≡ with_subcommands app shapes)
-  built_of (Ok new) old commands app shapes is adds are = added_shapes old new commands app shapes is adds are
-  built_of (Err error) old commands app shapes is adds are = tt

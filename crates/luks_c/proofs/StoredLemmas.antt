@@ -1,7 +1,7 @@
 -- What is read from the struct of a volume is what was stored in it.
 use Rattle.std.proofs.Common.{◌≡◌, ◌∙◌, ℕ, ◌-◌, ◌*◌, ◌/◌, true, List, length, Option, None, Some, sym, ap, subst, refl}
 use Rattle.std.proofs.lemmas.Option.{same_Some}
-use Rattle.std.specs.Prelude.{◌==◌, if◌then◌else◌}
+use Rattle.std.specs.Prelude.{◌==◌, if◌then◌else◌, unwrap_or}
 use Rattle.luks_access.proofs.RangeLemmas.{text_is_long}
 use Rattle.luks_access.specs.Opens.{cipher_of, plaintext_of}
 use Rattle.luks_unlock.specs.declared.unlocked.UnlockedVolume.{UnlockedVolume}
@@ -18,7 +18,7 @@ use Rattle.luks_verdict.specs.declared.segment.Segment.{Segment}
 use Rattle.luks_payload.specs.Plain.{sector_len, payload_bytes}
 use Rattle.luks_c.specs.Answers.{decrypt_code, range_code, segment_code}
 use Rattle.luks_c.specs.Stored.{Stores, cipher_in, has_size_of, mode_in, mode_number, sector_size_in, segment_in}
-use Rattle.luks_c.specs.Stored.{size_stored_in, size_or_zero}
+use Rattle.luks_c.specs.Stored.{size_stored_in}
 use Rattle.luks_c.specs.declared.volume.LuksrdVolume.{LuksrdVolume}
 
 pub size_again : (size : SectorSize) → sector_size_in (bytes_of size) ≡ Some size
@@ -48,7 +48,7 @@ module _ (c : LuksrdVolume) (v : UnlockedVolume) (stored : Stores c v) where
   pub stored_size : size_stored_in c ≡ v.segment.size
   stored_size = by v.segment.size stored.has_size stored.size
     where
-      by : (size : Option ℕ) → c.has_size ≡ has_size_of size → c.size ≡ size_or_zero size → size_stored_in c ≡ size
+      by : (size : Option ℕ) → c.has_size ≡ has_size_of size → c.size ≡ unwrap_or size 0 → size_stored_in c ≡ size
       by None has is = rw has refl
       by (Some size) has is = rw (has, is) refl
 

@@ -12,15 +12,12 @@ use Rattle.luks_report.specs.declared.message.Message.TheVariants.{Done, ReadFai
 use Rattle.luks_runs.specs.Run.{aborts}
 use Rattle.luks_unlock.specs.OpeningMessages.{OpeningMessage}
 use Rattle.luks_payload.specs.declared.fault.VolumeFault.{VolumeFault}
-use Rattle.luks_payload.specs.declared.fault.VolumeFault.TheVariants.{CutBeforePayload, Tail, Short, Read, Write}
+use Rattle.luks_payload.specs.declared.fault.VolumeFault.TheVariants.{Tail, Short}
 use Rattle.luks_payload.specs.declared.state.Step.{Step}
 use Rattle.luks_verdict.specs.SectorSize.{bytes_of}
 use Rattle.luks_verdict.specs.declared.sector_size.SectorSize.{SectorSize}
 use Rattle.luks_verdict.specs.declared.segment.Segment.{Segment}
-use Rattle.luks_c.specs.Codes.{code_for}
-use Rattle.luks_c.specs.Message.{StoresMessage}
-use Rattle.luks_c.specs.Options.{AreOptions}
-use Rattle.luks_c.specs.Stored.{Filled, segment_in}
+use Rattle.luks_c.specs.Stored.{AreOptions, Filled, StoresMessage, code_for, segment_in}
 use Rattle.luks_c.specs.declared.message.LuksrdMessage.{LuksrdMessage}
 use Rattle.luks_c.specs.declared.options.LuksrdOptions.{LuksrdOptions}
 use Rattle.luks_c.specs.declared.volume.LuksrdVolume.{LuksrdVolume}
@@ -55,11 +52,9 @@ pub record Refused (c : LuksrdOptions) (header pass : List ℕ) (code : ℕ) (me
 
 -- the number of bytes in an ending's message
 abbrev pub fault_bytes : VolumeFault → ℕ
-fault_bytes CutBeforePayload = 0
 fault_bytes (Tail bytes) = bytes
 fault_bytes (Short bytes) = bytes
-fault_bytes Read = 0
-fault_bytes Write = 0
+fault_bytes _ = 0
 
 -- the result is this ending: its code, its number of bytes and its message
 abbrev pub EndsAs : Result Step VolumeFault → ℕ → ℕ → LuksrdMessage → Type 0

@@ -1,5 +1,7 @@
--- A volume as C keeps it, field by field, and how it is read back.
+-- The codes and the structs of `c/luksrd.h`, field by field, and how a volume is read back.
 use Rattle.std.specs.Prelude.{ℕ, ◌≡◌, ◌-◌, ◌==◌, if◌then◌else◌, drop, length, replicate, take, Option, None, Some}
+use Rattle.std.specs.Prelude.{[], Bool, List, codes, false, min, nat_lt, option_map, unwrap_or}
+use Rattle.luks_access.specs.declared.options.Options.{Options}
 use Rattle.luks_unlock.specs.declared.unlocked.UnlockedVolume.{UnlockedVolume}
 use Rattle.luks_cipher.specs.Sector.{Cipher}
 use Rattle.luks_cipher.specs.declared.mode.Mode.{Mode}
@@ -10,6 +12,87 @@ use Rattle.luks_verdict.specs.declared.sector_size.SectorSize.{SectorSize}
 use Rattle.luks_verdict.specs.declared.sector_size.SectorSize.TheVariants.{B512, B1024, B2048, B4096}
 use Rattle.luks_verdict.specs.declared.segment.Segment.{Segment}
 use Rattle.luks_c.specs.declared.volume.LuksrdVolume.{LuksrdVolume}
+use Rattle.luks_report.specs.Texts.{line_of, status_of}
+use Rattle.luks_report.specs.declared.message.Message.{Message}
+use Rattle.luks_report.specs.declared.message.Message.TheVariants.{Done, NotLuks, Cut, Json, SegmentRefused, NoSuchSlot}
+use Rattle.luks_report.specs.declared.message.Message.TheVariants.{SlotDisabled, SlotSkipped, NothingTried, NoKey}
+use Rattle.luks_report.specs.declared.message.Message.TheVariants.{KeyFileLength, CutBeforePayload, Tail, Short}
+use Rattle.luks_request.specs.declared.number.SlotNumber.{SlotNumber}
+use Rattle.luks_runs.specs.declared.location.HeaderLocation.TheVariants.{Attached, Detached}
+use Rattle.luks_c.specs.declared.message.LuksrdMessage.{LuksrdMessage}
+use Rattle.luks_c.specs.declared.options.LuksrdOptions.{LuksrdOptions}
+
+-- the number of a message, in `enum luksrd_code`
+abbrev pub code_for : Message → ℕ
+code_for Done = 0
+code_for NotLuks = 1
+code_for Cut = 2
+code_for Json = 3
+code_for (SegmentRefused _) = 4
+code_for (NoSuchSlot _) = 5
+code_for (SlotDisabled _) = 6
+code_for (SlotSkipped _ _) = 7
+code_for (NothingTried _) = 8
+code_for KeyFileLength = 9
+code_for (NoKey _) = 10
+code_for CutBeforePayload = 12
+code_for (Tail _) = 13
+code_for (Short _) = 14
+code_for _ = 11
+
+-- the exit status and the sentence of a number alone
+abbrev pub sentence_for : ℕ → ℕ × List ℕ
+sentence_for code =
+    if code == 0 then (0, [])
+    else if code == 1 then (4, codes "luksrd: not a LUKS image")
+    else if code == 2 then (4, codes "luksrd: image ends inside the header or a key area")
+    else if code == 3 then (4, codes "luksrd: LUKS2 JSON area is not readable")
+    else if code == 4 then (1, codes "luksrd: segment refused")
+    else if code == 5 then (1, codes "luksrd: key slot is not there")
+    else if code == 6 then (1, codes "luksrd: key slot is disabled")
+    else if code == 7 then (1, codes "luksrd: key slot is skipped")
+    else if code == 8 then (1, codes "luksrd: no key slot can be tried")
+    else if code == 9 then (1, codes "luksrd: key file is longer than 8388608 bytes")
+    else if code == 10 then (2, codes "luksrd: no key opens the volume")
+    else if code == 11 then (3, codes "luksrd: out of memory")
+    else if code == 12 then (4, codes "luksrd: image ends before the payload")
+    else if code == 13 then (4, codes "luksrd: image ends inside a sector")
+    else if code == 14 then (4, codes "luksrd: image ends before the segment does")
+    else if code == 15 then (1, codes "luksrd: key slot number is above 31")
+    else if code == 16 then (1, codes "luksrd: not an open volume")
+    else if code == 17 then (1, codes "luksrd: not whole sectors of a volume")
+    else (1, codes "luksrd: no such code")
+
+-- the struct holds this status and this text, as much of the text as fits, and zeros after it
+pub record StoresText (c : LuksrdMessage) (status : ℕ) (text : List ℕ) : Type 0 where
+  pub is_status : c.status ≡ status
+  pub is_len : c.len ≡ min 1016 (length text)
+  pub is_text : take c.len c.text ≡ take c.len text
+  pub is_rest : drop c.len c.text ≡ replicate (1016 - c.len) 0
+
+-- the struct holds this message: its status, and its line without the newline
+abbrev pub StoresMessage : LuksrdMessage → Message → Type 0
+StoresMessage c message =
+    StoresText c (status_of message) (take (length (line_of message) - 1) (line_of message))
+
+-- the struct holds the status and the sentence of this code
+abbrev pub StoresCode : LuksrdMessage → ℕ → Type 0
+StoresCode c code = StoresText c (sentence_for code).0 (sentence_for code).1
+
+-- the key slot that is named
+abbrev pub IsNamed : LuksrdOptions → Option SlotNumber → Type 0
+IsNamed c slot = option_map (λ number. number.number) slot ≡ (if c.has_key_slot == 0 then None else Some c.key_slot)
+
+-- the options name a key slot by a number above 31
+abbrev pub names_no_slot : LuksrdOptions → Bool
+names_no_slot c = if c.has_key_slot == 0 then false else nat_lt 31 c.key_slot
+
+-- the struct has these options; the limit 0 means no limit
+pub record AreOptions (c : LuksrdOptions) (options : Options) : Type 0 where
+  pub location : options.location ≡ (if c.detached == 0 then Attached else Detached)
+  pub key_slot : IsNamed c options.key_slot
+  pub max_iterations : option_map (λ limit. limit.iterations) options.max_iterations
+      ≡ (if c.max_iterations == 0 then None else Some c.max_iterations)
 
 -- the numbers of `enum luksrd_mode`
 abbrev pub mode_number : Mode → ℕ
@@ -18,20 +101,16 @@ mode_number XtsPlain = 2
 mode_number CbcEssivSha256 = 3
 mode_number CbcPlain64 = 4
 
--- whether the payload's length is fixed, and that length
+-- whether the payload's length is fixed
 abbrev pub has_size_of : Option ℕ → ℕ
 has_size_of None = 0
 has_size_of (Some size) = 1
-
-abbrev pub size_or_zero : Option ℕ → ℕ
-size_or_zero None = 0
-size_or_zero (Some size) = size
 
 -- the struct holds this volume
 pub record Stores (c : LuksrdVolume) (v : UnlockedVolume) : Type 0 where
   pub offset : c.offset ≡ v.segment.offset
   pub has_size : c.has_size ≡ has_size_of v.segment.size
-  pub size : c.size ≡ size_or_zero v.segment.size
+  pub size : c.size ≡ unwrap_or v.segment.size 0
   pub iv_tweak : c.iv_tweak ≡ v.segment.iv_tweak
   pub sector_size : c.sector_size ≡ bytes_of v.segment.sector_size
   pub mode : c.mode ≡ mode_number v.segment.mode
@@ -58,7 +137,7 @@ pub record IsCleared (c : LuksrdVolume) : Type 0 where
   pub reserved : c.reserved ≡ 0
   pub key : c.key ≡ replicate 64 0
 
--- ---- reading it back
+-- ---- reading a volume back
 
 abbrev pub sector_size_in : ℕ → Option SectorSize
 sector_size_in n =

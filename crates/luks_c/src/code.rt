@@ -1,7 +1,7 @@
 //! The results of the functions: the numbers of `enum luksrd_code`.
 
 ghost use Rattle.std.specs.Prelude.{◌≡◌};
-ghost use Rattle.luks_c.specs.Codes.{code_for, sentence_for};
+ghost use Rattle.luks_c.specs.Stored.{code_for, sentence_for};
 
 use luks_access::Message;
 

@@ -1,7 +1,7 @@
 //! The messages of luksrd, as C keeps them.
 
 ghost use Rattle.std.specs.Prelude.{◌≡◌, ◌-◌, drop, length, min, replicate, take};
-ghost use Rattle.luks_c.specs.Message.{StoresMessage, StoresText};
+ghost use Rattle.luks_c.specs.Stored.{StoresMessage, StoresText};
 
 use luks_access::Message;
 

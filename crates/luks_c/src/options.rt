@@ -1,7 +1,7 @@
 //! How a volume is opened, as C passes it.
 
 ghost use Rattle.std.specs.Prelude.{◌≡◌, IfSome, MatchOption, false, true};
-ghost use Rattle.luks_c.specs.Options.{AreOptions, IsNamed, names_no_slot};
+ghost use Rattle.luks_c.specs.Stored.{AreOptions, IsNamed, names_no_slot};
 
 use luks_access::options::Options;
 use luks_access::{HeaderLocation, IterationLimit, SlotNumber};

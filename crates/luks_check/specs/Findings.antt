@@ -1,6 +1,6 @@
 -- The findings in a header, one a line, in a fixed order.
-use Rattle.std.specs.Prelude.{ℕ, ◌∷◌, ◌++◌, [], Bool, false, true, List, None, Result, Ok, Err, codes, flat_map}
-use Rattle.std.specs.Prelude.{if◌then◌else◌, max, min, nat_lt}
+use Rattle.std.specs.Prelude.{ℕ, ◌∷◌, ◌++◌, [], Bool, false, true, List, Option, Some, None, Result, Ok, Err, codes}
+use Rattle.std.specs.Prelude.{flat_map, if◌then◌else◌, max, min, nat_lt}
 use Rattle.std.specs.Fmt.{decimal}
 use Rattle.luks_header.specs.HeaderSegment.{segment_of}
 use Rattle.luks_header.specs.SegmentFault.{fault_text}
@@ -16,10 +16,19 @@ use Rattle.luks_verdict.specs.declared.segment.Segment.{Segment}
 use Rattle.luks_verdict.specs.declared.slot.Slot.{Slot}
 use Rattle.luks_verdict.specs.declared.slot.Verdict.{Verdict}
 use Rattle.luks_verdict.specs.declared.slot.Verdict.TheVariants.{Usable, Skipped}
-use Rattle.luks_check.specs.Findings2.{pair_finding_line}
+use Rattle.luks2_binary.specs.declared.header.PairFinding.{PairFinding}
+use Rattle.luks2_binary.specs.declared.header.PairFinding.TheVariants.{PrimaryNotValid, SecondaryNotValid}
+use Rattle.luks2_binary.specs.declared.header.PairFinding.TheVariants.{SequencesDiffer}
 use Rattle.luks_dump.specs.DumpLine.{field}
 
--- the finding about the two headers of LUKS2, compared with each other. LUKS1 has one header
+-- the line of the finding about the two headers of LUKS2, compared with each other
+abbrev pub pair_finding_line : Option PairFinding → List ℕ
+pair_finding_line None = []
+pair_finding_line (Some PrimaryNotValid) = field (codes "primary header") (codes "not valid")
+pair_finding_line (Some SecondaryNotValid) = field (codes "secondary header") (codes "not valid")
+pair_finding_line (Some SequencesDiffer) = field (codes "headers") (codes "sequence numbers differ")
+
+-- this finding in a header. LUKS1 has one header
 abbrev pub pair_finding : Header → List ℕ
 pair_finding (V1 header) = []
 pair_finding (V2 header tree) = pair_finding_line header.finding
@@ -54,10 +63,6 @@ abbrev pub slot_finding : ℕ × Verdict → List ℕ
 slot_finding (number, Skipped reason) = skip_finding number reason
 slot_finding _ = []
 
--- the findings about these key slots
-abbrev pub slot_findings : List (ℕ × Verdict) → List ℕ
-slot_findings verdicts = flat_map slot_finding verdicts
-
 -- two areas of key material share a byte: the later of their starts is below the earlier of their ends
 unfoldable pub do_overlap : Slot → Slot → Bool
 do_overlap a b = nat_lt (max a.parts.area_offset b.parts.area_offset) (min (material_end a) (material_end b))
@@ -69,17 +74,13 @@ overlap (i, Usable a) (j, Usable b) =
     else []
 overlap _ _ = []
 
--- the findings about a key slot and each of the others
-abbrev pub overlaps_with : ℕ × Verdict → List (ℕ × Verdict) → List ℕ
-overlaps_with first rest = flat_map (overlap first) rest
-
 -- the findings about each two of these key slots, ordered by the first slot and then by the second
 unfoldable pub overlaps : List (ℕ × Verdict) → List ℕ
 overlaps [] = []
-overlaps (first ∷ rest) = overlaps_with first rest ++ overlaps rest
+overlaps (first ∷ rest) = flat_map (overlap first) rest ++ overlaps rest
 
 -- all findings in a header. The number of iterations has no limit here
 unfoldable pub findings_of : Header → List ℕ
 findings_of header = header_findings header ++ segment_finding (segment_of header)
-    ++ slot_findings (verdicts_of header None)
+    ++ flat_map slot_finding (verdicts_of header None)
     ++ overlaps (verdicts_of header None)

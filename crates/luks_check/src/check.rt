@@ -1,11 +1,11 @@
 //! The findings in a header.
 
-ghost use Rattle.std.specs.Prelude.{◌≡◌, ◌++◌, IfOk, OnOk, string_bytes};
+ghost use Rattle.std.specs.Prelude.{◌≡◌, ◌++◌, IfOk, OnOk, flat_map, string_bytes};
 ghost use Rattle.luks_header.specs.HeaderSegment.{segment_of};
 ghost use Rattle.luks_check.specs.Findings.{do_overlap, findings_of, header_findings, is_finding};
-ghost use Rattle.luks_check.specs.Findings.{name_finding, overlap, overlaps, overlaps_with};
+ghost use Rattle.luks_check.specs.Findings.{name_finding, overlap, overlaps};
 ghost use Rattle.luks_check.specs.Findings.{pair_finding, segment_finding, skip_finding};
-ghost use Rattle.luks_check.specs.Findings.{slot_finding, slot_findings};
+ghost use Rattle.luks_check.specs.Findings.{slot_finding};
 
 use luks_dump::field::push_field;
 use luks_header::header::Header;
@@ -81,7 +81,7 @@ fn push_slots(
     verdicts: &[(u8, Verdict)],
 ) -> Result<(), AllocError>
     ensures { OnOk result
-        (string_bytes lines.new ≡ string_bytes lines.old ++ slot_findings verdicts.now) }
+        (string_bytes lines.new ≡ string_bytes lines.old ++ flat_map slot_finding verdicts.now) }
 {
     for verdict in verdicts {
         push_slot(alloc, lines, verdict)?;
@@ -148,7 +148,7 @@ fn push_overlaps_with(
     rest: &[(u8, Verdict)],
 ) -> Result<(), AllocError>
     ensures { OnOk result (string_bytes lines.new
-        ≡ string_bytes lines.old ++ overlaps_with first.now rest.now) }
+        ≡ string_bytes lines.old ++ flat_map (overlap first.now) rest.now) }
 {
     for second in rest {
         push_overlap(alloc, lines, first, second)?;

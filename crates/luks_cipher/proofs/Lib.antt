@@ -1,6 +1,3 @@
 pub mod ModeLemmas
-pub mod TweakLemmas
 pub mod UnitsUndone
-pub mod ChainsUndone
-pub mod BatchLemmas
-pub mod DoublingLemmas
+pub mod UnitLemmas

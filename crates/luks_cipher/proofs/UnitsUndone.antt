@@ -1,4 +1,4 @@
--- Decryption of a data unit undoes its encryption.
+-- Decryption and encryption of a data unit undo each other, and so do those of a chain.
 use Rattle.std.proofs.Common.{◌≡◌, ℕ, zero, suc, ◌+◌, ◌*◌, ◌%◌, ◌/◌, ◌<◌, ◌≤◌, List, length, take, drop, length-append}
 use Rattle.std.proofs.Common.{length-drop, inl, inr, arith, refl, sym, ap, ◌∙◌}
 use Rattle.std.specs.Int.{w128, to_le_bytes, from_le_bytes}
@@ -9,12 +9,13 @@ use Rattle.luks_aes.specs.Field.{◌⊕◌}
 use Rattle.luks_aes.specs.Aes.{cell, encrypted, decrypted}
 use Rattle.luks_cipher.specs.Xts.{data_key, doubled_number, doubled, tweak_of, block_xor, block_at, block_encrypted}
 use Rattle.luks_cipher.specs.Xts.{block_decrypted, joined, xts_encrypted, xts_decrypted}
+use Rattle.luks_cipher.specs.Cbc.{block_before, chained, cbc_encrypted, cbc_decrypted}
 use Rattle.luks_aes.specs.Bytes.{IsBytes}
 use Rattle.luks_aes.proofs.ByteLists.{IsState, made_state, xor_byte, bytes_nil, bytes_cons, bytes_take, bytes_drop}
 use Rattle.luks_aes.proofs.ByteLists.{encrypted_state}
 use Rattle.luks_aes.proofs.Undone.{whole_state, same_states, xor_twice, decrypted-encrypted}
-use Rattle.luks_aes.proofs.Redone.{decrypted_state, encrypted-decrypted}
-use Rattle.luks_aes_batch.proofs.KeyLemmas.{block_state}
+use Rattle.luks_aes.proofs.Undone.{decrypted_state, encrypted-decrypted}
+use Rattle.luks_aes_batch.proofs.RoundLemmas.{block_state}
 
 -- ---- one block
 
@@ -33,26 +34,6 @@ sum_twice a b len =
 pub sum_len : (a b : List ℕ) → length (block_xor a b) ≡ 16
 unfolding block_xor
 sum_len a b = refl
-
-block_undone : (key tweak block : List ℕ) → IsBytes key → IsState tweak → IsState block
-    → block_decrypted key tweak (block_encrypted key tweak block) ≡ block
-unfolding block_encrypted block_decrypted
-block_undone key tweak block keys masks is =
-    let k1 = bytes_take (length key / 2) key keys in
-    let masked = sum_state block tweak is masks in
-    let inside = sum_twice (encrypted (data_key key) (block_xor block tweak)) tweak
-    (encrypted_state _ _ k1 masked).len in
-    rw (inside, decrypted-encrypted (data_key key) (block_xor block tweak) k1 masked) (sum_twice block tweak is.len)
-
-block_redone : (key tweak block : List ℕ) → IsBytes key → IsState tweak → IsState block
-    → block_encrypted key tweak (block_decrypted key tweak block) ≡ block
-unfolding block_encrypted block_decrypted
-block_redone key tweak block keys masks is =
-    let k1 = bytes_take (length key / 2) key keys in
-    let masked = sum_state block tweak is masks in
-    let inside = sum_twice (decrypted (data_key key) (block_xor block tweak)) tweak
-    (decrypted_state _ _ k1 masked).len in
-    rw (inside, encrypted-decrypted (data_key key) (block_xor block tweak) k1 masked) (sum_twice block tweak is.len)
 
 -- ---- tweaks
 
@@ -106,60 +87,166 @@ joined_same f g zero same = refl
 joined_same f g (suc n) same =
     rw (joined_same f g n (λ j low. same j (omega arith)), same n (omega arith)) refl
 
-pub joined_blocks : (unit : List ℕ) (n : ℕ) → joined (block_at unit) n ≡ take (16 * n) unit
+-- joining the first n units of `size` bytes of a list gives its first `n * size` bytes
+pub joined_units : (bytes : List ℕ) (size n : ℕ)
+    → joined (λ i. take size (drop (i * size) bytes)) n ≡ take (n * size) bytes
 unfolding joined
-joined_blocks unit zero = refl
-joined_blocks unit (suc n) =
-    let more : 16 * suc n ≡ 16 * n + 16 = omega arith in
-    rw (more, joined_blocks unit n) (sym (take-add (16 * n) 16 unit))
+joined_units bytes size zero = let none : 0 * size ≡ 0 = omega arith in rw none refl
+joined_units bytes size (suc n) =
+    let more : suc n * size ≡ n * size + size = omega arith in
+    rw (more, joined_units bytes size n) (sym (take-add (n * size) size bytes))
+
+-- if the blocks of a unit become blocks f j, and the blocks of the unit come from these again, so does the unit
+unit_again : (f g : ℕ → List ℕ) (unit : List ℕ) → length unit % 16 ≡ 0
+    → ((j : ℕ) → j < length unit / 16 → length (f j) ≡ 16)
+    → ((j : ℕ) → j < length unit / 16 → g j ≡ block_at unit j)
+    → joined g (length (joined f (length unit / 16)) / 16) ≡ unit
+unit_again f g unit whole sizes same =
+    let n = length unit / 16 in
+    let count : length (joined f n) / 16 ≡ n = rw (joined_length f n sizes) (omega arith) in
+    let place : (j : ℕ) → 16 * j ≡ j * 16 = λ j. omega arith in
+    rw count
+    (joined_same g (λ j. take 16 (drop (j * 16) unit)) n
+    (λ j low. same j low ∙ ap (λ k. take 16 (drop k unit)) (place j))
+    ∙ joined_units unit 16 n ∙ take_all (n * 16) unit (omega arith))
 
 -- ---- data units
 
-block_encrypted_len : (key tweak block : List ℕ) → length (block_encrypted key tweak block) ≡ 16
-unfolding block_encrypted
-block_encrypted_len key tweak block = sum_len (encrypted (data_key key) (block_xor block tweak)) tweak
+-- a block under its tweak, with f as the cipher
+abbrev under_tweak : (List ℕ → List ℕ) → List ℕ → List ℕ → List ℕ
+under_tweak f tweak block = block_xor (f (block_xor block tweak)) tweak
 
-block_decrypted_len : (key tweak block : List ℕ) → length (block_decrypted key tweak block) ≡ 16
-unfolding block_decrypted
-block_decrypted_len key tweak block = sum_len (decrypted (data_key key) (block_xor block tweak)) tweak
+module _ (f g : List ℕ → List ℕ)
+    (undoes : (block : List ℕ) → IsState block → (length (f block) ≡ 16) × (g (f block) ≡ block)) where
+  -- if g undoes f, it does so under a tweak too
+  block_undone : (tweak block : List ℕ) → IsState tweak → IsState block
+      → under_tweak g tweak (under_tweak f tweak block) ≡ block
+  block_undone tweak block mask is =
+      let masked = undoes (block_xor block tweak) (sum_state block tweak is mask) in
+      rw (sum_twice (f (block_xor block tweak)) tweak masked.0, masked.1) (sum_twice block tweak is.len)
 
-pub joined_count : (f : ℕ → List ℕ) (n : ℕ) → ((j : ℕ) → length (f j) ≡ 16) → length (joined f n) / 16 ≡ n
-joined_count f n sizes = rw (joined_length f n (λ j low. sizes j)) (omega arith)
+  -- and on a unit, each of whose blocks is under a tweak
+  unit_undone : (tweak : ℕ → List ℕ) (unit : List ℕ) → ((j : ℕ) → IsState (tweak j)) → IsBytes unit
+      → length unit % 16 ≡ 0 → joined (λ j. under_tweak g (tweak j)
+      (block_at (joined (λ j. under_tweak f (tweak j) (block_at unit j)) (length unit / 16)) j))
+      (length (joined (λ j. under_tweak f (tweak j) (block_at unit j)) (length unit / 16)) / 16) ≡ unit
+  unit_undone tweak unit masks all whole =
+      let n = length unit / 16 in
+      let size : length unit ≡ 16 * n = omega arith in
+      let there : ℕ → List ℕ = λ j. under_tweak f (tweak j) (block_at unit j) in
+      let sizes : (j : ℕ) → j < n → length (there j) ≡ 16 =
+      λ j low. sum_len (f (block_xor (block_at unit j) (tweak j))) (tweak j) in
+      unit_again there (λ j. under_tweak g (tweak j) (block_at (joined there n) j)) unit whole sizes
+      (λ j low.
+      ap (under_tweak g (tweak j)) (joined_at there n j sizes low)
+      ∙ block_undone (tweak j) (block_at unit j) (masks j) (block_state unit n j size low all))
 
--- if g undoes f on each block, it undoes f on a unit
-unit_undone : (f g : ℕ → List ℕ → List ℕ) (unit : List ℕ) → length unit % 16 ≡ 0 → IsBytes unit
-    → ((j : ℕ) (block : List ℕ) → length (f j block) ≡ 16)
-    → ((j : ℕ) (block : List ℕ) → IsState block → g j (f j block) ≡ block)
-    → joined (λ j. g j (block_at (joined (λ j. f j (block_at unit j)) (length unit / 16)) j))
-    (length (joined (λ j. f j (block_at unit j)) (length unit / 16)) / 16) ≡ unit
-unit_undone f g unit whole all sizes undoes =
-    let n = length unit / 16 in
-    let size : length unit ≡ 16 * n = omega arith in
-    let there : ℕ → List ℕ = λ j. f j (block_at unit j) in
-    let count = joined_count there n (λ j. sizes j (block_at unit j)) in
-    rw count
-    (joined_same (λ j. g j (block_at (joined there n) j)) (block_at unit) n
-    (λ j low.
-    ap (g j) (joined_at there n j (λ k below. sizes k (block_at unit k)) low)
-    ∙ undoes j (block_at unit j) (block_state unit n j size low all))
-    ∙ joined_blocks unit n ∙ take_all (16 * n) unit (omega arith))
+module _ (key : List ℕ) (number : ℕ) (unit : List ℕ) (keys : IsBytes key) (all : IsBytes unit)
+    (whole : length unit % 16 ≡ 0) where
+  data_key_bytes : IsBytes (data_key key)
+  data_key_bytes = bytes_take (length key / 2) key keys
 
--- decryption undoes encryption
-pub xts_decrypted-xts_encrypted : (key : List ℕ) (number : ℕ) (unit : List ℕ) → IsBytes key → IsBytes unit
-    → length unit % 16 ≡ 0 → xts_decrypted key number (xts_encrypted key number unit) ≡ unit
-unfolding xts_encrypted xts_decrypted
-xts_decrypted-xts_encrypted key number unit keys all whole =
-    unit_undone (λ j. block_encrypted key (tweak_of key number j)) (λ j. block_decrypted key (tweak_of key number j))
-    unit whole all
-    (λ j block. block_encrypted_len key (tweak_of key number j) block)
-    (λ j block is. block_undone key (tweak_of key number j) block keys (tweak_state key number j keys) is)
+  -- decryption undoes encryption
+  pub xts_decrypted-xts_encrypted : xts_decrypted key number (xts_encrypted key number unit) ≡ unit
+  unfolding xts_encrypted xts_decrypted block_encrypted block_decrypted
+  xts_decrypted-xts_encrypted =
+      unit_undone (encrypted (data_key key)) (decrypted (data_key key))
+      (λ block is. (
+        (encrypted_state (data_key key) block data_key_bytes is).len,
+        decrypted-encrypted (data_key key) block data_key_bytes is,
+      ))
+      (tweak_of key number) unit (λ j. tweak_state key number j keys) all whole
 
--- encryption undoes decryption
-pub xts_encrypted-xts_decrypted : (key : List ℕ) (number : ℕ) (unit : List ℕ) → IsBytes key → IsBytes unit
-    → length unit % 16 ≡ 0 → xts_encrypted key number (xts_decrypted key number unit) ≡ unit
-unfolding xts_encrypted xts_decrypted
-xts_encrypted-xts_decrypted key number unit keys all whole =
-    unit_undone (λ j. block_decrypted key (tweak_of key number j)) (λ j. block_encrypted key (tweak_of key number j))
-    unit whole all
-    (λ j block. block_decrypted_len key (tweak_of key number j) block)
-    (λ j block is. block_redone key (tweak_of key number j) block keys (tweak_state key number j keys) is)
+  -- encryption undoes decryption
+  pub xts_encrypted-xts_decrypted : xts_encrypted key number (xts_decrypted key number unit) ≡ unit
+  unfolding xts_encrypted xts_decrypted block_encrypted block_decrypted
+  xts_encrypted-xts_decrypted =
+      unit_undone (decrypted (data_key key)) (encrypted (data_key key))
+      (λ block is. (
+        (decrypted_state (data_key key) block data_key_bytes is).len,
+        encrypted-decrypted (data_key key) block data_key_bytes is,
+      ))
+      (tweak_of key number) unit (λ j. tweak_state key number j keys) all whole
+
+-- ---- chains
+
+-- a key, an IV and a unit of whole blocks, which consist of bytes
+module _ (key iv unit : List ℕ) (keys : IsBytes key) (first : IsState iv) (all : IsBytes unit)
+    (whole : length unit % 16 ≡ 0) where
+  abbrev count : ℕ
+  count = length unit / 16
+
+  unit_state : (j : ℕ) → j < count → IsState (block_at unit j)
+  unit_state j low = block_state unit count j (omega arith) low all
+
+  chained_state : (j : ℕ) → j ≤ count → IsState (chained key iv unit j)
+  unfolding chained
+  chained_state zero low = first
+  chained_state (suc j) low =
+      let before = chained_state j (omega arith) in
+      encrypted_state key _ keys (sum_state (block_at unit j) _ (unit_state j (omega arith)) before)
+
+  chained_len : (j : ℕ) → j < count → length (chained key iv unit (suc j)) ≡ 16
+  chained_len j low = (chained_state (suc j) (omega arith)).len
+
+  -- the block before block j of the encrypted unit is the one that it was chained with
+  before_encrypted : (j : ℕ) → j < count
+      → block_before iv (joined (λ j. chained key iv unit (suc j)) count) j ≡ chained key iv unit j
+  unfolding block_before chained
+  before_encrypted zero low = refl
+  before_encrypted (suc j) low =
+      joined_at (λ j. chained key iv unit (suc j)) count j (λ k below. chained_len k below) (omega arith)
+
+  link_undone : (j : ℕ) → j < count
+      → block_xor (decrypted key (chained key iv unit (suc j))) (chained key iv unit j) ≡ block_at unit j
+  unfolding chained
+  link_undone j low =
+      let before = chained_state j (omega arith) in
+      let block = unit_state j low in
+      rw (decrypted-encrypted key (block_xor (block_at unit j) (chained key iv unit j)) keys
+      (sum_state _ _ block before))
+      (sum_twice (block_at unit j) (chained key iv unit j) block.len)
+
+  -- decryption undoes encryption
+  pub cbc_decrypted-cbc_encrypted : cbc_decrypted key iv (cbc_encrypted key iv unit) ≡ unit
+  unfolding cbc_encrypted cbc_decrypted
+  cbc_decrypted-cbc_encrypted =
+      let there : ℕ → List ℕ = λ j. chained key iv unit (suc j) in
+      unit_again there
+      (λ j. block_xor (decrypted key (block_at (joined there count) j)) (block_before iv (joined there count) j)) unit
+      whole (λ j low. chained_len j low)
+      (λ j low.
+      (λ i. block_xor (decrypted key (joined_at there count j (λ k below. chained_len k below) low i))
+      (before_encrypted j low i))
+      ∙ link_undone j low)
+
+  -- block j of the decrypted unit is chained with the block before block j of the encrypted unit
+  chained_decrypted : (j : ℕ) → j ≤ count
+      → chained key iv (joined (λ j. block_xor (decrypted key (block_at unit j)) (block_before iv unit j)) count) j
+      ≡ block_before iv unit j
+  unfolding chained block_before
+  chained_decrypted zero low = refl
+  chained_decrypted (suc j) low =
+      let back : ℕ → List ℕ = λ j. block_xor (decrypted key (block_at unit j)) (block_before iv unit j) in
+      let here = joined_at back count j
+      (λ k below. sum_len (decrypted key (block_at unit k)) (block_before iv unit k)) (omega arith) in
+      let before = chained_decrypted j (omega arith) in
+      let block = unit_state j (omega arith) in
+      (λ i. encrypted key (block_xor (here i) (before i)))
+      ∙ ap (encrypted key)
+      (sum_twice (decrypted key (block_at unit j)) (block_before iv unit j) (decrypted_state key _ keys block).len)
+      ∙ encrypted-decrypted key (block_at unit j) keys block
+
+  -- encryption undoes decryption
+  pub cbc_encrypted-cbc_decrypted : cbc_encrypted key iv (cbc_decrypted key iv unit) ≡ unit
+  unfolding cbc_encrypted cbc_decrypted block_before
+  cbc_encrypted-cbc_decrypted =
+      let back : ℕ → List ℕ = λ j. block_xor (decrypted key (block_at unit j)) (block_before iv unit j) in
+      unit_again back (λ j. chained key iv (joined back count) (suc j)) unit whole
+      (λ j low. sum_len (decrypted key (block_at unit j)) (block_before iv unit j))
+      (λ j low. chained_decrypted (suc j) (omega arith))
+
+-- the same chain under an equal key and from an equal IV
+pub equal_chain : (f : List ℕ → List ℕ → List ℕ → List ℕ) (key other v w unit new : List ℕ) → key ≡ other → v ≡ w
+    → new ≡ f key v unit → new ≡ f other w unit
+equal_chain f key other v w unit new same first is = is ∙ (λ i. f (same i) (first i) unit)

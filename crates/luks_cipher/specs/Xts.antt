@@ -1,9 +1,10 @@
 -- XTS-AES (IEEE 1619) on data units whose length is a multiple of 16 bytes. Section numbers are the standard's.
-use Rattle.std.specs.Prelude.{ℕ, zero, suc, ◌-◌, ◌*◌, ◌/◌, ◌^◌, Bool, ◌||◌, nat_lt, ◌==◌, if◌then◌else◌, List, [], ◌++◌}
-use Rattle.std.specs.Prelude.{length, take, drop}
+use Rattle.std.specs.Prelude.{◌≡◌, ℕ, zero, suc, ◌+◌, ◌-◌, ◌*◌, ◌/◌, ◌^◌, Bool, ◌||◌, nat_lt, ◌==◌, if◌then◌else◌, List}
+use Rattle.std.specs.Prelude.{[], ◌++◌, length, take, drop, IsTrue}
 use Rattle.std.specs.Int.{w128, to_le_bytes, from_le_bytes}
 use Rattle.luks_aes.specs.Field.{◌⊕◌}
 use Rattle.luks_aes.specs.Aes.{cell, state_of, encrypted, decrypted}
+use Rattle.luks_aes.specs.Bytes.{IsBytes}
 
 -- Key1, for the data, and Key2, for the tweaks: the two halves of the key (5.3.1)
 abbrev pub data_key : List ℕ → List ℕ
@@ -16,6 +17,13 @@ tweak_key key = drop (length key / 2) key
 abbrev pub is_xts_key_length : ℕ → Bool
 is_xts_key_length n = (n == 32) || (n == 64)
 
+-- these halves are both keys of AES-128, or both keys of AES-256
+pub record IsKeyPair (data_half tweak_half : List ℕ) : Type 0 where
+  pub same_length : length data_half ≡ length tweak_half
+  pub key_length : IsTrue (is_xts_key_length (length data_half + length tweak_half))
+  pub data_bytes : IsBytes data_half
+  pub tweak_bytes : IsBytes tweak_half
+
 -- a number below 2^128 times the primitive element: doubled modulo 2^128, XOR 0x87 if the doubling passed 2^128 (5.2)
 unfoldable pub doubled_number : ℕ → ℕ
 doubled_number n = if nat_lt n (2 ^ 127) then 2 * n else (2 * n - 2 ^ 128) ⊕ 0x87
@@ -23,6 +31,11 @@ doubled_number n = if nat_lt n (2 ^ 127) then 2 * n else (2 * n - 2 ^ 128) ⊕ 0
 -- a tweak, as a little-endian number, times the primitive element
 unfoldable pub doubled : List ℕ → List ℕ
 doubled tweak = to_le_bytes w128 (doubled_number (from_le_bytes w128 tweak))
+
+-- the tweak of the block n after the one with this tweak (5.2)
+unfoldable pub tweak_after : List ℕ → ℕ → List ℕ
+tweak_after tweak zero = tweak
+tweak_after tweak (suc n) = doubled (tweak_after tweak n)
 
 -- the tweak of block j of the data unit of this number (5.3.1, steps 1 and 2)
 unfoldable pub tweak_of : List ℕ → ℕ → ℕ → List ℕ

@@ -22,13 +22,20 @@ impl Mode {
     pub fn from_name(name: &str) -> Option<Mode>
         ensures { result ≡ mode_named name.now }
     {
-        if name == "xts-plain64" {
+        Mode::from_bytes(name.as_bytes())
+    }
+
+    /// The mode whose name these bytes are, or `None` for any others.
+    pub fn from_bytes(name: &[u8]) -> Option<Mode>
+        ensures { result ≡ mode_named name.now }
+    {
+        if name == b"xts-plain64".as_slice() {
             Some(Mode::XtsPlain64)
-        } else if name == "xts-plain" {
+        } else if name == b"xts-plain".as_slice() {
             Some(Mode::XtsPlain)
-        } else if name == "cbc-essiv:sha256" {
+        } else if name == b"cbc-essiv:sha256".as_slice() {
             Some(Mode::CbcEssivSha256)
-        } else if name == "cbc-plain64" {
+        } else if name == b"cbc-plain64".as_slice() {
             Some(Mode::CbcPlain64)
         } else {
             None

@@ -4,10 +4,8 @@ ghost use Rattle.std.specs.Prelude.{◌≡◌, ◌+◌, ◌*◌, ◌%◌, ◌<�
 ghost use Rattle.std.specs.Prelude.{Some, None, if◌then◌else◌};
 ghost use Rattle.luks_cipher.specs.Xts.{doubled, tweak_of, block_xor, block_at, joined};
 ghost use Rattle.luks_cipher.specs.Xts.{block_encrypted, block_decrypted, xts_encrypted};
-ghost use Rattle.luks_cipher.specs.Xts.{xts_decrypted, is_xts_key_length};
+ghost use Rattle.luks_cipher.specs.Xts.{xts_decrypted, is_xts_key_length, tweak_after, IsKeyPair};
 ghost use Rattle.luks_aes.specs.Bytes.{IsBytes};
-ghost use Rattle.luks_cipher.specs.Batches.{tweak_after};
-ghost use Rattle.luks_cipher.specs.KeyPair.{IsKeyPair};
 
 use crate::block::{block_of, xor_vector};
 use luks_aes::AesKey;

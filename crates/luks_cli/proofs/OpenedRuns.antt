@@ -19,7 +19,7 @@ use Rattle.luks_runs.specs.Location.{reader_for, detached_header_of}
 use Rattle.luks_runs.specs.declared.location.HeaderLocation.{HeaderLocation}
 use Rattle.luks_runs.specs.declared.location.HeaderLocation.TheVariants.{Attached, Detached}
 use Rattle.luks_runs.specs.Payload.{ForwardsPayload}
-use Rattle.luks_cli.specs.Unlocking.{PromptCat, ConsumesLoaded, PromptDetachedCat, Unlocks}
+use Rattle.luks_cli.specs.Unlocking.{PromptCat, ConsumesLoaded, Unlocks}
 use Rattle.luks_runs.specs.RunMessages.{PayloadMessage}
 use Rattle.luks_request.specs.Request.{VolumeRequest}
 use Rattle.luks_unlock.specs.OpeningMessages.{OpeningMessage}
@@ -71,19 +71,14 @@ module _ (location : HeaderLocation) (o : VolumeRequest) (image pass : List ℕ)
       (runs_printed (slot_outcome pass segment opened (length loaded)) (ConsumedExactly image i)
       (ConsumedExactly pass s) w w' message u.input_consumed refl u.secret_consumed printed)
 
--- writing the line about the key slot ends with one of these messages
+-- writing the line about the key slot ends with one of these messages, and reads nothing
 pub slot_message : (slot : ℕ) (w w' : Option (List ℕ)) (message : Message)
-    → Prints (opened_line slot) Done w w' message → OpeningMessage message ⊎ (message ≡ Done ⊎ message ≡ WriteFailed)
-slot_message slot w w' OutOfMemory printed = inl tt
-slot_message slot w w' WriteFailed printed = inr (inr refl)
+    → Prints (opened_line slot) Done w w' message
+    → (OpeningMessage message ⊎ (message ≡ Done ⊎ message ≡ WriteFailed)) × (is_run_read_failure message ≡ false)
+slot_message slot w w' OutOfMemory printed = (inl tt, refl)
+slot_message slot w w' WriteFailed printed = (inr (inr refl), refl)
 slot_message slot w w' ReadFailed printed = absurd printed
-slot_message slot w w' _ printed = inr (inl printed.0)
-
--- writing the line about the key slot reads nothing
-pub slot_reads_nothing : (slot : ℕ) (w w' : Option (List ℕ)) (message : Message)
-    → Prints (opened_line slot) Done w w' message → is_run_read_failure message ≡ false
-slot_reads_nothing slot w w' ReadFailed printed = absurd printed
-slot_reads_nothing slot w w' _ printed = refl
+slot_message slot w w' _ printed = (inr (inl printed.0), refl)
 
 -- ---- `luksCat`
 
@@ -105,31 +100,24 @@ module _ (o : VolumeRequest) (image pass : List ℕ) (segment : Segment) (opened
       → ForwardsPayload segment (segment.mode, opened.key) image (length loaded) left w w' message
       → ((n : ℕ) → (is_run_read_failure message ≡ false → length loaded ≤ n) → ConsumedExactly image left n
       → ConsumedExactly image i' n)
-      → RunMatches (PromptCat image) (volume_outcome (payload_outcome image pass) o image pass) message
+      → RunMatches (PromptCat Attached image) (volume_outcome (payload_outcome image pass) o image pass) message
       (ConsumedExactly image i') (ConsumedExactly pass s) (Appended w w')
   runs_forwarded left i' w w' OutOfMemory only forwarded as_source = absurd only
-  runs_forwarded left i' w w' ReadFailed only forwarded as_source =
-      let place = forwarded.0 in
-      let count = forwarded.1 in
-      let whole = forwarded.3 in
-      let span : count * sector_len segment
-      ≤ sectors_of segment image * sector_len segment = mul-le-mul_right (sector_len segment) whole in
+  runs_forwarded left i' w w' ReadFailed only (place, count, position, whole, inside, consumption, output) as_source =
       rw (u.outcome (payload_outcome image pass)) (aborted_at place 0 (length pass) (count * sector_len segment)
-      (omega (arith, plain_len segment image (segment.mode, opened.key)))
+      (omega (arith, plain_len segment image (segment.mode, opened.key), mul-le-mul_right (sector_len segment) whole))
       (λ other is passes. rw (same_segment_by header_of image segment other u.has is)
-      (ap (λ n. n * sector_len segment) forwarded.2)) (omega (arith, forwarded.4)) (omega arith) (omega arith)
-      (as_source place (λ other. absurd (cc other)) forwarded.5) refl u.secret_consumed forwarded.6)
-  runs_forwarded left i' w w' WriteFailed only forwarded as_source =
-      let count = forwarded.0 in
-      let written = forwarded.1 in
+      (ap (λ n. n * sector_len segment) position)) (omega (arith, inside)) (omega arith) (omega arith)
+      (as_source place (λ other. absurd (cc other)) consumption) refl u.secret_consumed output)
+  runs_forwarded left i' w w' WriteFailed only (count, written, few, less, inside, consumption, output) as_source =
       let end = max (length loaded) (sector_start segment (count + 1)) in
-      let within = positioned_within segment image count written forwarded.2 forwarded.3 in
+      let within = positioned_within segment image count written few less in
       rw (u.outcome (payload_outcome image pass)) (aborted_at end 0 (length pass) (count * sector_len segment + written)
       (omega (arith, plain_len segment image (segment.mode, opened.key), within.0))
       (λ other is. rw (same_segment_by header_of image segment other u.has is, within.1)
       (omega (arith, u.no_further refl)))
-      (omega (arith, forwarded.4)) (omega arith) (omega arith) (as_source end (λ other. omega arith) forwarded.5) refl
-      u.secret_consumed forwarded.6)
+      (omega (arith, inside)) (omega arith) (omega arith) (as_source end (λ other. omega arith) consumption) refl
+      u.secret_consumed output)
   runs_forwarded left i' w w' message only forwarded as_source =
       rw (u.outcome (payload_outcome image pass)) (record {
         as_specified = forwarded.0;
@@ -142,8 +130,7 @@ module _ (o : VolumeRequest) (image pass : List ℕ) (segment : Segment) (opened
   -- all of the image is loaded
   module _ (none : i ≡ Some []) where
     pub loaded_from_none : ConsumedExactly image (Some []) (length loaded)
-    loaded_from_none =
-        subst (λ (rest : Option (List ℕ)). ConsumedExactly image rest (length loaded)) none u.input_consumed
+    loaded_from_none = rw none at u.input_consumed
 
     -- whatever else is said to be consumed of the image is all of it, too
     pub loaded_whole : (n : ℕ) → length loaded ≤ n → n ≤ length image → ConsumedExactly image i n
@@ -169,32 +156,25 @@ module _ (o : VolumeRequest) (file image pass : List ℕ) (segment : Segment) (o
   -- the payload was forwarded, to its end or not
   pub detached_runs_forwarded : (message : Message) → PayloadMessage message
       → ForwardsPayload segment (segment.mode, opened.key) image 0 i' w w' message
-      → DetachedRunMatches (PromptDetachedCat file)
+      → DetachedRunMatches (PromptCat Detached file)
       (volume_outcome_by detached_header_of (detached_payload_outcome image pass) o file pass) message
       (ConsumedExactly file h) (ConsumedExactly image i') (ConsumedExactly pass s) (Appended w w')
   detached_runs_forwarded OutOfMemory only forwarded = absurd only
-  detached_runs_forwarded ReadFailed only forwarded =
-      let count = forwarded.1 in
-      let span : count * sector_len segment
-      ≤ sectors_of segment image * sector_len segment = mul-le-mul_right (sector_len segment) forwarded.3 in
+  detached_runs_forwarded ReadFailed only (place, count, position, whole, inside, consumption, output) =
       rw (u.outcome (detached_payload_outcome image pass))
-      (aborted_at (length loaded) forwarded.0 (length pass) (count * sector_len segment)
-      (omega (arith, plain_len segment image (segment.mode, opened.key)))
+      (aborted_at (length loaded) place (length pass) (count * sector_len segment)
+      (omega (arith, plain_len segment image (segment.mode, opened.key), mul-le-mul_right (sector_len segment) whole))
       (λ other is passes. rw (same_segment_by detached_header_of file segment other u.has is)
-      (ap (λ n. n * sector_len segment) forwarded.2))
-      (omega arith) (omega (arith, forwarded.4)) (omega arith) u.input_consumed forwarded.5 u.secret_consumed
-      forwarded.6)
-  detached_runs_forwarded WriteFailed only forwarded =
-      let count = forwarded.0 in
-      let written = forwarded.1 in
-      let within = positioned_within segment image count written forwarded.2 forwarded.3 in
+      (ap (λ n. n * sector_len segment) position))
+      (omega arith) (omega (arith, inside)) (omega arith) u.input_consumed consumption u.secret_consumed output)
+  detached_runs_forwarded WriteFailed only (count, written, few, less, inside, consumption, output) =
+      let within = positioned_within segment image count written few less in
       rw (u.outcome (detached_payload_outcome image pass))
       (aborted_at (length loaded) (max 0 (sector_start segment (count + 1))) (length pass)
       (count * sector_len segment + written)
       (omega (arith, plain_len segment image (segment.mode, opened.key), within.0))
       (λ other is. rw (same_segment_by detached_header_of file segment other u.has is, within.1) (omega arith))
-      (omega arith) (omega (arith, forwarded.4)) (omega arith) u.input_consumed forwarded.5 u.secret_consumed
-      forwarded.6)
+      (omega arith) (omega (arith, inside)) (omega arith) u.input_consumed consumption u.secret_consumed output)
   detached_runs_forwarded message only forwarded =
       let all : max 0 (payload_end_of segment image) ≡ payload_end_of segment image = omega arith in
       rw (u.outcome (detached_payload_outcome image pass)) (record {

@@ -1,5 +1,5 @@
 -- How the commands on volumes end if their volume is not opened, and what holds if it is.
-use Rattle.std.proofs.Common.{◌≡◌, ℕ, ◌+◌, ◌-◌, ◌<◌, ◌≤◌, inl, inr, List, Option, Some, Result, Ok, Err, ◌∙◌, ap, sym}
+use Rattle.std.proofs.Common.{◌≡◌, ℕ, ◌+◌, ◌-◌, ◌≤◌, inl, inr, List, Option, Some, Result, Ok, Err, ◌∙◌, ap, sym}
 use Rattle.std.proofs.Common.{refl, take, drop, length, max, min, arith, ◌*◌, ◌/◌}
 use Rattle.std.proofs.lemmas.Bool.{cases_lt}
 use Rattle.luks_header.specs.Area.{AbortsConsuming}
@@ -22,11 +22,11 @@ use Rattle.luks_unlock.specs.Volume.{unlock_read_len, volume_by}
 use Rattle.luks_request.specs.Request.{VolumeRequest}
 use Rattle.luks_runs.specs.Run.{RunMatches}
 use Rattle.luks_runs.proofs.RunLemmas.{aborted_unwritten}
-use Rattle.luks_io.proofs.Consuming.{adds-none, consumed-none}
+use Rattle.luks_io.proofs.EffectLemmas.{adds-none, consumed-none}
 use Rattle.luks_io.specs.Devices.{Appended, ConsumedExactly}
 use Rattle.luks_runs.proofs.HeaderRuns.{header_read_len_within}
 use Rattle.luks_runs.specs.KeyFile.{NoKeyFileRead, max_key_file_len}
-use Rattle.luks_cli.specs.Unlocking.{ConsumesLoaded, PromptForwarding, UnlockEffect, Unlocks, PromptOpening}
+use Rattle.luks_cli.specs.Unlocking.{ConsumesLoaded, PromptForwarding, UnlockEffect, Unlocks, PromptCat}
 use Rattle.luks_unlock.specs.OpeningMessages.{OpeningMessage}
 use Rattle.luks_unlock.specs.Trying.{ConsumedMaterial, opened_of}
 use Rattle.luks_unlock.specs.declared.unlocked.UnlockedVolume.{UnlockedVolume}
@@ -35,8 +35,7 @@ use Rattle.luks_runs.specs.Location.{reader_for, HeaderReader}
 use Rattle.luks_runs.specs.declared.location.HeaderLocation.{HeaderLocation}
 use Rattle.luks_runs.specs.declared.location.HeaderLocation.TheVariants.{Attached, Detached}
 use Rattle.luks_report.specs.declared.message.Message.{Message}
-use Rattle.luks_report.specs.declared.message.Message.TheVariants.{Cut, KeyFileLength, OutOfMemory, ReadFailed}
-use Rattle.luks_report.specs.declared.message.Message.TheVariants.{WriteFailed}
+use Rattle.luks_report.specs.declared.message.Message.TheVariants.{KeyFileLength, OutOfMemory, ReadFailed, WriteFailed}
 use Rattle.std.proofs.Math.Nat.{zero-div}
 use Rattle.luks_header.proofs.KnownLemmas.{is_attached}
 use Rattle.luks_open.proofs.CallerLemmas.{key_areas_before_payload}
@@ -46,12 +45,7 @@ use Rattle.luks_payload.specs.Plain.{sector_len}
 
 pub same_segment_by : (read : HeaderReader) (image : List ℕ) (s t : Segment) → HasSegmentBy read image s
     → HasSegmentBy read image t → t ≡ s
-same_segment_by read image s t one other =
-    let first : read image ≡ Ok one.0 = one.1 in
-    let second : read image ≡ Ok other.0 = other.1 in
-    let third : segment_of one.0 ≡ Ok s = one.2 in
-    let fourth : segment_of other.0 ≡ Ok t = other.2 in
-    cc
+same_segment_by read image s t (header, found, is_segment) (other, found', is_segment') = cc
 
 -- there are no sectors before the payload's start
 no_sectors_before : (segment : Segment) (a : ℕ) → a ≤ segment.offset
@@ -71,7 +65,7 @@ prompt_early segment header_len _ consumed few = tt
 
 -- nothing was consumed past the header
 prompt_in_header : (location : HeaderLocation) (image : List ℕ) (message : Message) (a b : ℕ)
-    → a ≤ header_read_len image → PromptOpening location image message a 0 b 0
+    → a ≤ header_read_len image → PromptCat location image message a 0 b 0
 prompt_in_header Attached image message a b few =
     λ segment has. prompt_early segment (header_read_len image) message a (omega arith)
 prompt_in_header Detached image message a b few = λ segment has. prompt_early segment 0 message 0 (omega arith)
@@ -80,21 +74,12 @@ prompt_in_header Detached image message a b few = λ segment has. prompt_early s
 prompt_before_payload : (location : HeaderLocation) (image : List ℕ) (message : Message) (a b : ℕ)
     (segment : Segment) → HasSegmentBy (reader_for location) image segment
     → (location ≡ Attached → a ≤ max (header_read_len image) segment.offset)
-    → PromptOpening location image message a 0 b 0
+    → PromptCat location image message a 0 b 0
 prompt_before_payload Attached image message a b segment has early = λ other is.
     prompt_early other (header_read_len image) message a
     (rw (same_segment_by header_of image segment other has is) (early refl))
 prompt_before_payload Detached image message a b segment has early =
     λ other is. prompt_early other 0 message 0 (omega arith)
-
--- with an attached header, the key material of the slots to be tried ends before the payload starts
-material_before_payload : (location : HeaderLocation) (image : List ℕ) (header : Header) (segment : Segment)
-    (named limit : Option ℕ)
-    (order : OrderModel) → reader_for location image ≡ Ok header → segment_of header ≡ Ok segment
-    → order_of header named limit ≡ Ok order → location ≡ Attached → key_material_end order.entries ≤ segment.offset
-material_before_payload Attached image header segment named limit order found is_segment ordered attached =
-    key_areas_before_payload header segment named limit order (is_attached image header found) is_segment ordered
-material_before_payload Detached image header segment named limit order found is_segment ordered attached = cc
 
 -- ---- how much is consumed of a volume that was found
 
@@ -135,7 +120,7 @@ module _ (location : HeaderLocation) (o : VolumeRequest) (image pass : List ℕ)
   -- a run that wrote nothing matches the outcome of what is done with an opened volume
   abbrev Matches : OnOpened → Message → Type 0
   Matches on_opened message =
-      RunMatches (PromptOpening location image) (volume_outcome_by (reader_for location) on_opened o image pass) message
+      RunMatches (PromptCat location image) (volume_outcome_by (reader_for location) on_opened o image pass) message
       (ConsumedExactly image i) (ConsumedExactly pass s) (Appended w w)
 
   module _ (on_opened : OnOpened) (takes : ConsumesLoaded pass on_opened) where
@@ -175,11 +160,13 @@ module _ (location : HeaderLocation) (o : VolumeRequest) (image pass : List ℕ)
         ≡ found_outcome on_opened o.key_slot volume image pass
     outcome_found on_opened = found_is location o image pass header segment order found is_segment ordered on_opened
 
+    -- with an attached header, the key material of the slots to be tried ends before the payload starts
     loaded_before_payload : location ≡ Attached
         → unlock_read_len image volume ≤ max (header_read_len image) segment.offset
     loaded_before_payload attached =
-        let few = material_before_payload location image header segment o.key_slot o.max_iterations order found
-        is_segment ordered attached in omega (arith, few)
+        let few = key_areas_before_payload header segment o.key_slot o.max_iterations order
+        (is_attached image header (rw attached at found)) is_segment ordered in
+        omega (arith, few)
 
     -- the key file was not read
     runs_without_secret : (on_opened : OnOpened) → ConsumesLoaded pass on_opened → (message : Message)
@@ -223,72 +210,63 @@ module _ (location : HeaderLocation) (o : VolumeRequest) (image pass : List ℕ)
           (record { within = header_read_len_within image; left = stop.0.left }) read)
       runs_without_area on_opened takes _ stop = absurd stop
 
-      module _ (grows : ConsumedMaterial order area area' (drop (header_read_len image) image) i) where
-        -- the image ended within them
-        runs_cut : (on_opened : OnOpened) → length area' < key_material_end order.entries → Matches on_opened Cut
-        runs_cut on_opened few =
-            let cut = area_cut image area area' i (key_material_end order.entries) prefix grows few in
-            rw (outcome_found on_opened, found_cut on_opened o.key_slot volume image pass short cut.0) (record
-            { as_specified = refl; input = cut.1; payload = refl; secret = read; output = adds-none w })
+      -- the key slots were tried
+      module _ (grows : ConsumedMaterial order area area' (drop (header_read_len image) image) i)
+          (enough : key_material_end order.entries ≤ length area') where
+        outcome_tried : (r : Result Opened OpenFault) → opening_of order area' pass ≡ r → (on_opened : OnOpened)
+            → volume_outcome_by (reader_for location) on_opened o image pass
+            ≡ opened_outcome on_opened o.key_slot volume image pass r
+        outcome_tried r tried on_opened =
+            tried_is location o image pass header segment order found is_segment ordered short area area' i prefix
+            grows enough r tried on_opened
 
-        module _ (enough : key_material_end order.entries ≤ length area') where
-          outcome_tried : (r : Result Opened OpenFault) → opening_of order area' pass ≡ r → (on_opened : OnOpened)
-              → volume_outcome_by (reader_for location) on_opened o image pass
-              ≡ opened_outcome on_opened o.key_slot volume image pass r
-          outcome_tried r tried on_opened =
-              tried_is location o image pass header segment order found is_segment ordered short area area' i prefix
-              grows enough r tried on_opened
-
-          -- no key slot opens
-          runs_unopened : (fault : OpenFault) → opening_of order area' pass ≡ Err fault → (on_opened : OnOpened)
-              → Matches on_opened (message_for_opening o.key_slot fault)
-          runs_unopened Memory tried on_opened =
-              let loaded = area_loaded image area area' i (key_material_end order.entries) prefix grows enough in
-              rw (outcome_tried (Err Memory) tried on_opened)
-              (aborted_unwritten (unlock_read_len image volume) (length pass) refl
-              (prompt_before_payload location image OutOfMemory (unlock_read_len image volume) (length pass) segment
-              (header, found, is_segment) loaded_before_payload) (omega arith) (omega arith) loaded.3 read)
-          runs_unopened fault tried on_opened =
-              let loaded = area_loaded image area area' i (key_material_end order.entries) prefix grows enough in
-              rw (outcome_tried (Err fault) tried on_opened)
-              (record { as_specified = refl; input = loaded.3; payload = refl; secret = read; output = adds-none w })
-
-          -- a key slot opens
-          unlocks : (opened : Opened) → opening_of order area' pass ≡ Ok opened
-              → Unlocks location o image pass segment opened area' i s
-          unlocks opened tried =
-              let loaded = area_loaded image area area' i (key_material_end order.entries) prefix grows enough in
-              record {
-                outcome = λ on_opened. outcome_tried (Ok opened) tried on_opened
-                    ∙ ap (on_opened segment opened) (sym loaded.1);
-                has = (header, found, is_segment);
-                no_further = λ attached. omega (arith, loaded.1, loaded_before_payload attached);
-                prefix = rw (← loaded.1) at loaded.2;
-                input_consumed = rw (← loaded.1) at loaded.3;
-                secret_consumed = read;
-              }
+        -- none of them opens
+        runs_unopened : (fault : OpenFault) → opening_of order area' pass ≡ Err fault → (on_opened : OnOpened)
+            → Matches on_opened (message_for_opening o.key_slot fault)
+        runs_unopened Memory tried on_opened =
+            let loaded = area_loaded image area area' i (key_material_end order.entries) prefix grows enough in
+            rw (outcome_tried (Err Memory) tried on_opened)
+            (aborted_unwritten (unlock_read_len image volume) (length pass) refl
+            (prompt_before_payload location image OutOfMemory (unlock_read_len image volume) (length pass) segment
+            (header, found, is_segment) loaded_before_payload) (omega arith) (omega arith) loaded.3 read)
+        runs_unopened fault tried on_opened =
+            let loaded = area_loaded image area area' i (key_material_end order.entries) prefix grows enough in
+            rw (outcome_tried (Err fault) tried on_opened)
+            (record { as_specified = refl; input = loaded.3; payload = refl; secret = read; output = adds-none w })
 
     -- the volume was not opened
     pub runs_without_key : (area area' : List ℕ) → area ≡ take (header_read_len image) image → (on_opened : OnOpened)
-        → ConsumesLoaded pass on_opened
-        → ConsumedExactly image (Some (drop (header_read_len image) image)) (header_read_len image)
-        → (message : Message)
+        → ConsumesLoaded pass on_opened → (message : Message)
         → UnlockEffect o.key_slot segment order pass area area' (drop (header_read_len image) image) i s (Err message)
         → Matches on_opened message
-    runs_without_key area area' prefix on_opened takes left message (inl (short, read, inl lost)) =
+    runs_without_key area area' prefix on_opened takes message (inl (short, read, inl lost)) =
         rw lost.1 (runs_without_area short read area area' prefix on_opened takes lost.0 lost.2)
-    runs_without_key area area' prefix on_opened takes left message (inl (short, read, inr (grows, inl cut))) =
-        rw cut.0 (runs_cut short read area area' prefix grows on_opened cut.1)
-    runs_without_key area area' prefix on_opened takes left message (inl (short, read, inr (grows, inr none))) =
+    -- the image ended within the key areas
+    runs_without_key area area' prefix on_opened takes message (inl (short, read, inr (grows, inl cut))) =
+        let ends = area_cut image area area' i (key_material_end order.entries) prefix grows cut.1 in
+        rw cut.0 (rw (outcome_found on_opened, found_cut on_opened o.key_slot volume image pass short ends.0) (record
+        { as_specified = refl; input = ends.1; payload = refl; secret = read; output = adds-none w }))
+    runs_without_key area area' prefix on_opened takes message (inl (short, read, inr (grows, inr none))) =
         rw none.1 (runs_unopened short read area area' prefix grows none.2 none.0 none.3 on_opened)
-    runs_without_key area area' prefix on_opened takes left message (inr none) =
+    runs_without_key area area' prefix on_opened takes message (inr none) =
         let same : message ≡ none.0 = cc in
-        rw same (runs_without_secret on_opened takes none.0 none.2 (rw none.4 left))
+        rw same (runs_without_secret on_opened takes none.0 none.2
+        (record { within = header_read_len_within image; left = none.4 }))
 
     -- the volume was opened
     pub unlocks_volume : (area area' : List ℕ) → area ≡ take (header_read_len image) image → (opened : UnlockedVolume)
         → UnlockEffect o.key_slot segment order pass area area' (drop (header_read_len image) image) i s (Ok opened)
         → Unlocks location o image pass opened.segment (opened_of opened) area' i s
-    unlocks_volume area area' prefix opened (inl (short, read, tried)) =
-        rw tried.2 (unlocks short read area area' prefix tried.0 tried.1 (opened_of opened) tried.3)
+    unlocks_volume area area' prefix opened (inl (short, read, tries)) =
+        let loaded = area_loaded image area area' i (key_material_end order.entries) prefix tries.0 tries.1 in
+        rw tries.2 (record {
+          outcome = λ on_opened.
+              outcome_tried short read area area' prefix tries.0 tries.1 (Ok (opened_of opened)) tries.3 on_opened
+              ∙ ap (on_opened segment (opened_of opened)) (sym loaded.1);
+          has = (header, found, is_segment);
+          no_further = λ attached. omega (arith, loaded.1, loaded_before_payload attached);
+          prefix = rw (← loaded.1) at loaded.2;
+          input_consumed = rw (← loaded.1) at loaded.3;
+          secret_consumed = read;
+        })
     unlocks_volume area area' prefix opened (inr none) = cc

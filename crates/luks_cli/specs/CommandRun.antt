@@ -2,37 +2,38 @@
 -- detached one. Then header and key areas come from the header's file, and the payload from the image, at the segment's
 -- own offset.
 use Rattle.std.specs.Prelude.{◌≡◌, ℕ, ◌<◌, ◌^◌, max, List, length, Option, Some, Bool, true, ◌&&◌, not, ◌⊎◌, is_err}
-use Rattle.std.specs.Prelude.{false}
+use Rattle.std.specs.Prelude.{IfSome, false}
 use Rattle.luks_io.specs.Counts.{Reads, Writes, with_ahead}
 use Rattle.luks_io.specs.declared.counts.ReadCounts.{ReadCounts}
 use Rattle.luks_io.specs.declared.counts.WriteCounts.{WriteCounts}
 use Rattle.luks_io.specs.Devices.{Appended, ConsumedExactly, IfKnown}
-use Rattle.luks_cli.specs.Unlocking.{PromptCat, PromptDetachedCat}
-use Rattle.luks_request.specs.Request.{Request, VolumeRequest, test_passphrase, luks_cat, af_split}
+use Rattle.luks_cli.specs.Unlocking.{PromptCat}
+use Rattle.luks_request.specs.Request.{Request, VolumeRequest, test_passphrase, luks_cat, af_split, secret_of}
 use Rattle.luks_cli.specs.Outcome.{outcome_of, detached_outcome_of}
-use Rattle.luks_runs.specs.Location.{HeaderReader, detached_header_of}
+use Rattle.luks_runs.specs.Location.{HeaderReader, reader_for}
+use Rattle.luks_runs.specs.declared.location.HeaderLocation.{HeaderLocation}
+use Rattle.luks_runs.specs.declared.location.HeaderLocation.TheVariants.{Attached, Detached}
 use Rattle.luks_runs.specs.Payload.{max_needed}
 use Rattle.luks_runs.specs.Run.{Promptness, RunMatches, ConsumedNothing, AnyPromptness, is_run_read_failure}
-use Rattle.luks_runs.specs.Run.{is_run_write_failure, DetachedRunMatches}
+use Rattle.luks_runs.specs.Run.{is_run_write_failure, DetachedRunMatches, aborts}
 use Rattle.luks_runs.specs.Stripe.{max_key_len, PromptSplit}
-use Rattle.luks_unlock.specs.Found.{HasSegment, HasSegmentBy}
+use Rattle.luks_unlock.specs.Found.{HasSegmentBy}
+use Rattle.luks_unlock.specs.Honest.{OpensHonest}
 use Rattle.luks_unlock.specs.Volume.{slot_outcome, volume_by, volume_outcome}
 use Rattle.luks_verdict.specs.declared.segment.Segment.{Segment}
 use Rattle.luks_report.specs.declared.message.Message.{Message}
+use Rattle.luks_report.specs.declared.message.Message.TheVariants.{Done}
 use Rattle.luks_unlock.specs.OpeningMessages.{OpeningMessage}
 
--- how promptly a command ends if it is aborted, with this image
-abbrev pub promptness_of : Request → List ℕ → Promptness
-promptness_of (luks_cat o) image = PromptCat image
-promptness_of (af_split s) image = PromptSplit (length image)
-promptness_of _ image = AnyPromptness
+-- how promptly a command ends if it is aborted, with this image, or this file with a detached header
+abbrev pub promptness_of : HeaderLocation → Request → List ℕ → Promptness
+promptness_of location (luks_cat o) image = PromptCat location image
+promptness_of location (af_split s) image = PromptSplit (length image)
+promptness_of location _ image = AnyPromptness
 
 -- the second input of a command knows its bytes, if there is one
 abbrev pub KnowsSecret : Request → Option (List ℕ) → List ℕ → Type 0
-KnowsSecret (test_passphrase o) device secret = device ≡ Some secret
-KnowsSecret (luks_cat o) device secret = device ≡ Some secret
-KnowsSecret (af_split s) device secret = device ≡ Some secret
-KnowsSecret _ device secret = Unit {0}
+KnowsSecret request device secret = IfSome (secret_of request) (λ _. device ≡ Some secret)
 
 -- what was consumed of the second input
 abbrev pub ConsumedOfSecret : Request → List ℕ → Option (List ℕ) → ℕ → Type 0
@@ -52,8 +53,17 @@ abbrev pub RunsAsStated : Request → Message → Option (List ℕ) → Option (
     → Option (List ℕ) → Option (List ℕ) → Type 0
 RunsAsStated request message image image' secret secret' written written' =
     IfKnown image (λ known. (known_secret : List ℕ) → KnowsSecret request secret known_secret → IsCounted request known
-    → RunMatches (promptness_of request known) (outcome_of request known known_secret) message
+    → RunMatches (promptness_of Attached request known) (outcome_of request known known_secret) message
     (ConsumedExactly known image') (ConsumedOfSecret request known_secret secret') (Appended written written'))
+
+-- what `luksCat` writes if the volume is honestly sealed: a run that is not aborted writes the plaintext and succeeds
+abbrev pub WritesPlain : Request → Message → Option (List ℕ) → Option (List ℕ) → Option (List ℕ) → Option (List ℕ)
+    → Type 0
+WritesPlain (luks_cat o) message image secret written written' =
+    IfKnown image (λ known. IfKnown secret (λ passphrase.
+    (plain : List ℕ) → length known < 2 ^ 64 → OpensHonest o known passphrase plain → aborts message ≡ false
+    → (message ≡ Done) × Appended written written' plain))
+WritesPlain _ message image secret written written' = Unit {0}
 
 -- a command that writes nothing before its last read
 abbrev pub ReadsFirst : Request → Type 0
@@ -89,17 +99,23 @@ abbrev pub AllowsPayload : (Segment → Type 0) → ℕ → ℕ → ℕ → Type
 AllowsPayload IsOf consumed ahead most = (most ≡ ahead)
     ⊎ ((s : Segment) × IsOf s × (most ≡ max (max_needed s.size s.offset consumed) ahead))
 
--- how much read-ahead `luksCat` allows: to open the volume, it consumes as much of the image as `testPassphrase` does
-abbrev pub CatAllows : VolumeRequest → Option (List ℕ) → Option (List ℕ) → ℕ → ℕ → Type 0
-CatAllows o image secret ahead most =
-    IfKnown image (λ known. IfKnown secret (λ passphrase.
-    AllowsPayload (HasSegment known) (volume_outcome (slot_outcome passphrase) o known passphrase).input_consumed
-    ahead most))
+-- how many bytes of the payload's image are consumed to open the volume: as many as `testPassphrase` consumes, or none
+-- if the header is detached
+abbrev pub consumed_to_open : HeaderLocation → VolumeRequest → List ℕ → List ℕ → ℕ
+consumed_to_open Attached o image secret = (volume_outcome (slot_outcome secret) o image secret).input_consumed
+consumed_to_open Detached o file secret = 0
 
--- what a command adds to the counts of its image: only `luksCat` reads a payload
-abbrev pub ReadsImage : Request → Option (List ℕ) → Option (List ℕ) → Bool → ReadCounts → ReadCounts → Type 0
-ReadsImage (luks_cat o) image secret = ReadsPayload (CatAllows o image secret)
-ReadsImage _ image secret = ReadsOnce
+-- how much read-ahead `luksCat` allows for its payload's image
+abbrev pub CatAllows : HeaderLocation → VolumeRequest → Option (List ℕ) → Option (List ℕ) → ℕ → ℕ → Type 0
+CatAllows location o input secret ahead most =
+    IfKnown input (λ known. IfKnown secret (λ passphrase.
+    AllowsPayload (HasSegmentBy (reader_for location) known) (consumed_to_open location o known passphrase) ahead most))
+
+-- what a command adds to the counts of its image, or of its payload's image: only `luksCat` reads a payload
+abbrev pub ReadsImage : HeaderLocation → Request → Option (List ℕ) → Option (List ℕ) → Bool → ReadCounts → ReadCounts
+    → Type 0
+ReadsImage location (luks_cat o) input secret = ReadsPayload (CatAllows location o input secret)
+ReadsImage location _ input secret = ReadsOnce
 
 -- what a part of a run that reads its first input in this way adds to the counts of both inputs: a failure of one of
 -- them if a read failed, at most one end of each, and no needless read
@@ -115,11 +131,6 @@ pub record CountsCalls (ReadsIt : Bool → ReadCounts → ReadCounts → Type 0)
     (input input' secret secret' : ReadCounts) (out out' : WriteCounts) : Type 0 where
   pub reads : CountsReads ReadsIt (is_run_read_failure message) input input' secret secret'
   pub out_writes : Writes (is_run_write_failure message) out out'
-
--- how promptly a command ends if it is aborted
-abbrev pub detached_promptness_of : Request → List ℕ → Promptness
-detached_promptness_of (luks_cat o) file = PromptDetachedCat file
-detached_promptness_of request file = AnyPromptness
 
 -- the payload's image knows its bytes, if the command reads any of it
 abbrev pub KnowsPayload : Request → Option (List ℕ) → List ℕ → Type 0
@@ -138,7 +149,7 @@ abbrev pub RunsDetached : Request → Message → Option (List ℕ) → Option (
 RunsDetached request message header header' image image' secret secret' written written' =
     IfKnown header (λ file. (known : List ℕ) → KnowsPayload request image known → (known_secret : List ℕ)
     → KnowsSecret request secret known_secret → IsCounted request known
-    → DetachedRunMatches (detached_promptness_of request file)
+    → DetachedRunMatches (promptness_of Detached request file)
     (detached_outcome_of request file known known_secret) message
     (ConsumedExactly file header') (ConsumedOfPayload request known image')
     (ConsumedOfSecret request known_secret secret') (Appended written written'))
@@ -152,17 +163,6 @@ EndsWithoutKey message = OpeningMessage message × (is_run_read_failure message 
 abbrev pub NeedsNoPayload : Request → Message → Type 0
 NeedsNoPayload (luks_cat o) message = EndsWithoutKey message
 NeedsNoPayload request message = Unit {0}
-
--- how much read-ahead `luksCat` allows for its payload's image, of which nothing is consumed to open the volume
-abbrev pub DetachedCatAllows : Option (List ℕ) → Option (List ℕ) → ℕ → ℕ → Type 0
-DetachedCatAllows header secret ahead most =
-    IfKnown header
-    (λ file. IfKnown secret (λ passphrase. AllowsPayload (HasSegmentBy detached_header_of file) 0 ahead most))
-
--- what a command adds to the counts of its payload's image: only `luksCat` reads one
-abbrev pub ReadsPayloadImage : Request → Option (List ℕ) → Option (List ℕ) → Bool → ReadCounts → ReadCounts → Type 0
-ReadsPayloadImage (luks_cat o) header secret = ReadsPayload (DetachedCatAllows header secret)
-ReadsPayloadImage request header secret = ReadsOnce
 
 -- what a run that reads the payload's image in this way adds to the counts of its devices: a failure of one of its
 -- inputs if a read failed, one of the output if a write failed, at most one end of each input, and no needless call

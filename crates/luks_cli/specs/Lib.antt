@@ -1,5 +1,3 @@
 pub mod CommandRun
-pub mod Honest
 pub mod Outcome
-pub mod PlanMessages
 pub mod Unlocking

@@ -1,6 +1,8 @@
 -- The outcome of a run of luksrd, a function of the command and the bytes of its inputs, and the messages with which it
 -- may end.
 use Rattle.std.specs.Prelude.{ℕ, List, ◌≡◌, ◌⊎◌}
+use Rattle.luks_args.specs.declared.planning.PlanFault.{PlanFault}
+use Rattle.luks_args.specs.declared.planning.PlanFault.TheVariants.{Memory, Usage}
 use Rattle.luks_request.specs.Request.{Request, is_luks, luks_uuid, luks_dump, luks_check, test_passphrase, luks_cat}
 use Rattle.luks_request.specs.Request.{af_split, af_merge}
 use Rattle.luks_header.specs.Header.{header_of}
@@ -14,7 +16,8 @@ use Rattle.luks_unlock.specs.Volume.{volume_outcome_by}
 use Rattle.luks_runs.specs.RunMessages.{CheckMessage, IsLuksMessage, MergeMessage, PayloadMessage, PrintMessage}
 use Rattle.luks_runs.specs.RunMessages.{SplitMessage}
 use Rattle.luks_report.specs.declared.message.Message.{Message}
-use Rattle.luks_report.specs.declared.message.Message.TheVariants.{Done, WriteFailed}
+use Rattle.luks_report.specs.declared.message.Message.TheVariants.{Done, OutOfMemory, Usage as UsageMessage}
+use Rattle.luks_report.specs.declared.message.Message.TheVariants.{WriteFailed}
 use Rattle.luks_unlock.specs.OpeningMessages.{OpeningMessage}
 
 -- the outcome of a command for the bytes of its first and of its second input, if its header is read in this way, and
@@ -49,3 +52,8 @@ MayReport (test_passphrase o) message = OpeningMessage message ⊎ (message ≡ 
 MayReport (luks_cat o) message = OpeningMessage message ⊎ PayloadMessage message
 MayReport (af_split s) message = SplitMessage message
 MayReport (af_merge m) message = MergeMessage message
+
+-- the message if the arguments are not a command, or memory ran out
+abbrev pub message_for_plan : PlanFault → Message
+message_for_plan Usage = UsageMessage
+message_for_plan Memory = OutOfMemory

@@ -43,23 +43,15 @@ PromptForwarding s header_len ReadFailed consumed output = IsPastHeader s header
     → output ≡ (consumed - s.offset) / sector_len s * sector_len s
 PromptForwarding s header_len _ consumed output = Unit {0}
 
--- `luksCat` was aborted, and forwarding the image's payload was prompt
-abbrev pub PromptCat : List ℕ → Message → ℕ → ℕ → ℕ → ℕ → Type 0
-PromptCat image message input_consumed payload_consumed secret_consumed output =
-    (segment : Segment) → HasSegment image segment → PromptForwarding segment
-    (header_read_len image) message input_consumed output
-
--- `luksCat` with a detached header was aborted, and forwarding the payload was prompt; of its image nothing is consumed
--- for a header
-abbrev pub PromptDetachedCat : List ℕ → Message → ℕ → ℕ → ℕ → ℕ → Type 0
-PromptDetachedCat file message header_consumed payload_consumed secret_consumed output =
+-- opening a volume or `luksCat` was aborted, and forwarding the payload was prompt. With a detached header, the payload
+-- is in an image of its own, of which nothing is consumed for a header
+abbrev pub PromptCat : HeaderLocation → List ℕ → Promptness
+PromptCat Attached image message input_consumed payload_consumed secret_consumed output =
+    (segment : Segment) → HasSegment image segment
+    → PromptForwarding segment (header_read_len image) message input_consumed output
+PromptCat Detached file message input_consumed payload_consumed secret_consumed output =
     (segment : Segment) → HasSegmentBy detached_header_of file segment
     → PromptForwarding segment 0 message payload_consumed output
-
--- opening was aborted: it was as prompt as `luksCat`
-abbrev pub PromptOpening : HeaderLocation → List ℕ → Promptness
-PromptOpening Attached = PromptCat
-PromptOpening Detached = PromptDetachedCat
 
 -- the volume was not opened, and the message says why: nothing was written, and the run matches the specified outcome,
 -- whatever the command would do with an open volume
@@ -67,7 +59,7 @@ abbrev pub EndsLocked : HeaderLocation → VolumeRequest → List ℕ → List �
     → Option (List ℕ) → Type 0
 EndsLocked location o image secret message image' secret' =
     (on_opened : OnOpened) → ConsumesLoaded secret on_opened → (written : Option (List ℕ))
-    → RunMatches (PromptOpening location image) (volume_outcome_by (reader_for location) on_opened o image secret)
+    → RunMatches (PromptCat location image) (volume_outcome_by (reader_for location) on_opened o image secret)
     message (ConsumedExactly image image') (ConsumedExactly secret secret') (Appended written written)
 
 -- the volume was opened: its segment and its key are these, and these first bytes of the image, or of the file with the

@@ -5,8 +5,7 @@ ghost use Rattle.luks_header.specs.Header.{header_of};
 ghost use Rattle.luks_request.specs.Request.{has_header_file, request_of};
 ghost use Rattle.luks_runs.specs.Run.{result_message};
 ghost use Rattle.luks_cli.specs.CommandRun.{CountsCalls, NeedsNoSecret};
-ghost use Rattle.luks_cli.specs.CommandRun.{ReadsFirst, ReadsImage, RunsAsStated};
-ghost use Rattle.luks_cli.specs.Honest.{WritesPlain};
+ghost use Rattle.luks_cli.specs.CommandRun.{ReadsFirst, ReadsImage, RunsAsStated, WritesPlain};
 ghost use Rattle.luks_cli.specs.Outcome.{MayReport};
 
 pub use detached::execute_detached;
@@ -69,8 +68,8 @@ pub fn execute<I: Source, K: Source, O: Sink>(
         → secret.new ≡ secret.old }
     ensures reads_first { ReadsFirst (request_of command.now) → result.message ≡ Message.ReadFailed
         → out.new ≡ out.old }
-    ensures calls { CountsCalls
-        (ReadsImage (request_of command.now) (I.to_come image.old) (K.to_come secret.old))
+    ensures calls { CountsCalls (ReadsImage HeaderLocation.Attached (request_of command.now)
+        (I.to_come image.old) (K.to_come secret.old))
         result.message (I.counts image.old) (I.counts image.new) (K.counts secret.old)
         (K.counts secret.new) (O.counts out.old) (O.counts out.new) }
 {

@@ -7,8 +7,7 @@ use Rattle.luks1_header.specs.declared.header.Header1.{Header1}
 use Rattle.luks1_header.specs.declared.header.StoredSlot.{StoredSlot}
 use Rattle.luks1_header.specs.declared.header.SlotState.{SlotState}
 use Rattle.luks1_header.specs.declared.header.SlotState.TheVariants.{Enabled, Disabled, Damaged}
-use Rattle.luks_dump.specs.Escaping.{escaped}
-use Rattle.luks_dump.specs.DumpLine.{field}
+use Rattle.luks_dump.specs.DumpLine.{escaped, field}
 
 -- the text of a key slot that is in use: its iterations, its salt in hexadecimal digits, its area's offset in sectors
 -- of 512 bytes, and its stripes

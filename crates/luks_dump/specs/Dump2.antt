@@ -22,8 +22,7 @@ use Rattle.luks_header.specs.Header.{bounds2_of}
 use Rattle.luks_header.specs.SlotVerdicts.{verdicts_of}
 use Rattle.luks_header.specs.declared.header.Header.TheVariants.{V2}
 use Rattle.serde_json.specs.Data.{Data}
-use Rattle.luks_dump.specs.Escaping.{escaped}
-use Rattle.luks_dump.specs.DumpLine.{field}
+use Rattle.luks_dump.specs.DumpLine.{escaped, field}
 
 -- ---- the binary header
 
@@ -73,10 +72,6 @@ verdict_text (Skipped reason) = codes "SKIPPED " ++ reason_text reason
 abbrev pub slot2_line : ℕ × Verdict → List ℕ
 slot2_line (number, verdict) = field (codes "Slot " ++ decimal number) (verdict_text verdict)
 
--- the lines of key slots
-abbrev pub slot2_lines : List (ℕ × Verdict) → List ℕ
-slot2_lines verdicts = flat_map slot2_line verdicts
-
 -- ---- the segment
 
 -- the size of a segment: its length in bytes, or `dynamic` if it has no fixed length
@@ -123,10 +118,6 @@ listed_text (Some digest) = digest_text digest
 abbrev pub digest_line : ℕ × Option Digest → List ℕ
 digest_line (number, digest) = field (codes "Digest " ++ decimal number) (listed_text digest)
 
--- the lines of digests
-abbrev pub digest_lines : List (ℕ × Option Digest) → List ℕ
-digest_lines digests = flat_map digest_line digests
-
 -- ---- dumps
 
 -- the dump of a header. The number of iterations has no limit here
@@ -134,9 +125,9 @@ unfoldable pub dump2_of : Header2 → Data → List ℕ
 dump2_of h tree =
     role_lines h
     ++ text2_lines h
-    ++ slot2_lines (verdicts_of (V2 h tree) None)
+    ++ flat_map slot2_line (verdicts_of (V2 h tree) None)
     ++ segment_line (segment2_of tree (bounds2_of h))
-    ++ digest_lines (digests2_of tree)
+    ++ flat_map digest_line (digests2_of tree)
 
 -- the line with the UUID alone
 unfoldable pub uuid2_line : Header2 → List ℕ

@@ -2,4 +2,3 @@ pub mod Dump
 pub mod Dump1
 pub mod Dump2
 pub mod DumpLine
-pub mod Escaping

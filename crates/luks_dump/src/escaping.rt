@@ -2,7 +2,7 @@
 
 ghost use Rattle.std.specs.Prelude.{◌≡◌, ◌++◌, ◌∷◌, [], IfOk, OnOk, string_bytes, ◌≤◌};
 ghost use Rattle.hex.specs.Hex.{encode_lower};
-ghost use Rattle.luks_dump.specs.Escaping.{escaped, escaped_byte};
+ghost use Rattle.luks_dump.specs.DumpLine.{escaped, escaped_byte};
 
 use std::alloc::{AllocError, Global};
 
@@ -17,7 +17,7 @@ pub(crate) fn escape(alloc: Global, text: &[u8]) -> Result<String, AllocError>
 }
 
 /// Adds a text of a header as it is printed.
-#[tactic(auto, unfolding(crate::specs::Escaping::escaped))]
+#[tactic(auto, unfolding(crate::specs::DumpLine::escaped))]
 pub(crate) fn push_escaped_text(
     alloc: Global,
     printed: &mut String,
@@ -33,7 +33,7 @@ pub(crate) fn push_escaped_text(
 }
 
 /// Adds one byte of a header's text.
-#[tactic(auto, unfolding(crate::specs::Escaping::escaped_byte))]
+#[tactic(auto, unfolding(crate::specs::DumpLine::escaped_byte))]
 fn push_escaped(alloc: Global, printed: &mut String, byte: u8) -> Result<(), AllocError>
     ensures { OnOk result
         (string_bytes printed.new ≡ string_bytes printed.old ++ escaped_byte byte) }

@@ -3,8 +3,7 @@
 ghost use Rattle.std.specs.Fmt.{decimal};
 ghost use Rattle.std.specs.Prelude.{◌≡◌, ◌++◌, OnOk, string_bytes};
 ghost use Rattle.hex.specs.Hex.{encode_lower};
-ghost use Rattle.luks_dump.specs.Escaping.{escaped};
-ghost use Rattle.luks_dump.specs.DumpLine.{field};
+ghost use Rattle.luks_dump.specs.DumpLine.{escaped, field};
 
 use crate::escaping::escape;
 use std::alloc::{AllocError, Global};

@@ -1,194 +1,126 @@
--- Reading a header.
-use Rattle.std.proofs.Common.{◌≡◌, ℕ, ◌<◌, ◌≤◌, List, [], Option, Some, Ok, Err, Bool, true, false, ◌∙◌}
-use Rattle.std.proofs.Common.{ap, sym, subst, refl, inl, inr, lit≤, take, drop, length, min, take_all, arith}
-use Rattle.std.specs.Prelude.{nat_lt}
-use Rattle.std.proofs.lemmas.Bool.{cases_lt, le-ltb, lt-ltb}
-use Rattle.std.proofs.lemmas.List.{length-take, take-take, take_min}
-use Rattle.luks_io.specs.Devices.{ConsumedExactly, ConsumedAtMost, counted, saturating_inc}
+-- Reading a header: the first bytes of an image, and those after them for a LUKS2 header.
+use Rattle.std.proofs.Common.{◌≡◌, ◌∙◌, ℕ, ◌<◌, ◌≤◌, ◌⊎◌, inl, inr, List, [], Option, Some, None, Ok, Err, Bool, true}
+use Rattle.std.proofs.Common.{false, ap, sym, subst, refl, take, drop, length, length-take-le, min, take_all, arith}
+use Rattle.std.specs.Prelude.{Result, IsTrue, ◌↔◌, nat_lt, not}
+use Rattle.std.proofs.lemmas.Bool.{le-ltb, lt-ltb}
+use Rattle.std.proofs.lemmas.List.{take-take}
+use Rattle.luks_io.specs.Devices.{ConsumedExactly, ConsumedAtMost, counted}
 use Rattle.luks_area.specs.Area.{AbortsConsuming, ConsumedOnto, HeaderAreaModel}
 use Rattle.luks_area.specs.declared.fault.HeaderFault.{HeaderFault}
-use Rattle.luks_area.specs.declared.fault.HeaderFault.TheVariants.{NotLuks, Cut, Read, Memory}
+use Rattle.luks_area.specs.declared.fault.HeaderFault.TheVariants.{NotLuks, Cut, Json, Read, Memory}
 use Rattle.luks1_header.specs.Header1.{header1_of, is_luks1}
 use Rattle.luks1_header.specs.declared.header.Header1.{Header1}
-use Rattle.luks2_binary.specs.ReadLen2.{header2_read_len}
-use Rattle.luks2_binary.specs.Reading2.{LoadedPrefixOf}
-use Rattle.luks2_binary.proofs.AbsentLemmas.{cost_short, none_short}
-use Rattle.luks2_binary.proofs.ChoiceLemmas.{probe_some}
+use Rattle.luks2_binary.specs.Choice2.{header2_of}
+use Rattle.luks2_binary.specs.ReadLen2.{header2_read_len, probe2_len}
+use Rattle.luks2_binary.specs.Reading2.{AnsweredFor, IsPrefixOf, LoadedFor, LoadedPrefixOf, finished}
+use Rattle.luks2_binary.specs.Text2.{json_text_of}
+use Rattle.luks2_binary.specs.declared.header.Header2.{Header2}
+use Rattle.luks2_binary.proofs.ChoiceLemmas.{json_beginning, probe_some}
+use Rattle.luks2_binary.proofs.PrefixLemmas.{hits_end, short_from_not}
 pub use Rattle.luks2_binary.proofs.PrefixLemmas.{short_from_not as short_from_not_whole}
-use Rattle.luks_header.specs.Header.{IsRead, ReadsNoHeader, ConsumedHeaderLen, header_read_len}
-use Rattle.luks_header.specs.Header.{falls_short, header_of, probe_len}
+use Rattle.luks2_json.specs.Tree.{tree_of}
+use Rattle.serde_json.specs.Data.{Data}
+use Rattle.luks_header.specs.Header.{ConsumedHeaderLen, IsRead, ReadsNoHeader, falls_short, header_of, header_read_len}
+use Rattle.luks_header.specs.Header.{probe_len, with_metadata, with_text}
 use Rattle.luks_header.specs.declared.header.Header.{Header}
-use Rattle.luks_header.specs.declared.header.Header.TheVariants.{V1}
-use Rattle.luks_header.proofs.LoadedLemmas.{cost_other, header_missing}
+use Rattle.luks_header.specs.declared.header.Header.TheVariants.{V1, V2}
 
--- as many bytes of an image are read as the search for its header goes into it, or all of a shorter one
-read_len_is : (image : List ℕ) → header_read_len image ≡ min (probe_len image) (length image)
+-- the search for the header goes at least 592 bytes into an image, and as many bytes are read, or all of a shorter one
+pub probe_is : (image : List ℕ)
+    → (header_read_len image ≡ min (probe_len image) (length image)) × (592 ≤ probe_len image)
 unfolding header_read_len probe_len header2_read_len
-read_len_is image = by (is_luks1 image) refl where
-  by : (b : Bool) → is_luks1 image ≡ b → header_read_len image ≡ min (probe_len image) (length image)
-  by true is = rw is refl
-  by false is = rw is refl
+probe_is image = by (is_luks1 image) refl where
+  by : (b : Bool) → is_luks1 image ≡ b
+      → (header_read_len image ≡ min (probe_len image) (length image)) × (592 ≤ probe_len image)
+  by true is = rw is (refl, omega arith)
+  by false is = rw is (refl, omega (arith, probe_some image))
 
--- the search for the header goes at least 592 bytes into an image
-pub some_probe : (image : List ℕ) → 592 ≤ probe_len image
-unfolding probe_len
-some_probe image = by (is_luks1 image) refl where
-  by : (b : Bool) → is_luks1 image ≡ b → 592 ≤ probe_len image
-  by true is = rw is (omega arith)
-  by false is = rw is (omega (arith, probe_some image))
-
--- reading the header consumes at least 592 bytes of an image, or all of a shorter one
-some_cost : (image : List ℕ) → min 592 (length image) ≤ header_read_len image
-some_cost image = omega (arith, read_len_is image, some_probe image)
-
--- an image of fewer than 592 bytes falls short
-pub short_falls : (image : List ℕ) → length image < 592 → falls_short image ≡ true
-short_falls image few = lt-ltb (length image) (probe_len image) (omega (arith, few, some_probe image))
+-- if memory ran out, no more bytes were consumed than are read for the header
+pub memory_below : (image : List ℕ) (left : Option (List ℕ)) (ends ends' : ℕ)
+    → ReadsNoHeader image left ends ends' Memory → ConsumedAtMost image left (header_read_len image)
+memory_below image left ends ends' (inl ((count, few, consumption), same, none)) =
+    (count, omega (arith, few, consumption.within, (probe_is image).0), consumption)
+memory_below image left ends ends' (inr (second, consumption)) = (header_read_len image, omega arith, consumption.0)
 
 -- an area starts as LUKS1 if the test of its bytes says so
 pub starts_as : {bytes area : List ℕ} {answer expected : Bool} → bytes ≡ area → answer ≡ is_luks1 bytes
     → answer ≡ expected → is_luks1 area ≡ expected
 starts_as same is holds = ap is_luks1 (sym same) ∙ sym is ∙ holds
 
--- the first 592 bytes decide whether an image starts as LUKS1
-pub is_luks1_of_first_bytes : (image : List ℕ) → is_luks1 (take 592 image) ≡ is_luks1 image
+-- the first bytes decide whether an image starts as LUKS1
+pub begins_longer : (loaded loaded' : List ℕ) → 8 ≤ length loaded → take (length loaded) loaded' ≡ loaded
+    → is_luks1 loaded' ≡ is_luks1 loaded
 unfolding is_luks1
-is_luks1_of_first_bytes image = rw (take-take 8 592 image (lit≤ tt)) refl
+begins_longer loaded loaded' long kept =
+    rw (sym (take-take 8 (length loaded) loaded' long) ∙ ap (take 8) kept) refl
 
--- an empty area onto which up to 592 bytes were consumed has the first bytes of the image
-pub area_is : (area image : List ℕ) (left : Option (List ℕ))
-    → ConsumedOnto [] area image left (min 592 (length image))
-    → (area ≡ take 592 image) × ConsumedExactly image left (min 592 (length image))
-area_is area image left consumption = (consumption.1 ∙ take_min 592 image, consumption.0)
-
--- an area of 592 bytes that starts as LUKS1 has this header
-pub header_of-whole : (area : List ℕ) (header : Header1) → is_luks1 area ≡ true → length area ≡ 592
-    → header ≡ header1_of area → header_of area ≡ Ok (V1 header)
-unfolding header_of
-header_of-whole area header is whole read =
-    let no : nat_lt (length area) 592 ≡ false = le-ltb (length area) 592 (omega arith) in
-    let all : length area ≤ 592 = omega arith in
-    rw (is, no, take_all 592 area all, read) refl
-
--- a shorter area that starts as LUKS1 has a truncated header
-pub header_of-cut : (area : List ℕ) → is_luks1 area ≡ true → length area < 592 → header_of area ≡ Err Cut
-unfolding header_of
-header_of-cut area is short =
-    let yes : nat_lt (length area) 592 ≡ true = lt-ltb (length area) 592 short in
-    rw (is, yes) refl
+-- ---- the first 592 bytes
 
 -- if consuming bytes onto an empty area was aborted, reading the header was aborted
 pub aborts_reading : (area image : List ℕ) (left : Option (List ℕ)) (ends ends' : ℕ) (fault : HeaderFault)
     → AbortsConsuming 592 [] area image left fault → ends' ≡ ends → ReadsNoHeader image left ends ends' fault
 aborts_reading area image left ends ends' Read (count, below, consumption) same =
-    ((count, omega (arith, consumption.0.within, some_cost image), consumption.0), same)
+    ((count, omega (arith, consumption.0.within, (probe_is image).0, (probe_is image).1), consumption.0), same)
 aborts_reading area image left ends ends' Memory consumption same =
-    inl ((0, omega (arith, some_probe image), consumption.0), same, λ is. consumption.0)
+    inl ((0, omega (arith, (probe_is image).1), consumption.0), same, λ is. consumption.0)
 aborts_reading area image left ends ends' _ h same = absurd h
 
--- if the area has fewer than 592 bytes, the image falls short, and its end was hit
-ended_within : (area image : List ℕ) (left : Option (List ℕ))
-    → (area ≡ take 592 image) × ConsumedExactly image left (min 592 (length image)) → length area < 592
-    → (ends ends' : ℕ) → ends' ≡ saturating_inc ends → ends' ≡ counted (falls_short image) ends
-ended_within area image left consumed few ends ends' found =
-    let short : length image < 592 = omega (arith, ap length consumed.0, length-take 592 image, few) in
-    found ∙ sym (ap (λ b. counted b ends) (short_falls image short))
+module _ (area : HeaderAreaModel) (image : List ℕ) (left : Option (List ℕ))
+    (consumption : ConsumedOnto [] area.bytes image left (min 592 (length image))) where
+  loaded_len : length area.bytes ≡ min 592 (length image)
+  loaded_len = ap length consumption.1 ∙ length-take-le (min 592 (length image)) image (omega arith)
 
--- ---- LUKS1
-
--- an area of at most 592 bytes that starts as LUKS1 is read whole for its header
-pub all_cost : (area : List ℕ) → is_luks1 area ≡ true → length area ≤ 592 → length area ≡ header_read_len area
-unfolding header_read_len
-all_cost area is few = rw is (omega arith)
-
--- an area of at least 592 bytes that starts as LUKS1 does not fall short
-pub whole_falls : (area : List ℕ) → is_luks1 area ≡ true → 592 ≤ length area → falls_short area ≡ false
-unfolding probe_len
-whole_falls area is all = rw is (le-ltb (length area) 592 all)
-
-module _ (area image : List ℕ) (left : Option (List ℕ))
-    (consumed : (area ≡ take 592 image) × ConsumedExactly image left (min 592 (length image))) (begins : is_luks1 area
-    ≡ true) where
-  image_begins : is_luks1 image ≡ true
-  image_begins = sym (is_luks1_of_first_bytes image) ∙ (ap is_luks1 (sym consumed.0) ∙ begins)
-
-  cost_is : header_read_len image ≡ min 592 (length image)
-  unfolding header_read_len
-  cost_is = rw image_begins refl
-
-  header_is : header_of area ≡ header_of image
-  unfolding header_of
-  header_is =
-      let long = length-take 592 image in
-      let few : nat_lt (length (take 592 image)) 592 ≡ nat_lt (length image) 592 =
-      elim (cases_lt (length image) 592) [
-        | inl short ↦ lt-ltb (length (take 592 image)) 592 (omega arith) ∙ sym (lt-ltb (length image) 592 short)
-        | inr all ↦ le-ltb (length (take 592 image)) 592 (omega arith) ∙ sym (le-ltb (length image) 592 all)
-      ] in
-      rw (consumed.0, is_luks1_of_first_bytes image, image_begins, few, take-take 592 592 image (lit≤ tt)) refl
-
-  -- if the area has no header and fewer than 592 bytes, the image has no header, and its end was hit
-  pub none_read : (fault : HeaderFault) → header_of area ≡ Err fault → length area < 592
-      → (ends ends' : ℕ) → ends' ≡ saturating_inc ends
+  -- an image of fewer than 592 bytes was loaded whole, and its end was hit: it has no header if its bytes have none
+  pub short_read : (fault : HeaderFault) (whole : Bool) (ends ends' : ℕ)
+      → (IsTrue whole ↔ (592 ≤ length area.bytes)) → whole ≡ false
+      → (length area.bytes < 592 → header_of area.bytes ≡ Err fault) → ends' ≡ counted (not whole) ends
       → (header_of image ≡ Err fault) × ConsumedHeaderLen image left ends ends'
-  none_read fault none few ends ends' found = (
-    sym header_is ∙ none,
-    (
-      subst (ConsumedExactly image left) (sym cost_is) consumed.1,
-      ended_within area image left consumed few ends ends' found,
-    ),
-  )
-
-  -- if the area has a header, the image has it
-  pub one_read : (header : Header) → header_of area ≡ Ok header
-      → (header_of image ≡ Ok header) × (area ≡ take (header_read_len image) image)
-      × ConsumedExactly image left (header_read_len image)
-  one_read header one = (
-    sym header_is ∙ one,
-    consumed.0 ∙ (sym (take_min 592 image) ∙ ap (λ n. take n image) (sym cost_is)),
-    subst (ConsumedExactly image left) (sym cost_is) consumed.1,
-  )
-
--- ---- LUKS2
-
-module _ (area image : List ℕ) (left : Option (List ℕ))
-    (consumed : (area ≡ take 592 image) × ConsumedExactly image left (min 592 (length image))) (other : is_luks1 area
-    ≡ false) where
-  pub image_other : is_luks1 image ≡ false
-  image_other = sym (is_luks1_of_first_bytes image) ∙ (ap is_luks1 (sym consumed.0) ∙ other)
-
-  -- an image of fewer than 592 bytes that does not start as LUKS1 has no header
-  pub short_read : length area < 592 → (ends ends' : ℕ) → ends' ≡ saturating_inc ends
-      → (header_of image ≡ Err NotLuks) × ConsumedHeaderLen image left ends ends'
-  short_read few ends ends' found =
-      let short : length image < 4096 = omega (arith, ap length consumed.0, length-take 592 image) in
-      let cost : header_read_len image ≡ min 592 (length image) =
-      cost_other image image_other
-      ∙ (cost_short image short ∙ omega (arith, ap length consumed.0, length-take 592 image)) in (
-        header_missing image image_other (none_short image short),
+  short_read fault whole ends ends' iff is none found =
+      let few = short_from_not whole 592 (length area.bytes) iff is in
+      let same : area.bytes ≡ image =
+      consumption.1 ∙ take_all (min 592 (length image)) image (omega (arith, few, loaded_len)) in
+      let cost : min 592 (length image) ≡ header_read_len image =
+      omega (arith, few, loaded_len, (probe_is image).0, (probe_is image).1) in
+      let falls : falls_short image ≡ true =
+      lt-ltb (length image) (probe_len image) (omega (arith, few, loaded_len, (probe_is image).1)) in (
+        ap header_of (sym same) ∙ none few,
         (
-          subst (ConsumedExactly image left) (sym cost) consumed.1,
-          ended_within area image left consumed few ends ends' found,
+          subst (ConsumedExactly image left) cost consumption.0,
+          found ∙ ap (λ b. counted (not b) ends) is ∙ sym (ap (λ b. counted b ends) falls),
         ),
       )
 
--- the first 592 bytes of an image were loaded, and its end was not hit
-pub first_loaded : (area : HeaderAreaModel) (image : List ℕ) (left : Option (List ℕ))
-    → ConsumedOnto [] area.bytes image left (min 592 (length image)) → 592 ≤ length area.bytes
-    → area.ended ≡ false → LoadedPrefixOf image area left
-first_loaded area image left consumption whole unended =
-    let consumed = area_is area.bytes image left consumption in
-    let len = ap length consumed.0 in
-    let long : length area.bytes ≡ 592 = omega (arith, len, length-take 592 image, whole) in
-    let count : min 592 (length image) ≡ length area.bytes = omega (arith, len, length-take 592 image) in
-    record {
-      prefix = record {
-        begins = ap (λ n. take n image) long ∙ sym consumed.0;
-        within = omega (arith, len, length-take 592 image);
-        ends = λ ended. absurd (cc);
-      };
-      behind = consumed.1.left ∙ ap (λ n. Some (drop n image)) count;
-    }
+  -- the first bytes of an image were loaded, and its end was not hit
+  pub first_loaded : area.ended ≡ false → LoadedPrefixOf image area left
+  first_loaded unended = record {
+    prefix = record {
+      begins = ap (λ n. take n image) loaded_len ∙ sym consumption.1;
+      within = omega (arith, loaded_len);
+      ends = λ ended. absurd (cc);
+    };
+    behind = consumption.0.left ∙ ap (λ n. Some (drop n image)) (sym loaded_len);
+  }
+
+-- a shorter area that starts as LUKS1 has a truncated header
+pub header_of-cut : (area : List ℕ) → is_luks1 area ≡ true → length area < 592 → header_of area ≡ Err Cut
+unfolding header_of
+header_of-cut area is short =
+    let few : nat_lt (length area) 592 ≡ true = lt-ltb (length area) 592 short in
+    rw (is, few) refl
+
+-- an area of 592 bytes that starts as LUKS1 has the header of each image that starts with it
+pub first_read : (area : HeaderAreaModel) (header : Header1) → is_luks1 area.bytes ≡ true → length area.bytes ≡ 592
+    → area.ended ≡ false → header ≡ header1_of area.bytes
+    → (image : List ℕ) → IsPrefixOf area.bytes area.ended image → IsRead image area (V1 header)
+unfolding header_of header_read_len probe_len
+first_read area header begins long unended made image prefix =
+    let is = begins_longer area.bytes image (omega (arith, long)) prefix.begins ∙ begins in
+    let first : take 592 image ≡ area.bytes = ap (λ n. take n image) (sym long) ∙ prefix.begins in
+    let whole : nat_lt (length image) 592 ≡ false = le-ltb (length image) 592 (omega (arith, long, prefix.within)) in (
+      rw (is, whole, first, made) refl,
+      rw is (omega (arith, long, prefix.within)),
+      rw is (unended ∙ sym whole),
+    )
 
 -- a header that was read was read for the image
 pub whole_read : (image : List ℕ) (area : HeaderAreaModel) (left : Option (List ℕ)) (header : Header)
@@ -204,16 +136,92 @@ whole_read image area left header holds read =
     )
 
 -- no header was read with the bytes after the first ones, which did not hit the image's end
-pub rest_reading_aborted : (image : List ℕ) (left : Option (List ℕ)) (ends before ends' : ℕ) (fault : HeaderFault)
-    → before ≡ ends → ReadsNoHeader image left before ends' fault → ReadsNoHeader image left ends ends' fault
-rest_reading_aborted image left ends before ends' fault same aborts =
-    subst (λ e. ReadsNoHeader image left e ends' fault) same aborts
+pub rest_reading_aborted : (image : List ℕ) (left : Option (List ℕ)) (whole : Bool) (ends before ends' : ℕ)
+    (fault : HeaderFault) → whole ≡ true → before ≡ counted (not whole) ends
+    → ReadsNoHeader image left before ends' fault → ReadsNoHeader image left ends ends' fault
+rest_reading_aborted image left whole ends before ends' fault is found aborts =
+    subst (λ e. ReadsNoHeader image left e ends' fault) (found ∙ ap (λ b. counted (not b) ends) is) aborts
 
--- ---- the number of bytes that are read for a header
+-- ---- the LUKS2 header of an image whose first bytes are loaded
 
--- if memory ran out, no more bytes were consumed than are read for the header
-pub memory_below : (image : List ℕ) (left : Option (List ℕ)) (ends ends' : ℕ)
-    → ReadsNoHeader image left ends ends' Memory → ConsumedAtMost image left (header_read_len image)
-memory_below image left ends ends' (inl ((count, few, consumption), same, none)) =
-    (count, omega (arith, few, consumption.within, read_len_is image), consumption)
-memory_below image left ends ends' (inr (second, consumption)) = (header_read_len image, omega arith, consumption.0)
+module _ (image : List ℕ) (other : is_luks1 image ≡ false) where
+  -- if the image does not start as LUKS1, as many bytes are read, and the search goes as far, as for a LUKS2 header
+  lengths_other : (header_read_len image ≡ header2_read_len image) × (probe_len image ≡ probe2_len image)
+  unfolding header_read_len probe_len
+  lengths_other = rw other (refl, refl)
+
+  -- it has the LUKS2 header with its JSON text, or none
+  pub header_other : (read : Result Header2 HeaderFault) → header2_of image ≡ read
+      → header_of image ≡ with_text image read
+  unfolding header_of
+  header_other read is = rw (other, is) refl
+
+module _ (image : List ℕ) (old new : HeaderAreaModel) (other : is_luks1 image ≡ false) (unended : old.ended ≡ false)
+    (prefix : IsPrefixOf new.bytes new.ended image) where
+  -- the image's end was hit if the image falls short
+  ended_short : LoadedFor (probe2_len image) (Ok tt) old new → new.ended ≡ falls_short image
+  ended_short loaded =
+      hits_end image old new prefix (probe2_len image) loaded unended
+      ∙ ap (nat_lt (length image)) (sym (lengths_other image other).1)
+
+  -- the image has the LUKS2 header with the JSON text in the loaded bytes
+  header_loaded : (header : Header2) (tree : Option Data) → AnsweredFor image new.bytes (Ok header)
+      → tree_of (json_text_of new.bytes header) ≡ tree → header_of image ≡ with_metadata header tree
+  header_loaded header tree (found, long) read =
+      let text : json_text_of new.bytes header ≡ json_text_of image header =
+      ap (λ bytes. json_text_of bytes header) (sym prefix.begins ∙ ap (λ n. take n image) long)
+      ∙ json_beginning image header found in
+      header_other image other (Ok header) found ∙ ap (with_metadata header) (ap tree_of (sym text) ∙ read)
+
+  -- a header and its JSON text were read
+  pub found_read : (header : Header2) (tree : Data) → AnsweredFor image new.bytes (Ok header)
+      → LoadedFor (probe2_len image) (Ok tt) old new → tree_of (json_text_of new.bytes header) ≡ Some tree
+      → IsRead image new (V2 header tree)
+  found_read header tree found loaded read = (
+    header_loaded header (Some tree) found read,
+    found.1 ∙ sym (lengths_other image other).0,
+    ended_short loaded,
+  )
+
+module _ (image : List ℕ) (old new : HeaderAreaModel) (left : Option (List ℕ)) (ends ends' : ℕ)
+    (other : is_luks1 image ≡ false) (unended : old.ended ≡ false) (holds : LoadedPrefixOf image new left)
+    (found_end : ends' ≡ counted new.ended ends) where
+  consumed : ConsumedExactly image left (length new.bytes)
+  consumed = record { within = holds.prefix.within; left = holds.behind }
+
+  -- as many bytes were consumed as are read for the header
+  costs : length new.bytes ≡ header2_read_len image → LoadedFor (probe2_len image) (Ok tt) old new
+      → ConsumedHeaderLen image left ends ends'
+  costs long loaded = (
+    subst (ConsumedExactly image left) (long ∙ sym (lengths_other image other).0) consumed,
+    found_end ∙ ap (λ b. counted b ends) (ended_short image old new other unended holds.prefix loaded),
+  )
+
+  -- searching for the header was aborted
+  pub search_aborted : (fault : HeaderFault) → AnsweredFor image new.bytes (Err fault)
+      → LoadedFor (probe2_len image) (finished {T = Header2} (Err fault)) old new
+      → ReadsNoHeader image left ends ends' fault
+  search_aborted NotLuks (none, long) loaded = (header_other image other (Err NotLuks) none, costs long loaded)
+  search_aborted Read few loaded = (
+    (length new.bytes, omega (arith, few, (lengths_other image other).0), consumed),
+    found_end ∙ ap (λ b. counted b ends) loaded.before_end,
+  )
+  search_aborted Memory few loaded = inl (
+    (length new.bytes, omega (arith, few, (lengths_other image other).1), consumed),
+    found_end ∙ ap (λ b. counted b ends) loaded.before_end,
+    λ is. absurd (cc),
+  )
+  search_aborted _ never loaded = absurd never
+
+  -- reading the JSON text was aborted
+  pub json_reading_aborted : (header : Header2) (fault : HeaderFault) → AnsweredFor image new.bytes (Ok header)
+      → LoadedFor (probe2_len image) (Ok tt) old new
+      → (fault ≡ Json → tree_of (json_text_of new.bytes header) ≡ None) → (fault ≡ Json) ⊎ (fault ≡ Memory)
+      → ReadsNoHeader image left ends ends' fault
+  json_reading_aborted header Json found loaded json refusals =
+      (header_loaded image old new other unended holds.prefix header None found (json refl), costs found.1 loaded)
+  json_reading_aborted header Memory (found, long) loaded json refusals = inr (
+    (header, other, found),
+    costs long loaded,
+  )
+  json_reading_aborted header _ found loaded json refusals = absurd (elim refusals [ inl e ↦ cc | inr e ↦ cc ])

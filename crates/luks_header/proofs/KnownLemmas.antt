@@ -11,8 +11,7 @@ use Rattle.luks_verdict.specs.declared.digest.KeyDigest.{KeyDigest}
 use Rattle.luks_verdict.specs.declared.segment.Segment.{Segment}
 use Rattle.luks_verdict.specs.declared.slot.Slot.{Slot}
 use Rattle.luks_verdict.specs.declared.slot.Verdict.TheVariants.{Usable}
-use Rattle.luks1_header.proofs.SegmentLemmas.{IsReadable-ok}
-use Rattle.luks1_header.proofs.SlotLemmas.{slot_usable_at}
+use Rattle.luks1_header.proofs.ValidationLemmas.{IsReadable-ok, slot_usable_at}
 use Rattle.luks_area.specs.Fields.{at}
 use Rattle.luks_area.specs.declared.fault.HeaderFault.{HeaderFault}
 use Rattle.luks_area.specs.declared.fault.HeaderFault.TheVariants.{Cut}
@@ -22,11 +21,11 @@ use Rattle.luks1_header.specs.Slot1.{payload1_start}
 use Rattle.luks2_binary.specs.Choice2.{header2_of}
 use Rattle.luks2_binary.specs.Text2.{json_text_of}
 use Rattle.luks2_binary.specs.declared.header.Header2.{Header2}
-use Rattle.luks2_binary.proofs.JsonLemmas.{read_attached}
-use Rattle.luks2_json.specs.Encryption.{is_length_for}
+use Rattle.luks2_binary.proofs.ChoiceLemmas.{read_attached}
+use Rattle.luks2_json.specs.Member.{is_length_for}
 use Rattle.luks2_json.specs.Tree.{tree_of}
 use Rattle.serde_json.specs.Data.{Data}
-use Rattle.luks2_metadata.specs.Segment2.{payload2_start, payload_mode2_of}
+use Rattle.luks2_metadata.specs.Segment2.{payload2_start}
 use Rattle.luks2_metadata.proofs.SegmentLemmas.{segment2-ok}
 use Rattle.luks2_metadata.proofs.SlotLemmas.{usable2_at}
 use Rattle.luks_verdict.specs.Rule.{exceeds}
@@ -50,11 +49,6 @@ key_length : (read : Option Mode) (mode : Mode) (n m : ℕ) → read ≡ Some mo
     → is_mode_key_length mode m ≡ true
 key_length read mode n m is known same =
     subst (λ k. is_mode_key_length mode k ≡ true) (sym same) (subst (λ r. is_key_length1 r n ≡ true) is known)
-
-length_for : (read : Option Mode) (mode : Mode) (n : ℕ) → read ≡ Some mode → is_length_for read n ≡ true
-    → is_mode_key_length mode n ≡ true
-unfolding is_length_for
-length_for read mode n is known = subst (λ r. is_length_for r n ≡ true) is known
 
 ends_before : (start : Option ℕ) (offset end : ℕ) → start ≡ Some offset → exceeds start end ≡ false → end ≤ offset
 ends_before start offset end is within =
@@ -81,7 +75,7 @@ digest_of_usable (V2 header tree) limit number slot is =
 pub known_usable : (header : Header) (segment : Segment) (limit : Option ℕ) (number : ℕ) (slot : Slot)
     → segment_of header ≡ Ok segment
     → verdict_at header limit number ≡ Some (Usable slot) → IsKnown segment slot
-unfolding verdict_at segment_of
+unfolding verdict_at segment_of is_length_for
 known_usable (V1 header) segment limit number slot is_segment is =
     let read = IsReadable-ok header segment is_segment in
     let readable = read.1 in
@@ -103,8 +97,7 @@ known_usable (V2 header tree) segment limit number slot is_segment is =
     record {
       kdf = of_header.kdf;
       af = of_header.af;
-      volume_key = length_for (payload_mode2_of tree (bounds2_of header)) segment.mode slot.parts.key_bytes read.mode
-          of_header.volume_key;
+      volume_key = subst (λ mode. is_length_for mode slot.parts.key_bytes ≡ true) read.mode of_header.volume_key;
       area = of_header.area;
     }
 

@@ -1,3 +1,2 @@
 pub mod HeaderLemmas
-pub mod LoadedLemmas
 pub mod KnownLemmas

@@ -5,11 +5,9 @@ use Rattle.std.proofs.lemmas.List.{drop-drop, take_at}
 use Rattle.std.proofs.Math.Seq.{drop-append_seam, take-add}
 use Rattle.std.specs.Io.{ReadsAtMost}
 use Rattle.std.specs.Io.KnownBytes.{Consumes, Keeps, ReadConsumes, prepend_known}
-use Rattle.luks_io.specs.Devices.{Appended, ConsumedAtMost, IfKnown}
-use Rattle.luks_io.specs.Forwarding.{ForwardEffect}
+use Rattle.luks_io.specs.Devices.{Appended, ConsumedAtMost, ForwardEffect, IfKnown}
 use Rattle.luks_io.specs.declared.sink.WriteFault.{WriteFault}
-use Rattle.luks_io.proofs.Moves.{consumed-prefix}
-use Rattle.luks_io.proofs.Consuming.{consumed-none}
+use Rattle.luks_io.proofs.EffectLemmas.{consumed-none, consumed-prefix}
 
 -- the buffered bytes are the piece that is copied or forwarded, and those that stay
 piece_first : (items after : List ℕ) (start end count : ℕ) → count ≤ end - start
@@ -49,62 +47,51 @@ consumes_first : (piece rest : List ℕ) (behind : Option (List ℕ))
 consumes_first piece rest None = tt
 consumes_first piece rest (Some more) = append_assoc piece rest more
 
--- a piece that was consumed and transformed was written, or the write was aborted
-forwards : (piece : List ℕ) (count : ℕ) (left left' before after : Option (List ℕ)) (transformed : List ℕ → List ℕ)
-    (answer : Result (Unit {0}) WriteFault) (untouched : Type 0) → length piece ≡ count → Consumes left left' piece
-    → OnOk answer (Appended before after (transformed piece))
-    → IfErr answer (λ fault. (fault.written < count) × Appended before after (take fault.written (transformed piece)))
-    → ForwardEffect (Some answer) untouched count transformed left left' before after
-forwards piece count left left' before after transformed (Ok done) untouched sized consumed ok err =
-    (piece, sized, consumed, ok)
-forwards piece count left left' before after transformed (Err fault) untouched sized consumed ok err =
-    (err.0, (piece, sized, consumed, err.1))
+-- the first `count` buffered bytes were transformed in the buffer, which has the bytes of `buf` then
+module _ (items buf : List ℕ) (len start end count : ℕ) (few : count ≤ end - start) (inside : end ≤ len)
+    (long : length items ≡ len) (long' : length buf ≡ len)
+    (behind : drop (start + count) buf ≡ drop (start + count) items) where
+  abbrev piece : List ℕ
+  piece = take count (drop start items)
 
--- the vector has exactly the bytes of the buffer whose piece was transformed
-all_of : (items buf : List ℕ) (len : ℕ) → length buf ≡ len → take len (buf ++ drop (length buf) items) ≡ buf
-all_of items buf len long = take_at buf (drop (length buf) items) len long
+  abbrev rest : List ℕ
+  rest = take (end - (start + count)) (drop (start + count) buf)
 
-piece_length : (items : List ℕ) (len start end count : ℕ) → count ≤ end - start → end ≤ len → length items ≡ len
-    → length (take count (drop start items)) ≡ count
-piece_length items len start end count few inside long =
-    omega (arith, length-take count (drop start items), length-drop start items)
+  whole : take len (buf ++ drop (length buf) items) ≡ buf
+  whole = take_at buf (drop (length buf) items) len long'
 
--- the bytes after a forwarded piece stay buffered
-pub stays_buffered : (items buf : List ℕ) (len start end count : ℕ) → count ≤ end - start → end ≤ len → length items ≡
-    len → length buf ≡ len → drop (start + count) buf ≡ drop (start + count) items
-    → take (end - (start + count)) (drop (start + count) (take len (buf ++ drop (length buf) items)))
-    ≡ drop count (take (end - start) (drop start items))
-stays_buffered items buf len start end count few inside long long' behind =
-    let piece = take count (drop start items) in
-    let rest = take (end - (start + count)) (drop (start + count) buf) in
-    let buffered = piece_first items buf start end count few behind in
-    let skipped : drop count (piece ++ rest) ≡ rest =
-    ap (λ n. drop n (piece ++ rest)) (sym (piece_length items len start end count few inside long))
-    ∙ drop-append_seam piece rest in
-    ap (λ l. take (end - (start + count)) (drop (start + count) l)) (all_of items buf len long')
-    ∙ sym (ap (λ l. drop count l) buffered ∙ skipped)
+  sized : length piece ≡ count
+  sized = omega (arith, few, inside, long, length-take count (drop start items), length-drop start items)
 
--- a piece of a buffer was forwarded, and the bytes after it stay buffered
-pub forwards_buffered : (items buf : List ℕ) (len start end count : ℕ) (below before after : Option (List ℕ))
-    (transformed : List ℕ → List ℕ) (answer : Result (Unit {0}) WriteFault) (untouched : Type 0)
-    → count ≤ end - start → end ≤ len → length items ≡ len → length buf ≡ len
-    → drop (start + count) buf ≡ drop (start + count) items
-    → OnOk answer (Appended before after (transformed (take count (drop start items))))
-    → IfErr answer (λ fault. (fault.written < count)
-    × Appended before after (take fault.written (transformed (take count (drop start items)))))
-    → ForwardEffect (Some answer) untouched count transformed
-    (prepend_known (take (end - start) (drop start items)) below)
-    (prepend_known (take (end - (start + count)) (drop (start + count) (take len (buf ++ drop
-    (length buf) items)))) below)
-    before after
-forwards_buffered items buf len start end count below before after transformed answer untouched few inside long long'
-    behind ok err
-    =
-    let whole = all_of items buf len long' in
-    let piece = take count (drop start items) in
-    let sized = piece_length items len start end count few inside long in
-    let rest = take (end - (start + count)) (drop (start + count) buf) in
-    let consumed : Consumes (prepend_known (take (end - start) (drop start items)) below)
-    (prepend_known rest below) piece =
-    rw (piece_first items buf start end count few behind) (consumes_first piece rest below) in
-    rw whole (forwards piece count _ _ before after transformed answer untouched sized consumed ok err)
+  buffered : take (end - start) (drop start items) ≡ piece ++ rest
+  buffered = piece_first items buf start end count few behind
+
+  -- the bytes after a forwarded piece stay buffered
+  pub stays_buffered : take (end - (start + count)) (drop (start + count) (take len (buf ++ drop (length buf) items)))
+      ≡ drop count (take (end - start) (drop start items))
+  stays_buffered =
+      let skipped : drop count (piece ++ rest) ≡ rest =
+      ap (λ n. drop n (piece ++ rest)) (sym sized) ∙ drop-append_seam piece rest in
+      ap (λ l. take (end - (start + count)) (drop (start + count) l)) whole
+      ∙ sym (ap (λ l. drop count l) buffered ∙ skipped)
+
+  -- the piece is the next bytes of the source
+  consumed : (below : Option (List ℕ))
+      → Consumes (prepend_known (take (end - start) (drop start items)) below) (prepend_known rest below) piece
+  consumed below = rw buffered (consumes_first piece rest below)
+
+  -- a piece of a buffer was forwarded, and the bytes after it stay buffered
+  pub forwards_buffered : (below before after : Option (List ℕ)) (transformed : List ℕ → List ℕ)
+      (answer : Result (Unit {0}) WriteFault) (untouched : Type 0)
+      → OnOk answer (Appended before after (transformed (take count (drop start items))))
+      → IfErr answer (λ fault. (fault.written < count)
+      × Appended before after (take fault.written (transformed (take count (drop start items)))))
+      → ForwardEffect (Some answer) untouched count transformed
+      (prepend_known (take (end - start) (drop start items)) below)
+      (prepend_known (take (end - (start + count)) (drop (start + count) (take len (buf ++ drop (length buf) items))))
+      below)
+      before after
+  forwards_buffered below before after transformed (Ok done) untouched ok err =
+      rw whole (piece, sized, consumed below, ok)
+  forwards_buffered below before after transformed (Err fault) untouched ok err =
+      rw whole (err.0, (piece, sized, consumed below, err.1))

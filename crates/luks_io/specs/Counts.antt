@@ -1,8 +1,11 @@
--- The counts that devices keep of their calls, and what the calls in a part of a run add to them.
-use Rattle.std.specs.Prelude.{◌≡◌, ℕ, ◌-◌, ◌≤◌, ◌==◌, ◌||◌, nat_lt, is_err, Bool, Result, Ok, Err, Option, Some, None}
+-- The counts that devices keep of their calls, what the calls in a part of a run add to them, and the models of devices
+-- that keep them: over memory, over writers, and with a buffer for bytes that are read ahead.
+use Rattle.std.specs.Prelude.{◌≡◌, ℕ, zero, suc, ◌-◌, ◌≤◌, ◌==◌, ◌||◌, nat_lt, is_err, Bool, List, [], Result, Ok, Err}
+use Rattle.std.specs.Prelude.{Option, Some, None, ◌≢◌, ◌+◌, ◌⊎◌, length, max, min, IfOk, IsErr}
 use Rattle.luks_io.specs.Devices.{counted, is_end}
 use Rattle.luks_io.specs.declared.counts.ReadCounts.{ReadCounts}
 use Rattle.luks_io.specs.declared.counts.WriteCounts.{WriteCounts}
+use Rattle.luks_io.specs.declared.source.ReadFault.{ReadFault}
 
 -- no caller needs this read: the buffer has no capacity, or a read before it failed or hit the end
 abbrev pub is_needless_read : ReadCounts → ℕ → Bool
@@ -76,3 +79,62 @@ pub record Reads (failed ended : Bool) (before after : ReadCounts) : Type 0 wher
 pub record Writes (failed : Bool) (before after : WriteCounts) : Type 0 where
   pub failures : after.failures ≡ counted failed before.failures
   pub needed : WritesAsNeeded before after
+
+-- the number of bytes that were read, in all or before a read failed
+abbrev pub got_in : Result ℕ ReadFault → ℕ
+got_in (Ok count) = count
+got_in (Err fault) = fault.got
+
+-- the remaining bytes of a reader, by how often it has hit its end: none after the first time
+abbrev pub left_of : ℕ → Option (List ℕ) → Option (List ℕ)
+left_of zero remaining = remaining
+left_of (suc _) remaining = Some []
+
+-- a source over memory, of which no read fails: the remaining bytes, how many reads hit the end, and how many were
+-- needless
+pub record MemSourceModel : Type 0 where
+  pub left : List ℕ
+  pub ends : ℕ
+  pub needless : ℕ
+
+-- the counts of a source over memory
+abbrev pub counts_of_memory : MemSourceModel → ReadCounts
+counts_of_memory source = record { failures = 0; ends = source.ends; needless = source.needless; ahead = 0 }
+
+-- a sink over memory: the bytes written, how many more fit, and the counts of its writes
+pub record MemSinkModel : Type 0 where
+  pub written : List ℕ
+  pub capacity : ℕ
+  pub counts : WriteCounts
+
+-- a sink over a writer: the writer, and the counts of the sink's writes
+pub record WriteSinkModel (W : Type 0) : Type 0 where
+  pub writer : W
+  pub counts : WriteCounts
+
+-- a source that reads ahead: the source below, the buffered bytes, the buffer's capacity, and the counts of its own
+-- reads. The buffered bytes are some of those that it is allowed to read ahead
+pub record ReadAheadModel (S : Type 0) : Type 0 where
+  pub source : S
+  pub buffered : List ℕ
+  pub capacity : ℕ
+  pub counts : ReadCounts
+
+-- the number of bytes after the buffered ones that are allowed to be read ahead
+abbrev pub read_ahead_remaining : {S : Type 0} → ReadAheadModel S → ℕ
+read_ahead_remaining source = source.counts.ahead - length source.buffered
+
+-- the largest number of bytes that a call which requests `asked` bytes consumes: those, or more if more are allowed to
+-- be read ahead, as far as they fit into the buffer
+abbrev pub max_read : ℕ → ℕ → ℕ → ℕ
+max_read asked allowed capacity = max asked (min allowed capacity)
+
+-- the effect of a read of `asked` bytes on a source that reads ahead: the source below is read only if nothing is
+-- buffered and `asked` is not 0, at most `max_read` bytes of it are consumed, and a failure leaves what is buffered
+pub record ReadsAhead {S E : Type 0} (asked : ℕ) (answer : Result ℕ E) (before after : ReadAheadModel S) : Type 0 where
+  pub alone : (before.buffered ≢ []) ⊎ (asked ≡ 0) → after.source ≡ before.source
+  pub buffered : before.buffered ≢ [] → IfOk answer (λ count. count ≡ min asked (length before.buffered))
+  pub most : IfOk answer (λ count. count + length after.buffered
+      ≤ length before.buffered + max_read asked (read_ahead_remaining before) before.capacity)
+  pub kept : IsErr answer → after.buffered ≡ before.buffered
+  pub capacity : after.capacity ≡ before.capacity

@@ -1,8 +1,11 @@
 -- The effects of calls on one device: which bytes a source gave, which bytes a sink accepted, and what is counted. A
 -- device may know its bytes: `Some` of a list, or `None` if it does not. std's relations `Consumes`, `Appends` and
--- `IsAtEnd` state what one call does to them, and claim nothing for `None`.
+-- `IsAtEnd` state what one call does to them, and claim nothing for `None`. Forwarding has effects on two devices:
+-- bytes go from a source to a sink without a buffer between them.
 use Rattle.std.specs.Prelude.{◌≡◌, ℕ, ◌+◌, ◌-◌, ◌^◌, ◌<◌, ◌≤◌, ◌++◌, ◌==◌, ◌&&◌, min, nat_lt, Bool, true, false, List}
-use Rattle.std.specs.Prelude.{drop, length, take, MatchResult, Result, Ok, Err, Option, Some}
+use Rattle.std.specs.Prelude.{drop, length, take, MatchResult, Result, Ok, Err, Option, None, Some}
+use Rattle.std.specs.Io.KnownBytes.{Consumes}
+use Rattle.luks_io.specs.declared.sink.WriteFault.{WriteFault}
 
 -- if a device knows its bytes, this holds for them
 abbrev pub IfKnown : Option (List ℕ) → (List ℕ → Type 0) → Type 0
@@ -59,3 +62,28 @@ is_short_read (Err _) asked = false
 -- a sink accepted between one byte and all of a buffer that has any, and none of an empty one, unless the write failed
 abbrev pub AcceptsSome : {E : Type 0} → Result ℕ E → List ℕ → Type 0
 AcceptsSome r buf = MatchResult r (λ n. (n ≤ length buf) × (0 < length buf → 0 < n)) (λ _. Unit {0})
+
+-- the next `count` bytes of a source were consumed, and the bytes that `written_of` makes of them were written
+abbrev pub Forwarded : ℕ → (List ℕ → List ℕ) → Option (List ℕ) → Option (List ℕ) → Option (List ℕ) → Option (List ℕ)
+    → Type 0
+Forwarded count written_of left left' before after =
+    (bytes : List ℕ) × (length bytes ≡ count) × Consumes left left' bytes × Appended before after (written_of bytes)
+
+-- the effect of forwarding `count` bytes of a source: nothing, all of them, or those before a write that failed
+abbrev pub ForwardEffect : Option (Result (Unit {0}) WriteFault) → Type 0 → ℕ → (List ℕ → List ℕ) → Option (List ℕ)
+    → Option (List ℕ) → Option (List ℕ) → Option (List ℕ) → Type 0
+ForwardEffect None untouched count transformed left left' before after = untouched
+ForwardEffect (Some (Ok _)) untouched count transformed left left' before after =
+    Forwarded count transformed left left' before after
+ForwardEffect (Some (Err fault)) untouched count transformed left left' before after =
+    (fault.written < count) × Forwarded count (λ bytes. take fault.written (transformed bytes)) left left' before after
+
+-- whether forwarding was aborted
+abbrev pub is_aborted : Option (Result (Unit {0}) WriteFault) → Bool
+is_aborted (Some (Err _)) = true
+is_aborted _ = false
+
+-- the bytes that stay buffered
+abbrev pub buffered_after : Option (Result (Unit {0}) WriteFault) → ℕ → List ℕ → List ℕ
+buffered_after None count buffered = buffered
+buffered_after (Some _) count buffered = drop count buffered

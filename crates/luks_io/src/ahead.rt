@@ -5,11 +5,10 @@ ghost use Rattle.std.specs.Prelude.{◌≡◌, ◌+◌, ◌-◌, ◌<◌, ◌≤
 ghost use Rattle.std.specs.Prelude.{MatchResult, is_err, is_some, length, max, min, nat_le, take};
 ghost use Rattle.std.specs.Io.{ReadsAtMost};
 ghost use Rattle.std.specs.Io.KnownBytes.{Consumes, IsAtEnd, Keeps, ReadConsumes, prepend_known};
-ghost use Rattle.luks_io.specs.Ahead.{ReadsAhead, read_ahead_remaining, max_read};
-ghost use Rattle.luks_io.specs.Devices.{ConsumedAtMost, IfKnown, is_end};
-ghost use Rattle.luks_io.specs.Counts.{Reads, Writes, after_read, given, left_ahead};
-ghost use Rattle.luks_io.specs.Counts.{unread, with_ahead};
-ghost use Rattle.luks_io.specs.Forwarding.{ForwardEffect, buffered_after, is_aborted};
+ghost use Rattle.luks_io.specs.Devices.{ConsumedAtMost, ForwardEffect, IfKnown, buffered_after};
+ghost use Rattle.luks_io.specs.Devices.{is_aborted, is_end};
+ghost use Rattle.luks_io.specs.Counts.{Reads, ReadsAhead, Writes, after_read, given, left_ahead};
+ghost use Rattle.luks_io.specs.Counts.{max_read, read_ahead_remaining, unread, with_ahead};
 
 use crate::DeviceFault;
 use crate::counts::ReadCounts;
@@ -36,7 +35,7 @@ pub struct ReadAheadSource<S> {
 
 impl<S> Model for ReadAheadSource<S> {
     ghost use Rattle.std.specs.Prelude.{◌-◌, ◌≤◌, slice_range, vec_len};
-    ghost use Rattle.luks_io.specs.Ahead.{ReadAheadModel};
+    ghost use Rattle.luks_io.specs.Counts.{ReadAheadModel};
 
     ghost Value = { ReadAheadModel S };
 

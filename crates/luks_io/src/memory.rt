@@ -5,8 +5,7 @@ ghost use Rattle.std.specs.Prelude.{take, drop, min, vec_len, IfOk, IsErr};
 ghost use Rattle.std.specs.Io.{ReadsAtMost};
 ghost use Rattle.std.specs.Io.KnownBytes.{ReadConsumes, WriteAppends};
 ghost use Rattle.luks_io.specs.Devices.{AcceptsSome};
-ghost use Rattle.luks_io.specs.Counts.{after_read, after_write};
-ghost use Rattle.luks_io.specs.Memory.{counts_of_memory};
+ghost use Rattle.luks_io.specs.Counts.{after_read, after_write, counts_of_memory};
 
 use crate::DeviceFault;
 use crate::counts::{ReadCounts, WriteCounts};
@@ -25,7 +24,7 @@ pub struct MemSource<'a> {
 
 impl<'a> Model for MemSource<'a> {
     ghost use Rattle.std.specs.Prelude.{◌≡◌};
-    ghost use Rattle.luks_io.specs.Memory.{MemSourceModel};
+    ghost use Rattle.luks_io.specs.Counts.{MemSourceModel};
 
     ghost Value = { MemSourceModel };
 
@@ -55,7 +54,7 @@ impl<'a> MemSource<'a> {
 }
 
 impl<'a> Source for MemSource<'a> {
-    ghost use Rattle.luks_io.specs.Memory.{counts_of_memory};
+    ghost use Rattle.luks_io.specs.Counts.{counts_of_memory};
 
     ghost to_come = { λ s. Some s.left };
 
@@ -90,7 +89,7 @@ pub struct MemSink {
 
 impl Model for MemSink {
     ghost use Rattle.std.specs.Prelude.{◌-◌, ◌≤◌, take, vec_len};
-    ghost use Rattle.luks_io.specs.Memory.{MemSinkModel};
+    ghost use Rattle.luks_io.specs.Counts.{MemSinkModel};
 
     ghost Value = { MemSinkModel };
 

@@ -4,11 +4,10 @@ ghost use Rattle.std.specs.Prelude.{◌≡◌, ◌<◌, ◌≤◌, ℕ, List, Op
 ghost use Rattle.std.specs.Prelude.{is_err, IfOk, MatchResult};
 ghost use Rattle.std.specs.Io.{ReadsAtMost};
 ghost use Rattle.std.specs.Io.KnownBytes.{ReadConsumes};
-ghost use Rattle.luks_io.specs.Devices.{ConsumedInto, IfKnown, is_short_read};
-ghost use Rattle.luks_io.specs.Counts.{Reads, Writes, after_read, left_ahead, with_ahead};
+ghost use Rattle.luks_io.specs.Devices.{ConsumedInto, ForwardEffect, IfKnown, is_aborted};
+ghost use Rattle.luks_io.specs.Devices.{is_short_read};
+ghost use Rattle.luks_io.specs.Counts.{Reads, Writes, after_read, got_in, left_ahead, with_ahead};
 ghost use Rattle.luks_io.specs.declared.counts.ReadCounts.{ReadCounts};
-ghost use Rattle.luks_io.specs.Forwarding.{ForwardEffect, is_aborted};
-ghost use Rattle.luks_io.specs.Reads.{got_in};
 
 use crate::DeviceFault;
 use crate::sink::{Sink, WriteFault};

@@ -1,85 +1,57 @@
 -- The lengths and contents of stripes. The stripes of a split key merge to the key.
-use Rattle.std.proofs.Common.{◌≡◌, ◌∙◌, ℕ, zero, suc, ◌+◌, ◌-◌, ◌*◌, ◌/◌, ◌<◌, ◌≤◌, List, [], ◌++◌, length, take, drop}
-use Rattle.std.proofs.Common.{min, replicate, refl, sym, ap, arith, add-one, length-append, length-drop}
-use Rattle.std.proofs.lemmas.List.{append-nil, drop-append-le, take-append-le, length-replicate, length-take}
-use Rattle.std.proofs.lemmas.List.{length-take-le, take_all}
-use Rattle.std.proofs.Math.ListN.{drop_of_length-le}
-use Rattle.std.proofs.Math.Nat.{min-eq_left, mul-div_cancel}
-use Rattle.std.proofs.lemmas.Grind.{div_ceil_times}
+use Rattle.std.proofs.Common.{◌≡◌, ◌∙◌, ℕ, zero, suc, ◌+◌, ◌-◌, ◌*◌, ◌/◌, ◌<◌, ◌≤◌, List, ◌++◌, length, take, drop}
+use Rattle.std.proofs.Common.{min, replicate, refl, sym, ap, ap₂, arith, add-one, length-append, length-drop}
+use Rattle.std.proofs.lemmas.List.{drop-append-le, length-replicate, length-take, length-take-le, take-append-le}
+use Rattle.std.proofs.lemmas.List.{take_all}
+use Rattle.std.proofs.Math.Nat.{mul-div_cancel}
 use Rattle.std.specs.Int.{div_ceil, to_be_bytes, w32}
 use Rattle.luks_kdf.specs.declared.hash.Hash.{Hash}
 use Rattle.luks_kdf.specs.Bytes.{joined, xor}
 use Rattle.luks_kdf.specs.Hash.{hash_of, digest_len}
 use Rattle.luks_kdf.specs.Stripes.{AfSplitterModel, IsSplit, splitter_after, splitter_block, diffused}
 use Rattle.luks_kdf.specs.Stripes.{diffused_piece, splitter_with, merged, piece_of, stripe_at}
-use Rattle.luks_kdf.proofs.BytesLemmas.{cut_part, drop_prefix, joined_more, length-xor, xor-undone}
+use Rattle.luks_kdf.proofs.BytesLemmas.{cut, drop_prefix, joined_same, length-filled, length-xor, take-joined}
+use Rattle.luks_kdf.proofs.BytesLemmas.{xor-undone}
 use Rattle.luks_kdf.proofs.HashLemmas.{length-hash_of, digest_sizes}
 
--- the length of a diffused piece is that of the piece
-pub length-diffused_piece : (h : Hash) (block : List ℕ) (j : ℕ)
-    → length (diffused_piece h block j) ≡ min (digest_len h) (length block - j * digest_len h)
-unfolding diffused_piece piece_of
-length-diffused_piece h block j =
-    let piece = take (digest_len h) (drop (j * digest_len h) block) in
-    let digest = length-hash_of h (to_be_bytes w32 j ++ piece) in
-    let cut = length-take (length piece) (hash_of h (to_be_bytes w32 j ++ piece)) in
-    let short = length-take (digest_len h) (drop (j * digest_len h) block) in
-    omega (arith, digest, cut, short, length-drop (j * digest_len h) block)
+-- the digest of the number of a piece and the piece
+unfoldable pub hashed_piece : Hash → List ℕ → ℕ → List ℕ
+hashed_piece h block j = hash_of h (to_be_bytes w32 j ++ piece_of h block j)
 
--- the length of the first j diffused pieces
-pub length_pieces : (h : Hash) (block : List ℕ) (j : ℕ)
-    → length (joined (diffused_piece h block) j) ≡ min (j * digest_len h) (length block)
-unfolding joined
-length_pieces h block zero = omega arith
-length_pieces h block (suc j) =
-    let before = length_pieces h block j in
-    omega (
-      arith,
-      before,
-      length-diffused_piece h block j,
-      length-append (joined (diffused_piece h block) j) (diffused_piece h block j),
-    )
+pub length-hashed_piece : (h : Hash) (block : List ℕ) (size : ℕ) → size ≡ digest_len h → (j : ℕ)
+    → length (hashed_piece h block j) ≡ size
+unfolding hashed_piece
+length-hashed_piece h block size is_size j = length-hash_of h (to_be_bytes w32 j ++ piece_of h block j) ∙ sym is_size
+
+-- a diffused block is the first bytes of those digests
+pub diffused_is : (h : Hash) (block : List ℕ)
+    → diffused h block ≡ take (length block) (joined (hashed_piece h block) (div_ceil (length block) (digest_len h)))
+unfolding diffused diffused_piece piece_of hashed_piece cut
+diffused_is h block =
+    let size = digest_len h in
+    let n = length block in
+    let pieces = hashed_piece h block in
+    let same : (j : ℕ) → diffused_piece h block j ≡ cut pieces size n j =
+    λ j. ap (λ (m : ℕ). take m (pieces j))
+    (length-take size (drop (j * size) block) ∙ ap (λ (m : ℕ). min size m) (length-drop (j * size) block)) in
+    joined_same (diffused_piece h block) (cut pieces size n) same (div_ceil n size)
+    ∙ take-joined pieces size (length-hashed_piece h block size refl) n (div_ceil n size)
 
 -- the length of a diffused block is that of the block
 pub length-diffused : (h : Hash) (block : List ℕ) → length (diffused h block) ≡ length block
-unfolding diffused
 length-diffused h block =
-    let some : 0 < digest_len h = omega (arith, (digest_sizes h).least) in
-    let bounds = div_ceil_times (length block) (digest_len h) some in
-    let pieces = length_pieces h block (div_ceil (length block) (digest_len h)) in
-    omega (arith, bounds.0, pieces)
+    let size = digest_len h in
+    ap length (diffused_is h block) ∙ length-filled (hashed_piece h block) size (length-hashed_piece h block size refl)
+    (length block) (omega (arith, (digest_sizes h).least))
 
--- one more piece is diffused; the block was `before` at first and is `now` with j pieces diffused
-pub diffuse_step : (h : Hash) (before now new : List ℕ) (size j end : ℕ) → size ≡ digest_len h
-    → j * size < length before → length now ≡ length before
-    → now ≡ joined (diffused_piece h before) j ++ drop (j * size) before → end ≡ min (j * size + size) (length now)
-    → new ≡ take (length (take (end - j * size) (drop (j * size) now)))
-    (hash_of h (to_be_bytes w32 j ++ take (end - j * size) (drop (j * size) now)))
-    → take (j * size) now ++ (new ++ drop (end - j * size) (drop (j * size) now))
-    ≡ joined (diffused_piece h before) (j + 1) ++ drop ((j + 1) * size) before
-unfolding diffused_piece piece_of
-diffuse_step h before now new size j end is_size inside same_length is_now is_end is_new =
-    let length_prefix : length (joined (diffused_piece h before) j) ≡ j * size =
-    length_pieces h before j ∙ (ap (λ n. min (j * n) (length before)) (sym is_size) ∙ min-eq_left (omega arith)) in
-    let back : drop (j * size) now ≡ drop (j * size) before =
-    rw is_now (drop_prefix (j * size) (joined (diffused_piece h before) j) (drop (j * size) before) length_prefix) in
-    let cut : end ≡ min (j * size + size) (length before) = rw (← same_length) is_end in
-    let part : take (end - j * size) (drop (j * size) now) ≡ take (digest_len h) (drop (j * digest_len h) before) =
-    rw (back, cut, ← is_size) (cut_part (j * size) size before (omega arith)) in
-    let is_piece : new ≡ diffused_piece h before j = rw (← part) is_new in
-    rw cut (joined_more (diffused_piece h before) before now new j size is_now length_prefix (omega arith) is_piece)
-
--- after the last piece the block is diffused
-pub diffuse_end : (h : Hash) (before now : List ℕ) (size count j : ℕ)
-    → size ≡ digest_len h → count ≡ div_ceil (length before) size → j ≡ count
-    → now ≡ joined (diffused_piece h before) j ++ drop (j * size) before → now ≡ diffused h before
-unfolding diffused
-diffuse_end h before now size count j is_size is_count is_last is_now =
-    let some : 0 < size = omega (arith, (digest_sizes h).least) in
-    let bounds = div_ceil_times (length before) size some in
-    let all = ap (λ n. n * size) is_count in
-    let nothing : drop (count * size) before ≡ [] = drop_of_length-le before (omega (arith, bounds.0, all)) in
-    is_now ∙ rw (is_last, nothing, append-nil, is_count, is_size) refl
+-- what a piece of the block is diffused to
+pub diffused_part : (h : Hash) (block part new : List ℕ) (size j : ℕ) → size ≡ digest_len h
+    → part ≡ take size (drop (j * size) block) → new ≡ take (length part) (hash_of h (to_be_bytes w32 j ++ part))
+    → new ≡ take (length part) (hashed_piece h block j)
+unfolding hashed_piece piece_of
+diffused_part h block part new size j is_size is_part is_new =
+    let piece : ℕ → List ℕ = λ n. take n (drop (j * n) block) in
+    is_new ∙ ap (λ (p : List ℕ). take (length part) (hash_of h (to_be_bytes w32 j ++ p))) (is_part ∙ ap piece is_size)
 
 -- a stripe has `len` bytes if the list has them all
 pub length-stripe_at : (len : ℕ) (stripes : List ℕ) (i : ℕ) → suc i * len ≤ length stripes
@@ -115,8 +87,7 @@ splitter_block-append h len xs ys zero there = refl
 splitter_block-append h len xs ys (suc i) there =
     let before = splitter_block-append h len xs ys i (omega arith) in
     let next = stripe_at-append len xs ys i there in
-    ap (λ d. diffused h (xor d (stripe_at len (xs ++ ys) i))) before
-    ∙ ap (λ s. diffused h (xor (splitter_block h len xs i) s)) next
+    ap₂ (λ (d s : List ℕ). diffused h (xor d s)) before next
 
 -- the stripe after i stripes is the last one
 pub stripe_at-last : (len : ℕ) (xs last : List ℕ) (i : ℕ) → length xs ≡ i * len → length last ≡ len
@@ -142,23 +113,18 @@ merged_push h len before last i some whole one =
     let one_less : i + 1 - 1 ≡ i = omega arith in
     merged_by_number h len (before ++ last) (i + 1) some all
     ∙ (ap (λ m. xor (splitter_block h len (before ++ last) m) (stripe_at len (before ++ last) m)) one_less
-    ∙ (ap (λ d. xor d (stripe_at len (before ++ last) i)) (splitter_block-append h len before last i (omega arith))
-    ∙ ap (xor (splitter_block h len before i)) (stripe_at-last len before last i whole one)))
-
--- with the last stripe of a split, all stripes merge to the key
-merged_last : (h : Hash) (len : ℕ) (random key : List ℕ) (before : ℕ) → 0 < len → length key ≡ len
-    → length random ≡ before * len → merged h len (random ++ xor (splitter_block h len random before) key) ≡ key
-merged_last h len random key before some is_len whole =
-    let d = splitter_block h len random before in
-    let length_d : length d ≡ len = length-splitter_block h len random before (omega arith) in
-    let length_last : length (xor d key) ≡ len = length-xor d key (length_d ∙ sym is_len) ∙ length_d in
-    merged_push h len random (xor d key) before some whole length_last ∙ xor-undone d key (length_d ∙ sym is_len)
+    ∙ ap₂ xor (splitter_block-append h len before last i (omega arith)) (stripe_at-last len before last i whole one))
 
 -- the stripes of a split key merge to the key
 pub merged_split : (h : Hash) (random key stripes : List ℕ) → 0 < length key
     → IsSplit h random key stripes → merged h (length key) stripes ≡ key
 merged_split h random key stripes some split =
-    ap (merged h (length key)) split.2 ∙ merged_last h (length key) random key split.0 some refl split.1
+    let len = length key in
+    let d = splitter_block h len random split.0 in
+    let length_d : length d ≡ len = length-splitter_block h len random split.0 (omega (arith, split.1)) in
+    let length_last : length (xor d key) ≡ len = length-xor d key length_d ∙ length_d in
+    ap (merged h len) split.2
+    ∙ (merged_push h len random (xor d key) split.0 some split.1 length_last ∙ xor-undone d key length_d)
 
 -- the value of a splitter after one more stripe
 pub chain_more : (h : Hash) (len : ℕ) (stripes : List ℕ) (i : ℕ) (chain : AfSplitterModel) (stripe : List ℕ)
@@ -166,8 +132,7 @@ pub chain_more : (h : Hash) (len : ℕ) (stripes : List ℕ) (i : ℕ) (chain : 
     → splitter_with chain stripe ≡ splitter_after h len stripes (i + 1)
 unfolding splitter_block
 chain_more h len stripes i chain stripe is_chain is_stripe =
-    rw add-one (ap (λ (c : AfSplitterModel). splitter_with c stripe) is_chain
-    ∙ ap (λ (s : List ℕ). splitter_with (splitter_after h len stripes i) s) is_stripe)
+    rw add-one (ap₂ (λ (c : AfSplitterModel) (s : List ℕ). splitter_with c s) is_chain is_stripe)
 
 -- the value of a splitter before any stripe
 pub chain_start : (h : Hash) (len : ℕ) (stripes : List ℕ) (chain : AfSplitterModel)

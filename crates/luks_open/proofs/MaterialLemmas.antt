@@ -1,12 +1,13 @@
 -- Key material that is decrypted a sector at a time, and merged a stripe at a time.
-use Rattle.std.proofs.Common.{◌≡◌, ◌∙◌, ℕ, zero, suc, ◌+◌, ◌-◌, ◌*◌, ◌/◌, ◌%◌, ◌<◌, ◌≤◌, ◌⊎◌, inl, inr, true, List, []}
-use Rattle.std.proofs.Common.{◌++◌, length, replicate, take, drop, refl, sym, ap, append_assoc, mul_assoc, arith}
+use Rattle.std.proofs.Common.{◌≡◌, ◌∙◌, ℕ, suc, ◌+◌, ◌-◌, ◌*◌, ◌/◌, ◌%◌, ◌<◌, ◌≤◌, ◌⊎◌, inl, inr, true, List, ◌++◌}
+use Rattle.std.proofs.Common.{length, replicate, take, drop, refl, sym, ap, append_assoc, mul_assoc, arith}
 use Rattle.std.proofs.Common.{length-append, length-drop, add-one}
 use Rattle.std.proofs.Math.Seq.{take-add, take-append-add}
 use Rattle.std.proofs.lemmas.Bool.Decides.{nat_tests}
-use Rattle.std.proofs.lemmas.List.{append-nil, length-take-le, take-append-le, take_all}
+use Rattle.std.proofs.lemmas.List.{length-take-le, take-append-le, take_all}
 use Rattle.luks_cipher.specs.Sector.{Cipher, is_key_length}
 use Rattle.luks_cipher.specs.Xts.{joined}
+use Rattle.luks_cipher.proofs.UnitLemmas.{joined_more}
 use Rattle.luks_kdf.specs.declared.hash.Hash.{Hash}
 use Rattle.luks_kdf.specs.Bytes.{xor}
 use Rattle.luks_kdf.specs.Stripes.{AfSplitterModel, splitter_after, splitter_with, merged}
@@ -75,30 +76,18 @@ chain_more_stripes h len before stripes stripe number i chain there whole is_str
     next : (i len : ℕ) → i * len + len ≡ (i + 1) * len
     next i len = omega arith
 
--- joining further pieces only appends bytes to those of the first q pieces
-joined_prefix : (f : ℕ → List ℕ) (q m : ℕ) → (tail : List ℕ) × (joined f (q + m) ≡ joined f q ++ tail)
-unfolding joined
-joined_prefix f q zero = let same : q + 0 ≡ q = omega arith in ([], ap (joined f) same ∙ sym (append-nil (joined f q)))
-joined_prefix f q (suc m) =
-    let before = joined_prefix f q m in
-    let same : q + suc m ≡ suc (q + m) = omega arith in (
-      before.0 ++ f (q + m),
-      ap (joined f) same
-          ∙ (ap (λ s. s ++ f (q + m)) before.1 ∙ append_assoc (joined f q) before.0 (f (q + m))),
-    )
-
 -- the first bytes of pieces of 512 bytes: q pieces, and a part of the next
 prefix_of_joined : (f : ℕ → List ℕ) (q n part : ℕ) → q < n → length (joined f q) ≡ q * 512 → part ≤ length (f q)
     → take (q * 512 + part) (joined f n) ≡ joined f q ++ take part (f q)
 unfolding joined
 prefix_of_joined f q n part below whole short =
-    let further = joined_prefix f (suc q) (n - suc q) in
+    let rest = joined (λ m. f (suc q + m)) (n - suc q) in
     let count : suc q + (n - suc q) ≡ n = omega arith in
-    let all : joined f n ≡ joined f q ++ (f q ++ further.0) =
-    ap (joined f) (sym count) ∙ (further.1 ∙ append_assoc (joined f q) (f q) further.0) in
-    ap (take (q * 512 + part)) all ∙ (ap (λ n. take (n + part) (joined f q ++ (f q ++ further.0))) (sym whole)
-    ∙ (take-append-add (joined f q) (f q ++ further.0) part
-    ∙ ap (λ s. joined f q ++ s) (take-append-le part (f q) further.0 short)))
+    let all : joined f n ≡ joined f q ++ (f q ++ rest) =
+    ap (joined f) (sym count) ∙ (joined_more f (suc q) (n - suc q) ∙ append_assoc (joined f q) (f q) rest) in
+    ap (take (q * 512 + part)) all ∙ (ap (λ n. take (n + part) (joined f q ++ (f q ++ rest))) (sym whole)
+    ∙ (take-append-add (joined f q) (f q ++ rest) part
+    ∙ ap (λ s. joined f q ++ s) (take-append-le part (f q) rest short)))
 
 -- the length with one more sector
 pub length-joined_more : (f : ℕ → List ℕ) (i : ℕ) (sector : List ℕ) → length (joined f i) ≡ i * 512 → sector ≡ f i

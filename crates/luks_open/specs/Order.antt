@@ -1,6 +1,7 @@
 -- The key slots to be tried, and their order.
 use Rattle.std.specs.Prelude.{◌≡◌, ℕ, ◌==◌, ◌⊎◌, max, MatchResult, if◌then◌else◌, List, [], ◌∷◌, ◌++◌, Option, Some}
 use Rattle.std.specs.Prelude.{None, Result, Ok, Err, option_map}
+use Rattle.std.specs.List.{cons_option}
 use Rattle.luks_verdict.specs.Rule.{max_slots}
 use Rattle.luks_verdict.specs.Slot.{material_end, verdict_kind_of}
 use Rattle.luks_verdict.specs.Table.{ascending}
@@ -65,15 +66,10 @@ order_of_all header limit =
     unless_none (ascending (usable_at header limit 2) max_slots ++ ascending (usable_at header limit 1) max_slots)
     (ascending (skipped_at header limit) max_slots)
 
--- this entry alone
-abbrev pub entries_of : Option Entry → List Entry
-entries_of (Some entry) = entry ∷ []
-entries_of None = []
-
 -- the order if a key slot with a verdict of this kind is named: it alone is tried, whatever its priority
 abbrev pub order_of_named : Option Entry → Option VerdictKind → Result OrderModel OpenFault
 order_of_named entry None = Err NoSuchSlot
-order_of_named entry (Some (KindUsable priority)) = Ok record { entries = entries_of entry; skipped = [] }
+order_of_named entry (Some (KindUsable priority)) = Ok record { entries = cons_option entry []; skipped = [] }
 order_of_named entry (Some KindDisabled) = Err Disabled
 order_of_named entry (Some (KindSkipped reason)) = Err (NamedSkipped reason)
 

@@ -1,11 +1,12 @@
 //! The order in which key slots are tried.
 
 ghost use Rattle.std.specs.Prelude.{◌≡◌, ◌++◌, Err, IfOk, IsOk, IsSome, OnOk, OnErr, option_map};
-ghost use Rattle.std.specs.Prelude.{[], ◌∷◌, ◌≤◌, length};
+ghost use Rattle.std.specs.Prelude.{[], ◌≤◌, length};
+ghost use Rattle.std.specs.List.{cons_option};
 ghost use Rattle.luks_verdict.specs.Rule.{max_slots};
 ghost use Rattle.luks_verdict.specs.Slot.{verdict_kind_of};
 ghost use Rattle.luks_verdict.specs.Table.{ascending};
-ghost use Rattle.luks_open.specs.Order.{IsOrMemory, order_of, skipped_at, entries_of, entry_at};
+ghost use Rattle.luks_open.specs.Order.{IsOrMemory, order_of, skipped_at, entry_at};
 ghost use Rattle.luks_open.specs.Order.{order_of_all, order_of_named, usable_at};
 ghost use Rattle.luks_header.specs.SlotVerdicts.{verdict_at};
 
@@ -39,6 +40,17 @@ fn usable_at(
     }
 }
 
+// Appends the entry, if there is one.
+fn push_entry(entries: &mut Vec<Entry>, entry: Option<Entry>) -> Result<(), AllocError>
+    ensures ok { OnOk result (entries.new.items ≡ entries.old.items ++ cons_option entry []) }
+    ensures err { OnErr result (IsSome entry) }
+{
+    if let Some(entry) = entry {
+        entries.push(entry)?;
+    }
+    Ok(())
+}
+
 // Appends the key slots of this priority, by ascending number.
 fn push_usable(
     alloc: Global,
@@ -53,9 +65,8 @@ fn push_usable(
         ≤ length (ascending (usable_at header.now limit priority) max_slots)) }
 {
     for number in 0..MAX_SLOTS {
-        if let Some(entry) = usable_at(alloc, header, limit, priority, number)? {
-            entries.push(entry)?;
-        }
+        let entry = usable_at(alloc, header, limit, priority, number)?;
+        push_entry(entries, entry)?;
     }
     Ok(())
 }
@@ -99,18 +110,6 @@ fn order_all(alloc: Global, header: &Header, limit: Option<u32>) -> Result<Order
     Ok(Order::new(entries, skipped))
 }
 
-// The order with this entry alone.
-fn order_alone(alloc: Global, entry: Option<Entry>) -> Result<Order, AllocError>
-    ensures { IfOk result (λ order. order
-        ≡ record { entries = entries_of entry; skipped = [] }) }
-{
-    let entries = match entry {
-        Some(entry) => vec![in alloc; entry]?,
-        None => Vec::new(alloc),
-    };
-    Ok(Order::new(entries, SkippedSlots::new()))
-}
-
 // The order if a key slot that can be tried is named.
 fn order_usable(
     alloc: Global,
@@ -119,10 +118,12 @@ fn order_usable(
     named: u8,
 ) -> Result<Order, AllocError>
     ensures { IfOk result (λ order. order
-        ≡ record { entries = entries_of (entry_at header.now limit named); skipped = [] }) }
+        ≡ record { entries = cons_option (entry_at header.now limit named) []; skipped = [] }) }
 {
     let entry = entry_at(alloc, header, limit, named)?;
-    order_alone(alloc, entry)
+    let mut alone = Vec::new(alloc);
+    push_entry(&mut alone, entry)?;
+    Ok(Order::new(alone, SkippedSlots::new()))
 }
 
 // The order if a key slot is named.

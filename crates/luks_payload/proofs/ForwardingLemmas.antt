@@ -6,13 +6,11 @@ use Rattle.std.proofs.lemmas.Bool.{cases_lt, le-ltb, lt-ltb}
 use Rattle.std.proofs.lemmas.List.{drop_all, take-append-le, nil_from_length, take_at, take_min}
 use Rattle.std.proofs.Math.Seq.{take-append-add}
 use Rattle.luks_cipher.specs.Sector.{Cipher, sector_decrypted}
-use Rattle.std.specs.Io.KnownBytes.{Consumes}
-use Rattle.luks_io.specs.Devices.{ConsumedExactly}
+use Rattle.luks_io.specs.Devices.{ConsumedExactly, Forwarded}
 use Rattle.luks_io.specs.Counts.{Reads}
 use Rattle.luks_io.specs.declared.counts.ReadCounts.{ReadCounts}
-use Rattle.luks_io.specs.Forwarding.{Forwarded}
-use Rattle.luks_io.proofs.Moves.{consumed-prefix}
-use Rattle.luks_payload.specs.SectorEffects.{BeginsWith, FilledSector, AbortsInSector}
+use Rattle.luks_io.proofs.EffectLemmas.{consumed-prefix}
+use Rattle.luks_payload.specs.PumpEffects.{BeginsWith, FilledSector, AbortsInSector}
 use Rattle.luks_payload.specs.Plain.{unit_plain}
 use Rattle.luks_payload.specs.declared.fault.VolumeFault.TheVariants.{Write}
 use borrow.Rule.Slice.PartMut.{put_mid}
@@ -42,33 +40,32 @@ unit_filled cipher number len got bytes buf unit long whole same is =
     let filled : buf ≡ take len bytes = sym (take_all len buf (omega arith)) ∙ (rw whole at same) in
     is ∙ ap (sector_decrypted cipher.0 cipher.1 number) filled
 
+-- a list whose first n elements are `a`, with `b` in place of the rest
+pub two_parts : (a rest b : List ℕ) (n : ℕ) → length a ≡ n
+    → take n (a ++ rest) ++ (b ++ drop (length (a ++ rest) - n) (drop n (a ++ rest))) ≡ a ++ b
+two_parts a rest b n long =
+    let none : drop (length (a ++ rest) - n) (drop n (a ++ rest)) ≡ [] =
+    drop_all (length (a ++ rest) - n) (drop n (a ++ rest)) (omega (arith, length-drop n (a ++ rest))) in
+    ap (λ l. l ++ (b ++ drop (length (a ++ rest) - n) (drop n (a ++ rest)))) (take_at a rest n long)
+    ∙ ap (λ l. a ++ l) (ap (λ l. b ++ l) none ∙ append-nil b)
+
 -- a buffer was filled with the first bytes of a sector, and then with a piece after them
-module _ (loaded len : ℕ) (prefix new old piece : List ℕ) (is : loaded ≡ min (length prefix) len)
-    (sized : length old ≡ len) (written : new ≡ take loaded prefix) where
-  long : length new ≡ loaded
-  long = ap length written ∙ length-take-le loaded prefix (omega arith)
-
-  whole : length (new ++ drop loaded old) ≡ len
-  whole = length-append new (drop loaded old) ∙ (omega (arith, length-drop loaded old, long))
-
-  pub rest_len
-      : length piece ≡ length (take (length (new ++ drop loaded old) - loaded) (drop loaded (new ++ drop loaded old)))
-      → length piece ≡ len - min (length prefix) len
-  rest_len rest =
-      let behind = length-drop loaded (new ++ drop loaded old) in
+pub is_filled : (loaded len : ℕ) (prefix new old piece : List ℕ) → loaded ≡ min (length prefix) len → length old ≡ len
+    → new ≡ take loaded prefix
+    → length piece ≡ length (take (length (new ++ drop loaded old) - loaded) (drop loaded (new ++ drop loaded old)))
+    → (put_mid loaded (length (new ++ drop loaded old) - loaded) (new ++ drop loaded old) piece
+    ≡ take (min (length prefix) len) prefix ++ piece) × (length piece ≡ len - min (length prefix) len)
+is_filled loaded len prefix new old piece is sized written rest =
+    let long : length new ≡ loaded = ap length written ∙ length-take-le loaded prefix (omega arith) in
+    let whole : length (new ++ drop loaded old) ≡ len =
+    length-append new (drop loaded old) ∙ (omega (arith, length-drop loaded old, long)) in
+    let behind = length-drop loaded (new ++ drop loaded old) in (
+      two_parts new (drop loaded old) piece loaded long
+          ∙ ap (λ l. l ++ piece) (written ∙ ap (λ n. take n prefix) is),
       rest
-      ∙ length-take-le (length (new ++ drop loaded old) - loaded) (drop loaded (new ++ drop loaded old)) (omega arith)
-      ∙ (omega (arith, whole))
-
-  pub sector_is : put_mid loaded (length (new ++ drop loaded old) - loaded) (new ++ drop loaded old) piece
-      ≡ take (min (length prefix) len) prefix ++ piece
-  sector_is =
-      let none : drop (length (new ++ drop loaded old) - loaded) (drop loaded (new ++ drop loaded old)) ≡ [] =
-      drop_all (length (new ++ drop loaded old) - loaded) (drop loaded (new ++ drop loaded old))
-      (omega (arith, length-drop loaded (new ++ drop loaded old))) in
-      ap (λ l. take loaded (new ++ drop loaded old) ++ (piece ++ l)) none
-      ∙ ap (λ l. take loaded (new ++ drop loaded old) ++ l) (append-nil piece)
-      ∙ ap (λ l. l ++ piece) (take_at new (drop loaded old) loaded long ∙ written ∙ ap (λ n. take n prefix) is)
+          ∙ length-take-le (length (new ++ drop loaded old) - loaded) (drop loaded (new ++ drop loaded old))
+          (omega arith) ∙ (omega (arith, whole)),
+    )
 
 -- a sector that was filled with bytes of `prefix`, and then with those of a piece
 module _ (len : ℕ) (prefix piece sector : List ℕ) (is : sector ≡ take (min (length prefix) len) prefix ++ piece)
@@ -118,22 +115,16 @@ module _ (len : ℕ) (prefix piece sector : List ℕ) (is : sector ≡ take (min
         consumption = subst (ConsumedExactly known left') count consumption;
       })
 
--- the forwarded bytes are the next bytes of the source, if these are known
-forwarded_bytes : (known bytes : List ℕ) (left left' : Option (List ℕ)) (len : ℕ) → length bytes ≡ len
-    → Consumes left left' bytes → left ≡ Some known → ConsumedExactly known left' len × (take len known ≡ bytes)
-forwarded_bytes known bytes left left' len sized consumed is =
-    let whole : take len bytes ≡ bytes = take_all len bytes (omega arith) in
-    let consumption = consumed-prefix left left' bytes len (omega arith) (rw whole consumed) known is in
-    (consumption.0, sym consumption.1 ∙ whole)
-
 -- a sector that was forwarded from the source, with an empty `prefix`
 module _ (cipher : Cipher) (number len : ℕ) (known : List ℕ) (left left' before after : Option (List ℕ)) where
-  -- the write was aborted
+  -- the write was aborted; the forwarded bytes are the next bytes of the source
   pub write_aborted_forwarded : (prefix : List ℕ) (written : ℕ) → length prefix ≡ 0 → written < len
       → Forwarded len (λ bytes. take written (unit_plain cipher number bytes)) left left' before after
       → left ≡ Some known → AbortsInSector cipher number len prefix known left' before after Write
-  write_aborted_forwarded [] written none few forwarded is =
-      let p = forwarded_bytes known forwarded.0 left left' len forwarded.1 forwarded.2 is in
+  write_aborted_forwarded [] written none few (bytes, sized, consumed, adds) is =
+      let whole : take len bytes ≡ bytes = take_all len bytes (omega arith) in
+      let consumption = consumed-prefix left left' bytes len (omega arith) (rw whole consumed) known is in
       let all : len - 0 ≡ len = omega arith in
-      (rw all p.0, (written, few, rw p.1 forwarded.3))
+      let next : take len known ≡ bytes = sym consumption.1 ∙ whole in
+      (rw all consumption.0, (written, few, rw next adds))
   write_aborted_forwarded (x ∷ prefix) written none few forwarded is = absurd (omega arith)

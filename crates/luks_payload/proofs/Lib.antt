@@ -1,3 +1,3 @@
-mod ForwardingLemmas
+pub mod ForwardingLemmas
 pub mod SectorLemmas
 mod StepLemmas

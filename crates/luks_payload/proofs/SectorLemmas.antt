@@ -7,7 +7,7 @@ use Rattle.std.proofs.lemmas.Bool.{le-ltb}
 use Rattle.std.proofs.lemmas.Nat.{div-mul-add}
 use Rattle.std.proofs.Math.Nat.{div-mul-le_self, mod-eq-sub-div-mul, le-div_iff_mul-le, mul-le-mul_right}
 use Rattle.std.proofs.Math.Nat.{mul-le-mul_left, zero-div}
-use Rattle.luks_payload.specs.SectorEffects.{max_sectors_of}
+use Rattle.luks_payload.specs.PumpEffects.{max_sectors_of}
 use Rattle.luks_payload.specs.Plain.{payload_end_in, ending_of_len, payload_bytes}
 use Rattle.luks_payload.specs.declared.fault.VolumeFault.{VolumeFault}
 use Rattle.luks_payload.specs.declared.fault.VolumeFault.TheVariants.{Tail, Short}
@@ -24,12 +24,6 @@ one_more_fits n size z below =
 -- if n sectors fit, there are at least n whole sectors
 pub fit : (n len z : ℕ) → 0 < z → n * z ≤ len → n ≤ len / z
 fit n len z some all = (le-div_iff_mul-le {k = z} {x = n} {y = len} some).1 all
-
--- if the size is a multiple of the sector's length, its whole sectors have that size together
-exact_sectors : (size z n : ℕ) → size % z ≡ 0 → n ≡ size / z → n * z ≡ size
-exact_sectors size z n exact is =
-    let product : n * z ≡ size / z * z = ap (λ k. k * z) is in
-    omega (arith, mod-eq-sub-div-mul size z, div-mul-le_self size z)
 
 module _ (z : ℕ) (some : 0 < z) where
   -- sector n is one of the payload's if n is below the limit and the image has its bytes
@@ -68,7 +62,9 @@ module _ (z : ℕ) (some : 0 < z) where
       let many : n * 512 ≤ n * z = mul-le-mul_left n least in
       absurd (omega arith)
   at_limit (Some size) n offset total least whole is there few =
-      let all = exact_sectors size z n (whole size refl) is in
+      let exact : size % z ≡ 0 = whole size refl in
+      let product : n * z ≡ size / z * z = ap (λ k. k * z) is in
+      let all : n * z ≡ size = omega (arith, mod-eq-sub-div-mul size z, div-mul-le_self size z) in
       let smaller : min size (total - offset) ≡ size = omega arith in
       let enough : nat_lt (total - offset) size ≡ false = le-ltb (total - offset) size (omega arith) in
       (rw smaller is, rw enough refl, omega arith)
@@ -80,15 +76,11 @@ none_whole (Some size) z =
     let none : min size 0 ≡ 0 = omega arith in
     rw none (zero-div z)
 
-pub ends_before : (size : Option ℕ) (offset len : ℕ) → len < offset → payload_end_in size offset len ≡ len
-ends_before None offset len before = refl
-ends_before (Some size) offset len before = omega arith
-
--- an offset up to the payload's start, in the image, is not past the payload's end
-pub before_end : (size : Option ℕ) (offset len place : ℕ) → place ≤ offset → place ≤ len
-    → place ≤ payload_end_in size offset len
-before_end None offset len place first there = there
-before_end (Some size) offset len place first there = omega arith
+-- where a payload ends, by the number of its bytes
+pub payload_ends : (size : Option ℕ) (offset len : ℕ)
+    → payload_end_in size offset len ≡ min len (offset + payload_bytes size (len - offset))
+payload_ends None offset len = omega arith
+payload_ends (Some size) offset len = omega arith
 
 -- a property of both outcomes of a test holds for its result
 by_test : (P : Result Step VolumeFault → Type 0) (b : Bool) (x y : Result Step VolumeFault) → P x → P y

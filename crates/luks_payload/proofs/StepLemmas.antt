@@ -1,5 +1,5 @@
 -- The effect of a step, from the effects of its parts.
-use Rattle.std.proofs.Common.{◌≡◌, ℕ, ◌+◌, ◌-◌, ◌*◌, ◌^◌, ◌<◌, ◌≤◌, ◌⊎◌, inl, inr, List, [], ◌++◌, Option, None, Some}
+use Rattle.std.proofs.Common.{◌≡◌, ℕ, ◌+◌, ◌-◌, ◌*◌, ◌^◌, ◌<◌, ◌≤◌, ◌⊎◌, inl, inr, List, [], ◌++◌, Option}
 use Rattle.std.proofs.Common.{Result, Ok, Err, true, false, ◌∙◌, ap, sym, subst, refl, take, drop, length}
 use Rattle.std.proofs.Common.{length-append, length-drop, max, min, arith}
 use Rattle.std.specs.Prelude.{nat_lt, OnOk, IfErr}
@@ -11,10 +11,9 @@ use Rattle.luks_io.specs.Devices.{Appended, ConsumedExactly, IfKnown}
 use Rattle.luks_io.specs.Counts.{Reads, Writes}
 use Rattle.luks_io.specs.declared.counts.ReadCounts.{ReadCounts}
 use Rattle.luks_io.specs.declared.counts.WriteCounts.{WriteCounts}
-use Rattle.luks_io.proofs.CountsLemmas.{no_writes}
-use Rattle.luks_io.proofs.Consuming.{consumed_behind, consumed_sum}
-use Rattle.luks_payload.specs.SectorEffects.{PositionedAt, StopsDiscarding, AbortsInSector, is_pump_read_failure}
-use Rattle.luks_payload.specs.SectorEffects.{is_cut_before_payload, is_pump_write_failure, max_sectors}
+use Rattle.luks_io.proofs.EffectLemmas.{consumed_behind, consumed_sum, no_writes}
+use Rattle.luks_payload.specs.PumpEffects.{PositionedAt, StopsDiscarding, AbortsInSector, is_pump_read_failure}
+use Rattle.luks_payload.specs.PumpEffects.{is_cut_before_payload, is_pump_write_failure, max_sectors}
 use Rattle.luks_payload.specs.Plain.{payload_end_in, ending_of_len, payload_end_of, bytes_from_start, sector_len}
 use Rattle.luks_payload.specs.Plain.{sector_plaintext, sector_start, unit_number, unit_plain}
 use Rattle.luks_verdict.proofs.SectorLemmas.{sector_blocks}
@@ -27,8 +26,8 @@ use Rattle.luks_payload.specs.declared.fault.VolumeFault.{VolumeFault}
 use Rattle.luks_payload.specs.declared.fault.VolumeFault.TheVariants.{CutBeforePayload, Read, Write}
 use Rattle.luks_payload.specs.declared.state.Step.{Step}
 use Rattle.luks_payload.specs.declared.state.Step.TheVariants.{Sector, End}
-use Rattle.luks_payload.proofs.SectorLemmas.{at_limit, before_end, by_ending, ends_before, is_whole, is_within}
-use Rattle.luks_payload.proofs.SectorLemmas.{none_whole, at_torn}
+use Rattle.luks_payload.proofs.SectorLemmas.{at_limit, at_torn, by_ending, is_whole, is_within, none_whole}
+use Rattle.luks_payload.proofs.SectorLemmas.{payload_ends}
 
 module _ (s : Segment) (image : List ℕ) (count : ℕ) where
   -- an end with the specified answer is the effect of a step
@@ -41,15 +40,18 @@ module _ (s : Segment) (image : List ℕ) (count : ℕ) where
 
   module _ (prefix : List ℕ) (left : Option (List ℕ)) (positioned : PositionedAt image prefix
       (sector_start s count) left) where
-    there : sector_start s count + length prefix ≤ length image
+    -- the offset of the source's next byte in the image
+    abbrev next_byte : ℕ
+    next_byte = sector_start s count + length prefix
+
+    there : next_byte ≤ length image
     there = positioned.consumption.within
 
-    long : length (drop (sector_start s count + length prefix) image)
-        ≡ length image - (sector_start s count + length prefix)
-    long = length-drop (sector_start s count + length prefix) image
+    long : length (drop next_byte image) ≡ length image - next_byte
+    long = length-drop next_byte image
 
     -- the bytes of `prefix` and the remaining ones are the image's next bytes
-    joined : prefix ++ drop (sector_start s count + length prefix) image ≡ drop (sector_start s count) image
+    joined : prefix ++ drop next_byte image ≡ drop (sector_start s count) image
     joined =
         ap (λ l. prefix ++ l) (sym (drop-drop (length prefix) (sector_start s count) image))
         ∙ ap (λ l. l ++ drop (length prefix) (drop (sector_start s count) image)) positioned.next
@@ -57,35 +59,32 @@ module _ (s : Segment) (image : List ℕ) (count : ℕ) where
 
     -- the sector was consumed
     pub sector_consumed : (left' : Option (List ℕ)) → count < max_sectors s
-        → ConsumedExactly (drop (sector_start s count + length prefix) image) left' (sector_len s - length prefix)
-        → ConsumesSector image s count (sector_start s count + length prefix) left'
+        → ConsumedExactly (drop next_byte image) left' (sector_len s - length prefix)
+        → ConsumesSector image s count next_byte left'
     sector_consumed left' below next =
         let least = (sector_blocks s.sector_size).long in
         let within = next.within in
-        let all : sector_start s count + length prefix + (sector_len s - length prefix)
-        ≡ max (sector_start s count + length prefix) (sector_start s (count + 1)) = omega arith in
+        let all : next_byte + (sector_len s - length prefix) ≡ max next_byte (sector_start s (count + 1)) =
+        omega arith in
         record {
           is_one = is_whole (sector_len s) (omega arith) s.size count (bytes_from_start s image) below
               (omega (arith, there, long));
-          consumption = subst (ConsumedExactly image left') all (consumed_behind image left left'
-              (sector_start s count + length prefix) (sector_len s - length prefix) positioned.consumption next);
+          consumption = subst (ConsumedExactly image left') all (consumed_behind image left left' next_byte
+              (sector_len s - length prefix) positioned.consumption next);
         }
 
     -- a read or a write failed
     pub step_aborted : (cipher : Cipher) (left' before after : Option (List ℕ)) (fault : VolumeFault)
         → count < max_sectors s → AbortsInSector cipher (unit_number s count) (sector_len s) prefix
-        (drop (sector_start s count + length prefix) image) left' before after fault
-        → StepEffect s cipher count (sector_start s count + length prefix) image (Err fault) left' before after
+        (drop next_byte image) left' before after fault
+        → StepEffect s cipher count next_byte image (Err fault) left' before after
     step_aborted cipher left' b a Read below (count', few, next) =
         let least = (sector_blocks s.sector_size).long in
         let within = next.within in
-        let end = is_within (sector_len s) (omega arith) s.size count s.offset (length image)
-        (sector_start s count + length prefix + count') below (omega arith) (omega (arith, there, long)) in (
-          sector_start s count + length prefix + count',
-          omega arith,
-          omega arith,
-          consumed_behind image left left' (sector_start s count + length prefix) count' positioned.consumption next,
-        )
+        let consumption = consumed_behind image left left' next_byte count' positioned.consumption next in
+        let end = is_within (sector_len s) (omega arith) s.size count s.offset (length image) (next_byte + count')
+        below (omega arith) (omega (arith, there, long)) in
+        (next_byte + count', omega arith, omega arith, consumption)
     step_aborted cipher left' b a Write below (next, more) = (sector_consumed left' below next, rw joined at more)
     step_aborted cipher left' b a _ below stops = absurd stops
 
@@ -93,19 +92,18 @@ module _ (s : Segment) (image : List ℕ) (count : ℕ) where
     pub sector_appended : (cipher : Cipher) (before after : Option (List ℕ))
         → IfKnown left (λ rest. Appended before after (unit_plain cipher (unit_number s count)
         (take (sector_len s) (prefix ++ rest)))) → Appended before after (sector_plaintext s cipher image count)
-    sector_appended cipher b a adds =
-        rw joined at (adds (drop (sector_start s count + length prefix) image) positioned.consumption.left)
+    sector_appended cipher b a adds = rw joined at (adds (drop next_byte image) positioned.consumption.left)
 
     -- the image ended before the sector did
     pub steps_torn : (cipher : Cipher) (left' before after : Option (List ℕ)) (answer : Result Step VolumeFault)
         (got : ℕ) → count < max_sectors s → IfKnown left (λ rest. (got ≡ min (sector_len s) (length (prefix ++ rest)))
         × ConsumedExactly rest left' (got - length prefix)) → got < sector_len s
         → answer ≡ ending_of_len s.size (sector_len s) (count * sector_len s + got)
-        → StepEffect s cipher count (sector_start s count + length prefix) image answer left' before after
+        → StepEffect s cipher count next_byte image answer left' before after
     steps_torn cipher left' b a answer got below next torn is =
         let least = (sector_blocks s.sector_size).long in
         let some : 0 < sector_len s = omega arith in
-        let rest = drop (sector_start s count + length prefix) image in
+        let rest = drop next_byte image in
         let whole : length image ≡ s.offset + (count * sector_len s + got) =
         omega (arith, (next rest positioned.consumption.left).0, length-append prefix rest, there, long) in
         let len : bytes_from_start s image ≡ count * sector_len s + got = omega arith in
@@ -113,21 +111,18 @@ module _ (s : Segment) (image : List ℕ) (count : ℕ) where
         let ends = at_torn (sector_len s) some s.size count got s.offset below torn in
         let end : payload_end_of s image ≡ length image =
         ap (λ n. payload_end_in s.size s.offset n) whole ∙ ends.1 ∙ sym whole in
-        let all : max (sector_start s count + length prefix) (length image) ≡ length image = omega (arith, there) in
-        let more : sector_start s count + length prefix + (got - length prefix) ≡ length image =
-        omega (arith, there) in
-        steps_from_end cipher (sector_start s count + length prefix) left' b a answer (count * sector_len s + got) is
-        (record {
+        let all : max next_byte (length image) ≡ length image = omega (arith, there) in
+        let more : next_byte + (got - length prefix) ≡ length image = omega (arith, there) in
+        steps_from_end cipher next_byte left' b a answer (count * sector_len s + got) is (record {
           all = rw len ends.0;
           as_specified = rw (behind, len) is;
-          consumption = rw (end, all) (consumed_sum image left left' (sector_start s count + length prefix)
-              (got - length prefix) (length image) more positioned.consumption (λ rest is. (next rest is).1));
+          consumption = rw (end, all) (consumed_sum image left left' next_byte (got - length prefix) (length image)
+              more positioned.consumption (λ rest is. (next rest is).1));
         })
 
     -- the limit is reached
     pub steps_at_limit : (cipher : Cipher) (before after : Option (List ℕ)) → count ≡ max_sectors s
-        → length image < 2 ^ 64
-        → StepEffect s cipher count (sector_start s count + length prefix) image (Ok End) left before after
+        → length image < 2 ^ 64 → StepEffect s cipher count next_byte image (Ok End) left before after
     steps_at_limit cipher b a is few =
         let least = (sector_blocks s.sector_size).long in
         let some : 0 < sector_len s = omega arith in
@@ -135,8 +130,7 @@ module _ (s : Segment) (image : List ℕ) (count : ℕ) where
         let behind : nat_lt (length image) s.offset ≡ false = le-ltb (length image) s.offset (omega (arith, there)) in
         let ends = at_limit (sector_len s) some s.size count s.offset (length image) least s.whole_sectors is from
         few in
-        let same : max (sector_start s count + length prefix) (s.offset + count * sector_len s)
-        ≡ sector_start s count + length prefix = omega arith in
+        let same : max next_byte (s.offset + count * sector_len s) ≡ next_byte = omega arith in
         record {
           all = ends.0;
           as_specified = rw behind (sym ends.1);
@@ -187,14 +181,15 @@ module _ (s : Segment) (count : ℕ) (fault : VolumeFault) (only : (fault ≡ Re
       → WritesSectors (Err fault) written unwritten
   writes_no_sector written unwritten unread = elim only [ inl is ↦ rw is (unread is) | inr is ↦ rw is tt ]
 
+-- a pump before its payload has consumed no more than was consumed when it was made
+at_first : (p : PumpModel) → p.state ≡ BeforePayload → p.prefix ≡ [] → consumed_by p ≡ p.consumed_before
+at_first p first bare = rw (first, bare) (omega arith)
+
 -- the effect of a skip, from the effect of discarding its bytes
 module _ (p : PumpModel) (image : List ℕ) (r r' : Option (List ℕ)) (early : p.consumed_before ≤ p.segment.offset)
     (first : p.state ≡ BeforePayload) (bare : p.prefix ≡ []) (positioned : PositionedIn image p r) where
-  from : consumed_by p ≡ p.consumed_before
-  from = rw (first, bare) (omega arith)
-
   consumption : ConsumedExactly image r p.consumed_before
-  consumption = subst (ConsumedExactly image r) from positioned.positioned.consumption
+  consumption = subst (ConsumedExactly image r) (at_first p first bare) positioned.positioned.consumption
 
   pub skips : (answer : Result (Unit {0}) VolumeFault)
       → OnOk answer (IfKnown r (λ rest. ConsumedExactly rest r' (p.segment.offset - p.consumed_before)))
@@ -221,49 +216,6 @@ module _ (p : PumpModel) (image : List ℕ) (r r' : Option (List ℕ)) (early : 
       )
   skips (Err _) ok err = absurd (err (drop p.consumed_before image) consumption.left)
 
--- the pump with these parts
-abbrev pub pumped : Segment → Cipher → ℕ → ℕ → State → List ℕ → PumpModel
-pumped s cipher consumed count state prefix =
-    record { segment = s; cipher = cipher; consumed_before = consumed; count = count; state = state; prefix = prefix }
-
--- a step whose skip failed
-module _ (s : Segment) (cipher : Cipher) (consumed count : ℕ) (prefix image : List ℕ)
-    (r r' before after : Option (List ℕ)) where
-  skip_aborted : (fault : VolumeFault) → count ≡ 0 → consumed ≤ length image
-      → SkipEffect (pumped s cipher consumed count BeforePayload prefix) image (Err fault) r'
-      → StepEffect s cipher count consumed image (Err fault) r' before after
-  skip_aborted CutBeforePayload none there (cut, consumption) =
-      let len : bytes_from_start s image ≡ 0 = omega arith in
-      let yes : nat_lt (length image) s.offset ≡ true = lt-ltb (length image) s.offset cut in
-      let all : max consumed (length image) ≡ length image = omega arith in
-      record {
-        all = rw len (none ∙ sym (none_whole s.size (sector_len s)));
-        as_specified = rw yes refl;
-        consumption = rw (ends_before s.size s.offset (length image) cut, all) consumption;
-      }
-  skip_aborted Read none there (place, first, last, consumption) =
-      let end = before_end s.size s.offset (length image) place (omega arith) consumption.within in
-      (place, first, omega arith, consumption)
-  skip_aborted _ none there stops = absurd stops
-
-  pub steps_unskipped : (state : State) (fault : VolumeFault) (T : Type 0)
-      → PositionedIn image (pumped s cipher consumed count state prefix) r → SkipsAgain state (Err fault) T
-      → (state ≡ BeforePayload → (count ≡ 0) × (prefix ≡ []))
-      → (state ≡ BeforePayload → SkipEffect (pumped s cipher consumed count state prefix) image (Err fault) r')
-      → StepEffect s cipher count (consumed_by (pumped s cipher consumed count state prefix)) image
-      (Err fault) r' before after
-  steps_unskipped BeforePayload fault T positioned again none stops =
-      let from : consumed + length prefix ≡ consumed = rw (none refl).1 (omega arith) in
-      let within = positioned.positioned.consumption.within in
-      subst (λ n. StepEffect s cipher count n image (Err fault) r' before after) (sym from)
-      (skip_aborted fault (none refl).0 (omega arith) (stops refl))
-  steps_unskipped InPayload fault T positioned again none stops =
-      let same = again.0 in
-      cc
-  steps_unskipped _ fault T positioned again none stops =
-      let not = positioned.running in
-      cc
-
 -- if a skip failed, a running pump was before its payload
 pub was_before : (state : State) (fault : VolumeFault) (T : Type 0) → SkipsAgain state (Err fault) T
     → is_running state ≡ true → state ≡ BeforePayload
@@ -272,6 +224,27 @@ was_before InPayload fault T again running =
     let not = again.0 in
     cc
 was_before _ fault T again running = cc
+
+-- a step whose skip failed
+module _ (p : PumpModel) (image : List ℕ) (r r' before after : Option (List ℕ)) (first : p.state ≡ BeforePayload)
+    (fresh : (p.count ≡ 0) × (p.prefix ≡ [])) (positioned : PositionedIn image p r) where
+  pub steps_unskipped : (fault : VolumeFault) → SkipEffect p image (Err fault) r'
+      → StepEffect p.segment p.cipher p.count (consumed_by p) image (Err fault) r' before after
+  steps_unskipped CutBeforePayload (cut, left) =
+      let len : bytes_from_start p.segment image ≡ 0 = omega arith in
+      let behind : nat_lt (length image) p.segment.offset ≡ true = lt-ltb (length image) p.segment.offset cut in
+      let there : consumed_by p ≤ length image = positioned.positioned.consumption.within in
+      let end : max (consumed_by p) (payload_end_of p.segment image) ≡ length image =
+      omega (arith, payload_ends p.segment.size p.segment.offset (length image)) in
+      record {
+        all = rw len (fresh.0 ∙ sym (none_whole p.segment.size (sector_len p.segment)));
+        as_specified = rw behind refl;
+        consumption = rw end left;
+      }
+  steps_unskipped Read (place, least, most, left) =
+      let from : consumed_by p ≤ place = omega (arith, at_first p first fresh.1) in
+      (place, from, omega (arith, left.within, payload_ends p.segment.size p.segment.offset (length image)), left)
+  steps_unskipped _ stops = absurd stops
 
 -- the reads of a failed skip are those of its step, which makes no write
 module _ (s : Segment) (count : ℕ) (fault : VolumeFault) (only : (fault ≡ CutBeforePayload) ⊎ (fault ≡ Read)) where
@@ -283,19 +256,14 @@ module _ (s : Segment) (count : ℕ) (fault : VolumeFault) (only : (fault ≡ Cu
   pub unskipped_writes : (a : WriteCounts) → Writes (is_pump_write_failure {T = Step} (Err fault)) a a
   unskipped_writes a = elim only [ inl is ↦ rw is (no_writes a) | inr is ↦ rw is (no_writes a) ]
 
--- if an image reaches a payload's start, the payload's end is not before its start
-start_in_end : (size : Option ℕ) (offset len : ℕ) → offset ≤ len → offset ≤ payload_end_in size offset len
-start_in_end None offset len whole = whole
-start_in_end (Some size) offset len whole = omega arith
-
 -- the effect of a step from the payload's start on is also the effect of one from an earlier offset
 module _ (s : Segment) (cipher : Cipher) (count already : ℕ) (image : List ℕ) (l b a : Option (List ℕ))
     (early : already ≤ s.offset) (there : s.offset ≤ length image) where
   ends_earlier : (answer : Result Step VolumeFault) → EndEffect image s count s.offset answer l
       → EndEffect image s count already answer l
   ends_earlier answer ends =
-      let end = start_in_end s.size s.offset (length image) there in
-      let same : max s.offset (payload_end_of s image) ≡ max already (payload_end_of s image) = omega arith in
+      let same : max s.offset (payload_end_of s image) ≡ max already (payload_end_of s image) =
+      omega (arith, payload_ends s.size s.offset (length image)) in
       record { all = ends.all; as_specified = ends.as_specified; consumption = rw same at ends.consumption }
 
   takes_earlier : ConsumesSector image s count s.offset l → ConsumesSector image s count already l
@@ -312,30 +280,28 @@ module _ (s : Segment) (cipher : Cipher) (count already : ℕ) (image : List ℕ
   steps_earlier ending ends = ends_earlier ending ends
 
 -- a step continues where its skip left the source
-module _ (s : Segment) (cipher : Cipher) (consumed count : ℕ) (prefix image : List ℕ)
-    (r r' r'' before after : Option (List ℕ)) (answer : Result Step VolumeFault) where
-  pub steps_skipped : (state : State) (T : Type 0)
-      → PositionedIn image (pumped s cipher consumed count state prefix) r → consumed ≤ s.offset
-      → SkipsAgain state (Ok tt) T → (T → r' ≡ r) → (state ≡ BeforePayload → (count ≡ 0) × (prefix ≡ []))
-      → (state ≡ BeforePayload → SkipEffect (pumped s cipher consumed count state prefix) image (Ok tt) r')
-      → (PositionedAt image prefix (sector_start s count) r'
-      → StepEffect s cipher count (sector_start s count + length prefix) image answer r'' before after)
-      → StepEffect s cipher count (consumed_by (pumped s cipher consumed count state prefix)) image answer r'' before
-      after
-  steps_skipped BeforePayload T positioned early again same none skipped steps =
-      let (first, bare) = none refl in
-      let consumption = skipped refl in
-      let start : s.offset ≡ sector_start s count + length prefix = rw (first, bare) (omega arith) in
-      let next : prefix ≡ take (length prefix) (drop (sector_start s count) image) = rw bare refl in
-      let from : consumed + length prefix ≤ s.offset = rw bare (omega arith) in
-      steps_earlier s cipher count (consumed + length prefix) image r'' before after from consumption.within answer
-      (subst (λ n. StepEffect s cipher count n image answer r'' before after) (sym start)
-      (steps (record { next = next; consumption = subst (ConsumedExactly image r') start consumption })))
-  steps_skipped InPayload T positioned early again same none skipped steps = steps
-      (rw (same again.1) positioned.positioned)
-  steps_skipped _ T positioned early again same none skipped steps =
-      let not = positioned.running in
-      absurd (cc)
+module _ (p : PumpModel) (image : List ℕ) (r r' r'' before after : Option (List ℕ)) (answer : Result Step VolumeFault)
+    (positioned : PositionedIn image p r) (early : p.consumed_before ≤ p.segment.offset) where
+  pub steps_skipped : (state : State) (T : Type 0) → p.state ≡ state → SkipsAgain state (Ok tt) T → (T → r' ≡ r)
+      → (p.state ≡ BeforePayload → (p.count ≡ 0) × (p.prefix ≡ []))
+      → (p.state ≡ BeforePayload → ConsumedExactly image r' p.segment.offset)
+      → (PositionedAt image p.prefix (sector_start p.segment p.count) r' → StepEffect p.segment p.cipher p.count
+      (sector_start p.segment p.count + length p.prefix) image answer r'' before after)
+      → StepEffect p.segment p.cipher p.count (consumed_by p) image answer r'' before after
+  steps_skipped BeforePayload T first again same fresh skipped steps =
+      let (none, bare) = fresh first in
+      let left = skipped first in
+      let from : consumed_by p ≤ p.segment.offset = omega (arith, at_first p first bare) in
+      let start : p.segment.offset ≡ sector_start p.segment p.count + length p.prefix = rw (none, bare) (omega arith) in
+      let next : p.prefix ≡ take (length p.prefix) (drop (sector_start p.segment p.count) image) = rw bare refl in
+      steps_earlier p.segment p.cipher p.count (consumed_by p) image r'' before after from left.within answer
+      (subst (λ n. StepEffect p.segment p.cipher p.count n image answer r'' before after) (sym start)
+      (steps (record { next = next; consumption = subst (ConsumedExactly image r') start left })))
+  steps_skipped InPayload T is again same fresh skipped steps =
+      rw is (steps (rw (same again.1) (rw is at positioned.positioned)))
+  steps_skipped _ T is again same fresh skipped steps =
+      let running = rw is at positioned.running in
+      absurd cc
 
 -- if a skip succeeded and the pump has not ended, it is in its payload, and was before it or in it already
 pub resumed : (state now : State) (T : Type 0) → SkipsAgain state (Ok tt) T

@@ -3,10 +3,9 @@
 ghost use Rattle.std.specs.Prelude.{◌≡◌, ◌-◌, ◌%◌, ◌<◌, ◌≤◌, ◌⊎◌, IfOk, IfErr, OnOk, length};
 ghost use Rattle.luks_io.specs.Devices.{ConsumedExactly, ConsumedFewer, IfKnown, is_short_read};
 ghost use Rattle.luks_io.specs.Counts.{Reads, Writes};
-ghost use Rattle.luks_payload.specs.SectorEffects.{StopsDiscarding, BeginsWith, FilledSector};
-ghost use Rattle.luks_payload.specs.SectorEffects.{SectorEffect, is_cut_before_payload};
-ghost use Rattle.luks_payload.specs.SectorEffects.{is_pump_read_failure};
-ghost use Rattle.luks_payload.specs.SectorEffects.{is_pump_write_failure};
+ghost use Rattle.luks_payload.specs.PumpEffects.{StopsDiscarding, BeginsWith, FilledSector};
+ghost use Rattle.luks_payload.specs.PumpEffects.{SectorEffect, is_cut_before_payload};
+ghost use Rattle.luks_payload.specs.PumpEffects.{is_pump_read_failure, is_pump_write_failure};
 
 use crate::decryption::Decryption;
 use crate::fault::VolumeFault;

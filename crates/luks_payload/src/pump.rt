@@ -3,15 +3,13 @@
 ghost use Rattle.std.specs.Prelude.{◌≡◌, ◌+◌, ◌^◌, ◌<◌, ◌≤◌, ◌⊎◌, List, [], ℕ, Ok, IfErr};
 ghost use Rattle.std.specs.Prelude.{true, length};
 ghost use Rattle.luks_io.specs.Counts.{Reads, Writes};
-ghost use Rattle.luks_payload.specs.SectorEffects.{AppendsUnit, PositionedAt};
-ghost use Rattle.luks_payload.specs.SectorEffects.{is_cut_before_payload};
-ghost use Rattle.luks_payload.specs.SectorEffects.{is_pump_read_failure};
-ghost use Rattle.luks_payload.specs.SectorEffects.{is_pump_write_failure, max_sectors};
 ghost use Rattle.luks_payload.specs.Plain.{sector_len, sector_start, unit_number};
-ghost use Rattle.luks_payload.specs.PumpEffects.{MayAnswer, SkipsAgain, SkipEffect, PositionedIn};
-ghost use Rattle.luks_payload.specs.PumpEffects.{StepEffect, StepsIdle, WritesSectors};
-ghost use Rattle.luks_payload.specs.PumpEffects.{after_step, hits_eof_at, is_running, consumed_by};
-ghost use Rattle.luks_payload.specs.PumpEffects.{state_after_skip};
+ghost use Rattle.luks_payload.specs.PumpEffects.{AppendsUnit, MayAnswer, PositionedAt};
+ghost use Rattle.luks_payload.specs.PumpEffects.{PositionedIn, SkipEffect, SkipsAgain, StepEffect};
+ghost use Rattle.luks_payload.specs.PumpEffects.{StepsIdle, WritesSectors, after_step, consumed_by};
+ghost use Rattle.luks_payload.specs.PumpEffects.{hits_eof_at, is_cut_before_payload, is_running};
+ghost use Rattle.luks_payload.specs.PumpEffects.{is_pump_read_failure, is_pump_write_failure};
+ghost use Rattle.luks_payload.specs.PumpEffects.{max_sectors, state_after_skip};
 
 use crate::fault::VolumeFault;
 use crate::forwarding::{discard, forward_sector};
@@ -44,8 +42,7 @@ pub struct Pump<'a> {
 
 impl<'a> Model for Pump<'a> {
     ghost use Rattle.std.specs.Prelude.{◌≡◌, ◌≤◌, []};
-    ghost use Rattle.luks_payload.specs.SectorEffects.{max_sectors};
-    ghost use Rattle.luks_payload.specs.PumpEffects.{PumpModel};
+    ghost use Rattle.luks_payload.specs.PumpEffects.{PumpModel, max_sectors};
     ghost use Rattle.luks_payload.specs.declared.state.State.TheVariants.{BeforePayload};
 
     ghost Value = { PumpModel };

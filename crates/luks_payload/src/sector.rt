@@ -1,7 +1,7 @@
 //! The sectors of a payload: their number, their unit numbers, and how the payload ends.
 
 ghost use Rattle.std.specs.Prelude.{◌≡◌, ◌+◌, ◌*◌, ◌<◌};
-ghost use Rattle.luks_payload.specs.SectorEffects.{max_sectors};
+ghost use Rattle.luks_payload.specs.PumpEffects.{max_sectors};
 ghost use Rattle.luks_payload.specs.Plain.{ending_of_len, sector_len, unit_number};
 
 use crate::fault::VolumeFault;

@@ -1,17 +1,35 @@
--- The messages of luksrd, as printed on standard error, and the exit status of each.
-use Rattle.std.specs.Prelude.{ℕ, List, [], ◌∷◌, ◌++◌, codes, flat_map}
+-- The texts of luksrd: its usage, its messages as printed on standard error, with the exit status of each, and what a
+-- check prints.
+use Prim.Native.String.{String}
+use Rattle.std.specs.Prelude.{ℕ, List, [], ◌∷◌, ◌++◌, ◌==◌, codes, flat_map, if◌then◌else◌, length}
 use Rattle.std.specs.Fmt.{decimal}
+pub use Rattle.luks_check.specs.Findings.{findings_of}
 use Rattle.luks_header.specs.SegmentFault.{fault_text}
 use Rattle.luks_header.specs.SkipReason.{reason_text}
+use Rattle.luks_header.specs.declared.header.Header.{Header}
 use Rattle.luks_verdict.specs.declared.refusal.SkipReason.{SkipReason}
 use Rattle.luks_report.specs.declared.message.Message.{Message}
-use Rattle.luks_report.specs.declared.message.Message.TheVariants.{Done, No, Usage, NotLuks, Cut, Json, KeyLength}
+use Rattle.luks_report.specs.declared.message.Message.TheVariants.{Done, No, Usage, NotLuks, Cut, Json, KeyLength, Tail}
 use Rattle.luks_report.specs.declared.message.Message.TheVariants.{FewRandomBytes, FewStripes, OutOfMemory, ReadFailed}
-use Rattle.luks_report.specs.declared.message.Message.TheVariants.{WriteFailed}
-use Rattle.luks_report.specs.declared.message.Message.TheVariants.{SegmentRefused, NoSuchSlot, SlotDisabled}
-use Rattle.luks_report.specs.declared.message.Message.TheVariants.{SlotSkipped, NothingTried, KeyFileLength, NoKey}
-use Rattle.luks_report.specs.declared.message.Message.TheVariants.{CutBeforePayload, Tail, Short, Findings}
-use Rattle.luks_report.specs.Usage.{usage_text}
+use Rattle.luks_report.specs.declared.message.Message.TheVariants.{WriteFailed, SegmentRefused, NoSuchSlot, Short}
+use Rattle.luks_report.specs.declared.message.Message.TheVariants.{SlotDisabled, SlotSkipped, NothingTried, Findings}
+use Rattle.luks_report.specs.declared.message.Message.TheVariants.{KeyFileLength, NoKey, CutBeforePayload}
+
+-- a line with its newline
+abbrev line : String → List ℕ
+line text = codes text ++ 10 ∷ []
+
+-- what is printed if the arguments are not a luksrd command
+unfoldable pub usage_text : List ℕ
+usage_text =
+    line "usage: luksrd isLuks [--header FILE] IMAGE"
+    ++ line "       luksrd luksUUID [--header FILE] IMAGE"
+    ++ line "       luksrd luksDump [--header FILE] IMAGE"
+    ++ line "       luksrd luksCheck [--header FILE] IMAGE"
+    ++ line "       luksrd testPassphrase --key-file FILE [--key-slot N] [--max-iterations N] [--header FILE] IMAGE"
+    ++ line "       luksrd luksCat --key-file FILE [--key-slot N] [--max-iterations N] [--header FILE] IMAGE"
+    ++ line "       luksrd afSplit --hash HASH --stripes N --random FILE KEY"
+    ++ line "       luksrd afMerge --hash HASH --stripes N --key-bytes N STRIPES"
 
 -- a message on a line of its own
 abbrev pub message_line : List ℕ → List ℕ
@@ -90,3 +108,11 @@ status_of FewRandomBytes = 4
 status_of FewStripes = 4
 status_of ReadFailed = 6
 status_of WriteFailed = 6
+
+-- what `luksCheck` prints of a header: its findings, or that there are none
+unfoldable pub check_of : Header → List ℕ
+check_of header = if length (findings_of header) == 0 then codes "clean" ++ 10 ∷ [] else findings_of header
+
+-- how `luksCheck` of a header ends
+unfoldable pub message_for_check : Header → Message
+message_for_check header = if length (findings_of header) == 0 then Done else Findings

@@ -1,7 +1,7 @@
 //! What `luksCheck` prints, and how it ends.
 
 ghost use Rattle.std.specs.Prelude.{◌≡◌, IfOk, string_bytes};
-ghost use Rattle.luks_report.specs.CheckOutput.{check_of, message_for_check};
+ghost use Rattle.luks_report.specs.Texts.{check_of, message_for_check};
 
 use crate::message::Message;
 use luks_check::check::findings;
@@ -11,7 +11,7 @@ use std::alloc::{AllocError, Global};
 /// What `luksCheck` prints, and how it ends: each finding on a line of its own and
 /// [`Message::Findings`], or that there is none and [`Message::Done`]. The number of iterations has
 /// no limit here.
-#[tactic(auto, unfolding(crate::specs::CheckOutput::check_of, crate::specs::CheckOutput::message_for_check))]
+#[tactic(auto, unfolding(crate::specs::Texts::check_of, crate::specs::Texts::message_for_check))]
 pub fn check_text(alloc: Global, header: &Header) -> Result<(String, Message), AllocError>
     ensures lines { IfOk result (λ checked. string_bytes checked.0 ≡ check_of header.now) }
     ensures message { IfOk result (λ checked. checked.1 ≡ message_for_check header.now) }

@@ -1,7 +1,7 @@
 //! The usage text.
 
 ghost use Rattle.std.specs.Prelude.{◌≡◌, ◌≤◌, length};
-ghost use Rattle.luks_report.specs.Usage.{usage_text};
+ghost use Rattle.luks_report.specs.Texts.{usage_text};
 
 const USAGE: &str = "\
 usage: luksrd isLuks [--header FILE] IMAGE
@@ -17,7 +17,7 @@ usage: luksrd isLuks [--header FILE] IMAGE
 
 /// The usage text: one line for each command. It is printed if the arguments are not a luksrd
 /// command.
-#[tactic(auto, unfolding(crate::specs::Usage::usage_text))]
+#[tactic(auto, unfolding(crate::specs::Texts::usage_text))]
 pub fn usage() -> &'static str
     ensures value { result.now ≡ usage_text }
     ensures short { length result.now ≤ 1000 }

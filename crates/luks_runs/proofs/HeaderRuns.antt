@@ -1,36 +1,29 @@
 -- How much of an image reading its header consumes, and how the commands on headers end.
-use Rattle.std.specs.Prelude.{◌==◌}
+use Rattle.std.specs.Prelude.{◌==◌, if◌then◌else◌}
 use Rattle.std.proofs.Common.{◌≡◌, ℕ, Bool, true, false, List, Option, Ok, Err, refl, length, arith, ◌≤◌}
 use Rattle.luks_io.specs.Devices.{Appended, ConsumedExactly}
-use Rattle.luks_io.proofs.Consuming.{adds-none}
+use Rattle.luks_io.proofs.EffectLemmas.{adds-none}
 use Rattle.luks_header.specs.Header.{ReadsNoHeader, header_read_len, header_of}
-use Rattle.luks_header.proofs.HeaderLemmas.{memory_below}
+use Rattle.luks_header.proofs.HeaderLemmas.{memory_below, probe_is}
 use Rattle.luks_header.specs.declared.header.Header.{Header}
 use Rattle.luks_area.specs.declared.fault.HeaderFault.{HeaderFault}
 use Rattle.luks_area.specs.declared.fault.HeaderFault.TheVariants.{Read, Memory}
 use Rattle.luks_report.specs.declared.message.Message.{Message}
+use Rattle.luks_report.specs.declared.message.Message.TheVariants.{Done, Findings}
 use Rattle.luks_runs.specs.HeaderOutcome.{message_for_is_luks, is_luks_outcome, print_outcome_by, printout_text}
 use Rattle.luks_runs.specs.HeaderOutcome.{printout_message}
 use Rattle.luks_report.specs.Faults.{message_for_header}
-use Rattle.luks_runs.specs.Run.{no_output, Prints, RunMatches, ConsumedNothing, AnyPromptness, is_run_write_failure}
-use Rattle.luks_runs.specs.RunMessages.{CheckMessage, PrintoutMessage}
+use Rattle.luks_runs.specs.Run.{no_output, Prints, RunMatches, ConsumedNothing, AnyPromptness}
 use Rattle.luks_runs.specs.Location.{reader_for}
 use Rattle.luks_runs.specs.declared.location.HeaderLocation.{HeaderLocation}
 use Rattle.luks_runs.specs.declared.headers.Printout.{Printout}
 use Rattle.luks_runs.specs.declared.headers.Printout.TheVariants.{Uuid, Dump, Check}
-use Rattle.luks_report.specs.CheckOutput.{check_of, findings_of, message_for_check}
+use Rattle.luks_report.specs.Texts.{findings_of, message_for_check}
 use Rattle.luks_runs.proofs.RunLemmas.{aborted_unwritten, runs_printed}
-use Rattle.luks1_header.specs.Header1.{is_luks1}
-use Rattle.luks2_binary.proofs.AbsentLemmas.{cost2_there}
 use Rattle.luks_runs.specs.declared.location.HeaderLocation.TheVariants.{Attached, Detached}
 
 pub header_read_len_within : (image : List ℕ) → header_read_len image ≤ length image
-unfolding header_read_len
-header_read_len_within image = by (is_luks1 image) refl
-  where
-    by : (b : Bool) → is_luks1 image ≡ b → header_read_len image ≤ length image
-    by true is = rw is (omega arith)
-    by false is = rw is (cost2_there image)
+header_read_len_within image = omega (arith, (probe_is image).0)
 
 -- if no attached header can be read, no detached one can either
 pub reading_fault : (location : HeaderLocation) (image : List ℕ) (fault : HeaderFault) → header_of image ≡ Err fault
@@ -38,41 +31,27 @@ pub reading_fault : (location : HeaderLocation) (image : List ℕ) (fault : Head
 reading_fault Attached image fault none = none
 reading_fault Detached image fault none = rw none refl
 
--- the message after a text was printed is one of the messages that the printout may end with
-pub printout_message_allowed : (printout : Printout) (header : Header) → PrintoutMessage printout
-    (printout_message printout header)
+-- what holds of `Done`, and for a check of `Findings`, holds of the message after a text was printed
+pub by_printout : (P : Printout → Message → Type 0) → P Uuid Done → P Dump Done → P Check Done → P Check Findings
+    → (printout : Printout) (header : Header) → P printout (printout_message printout header)
 unfolding message_for_check
-printout_message_allowed Uuid header = tt
-printout_message_allowed Dump header = tt
-printout_message_allowed Check header = by (length (findings_of header) == 0) refl where
-  by : (b : Bool) → (length (findings_of header) == 0) ≡ b → CheckMessage (message_for_check header)
-  by true is = rw is tt
-  by false is = rw is tt
-
--- the message after a text was printed is not that of a failed write
-pub printout_message_not_write : (printout : Printout) (header : Header)
-    → is_run_write_failure (printout_message printout header) ≡ false
-unfolding message_for_check
-printout_message_not_write Uuid header = refl
-printout_message_not_write Dump header = refl
-printout_message_not_write Check header = by (length (findings_of header) == 0) refl where
-  by : (b : Bool) → (length (findings_of header) == 0) ≡ b → is_run_write_failure (message_for_check header) ≡ false
-  by true is = rw is refl
-  by false is = rw is refl
+by_printout P uuid dump clean found Uuid header = uuid
+by_printout P uuid dump clean found Dump header = dump
+by_printout P uuid dump clean found Check header = by (length (findings_of header) == 0)
+  where
+    by : (b : Bool) → P Check (if b then Done else Findings)
+    by true = clean
+    by false = found
 
 -- if the text was written, it was printed, with its message
 pub printout_written : (printout : Printout) (header : Header) (text : List ℕ) (before after : Option (List ℕ))
     → text ≡ printout_text printout header → Appended before after text
     → Prints (printout_text printout header) (printout_message printout header) before after
     (printout_message printout header)
-unfolding message_for_check
-printout_written Uuid header text before after is a = (refl, rw is at a)
-printout_written Dump header text before after is a = (refl, rw is at a)
-printout_written Check header text before after is a = by (length (findings_of header) == 0) refl where
-  by : (b : Bool) → (length (findings_of header) == 0) ≡ b
-      → Prints (check_of header) (message_for_check header) before after (message_for_check header)
-  by true none = rw none (refl, rw is at a)
-  by false some = rw some (refl, rw is at a)
+printout_written printout header text before after is a =
+    let all : Appended before after (printout_text printout header) = rw is at a in
+    by_printout (λ _ message. Prints (printout_text printout header) message before after message) (refl, all)
+    (refl, all) (refl, all) (refl, all) printout header
 
 module _ (location : HeaderLocation) (printout : Printout) (image : List ℕ) (i w : Option (List ℕ)) where
   -- the header was read, and the text was printed, whole or in part, or memory for it ran out

@@ -1,28 +1,29 @@
 -- Forwarding a payload sector by sector.
 use Rattle.std.proofs.Common.{◌≡◌, ℕ, zero, suc, ◌+◌, ◌-◌, ◌*◌, ◌/◌, ◌%◌, ◌^◌, ◌<◌, ◌≤◌, ◌⊎◌, inl, inr, List, [], ◌++◌}
-use Rattle.std.proofs.Common.{Option, None, Some, Result, Ok, Err, ◌∙◌, ap, sym, refl, take, drop, length, take_all}
-use Rattle.std.proofs.Common.{length-take-le, length-drop, length-append, append-nil, add-one, max, min, arith, false}
+use Rattle.std.proofs.Common.{Option, None, Some, Result, Ok, Err, ◌∙◌, ap, sym, refl, take, drop, length, take-take}
+use Rattle.std.proofs.Common.{length-take-le, length-drop, length-append, add-one, max, arith, false}
 use Rattle.std.proofs.lemmas.Bool.{cases_lt}
-use Rattle.std.proofs.lemmas.List.{drop-drop, drop-take, drop_all, take-append-le}
+use Rattle.std.proofs.lemmas.List.{drop-drop, drop-take, drop_all, take_at}
 use Rattle.std.proofs.Math.Nat.{div-eq_of_lt-le, div-mul-le_self, mul-le-mul_left, mul-le-mul_right}
-use Rattle.std.proofs.Math.Seq.{drop-nil, take-append-add}
+use Rattle.std.proofs.Math.Seq.{take-append-add}
 use Rattle.luks_cipher.proofs.ModeLemmas.{length-sector_decrypted}
+use Rattle.luks_cipher.proofs.UnitLemmas.{joined_more}
 use Rattle.luks_cipher.specs.Sector.{Cipher}
 use Rattle.luks_cipher.specs.Xts.{joined}
 use Rattle.luks_verdict.specs.declared.segment.Segment.{Segment}
 use Rattle.luks_verdict.proofs.SectorLemmas.{sector_blocks}
-use Rattle.luks_io.proofs.Consuming.{adds-more, adds-none}
+use Rattle.luks_io.proofs.EffectLemmas.{adds-more, adds-none}
 use Rattle.luks_io.specs.Counts.{Reads, with_ahead}
 use Rattle.luks_io.specs.Devices.{Appended, ConsumedExactly}
 use Rattle.luks_io.specs.declared.counts.ReadCounts.{ReadCounts}
-use Rattle.luks_payload.specs.Plain.{payload_end_in, ending_of, payload_end_of, plain_of, sector_len, sector_plaintext}
-use Rattle.luks_payload.specs.Plain.{sector_start, sectors_of, unit_plain, payload_bytes}
+use Rattle.luks_payload.proofs.SectorLemmas.{payload_ends}
+use Rattle.luks_payload.specs.Plain.{ending_of, payload_end_of, plain_of, sector_len, sector_plaintext}
+use Rattle.luks_payload.specs.Plain.{sector_start, sectors_of, unit_number, unit_plain, payload_bytes}
 use Rattle.luks_payload.specs.PumpEffects.{EndEffect, PumpModel, PositionedIn, StepEffect, WritesSectors, after_step}
-use Rattle.luks_payload.specs.PumpEffects.{next_offset, position, consumed_by}
+use Rattle.luks_payload.specs.PumpEffects.{position, consumed_by}
 use Rattle.luks_payload.specs.declared.fault.VolumeFault.{VolumeFault}
 use Rattle.luks_payload.specs.declared.fault.VolumeFault.TheVariants.{Read, Write}
-use Rattle.luks_payload.specs.declared.state.State.{State}
-use Rattle.luks_payload.specs.declared.state.State.TheVariants.{BeforePayload, InPayload, Ended, Faulted}
+use Rattle.luks_payload.specs.declared.state.State.TheVariants.{BeforePayload, InPayload}
 use Rattle.luks_payload.specs.declared.state.Step.{Step}
 use Rattle.luks_payload.specs.declared.state.Step.TheVariants.{Sector, End}
 use Rattle.luks_runs.specs.Payload.{ForwardsPayload, max_needed, with_payload_ahead}
@@ -38,48 +39,29 @@ joined_length f z (suc n) sizes =
     let before = joined_length f z n (λ j low. sizes j (omega arith)) in
     rw (length-append (joined f n) (f n), before, sizes n (omega arith)) (omega arith)
 
+-- a prefix of the joined pieces that ends with a piece
+pub take_whole : (f : ℕ → List ℕ) (z n k : ℕ) → ((j : ℕ) → j < n → length (f j) ≡ z) → k ≤ n
+    → take (k * z) (joined f n) ≡ joined f k
+take_whole f z n k sizes below =
+    let all : n ≡ k + (n - k) = omega arith in
+    ap (λ m. take (k * z) (joined f m)) all ∙ ap (take (k * z)) (joined_more f k (n - k))
+    ∙ take_at (joined f k) (joined (λ j. f (k + j)) (n - k)) (k * z)
+    (joined_length f z k (λ j low. sizes j (omega arith)))
+
 -- a prefix of the joined pieces that ends within piece k
 take_joined : (f : ℕ → List ℕ) (z n k m : ℕ) → ((j : ℕ) → j < n → length (f j) ≡ z) → k < n → m ≤ z
     → take (k * z + m) (joined f n) ≡ joined f k ++ take m (f k)
 unfolding joined
-take_joined f z zero k m sizes below few = absurd (omega arith)
-take_joined f z (suc n) k m sizes below few =
-    let smaller : (j : ℕ) → j < n → length (f j) ≡ z = λ j low. sizes j (omega arith) in
-    let long = joined_length f z n smaller in
-    elim (cases_lt k n) [
-      | inl inside ↦
-          let more : (k + 1) * z ≤ n * z = mul-le-mul_right z (omega arith) in
-          take-append-le (k * z + m) (joined f n) (f n) (omega arith) ∙ take_joined f z n k m smaller inside few
-      | inr last ↦
-          let e : k ≡ n = omega arith in
-          rw (e, ← long) (take-append-add (joined f n) (f n) m)
-    ]
-
--- a prefix of the joined pieces that ends with a piece
-take_whole : (f : ℕ → List ℕ) (z n k : ℕ) → ((j : ℕ) → j < n → length (f j) ≡ z) → k ≤ n
-    → take (k * z) (joined f n) ≡ joined f k
-take_whole f z n k sizes below = elim (cases_lt k n) [
-  | inl inside ↦ let same : k * z
-      ≡ k * z + 0 = omega arith in rw same (take_joined f z n k 0 sizes inside (omega arith) ∙ append-nil (joined f k))
-  | inr all ↦
-      let e : k ≡ n = omega arith in
-      rw e (take_all (n * z) (joined f n) (omega (arith, joined_length f z n sizes)))
-]
-
-pub unit_len : (cipher : Cipher) (number : ℕ) (unit : List ℕ) → length unit % 16 ≡ 0
-    → length (unit_plain cipher number unit) ≡ length unit
-unfolding unit_plain
-unit_len cipher number unit whole = length-sector_decrypted cipher number unit whole
+take_joined f z n k m sizes below few =
+    let long = joined_length f z k (λ j low. sizes j (omega arith)) in
+    let part : take (k * z + m) (joined f k ++ f k) ≡ joined f k ++ take m (f k) =
+    rw (← long) (take-append-add (joined f k) (f k) m) in
+    sym (take-take (k * z + m) (suc k * z) (joined f n) (omega arith))
+    ∙ ap (take (k * z + m)) (take_whole f z n (suc k) sizes (omega arith)) ∙ part
 
 pub within_len : (size : Option ℕ) (len : ℕ) → payload_bytes size len ≤ len
 within_len None len = omega arith
 within_len (Some size) len = omega arith
-
--- where a payload ends, by the number of its bytes
-payload_ends : (size : Option ℕ) (offset len : ℕ)
-    → payload_end_in size offset len ≡ min len (offset + payload_bytes size (len - offset))
-payload_ends None offset len = omega arith
-payload_ends (Some size) offset len = omega arith
 
 module _ (s : Segment) (image : List ℕ) where
   -- a sector of the payload ends at the payload's end or before it
@@ -106,15 +88,18 @@ module _ (s : Segment) (image : List ℕ) where
       ≤ sectors_of s image * sector_len s = mul-le-mul_left (sectors_of s image) z.long in
       omega arith
 
-  sector_size : (cipher : Cipher) (i : ℕ) → i < sectors_of s image
+  -- a sector of the payload has its full length
+  pub sector_size : (cipher : Cipher) (i : ℕ) → i < sectors_of s image
       → length (sector_plaintext s cipher image i) ≡ sector_len s
+  unfolding unit_plain
   sector_size cipher i below =
       let z = sector_blocks s.sector_size in
       let there = sector_there i below in
       let more : (i + 1) * sector_len s ≡ i * sector_len s + sector_len s = omega arith in
       let unit = length-take-le (sector_len s) (drop (sector_start s i) image)
       (omega (arith, length-drop (sector_start s i) image)) in
-      unit_len cipher _ _ (ap (λ n. n % 16) unit ∙ z.blocks) ∙ unit
+      length-sector_decrypted cipher (unit_number s i) (take (sector_len s) (drop (sector_start s i) image))
+      (ap (λ n. n % 16) unit ∙ z.blocks) ∙ unit
 
   pub plain_len : (cipher : Cipher) → length (plain_of s cipher image) ≡ sectors_of s image * sector_len s
   plain_len cipher = joined_length (sector_plaintext s cipher image) (sector_len s) (sectors_of s image)
@@ -123,7 +108,7 @@ module _ (s : Segment) (image : List ℕ) where
 -- ---- a running pump
 
 -- what remains of the prefix after one more sector is the start of the remaining image
-prefix_after_sector : (prefix image : List ℕ) (start z : ℕ) → prefix ≡ take (length prefix) (drop start image)
+pub prefix_after_sector : (prefix image : List ℕ) (start z : ℕ) → prefix ≡ take (length prefix) (drop start image)
     → drop z prefix ≡ take (length (drop z prefix)) (drop (start + z) image)
 prefix_after_sector prefix image start z next = elim (cases_lt z (length prefix)) [
   | inl many ↦
@@ -135,19 +120,15 @@ prefix_after_sector prefix image start z next = elim (cases_lt z (length prefix)
   | inr few ↦ let none : drop z prefix ≡ [] = drop_all z prefix (omega arith) in rw none refl
 ]
 
--- in every state, a pump that consumed at most `start` bytes is not past offset `start`
-next_offset_le : (state : State) (consumed start : ℕ) → consumed ≤ start → next_offset state consumed start ≤ start
-next_offset_le BeforePayload consumed start few = few
-next_offset_le InPayload consumed start few = omega arith
-next_offset_le Ended consumed start few = omega arith
-next_offset_le (Faulted _) consumed start few = omega arith
-
--- a pump on an image of which `loaded` bytes were consumed before; the sectors that it forwarded are written
+-- a pump on an image of which `loaded` bytes were consumed before; the sectors that it forwarded are written. The next
+-- byte is not before their end, nor past the start of the next sector, and the prefix is the start of that sector
 pub record Forwarding (p : PumpModel) (image : List ℕ) (loaded : ℕ) (left before after : Option (List ℕ)) : Type 0 where
   pub positioned : PositionedIn image p left
-  pub early : p.consumed_before ≤ p.segment.offset
-  pub bare : ((p.count ≡ 0) × (p.prefix ≡ [])) ⊎ (p.state ≡ InPayload)
+  pub prefix_next : p.prefix ≡ take (length p.prefix) (drop (sector_start p.segment p.count) image)
+  pub prefix_end : sector_start p.segment p.count + length p.prefix ≡ max loaded (sector_start p.segment p.count)
   pub consumed_to : consumed_by p ≡ max loaded (position p)
+  pub least : p.count * sector_len p.segment ≤ position p - p.segment.offset
+  pub most : position p ≤ sector_start p.segment p.count
   pub few : p.count ≤ sectors_of p.segment image
   pub wrote : Appended before after (joined (sector_plaintext p.segment p.cipher image) p.count)
 
@@ -157,9 +138,19 @@ pub forwarding_start : (p : PumpModel) (image : List ℕ) (loaded : ℕ) (left w
 unfolding joined
 forwarding_start p image loaded left w none early bare consumed_to positioned = record {
   positioned = positioned;
-  early = early;
-  bare = elim bare [ inl empty ↦ inl (none, empty.1) | inr is ↦ inr is ];
+  prefix_next = elim bare [ inl (first, empty) ↦ rw empty refl | inr is ↦ rw is at positioned.positioned.next ];
+  prefix_end = elim bare [
+    | inl (first, empty) ↦
+        let small : length p.prefix ≡ 0 = ap length empty in
+        let from : p.consumed_before + length p.prefix ≡ loaded = rw first at consumed_to in
+        omega arith
+    | inr is ↦
+        let from : sector_start p.segment p.count + length p.prefix ≡ loaded = rw is at consumed_to in
+        omega arith
+  ];
   consumed_to = omega arith;
+  least = rw none (omega arith);
+  most = elim bare [ inl (first, empty) ↦ rw first (omega arith) | inr is ↦ rw is (omega arith) ];
   few = omega arith;
   wrote = rw none (adds-none w);
 }
@@ -167,44 +158,23 @@ forwarding_start p image loaded left w none early bare consumed_to positioned = 
 module _ (p : PumpModel) (image : List ℕ) (loaded : ℕ) (l b w l' w' : Option (List ℕ))
     (so_far : Forwarding p image loaded l b w)
   where
-    -- the pump's offset is not past the start of its next sector
-    place : position p ≤ sector_start p.segment p.count
-    place =
-        let early = so_far.early in
-        next_offset_le p.state p.consumed_before (sector_start p.segment p.count) (omega arith)
-
     next_start : sector_start p.segment (p.count + 1) ≡ sector_start p.segment p.count + sector_len p.segment
     next_start = omega arith
 
     -- after the next sector, the bytes up to its end are consumed, or the loaded ones if those are more
     consumed_after : max (consumed_by p) (sector_start p.segment (p.count + 1))
         ≡ max loaded (sector_start p.segment (p.count + 1))
-    consumed_after = omega (arith, so_far.consumed_to, place, next_start)
+    consumed_after = omega (arith, so_far.consumed_to, so_far.most, next_start)
 
     next_prefix : drop (sector_len p.segment) p.prefix
         ≡ take (length (drop (sector_len p.segment) p.prefix)) (drop (sector_start p.segment (p.count + 1)) image)
-    next_prefix = elim so_far.bare [
-      | inl (none, empty) ↦ rw (empty, drop-nil (sector_len p.segment)) refl
-      | inr is ↦
-          let next : p.prefix ≡ take (length p.prefix) (drop (sector_start p.segment p.count) image) =
-          rw is at so_far.positioned.positioned.next in
-          rw next_start (prefix_after_sector p.prefix image (sector_start p.segment p.count) (sector_len p.segment)
-          next)
-    ]
+    next_prefix =
+        rw next_start (prefix_after_sector p.prefix image (sector_start p.segment p.count) (sector_len p.segment)
+        so_far.prefix_next)
 
-    next_consumed_end : sector_start p.segment (p.count + 1) + length (drop (sector_len p.segment) p.prefix)
+    next_prefix_end : sector_start p.segment (p.count + 1) + length (drop (sector_len p.segment) p.prefix)
         ≡ max loaded (sector_start p.segment (p.count + 1))
-    next_consumed_end =
-        let less = length-drop (sector_len p.segment) p.prefix in
-        elim so_far.bare [
-          | inl (none, empty) ↦
-              let small : length p.prefix ≡ 0 = ap length empty in
-              omega (arith, so_far.consumed_to, place, next_start, less)
-          | inr is ↦
-              let from : sector_start p.segment p.count + length p.prefix
-              ≡ max loaded (sector_start p.segment p.count) = rw is at so_far.consumed_to in
-              omega (arith, next_start, less)
-        ]
+    next_prefix_end = omega (arith, so_far.prefix_end, next_start, length-drop (sector_len p.segment) p.prefix)
 
     pub forwarding_more : StepEffect p.segment p.cipher p.count (consumed_by p) image (Ok Sector) l' w w'
         → Forwarding (after_step p (Ok Sector)) image loaded l' b w'
@@ -216,12 +186,14 @@ module _ (p : PumpModel) (image : List ℕ) (loaded : ℕ) (l b w l' w' : Option
             running = refl;
             positioned = record {
               next = next_prefix;
-              consumption = rw (next_consumed_end, ← consumed_after) sector.consumption;
+              consumption = rw (next_prefix_end, ← consumed_after) sector.consumption;
             };
           };
-          early = so_far.early;
-          bare = inr refl;
-          consumed_to = next_consumed_end;
+          prefix_next = next_prefix;
+          prefix_end = next_prefix_end;
+          consumed_to = next_prefix_end;
+          least = omega arith;
+          most = omega arith;
           few = omega (arith, sector.is_one);
           wrote = rw add-one (adds-more b w w' (joined (sector_plaintext p.segment p.cipher image) p.count)
               (sector_plaintext p.segment p.cipher image p.count) so_far.wrote step.1);
@@ -234,7 +206,7 @@ module _ (p : PumpModel) (image : List ℕ) (loaded : ℕ) (l b w l' w' : Option
         let within = so_far.positioned.positioned.consumption.within in
         let all : p.count * z ≤ sectors_of p.segment image * z = mul-le-mul_right z so_far.few in
         let whole = div-mul-le_self (payload_bytes p.segment.size (length image - p.segment.offset)) z in
-        omega (arith, place, payload_ends p.segment.size p.segment.offset (length image))
+        omega (arith, so_far.most, payload_ends p.segment.size p.segment.offset (length image))
 
     -- the payload ended as specified
     ended : (answer : Result Step VolumeFault) → EndEffect image p.segment p.count (consumed_by p) answer l' → w' ≡ w
@@ -258,10 +230,8 @@ module _ (p : PumpModel) (image : List ℕ) (loaded : ℕ) (l b w l' w' : Option
         let end = step.0 in
         let more : (p.count + 1) * sector_len p.segment
         ≡ p.count * sector_len p.segment + sector_len p.segment = omega arith in
-        let first : p.count * sector_len p.segment ≤ end - p.segment.offset = elim so_far.bare [
-          | inl (none, empty) ↦ rw none (omega arith)
-          | inr is ↦ let from : sector_start p.segment p.count + length p.prefix ≤ end = rw is at step.1 in omega arith
-        ] in
+        let first : p.count * sector_len p.segment ≤ end - p.segment.offset =
+        omega (arith, step.1, so_far.consumed_to, so_far.least) in
         let row : (end - p.segment.offset) / sector_len p.segment
         ≡ p.count = div-eq_of_lt-le (sector_len p.segment) (omega arith) (omega (arith, step.2, z.long)) in
         let whole = take_whole (sector_plaintext p.segment p.cipher image) (sector_len p.segment)
@@ -297,25 +267,6 @@ module _ (p : PumpModel) (image : List ℕ) (loaded : ℕ) (l b w l' w' : Option
     forwarding_aborts Read _ Same same is step = lost step (same is)
     forwarding_aborts Write _ Same same is step = unwritten step
     forwarding_aborts fault _ Same same is step = ended (Err fault) step (same is)
-
--- ---- a pump that starts with loaded bytes
-
--- if the loaded bytes reach into the payload, those in it are its first ones
-module _ (loaded image : List ℕ) (offset : ℕ) (within : offset ≤ length loaded) where
-  prefix_length : length (take (length loaded - offset) (drop offset loaded)) ≡ length loaded - offset
-  prefix_length = length-take-le (length loaded - offset) (drop offset loaded)
-      (omega (arith, length-drop offset loaded))
-
-  pub loaded_end : offset + length (take (length loaded - offset) (drop offset loaded)) ≡ length loaded
-  loaded_end = omega (arith, prefix_length)
-
-  pub positioned_within : loaded ≡ take (length loaded) image → take (length loaded - offset) (drop offset loaded)
-      ≡ take (length (take (length loaded - offset) (drop offset loaded))) (drop offset image)
-  positioned_within prefix =
-      let more : length loaded ≡ offset + (length loaded - offset) = omega arith in
-      take_all (length loaded - offset) (drop offset loaded) (omega (arith, length-drop offset loaded))
-      ∙ ap (drop offset) prefix ∙ ap (λ n. drop offset (take n image)) more
-      ∙ drop-take offset (length loaded - offset) image ∙ ap (λ n. take n (drop offset image)) (sym prefix_length)
 
 -- ---- read-ahead
 

@@ -1,6 +1,6 @@
 -- Runs that are aborted, and runs that print a text.
 use Rattle.std.proofs.Common.{◌≡◌, ℕ, ◌≤◌, List, Option, refl, length, take, arith}
-use Rattle.luks_io.proofs.Consuming.{adds-none}
+use Rattle.luks_io.proofs.EffectLemmas.{adds-none}
 use Rattle.luks_io.specs.Devices.{Appended}
 use Rattle.luks_report.specs.declared.message.Message.{Message}
 use Rattle.luks_report.specs.declared.message.Message.TheVariants.{OutOfMemory, ReadFailed, WriteFailed}

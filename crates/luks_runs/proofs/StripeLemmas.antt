@@ -4,7 +4,7 @@ use Rattle.std.proofs.Common.{sym, refl, take, drop, length, take-take, length-t
 use Rattle.std.proofs.Common.{false, subst, length-drop, take_all, zero-mul, suc}
 use Rattle.std.proofs.lemmas.List.{take-append-drop, take-append-le}
 use Rattle.std.proofs.Math.Seq.{take-append-add, take-add}
-use Rattle.std.proofs.lemmas.Bool.{cases_lt}
+use Rattle.std.proofs.lemmas.Bool.{cases_lt, le-leb, lt-leb}
 use Rattle.std.proofs.lemmas.Bool.Decides.{nat_tests}
 use Rattle.std.proofs.Math.Nat.{div-eq_of_lt-le, div-mul-le_self, zero-div, mul-le-mul_right}
 use Rattle.std.proofs.lemmas.Nat.{le-div}
@@ -13,7 +13,7 @@ use Rattle.luks_kdf.specs.declared.hash.Hash.{Hash}
 use Rattle.luks_kdf.specs.Bytes.{xor}
 use Rattle.luks_kdf.specs.Stripes.{AfSplitterModel, splitter_after, splitter_block, stripe_at, merged}
 use Rattle.luks_kdf.proofs.StripesLemmas.{splitter_block-append, merged_by_number, stripe_at-append}
-use Rattle.luks_io.proofs.Consuming.{adds-more, adds-none, consumed-none, consumed_behind}
+use Rattle.luks_io.proofs.EffectLemmas.{adds-more, adds-none, consumed-none, consumed_behind}
 use Rattle.luks_io.specs.Devices.{Appended, ConsumedExactly, ConsumedInto, IfKnown}
 use Rattle.luks_report.specs.declared.message.Message.{Message}
 use Rattle.luks_report.specs.declared.message.Message.TheVariants.{Done, KeyLength, FewRandomBytes, ReadFailed}
@@ -29,19 +29,16 @@ pub is_stripe : (random : List ℕ) (i len : ℕ) (stripe : List ℕ) → stripe
 unfolding stripe_at
 is_stripe random i len stripe is = is
 
--- a whole stripe was read
-module _ (random : List ℕ) (r : Option (List ℕ)) (stripe : List ℕ) (t : ConsumedInto random r stripe
-    (length stripe)) where
-  pub is_next : stripe ≡ take (length stripe) random
-  is_next = sym (take_all (length stripe) stripe (omega arith)) ∙ t.1
-
-  -- a write of the stripe failed
-  pub stripe_torn : (w w' : Option (List ℕ)) (n : ℕ) → n < length stripe → Appended w w' (take n stripe)
-      → ForwardedBytes random r w w' (length stripe) n
-  stripe_torn w w' n few a = record {
-    consumption = t.0;
-    added = subst (Appended w w') (ap (take n) is_next ∙ take-take n (length stripe) random (omega arith)) a;
-  }
+-- a whole stripe was read, and a write of it failed
+pub stripe_torn : (random : List ℕ) (r : Option (List ℕ)) (stripe : List ℕ)
+    → ConsumedInto random r stripe (length stripe) → (w w' : Option (List ℕ)) (n : ℕ) → n < length stripe
+    → Appended w w' (take n stripe) → ForwardedBytes random r w w' (length stripe) n
+stripe_torn random r stripe t w w' n few a =
+    let next : stripe ≡ take (length stripe) random = sym (take_all (length stripe) stripe (omega arith)) ∙ t.1 in
+    record {
+      consumption = t.0;
+      added = subst (Appended w w') (ap (take n) next ∙ take-take n (length stripe) random (omega arith)) a;
+    }
 
 module _ (random : List ℕ) (i len : ℕ) (r b w : Option (List ℕ))
     (p : ForwardedBytes random r b w (i * len) (i * len)) where
@@ -96,38 +93,18 @@ module _ (h : Hash) (count : ℕ) (key random : List ℕ) where
   unfolding split_outcome
   split_consumes_key c few = grind (arith, nat_tests)
 
-  module _ (some : 1 ≤ length key) (capacity : length key ≤ 512) where
-    random_enough : (count - 1) * length key ≤ length random → split_outcome h count key random
-        ≡ record (no_output Done (length key) ((count - 1) * length key))
-        { output = split_stripes h count key (take ((count - 1) * length key) random) }
-    unfolding split_outcome
-    random_enough enough =
-        let both : (nat_lt 0 (length key) && nat_le (length key) 512) ≡ true = grind (arith, nat_tests) in
-        let yes : nat_le ((count - 1) * length key) (length random) ≡ true = grind (arith, nat_tests) in
-        rw (both, yes) refl
-
-    random_few : length random < (count - 1) * length key → split_outcome h count key random
-        ≡ record (no_output FewRandomBytes (length key) (length random))
-        { output = take (length random / length key * length key) random }
-    unfolding split_outcome
-    random_few few =
-        let both : (nat_lt 0 (length key) && nat_le (length key) 512) ≡ true = grind (arith, nat_tests) in
-        let no : nat_le ((count - 1) * length key) (length random) ≡ false = grind (arith, nat_tests) in
-        rw (both, no) refl
-
--- the key was refused, or a read of it failed
-pub runs_without_key : (h : Hash) (count : ℕ) (key random : List ℕ) (message : Message) (k r w : Option (List ℕ))
-    → NoKeyRead key k message → r ≡ Some random
-    → RunMatches (PromptSplit (length key)) (split_outcome h count key random) message (ConsumedExactly key k)
-    (ConsumedExactly random r) (Appended w w)
-runs_without_key h count key random KeyLength k r w refused is =
-    let unread = consumed-none random r is in
-    rw (key_refused h count key random refused.0) (record
-    { as_specified = refl; input = refused.1; payload = refl; secret = unread; output = adds-none w })
-runs_without_key h count key random ReadFailed k r w failed is =
-    aborted_unwritten failed.0 0 (omega arith) (simp (zero-div, zero-mul))
-    (split_consumes_key h count key random failed.0 failed.1) (omega arith) failed.2 (consumed-none random r is)
-runs_without_key h count key random _ k r w p is = absurd p
+  -- the key was refused, or a read of it failed
+  pub runs_without_key : (message : Message) (k r w : Option (List ℕ)) → NoKeyRead key k message → r ≡ Some random
+      → RunMatches (PromptSplit (length key)) (split_outcome h count key random) message (ConsumedExactly key k)
+      (ConsumedExactly random r) (Appended w w)
+  runs_without_key KeyLength k r w refused is =
+      let unread = consumed-none random r is in
+      rw (key_refused refused.0) (record
+      { as_specified = refl; input = refused.1; payload = refl; secret = unread; output = adds-none w })
+  runs_without_key ReadFailed k r w failed is =
+      aborted_unwritten failed.0 0 (omega arith) (simp (zero-div, zero-mul)) (split_consumes_key failed.0 failed.1)
+      (omega arith) failed.2 (consumed-none random r is)
+  runs_without_key _ k r w p is = absurd p
 
 -- `consumed` random bytes may be consumed, and the specified output starts with the first `whole` ones
 record MayForward (o : Outcome) (random : List ℕ) (consumed whole : ℕ) : Type 0 where
@@ -136,6 +113,22 @@ record MayForward (o : Outcome) (random : List ℕ) (consumed whole : ℕ) : Typ
   begins : (written : ℕ) → written ≤ whole → take written o.output ≡ take written random
 
 module _ (h : Hash) (count : ℕ) (key random : List ℕ) (some : 1 ≤ length key) (capacity : length key ≤ 512) where
+  random_enough : (count - 1) * length key ≤ length random → split_outcome h count key random
+      ≡ record (no_output Done (length key) ((count - 1) * length key))
+      { output = split_stripes h count key (take ((count - 1) * length key) random) }
+  unfolding split_outcome
+  random_enough enough =
+      let both : (nat_lt 0 (length key) && nat_le (length key) 512) ≡ true = grind (arith, nat_tests) in
+      rw (both, le-leb ((count - 1) * length key) (length random) enough) refl
+
+  random_few : length random < (count - 1) * length key → split_outcome h count key random
+      ≡ record (no_output FewRandomBytes (length key) (length random))
+      { output = take (length random / length key * length key) random }
+  unfolding split_outcome
+  random_few few =
+      let both : (nat_lt 0 (length key) && nat_le (length key) 512) ≡ true = grind (arith, nat_tests) in
+      rw (both, lt-leb ((count - 1) * length key) (length random) few) refl
+
   may_forward : (j consumed : ℕ) → consumed ≤ (count - 1) * length key → consumed ≤ length random
       → j * length key ≤ (count - 1) * length key → j * length key ≤ length random
       → MayForward (split_outcome h count key random) random consumed (j * length key)
@@ -147,9 +140,8 @@ module _ (h : Hash) (count : ℕ) (key random : List ℕ) (some : 1 ≤ length k
             let whole : j ≤ length random / length key = le-div j (length random) (length key) some fits in
             let all = length random / length key * length key in
             let span : j * length key ≤ all = mul-le-mul_right (length key) whole in
-            let long : length (take all random) ≡ all =
-            length-take-le all random (div-mul-le_self (length random) (length key)) in
-            rw (random_few h count key random some capacity lacking) (record {
+            let long = length-take-le all random (div-mul-le_self (length random) (length key)) in
+            rw (random_few lacking) (record {
               within = there;
               fits = omega arith;
               begins = λ written few. take-take written all random (omega arith);
@@ -157,7 +149,7 @@ module _ (h : Hash) (count : ℕ) (key random : List ℕ) (some : 1 ≤ length k
         | inr enough ↦
             let last = xor (splitter_block h (length key) (take needed random) (count - 1)) key in
             let long : length (take needed random) ≡ needed = length-take-le needed random enough in
-            rw (random_enough h count key random some capacity enough) (record {
+            rw (random_enough enough) (record {
               within = within;
               fits = omega (arith, length-append (take needed random) last);
               begins = λ written few. take-append-le written (take needed random) last (omega arith)
@@ -182,7 +174,7 @@ module _ (h : Hash) (count : ℕ) (key random : List ℕ) (some : 1 ≤ length k
         let few : length random < (count - 1) * length key = omega (arith, stop.1, stop.3) in
         let whole : length random / length key ≡ stop.0 = div-eq_of_lt-le (length key) stop.2 stop.3 in
         let p = stop.4 in
-        rw (random_few h count key random some capacity few, whole)
+        rw (random_few few, whole)
         (record { as_specified = refl; input = consumption; payload = refl; secret = p.consumption; output = p.added })
     runs_without_stripes ReadFailed stop =
         let there = stop.5.consumption.within in
@@ -199,15 +191,25 @@ module _ (h : Hash) (count : ℕ) (key random : List ℕ) (some : 1 ≤ length k
         refl stop.5.consumption (rw (may.begins stop.1 (omega (arith, stop.4))) stop.5.added)
     runs_without_stripes _ stop = absurd stop
 
-    -- all random stripes were forwarded, and the last stripe is this one
-    module _ (last : List ℕ) (p : ForwardedBytes random r b w ((count - 1) * length key) ((count - 1) * length key))
-        (last_is : last ≡ xor (splitter_block h (length key) (take ((count - 1) * length key) random) (count - 1)) key)
-        (w' : Option (List ℕ)) where
+    -- all random stripes were forwarded, and the last stripe was made with this splitter
+    module _ (splitter : AfSplitterModel) (is : splitter ≡ splitter_after h (length key) random (count - 1))
+        (p : ForwardedBytes random r b w ((count - 1) * length key) ((count - 1) * length key)) (last : List ℕ)
+        (made : last ≡ xor splitter.block key) (w' : Option (List ℕ)) where
+      -- of the random bytes, the last stripe depends only on those of the random stripes
+      last_is : last ≡ xor (splitter_block h (length key) (take ((count - 1) * length key) random) (count - 1)) key
+      last_is =
+          let n = count - 1 in
+          let prefix = take (n * length key) random in
+          let whole : length prefix ≡ n * length key = length-take-le (n * length key) random p.consumption.within in
+          let same = ap (λ l. splitter_block h (length key) l n) (sym (take-append-drop (n * length key) random))
+          ∙ splitter_block-append h (length key) prefix (drop (n * length key) random) n (omega arith) in
+          made ∙ ap (λ (s : AfSplitterModel). xor s.block key) is ∙ ap (λ d. xor d key) same
+
       -- the last stripe was written
       pub runs_to_end : Appended w w' last → Matches Done w'
       runs_to_end a =
           let all = adds-more b w w' (take ((count - 1) * length key) random) last p.added a in
-          rw (random_enough h count key random some capacity p.consumption.within, ← last_is)
+          rw (random_enough p.consumption.within, ← last_is)
           (record { as_specified = refl; input = consumption; payload = refl; secret = p.consumption; output = all })
 
       -- a write failed within the last stripe
@@ -221,23 +223,10 @@ module _ (h : Hash) (count : ℕ) (key random : List ℕ) (some : 1 ≤ length k
           let begin : take (needed + n) (prefix ++ last) ≡ prefix ++ take n last =
           ap (λ m. take (m + n) (prefix ++ last)) (sym whole) ∙ take-append-add prefix last n in
           let row : (needed + n) / length key ≡ count - 1 = div-eq_of_lt-le (length key) (omega arith) (omega arith) in
-          rw (random_enough h count key random some capacity p.consumption.within)
+          rw (random_enough p.consumption.within)
           (aborted_at (length key) 0 needed (needed + n) (rw (← last_is) (omega arith)) (rw row (omega arith))
           (omega arith) (omega arith) (omega arith) consumption refl p.consumption
           (rw (← last_is, begin) (adds-more b w w' prefix (take n last) p.added a)))
-
--- of the random bytes, the last stripe depends only on those of the random stripes, and not on the bytes after them
-pub last_stripe : (h : Hash) (n : ℕ) (key random : List ℕ) (splitter : AfSplitterModel)
-    → splitter ≡ splitter_after h (length key) random n → n * length key ≤ length random
-    → (last : List ℕ) → last ≡ xor splitter.block key
-    → last ≡ xor (splitter_block h (length key) (take (n * length key) random) n) key
-last_stripe h n key random splitter is there last made =
-    let prefix = take (n * length key) random in
-    let whole : length prefix ≡ n * length key = length-take-le (n * length key) random there in
-    let same : splitter_block h (length key) random n ≡ splitter_block h (length key) prefix n =
-    ap (λ l. splitter_block h (length key) l n) (sym (take-append-drop (n * length key) random))
-    ∙ splitter_block-append h (length key) prefix (drop (n * length key) random) n (omega arith) in
-    made ∙ ap (λ (s : AfSplitterModel). xor s.block key) is ∙ ap (λ d. xor d key) same
 
 module _ (bytes : List ℕ) (i len : ℕ) (s : Option (List ℕ)) (p : ConsumedExactly bytes s (i * len)) where
   -- one whole stripe more
@@ -266,12 +255,11 @@ module _ (h : Hash) (count len : ℕ) (bytes : List ℕ) where
   stripes_enough : count * len ≤ length bytes → merge_outcome h count len bytes
       ≡ record (no_output Done (count * len) 0) { output = merged h len (take (count * len) bytes) }
   unfolding merge_outcome
-  stripes_enough enough = let yes : nat_le (count * len) (length bytes) ≡ true = grind (arith, nat_tests) in rw yes refl
+  stripes_enough enough = rw (le-leb (count * len) (length bytes) enough) refl
 
   stripes_few : length bytes < count * len → merge_outcome h count len bytes ≡ no_output FewStripes (length bytes) 0
   unfolding merge_outcome
-  stripes_few few = let no_more : nat_le (count * len) (length bytes)
-      ≡ false = grind (arith, nat_tests) in rw no_more refl
+  stripes_few few = rw (lt-leb (count * len) (length bytes) few) refl
 
   -- merging consumes at least as many bytes as are both needed and there
   merge_consumes_within : (consumed : ℕ) → consumed ≤ count * len → consumed ≤ length bytes
@@ -279,26 +267,25 @@ module _ (h : Hash) (count len : ℕ) (bytes : List ℕ) where
   unfolding merge_outcome
   merge_consumes_within consumed needed there = grind (arith, nat_tests)
 
--- there were too few stripes, or a read of them failed
-pub merges_without_stripes : (h : Hash) (count len : ℕ) (bytes : List ℕ) (message : Message) (s w : Option (List ℕ))
-    → AbortsReadingStripes count len bytes s message
-    → RunMatches AnyPromptness (merge_outcome h count len bytes) message (ConsumedExactly bytes s) ConsumedNothing
-    (Appended w w)
-merges_without_stripes h count len bytes FewStripes s w stop =
-    rw (stripes_few h count len bytes stop.0) (record
-    { as_specified = refl; input = stop.1; payload = refl; secret = refl; output = adds-none w })
-merges_without_stripes h count len bytes ReadFailed s w stop =
-    aborted_unwritten stop.0 0 (omega arith) tt (merge_consumes_within h count len bytes stop.0 stop.1 stop.2.within)
-    (omega arith) stop.2 refl
-merges_without_stripes h count len bytes _ s w stop = absurd stop
+  -- there were too few stripes, or a read of them failed
+  pub merges_without_stripes : (message : Message) (s w : Option (List ℕ))
+      → AbortsReadingStripes count len bytes s message
+      → RunMatches AnyPromptness (merge_outcome h count len bytes) message (ConsumedExactly bytes s) ConsumedNothing
+      (Appended w w)
+  merges_without_stripes FewStripes s w stop =
+      rw (stripes_few stop.0) (record
+      { as_specified = refl; input = stop.1; payload = refl; secret = refl; output = adds-none w })
+  merges_without_stripes ReadFailed s w stop =
+      aborted_unwritten stop.0 0 (omega arith) tt (merge_consumes_within stop.0 stop.1 stop.2.within) (omega arith)
+      stop.2 refl
+  merges_without_stripes _ s w stop = absurd stop
 
-module _ (h : Hash) (count len : ℕ) (bytes : List ℕ) (s w w' : Option (List ℕ)) (key : List ℕ)
-    (p : ConsumedExactly bytes s (count * len)) (key_is : key ≡ merged h len (take (count * len) bytes)) where
   -- the key was written, whole or in part
-  pub runs_with_key : (message : Message) → Prints key Done w w' message
+  pub runs_with_key : (s w w' : Option (List ℕ)) (key : List ℕ) → ConsumedExactly bytes s (count * len)
+      → key ≡ merged h len (take (count * len) bytes) → (message : Message) → Prints key Done w w' message
       → RunMatches AnyPromptness (merge_outcome h count len bytes) message (ConsumedExactly bytes s) ConsumedNothing
       (Appended w w')
-  runs_with_key message printed = rw (stripes_enough h count len bytes p.within, ← key_is)
+  runs_with_key s w w' key p key_is message printed = rw (stripes_enough p.within, ← key_is)
       (runs_printed (record (no_output Done (count * len) 0) { output = key }) (ConsumedExactly bytes s)
       ConsumedNothing w w' message p refl refl printed)
 
@@ -315,11 +302,9 @@ key_merged h count len bytes splitter stripe key some one there chained next mad
     let all : suc before ≡ count = omega arith in
     let up : suc before * len ≡ count * len = ap (λ n. n * len) all in
     let joined : prefix ++ drop (count * len) bytes ≡ bytes = take-append-drop (count * len) bytes in
-    let same_chain : splitter_block h len bytes before ≡ splitter_block h len prefix before =
-    ap (λ l. splitter_block h len l before) (sym joined)
+    let same_chain = ap (λ l. splitter_block h len l before) (sym joined)
     ∙ splitter_block-append h len prefix (drop (count * len) bytes) before (omega arith) in
-    let same_stripe : stripe_at len bytes before ≡ stripe_at len prefix before =
-    ap (λ l. stripe_at len l before) (sym joined)
+    let same_stripe = ap (λ l. stripe_at len l before) (sym joined)
     ∙ stripe_at-append len prefix (drop (count * len) bytes) before (omega arith) in
     made ∙ ap (λ (s : AfSplitterModel). xor s.block stripe) chained ∙ ap (λ d. xor d stripe) same_chain
     ∙ ap (xor (splitter_block h len prefix before)) (next ∙ same_stripe)

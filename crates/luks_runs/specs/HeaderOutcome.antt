@@ -4,7 +4,7 @@ use Rattle.luks_header.specs.Header.{header_read_len, header_of}
 use Rattle.luks_header.specs.declared.header.Header.{Header}
 use Rattle.luks_area.specs.declared.fault.HeaderFault.{HeaderFault}
 use Rattle.luks_area.specs.declared.fault.HeaderFault.TheVariants.{NotLuks}
-use Rattle.luks_report.specs.CheckOutput.{check_of, message_for_check}
+use Rattle.luks_report.specs.Texts.{check_of, message_for_check}
 use Rattle.luks_report.specs.Dump.{dump_of, uuid_of}
 use Rattle.luks_report.specs.Faults.{message_for_header}
 use Rattle.luks_report.specs.declared.message.Message.{Message}

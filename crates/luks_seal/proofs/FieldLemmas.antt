@@ -7,6 +7,11 @@ use Rattle.std.proofs.lemmas.List.{take-append-le, take-take, take_all}
 use Rattle.luks_area.specs.Fields.{at}
 use Rattle.luks_seal.specs.Pieces.{padded}
 
+-- the bytes are in the image at this offset
+pub record IsThere (place : ℕ) (bytes image : List ℕ) : Type 0 where
+  pub within : place + length bytes ≤ length image
+  pub is : at place (length bytes) image ≡ bytes
+
 -- a part that is within the first of two lists
 pub at_first : (place len : ℕ) (xs ys : List ℕ) → place + len ≤ length xs → at place len (xs ++ ys) ≡ at place len xs
 at_first place len xs ys there =

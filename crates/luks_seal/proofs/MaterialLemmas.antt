@@ -1,7 +1,7 @@
 -- What consists of bytes: digests, derived keys, stripes and padded fields. Key material: the stripes of a key in whole
 -- sectors, encrypted.
 use Rattle.std.proofs.Common.{ℕ, zero, suc, ◌-◌, List, [], ◌∷◌, ◌++◌, length, replicate, slice_index, arith, ◌≡◌, ◌∙◌}
-use Rattle.std.proofs.Common.{◌+◌, ◌*◌, ◌/◌, ◌<◌, ◌≤◌, refl, sym, ap, length-append, Some, mul-le-mul_right}
+use Rattle.std.proofs.Common.{◌+◌, ◌*◌, ◌/◌, ◌<◌, ◌≤◌, refl, sym, ap, length-append, mul-le-mul_right}
 use Rattle.std.specs.Int.{div_ceil, to_be_bytes, w32, w64}
 use Rattle.std.specs.Int.Bits.{xor_lt}
 use Rattle.sha1.specs.Sha1.{digest_bytes as digest1_bytes, sha1}
@@ -17,15 +17,14 @@ use Rattle.luks_kdf.specs.declared.hash.Hash.TheVariants.{Sha1, Sha224, Sha256, 
 use Rattle.luks_seal.specs.Pieces.{padded, stripes_of, encrypted_material, wrapping_number, sector_padded}
 use Rattle.luks_kdf.specs.Hmac.{hmac_of}
 use Rattle.luks_kdf.specs.Pbkdf2.{derived_key, t_of, u_of}
-use Rattle.luks_area.specs.Fields.{at}
-use Rattle.luks_cipher.specs.declared.mode.Mode.{Mode}
+use Rattle.luks_cipher.specs.Sector.{Cipher}
 use Rattle.luks_kdf.proofs.BytesLemmas.{length-xor}
 use Rattle.luks_kdf.proofs.StripesLemmas.{length-splitter_block}
 use Rattle.luks_verdict.specs.Rule.{need_of}
 use Rattle.luks_verdict.specs.declared.slot.SlotParts.{SlotParts}
-use Rattle.luks_seal.specs.Sealed.{GivesKey, IsMaterial, IsStoredEncrypted}
+use Rattle.luks_seal.specs.Sealed.{IsMaterial, IsStoredEncrypted}
 use Rattle.luks_seal.proofs.SectorLemmas.{length-sectors_encrypted, sectors_are_stored}
-use Rattle.luks_seal.proofs.FieldLemmas.{length-padded, padded_begins}
+use Rattle.luks_seal.proofs.FieldLemmas.{IsThere, length-padded, padded_begins}
 
 pub zeros_bytes : (n : ℕ) → IsBytes (replicate n 0)
 zeros_bytes zero = bytes_nil
@@ -73,16 +72,13 @@ joined_bytes piece zero each = bytes_nil
 joined_bytes piece (suc n) each = bytes_append _ _ (joined_bytes piece n each) (each n)
 
 -- a diffused block consists of bytes, whatever the block was
-diffused_bytes : (h : Hash) (block : List ℕ) → IsBytes (diffused h block)
-unfolding diffused diffused_piece
-diffused_bytes h block =
+chain_bytes : (h : Hash) (len : ℕ) (stripes : List ℕ) (i : ℕ) → IsBytes (splitter_block h len stripes i)
+unfolding splitter_block diffused diffused_piece
+chain_bytes h len stripes zero = zeros_bytes len
+chain_bytes h len stripes (suc i) =
+    let block = xor (splitter_block h len stripes i) (stripe_at len stripes i) in
     joined_bytes (diffused_piece h block) (div_ceil (length block) (digest_len h))
     (λ j. bytes_take (length (piece_of h block j)) _ (hash_bytes h (to_be_bytes w32 j ++ piece_of h block j)))
-
-chain_bytes : (h : Hash) (len : ℕ) (stripes : List ℕ) (i : ℕ) → IsBytes (splitter_block h len stripes i)
-unfolding splitter_block
-chain_bytes h len stripes zero = zeros_bytes len
-chain_bytes h len stripes (suc i) = diffused_bytes h (xor (splitter_block h len stripes i) (stripe_at len stripes i))
 
 pub xor_bytes : (xs ys : List ℕ) → IsBytes xs → IsBytes ys → IsBytes (xor xs ys)
 unfolding xor
@@ -108,16 +104,12 @@ padded_bytes capacity xs all = bytes_append xs _ all (zeros_bytes (capacity - le
 
 -- ---- keys that PBKDF2 derives, whatever they are derived from
 
-u_bytes : (h : Hash) (password salt : List ℕ) (i j : ℕ) → IsBytes (u_of h password salt i (suc j))
-unfolding u_of hmac_of
-u_bytes h password salt i j = hash_bytes h _
-
 t_bytes : (h : Hash) (password salt : List ℕ) (i c : ℕ) → IsBytes (t_of h password salt i c)
-unfolding t_of
+unfolding t_of u_of hmac_of
 t_bytes h password salt i zero = zeros_bytes (digest_len h)
 t_bytes h password salt i (suc c) =
     xor_bytes (t_of h password salt i c) (u_of h password salt i (suc c)) (t_bytes h password salt i c)
-    (u_bytes h password salt i c)
+    (hash_bytes h _)
 
 pub derived_bytes : (h : Hash) (password salt : List ℕ) (c n : ℕ) → IsBytes (derived_key h password salt c n)
 unfolding derived_key
@@ -160,18 +152,33 @@ module _ (af : Hash) (key : List ℕ) (count : ℕ) (random : List ℕ) (drawn :
       omega (arith, all, drawn.len, last, length-append random (xor chain key), length-xor chain key last)
 
   -- encrypted, they are as long as the key material of a slot
-  pub length-material : (mode : Mode) (area_key : List ℕ)
-      → length (encrypted_material (mode, area_key) (stripes_of af key count random)) ≡ need_of (length key) count
+  pub length-material : (cipher : Cipher)
+      → length (encrypted_material cipher (stripes_of af key count random)) ≡ need_of (length key) count
   unfolding need_of encrypted_material
-  length-material mode area_key =
+  length-material cipher =
       let stripes = stripes_of af key count random in
       let len = length-whole_sectors stripes in
-      length-sectors_encrypted (mode, area_key) 0 1 512 (sector_padded stripes) refl (omega (arith, len))
+      length-sectors_encrypted cipher 0 1 512 (sector_padded stripes) refl (omega (arith, len))
       ∙ len
       ∙ ap (λ n. (n + 511) / 512 * 512) length-stripes_of
 
+  -- if an image has them encrypted at this offset, they are stored encrypted there, in whole sectors
+  pub material_is_stored : (cipher : Cipher) (place : ℕ) (image : List ℕ) → IsBytes key → IsBytes random
+      → IsThere place (encrypted_material cipher (stripes_of af key count random)) image
+      → IsStoredEncrypted cipher (λ i. i) 512 place (sector_padded (stripes_of af key count random)) image
+  unfolding encrypted_material
+  material_is_stored cipher place image bytes random_bytes found =
+      let stripes = stripes_of af key count random in
+      let len = length-whole_sectors stripes in
+      let most = mul-le-mul_right {m = length key} {n = 64} count drawn.key_most in
+      let few : length stripes ≤ 256000 = omega (arith, length-stripes_of, most, drawn.few) in
+      let same : (i : ℕ) → i < length (sector_padded stripes) / 512 → wrapping_number 0 1 i ≡ i =
+      λ i low. omega (arith, len, few) in
+      sectors_are_stored cipher 0 1 512 (sector_padded stripes) refl (omega (arith, len)) (λ i. i) same place image
+      (whole_sectors_bytes stripes (stripes_bytes af key count random bytes random_bytes)) found
+
 -- the stripes in whole sectors are key material of the key
-made_material : (af : Hash) (parts : SlotParts) (key random : List ℕ) → AreRandomStripes key parts.stripes random
+pub made_material : (af : Hash) (parts : SlotParts) (key random : List ℕ) → AreRandomStripes key parts.stripes random
     → IsMaterial af parts key (sector_padded (stripes_of af key parts.stripes random))
 unfolding stripes_of need_of sector_padded
 made_material af parts key random drawn =
@@ -185,62 +192,4 @@ made_material af parts key random drawn =
         padded_begins (length key * parts.stripes) (div_ceil (length stripes) 512 * 512) stripes (sym long),
       );
       len = length-whole_sectors stripes ∙ ap (λ n. (n + 511) / 512 * 512) long;
-    }
-
--- ---- key material in an image
-
--- encrypted key material that an image has at this offset is stored encrypted there
-material_is_stored : (mode : Mode) (area_key stripes : List ℕ) (place : ℕ) (image : List ℕ) → IsBytes stripes
-    → length stripes ≤ 256000
-    → place + length (sector_padded stripes) ≤ length image
-    → at place (length (sector_padded stripes)) image ≡ encrypted_material (mode, area_key) stripes
-    → IsStoredEncrypted (mode, area_key) (λ i. i) 512 place (sector_padded stripes) image
-unfolding encrypted_material
-material_is_stored mode area_key stripes place image bytes few there is =
-    let len = length-whole_sectors stripes in
-    let same : (i : ℕ) → i < length (sector_padded stripes) / 512 → wrapping_number 0 1 i ≡ i =
-    λ i low. omega (arith, len) in
-    sectors_are_stored (mode, area_key) 0 1 512 (sector_padded stripes) refl (omega (arith, len)) (λ i. i) same place
-    image (whole_sectors_bytes stripes bytes) there is
-
--- what a key slot with these parts is made from
-pub record IsMade (parts : SlotParts) (kdf af : Hash) (mode : Mode) (key random : List ℕ) : Type 0 where
-  pub is_kdf : parts.kdf_hash ≡ Some kdf
-  pub is_af : parts.af_hash ≡ Some af
-  pub is_mode : parts.area_mode ≡ Some mode
-  pub key_bytes : parts.key_bytes ≡ length key
-  pub drawn : AreRandomStripes key parts.stripes random
-  pub bytes : IsBytes key
-  pub random_bytes : IsBytes random
-
--- a key slot whose area has the encrypted stripes of the key gives the key
-pub gives_key : (parts : SlotParts) (kdf af : Hash) (mode : Mode) (passphrase key random image : List ℕ)
-    → IsMade parts kdf af mode key random
-    → parts.area_offset + need_of (length key) parts.stripes ≤ length image
-    → at parts.area_offset (need_of (length key) parts.stripes) image
-    ≡ encrypted_material (mode, derived_key kdf passphrase parts.salt parts.iterations parts.area_key_bytes)
-    (stripes_of af key parts.stripes random)
-    → GivesKey parts passphrase key image
-gives_key parts kdf af mode passphrase key random image made there is =
-    let stripes = stripes_of af key parts.stripes random in
-    let long = length-stripes_of af key parts.stripes random made.drawn in
-    let material = made_material af parts key random made.drawn in
-    let area_key = derived_key kdf passphrase parts.salt parts.iterations parts.area_key_bytes in
-    let few : length key * parts.stripes ≤ 64 * parts.stripes =
-    mul-le-mul_right {m = length key} {n = 64} parts.stripes made.drawn.key_most in
-    record {
-      kdf = kdf;
-      af = af;
-      mode = mode;
-      is_kdf = made.is_kdf;
-      is_af = made.is_af;
-      is_mode = made.is_mode;
-      key_bytes = made.key_bytes;
-      material = sector_padded stripes;
-      is_material = material;
-      is_stored = material_is_stored mode area_key stripes parts.area_offset image
-          (stripes_bytes af key parts.stripes random made.bytes made.random_bytes)
-          (omega (arith, long, few, made.drawn.few))
-          (omega (arith, there, material.len))
-          (ap (λ n. at parts.area_offset n image) material.len ∙ is);
     }

@@ -5,10 +5,10 @@ use Rattle.luks_area.specs.Area.{max_loaded_len}
 use Rattle.luks_area.specs.Fields.{text_of}
 use Rattle.luks_cipher.specs.Sector.{mode_named, mode_name}
 use Rattle.luks_cipher.specs.declared.mode.Mode.{Mode}
-use Rattle.luks_cipher.specs.declared.mode.Mode.TheVariants.{XtsPlain64, XtsPlain, CbcEssivSha256, CbcPlain64}
+use Rattle.luks_cipher.specs.declared.mode.Mode.TheVariants.{XtsPlain64}
 use Rattle.luks_kdf.specs.Hash.{hash_named, hash_name}
 use Rattle.luks_kdf.specs.declared.hash.Hash.{Hash}
-use Rattle.luks_kdf.specs.declared.hash.Hash.TheVariants.{Sha1, Sha224, Sha256, Sha384, Sha512}
+use Rattle.luks_kdf.specs.declared.hash.Hash.TheVariants.{Sha1}
 use Rattle.luks_verdict.specs.Rule.{area_out_of_range, is_digest, iterations_out_of_range, max_digest_len}
 use Rattle.luks_verdict.specs.Rule.{max_iteration_count, max_stripes, min_digest_len, stripes_out_of_range}
 use Rattle.luks_seal.specs.Pieces.{padded}
@@ -23,8 +23,7 @@ iterations_fit iterations some few =
 pub stripes_fit : (stripes : ℕ) → 1 ≤ stripes → stripes ≤ 4000 → stripes_out_of_range stripes ≡ false
 unfolding stripes_out_of_range
 stripes_fit stripes some few =
-    let not_none : stripes ≢ 0 = λ none. omega (arith, some, none) in
-    rw (ne_eqb stripes 0 not_none, le-ltb max_stripes stripes few) refl
+    rw (ne_eqb stripes 0 (λ none. omega (arith, some, none)), le-ltb max_stripes stripes few) refl
 
 pub digest_fits : (iterations len : ℕ) → 1 ≤ iterations → iterations < 2 ^ 32 → 20 ≤ len → len ≤ 64
     → is_digest iterations len ≡ true
@@ -57,14 +56,9 @@ cipher_is_named = record { len = refl; read = refl; by_name = refl }
 pub mode_is_named : (mode : Mode) → IsName mode_named mode (mode_name mode)
 unfolding padded
 mode_is_named XtsPlain64 = record { len = refl; read = refl; by_name = refl }
-mode_is_named XtsPlain = record { len = refl; read = refl; by_name = refl }
-mode_is_named CbcEssivSha256 = record { len = refl; read = refl; by_name = refl }
-mode_is_named CbcPlain64 = record { len = refl; read = refl; by_name = refl }
+mode_is_named _ = record { len = refl; read = refl; by_name = refl }
 
 pub hash_is_named : (hash : Hash) → IsName hash_named hash (hash_name hash)
 unfolding padded
 hash_is_named Sha1 = record { len = refl; read = refl; by_name = refl }
-hash_is_named Sha224 = record { len = refl; read = refl; by_name = refl }
-hash_is_named Sha256 = record { len = refl; read = refl; by_name = refl }
-hash_is_named Sha384 = record { len = refl; read = refl; by_name = refl }
-hash_is_named Sha512 = record { len = refl; read = refl; by_name = refl }
+hash_is_named _ = record { len = refl; read = refl; by_name = refl }

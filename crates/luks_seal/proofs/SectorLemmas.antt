@@ -1,8 +1,7 @@
 -- Pieces that are joined, sectors that are each encrypted by themselves and stored in an image as `Sealed` states, and
 -- the image of a volume of either format: headers, areas, zeros up to the payload, and the payload.
-use Rattle.std.proofs.Common.{◌≡◌, ◌∙◌, ℕ, ◌+◌, ◌-◌, ◌*◌, ◌/◌, ◌<◌, List, ◌++◌, length, take, drop, refl, ap, arith}
-use Rattle.std.proofs.Common.{add-one, append_assoc, zero, suc, ◌%◌, ◌≤◌, inl, inr, sym, length-append}
-use Rattle.std.proofs.Common.{mul-le-mul_right}
+use Rattle.std.proofs.Common.{◌≡◌, ◌∙◌, ℕ, ◌+◌, ◌-◌, ◌*◌, ◌/◌, ◌<◌, List, ◌++◌, length, take, drop, refl, ap, suc, sym}
+use Rattle.std.proofs.Common.{add-one, append_assoc, zero, arith, ◌%◌, ◌≤◌, inl, inr, length-append, mul-le-mul_right}
 use Rattle.std.proofs.lemmas.Grind.{common_steps}
 use Rattle.luks_cipher.specs.Sector.{Cipher, sector_encrypted}
 use Rattle.luks_kdf.specs.Bytes.{joined}
@@ -17,7 +16,7 @@ use Rattle.luks_cipher.specs.declared.mode.Mode.TheVariants.{XtsPlain64, XtsPlai
 use Rattle.luks_cipher.proofs.ModeLemmas.{blocks_length}
 use Rattle.luks_seal.specs.Sealed.{IsStoredEncrypted}
 use Rattle.luks_seal.proofs.FieldLemmas.{at_at, at_first, at_second, length-at, at_inside, at_padded, at_within_second}
-use Rattle.luks_seal.proofs.FieldLemmas.{length-padded}
+use Rattle.luks_seal.proofs.FieldLemmas.{IsThere, length-padded, padded_begins}
 
 -- one more piece is appended to those that follow the first bytes
 pub pieces_more : (piece : ℕ → List ℕ) (n : ℕ) (first before after : List ℕ) → before ≡ first ++ joined piece n
@@ -103,17 +102,14 @@ module _ (f : ℕ → List ℕ) (size : ℕ) where
 -- each whole sector ends within the bytes
 sector_within : (len size i : ℕ) → len % size ≡ 0 → i < len / size → i * size + size ≤ len
 sector_within len size i whole low =
-    let capacity : (i + 1) * size ≤ len / size * size = mul-le-mul_right {m = i + 1} {n = len / size} size
-    (omega arith) in
-    omega (arith, capacity)
+    omega (arith, mul-le-mul_right {m = i + 1} {n = len / size} size (omega arith))
 
 module _ (cipher : Cipher) (first step size : ℕ) (plain : List ℕ) (blocks : size % 16 ≡ 0)
     (whole : length plain % size ≡ 0) where
   sector_length : (i : ℕ) → i < length plain / size → length (encrypted_sector cipher first step size plain i) ≡ size
   unfolding encrypted_sector
   sector_length i low =
-      let is : length (sector_at size plain i) ≡ size =
-      length-at (i * size) size plain (sector_within (length plain) size i whole low) in
+      let is = length-at (i * size) size plain (sector_within (length plain) size i whole low) in
       length-sector_encrypted cipher (wrapping_number first step i) (sector_at size plain i) (rw is blocks) ∙ is
 
   -- encryption keeps the length of whole sectors
@@ -123,39 +119,35 @@ module _ (cipher : Cipher) (first step size : ℕ) (plain : List ℕ) (blocks : 
       pieces_length (encrypted_sector cipher first step size plain) size (length plain / size) sector_length
       ∙ omega arith
 
-  sector_is : (i : ℕ) → i < length plain / size
-      → at (i * size) size (sectors_encrypted cipher first step size plain)
-      ≡ sector_encrypted cipher.0 cipher.1 (wrapping_number first step i) (at (i * size) size plain)
-  unfolding sectors_encrypted encrypted_sector
-  sector_is i low =
-      piece_at (encrypted_sector cipher first step size plain) size (length plain / size) i sector_length low
-
   -- if an image has the encrypted sectors at this offset, the sectors are stored encrypted there, under their numbers
   pub sectors_are_stored : (number : ℕ → ℕ)
       → ((i : ℕ) → i < length plain / size → wrapping_number first step i ≡ number i) → (place : ℕ) (image : List ℕ)
-      → IsBytes plain → place + length plain ≤ length image
-      → at place (length plain) image ≡ sectors_encrypted cipher first step size plain
+      → IsBytes plain → IsThere place (sectors_encrypted cipher first step size plain) image
       → IsStoredEncrypted cipher number size place plain image
-  sectors_are_stored number same place image bytes there is = record {
+  unfolding sectors_encrypted encrypted_sector
+  sectors_are_stored number same place image bytes found = record {
     bytes = bytes;
     whole = whole;
-    there = there;
+    there = omega (arith, found.within, length-sectors_encrypted);
     units = λ i low.
         sym (at_at (i * size) size place (length plain) image (sector_within (length plain) size i whole low))
-        ∙ (ap (at (i * size) size) is
-        ∙ (sector_is i low
-        ∙ ap (λ n. sector_encrypted cipher.0 cipher.1 n (at (i * size) size plain)) (same i low)));
+        ∙ (ap (λ n. at (i * size) size (at place n image)) (sym length-sectors_encrypted)
+        ∙ (ap (at (i * size) size) found.is
+        ∙ (piece_at (encrypted_sector cipher first step size plain) size (length plain / size) i sector_length low
+        ∙ ap (λ n. sector_encrypted cipher.0 cipher.1 n (at (i * size) size plain)) (same i low))));
   }
 
 -- ---- an image
 
--- where an image has its parts: the headers are followed by the areas, and the plaintext is stored from `start` on
+-- where an image has its parts: the headers are followed by the areas, of which each begins with its key material, and
+-- the plaintext is stored from `start` on
 pub record IsImage (image headers : List ℕ) (area : ℕ → List ℕ) (count start : ℕ) (cipher : Cipher) (number : ℕ → ℕ)
     (size : ℕ) (plain : List ℕ) : Type 0 where
   pub len : length image ≡ start + length plain
   pub in_headers : (place n : ℕ) → place + n ≤ length headers → at place n image ≡ at place n headers
-  pub in_area : (k place n : ℕ) → k < count → place ≡ length headers + length (joined area k) → n ≤ length (area k)
-      → at place n image ≡ at 0 n (area k)
+  pub in_area : (k place capacity : ℕ) (material : List ℕ) → k < count
+      → place ≡ length headers + length (joined area k) → area k ≡ padded capacity material
+      → length material ≤ capacity → IsThere place material image
   pub stored : (place : ℕ) → place ≡ start → IsStoredEncrypted cipher number size place plain image
 
 module _ (headers : List ℕ) (area : ℕ → List ℕ) (count start : ℕ) (payload : List ℕ)
@@ -171,20 +163,24 @@ module _ (headers : List ℕ) (area : ℕ → List ℕ) (count start : ℕ) (pay
       at_first place n (padded start before) payload (omega (arith, length-prefix))
       ∙ at_padded place n start before (omega (arith, length-append headers (joined area count)))
 
-  headers_there : (place n : ℕ) → place + n ≤ length headers
-      → at place n (padded start (headers ++ joined area count) ++ payload) ≡ at place n headers
-  headers_there place n inside =
-      before_there place n (omega arith) ∙ at_first place n headers (joined area count) inside
-
-  area_there : (k place n : ℕ) → k < count → place ≡ length headers + length (joined area k) → n ≤ length (area k)
-      → at place n (padded start (headers ++ joined area count) ++ payload) ≡ at 0 n (area k)
-  area_there k place n low is inside =
+  area_there : (k place capacity : ℕ) (material : List ℕ) → k < count
+      → place ≡ length headers + length (joined area k) → area k ≡ padded capacity material
+      → length material ≤ capacity
+      → IsThere place material (padded start (headers ++ joined area count) ++ payload)
+  area_there k place capacity material low starts is enough =
+      let prefix = padded start (headers ++ joined area count) in
       let offset = length (joined area k) in
       let within = piece_within area count k low in
-      before_there place n (omega (arith, within))
-      ∙ at_within_second place offset n headers (joined area count) is
-      ∙ at_inside offset 0 n offset (length (area k)) (joined area count) (area k) (omega arith) (omega arith)
-      (piece_there area count k low)
+      let long : length (area k) ≡ capacity = ap length is ∙ length-padded capacity material enough in
+      record {
+        within = omega (arith, starts, within, long, fits, length-prefix, length-append prefix payload);
+        is = before_there place (length material) (omega (arith, starts, within, long))
+            ∙ at_within_second place offset (length material) headers (joined area count) starts
+            ∙ at_inside offset 0 (length material) offset (length (area k)) (joined area count) (area k) (omega arith)
+            (omega (arith, long)) (piece_there area count k low)
+            ∙ ap (at 0 (length material)) is
+            ∙ padded_begins (length material) capacity material refl;
+      }
 
 -- the image that is put together from these parts, with a plaintext of whole sectors
 pub image_made : (headers : List ℕ) (area : ℕ → List ℕ) (count start : ℕ) (cipher : Cipher) (first step size : ℕ)
@@ -197,14 +193,16 @@ image_made headers area count start cipher first step size plain fits blocks who
     let payload = sectors_encrypted cipher first step size plain in
     let begins = length-prefix headers area count start payload fits in
     let long = length-sectors_encrypted cipher first step size plain blocks whole in
-    let all : length (prefix ++ payload) ≡ start + length plain =
-    omega (arith, length-append prefix payload, begins, long) in
     record {
-      len = all;
-      in_headers = headers_there headers area count start payload fits;
+      len = omega (arith, length-append prefix payload, begins, long);
+      in_headers = λ place n inside.
+          before_there headers area count start payload fits place n (omega (arith, inside))
+          ∙ at_first place n headers (joined area count) inside;
       in_area = area_there headers area count start payload fits;
       stored = λ place is.
           sectors_are_stored cipher first step size plain blocks whole (wrapping_number first step) (λ i low. refl)
-          place (prefix ++ payload) bytes (omega (arith, is, all))
-          (at_second place (length plain) prefix payload (is ∙ sym begins) long);
+          place (prefix ++ payload) bytes (record {
+            within = omega (arith, is, begins, length-append prefix payload);
+            is = at_second place (length payload) prefix payload (is ∙ sym begins) refl;
+          });
     }

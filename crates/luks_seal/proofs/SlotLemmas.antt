@@ -1,22 +1,20 @@
 -- Key slots, of which no two have the same number, are found by their numbers; and what is made of an optional one.
 use Rattle.std.proofs.Common.{◌≡◌, ◌≢◌, ◌==◌, ℕ, zero, suc, Bool, true, false, cond, List, [], ◌∷◌, All, find, Some}
-use Rattle.std.proofs.Common.{slice_index_or, subst, sym, refl, arith, eq-eqb, ne_eqb, Option, None}
+use Rattle.std.proofs.Common.{slice_index_or, sym, refl, arith, eq-eqb, ne_eqb, Option, None}
 use Rattle.std.proofs.lemmas.List.Elements.{All-head, All-tail}
-use Rattle.std.proofs.lemmas.Option.{none-some, same_Some}
 use Rattle.luks_seal.specs.Ranges.{AreDistinct}
 use Rattle.std.specs.Option.{option_map_or}
 
--- what holds for each slot holds for one that is found
-pub found_has : {S : Type 0} (P : S → Type 0) (test : S → Bool) (slots : List S) → All P slots
-    → (slot : S) → find test slots ≡ Some slot → P slot
-found_has P test [] all slot is = absurd (none-some slot is)
-found_has P test (first ∷ slots) all slot is =
-    by (test first) (found_has P test slots (All-tail P first slots all) slot) is
+-- what holds of no slot, and of each slot that fits, holds of what is found among slots that fit
+pub found_has : {S : Type 0} (Fits : S → Type 0) (P : Option S → Type 0) (test : S → Bool) (slots : List S)
+    → All Fits slots → P None → ((slot : S) → Fits slot → P (Some slot)) → P (find test slots)
+found_has Fits P test [] all of_none each = of_none
+found_has Fits P test (first ∷ slots) all of_none each =
+    by (test first) (found_has Fits P test slots (All-tail Fits first slots all) of_none each)
   where
-    by : (here : Bool) → (find test slots ≡ Some slot → P slot)
-        → cond here (Some first) (find test slots) ≡ Some slot → P slot
-    by true later is_first = subst P (same_Some first slot is_first) (All-head P first slots all)
-    by false later there = later there
+    by : (here : Bool) → P (find test slots) → P (cond here (Some first) (find test slots))
+    by true later = each first (All-head Fits first slots all)
+    by false later = later
 
 -- each slot is found by its number
 pub found_by_number : {S : Type 0} (number : S → ℕ) (slots : List S) → AreDistinct number slots

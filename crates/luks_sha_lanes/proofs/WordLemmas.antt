@@ -1,53 +1,30 @@
--- The words of digests, and their bytes.
+-- The words of digests, their bytes, and the iterations of chains of digests on these words.
 use Rattle.std.proofs.Common.{◌≡◌, ℕ, zero, suc, ◌+◌, ◌*◌, ◌/◌, ◌%◌, ◌^◌, ◌<◌, ◌≤◌, List, [], ◌∷◌, ◌++◌, length, take}
-use Rattle.std.proofs.Common.{drop, bit_xor, refl, sym, subst, ap, ap₂, ◌∙◌, arith, append_assoc, length-append}
-use Rattle.std.proofs.Common.{length-drop, inl, inr, add_assoc}
-use Rattle.std.specs.Prelude.{slice_index}
-use Rattle.std.specs.Int.{to_be_bytes, w32}
+use Rattle.std.proofs.Common.{drop, replicate, bit_xor, refl, sym, ap, ap₂, ◌∙◌, arith, length-append, length-drop}
+use Rattle.std.proofs.Common.{add_assoc, add-zero, append_assoc, inl, inr}
+use Rattle.std.specs.Prelude.{slice_index, slice_index_or}
+use Rattle.std.specs.Int.{from_be_bytes, to_be_bytes, w32}
 use Rattle.std.specs.Simd.Lanes.{zip2}
 use Rattle.std.proofs.lemmas.Bool.{cases_lt}
-use Rattle.std.proofs.lemmas.List.{get_or-drop, get_or_append_left, get_or_push, length-take, length_push}
-use Rattle.std.proofs.lemmas.List.{take-append-drop, take-append-le, take_all, take_more}
+use Rattle.std.proofs.lemmas.List.{drop-take, get_or-drop, length-take, take-append-le, take-take, take_all}
+use Rattle.std.proofs.lemmas.List.FromFn.{get_or-map-range_with_len}
 use Rattle.std.proofs.Math.Nat.{mul-le-mul_left}
-use Rattle.std.proofs.Math.Seq.{take-append_seam, drop-append_seam}
-use Rattle.std.proofs.lemmas.Nat.{be_bytes_4, xor_mod, xor_shr}
-use Rattle.sha2.specs.Sha256.{digest_bytes, word_at}
-use Rattle.luks_sha_lanes.specs.Chains.{digest_at, xor_words}
-
--- properties of each number below two, four, eight and sixteen
-pub below_two : (P : ℕ → Type 0) → P 0 → P 1 → (j : ℕ) → j < 2 → P j
-below_two P p0 p1 zero h = p0
-below_two P p0 p1 (suc zero) h = p1
-below_two P p0 p1 (suc (suc n)) h = absurd (omega arith)
-
-pub below_four : (P : ℕ → Type 0) → P 0 → P 1 → P 2 → P 3 → (j : ℕ) → j < 4 → P j
-below_four P p0 p1 p2 p3 zero h = p0
-below_four P p0 p1 p2 p3 (suc zero) h = p1
-below_four P p0 p1 p2 p3 (suc (suc zero)) h = p2
-below_four P p0 p1 p2 p3 (suc (suc (suc zero))) h = p3
-below_four P p0 p1 p2 p3 (suc (suc (suc (suc n)))) h = absurd (omega arith)
-
-pub below_eight : (P : ℕ → Type 0) → P 0 → P 1 → P 2 → P 3 → P 4 → P 5 → P 6 → P 7 → (k : ℕ) → k < 8 → P k
-below_eight P a0 a1 a2 a3 b0 b1 b2 b3 k h =
-    let place : 4 * (k / 4) + k % 4 ≡ k = omega arith in
-    subst P place (below_two (λ row. (col : ℕ) → col < 4 → P (4 * row + col))
-    (below_four _ a0 a1 a2 a3) (below_four _ b0 b1 b2 b3) (k / 4) (omega arith) (k % 4) (omega arith))
-
-pub below_sixteen : (P : ℕ → Type 0) → P 0 → P 1 → P 2 → P 3 → P 4 → P 5 → P 6 → P 7
-    → P 8 → P 9 → P 10 → P 11 → P 12 → P 13 → P 14 → P 15 → (k : ℕ) → k < 16 → P k
-below_sixteen P a0 a1 a2 a3 b0 b1 b2 b3 c0 c1 c2 c3 d0 d1 d2 d3 k h =
-    let place : 4 * (k / 4) + k % 4 ≡ k = omega arith in
-    subst P place (below_four (λ row. (col : ℕ) → col < 4 → P (4 * row + col))
-    (below_four _ a0 a1 a2 a3) (below_four _ b0 b1 b2 b3) (below_four _ c0 c1 c2 c3) (below_four _ d0 d1 d2 d3)
-    (k / 4) (omega arith) (k % 4) (omega arith))
+use Rattle.std.proofs.Math.Seq.{take-add, take-append_seam, drop-append_seam}
+use Rattle.std.proofs.lemmas.Nat.{be_bytes_4, from_be_bytes-to_be_bytes_4, xor_mod, xor_shr}
+use Rattle.sha1.specs.Sha1 as Sha1
+use Rattle.sha2.specs.Sha256.{compress, digest_bytes, hash_after, initial_hash_256, padded_message, padding, sha256}
+use Rattle.sha2.specs.Sha256.{word_at}
+use Rattle.luks_sha_lanes.specs.Chains.{chain, chain_xor, digest_at, hmac_by, iterations, sums, xor_words}
+use Rattle.luks_sha_lanes.specs.Lanes.{AllTwice, IsTwice, after_digest, lane, word}
+use Rattle.luks_sha_lanes.proofs.LaneLemmas.{all_twice, below_sixteen, below_two, word_of_lane, word_splat, words_fit}
 
 pub length-digest_bytes : (h : List ℕ) (n : ℕ) → length (digest_bytes h n) ≡ n * 4
 unfolding digest_bytes
 length-digest_bytes h zero = refl
 length-digest_bytes h (suc n) =
     let before = length-digest_bytes h n in
-    let word : length (to_be_bytes w32 (slice_index h n)) ≡ 4 = refl in
-    omega (arith, before, word, length-append (digest_bytes h n) (to_be_bytes w32 (slice_index h n)))
+    let four : length (to_be_bytes w32 (slice_index h n)) ≡ 4 = refl in
+    omega (arith, before, four, length-append (digest_bytes h n) (to_be_bytes w32 (slice_index h n)))
 
 pub take_prefix : (n : ℕ) (xs ys : List ℕ) → length xs ≡ n → take n (xs ++ ys) ≡ xs
 take_prefix n xs ys h = rw (← h) (take-append_seam xs ys)
@@ -81,49 +58,25 @@ xor_digests a b c (suc n) each =
     ∙ ap₂ ◌++◌ (xor_digests a b c n (λ k below. each k (omega arith)))
     (xor_word (slice_index a n) (slice_index b n) ∙ ap (to_be_bytes w32) (sym (each n (omega arith))))
 
-length-xor_words : (n : ℕ) (x y : List ℕ) → length (xor_words n x y) ≡ n
-unfolding xor_words
-length-xor_words zero x y = refl
-length-xor_words (suc n) x y =
-    omega (arith, length_push (xor_words n x y) (bit_xor (slice_index x n) (slice_index y n)), length-xor_words n x y)
-
-slice_index-xor_words : (x y : List ℕ) (n k : ℕ) → k < n
-    → slice_index (xor_words n x y) k ≡ bit_xor (slice_index x k) (slice_index y k)
-unfolding xor_words
-slice_index-xor_words x y zero k h = absurd (omega arith)
-slice_index-xor_words x y (suc n) k h =
-    let last : ℕ = bit_xor (slice_index x n) (slice_index y n) in
-    let long = length-xor_words n x y in
-    elim (cases_lt k n) [
-      | inl before ↦
-          get_or_append_left (xor_words n x y) (last ∷ []) 0 k (omega arith) ∙ slice_index-xor_words x y n k before
-      | inr at ↦
-          let e : k ≡ n = omega arith in
-          rw e (get_or_push (xor_words n x y) last 0 n long)
-    ]
-
 -- the bytes of the XOR of words are the XOR of their bytes
 pub xor_of_words : (n : ℕ) (a b : List ℕ)
     → zip2 bit_xor (digest_bytes a n) (digest_bytes b n) ≡ digest_bytes (xor_words n a b) n
-xor_of_words n a b = xor_digests a b (xor_words n a b) n (slice_index-xor_words a b n)
+unfolding xor_words
+xor_of_words n a b =
+    let sum = λ (k : ℕ). bit_xor (slice_index a k) (slice_index b k) in
+    xor_digests a b (xor_words n a b) n (λ k below. get_or-map-range_with_len sum 0 n k k 0 below (omega arith))
 
 -- ---- words that are read from bytes
 
--- the first i bytes and four more
-take_four : (bs : List ℕ) (i : ℕ) → i + 4 ≤ length bs → take (i + 4) bs
-    ≡ take i bs ++ slice_index bs i ∷ slice_index bs (i + 1) ∷ slice_index bs (i + 2) ∷ slice_index bs (i + 3) ∷ []
-take_four bs i h =
-    let e4 : i + 4 ≡ i + 3 + 1 = omega arith in
-    let e3 : i + 3 ≡ i + 2 + 1 = omega arith in
-    let e2 : i + 2 ≡ i + 1 + 1 = omega arith in
-    let s1 = take_more bs i 0 (omega arith) in
-    let s2 : take (i + 2) bs ≡ take (i + 1) bs ++ slice_index bs (i + 1) ∷ [] =
-    rw e2 (take_more bs (i + 1) 0 (omega arith)) in
-    let s3 : take (i + 3) bs ≡ take (i + 2) bs ++ slice_index bs (i + 2) ∷ [] =
-    ap (λ n. take n bs) e3 ∙ take_more bs (i + 2) 0 (omega arith) in
-    let s4 : take (i + 4) bs ≡ take (i + 3) bs ++ slice_index bs (i + 3) ∷ [] =
-    ap (λ n. take n bs) e4 ∙ take_more bs (i + 3) 0 (omega arith) in
-    rw (s4, s3, s2, s1) (simp append_assoc)
+take_four : (bs : List ℕ) → 4 ≤ length bs
+    → take 4 bs ≡ slice_index bs 0 ∷ slice_index bs 1 ∷ slice_index bs 2 ∷ slice_index bs 3 ∷ []
+take_four (a ∷ b ∷ c ∷ d ∷ bs) long = refl
+take_four _ long = absurd (omega arith)
+
+-- the four bytes from index i on
+four_at : (bs : List ℕ) (i : ℕ) → i + 4 ≤ length bs → take 4 (drop i bs)
+    ≡ slice_index bs i ∷ slice_index bs (i + 1) ∷ slice_index bs (i + 2) ∷ slice_index bs (i + 3) ∷ []
+four_at bs i h = take_four (drop i bs) (omega (arith, length-drop i bs)) ∙ simp (get_or-drop, add-zero)
 
 four_fit : (a b c d : ℕ) → a < 256 → b < 256 → c < 256 → d < 256 → (i : ℕ) → slice_index (a ∷ b ∷ c ∷ d ∷ []) i < 256
 four_fit a b c d ha hb hc hd zero = ha
@@ -139,12 +92,12 @@ words_of_bytes h bs fits zero long each = refl
 words_of_bytes h bs fits (suc n) long each =
     let i = 4 * n in
     let four = slice_index bs i ∷ slice_index bs (i + 1) ∷ slice_index bs (i + 2) ∷ slice_index bs (i + 3) ∷ [] in
-    let word : to_be_bytes w32 (slice_index h n) ≡ four =
+    let last : to_be_bytes w32 (slice_index h n) ≡ take 4 (drop i bs) =
     be_bytes_4 four (slice_index h n) refl (four_fit _ _ _ _ (fits i) (fits (i + 1)) (fits (i + 2)) (fits (i + 3)))
-    (each n (omega arith)) in
+    (each n (omega arith)) ∙ sym (four_at bs i (omega arith)) in
     let next : 4 * suc n ≡ i + 4 = omega arith in
-    ap₂ ◌++◌ (words_of_bytes h bs fits n (omega arith) (λ k below. each k (omega arith))) word
-    ∙ sym (ap (λ m. take m bs) next ∙ take_four bs i (omega arith))
+    ap₂ ◌++◌ (words_of_bytes h bs fits n (omega arith) (λ k below. each k (omega arith))) last
+    ∙ sym (ap (λ m. take m bs) next ∙ take-add i 4 bs)
 
 -- a word of the bytes from index `at` on
 word_from : (bs : List ℕ) (at i : ℕ) → word_at (drop at bs) i ≡ word_at bs (at + i)
@@ -169,13 +122,6 @@ two_digests f a b size one two is_a is_b =
 
 -- ---- digests that are written one after the other
 
-prefix_alone : (a n : ℕ) (prefix x y : List ℕ) → a + n ≤ length prefix
-    → take n (drop a (prefix ++ x)) ≡ take n (drop a (prefix ++ y))
-prefix_alone zero n prefix x y inside =
-    take-append-le n prefix x (omega arith) ∙ sym (take-append-le n prefix y (omega arith))
-prefix_alone (suc a) n [] x y inside = absurd (omega arith)
-prefix_alone (suc a) n (b ∷ prefix) x y inside = prefix_alone a n prefix x y (omega arith)
-
 -- digest k is the one that was written last
 written_at : (size k : ℕ) (now digest rest : List ℕ) → size * k ≤ length now → length digest ≡ size
     → digest_at size k (take (size * k) now ++ (digest ++ rest)) ≡ digest
@@ -187,11 +133,13 @@ written_at size k now digest rest inside whole =
 written_before : (size k j : ℕ) (now rest : List ℕ) → size * k ≤ length now → j < k
     → digest_at size j (take (size * k) now ++ rest) ≡ digest_at size j now
 written_before size k j now rest inside before =
-    let place : size * j + size ≤ size * k =
+    let start = size * j in
+    let prefix = take (size * k) now in
+    let place : start + size ≤ size * k =
     omega (arith, mul-le-mul_left {m = j + 1} {n = k} size (omega arith)) in
-    let prefix : length (take (size * k) now) ≡ size * k = omega (arith, length-take (size * k) now) in
-    prefix_alone (size * j) size (take (size * k) now) rest (drop (size * k) now) (omega arith)
-    ∙ ap (λ (l : List ℕ). digest_at size j l) (take-append-drop (size * k) now)
+    sym (drop-take start size (prefix ++ rest)) ∙ (ap (drop start)
+    (take-append-le (start + size) prefix rest (omega (arith, length-take (size * k) now))
+    ∙ take-take (start + size) (size * k) now place) ∙ drop-take start size now)
 
 -- if the digests before number k are those of f and digest k is written, those before number k + 1 are
 pub written_next : (size k j : ℕ) (now digest rest : List ℕ) (f : ℕ → List ℕ)
@@ -205,6 +153,149 @@ written_next size k j now digest rest f inside whole so_far is_next below = elim
       rw (← last) (written_at size k now digest rest inside whole ∙ is_next)
 ]
 
-pub below_five : (P : ℕ → Type 0) → P 0 → P 1 → P 2 → P 3 → P 4 → (k : ℕ) → k < 5 → P k
-below_five P p0 p1 p2 p3 p4 zero h = p0
-below_five P p0 p1 p2 p3 p4 (suc k) h = below_four (λ j. P (suc j)) p1 p2 p3 p4 k (omega arith)
+-- ---- chains of digests: the padding of a digest fills its block
+
+-- what the iterations need from a hash function with digests of m words: the hash of a block b followed by a digest has
+-- the words that `step` gives from the hash value `after b` and the words of that digest
+abbrev pub IsChained : (List ℕ → List ℕ) → (List ℕ → List ℕ) → (List ℕ → List ℕ → List ℕ) → ℕ → Type 0
+IsChained hash after step m =
+    (b w : List ℕ) → length b ≡ 64 → hash (b ++ digest_bytes w m) ≡ digest_bytes (step (after b) w) m
+
+module _ (hash after : List ℕ → List ℕ) (step : List ℕ → List ℕ → List ℕ) (m : ℕ)
+    (is : IsChained hash after step m) (inner outer : List ℕ) (li : length inner ≡ 64) (lo : length outer ≡ 64) where
+  hmac_iteration : (w : List ℕ) → hmac_by hash inner outer (digest_bytes w m)
+      ≡ digest_bytes (step (after outer) (step (after inner) w)) m
+  unfolding hmac_by
+  hmac_iteration w =
+      ap (λ (d : List ℕ). hash (outer ++ d)) (is inner w li) ∙ is outer (step (after inner) w) lo
+
+  chain_iterations : (w : List ℕ) (n : ℕ) → chain hash inner outer (digest_bytes w m) n
+      ≡ digest_bytes (iterations step (after inner) (after outer) w n) m
+  unfolding chain iterations
+  chain_iterations w zero = refl
+  chain_iterations w (suc n) = ap (hmac_by hash inner outer) (chain_iterations w n) ∙ hmac_iteration _
+
+  sums_iterations : (w t : List ℕ) (n : ℕ) → chain_xor hash inner outer (digest_bytes w m) (digest_bytes t m) n
+      ≡ digest_bytes (sums m step (after inner) (after outer) w t n) m
+  unfolding chain_xor sums
+  sums_iterations w t zero = refl
+  sums_iterations w t (suc n) =
+      ap₂ (zip2 bit_xor) (sums_iterations w t n) (chain_iterations w (suc n)) ∙ xor_of_words m _ _
+
+  -- the words in a lane after n iterations have the bytes of `chain_xor`
+  pub sum_of_lane : (u t i o w s r : List ℕ) (n : ℕ) → i ≡ after inner → o ≡ after outer → digest_bytes w m ≡ u
+      → digest_bytes s m ≡ t → r ≡ sums m step i o w s n → digest_bytes r m ≡ chain_xor hash inner outer u t n
+  sum_of_lane u t i o w s r n is_i is_o is_u is_t is_r =
+      rw (is_r, is_i, is_o, ← is_u, ← is_t) (sym (sums_iterations w s n))
+
+-- ---- the words of the block
+
+-- the word in a lane of vector k is read back from its bytes
+word_from_its_bytes : (j : ℕ) (d : List (List ℕ)) (k : ℕ)
+    → word j (slice_index_or d k []) ≡ from_be_bytes w32 (to_be_bytes w32 (slice_index (lane j d) k))
+word_from_its_bytes j d k =
+    sym (from_be_bytes-to_be_bytes_4 (slice_index (lane j d) k) (words_fit j d k) ∙ word_of_lane j d k)
+
+-- the words of a SHA-1 digest after one block and of its padding, each in a vector with that word in all n lanes
+abbrev vectors1 : ℕ → List (List ℕ) → List (List ℕ)
+vectors1 n d =
+    slice_index_or d 0 [] ∷ slice_index_or d 1 [] ∷ slice_index_or d 2 [] ∷ slice_index_or d 3 []
+    ∷ slice_index_or d 4 [] ∷ replicate n 0x80000000 ∷ replicate n 0 ∷ replicate n 0 ∷ replicate n 0 ∷ replicate n 0
+    ∷ replicate n 0 ∷ replicate n 0 ∷ replicate n 0 ∷ replicate n 0 ∷ replicate n 0 ∷ replicate n 672 ∷ []
+
+pub padded_words1 : (n j : ℕ) → j < n → (d : List (List ℕ)) (k : ℕ) → k < 16
+    → slice_index (lane j (vectors1 n d)) k ≡ word_at (digest_bytes (lane j d) 5 ++ padding 84) (4 * k)
+unfolding digest_bytes
+padded_words1 n j in_lane d =
+    let read = word_from_its_bytes j d in
+    let none = word_splat n 0 j in_lane in
+    below_sixteen
+    (λ k. slice_index (lane j (vectors1 n d)) k ≡ word_at (digest_bytes (lane j d) 5 ++ padding 84) (4 * k))
+    (read 0) (read 1) (read 2) (read 3) (read 4) (word_splat n 0x80000000 j in_lane)
+    none none none none none none none none none (word_splat n 672 j in_lane)
+
+-- a vector with a number stored twice in both lanes: the number times 2 ^ 32 + 1
+abbrev both : ℕ → List ℕ
+both k = replicate 2 (k * 4294967297)
+
+-- the words of a SHA-256 digest after one block and of its padding, each stored twice in both lanes
+abbrev vectors256 : List (List ℕ) → List (List ℕ)
+vectors256 d =
+    slice_index_or d 0 [] ∷ slice_index_or d 1 [] ∷ slice_index_or d 2 [] ∷ slice_index_or d 3 []
+    ∷ slice_index_or d 4 [] ∷ slice_index_or d 5 [] ∷ slice_index_or d 6 [] ∷ slice_index_or d 7 []
+    ∷ both 0x80000000 ∷ both 0 ∷ both 0 ∷ both 0 ∷ both 0 ∷ both 0 ∷ both 0 ∷ both 768 ∷ []
+
+pub padded_twice : (j : ℕ) → j < 2 → (d : List (List ℕ)) → AllTwice j d → AllTwice j (vectors256 d)
+padded_twice j in_lane d all =
+    let high : IsTwice j (both 0x80000000) = below_two (λ j. IsTwice j (both 0x80000000)) refl refl j in_lane in
+    let none : IsTwice j (both 0) = below_two (λ j. IsTwice j (both 0)) refl refl j in_lane in
+    let size : IsTwice j (both 768) = below_two (λ j. IsTwice j (both 768)) refl refl j in_lane in
+    all_twice j (vectors256 d) (below_sixteen (λ k. IsTwice j (slice_index_or (vectors256 d) k []))
+    (all 0) (all 1) (all 2) (all 3) (all 4) (all 5) (all 6) (all 7) high none none none none none none size)
+
+pub padded_words256 : (j : ℕ) → j < 2 → (d : List (List ℕ)) (k : ℕ) → k < 16
+    → slice_index (lane j (vectors256 d)) k ≡ word_at (digest_bytes (lane j d) 8 ++ padding 96) (4 * k)
+unfolding digest_bytes
+padded_words256 j in_lane d =
+    let read = word_from_its_bytes j d in
+    let none = word_splat 2 0 j in_lane in
+    below_sixteen
+    (λ k. slice_index (lane j (vectors256 d)) k ≡ word_at (digest_bytes (lane j d) 8 ++ padding 96) (4 * k))
+    (read 0) (read 1) (read 2) (read 3) (read 4) (read 5) (read 6) (read 7)
+    (word_splat 2 9223372039002259456 j in_lane) none none none none none none (word_splat 2 3298534884096 j in_lane)
+
+-- ---- the hash of one block and a digest
+
+-- the message p is the blocks b and c
+pub record IsTwoBlocks (p b c : List ℕ) : Type 0 where
+  pub count : length p / 64 ≡ 2
+  pub first : take 64 p ≡ b
+  pub second : take 64 (drop 64 p) ≡ c
+
+-- a block and a digest of n bytes after it are two blocks when they are padded
+two_blocks : (b d : List ℕ) (n : ℕ) → length b ≡ 64 → length d ≡ n → length (d ++ padding (64 + n)) ≡ 64
+    → IsTwoBlocks (padded_message (b ++ d)) b (d ++ padding (64 + n))
+two_blocks b d n whole size rest =
+    let long : length (b ++ d) ≡ 64 + n = omega (arith, length-append b d) in
+    let tail = d ++ padding (64 + n) in
+    let padded : padded_message (b ++ d) ≡ b ++ tail =
+    rw long (append_assoc b d (padding (64 + n))) in
+    let count : length (b ++ tail) ≡ 128 = omega (arith, length-append b tail) in
+    rw padded (record {
+      count = rw count refl;
+      first = take_prefix 64 b tail whole;
+      second = rw (drop_prefix 64 b tail whole) (take_all 64 tail (omega arith));
+    })
+
+-- SHA-1 and SHA-256 write their words as bytes in the same way
+pub same_bytes : (h : List ℕ) (n : ℕ) → Sha1.digest_bytes h n ≡ digest_bytes h n
+unfolding digest_bytes Sha1.digest_bytes
+same_bytes h zero = refl
+same_bytes h (suc n) = ap (λ (l : List ℕ). l ++ to_be_bytes w32 (slice_index h n)) (same_bytes h n)
+
+hash1_of_two : (p b c : List ℕ) → IsTwoBlocks p b c
+    → Sha1.hash_after p (length p / 64) ≡ Sha1.compress (Sha1.compress Sha1.initial_hash b) c
+unfolding Sha1.hash_after
+hash1_of_two p b c is = rw (is.count, is.first, is.second) refl
+
+pub chained1 : IsChained Sha1.sha1 (Sha1.compress Sha1.initial_hash) (after_digest Sha1.compress 5) 5
+unfolding after_digest Sha1.sha1
+chained1 b w whole =
+    let d = digest_bytes w 5 in
+    let size = length-digest_bytes w 5 in
+    same_bytes _ 5 ∙ ap (λ (h : List ℕ). digest_bytes h 5)
+    (hash1_of_two (padded_message (b ++ d)) b (d ++ padding 84)
+    (two_blocks b d 20 whole size (omega (arith, size, length-append d (padding 84)))))
+
+hash256_of_two : (h p b c : List ℕ) → IsTwoBlocks p b c → hash_after h p (length p / 64) ≡ compress (compress h b) c
+unfolding hash_after
+hash256_of_two h p b c is = rw (is.count, is.first, is.second) refl
+
+pub chained256 : IsChained sha256 (compress initial_hash_256) (after_digest compress 8) 8
+unfolding after_digest sha256
+chained256 b w whole =
+    let d = digest_bytes w 8 in
+    let size = length-digest_bytes w 8 in
+    ap (λ (h : List ℕ). digest_bytes h 8)
+    (hash256_of_two initial_hash_256 (padded_message (b ++ d)) b (d ++ padding 96)
+    (two_blocks b d 32 whole size (omega (arith, size, length-append d (padding 96)))))

@@ -1,5 +1,6 @@
 -- Chains of digests, each the HMAC of the one before it (RFC 2104, section 2), by the key's two blocks.
-use Rattle.std.specs.Prelude.{ℕ, zero, suc, ◌*◌, List, [], ◌∷◌, ◌++◌, bit_xor, drop, slice_index, take}
+use Rattle.std.specs.Prelude.{ℕ, zero, suc, ◌*◌, List, ◌++◌, bit_xor, drop, map, slice_index, take}
+use Rattle.std.specs.List.{range_with_len}
 use Rattle.std.specs.Simd.Lanes.{zip2}
 
 -- H(outer || H(inner || text)), where H is `hash`
@@ -33,8 +34,7 @@ iterations after_digest inner outer d (suc n) =
 
 -- the XOR of the first n words of two digests
 unfoldable pub xor_words : ℕ → List ℕ → List ℕ → List ℕ
-xor_words zero x y = []
-xor_words (suc n) x y = xor_words n x y ++ bit_xor (slice_index x n) (slice_index y n) ∷ []
+xor_words n x y = map (λ (k : ℕ). bit_xor (slice_index x k) (slice_index y k)) (range_with_len 0 n)
 
 -- the m words t with the words of the next n digests XORed into them
 unfoldable pub sums : ℕ → (List ℕ → List ℕ → List ℕ) → List ℕ → List ℕ → List ℕ → List ℕ → ℕ → List ℕ

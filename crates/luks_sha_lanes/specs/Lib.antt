@@ -1,3 +1,2 @@
 pub mod Chains
 pub mod Lanes
-pub mod Lanes256

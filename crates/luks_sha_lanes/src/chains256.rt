@@ -3,8 +3,7 @@
 ghost use Rattle.std.specs.Prelude.{◌≡◌, ℕ, ◌+◌, ◌*◌, ◌%◌, ◌^◌, ◌<◌, ◌≤◌, List, length};
 ghost use Rattle.sha2.specs.Sha256.{compress, digest_bytes, initial_hash_256, sha256, word_at};
 ghost use Rattle.luks_sha_lanes.specs.Chains.{chain_xor, digest_at};
-ghost use Rattle.luks_sha_lanes.specs.Lanes.{IsBlock, lane, word};
-ghost use Rattle.luks_sha_lanes.specs.Lanes256.{AllTwice, IsTwice};
+ghost use Rattle.luks_sha_lanes.specs.Lanes.{AllTwice, IsBlock, IsTwice, lane, word};
 
 use crate::block256::compress;
 use crate::iterations256::add_iterations;

@@ -3,8 +3,7 @@
 ghost use Rattle.std.specs.Prelude.{◌≡◌, ℕ, ◌<◌, ◌++◌, List, bit_xor};
 ghost use Rattle.sha2.specs.Sha256.{compress, digest_bytes, padding};
 ghost use Rattle.luks_sha_lanes.specs.Chains.{sums, iterations, xor_words};
-ghost use Rattle.luks_sha_lanes.specs.Lanes.{IsBlock, after_digest, lane, word};
-ghost use Rattle.luks_sha_lanes.specs.Lanes256.{AllTwice};
+ghost use Rattle.luks_sha_lanes.specs.Lanes.{AllTwice, IsBlock, after_digest, lane, word};
 
 use crate::block256::compress;
 use std::simd::prelude::*;

@@ -1,13 +1,10 @@
 -- Honestly sealed volumes: what is stored decrypts to what was sealed, each passphrase opens its key slot, and
 -- `luksCat` writes the plaintext.
-use Rattle.std.proofs.Common.{◌≡◌, ℕ, ◌%◌, ◌^◌, List, length, ◌∙◌, zero, suc, ◌+◌, ◌*◌, ◌/◌, ◌<◌, ◌≤◌, take, drop, refl}
-use Rattle.std.proofs.Common.{sym, ap, arith, length-drop, ◌-◌, false, Option, None, Some, Ok, true, [], ◌∷◌, ◌++◌}
-use Rattle.std.proofs.Common.{subst}
+use Rattle.std.proofs.Common.{◌≡◌, ℕ, ◌%◌, ◌^◌, List, length, ◌∙◌, ◌+◌, ◌*◌, ◌/◌, ◌<◌, ◌≤◌, take, drop, refl, subst}
+use Rattle.std.proofs.Common.{sym, ap, arith, length-drop, ◌-◌, Option, None, Some, Ok, true, [], ◌∷◌, ◌++◌}
 use Rattle.std.specs.Int.{to_le_bytes, w128}
 use Rattle.std.proofs.Math.Nat.{div-mul_cancel, dvd_of_mod-eq-zero}
-use Rattle.std.proofs.Math.Seq.{take-add}
 use Rattle.std.proofs.lemmas.List.{length-take-le, take_all}
-use Rattle.std.specs.Prelude.{nat_lt}
 use Rattle.std.proofs.lemmas.Bool.{le-ltb}
 use Rattle.std.specs.List.{AllByRecursion, Contains}
 use Rattle.std.proofs.lemmas.Bool.Decides.{nat_tests}
@@ -18,20 +15,17 @@ use Rattle.luks_aes.specs.Bytes.{IsBytes}
 use Rattle.luks_aes.proofs.ByteLists.{encrypted_state, bytes_drop, bytes_take}
 use Rattle.luks_kdf.specs.declared.hash.Hash.TheVariants.{Sha256}
 use Rattle.luks_kdf.specs.Stripes.{merged}
-use Rattle.luks_kdf.specs.declared.hash.Hash.{Hash}
 use Rattle.luks_kdf.proofs.StripesLemmas.{merged_split}
 use Rattle.luks_kdf.specs.Pbkdf2.{derived_key}
 use Rattle.luks_cipher.specs.Sector.{essiv_iv, plain64_iv, sector_decrypted, sector_encrypted, Cipher}
 use Rattle.luks_cipher.specs.Sector.{is_mode_key_length}
 use Rattle.luks_cipher.specs.declared.mode.Mode.{Mode}
 use Rattle.luks_cipher.specs.declared.mode.Mode.TheVariants.{XtsPlain64, XtsPlain, CbcEssivSha256, CbcPlain64}
-use Rattle.luks_cipher.proofs.ChainsUndone.{cbc_decrypted-cbc_encrypted}
-use Rattle.luks_cipher.proofs.UnitsUndone.{le_state, xts_decrypted-xts_encrypted, joined_same}
+use Rattle.luks_cipher.proofs.UnitsUndone.{cbc_decrypted-cbc_encrypted, le_state, xts_decrypted-xts_encrypted}
+use Rattle.luks_cipher.proofs.UnitsUndone.{joined_same, joined_units}
 use Rattle.luks_cipher.specs.Xts.{joined}
 use Rattle.luks_cipher.proofs.ModeLemmas.{key_length_of_mode}
 use Rattle.luks_area.specs.Fields.{at}
-use Rattle.luks_verdict.specs.Rule.{need_of}
-use Rattle.luks_verdict.specs.declared.slot.SlotParts.{SlotParts}
 use Rattle.luks_verdict.specs.declared.segment.Segment.{Segment}
 use Rattle.luks_verdict.proofs.SectorLemmas.{sector_blocks}
 use Rattle.luks_verdict.specs.declared.digest.KeyDigest.{KeyDigest}
@@ -42,18 +36,15 @@ use Rattle.luks_header.proofs.KnownLemmas.{known_usable, slot_of_usable, is_atta
 use Rattle.luks_open.specs.Candidate.{decrypted_material, material_sector, recovered, candidate_of, matches_digest}
 use Rattle.luks_open.specs.Opening.{first_opening, slot_key, opened_or, answer_of, opening_of}
 use Rattle.luks_open.specs.declared.entry.Entry.{Entry}
-use Rattle.luks_open.proofs.OrderLemmas.{IsOf, All-order}
 use Rattle.luks_open.specs.Order.{entry_at, key_material_end, order_of}
 use Rattle.luks_open.specs.declared.opening.Opened.{Opened}
-use Rattle.luks_open.proofs.CallerLemmas.{key_areas_before_payload}
+use Rattle.luks_open.proofs.CallerLemmas.{All-order, IsOf, key_areas_before_payload}
 use Rattle.luks_payload.proofs.SectorLemmas.{one_more_fits}
 use Rattle.luks_payload.specs.Plain.{ending_of, ending_of_len, plain_of, sector_len, sector_plaintext, unit_number}
 use Rattle.luks_payload.specs.Plain.{unit_plain, payload_bytes}
 use Rattle.luks_payload.specs.declared.state.Step.TheVariants.{End}
-use Rattle.luks_seal.proofs.MaterialLemmas.{hash_bytes}
-use Rattle.luks_seal.specs.Sealed.{IsMaterial, IsStoredEncrypted, EndsWith, SealsPlain, GivesKey, IsDigestOf, SealsKey}
-use Rattle.luks_seal.specs.Sealed.{Sealed}
-use Rattle.luks_seal.proofs.MaterialLemmas.{derived_bytes}
+use Rattle.luks_seal.proofs.MaterialLemmas.{derived_bytes, hash_bytes}
+use Rattle.luks_seal.specs.Sealed.{EndsWith, GivesKey, IsDigestOf, IsStoredEncrypted, Sealed, SealsKey, SealsPlain}
 use Rattle.luks_report.specs.Faults.{message_at_end}
 use Rattle.luks_report.specs.declared.message.Message.TheVariants.{Done}
 use Rattle.luks_request.specs.Request.{VolumeRequest}
@@ -81,14 +72,6 @@ sector_decrypted-sector_encrypted CbcPlain64 key number sector keys all whole =
 
 -- ---- bytes that are stored encrypted are what the data units decrypt to
 
--- joining the first n units of a list gives its first `n * size` bytes
-joined_units : (bytes : List ℕ) (size n : ℕ) → joined (λ i. at (i * size) size bytes) n ≡ take (n * size) bytes
-unfolding joined
-joined_units bytes size zero = let none : 0 * size ≡ 0 = omega arith in rw none refl
-joined_units bytes size (suc n) =
-    let more : suc n * size ≡ n * size + size = omega arith in
-    rw (more, joined_units bytes size n) (sym (take-add (n * size) size bytes))
-
 module _ (cipher : Cipher) (number : ℕ → ℕ) (size place : ℕ) (plain image : List ℕ)
     (is_stored : IsStoredEncrypted cipher number size place plain image) (keys : IsBytes cipher.1)
     (blocks : size % 16 ≡ 0) where
@@ -109,24 +92,6 @@ module _ (cipher : Cipher) (number : ℕ → ℕ) (size place : ℕ) (plain imag
       joined_same unit (λ i. at (i * size) size plain) (length plain / size) each
       ∙ joined_units plain size (length plain / size) ∙ take_all (length plain / size * size) plain (omega arith)
 
--- key material that was made of a key merges to that key
-unlocked_again : (af : Hash) (cipher : Cipher) (parts : SlotParts) (key material image : List ℕ)
-    → 0 < length key → IsBytes cipher.1 → IsMaterial af parts key material
-    → IsStoredEncrypted cipher (λ i. i) 512 parts.area_offset material image
-    → recovered af cipher image parts.area_offset (length key) parts.stripes ≡ key
-unfolding recovered decrypted_material
-unlocked_again af cipher parts key material image some keys made is_stored =
-    let offset = parts.area_offset in
-    let stripes = parts.stripes in
-    let sectors : joined (material_sector cipher image offset) (length material / 512) ≡ material =
-    units_undone cipher (λ i. i) 512 offset material image is_stored keys refl (material_sector cipher image offset)
-    (λ i. let same : offset + 512 * i ≡ offset + i * 512 = omega arith in
-    ap (λ place. sector_decrypted cipher.0 cipher.1 i (at place 512 image)) same) in
-    let all : joined (material_sector cipher image offset) (need_of (length key) stripes / 512) ≡ material =
-    ap (λ n. joined (material_sector cipher image offset) (n / 512)) (sym made.len) ∙ sectors in
-    ap (λ (bytes : List ℕ). merged af (length key) (take (length key * stripes) bytes)) all
-    ∙ merged_split af made.random key (take (length key * stripes) material) some made.split
-
 -- ---- the payload is the plaintext, and it is whole
 
 module _ (offset : ℕ) (plain image : List ℕ) (there : offset + length plain ≤ length image) where
@@ -144,8 +109,7 @@ module _ (offset : ℕ) (plain image : List ℕ) (there : offset + length plain 
       let none : (length image - offset) % sector ≡ 0 = ap (λ n. n % sector) all ∙ whole in
       rw none refl
   ends_well (Some size) sector ends whole =
-      let enough : nat_lt (length image - offset) size ≡ false = le-ltb (length image - offset) size (omega arith) in
-      rw enough refl
+      rw (le-ltb (length image - offset) size (omega arith)) refl
 
 module _ (segment : Segment) (image key plain : List ℕ) (seals : SealsPlain segment image key plain) where
   plain_again : IsBytes key → plain_of segment (segment.mode, key) image ≡ plain
@@ -159,9 +123,7 @@ module _ (segment : Segment) (image key plain : List ℕ) (seals : SealsPlain se
 
   ending_again : ending_of segment image ≡ Ok End
   ending_again =
-      let probed : nat_lt (length image) segment.offset ≡ false =
-      le-ltb (length image) segment.offset (omega (arith, seals.is_stored.there)) in
-      rw probed
+      rw (le-ltb (length image) segment.offset (omega (arith, seals.is_stored.there)))
       (ends_well segment.offset plain image seals.is_stored.there segment.size (sector_len segment) seals.ends
       seals.is_stored.whole)
 
@@ -175,14 +137,22 @@ module _ (passphrase key image : List ℕ) where
   -- the key slot's candidate is the key that its material was made of
   candidate_again : (slot : Slot) → 0 < length key → GivesKey slot.parts passphrase key image
       → candidate_of slot image passphrase ≡ Some key
-  unfolding candidate_of
+  unfolding candidate_of recovered decrypted_material
   candidate_again slot some gives =
       let parts = slot.parts in
-      rw (gives.is_kdf, gives.is_af, gives.is_mode, gives.key_bytes)
-      (ap Some (unlocked_again gives.af
-      (gives.mode, derived_key gives.kdf passphrase parts.salt parts.iterations parts.area_key_bytes) parts key
-      gives.material image some (derived_bytes gives.kdf passphrase parts.salt parts.iterations parts.area_key_bytes)
-      gives.is_material gives.is_stored))
+      let made = gives.is_material in
+      let cipher : Cipher =
+      (gives.mode, derived_key gives.kdf passphrase parts.salt parts.iterations parts.area_key_bytes) in
+      let keys = derived_bytes gives.kdf passphrase parts.salt parts.iterations parts.area_key_bytes in
+      let sector = material_sector cipher image parts.area_offset in
+      let sectors = units_undone cipher (λ i. i) 512 parts.area_offset gives.material image gives.is_stored keys refl
+      sector (λ i. let same : parts.area_offset + 512 * i ≡ parts.area_offset + i * 512 = omega arith in
+      ap (λ place. sector_decrypted cipher.0 cipher.1 i (at place 512 image)) same) in
+      let all = ap (λ n. joined sector (n / 512)) (sym made.len) ∙ sectors in
+      let key_is : recovered gives.af cipher image parts.area_offset (length key) parts.stripes ≡ key =
+      ap (λ (bytes : List ℕ). merged gives.af (length key) (take (length key * parts.stripes) bytes)) all
+      ∙ merged_split gives.af made.random key (take (length key * parts.stripes) gives.material) some made.split in
+      rw (gives.is_kdf, gives.is_af, gives.is_mode, gives.key_bytes) (ap Some key_is)
 
   -- the key matches its digest
   matches_again : (digest : KeyDigest) → IsDigestOf digest key → matches_digest digest key ≡ true
@@ -202,9 +172,7 @@ module _ (passphrase key image : List ℕ) where
       ∙ slot_of_usable header None entry.number seals.slot seals.usable) in
       let same_digest : entry.digest ≡ seals.digest = same_Some _ _ (sym is.digest ∙ seals.is_digest) in
       let known = known_usable header segment None entry.number seals.slot is_segment seals.usable in
-      let some : 0 < length key =
-      subst (λ (n : ℕ). 0 < n) seals.gives.key_bytes
-      (some_key segment.mode seals.slot.parts.key_bytes known.volume_key) in
+      let some = rw seals.gives.key_bytes at (some_key segment.mode seals.slot.parts.key_bytes known.volume_key) in
       let candidate = candidate_again seals.slot some seals.gives in
       rw (same_slot, same_digest, candidate, matches_again seals.digest seals.digest_of_key) refl
 

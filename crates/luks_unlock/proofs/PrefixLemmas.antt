@@ -1,20 +1,15 @@
 -- The first 33,554,432 bytes of an image decide how it is opened. A header area never has more.
 use Rattle.std.proofs.Common.{◌≡◌, ◌∙◌, ℕ, ◌≤◌, List, [], ◌∷◌, Result, Ok, Err, Bool, true, false, inl, inr, ap, sym}
-use Rattle.std.proofs.Common.{refl, take, take_all, length, length-take-le, max, arith, lit≤}
+use Rattle.std.proofs.Common.{refl, take, take-take, take_all, length, length-take-le, max, arith, lit≤}
 use Rattle.std.specs.Prelude.{ok_or, if◌then◌else◌}
 use Rattle.std.proofs.lemmas.Bool.{cases_lt, le-ltb}
-use Rattle.std.proofs.lemmas.List.{take-take}
 use Rattle.luks_area.specs.Area.{max_loaded_len}
 use Rattle.luks_area.specs.declared.fault.HeaderFault.{HeaderFault}
 use Rattle.luks_area.specs.declared.fault.HeaderFault.TheVariants.{NotLuks}
 use Rattle.luks1_header.specs.Header1.{is_luks1}
-use Rattle.luks2_binary.proofs.AgreeLemmas.{probe_fit, probe_unfit}
-use Rattle.luks2_binary.proofs.ChoiceLemmas.{probe_other, probe_primary}
-use Rattle.luks2_binary.proofs.JsonLemmas.{json_beginning}
-use Rattle.luks2_binary.proofs.SearchLemmas.{search_len_is}
-use Rattle.luks2_binary.proofs.StableLemmas.{stable_by}
-use Rattle.luks2_binary.proofs.ValidLemmas.{fits_parts, size_range, valid_range}
-use Rattle.luks2_binary.proofs.WalkLemmas.{furthest}
+use Rattle.luks2_binary.proofs.ChoiceLemmas.{json_beginning, probe_other, probe_primary, stable_by}
+use Rattle.luks2_binary.proofs.SearchLemmas.{furthest, search_len_is}
+use Rattle.luks2_binary.proofs.ValidLemmas.{fits_parts, probe_fit, probe_unfit, size_range, valid_range}
 use Rattle.luks2_binary.specs.Choice2.{binary_at, fits, header2_of, is_valid}
 use Rattle.luks2_binary.specs.ReadLen2.{header2_read_len, probe2_len, probe_end, greatest}
 use Rattle.luks2_binary.specs.Reading2.{IsPrefixOf}
@@ -22,18 +17,16 @@ use Rattle.luks2_binary.specs.Header2.{sizes}
 use Rattle.luks2_binary.specs.Text2.{json_text_of}
 use Rattle.luks2_binary.specs.declared.header.Header2.{Header2}
 use Rattle.luks2_json.specs.Tree.{tree_of}
-use Rattle.luks_header.proofs.LoadedLemmas.{begins_longer}
+use Rattle.luks_header.proofs.HeaderLemmas.{begins_longer}
 use Rattle.luks_header.specs.Header.{header_read_len, header_of, with_metadata, with_text}
-use Rattle.luks_open.proofs.CallerLemmas.{opening_beginning}
-use Rattle.luks_open.proofs.OrderLemmas.{key_material_end-within}
+use Rattle.luks_open.proofs.CallerLemmas.{key_material_end-within, opening_beginning}
 use Rattle.luks_open.specs.Opening.{opening_of}
 use Rattle.luks_open.specs.Order.{key_material_end}
 use Rattle.luks_open.specs.declared.fault.OpenFault.{OpenFault}
 use Rattle.luks_open.specs.declared.opening.Opened.{Opened}
 use Rattle.luks_report.specs.declared.message.Message.{Message}
 use Rattle.luks_request.specs.Request.{VolumeRequest}
-use Rattle.luks_runs.specs.Location.{as_detached}
-use Rattle.luks_runs.specs.Location.{reader_for}
+use Rattle.luks_runs.specs.Location.{as_detached, reader_for}
 use Rattle.luks_runs.specs.declared.location.HeaderLocation.{HeaderLocation}
 use Rattle.luks_runs.specs.declared.location.HeaderLocation.TheVariants.{Attached, Detached}
 use Rattle.luks_unlock.specs.Volume.{OnOpened, Volume, found_outcome, opened_outcome, outcome_after, volume_by}
@@ -100,8 +93,7 @@ module _ (image : List ℕ) (n : ℕ) (far : 8388608 ≤ n) (more : n ≤ length
   unfolding header2_read_len
   with_text_prefix (Ok header) found =
       let within = probe2_within image in
-      let cut : take (header2_read_len (take n image)) (take n image) ≡ take (header2_read_len image) image =
-      ap (λ k. take k (take n image)) prefix2.1 ∙ take-take (header2_read_len image) n image (omega arith) in
+      let cut = ap (λ k. take k (take n image)) prefix2.1 ∙ take-take (header2_read_len image) n image (omega arith) in
       ap (λ text. with_metadata header (tree_of text))
       (sym (json_beginning (take n image) header (prefix2.0 ∙ found))
       ∙ ap (λ bytes. json_text_of bytes header) cut ∙ json_beginning image header found)
@@ -147,8 +139,7 @@ module _ (location : HeaderLocation) (o : VolumeRequest) (image pass : List ℕ)
       let all = le-ltb (length (take n image)) (key_material_end v.order.entries) (omega (arith, long)) in
       let whole = le-ltb (length image) (key_material_end v.order.entries) (omega arith) in
       let opening = opening_beginning v.order n image pass (omega arith) in
-      let cost = same_header.1 in
-      rw (all, whole, cost, opening, opened_prefix v (opening_of v.order image pass)) refl
+      rw (all, whole, same_header.1, opening, opened_prefix v (opening_of v.order image pass)) refl
   after_prefix (Err message) = rw same_header.1 refl
 
   reading_prefix : reader_for location (take n image) ≡ reader_for location image

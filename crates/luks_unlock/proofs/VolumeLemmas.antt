@@ -2,11 +2,11 @@
 use Rattle.std.proofs.Common.{◌≡◌, ◌∙◌, ℕ, ◌⊎◌, inl, inr, List, [], ◌∷◌, Option, Some, Ok, Err, true, false, ap, refl}
 use Rattle.std.proofs.Common.{Bool, min, sym, length, append-nil, arith, ◌+◌, ◌-◌, ◌<◌, ◌≤◌, ◌++◌, Result, take, drop}
 use Rattle.std.proofs.Common.{length-drop, length-take-le, max}
-use Rattle.std.specs.Prelude.{is_err, nat_lt}
-use Rattle.std.proofs.lemmas.Bool.Decides.{nat_tests}
+use Rattle.std.specs.Prelude.{is_err}
+use Rattle.std.proofs.lemmas.Bool.{le-ltb, lt-ltb}
 use Rattle.std.proofs.lemmas.List.{drop-drop}
 use Rattle.std.proofs.Math.Seq.{take-add}
-use Rattle.luks_io.proofs.CountsLemmas.{reads_more}
+use Rattle.luks_io.proofs.EffectLemmas.{reads_more}
 use Rattle.luks_io.specs.Counts.{Reads}
 use Rattle.luks_io.specs.Devices.{ConsumedExactly, counted}
 use Rattle.luks_io.specs.declared.counts.ReadCounts.{ReadCounts}
@@ -29,10 +29,9 @@ use Rattle.luks_report.specs.declared.message.Message.{Message}
 use Rattle.luks_report.specs.declared.message.Message.TheVariants.{OutOfMemory, ReadFailed, Cut, KeyFileLength}
 use Rattle.luks_request.specs.Request.{VolumeRequest}
 use Rattle.luks_runs.proofs.HeaderRuns.{reading_fault, header_read_len_within}
-use Rattle.luks_runs.specs.Run.{is_run_read_failure}
+use Rattle.luks_runs.specs.Run.{is_run_read_failure, no_output}
 use Rattle.luks_runs.specs.Location.{LoadedFrom, reader_for}
 use Rattle.luks_runs.specs.declared.location.HeaderLocation.{HeaderLocation}
-use Rattle.luks_runs.specs.Run.{no_output}
 use Rattle.luks_runs.specs.KeyFile.{max_key_file_len}
 use Rattle.luks_unlock.specs.Found.{FindsNoVolume, FindsVolume}
 use Rattle.luks_unlock.specs.Trying.{HitsMaterialEof}
@@ -141,24 +140,22 @@ module _ (on_opened : OnOpened) (named : Option ℕ) (v : Volume) (image secret 
   pub found_long : max_key_file_len < length secret → found_outcome on_opened named v image secret
       ≡ no_output KeyFileLength (header_read_len image) (max_key_file_len + 1)
   unfolding found_outcome
-  found_long long = let yes : nat_lt max_key_file_len (length secret) ≡ true = grind (arith, nat_tests) in rw yes refl
+  found_long long = rw (lt-ltb max_key_file_len (length secret) long) refl
 
   pub found_cut : length secret ≤ max_key_file_len → length image < key_material_end v.order.entries
       → found_outcome on_opened named v image secret ≡ no_output Cut (length image) (length secret)
   unfolding found_outcome
   found_cut short few =
-      let no : nat_lt max_key_file_len (length secret) ≡ false = grind (arith, nat_tests) in
-      let yes : nat_lt (length image) (key_material_end v.order.entries) ≡ true = grind (arith, nat_tests) in
-      rw (no, yes) refl
+      let allowed = le-ltb max_key_file_len (length secret) short in
+      rw (allowed, lt-ltb (length image) (key_material_end v.order.entries) few) refl
 
   pub found_whole : length secret ≤ max_key_file_len → key_material_end v.order.entries ≤ length image
       → found_outcome on_opened named v image secret
       ≡ opened_outcome on_opened named v image secret (opening_of v.order image secret)
   unfolding found_outcome
   found_whole short enough =
-      let no : nat_lt max_key_file_len (length secret) ≡ false = grind (arith, nat_tests) in
-      let none : nat_lt (length image) (key_material_end v.order.entries) ≡ false = grind (arith, nat_tests) in
-      rw (no, none) refl
+      let allowed = le-ltb max_key_file_len (length secret) short in
+      rw (allowed, le-ltb (length image) (key_material_end v.order.entries) enough) refl
 
 -- ---- the loaded area
 
@@ -242,8 +239,7 @@ module _ (location : HeaderLocation) (o : VolumeRequest) (image pass : List ℕ)
     tried_is short area area' i prefix grows enough r tried on_opened =
         let v = volume_with header segment order in
         let loaded = area_loaded image area area' i (key_material_end order.entries) prefix grows enough in
-        let whole : opening_of order image pass ≡ r =
-        sym (opening_beginning order (max (header_read_len image) (key_material_end order.entries)) image pass
-        (omega arith)) ∙ ap (λ l. opening_of order l pass) (sym loaded.2) ∙ tried in
+        let whole = sym (opening_beginning order (max (header_read_len image) (key_material_end order.entries)) image
+        pass (omega arith)) ∙ ap (λ l. opening_of order l pass) (sym loaded.2) ∙ tried in
         found_is on_opened ∙ found_whole on_opened o.key_slot v image pass short loaded.0
         ∙ ap (opened_outcome on_opened o.key_slot v image pass) whole

@@ -63,13 +63,8 @@ OnOpened = Segment → Opened → ℕ → Outcome
 
 -- `testPassphrase`: the line about the key slot that opens is written
 abbrev pub slot_outcome : List ℕ → OnOpened
-slot_outcome secret segment opened loaded = record {
-  output = opened_line opened.slot;
-  message = Done;
-  input_consumed = loaded;
-  secret_consumed = length secret;
-  payload_consumed = 0;
-}
+slot_outcome secret segment opened loaded =
+    record (no_output Done loaded (length secret)) { output = opened_line opened.slot }
 
 -- `luksCat`: the payload is written as plaintext
 abbrev pub payload_outcome : List ℕ → List ℕ → OnOpened
@@ -83,13 +78,9 @@ payload_outcome image secret segment opened loaded = record {
 
 -- `luksCat` with a detached header: the image holds the payload alone
 abbrev pub detached_payload_outcome : List ℕ → List ℕ → OnOpened
-detached_payload_outcome image secret segment opened loaded = record {
-  output = plain_of segment (segment.mode, opened.key) image;
-  message = message_at_end (ending_of segment image);
-  input_consumed = loaded;
-  secret_consumed = length secret;
-  payload_consumed = payload_end_of segment image;
-}
+detached_payload_outcome image secret segment opened loaded =
+    record (payload_outcome image secret segment opened loaded)
+    { input_consumed = loaded; payload_consumed = payload_end_of segment image }
 
 -- the outcome after the key slots were tried
 abbrev pub opened_outcome : OnOpened → Option ℕ → Volume → List ℕ → List ℕ → Result Opened OpenFault → Outcome

@@ -1,4 +1,3 @@
 pub mod MadeLemmas
 pub mod SectorLemmas
 pub mod TableLemmas
-pub mod VerdictLemmas

@@ -1,22 +1,27 @@
--- Values made from parts that were read and are in range.
+-- Values made from parts that were read and are in range, and the verdicts on key slots that they give.
 use Rattle.std.proofs.Common.{◌≡◌, ◌≢◌, ◌∙◌, ℕ, Bool, true, false, Option, Some, None, Ok, Err, ap, sym, refl, length}
-use Rattle.std.specs.Prelude.{option_map}
+use Rattle.std.specs.Prelude.{is_none, option_map}
 use Rattle.std.specs.Coded.{le_prop}
 use Rattle.std.proofs.Math.Bool.{Bool-set}
 use Rattle.std.proofs.Math.Nat.{ℕ_set}
 use Rattle.std.proofs.lemmas.Option.{none-some, same_Some}
 use Rattle.luks_cipher.specs.declared.mode.Mode.{Mode}
-use Rattle.luks_verdict.specs.Digest.{digest_from, digest_of, digest_with, has_no_usable_digest, is_usable}
-use Rattle.luks_verdict.specs.Evidence.{evidence_if}
-use Rattle.luks_verdict.specs.Rule.{InRange, IsDigest, in_range, iterations_out_of_range, usable_digest}
+use Rattle.luks_verdict.specs.Slot.{digest_from, digest_of, digest_with, has_no_usable_digest, is_usable}
+use Rattle.luks_verdict.specs.Rule.{InRange, IsDigest, evidence_if, in_range, iterations_out_of_range, usable_digest}
 use Rattle.luks_verdict.specs.SectorSize.{HasWholeSectors, has_whole_sectors, whole_by_test}
 use Rattle.luks_verdict.specs.Segment.{refused_or, segment_by, segment_of_all, segment_with}
-use Rattle.luks_verdict.specs.Slot.{are_in_range, parts_end, slot_from, slot_of, slot_with}
+use Rattle.luks_verdict.specs.Slot.{are_in_range, parts_end, slot_from, slot_of, slot_with, verdict_by, verdict_kind_of}
 use Rattle.luks_verdict.specs.declared.digest.DigestParts.{DigestParts}
+use Rattle.luks_verdict.specs.declared.digest.KeyDigest.{KeyDigest}
 use Rattle.luks_verdict.specs.declared.refusal.SegmentFault.{SegmentFault}
+use Rattle.luks_verdict.specs.declared.refusal.SkipReason.{SkipReason}
 use Rattle.luks_verdict.specs.declared.sector_size.SectorSize.{SectorSize}
 use Rattle.luks_verdict.specs.declared.segment.Segment.{Segment}
+use Rattle.luks_verdict.specs.declared.slot.Slot.{Slot}
 use Rattle.luks_verdict.specs.declared.slot.SlotParts.{SlotParts}
+use Rattle.luks_verdict.specs.declared.slot.Verdict.{Verdict}
+use Rattle.luks_verdict.specs.declared.slot.Verdict.TheVariants.{Usable}
+use Rattle.luks_verdict.specs.declared.slot.VerdictKind.TheVariants.{Usable as KindUsable}
 
 -- if a test holds, there is evidence of it, and any evidence of it is the same
 pub evidence_if-yes : (test : Bool) (is : test ≡ true) → evidence_if test ≡ Some is
@@ -74,6 +79,23 @@ segment_made offset size iv_tweak sector_size mode whole is =
     ap (λ (w : HasWholeSectors size sector_size). Some (segment_with offset size iv_tweak sector_size mode w))
     (all whole (whole_by_test size sector_size is)) ∙ sym (segment_of_all-yes offset size iv_tweak sector_size mode is)
 
+-- what was mapped, if a function was mapped over an option and there is a result
+pub mapped : {A B : Type 0} (f : A → B) (o : Option A) (y : B) → option_map f o ≡ Some y
+    → (x : A) × (o ≡ Some x) × (f x ≡ y)
+mapped f (Some x) y is = (x, refl, same_Some _ _ is)
+mapped f None y is = absurd cc
+
+-- the segment that these parts make starts at the stated offset and has the stated mode
+pub parts_made : (offset : Option ℕ) (size : Option (Option ℕ)) (iv_tweak : Option ℕ) (sector_size : Option SectorSize)
+    (mode : Option Mode) (segment : Segment) → segment_of_all offset size iv_tweak sector_size mode ≡ Some segment
+    → (offset ≡ Some segment.offset) × (mode ≡ Some segment.mode)
+unfolding segment_by
+parts_made (Some offset) (Some size) (Some iv_tweak) (Some sector_size) (Some mode) segment is =
+    let made = mapped (segment_by offset size iv_tweak sector_size mode)
+    (evidence_if (has_whole_sectors size sector_size)) segment is in
+    (ap (λ (s : Segment). Some s.offset) made.2, ap (λ (s : Segment). Some s.mode) made.2)
+parts_made _ _ _ _ _ segment is = absurd cc
+
 -- a segment with a fault is refused with that fault
 pub refused_or-fault : (found : Option SegmentFault) (segment : Option Segment) (made : found ≡ None → segment ≢ None)
     (fault : SegmentFault) → found ≡ Some fault → refused_or found segment made ≡ Err fault
@@ -104,3 +126,29 @@ pub no_usable_digest-no : (limit : Option ℕ) (parts : DigestParts) → is_usab
     → has_no_usable_digest limit (digest_from parts) ≡ true
 unfolding has_no_usable_digest
 no_usable_digest-no limit parts is = ap (has_no_usable_digest limit) (digest_from-no parts is)
+
+-- if the kind of a verdict is that the slot can be tried, the verdict has what is needed to open it
+pub usable_from_open : (verdict : Option Verdict) (priority : ℕ)
+    → option_map verdict_kind_of verdict ≡ Some (KindUsable priority)
+    → (slot : Slot) × (verdict ≡ Some (Usable slot)) × (slot.parts.priority ≡ priority)
+usable_from_open (Some (Usable slot)) priority is = (slot, refl, cc)
+usable_from_open _ priority is = absurd cc
+
+-- if the verdict is that a slot is usable, there is no reason to skip it, and the verdict has what is needed to open it
+pub of_usable : (reason : Option SkipReason) (made : Option Slot) (usable : Slot)
+    → verdict_by reason made ≡ Usable usable → (reason ≡ None) × (made ≡ Some usable)
+of_usable (Some reason) made usable is = absurd cc
+of_usable None (Some made) usable is = (refl, cc)
+of_usable None None usable is = absurd cc
+
+-- ---- consequences of a reason to skip a slot that does not hold
+
+pub some_from_not_none : {T : Type 0} (o : Option T) → is_none o ≡ false → (t : T) × (o ≡ Some t)
+some_from_not_none None is = absurd cc
+some_from_not_none (Some t) is = (t, refl)
+
+pub digest_there : (limit : Option ℕ) (digest : Option KeyDigest) → has_no_usable_digest limit digest ≡ false
+    → (there : KeyDigest) × (digest ≡ Some there)
+unfolding has_no_usable_digest
+digest_there limit None is = absurd cc
+digest_there limit (Some digest) is = (digest, refl)

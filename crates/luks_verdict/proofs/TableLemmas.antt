@@ -8,19 +8,12 @@ use Rattle.std.proofs.lemmas.List.{append-nil}
 use Rattle.std.proofs.lemmas.Option.{none-some}
 use Rattle.luks_verdict.specs.Table.{first_match, ascending}
 
--- if a table has no match, its first line does not hold, and the other lines have no match
-pub first_not : {T : Type 0} (b : Bool) (name : T) (lines : List (Bool × T)) → first_match ((b, name) ∷ lines) ≡ None
-    → (b ≡ false) × (first_match lines ≡ None)
-first_not true name lines h = absurd (none-some name (sym h))
-first_not false name lines h = (refl, h)
-
 -- if a table has no match, none of its lines holds
 pub none_holds : {T : Type 0} (lines : List (Bool × T)) → first_match lines ≡ None
     → AllByRecursion (λ (line : Bool × T). line.0 ≡ false) lines
 none_holds [] none = tt
-none_holds ((holds, name) ∷ lines) none =
-    let first = first_not holds name lines none in
-    (first.0, none_holds lines first.1)
+none_holds ((true, name) ∷ lines) none = absurd (none-some name (sym none))
+none_holds ((false, name) ∷ lines) none = (refl, none_holds lines none)
 
 -- the list for no numbers is empty
 pub ascending_none : {T : Type 0} (f : ℕ → Option T) → ascending f 0 ≡ []

@@ -1,5 +1,3 @@
-pub mod Digest
-pub mod Evidence
 pub mod Rule
 pub mod SectorSize
 pub mod Segment

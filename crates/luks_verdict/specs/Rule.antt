@@ -1,7 +1,7 @@
 -- Rules for both formats. They are about numbers: a limit and a payload's start, which may be missing, and the size of
 -- an area.
 use Rattle.std.specs.Prelude.{◌≡◌, ℕ, ◌+◌, ◌*◌, ◌/◌, ◌≤◌, ◌==◌, ◌&&◌, ◌||◌, not, nat_lt, Bool, true, false, Option}
-use Rattle.std.specs.Prelude.{Some, None}
+use Rattle.std.specs.Prelude.{Some, None, refl}
 use Rattle.std.proofs.Common.{arith}
 use Rattle.std.proofs.lemmas.Bool.Decides.{nat_tests}
 use Rattle.luks_area.specs.Area.{max_loaded_len}
@@ -58,6 +58,11 @@ is_in_range iterations stripes end = not (iterations_out_of_range None iteration
 unfoldable pub is_digest : ℕ → ℕ → Bool
 is_digest iterations len = not (iterations_out_of_range None iterations) && not (nat_lt len min_digest_len)
     && not (nat_lt max_digest_len len)
+
+-- evidence that a test holds, for values that are made only if it does
+abbrev pub evidence_if : (test : Bool) → Option (test ≡ true)
+evidence_if true = Some refl
+evidence_if false = None
 
 -- the bounds of a slot's numbers that are in range
 pub record InRange (iterations stripes end : ℕ) : Type 0 where

@@ -1,7 +1,7 @@
 -- Segments, made from the parts that were read.
 use Rattle.std.specs.Prelude.{◌≡◌, ◌≢◌, ℕ, true, Option, Some, None, Result, Ok, Err, option_map, refl}
 use Rattle.luks_cipher.specs.declared.mode.Mode.{Mode}
-use Rattle.luks_verdict.specs.Evidence.{evidence_if}
+use Rattle.luks_verdict.specs.Rule.{evidence_if}
 use Rattle.luks_verdict.specs.SectorSize.{HasWholeSectors, has_whole_sectors, whole_by_test}
 use Rattle.luks_verdict.specs.declared.refusal.SegmentFault.{SegmentFault}
 use Rattle.luks_verdict.specs.declared.sector_size.SectorSize.{SectorSize}

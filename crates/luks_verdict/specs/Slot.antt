@@ -1,7 +1,9 @@
--- Key slots, made from the parts that were read, and the verdicts on them.
-use Rattle.std.specs.Prelude.{◌≡◌, ℕ, ◌+◌, Bool, true, Option, Some, None, option_map}
-use Rattle.luks_verdict.specs.Evidence.{evidence_if}
-use Rattle.luks_verdict.specs.Rule.{InRange, in_range, is_in_range, need_of}
+-- Key slots and digests, made from the parts that were read, and the verdicts on key slots.
+use Rattle.std.specs.Prelude.{◌≡◌, ℕ, ◌+◌, Bool, true, Option, Some, None, length, option_map}
+use Rattle.luks_verdict.specs.Rule.{InRange, IsDigest, evidence_if, in_range, is_digest, is_in_range}
+use Rattle.luks_verdict.specs.Rule.{iterations_out_of_range, need_of, usable_digest}
+use Rattle.luks_verdict.specs.declared.digest.DigestParts.{DigestParts}
+use Rattle.luks_verdict.specs.declared.digest.KeyDigest.{KeyDigest}
 use Rattle.luks_verdict.specs.declared.refusal.SkipReason.{SkipReason}
 use Rattle.luks_verdict.specs.declared.refusal.SkipReason.TheVariants.{Member}
 use Rattle.luks_verdict.specs.declared.slot.Slot.{Slot}
@@ -48,3 +50,25 @@ abbrev pub verdict_kind_of : Verdict → VerdictKind
 verdict_kind_of (Usable slot) = KindUsable slot.parts.priority
 verdict_kind_of Disabled = KindDisabled
 verdict_kind_of (Skipped reason) = KindSkipped reason
+
+-- the parts of a digest are in range
+abbrev pub is_usable : DigestParts → Bool
+is_usable parts = is_digest parts.iterations (length parts.value)
+
+-- the digest with these numbers, which are in range
+abbrev pub digest_with : (parts : DigestParts) → IsDigest parts.iterations (length parts.value) → KeyDigest
+digest_with parts usable =
+    record { hash = parts.hash; iterations = parts.iterations; salt = parts.salt; value = parts.value; usable = usable }
+
+-- the digest with these parts, from a test that found their numbers in range
+unfoldable pub digest_of : (parts : DigestParts) → is_usable parts ≡ true → KeyDigest
+digest_of parts is = digest_with parts (usable_digest parts.iterations (length parts.value) is)
+
+-- the digest with these parts, if their numbers are in range
+unfoldable pub digest_from : DigestParts → Option KeyDigest
+digest_from parts = option_map (digest_of parts) (evidence_if (is_usable parts))
+
+-- there is no usable digest for a key slot, or its iterations are out of range
+unfoldable pub has_no_usable_digest : Option ℕ → Option KeyDigest → Bool
+has_no_usable_digest limit None = true
+has_no_usable_digest limit (Some digest) = iterations_out_of_range limit digest.iterations

@@ -39,7 +39,7 @@ pub struct KeyDigest {
 
 impl DigestParts {
     ghost use Rattle.std.specs.Prelude.{◌≡◌, length};
-    ghost use Rattle.luks_verdict.specs.Digest.{digest_from, has_no_usable_digest};
+    ghost use Rattle.luks_verdict.specs.Slot.{digest_from, has_no_usable_digest};
     ghost use Rattle.luks_verdict.specs.declared.digest.DigestParts.{DigestParts};
 
     /// Whether a digest with this number of iterations and bytes is not usable for a key slot: its
@@ -55,10 +55,10 @@ impl DigestParts {
 
 impl KeyDigest {
     ghost use Rattle.std.specs.Prelude.{◌≡◌};
-    ghost use Rattle.luks_verdict.specs.Digest.{digest_from};
+    ghost use Rattle.luks_verdict.specs.Slot.{digest_from};
 
     /// The digest with these parts, if their numbers are in range.
-    #[tactic(auto, unfolding(crate::specs::Digest::digest_from))]
+    #[tactic(auto, unfolding(crate::specs::Slot::digest_from))]
     pub fn from_parts(parts: DigestParts) -> Option<KeyDigest>
         ensures { result ≡ digest_from parts }
     {

@@ -1,5 +1,5 @@
 use Rattle.std.proofs.Common.{◌∙◌, Some, ap, sym, ◌≡◌, ◌≢◌, arith}
-use Rattle.luks_io.specs.Memory.{MemSourceModel}
+use Rattle.luks_io.specs.Counts.{MemSourceModel}
 use Rattle.luks_cipher.proofs.ModeLemmas.{longest_mode_key}
 use Rattle.luks_io.specs.Devices.{counted}
 use Rattle.luks_report.specs.declared.message.Message.{Message}
@@ -7,7 +7,7 @@ use Rattle.luks_report.specs.declared.message.Message.TheVariants.{Done, ReadFai
 use Rattle.luks_runs.specs.Run.{is_run_read_failure}
 use Rattle.luks_unlock.proofs.PrefixLemmas.{outcome_decided}
 use Rattle.luks_unlock.specs.OpeningMessages.{OpeningMessage}
-use Rattle.luks_c.specs.Codes.{code_for}
+use Rattle.luks_c.specs.Stored.{code_for}
 use Rattle.luks_c.proofs.luksrd_open.Goals as goal
 
 -- no read of a source over memory fails

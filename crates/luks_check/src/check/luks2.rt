@@ -1,7 +1,7 @@
 //! The finding about the two headers of LUKS2.
 
 ghost use Rattle.std.specs.Prelude.{◌≡◌, ◌++◌, OnOk, string_bytes};
-ghost use Rattle.luks_check.specs.Findings2.{pair_finding_line};
+ghost use Rattle.luks_check.specs.Findings.{pair_finding_line};
 
 use luks_dump::field::push_field;
 use luks_header::header::PairFinding;

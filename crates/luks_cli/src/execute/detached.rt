@@ -3,9 +3,8 @@
 ghost use Rattle.std.specs.Prelude.{◌≡◌, true};
 ghost use Rattle.luks_request.specs.Request.{has_header_file, request_of};
 ghost use Rattle.luks_runs.specs.Location.{detached_header_of};
-ghost use Rattle.luks_cli.specs.CommandRun.{CountsCallsDetached, NeedsNoPayload};
-ghost use Rattle.luks_cli.specs.CommandRun.{ReadsPayloadImage, RunsDetached};
-ghost use Rattle.luks_cli.specs.CommandRun.{NeedsNoSecret, ReadsFirst};
+ghost use Rattle.luks_cli.specs.CommandRun.{CountsCallsDetached, NeedsNoPayload, NeedsNoSecret};
+ghost use Rattle.luks_cli.specs.CommandRun.{ReadsFirst, ReadsImage, RunsDetached};
 ghost use Rattle.luks_cli.specs.Outcome.{MayReport};
 
 use super::{report, volumes};
@@ -39,14 +38,14 @@ pub fn execute_detached<H: Source, I: Source, K: Source, O: Sink>(
         (H.to_come header.old) (H.to_come header.new) (I.to_come image.old) (I.to_come image.new)
         (K.to_come secret.old) (K.to_come secret.new) (O.written out.old) (O.written out.new) }
     ensures only { MayReport (request_of command.now) result.message }
-    ensures unneeded { NeedsNoSecret detached_header_of (request_of command.now) (H.to_come header.old)
-        → secret.new ≡ secret.old }
+    ensures unneeded { NeedsNoSecret detached_header_of (request_of command.now)
+        (H.to_come header.old) → secret.new ≡ secret.old }
     ensures untouched { NeedsNoPayload (request_of command.now) result.message
         → image.new ≡ image.old }
     ensures reads_first { ReadsFirst (request_of command.now) → result.message ≡ Message.ReadFailed
         → out.new ≡ out.old }
-    ensures calls { CountsCallsDetached
-        (ReadsPayloadImage (request_of command.now) (H.to_come header.old) (K.to_come secret.old))
+    ensures calls { CountsCallsDetached (ReadsImage HeaderLocation.Detached
+        (request_of command.now) (H.to_come header.old) (K.to_come secret.old))
         result.message (H.counts header.old) (H.counts header.new)
         (I.counts image.old) (I.counts image.new) (K.counts secret.old) (K.counts secret.new)
         (O.counts out.old) (O.counts out.new) }

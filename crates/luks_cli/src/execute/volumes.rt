@@ -19,10 +19,8 @@ ghost use Rattle.luks_runs.specs.Run.{RunMatches, DetachedRunMatches, AnyPromptn
 ghost use Rattle.luks_runs.specs.Run.{is_run_read_failure, is_run_write_failure, result_message};
 ghost use Rattle.luks_runs.specs.Location.{LoadedFrom, reader_for};
 ghost use Rattle.luks_cli.specs.CommandRun.{CatAllows, CountsCalls, CountsReads, ReadsOnce};
-ghost use Rattle.luks_cli.specs.CommandRun.{ReadsPayload};
-ghost use Rattle.luks_cli.specs.CommandRun.{CountsCallsDetached, DetachedCatAllows, EndsWithoutKey};
-ghost use Rattle.luks_cli.specs.Unlocking.{EndsLocked, UnlockEffect, Unlocks};
-ghost use Rattle.luks_cli.specs.Unlocking.{PromptCat, PromptDetachedCat};
+ghost use Rattle.luks_cli.specs.CommandRun.{CountsCallsDetached, EndsWithoutKey, ReadsPayload};
+ghost use Rattle.luks_cli.specs.Unlocking.{EndsLocked, PromptCat, UnlockEffect, Unlocks};
 
 use luks_header::area::HeaderArea;
 use luks_io::memory::MemSource;
@@ -199,7 +197,7 @@ pub(super) fn cat<I: Source, K: Source, O: Sink>(
     ensures only { OpeningMessage (result_message result) ⊎ PayloadMessage (result_message result) }
     ensures run { IfKnown (I.to_come image.old)
         (λ known. IfKnown (K.to_come secret.old) (λ passphrase.
-        length known < 2 ^ 64 → RunMatches (PromptCat known)
+        length known < 2 ^ 64 → RunMatches (PromptCat HeaderLocation.Attached known)
         (volume_outcome (payload_outcome known passphrase) (volume_request opening.now) known
         passphrase)
         (result_message result) (ConsumedExactly known (I.to_come image.new))
@@ -207,7 +205,8 @@ pub(super) fn cat<I: Source, K: Source, O: Sink>(
         (Appended (O.written out.old) (O.written out.new)))) }
     ensures unneeded { IfKnown (I.to_come image.old) (λ known.
         is_err (volume_of (volume_request opening.now) known) ≡ true → secret.new ≡ secret.old) }
-    ensures calls { CountsCalls (ReadsPayload (CatAllows (volume_request opening.now)
+    ensures calls { CountsCalls
+        (ReadsPayload (CatAllows HeaderLocation.Attached (volume_request opening.now)
         (I.to_come image.old) (K.to_come secret.old))) (result_message result)
         (I.counts image.old) (I.counts image.new) (K.counts secret.old) (K.counts secret.new)
         (O.counts out.old) (O.counts out.new) }
@@ -233,7 +232,8 @@ pub(super) fn cat_detached<H: Source, I: Source, K: Source, O: Sink>(
     ensures only { OpeningMessage (result_message result) ⊎ PayloadMessage (result_message result) }
     ensures run { IfKnown (H.to_come header.old)
         (λ file. IfKnown (I.to_come image.old) (λ known. IfKnown (K.to_come secret.old)
-        (λ passphrase. length known < 2 ^ 64 → DetachedRunMatches (PromptDetachedCat file)
+        (λ passphrase. length known < 2 ^ 64
+        → DetachedRunMatches (PromptCat HeaderLocation.Detached file)
         (volume_outcome_by detached_header_of (detached_payload_outcome known passphrase)
         (volume_request opening.now) file passphrase) (result_message result)
         (ConsumedExactly file (H.to_come header.new)) (ConsumedExactly known (I.to_come image.new))
@@ -244,7 +244,8 @@ pub(super) fn cat_detached<H: Source, I: Source, K: Source, O: Sink>(
         → secret.new ≡ secret.old) }
     ensures before_key { EndsWithoutKey (result_message result) → image.new ≡ image.old }
     ensures calls { CountsCallsDetached
-        (ReadsPayload (DetachedCatAllows (H.to_come header.old) (K.to_come secret.old)))
+        (ReadsPayload (CatAllows HeaderLocation.Detached (volume_request opening.now)
+        (H.to_come header.old) (K.to_come secret.old)))
         (result_message result) (H.counts header.old) (H.counts header.new)
         (I.counts image.old) (I.counts image.new)
         (K.counts secret.old) (K.counts secret.new) (O.counts out.old) (O.counts out.new) }

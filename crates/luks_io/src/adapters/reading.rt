@@ -79,7 +79,7 @@ impl<R: Read> ReadSource<R> {
 }
 
 impl<R: Read> Source for ReadSource<R> {
-    ghost use Rattle.luks_io.specs.Reads.{left_of};
+    ghost use Rattle.luks_io.specs.Counts.{left_of};
 
     ghost to_come = { λ s. left_of s.counts.ends (R.remaining s.reader) };
 

@@ -73,7 +73,7 @@ pub struct WriteSink<W> {
 }
 
 impl<W> Model for WriteSink<W> {
-    ghost use Rattle.luks_io.specs.Writer.{WriteSinkModel};
+    ghost use Rattle.luks_io.specs.Counts.{WriteSinkModel};
 
     ghost Value = { WriteSinkModel W };
 

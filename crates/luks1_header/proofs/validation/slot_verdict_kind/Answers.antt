@@ -1,5 +1,5 @@
 use Rattle.std.proofs.Common.{◌∙◌, sym}
-use Rattle.luks1_header.proofs.SlotLemmas.{usable_verdict}
+use Rattle.luks1_header.proofs.ValidationLemmas.{usable_verdict}
 use Rattle.luks1_header.proofs.validation.slot_verdict_kind.Goals as goal
 
 pub returns-in-None : goal.returns-in-None

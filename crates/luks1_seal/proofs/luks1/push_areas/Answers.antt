@@ -1,4 +1,4 @@
-use Rattle.std.proofs.Common.{◌≡◌, ◌∙◌, ◌++◌, ap, arith}
+use Rattle.std.proofs.Common.{◌∙◌, ◌++◌, ap, arith}
 use Rattle.luks_kdf.specs.Bytes.{joined}
 use Rattle.luks_seal.proofs.SectorLemmas.{pieces_more}
 use Rattle.luks1_seal.specs.Layout1.{area1_of}
@@ -11,5 +11,4 @@ slots-preserved c =
 
 pub returns : goal.returns
 returns c =
-    let at_end : c.slots.number ≡ 8 = omega arith in
-    c.slots.invariant ∙ ap (λ n. c.args.image.now.items ++ joined (area1_of c.args.seal.now) n) at_end
+    c.slots.invariant ∙ ap (λ n. c.args.image.now.items ++ joined (area1_of c.args.seal.now) n) (omega arith)

@@ -1,8 +1,8 @@
 use Rattle.std.proofs.Common.{◌∙◌, ap, sym, arith}
-use Rattle.std.proofs.lemmas.Result.{err_from_is_err_and}
+use Rattle.luks_io.proofs.ErrorLemmas.{given_error}
 use Rattle.luks2_binary.specs.Choice2.{is_valid, size_at, with_valid_primary}
 use Rattle.luks2_binary.specs.ReadLen2.{probe2_len}
-use Rattle.luks2_binary.proofs.AgreeLemmas.{none_fails, some_holds}
+use Rattle.luks2_binary.proofs.ValidLemmas.{none_fails, some_holds}
 use Rattle.luks2_binary.proofs.ChoiceLemmas.{beside_same, chosen_primary, found_chosen, probe_first, probe_other}
 use Rattle.luks2_binary.proofs.ChoiceLemmas.{probe_primary}
 use Rattle.luks2_binary.proofs.PrefixLemmas.{loads_aborted, loads_as, loads_then, prefix_of_itself}
@@ -10,8 +10,8 @@ use Rattle.luks2_binary.proofs.reading.choose.Goals as goal
 
 pub returns-in_err-size-clause-loads : goal.returns-in_err-size-clause-loads
 returns-in_err-size-clause-loads g c =
-    let p = err_from_is_err_and c.from_residual.result c.from_residual.ensures.1 in
-    rw (p.1, p.2) (loads_aborted probe2_len c.in_err-size.ensures.loads (λ image prefix. probe_first image))
+    rw (given_error _ _ c.from_residual.ensures.1)
+    (loads_aborted probe2_len c.in_err-size.ensures.loads (λ image prefix. probe_first image))
 
 -- the primary header is not valid
 pub returns-in_default-clause-chosen : goal.returns-in_default-clause-chosen
@@ -31,8 +31,8 @@ returns-in_default-clause-loads g c =
 -- the primary header is valid
 pub returns-in_err-grow-clause-loads : goal.returns-in_err-grow-clause-loads
 returns-in_err-grow-clause-loads g c =
-    let p = err_from_is_err_and c.from_residual-in_err-grow.result c.from_residual-in_err-grow.ensures.1 in
-    rw (p.1, p.2) (loads_aborted probe2_len (loads_then c.in_ok-size.ensures.loads c.in_err-grow.ensures.loads)
+    rw (given_error _ _ c.from_residual-in_err-grow.ensures.1)
+    (loads_aborted probe2_len (loads_then c.in_ok-size.ensures.loads c.in_err-grow.ensures.loads)
     (λ image prefix.
     let is = some_holds (is_valid image 0) c.in-Some.size (size_at image 0) (sym c.in-Some.is
     ∙ c.in_ok-size.ensures.valid image (c.grow.ensures.loads.prefixes image prefix)) in

@@ -1,5 +1,5 @@
 use Rattle.std.proofs.Common.{◌∙◌, Err, sym}
-use Rattle.std.proofs.lemmas.Result.{err_from_is_err_and}
+use Rattle.luks_io.proofs.ErrorLemmas.{given_error}
 use Rattle.luks2_binary.proofs.PrefixLemmas.{loads_by, loads_none}
 use Rattle.luks2_binary.proofs.reading.grow.Goals as goal
 
@@ -11,9 +11,8 @@ returns-then-has_ended g c = record {
 
 pub returns-in_err-extend_to : goal.returns-in_err-extend_to
 returns-in_err-extend_to g c =
-    let p = err_from_is_err_and c.from_residual.result c.from_residual.ensures.1 in
     let call = c.in_err-extend_to.ensures in
-    rw (p.1, p.2) (record {
+    rw (given_error _ _ c.from_residual.ensures.1) (record {
       loads = loads_by c.args.area.now c.extend_to.new.self c.args.end (Err c.in_err-extend_to.field-0.0) _ _ _ _
           (sym c.has_ended.ensures ∙ c.if-has_ended.false) call.loads call.consumed (λ all. (call.already all).0)
           (λ stops. (call.memory stops).0) call.reads call.ended;

@@ -1,11 +1,11 @@
 use Rattle.std.proofs.Common.{◌∙◌, ◌+◌, ap, sym, length, get_or, arith}
 use Rattle.std.specs.Prelude.{option_and_then}
-use Rattle.std.proofs.lemmas.Result.{err_from_is_err_and}
+use Rattle.luks_io.proofs.ErrorLemmas.{given_error}
 use Rattle.luks2_binary.specs.Choice2.{found_at}
 use Rattle.luks2_binary.specs.ReadLen2.{search_len}
 use Rattle.luks2_binary.proofs.PrefixLemmas.{loads_aborted, loads_as, loads_none, loads_then, prefix_of_itself}
-use Rattle.luks2_binary.proofs.SearchLemmas.{found_least, found_valid, place_range, probe_below, search_ends, so_far}
-use Rattle.luks2_binary.proofs.SearchLemmas.{searched_all, searched_none, searched_on, searched_place, so_far_next}
+use Rattle.luks2_binary.proofs.SearchLemmas.{found_least, found_valid, place_range, probe_below, searched_all, so_far}
+use Rattle.luks2_binary.proofs.SearchLemmas.{searched_none, searched_on, searched_place, so_far_next}
 use Rattle.luks2_binary.proofs.reading.search.Goals as goal
 
 pub loop-place-init : goal.loop-place-init
@@ -21,8 +21,7 @@ valid_size-requires g c =
 -- reading is aborted at an offset
 pub returns-in_err-valid_size-clause-loads : goal.returns-in_err-valid_size-clause-loads
 returns-in_err-valid_size-clause-loads g c =
-    let p = err_from_is_err_and c.from_residual.result c.from_residual.ensures.1 in
-    rw (p.1, p.2) (loads_aborted search_len
+    rw (given_error _ _ c.from_residual.ensures.1) (loads_aborted search_len
     (loads_then c.loop-place.invariant.loads c.in_err-valid_size.ensures.loads) (λ image prefix.
     probe_below image c.loop-place.place-index _ c.places-place-items.ensures c.loop-place-test.true
     (c.loop-place.invariant.searched image (c.valid_size.ensures.loads.prefixes image prefix))))
@@ -50,15 +49,16 @@ returns-then-is_some-clause-found g c = λ image prefix.
     let valid = found_valid new.bytes place c.in_ok-valid_size.field-0
     (c.in_ok-valid_size.ensures.valid new.bytes (prefix_of_itself new.bytes new.ended)) ∙ some in
     found_least new.bytes new.ended image c.as_slice-bytes.result.now place c.valid_header.result prefix
-    c.as_slice-bytes.ensures.value valid c.valid_header.ensures first
+    c.as_slice-bytes.ensures.value valid c.valid_header.ensures first.0
 
 pub returns-then-is_some-clause-loads : goal.returns-then-is_some-clause-loads
 returns-then-is_some-clause-loads g c =
     loads_as search_len (loads_then c.loop-place.invariant.loads c.in_ok-valid_size.ensures.loads) (λ image prefix.
-    search_ends image c.loop-place.place-index _ c.places-place-items.ensures c.loop-place-test.true
+    let first = searched_place image c.loop-place.place-index _ c.places-place-items.ensures c.loop-place-test.true
     (c.loop-place.invariant.searched image (c.valid_size.ensures.loads.prefixes image prefix))
     (found_valid image _ c.in_ok-valid_size.field-0 (c.in_ok-valid_size.ensures.valid image prefix)
-    ∙ (sym c.is_some.ensures ∙ c.if-is_some.true)))
+    ∙ (sym c.is_some.ensures ∙ c.if-is_some.true)) in
+    first.1)
 
 -- no valid header is at the offset: the search continues
 pub loop-place-preserved : goal.loop-place-preserved

@@ -1,16 +1,16 @@
 use Rattle.std.proofs.Common.{◌∙◌, ap, refl, sym, arith}
 use Rattle.std.specs.Bool.{then_some}
-use Rattle.std.proofs.lemmas.Result.{err_from_is_err_and}
+use Rattle.luks_io.proofs.ErrorLemmas.{given_error}
 use Rattle.luks2_binary.specs.ReadLen2.{probe_end}
-use Rattle.luks2_binary.proofs.AgreeLemmas.{fit_here, probe_fit, probe_least, probe_unfit, unfit_here, valid_here}
 use Rattle.luks2_binary.proofs.PrefixLemmas.{loads_aborted, loads_as, loads_then}
-use Rattle.luks2_binary.proofs.ValidLemmas.{unfit-is_valid}
+use Rattle.luks2_binary.proofs.ValidLemmas.{fit_here, probe_fit, probe_least, probe_unfit, unfit-is_valid, unfit_here}
+use Rattle.luks2_binary.proofs.ValidLemmas.{valid_here}
 use Rattle.luks2_binary.proofs.reading.valid_size.Goals as goal
 
 pub returns-in_err-grow-clause-loads : goal.returns-in_err-grow-clause-loads
 returns-in_err-grow-clause-loads g c =
-    let p = err_from_is_err_and c.from_residual.result c.from_residual.ensures.1 in
-    rw (p.1, p.2) (loads_aborted (λ image. probe_end image c.args.place) c.in_err-grow.ensures.loads
+    rw (given_error _ _ c.from_residual.ensures.1)
+    (loads_aborted (λ image. probe_end image c.args.place) c.in_err-grow.ensures.loads
     (λ image prefix. probe_least image c.args.place))
 
 -- no header fits
@@ -30,8 +30,7 @@ returns-in_default-clause-loads g c =
 -- a header fits
 pub returns-in_err-grow-2-clause-loads : goal.returns-in_err-grow-2-clause-loads
 returns-in_err-grow-2-clause-loads g c =
-    let p = err_from_is_err_and c.from_residual-in_err-grow-2.result c.from_residual-in_err-grow-2.ensures.1 in
-    rw (p.1, p.2) (loads_aborted (λ image. probe_end image c.args.place)
+    rw (given_error _ _ c.from_residual-in_err-grow-2.ensures.1) (loads_aborted (λ image. probe_end image c.args.place)
     (loads_then c.in_ok-grow.ensures.loads c.in_err-grow-2.ensures.loads) (λ image prefix.
     let fit = fit_here c.grow.new.area image c.as_slice.result.now c.args.place
     (c.grow-2.ensures.loads.prefixes image prefix) c.as_slice.ensures.value c.in-Some.size c.in-Some.ensures.value in

@@ -1,8 +1,8 @@
-use Rattle.std.proofs.Common.{◌≡◌, Ok, sym, ap, ◌∙◌}
+use Rattle.std.proofs.Common.{◌≡◌, Ok, sym, subst, ap, ◌∙◌}
 use Rattle.base64.proofs.Streams.{decoded_of-ok}
 use Rattle.base64.specs.Engines.{standard}
 use Rattle.base64.specs.GeneralPurpose.{IsDecodeFailure, decode_of, decoded_of}
-use Rattle.luks2_json.proofs.EncodedLemmas.{encoded_failed}
+use Rattle.luks2_json.proofs.EncodedLemmas.{encoded_err}
 use Rattle.luks2_json.proofs.encoded.decoded.Goals as goal
 
 pub returns-in-Ok : goal.returns-in-Ok
@@ -14,5 +14,6 @@ pub returns-in-Err-DecodeError : goal.returns-in-Err-DecodeError
 returns-in-Err-DecodeError c =
     let failure : IsDecodeFailure standard c.as_bytes.result.now c.in-Err-DecodeError.field-0 =
     c.in-Err-DecodeError.ensures.err in
-    sym (encoded_failed c.as_bytes.result.now _ _ failure c.in-Err-DecodeError.field-0-is)
+    sym (encoded_err c.as_bytes.result.now _
+    (subst (IsDecodeFailure standard c.as_bytes.result.now) c.in-Err-DecodeError.field-0-is failure))
     ∙ ap (decoded_of standard) c.as_bytes.ensures.value

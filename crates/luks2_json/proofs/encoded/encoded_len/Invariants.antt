@@ -1,5 +1,5 @@
 use Rattle.std.proofs.Common.{◌≡◌, ℕ, ◌+◌, ◌*◌, ◌≤◌, length, option_map}
-use Rattle.luks2_json.specs.Encoded.{encoded_len}
+use Rattle.luks2_json.specs.Member.{encoded_len}
 use Rattle.luks2_json.proofs.encoded.encoded_len.Given as goal
 
 abbrev pub invariant-groups : goal.invariant-groups

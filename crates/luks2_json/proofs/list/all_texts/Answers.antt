@@ -2,7 +2,7 @@ use Rattle.std.proofs.Common.{rules, tests, ◌∙◌}
 use Rattle.std.proofs.lemmas.Iterator.{YieldsList-from_slice}
 use Rattle.std.proofs.lemmas.Iterator.Search.{all_from_yields_List}
 use Rattle.luks2_json.specs.List.{is_text}
-use Rattle.luks2_json.proofs.ListLemmas.{list_all-items}
+use Rattle.luks2_json.proofs.NumberedLemmas.{list_all-items}
 use Rattle.luks2_json.proofs.list.all_texts.Goals as goal
 use Rattle.serde_json.specs.View.{view}
 

@@ -1,4 +1,4 @@
-use Rattle.luks2_json.proofs.ListLemmas.{texts_more}
+use Rattle.luks2_json.proofs.NumberedLemmas.{texts_more}
 use Rattle.luks2_json.proofs.list.strings_among.Goals as goal
 
 pub loop-value-preserved : goal.loop-value-preserved

@@ -1,5 +1,5 @@
 use Rattle.std.proofs.Common.{rules, ◌∙◌}
-use Rattle.luks2_json.proofs.MemberLemmas.{parse-decimal}
+use Rattle.luks2_json.proofs.EncodedLemmas.{parse-decimal}
 use Rattle.luks2_json.proofs.member.number_of.Goals as goal
 
 pub returns : goal.returns

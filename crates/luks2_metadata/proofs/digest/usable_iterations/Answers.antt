@@ -1,7 +1,7 @@
 use Rattle.std.proofs.Common.{◌≡◌, true, option_map, sym, ap, arith}
-use Rattle.luks_verdict.specs.Rule.{is_digest}
+use Rattle.luks_verdict.specs.Rule.{is_digest, usable_digest}
 use Rattle.luks2_metadata.specs.Digest2.{iterations_of_digest}
-use Rattle.luks2_metadata.proofs.DigestLemmas.{few_iterations, digest_in_range, not_digest, out_of_range}
+use Rattle.luks2_metadata.proofs.SlotLemmas.{digest_in_range, not_digest, out_of_range}
 use Rattle.luks2_metadata.proofs.digest.usable_iterations.Goals as goal
 use Rattle.serde_json.specs.View.{view}
 
@@ -15,7 +15,7 @@ returns-then-not-usable_digest c =
 pub overflow_cast-result : goal.overflow_cast-result
 overflow_cast-result c =
     let held : is_digest c.iterations_in-iterations.result c.value_len.result ≡ true = cc in
-    let few = few_iterations _ _ held in
+    let few = (usable_digest _ _ held).few_iterations in
     record { fits = omega arith }
 
 pub returns : goal.returns

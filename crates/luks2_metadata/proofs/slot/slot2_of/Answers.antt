@@ -10,7 +10,7 @@ small : (c : goal.Else-is_some) → IsSmall (view c.args.slot.now)
 small c =
     let none : reason2_of (view c.args.tree.now) c.args.bounds None c.args.number (view c.args.slot.now) ≡ None =
     sym c.reason.ensures ∙ none_from_not_some _ (sym c.is_some.ensures ∙ c.if-is_some.false) in
-    small_of (view c.args.tree.now) c.args.bounds c.args.number (view c.args.slot.now) none
+    small_of (view c.args.tree.now) c.args.bounds None c.args.number (view c.args.slot.now) none
 
 pub parts-requires-clause-iterations : goal.parts-requires-clause-iterations
 parts-requires-clause-iterations c = (small c).iterations

@@ -18,10 +18,7 @@ encrypted_material-requires c =
 pub returns : goal.returns
 unfolding area_of
 returns c =
-    let key = c.in_ok-area_key.ensures in
-    let stripes = c.in_ok-stripes.ensures in
-    let material = c.in_ok-material.ensures in
     let is : padded c.area_size-size.result c.deref-3.result.now ≡ area_of c.args.seal.now c.args.slot.now =
-    cc (key, stripes, material) in
+    cc (c.in_ok-area_key.ensures, c.in_ok-stripes.ensures, c.in_ok-material.ensures) in
     on_ok_weaker c.push_padded.result (λ adds. adds ∙ ap (λ a. c.args.image.now.items ++ a) is)
     c.push_padded.ensures

@@ -1,4 +1,4 @@
-use Rattle.std.proofs.Common.{◌≡◌, ◌∙◌, ◌++◌, ap, arith}
+use Rattle.std.proofs.Common.{◌∙◌, ◌++◌, ap, arith}
 use Rattle.luks_kdf.specs.Bytes.{joined}
 use Rattle.luks_seal.proofs.SectorLemmas.{pieces_more}
 use Rattle.luks2_seal.specs.Layout2.{area_at}
@@ -11,5 +11,4 @@ slots-preserved c =
 
 pub returns : goal.returns
 returns c =
-    let at_end : c.slots.number ≡ 32 = omega arith in
-    c.slots.invariant ∙ ap (λ n. c.args.image.now.items ++ joined (area_at c.args.seal.now) n) at_end
+    c.slots.invariant ∙ ap (λ n. c.args.image.now.items ++ joined (area_at c.args.seal.now) n) (omega arith)

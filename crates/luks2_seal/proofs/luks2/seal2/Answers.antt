@@ -1,6 +1,6 @@
 use Rattle.std.proofs.Common.{rules, sym, subst}
 use Rattle.luks_seal.specs.Sealed.{Sealed}
-use Rattle.luks2_seal.specs.Metadata2.{FitsJson}
+use Rattle.luks2_seal.specs.Layout2.{FitsJson}
 use Rattle.luks2_seal.specs.Ranges2.{passphrases2_of, AreParameters2}
 use Rattle.luks2_seal.proofs.Sealed2.{sealed2}
 use Rattle.luks2_seal.proofs.luks2.seal2.Goals as goal

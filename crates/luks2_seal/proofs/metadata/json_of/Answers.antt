@@ -2,7 +2,7 @@ use Rattle.std.proofs.Common.{◌∙◌, ◌≤◌, Some, ap, subst, sym}
 use Rattle.std.proofs.lemmas.Result.{IfOk-weaker}
 use Rattle.serde_json.specs.Data.{depth}
 use Rattle.serde_json.specs.Written.{compact_text, has_float}
-use Rattle.luks2_seal.specs.Metadata2.{json_of}
+use Rattle.luks2_seal.specs.Layout2.{json_of}
 use Rattle.luks2_seal.proofs.MetadataLemmas.{metadata_flat, text_read}
 use Rattle.luks2_seal.proofs.metadata.json_of.Goals as goal
 

@@ -1,6 +1,6 @@
 use Rattle.std.proofs.Common.{◌≡◌, map}
 use Rattle.serde_json.specs.View.{view}
-use Rattle.luks2_seal.specs.Metadata2.{names_below}
+use Rattle.luks2_seal.specs.Layout2.{names_below}
 use Rattle.luks2_seal.proofs.metadata.keyslot_names.Given as goal
 
 -- the numbers so far are listed

@@ -1,6 +1,6 @@
 use Rattle.std.proofs.Common.{◌≡◌, ◌+◌, ◌-◌, ap, arith, ◌∙◌}
 use Rattle.luks_aes.specs.Aes.{state_after, cipher, add_round_key, shift_rows, sub_bytes}
-use Rattle.luks_aes.proofs.CipherLemmas.{round_after}
+use Rattle.luks_aes.proofs.Undone.{round_after}
 use Rattle.luks_aes.proofs.cipher.cipher.Goals as goal
 
 pub loop-round-init : goal.loop-round-init
@@ -23,6 +23,6 @@ returns c =
     let w = c.args.schedule.now in
     let last : c.loop-round.round ≡ c.args.rounds = omega arith in
     let state = c.bytes_of-last.ensures ∙ c.loop-round.invariant ∙ ap (λ n. state_after c.args.block w (n - 1)) last in
-    c.add_round_key.ensures
+    c.bytes_of.ensures ∙ c.with_round_key-sum.ensures
     ∙ ap (λ s. add_round_key s w c.args.rounds)
-    (c.shift_rows.ensures ∙ ap shift_rows (c.sub_bytes.ensures ∙ ap sub_bytes state))
+    (c.columns_of-shifted.ensures ∙ c.sub_bytes_and_shift_rows.ensures ∙ ap (λ s. shift_rows (sub_bytes s)) state)

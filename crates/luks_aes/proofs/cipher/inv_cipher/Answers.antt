@@ -1,10 +1,9 @@
 use Rattle.std.proofs.Common.{◌≡◌, ◌-◌, ap, arith, ◌∙◌, sym, rules}
 use Rattle.luks_aes.specs.Aes.{inv_state_after, inv_cipher, add_round_key, inv_shift_rows, inv_sub_bytes}
 use Rattle.luks_aes.specs.Bytes.{IsBytes}
-use Rattle.luks_aes.proofs.CipherLemmas.{inv_round_after}
 use Rattle.luks_aes.proofs.ColumnLemmas.{state_from_words}
-use Rattle.luks_aes.proofs.Redone.{inv_shift_rows_state, inv_sub_bytes_state}
-use Rattle.luks_aes.proofs.InvMixedLemmas.{round_key_inv_mixed}
+use Rattle.luks_aes.proofs.Undone.{inv_round_after, inv_shift_rows_state, inv_sub_bytes_state}
+use Rattle.luks_aes.proofs.MixingLemmas.{round_key_inv_mixed}
 use Rattle.luks_aes.proofs.cipher.inv_cipher.Goals as goal
 
 pub loop-round-init : goal.loop-round-init
@@ -41,6 +40,7 @@ returns c =
     let last : c.args.rounds - c.loop-round.round ≡ c.args.rounds - 1 = omega arith in
     let state = c.bytes_of-last.ensures ∙ c.loop-round.invariant.1
     ∙ ap (inv_state_after c.args.block c.args.rounds w) last in
-    c.add_round_key.ensures
+    c.bytes_of.ensures ∙ c.with_round_key-sum.ensures
     ∙ ap (λ s. add_round_key s w 0)
-    (c.inv_sub_bytes.ensures ∙ ap inv_sub_bytes (c.inv_shift_rows.ensures ∙ ap inv_shift_rows state))
+    (c.columns_of-shifted.ensures ∙ c.inv_shift_rows_and_sub_bytes.ensures
+    ∙ ap (λ s. inv_sub_bytes (inv_shift_rows s)) state)

@@ -1,4 +1,4 @@
-use Rattle.luks_aes.proofs.WordLemmas.{bytes_of_sum}
+use Rattle.luks_aes.proofs.ColumnLemmas.{bytes_of_sum}
 use Rattle.luks_aes.proofs.columns.column_xor.Goals as goal
 
 pub returns : goal.returns

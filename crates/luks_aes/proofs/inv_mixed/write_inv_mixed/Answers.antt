@@ -1,5 +1,5 @@
 use Rattle.std.proofs.Common.{arith, ◌∙◌}
-use Rattle.luks_aes.proofs.InvMixedLemmas.{products_more}
+use Rattle.luks_aes.proofs.MixingLemmas.{products_more}
 use Rattle.luks_aes.proofs.inv_mixed.write_inv_mixed.Goals as goal
 
 pub returns : goal.returns

@@ -1,15 +1,11 @@
-use Rattle.std.proofs.Common.{◌≡◌, ℕ, ◌+◌, ◌-◌, List, arith, refl, sym, ap, subst, ◌∙◌}
-use Rattle.luks_aes.specs.Field.{◌⊕◌}
+use Rattle.std.proofs.Common.{◌≡◌, ℕ, ◌+◌, ◌-◌, arith, refl, sym, ap, subst, ◌∙◌}
 use Rattle.luks_aes.specs.Aes.{key_expansion, rounds_of, inv_state_after, inv_cipher, decrypted, add_round_key}
 use Rattle.luks_aes.specs.Aes.{inv_sub_bytes, inv_shift_rows}
-use Rattle.luks_aes.specs.Columns.{key_byte}
 use Rattle.luks_aes.proofs.ByteLists.{expansion_bytes}
-use Rattle.luks_aes.proofs.CipherLemmas.{inv_round_after}
-use Rattle.luks_aes.proofs.Redone.{inv_after_state}
-use Rattle.luks_bitslice.specs.BitPlanes.{column_index}
-use Rattle.luks_aes_batch.specs.RoundKeys.{rows_of, HasRoundKey, HasInvMixedKey}
+use Rattle.luks_aes.proofs.Undone.{inv_round_after, inv_after_state}
+use Rattle.luks_aes_batch.specs.RoundKeys.{rows_of, HasInvMixedKey}
 use Rattle.luks_aes_batch.proofs.StateLemmas.{all_as}
-use Rattle.luks_aes_batch.proofs.RoundLemmas.{cells, rows_keyed, rows_plain, states_same, rotated_same}
+use Rattle.luks_aes_batch.proofs.RoundLemmas.{rows_keyed, rows_plain, states_same, rotated_same}
 use Rattle.luks_aes_batch.proofs.key.decrypted_rows.Goals as goal
 
 pub loop-round-init : goal.loop-round-init
@@ -20,11 +16,8 @@ loop-round-init c =
       some = omega arith;
       hold = λ key s is rounds bytes all hold.
           let w = key_expansion key in
-          let first = subst (λ (x : List (List (List ℕ))). HasRoundKey w (rounds_of key) 0x63 x) (sym c.rows.ensures)
-          is.first_key in
-          let keyed = c.add_round_key_batch.ensures (cells s) (λ r q. key_byte w (rounds_of key) r
-          (column_index q) ⊕ 0x63)
-          (rows_plain s c.args.rows hold all) first.represented in
+          let first = all_as c.rows.ensures is.first_key.represented in
+          let keyed = c.add_round_key_batch.ensures _ _ (rows_plain s c.args.rows hold all) first in
           let held = rows_keyed s w (rounds_of key) 0x63 _ (omega arith) all (expansion_bytes key bytes) keyed in
           let inv_shift_rows_batch = c.inv_shift_rows_batch.ensures _ held.represented in
           rotated_same _ _ _ (λ m. ap (add_round_key (s m) w) (sym rounds)

@@ -2,7 +2,7 @@ use Rattle.std.proofs.Common.{◌≡◌, ℕ, ◌+◌, arith, rules, subst, ◌�
 use Rattle.std.proofs.Math.ListN.{length-set}
 use Rattle.luks_aes.specs.Aes.{key_expansion, rounds_of}
 use Rattle.luks_aes_batch.specs.RoundKeys.{HasInvMixedKeys}
-use Rattle.luks_aes_batch.proofs.KeyLemmas.{keys_more}
+use Rattle.luks_aes_batch.proofs.RoundLemmas.{keys_more}
 use Rattle.luks_aes_batch.proofs.key.fill.Goals as goal
 
 pub loop-n-init : goal.loop-n-init

@@ -1,6 +1,6 @@
 use Rattle.luks_aes.specs.Aes.{key_expansion}
 use Rattle.luks_aes.specs.Columns.{key_byte}
-use Rattle.luks_aes_batch.proofs.KeyLemmas.{block_represented}
+use Rattle.luks_aes_batch.proofs.RoundLemmas.{block_represented}
 use Rattle.luks_aes_batch.proofs.key.plain_round_key.Goals as goal
 
 pub returns : goal.returns

@@ -1,11 +1,11 @@
 use Rattle.std.proofs.Common.{ℕ, ◌<◌, arith}
 use Rattle.luks_aes.specs.Field.{◌⊕◌}
 use Rattle.luks_aes.specs.Columns.{inv_mixed_row}
-use Rattle.luks_bitslice.specs.BitPlanes.{IsBitPlane, rotated_index}
-use Rattle.luks_bitslice.proofs.LaneLemmas.{eight}
+use Rattle.luks_bitslice.specs.BitPlanes.{rotated_index}
+use Rattle.luks_bitslice.proofs.LaneLemmas.{of_planes}
 use Rattle.luks_aes_batch.specs.RoundKeys.{row_0_of, row_1_of, row_2_of, row_3_of, rows_of}
 use Rattle.luks_aes_batch.proofs.StateLemmas.{four}
-use Rattle.luks_aes_batch.proofs.PlaneLemmas.{all_bytes, row_byte, planes_of, moved_bits, doubled_from}
+use Rattle.luks_aes_batch.proofs.MixLemmas.{all_bytes, row_byte, planes_of, moved_bits, doubled_from}
 use Rattle.luks_aes_batch.proofs.mixing.inv_mix_columns_batch.Goals as goal
 
 pub returns : goal.returns
@@ -42,23 +42,11 @@ returns c = λ y z is also.
     let after : ℕ → ℕ → ℕ = λ r q. inv_mixed_row y r (rotated_index r q) ⊕ z r (rotated_index r q) in
     let byte : (r q : ℕ) → r < 4 → after r q < 256 = λ r q low. row_byte y z all keys r (rotated_index r q) low in
     four after _ _ _ _
-    (record {
-      bytes = λ q. byte 0 q (omega arith);
-      at = eight (IsBitPlane (after 0)) _ _ _ _ _ _ _ _ new_0.row_0 new_1.row_0 new_2.row_0 new_3.row_0
-          new_4.row_0 new_5.row_0 new_6.row_0 new_7.row_0;
-    })
-    (record {
-      bytes = λ q. byte 1 q (omega arith);
-      at = eight (IsBitPlane (after 1)) _ _ _ _ _ _ _ _ new_0.row_1 new_1.row_1 new_2.row_1 new_3.row_1
-          new_4.row_1 new_5.row_1 new_6.row_1 new_7.row_1;
-    })
-    (record {
-      bytes = λ q. byte 2 q (omega arith);
-      at = eight (IsBitPlane (after 2)) _ _ _ _ _ _ _ _ new_0.row_2 new_1.row_2 new_2.row_2 new_3.row_2
-          new_4.row_2 new_5.row_2 new_6.row_2 new_7.row_2;
-    })
-    (record {
-      bytes = λ q. byte 3 q (omega arith);
-      at = eight (IsBitPlane (after 3)) _ _ _ _ _ _ _ _ new_0.row_3 new_1.row_3 new_2.row_3 new_3.row_3
-          new_4.row_3 new_5.row_3 new_6.row_3 new_7.row_3;
-    })
+    (of_planes (after 0) (λ q. byte 0 q (omega arith)) new_0.row_0 new_1.row_0 new_2.row_0 new_3.row_0 new_4.row_0
+    new_5.row_0 new_6.row_0 new_7.row_0)
+    (of_planes (after 1) (λ q. byte 1 q (omega arith)) new_0.row_1 new_1.row_1 new_2.row_1 new_3.row_1 new_4.row_1
+    new_5.row_1 new_6.row_1 new_7.row_1)
+    (of_planes (after 2) (λ q. byte 2 q (omega arith)) new_0.row_2 new_1.row_2 new_2.row_2 new_3.row_2 new_4.row_2
+    new_5.row_2 new_6.row_2 new_7.row_2)
+    (of_planes (after 3) (λ q. byte 3 q (omega arith)) new_0.row_3 new_1.row_3 new_2.row_3 new_3.row_3 new_4.row_3
+    new_5.row_3 new_6.row_3 new_7.row_3)

@@ -1,4 +1,4 @@
-use Rattle.luks_aes_batch.proofs.PlaneLemmas.{all_bytes, planes_of, moved, moved_bits, sum_bytes, even_bytes}
+use Rattle.luks_aes_batch.proofs.MixLemmas.{all_bytes, planes_of, moved, moved_bits, sum_bytes, even_bytes}
 use Rattle.luks_aes_batch.proofs.mixing.top_sums.Goals as goal
 
 pub returns : goal.returns

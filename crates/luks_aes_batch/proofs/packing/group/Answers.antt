@@ -1,8 +1,9 @@
-use Rattle.luks_aes_batch.proofs.PackingLemmas.{of_group, shows_same}
+use Rattle.luks_bitslice.proofs.TransposeLemmas.{shows_same}
+use Rattle.luks_aes_batch.proofs.StateLemmas.{of_group}
 use Rattle.luks_aes_batch.proofs.packing.group.Goals as goal
 
 pub returns : goal.returns
 returns c = λ r low.
-    shows_same _ _ _ (c.blocks_to_rows.ensures r low)
-    (λ p k inside small. of_group c.args.batch.now c.args.g r p k _ _ _ _ c.load.ensures c.load-2.ensures
+    shows_same _ (c.blocks_to_rows.ensures r low)
+    (λ p inside k small. of_group c.args.batch.now c.args.g r p k _ _ _ _ c.load.ensures c.load-2.ensures
     c.load-3.ensures c.load-4.ensures low inside)

@@ -1,5 +1,5 @@
-use Rattle.luks_bitslice.proofs.Tables.{planes_carried, sum_carried, both_carried, either_carried, other_carried}
-use Rattle.luks_bitslice.proofs.Tables.{represented_inv_sub_bytes}
+use Rattle.luks_bitslice.proofs.GateLemmas.{planes_carried, sum_carried, both_carried, either_carried, other_carried}
+use Rattle.luks_bitslice.proofs.GateLemmas.{represented_inv_sub_bytes}
 use Rattle.luks_bitslice.proofs.circuit.inv_sbox_circuit.Goals as goal
 
 pub returns : goal.returns

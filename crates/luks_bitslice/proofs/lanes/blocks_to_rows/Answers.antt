@@ -3,7 +3,6 @@ use Rattle.std.specs.Prelude.{slice_index, slice_index_or}
 use Rattle.std.specs.Int.{bit_at}
 use Rattle.luks_aes.proofs.Bytes.{each_below_4}
 use Rattle.luks_bitslice.specs.BitPlanes.{HasBits}
-use Rattle.luks_bitslice.specs.Lanes.{low_words, high_words, low_halves, high_halves}
 use Rattle.luks_bitslice.proofs.LaneLemmas.{shown, byte_in_row, rows_at}
 use Rattle.luks_bitslice.proofs.lanes.blocks_to_rows.Goals as goal
 
@@ -13,16 +12,14 @@ returns c =
     let b = c.args.b in
     let third = c.args.c in
     let d = c.args.d in
-    let low = c.low_words-low.ensures ∙ (λ i. low_words (c.by_rows-first.ensures i) (c.by_rows-second.ensures i)) in
-    let high = c.high_words-high.ensures ∙ (λ i. high_words (c.by_rows-first.ensures i) (c.by_rows-second.ensures i)) in
-    let other_low = c.low_words-other_low.ensures ∙ (λ i. low_words (c.by_rows-third.ensures i)
-    (c.by_rows-fourth.ensures i)) in
-    let other_high = c.high_words-other_high.ensures ∙ (λ i. high_words (c.by_rows-third.ensures i)
-    (c.by_rows-fourth.ensures i)) in
-    let row0 = c.low_halves.ensures ∙ (λ i. low_halves (low i) (other_low i)) in
-    let row1 = c.high_halves.ensures ∙ (λ i. high_halves (low i) (other_low i)) in
-    let row2 = c.low_halves-2.ensures ∙ (λ i. low_halves (high i) (other_high i)) in
-    let row3 = c.high_halves-2.ensures ∙ (λ i. high_halves (high i) (other_high i)) in
+    let low = rw (c.by_rows-first.ensures, c.by_rows-second.ensures) at c.low_words-low.ensures in
+    let high = rw (c.by_rows-first.ensures, c.by_rows-second.ensures) at c.high_words-high.ensures in
+    let other_low = rw (c.by_rows-third.ensures, c.by_rows-fourth.ensures) at c.low_words-other_low.ensures in
+    let other_high = rw (c.by_rows-third.ensures, c.by_rows-fourth.ensures) at c.high_words-other_high.ensures in
+    let row0 = rw (low, other_low) at c.low_halves.ensures in
+    let row1 = rw (low, other_low) at c.high_halves.ensures in
+    let row2 = rw (high, other_high) at c.low_halves-2.ensures in
+    let row3 = rw (high, other_high) at c.high_halves-2.ensures in
     let at = rows_at a b third d c.fits-a.0 c.fits-b.0 c.fits-c.0 c.fits-d.0 in
     each_below_4
     (λ r. HasBits (λ p k. bit_at (byte_in_row a b third d r p) k)

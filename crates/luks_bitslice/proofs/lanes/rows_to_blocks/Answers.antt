@@ -1,7 +1,6 @@
 use Rattle.std.proofs.Common.{◌≡◌, ◌<◌, [], ◌∷◌, ap, ◌∙◌}
 use Rattle.std.specs.Prelude.{slice_index, slice_index_or}
 use Rattle.luks_aes.proofs.Bytes.{each_below_4}
-use Rattle.luks_bitslice.specs.Lanes.{low_halves, high_halves, by_columns}
 use Rattle.luks_bitslice.proofs.LaneLemmas.{byte_in_block, blocks_at}
 use Rattle.luks_bitslice.proofs.lanes.rows_to_blocks.Goals as goal
 
@@ -15,14 +14,10 @@ returns c =
     let high = c.high_words-high.ensures in
     let other_low = c.low_words-other_low.ensures in
     let other_high = c.high_words-other_high.ensures in
-    let block0 = c.by_columns.ensures ∙ ap by_columns (c.low_halves.ensures
-    ∙ (λ i. low_halves (low i) (other_low i))) in
-    let block1 = c.by_columns-2.ensures ∙ ap by_columns (c.high_halves.ensures
-    ∙ (λ i. high_halves (low i) (other_low i))) in
-    let block2 = c.by_columns-3.ensures ∙ ap by_columns (c.low_halves-2.ensures
-    ∙ (λ i. low_halves (high i) (other_high i))) in
-    let block3 = c.by_columns-4.ensures ∙ ap by_columns (c.high_halves-2.ensures
-    ∙ (λ i. high_halves (high i) (other_high i))) in
+    let block0 = rw (c.low_halves.ensures, low, other_low) at c.by_columns.ensures in
+    let block1 = rw (c.high_halves.ensures, low, other_low) at c.by_columns-2.ensures in
+    let block2 = rw (c.low_halves-2.ensures, high, other_high) at c.by_columns-3.ensures in
+    let block3 = rw (c.high_halves-2.ensures, high, other_high) at c.by_columns-4.ensures in
     let at = blocks_at a b third d c.fits-a.0 c.fits-b.0 c.fits-c.0 c.fits-d.0 in
     λ m k small.
     each_below_4

@@ -1,4 +1,4 @@
-use Rattle.luks_bitslice.proofs.RowLemmas.{rotated}
+use Rattle.luks_bitslice.proofs.GateLemmas.{rotated}
 use Rattle.luks_bitslice.specs.declared.rows.Columns.TheVariants.{One, Two, Three}
 use Rattle.luks_bitslice.proofs.rows.plane_rotated.Goals as goal
 use Rattle.luks_bitslice.proofs.rows.plane_rotated.Goals.{in-One, in-Two, in-Three}

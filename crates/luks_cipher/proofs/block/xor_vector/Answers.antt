@@ -1,5 +1,5 @@
 use Rattle.std.proofs.Common.{arith}
-use Rattle.luks_cipher.proofs.BatchLemmas.{piece_sum}
+use Rattle.luks_cipher.proofs.UnitLemmas.{piece_sum}
 use Rattle.luks_cipher.proofs.block.xor_vector.Goals as goal
 
 pub returns : goal.returns

@@ -1,11 +1,11 @@
-use Rattle.std.proofs.Common.{◌≡◌, ◌*◌, ◌/◌, length, ap, arith, ◌∙◌, add-one, refl, rules}
+use Rattle.std.proofs.Common.{◌≡◌, ◌+◌, ◌-◌, ◌*◌, ◌/◌, length, take, drop, ap, arith, ◌∙◌, add-one, refl, rules, subst}
 use Rattle.luks_aes.specs.Bytes.{IsBytes}
 use Rattle.luks_aes.specs.Aes.{decrypted}
 use Rattle.luks_cipher.specs.Xts.{block_xor}
 use Rattle.luks_cipher.specs.Cbc.{block_before, cbc_encrypted, cbc_decrypted}
-use Rattle.luks_cipher.proofs.TweakLemmas.{done_none, done_more, done_all, block_is, progress_moved}
-use Rattle.luks_cipher.proofs.BatchLemmas.{batch_done, batch_block, before_same, before_next}
-use Rattle.luks_cipher.proofs.ChainsUndone.{cbc_decrypted-cbc_encrypted, cbc_encrypted-cbc_decrypted}
+use Rattle.luks_cipher.proofs.UnitLemmas.{IsProgress, done_none, done_all, block_is, progress_next, progress_batch}
+use Rattle.luks_cipher.proofs.UnitLemmas.{batch_block, before_same}
+use Rattle.luks_cipher.proofs.UnitsUndone.{cbc_decrypted-cbc_encrypted, cbc_encrypted-cbc_decrypted}
 use Rattle.luks_cipher.proofs.cbc.decrypt_chain.Goals as goal
 
 pub loop-i-init : goal.loop-i-init
@@ -18,41 +18,33 @@ loop-i-init c = (
 pub loop-i-preserved : goal.loop-i-preserved
 loop-i-preserved c =
     let i = c.loop-i.i in
-    let iv = c.args.iv in
     let unit = c.args.unit.now in
     let before = c.loop-i.invariant.1 in
     let same = batch_block unit c.loop-i.unit i before.done.left in (
       c.loop-i.invariant.0,
-      record {
-        bytes = before.bytes;
-        next = before_next iv c.loop-i.before unit _ _ i before.next same c.decrypt_batch-next.ensures.next;
-        done = batch_done _ _ _ _ c.decrypt_batch-next.new.batch i before.done (omega arith) (omega arith)
-            c.decrypt_batch-next.ensures.value
-            (λ n low t. block_xor (decrypted c.args.key.now (same n low t))
-            (before_same iv c.loop-i.before unit _ (32 * i) n before.next same (omega arith) t));
-      },
+      progress_batch _ _ (block_before c.loop-i.before _) _ _ c.decrypt_batch-next.new.batch _ _ i before (omega arith)
+          (omega arith) c.decrypt_batch-next.ensures.value c.decrypt_batch-next.ensures.next
+          (λ n few. before_same c.args.iv c.loop-i.before unit _ (32 * i) n before.next same few),
     )
 
 pub loop-j-init : goal.loop-j-init
 loop-j-init c =
     let at : 32 * c.loop-i.i ≡ 32 * (length c.args.unit.now / 512) = omega arith in
-    (c.loop-i.invariant.0, progress_moved _ _ _ _ _ _ _ at c.loop-i.invariant.1)
+    (c.loop-i.invariant.0, subst (IsProgress _ _ _ _ _) at c.loop-i.invariant.1)
 
 pub loop-j-preserved : goal.loop-j-preserved
 unfolding block_before
 loop-j-preserved c =
     let j = c.loop-j.j in
     let before = c.loop-j.invariant.1 in
-    let block = block_is c.args.unit.now c.loop-j.unit j before.done.left in
-    let next = before.next in
-    let held = c.key-block_key.ensures in (
+    let held = c.key-block_key.ensures in
+    let block = block_is c.args.unit.now c.loop-j.unit j before.done.left in (
       c.loop-j.invariant.0,
-      record {
-        bytes = before.bytes;
-        next = rw add-one (c.decrypt_link-next.ensures.next ∙ block);
-        done = done_more _ _ _ _ j before.done (omega arith) (omega arith)
-            (c.decrypt_link-next.ensures.value ∙ (λ i. block_xor (decrypted (held i) (block i)) (next i)));
-      },
+      progress_next _ _ _ _ _ _ _ j before (omega arith) (omega arith)
+          (c.decrypt_link-next.ensures.value
+          ∙ (λ k. block_xor (decrypted (held k) (take (16 * j + 16 - 16 * j) (drop (16 * j) c.loop-j.unit)))
+          c.loop-j.before))
+          (rw add-one (c.decrypt_link-next.ensures.next ∙ block)),
     )
 
 pub returns-clause-value : goal.returns-clause-value

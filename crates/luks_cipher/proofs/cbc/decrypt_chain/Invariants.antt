@@ -1,20 +1,20 @@
 use Rattle.std.proofs.Common.{◌*◌}
 use Rattle.luks_aes.specs.Aes.{decrypted}
 use Rattle.luks_aes.proofs.ByteLists.{IsState}
-use Rattle.luks_cipher.specs.Xts.{block_at, block_xor}
+use Rattle.luks_cipher.specs.Xts.{block_xor}
 use Rattle.luks_cipher.specs.Cbc.{block_before}
-use Rattle.luks_cipher.proofs.TweakLemmas.{IsProgress}
+use Rattle.luks_cipher.proofs.UnitLemmas.{IsProgress}
 use Rattle.luks_cipher.proofs.cbc.decrypt_chain.Given as goal
 
 -- the IV consisted of bytes at first, the blocks so far are done, and their last cipher block is kept
 abbrev pub invariant-loop-i : goal.invariant-loop-i
 invariant-loop-i l =
     IsState l.fn.iv
-    × IsProgress (λ j. block_xor (decrypted l.key (block_at l.fn.unit j)) (block_before l.fn.iv l.fn.unit j))
-    (block_before l.fn.iv l.fn.unit) l.fn.unit l.unit l.before (32 * l.i)
+    × IsProgress (λ before block. block_xor (decrypted l.key block) before) (block_before l.fn.iv l.fn.unit) l.fn.unit
+    l.unit l.before (32 * l.i)
 
 abbrev pub invariant-loop-j : goal.invariant-loop-j
 invariant-loop-j l =
     IsState l.fn.iv
-    × IsProgress (λ j. block_xor (decrypted l.key (block_at l.fn.unit j)) (block_before l.fn.iv l.fn.unit j))
-    (block_before l.fn.iv l.fn.unit) l.fn.unit l.unit l.before l.j
+    × IsProgress (λ before block. block_xor (decrypted l.key block) before) (block_before l.fn.iv l.fn.unit) l.fn.unit
+    l.unit l.before l.j

@@ -1,7 +1,9 @@
 use Rattle.std.proofs.Common.{◌/◌, ap, arith, ◌∙◌, add-one, refl, rules, length}
+use Rattle.luks_aes.specs.Aes.{encrypted}
+use Rattle.luks_cipher.specs.Xts.{block_xor}
 use Rattle.luks_cipher.specs.Cbc.{chained, cbc_encrypted, cbc_decrypted}
-use Rattle.luks_cipher.proofs.TweakLemmas.{done_none, done_more, done_all, block_is}
-use Rattle.luks_cipher.proofs.ChainsUndone.{cbc_decrypted-cbc_encrypted}
+use Rattle.luks_cipher.proofs.UnitLemmas.{done_none, done_all, block_is, progress_next}
+use Rattle.luks_cipher.proofs.UnitsUndone.{cbc_decrypted-cbc_encrypted}
 use Rattle.luks_cipher.proofs.cbc.encrypt_chain.Goals as goal
 
 pub loop-j-init : goal.loop-j-init
@@ -17,18 +19,15 @@ loop-j-preserved c =
     let j = c.loop-j.j in
     let before = c.loop-j.invariant.1 in
     let block = block_is c.args.unit.now c.loop-j.unit j before.done.left in
-    let next = before.next in
-    let value = c.encrypt_link-next.ensures.value ∙ rw (block, next) refl in (
+    let link = c.encrypt_link-next.ensures in (
       c.loop-j.invariant.0,
-      record {
-        bytes = before.bytes;
-        next = rw add-one (c.encrypt_link-next.ensures.next ∙ value);
-        done = done_more _ _ _ _ j before.done (omega arith) (omega arith) value;
-      },
+      progress_next _ _ _ _ _ _ _ j before (omega arith) (omega arith) link.value
+          (rw add-one (link.next ∙ link.value
+          ∙ (λ i. encrypted c.args.key.now (block_xor (block i) (before.next i))))),
     )
 
 pub returns-clause-value : goal.returns-clause-value
-unfolding cbc_encrypted
+unfolding cbc_encrypted chained
 returns-clause-value c =
     let last = c.loop-j.j in
     done_all _ c.args.unit.now c.loop-j.unit last (length c.args.unit.now / 16) c.loop-j.invariant.1.done (omega arith)

@@ -1,12 +1,13 @@
-use Rattle.std.proofs.Common.{suc}
+use Rattle.luks_aes.specs.Aes.{encrypted}
 use Rattle.luks_aes.proofs.ByteLists.{IsState}
+use Rattle.luks_cipher.specs.Xts.{block_xor}
 use Rattle.luks_cipher.specs.Cbc.{chained}
-use Rattle.luks_cipher.proofs.TweakLemmas.{IsProgress}
+use Rattle.luks_cipher.proofs.UnitLemmas.{IsProgress}
 use Rattle.luks_cipher.proofs.cbc.encrypt_chain.Given as goal
 
 -- the IV consisted of bytes at first, the blocks so far are done, and the last of them is kept
 abbrev pub invariant-loop-j : goal.invariant-loop-j
 invariant-loop-j l =
     IsState l.fn.iv
-    × IsProgress (λ j. chained l.key l.fn.iv l.fn.unit (suc j)) (chained l.key l.fn.iv l.fn.unit) l.fn.unit l.unit
-    l.before l.j
+    × IsProgress (λ before block. encrypted l.key (block_xor block before)) (chained l.key l.fn.iv l.fn.unit) l.fn.unit
+    l.unit l.before l.j

@@ -1,9 +1,7 @@
 use Rattle.std.proofs.Common.{◌≡◌, length, ap, arith, ◌∙◌, add-one, refl}
 use Rattle.std.proofs.lemmas.Simd.{put_chunk_whole, length-put_chunk}
-use Rattle.luks_cipher.specs.Xts.{doubled, block_at}
-use Rattle.luks_cipher.specs.Batches.{tweak_after}
-use Rattle.luks_cipher.proofs.TweakLemmas.{done_none, done_more, done_all}
-use Rattle.luks_cipher.proofs.BatchLemmas.{tweak_len, doubled_len}
+use Rattle.luks_cipher.specs.Xts.{doubled, tweak_after, block_at}
+use Rattle.luks_cipher.proofs.UnitLemmas.{done_none, done_more, done_all, tweak_len, doubled_len}
 use Rattle.luks_cipher.proofs.UnitsUndone.{joined_at}
 use Rattle.luks_cipher.proofs.xts.put_tweaks.Goals as goal
 

@@ -1,6 +1,6 @@
 use Rattle.std.proofs.Common.{◌≡◌, length}
-use Rattle.luks_cipher.specs.Batches.{tweak_after}
-use Rattle.luks_cipher.proofs.TweakLemmas.{IsDoneBefore}
+use Rattle.luks_cipher.specs.Xts.{tweak_after}
+use Rattle.luks_cipher.proofs.UnitLemmas.{IsDoneBefore}
 use Rattle.luks_cipher.proofs.xts.put_tweaks.Given as goal
 
 -- the tweak of the next block is known, and those before it are written

@@ -1,6 +1,6 @@
 use Rattle.std.proofs.Common.{◌≡◌, arith, ◌∙◌, refl}
-use Rattle.luks_cipher.specs.Xts.{block_xor}
-use Rattle.luks_cipher.proofs.TweakLemmas.{done_none, done_more, done_all, block_is}
+use Rattle.luks_cipher.specs.Xts.{block_at, block_xor}
+use Rattle.luks_cipher.proofs.UnitLemmas.{done_none, done_next, done_all, block_is}
 use Rattle.luks_cipher.proofs.xts.xor_tweaks.Goals as goal
 
 pub loop-n-init : goal.loop-n-init
@@ -9,12 +9,9 @@ loop-n-init c = done_none _ _
 pub loop-n-preserved : goal.loop-n-preserved
 loop-n-preserved c =
     let n = c.loop-n.n in
-    let before = c.loop-n.invariant in
     let tweaks = c.args.tweaks.now in
-    let block = block_is c.args.batch.now c.loop-n.batch n before.left in
-    let tweak = c.block_of-tweak.ensures ∙ block_is tweaks tweaks n refl in
-    done_more _ _ _ _ n before (omega arith) (omega arith)
-    (c.xor_vector.ensures ∙ (λ i. block_xor (block i) (tweak i)))
+    done_next (λ tweak block. block_xor block tweak) (block_at tweaks) _ _ _ _ n c.loop-n.invariant (omega arith)
+    (omega arith) (c.block_of-tweak.ensures ∙ block_is tweaks tweaks n refl) c.xor_vector.ensures
 
 pub returns : goal.returns
 returns c =

@@ -1,5 +1,5 @@
 use Rattle.luks_cipher.specs.Xts.{block_at, block_xor}
-use Rattle.luks_cipher.proofs.TweakLemmas.{IsDoneBefore}
+use Rattle.luks_cipher.proofs.UnitLemmas.{IsDoneBefore}
 use Rattle.luks_cipher.proofs.xts.xor_tweaks.Given as goal
 
 -- the blocks so far are done

@@ -1,72 +1,69 @@
-use Rattle.std.proofs.Common.{refl, rules, ◌∙◌, List, ℕ, Option, subst}
-use Rattle.luks_request.specs.Request.{luks_cat, volume_request, Request}
+use Rattle.std.proofs.Common.{refl, ◌∙◌, List, ℕ, Option, subst}
+use Rattle.luks_request.specs.Request.{VolumeRequest, luks_cat, volume_request}
 use Rattle.luks_runs.specs.Run.{result_message}
 use Rattle.luks_cli.proofs.CallLemmas.{calls_of_image, calls_of_is_luks}
 use Rattle.luks_cli.proofs.execute.execute.Goals as goal
 use Rattle.luks_io.specs.Devices.{Appended}
 use Rattle.luks_report.specs.declared.message.Message.{Message}
 use Rattle.luks_unlock.proofs.HonestVolumes.{unsealed}
-use Rattle.luks_cli.specs.Honest.{WritesPlain}
-use Rattle.luks_cli.specs.CommandRun.{RunsAsStated}
+use Rattle.luks_cli.specs.CommandRun.{RunsAsStated, WritesPlain}
 
 -- a run of `luksCat` that matches its outcome and is not aborted writes the plaintext of an honestly sealed volume
-writes_plain : (request : Request) (message : Message)
-    (image image' secret secret' written written' : Option (List ℕ))
-    → RunsAsStated request message image image' secret secret' written written'
-    → WritesPlain request message image secret written written'
-writes_plain (luks_cat o) message image image' secret secret' written written' runs =
+writes_plain : (o : VolumeRequest) (message : Message) (image image' secret secret' written written' : Option (List ℕ))
+    → RunsAsStated (luks_cat o) message image image' secret secret' written written'
+    → WritesPlain (luks_cat o) message image secret written written'
+writes_plain o message image image' secret secret' written written' runs =
     λ known is passphrase is_secret plain counted honest whole.
     let run = rw whole at (runs known is passphrase is_secret counted) in
     let outcome = unsealed o known passphrase plain honest in
     (run.as_specified ∙ outcome.1, subst (λ (bytes : List ℕ). Appended written written' bytes) outcome.0 run.output)
-writes_plain _ message image image' secret secret' written written' runs = tt
 
 pub returns-in-IsLuks : goal.returns-in-IsLuks
 returns-in-IsLuks g c = rw (c.report.ensures, c.in-IsLuks.is) (record {
   run = λ known is _ _ _. c.is_luks.ensures.run _ known is;
-  honest = search rules;
+  honest = tt;
   only = c.is_luks.ensures.only;
   unneeded = λ _. refl;
   reads_first = λ _ _. refl;
-  calls = calls_of_is_luks (result_message c.is_luks.result) _ _ _ _ _ c.is_luks.ensures.only c.is_luks.ensures.reads.1;
+  calls = calls_of_is_luks (result_message c.is_luks.result) c.is_luks.ensures.only c.is_luks.ensures.reads.1;
 })
 
 pub returns-in-LuksUuid : goal.returns-in-LuksUuid
 returns-in-LuksUuid g c = rw (c.report-in-LuksUuid.ensures, c.in-LuksUuid.is) (record {
   run = λ known is _ _ _. c.print.ensures.run known is;
-  honest = search rules;
+  honest = tt;
   only = c.print.ensures.only;
   unneeded = λ _. refl;
   reads_first = λ _. c.print.ensures.reads_first;
-  calls = calls_of_image (result_message c.print.result) _ _ _ _ _ _ c.print.ensures.reads.1 c.print.ensures.writes;
+  calls = calls_of_image (result_message c.print.result) c.print.ensures.reads.1 c.print.ensures.writes;
 })
 
 pub returns-in-LuksDump : goal.returns-in-LuksDump
 returns-in-LuksDump g c = rw (c.report-in-LuksDump.ensures, c.in-LuksDump.is) (record {
   run = λ known is _ _ _. c.print-in-LuksDump.ensures.run known is;
-  honest = search rules;
+  honest = tt;
   only = c.print-in-LuksDump.ensures.only;
   unneeded = λ _. refl;
   reads_first = λ _. c.print-in-LuksDump.ensures.reads_first;
-  calls = calls_of_image (result_message c.print-in-LuksDump.result) _ _ _ _ _ _
+  calls = calls_of_image (result_message c.print-in-LuksDump.result)
       c.print-in-LuksDump.ensures.reads.1 c.print-in-LuksDump.ensures.writes;
 })
 
 pub returns-in-LuksCheck : goal.returns-in-LuksCheck
 returns-in-LuksCheck g c = rw (c.report-in-LuksCheck.ensures, c.in-LuksCheck.is) (record {
   run = λ known is _ _ _. c.print-in-LuksCheck.ensures.run known is;
-  honest = search rules;
+  honest = tt;
   only = c.print-in-LuksCheck.ensures.only;
   unneeded = λ _. refl;
   reads_first = λ _. c.print-in-LuksCheck.ensures.reads_first;
-  calls = calls_of_image (result_message c.print-in-LuksCheck.result) _ _ _ _ _ _
+  calls = calls_of_image (result_message c.print-in-LuksCheck.result)
       c.print-in-LuksCheck.ensures.reads.1 c.print-in-LuksCheck.ensures.writes;
 })
 
 pub returns-in-TestPassphrase : goal.returns-in-TestPassphrase
 returns-in-TestPassphrase g c = rw (c.report-in-TestPassphrase.ensures, c.in-TestPassphrase.is) (record {
-  run = search rules;
-  honest = search rules;
+  run = λ known is pass secret _. c.test_passphrase.ensures.run known is pass secret;
+  honest = tt;
   only = c.test_passphrase.ensures.only;
   unneeded = λ needs. c.test_passphrase.ensures.unneeded needs.0 needs.1 needs.2;
   reads_first = λ _. c.test_passphrase.ensures.reads_first;
@@ -75,8 +72,8 @@ returns-in-TestPassphrase g c = rw (c.report-in-TestPassphrase.ensures, c.in-Tes
 
 pub returns-in-LuksCat : goal.returns-in-LuksCat
 returns-in-LuksCat g c = rw (c.report-in-LuksCat.ensures, c.in-LuksCat.is) (record {
-  run = search rules;
-  honest = writes_plain (luks_cat (volume_request c.in-LuksCat.opening)) (result_message c.cat.result) _ _ _ _ _ _
+  run = λ known is pass secret counted. c.cat.ensures.run known is pass secret counted;
+  honest = writes_plain (volume_request c.in-LuksCat.opening) (result_message c.cat.result) _ _ _ _ _ _
       c.cat.ensures.run;
   only = c.cat.ensures.only;
   unneeded = λ needs. c.cat.ensures.unneeded needs.0 needs.1 needs.2;
@@ -86,8 +83,8 @@ returns-in-LuksCat g c = rw (c.report-in-LuksCat.ensures, c.in-LuksCat.is) (reco
 
 pub returns-in-AfSplit : goal.returns-in-AfSplit
 returns-in-AfSplit g c = rw (c.report-in-AfSplit.ensures, c.in-AfSplit.is) (record {
-  run = search rules;
-  honest = search rules;
+  run = λ known is random has _. c.split.ensures.run known is random has;
+  honest = tt;
   only = c.split.ensures.only;
   unneeded = λ needs. c.split.ensures.unneeded needs.0 needs.1 needs.2;
   reads_first = λ wrong. absurd wrong;
@@ -99,10 +96,10 @@ returns-in-AfSplit g c = rw (c.report-in-AfSplit.ensures, c.in-AfSplit.is) (reco
 
 pub returns-in-AfMerge : goal.returns-in-AfMerge
 returns-in-AfMerge g c = rw (c.report-in-AfMerge.ensures, c.in-AfMerge.is) (record {
-  run = search rules;
-  honest = search rules;
+  run = λ known is _ _ _. c.merge.ensures.run known is;
+  honest = tt;
   only = c.merge.ensures.only;
   unneeded = λ _. refl;
   reads_first = λ _. c.merge.ensures.reads_first;
-  calls = calls_of_image (result_message c.merge.result) _ _ _ _ _ _ c.merge.ensures.reads c.merge.ensures.writes;
+  calls = calls_of_image (result_message c.merge.result) c.merge.ensures.reads c.merge.ensures.writes;
 })

@@ -1,9 +1,9 @@
 //! The lines of digests.
 
-ghost use Rattle.std.specs.Prelude.{◌≡◌, ◌++◌, IfOk, OnOk, codes, map, string_bytes};
-ghost use Rattle.luks_dump.specs.Dump2.{digest_line, digest_lines, digest_text, listed_text};
+ghost use Rattle.std.specs.Prelude.{◌≡◌, ◌++◌, IfOk, OnOk, codes, flat_map, map, string_bytes};
+ghost use Rattle.luks_dump.specs.Dump2.{digest_line, digest_text, listed_text};
 ghost use Rattle.luks_dump.specs.Dump2.{more_names, names_text};
-ghost use Rattle.luks_dump.specs.Escaping.{escaped};
+ghost use Rattle.luks_dump.specs.DumpLine.{escaped};
 ghost use Rattle.luks2_metadata.specs.Digest2.{digests2_of};
 
 use super::slots::hash_text;
@@ -20,7 +20,7 @@ pub(super) fn push_digests(
     metadata: &Metadata,
 ) -> Result<(), AllocError>
     ensures { OnOk result (string_bytes lines.new
-        ≡ string_bytes lines.old ++ digest_lines (digests2_of metadata.now)) }
+        ≡ string_bytes lines.old ++ flat_map digest_line (digests2_of metadata.now)) }
 {
     let digests = digests(alloc, metadata)?;
     push_all(alloc, lines, digests.as_slice())
@@ -33,7 +33,7 @@ fn push_all(
     digests: &[(u8, Option<Digest>)],
 ) -> Result<(), AllocError>
     ensures { OnOk result
-        (string_bytes lines.new ≡ string_bytes lines.old ++ digest_lines digests.now) }
+        (string_bytes lines.new ≡ string_bytes lines.old ++ flat_map digest_line digests.now) }
 {
     for digest in digests {
         push_digest(alloc, lines, digest)?;

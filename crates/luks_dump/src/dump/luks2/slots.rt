@@ -1,8 +1,7 @@
 //! The lines of key slots.
 
-ghost use Rattle.std.specs.Prelude.{◌≡◌, ◌++◌, None, IfOk, OnOk, string_bytes};
-ghost use Rattle.luks_dump.specs.Dump2.{hash_text, slot2_line, slot2_lines, usable_text};
-ghost use Rattle.luks_dump.specs.Dump2.{verdict_text};
+ghost use Rattle.std.specs.Prelude.{◌≡◌, ◌++◌, None, IfOk, OnOk, flat_map, string_bytes};
+ghost use Rattle.luks_dump.specs.Dump2.{hash_text, slot2_line, usable_text, verdict_text};
 ghost use Rattle.luks_header.specs.SlotVerdicts.{verdicts_of};
 
 use crate::field::push_field;
@@ -19,7 +18,7 @@ pub(super) fn push_slots(
     header: &Header,
 ) -> Result<(), AllocError>
     ensures { OnOk result (string_bytes lines.new
-        ≡ string_bytes lines.old ++ slot2_lines (verdicts_of header.now None)) }
+        ≡ string_bytes lines.old ++ flat_map slot2_line (verdicts_of header.now None)) }
 {
     let verdicts = slots(alloc, header, None)?;
     push_all(alloc, lines, verdicts.as_slice())
@@ -28,7 +27,7 @@ pub(super) fn push_slots(
 // Adds a line for each of these key slots.
 fn push_all(alloc: Global, lines: &mut String, verdicts: &[(u8, Verdict)]) -> Result<(), AllocError>
     ensures { OnOk result
-        (string_bytes lines.new ≡ string_bytes lines.old ++ slot2_lines verdicts.now) }
+        (string_bytes lines.new ≡ string_bytes lines.old ++ flat_map slot2_line verdicts.now) }
 {
     for verdict in verdicts {
         push_slot(alloc, lines, verdict)?;

@@ -1,5 +1,5 @@
 use Rattle.std.proofs.Common.{arith, rules, drop, length, length-take, length-drop, ◌-◌}
-use Rattle.luks_io.proofs.Moves.{Appends-next, adds-all}
+use Rattle.luks_io.proofs.EffectLemmas.{Appends-next, adds-all}
 use Rattle.luks_io.proofs.sink.put_all.Goals as goal
 
 pub loop-at-preserved : goal.loop-at-preserved

@@ -1,6 +1,6 @@
 use Rattle.std.proofs.Common.{arith, rules}
 use Rattle.std.proofs.lemmas.Grind.{common_steps}
-use Rattle.luks_io.proofs.Moves.{Consumes-next, consumed-prefix, consumed-kept, consumed-nothing, consumed-whole}
+use Rattle.luks_io.proofs.EffectLemmas.{Consumes-next, consumed-prefix, consumed-kept, consumed-nothing, consumed-whole}
 use Rattle.luks_io.proofs.source.fill.Goals as goal
 
 pub loop-at-preserved : goal.loop-at-preserved

@@ -1,6 +1,6 @@
 use Rattle.std.proofs.Common.{◌≡◌, ◌∙◌, ap, arith, length}
 use Rattle.luks_kdf.specs.Hash.{digest_len}
-use Rattle.luks_kdf.proofs.LaneLemmas.{group_of_digests, group_of_one, has_lanes}
+use Rattle.luks_kdf.proofs.LaneLemmas.{group_of_digests, group_of_one}
 use Rattle.luks_kdf.proofs.lanes.derive_group.Goals as goal
 
 pub returns-then-not-LONE-clause-key : goal.returns-then-not-LONE-clause-key
@@ -15,8 +15,7 @@ pub returns-else-out-size-clause-key : goal.returns-else-out-size-clause-key
 returns-else-out-size-clause-key g c = λ pass holds_inner holds_outer is_inner is_outer.
     let h = g.E.Engine.function in
     let is_size : c.size-size.result ≡ digest_len h = c.size-size.ensures ∙ ap digest_len c.hash.ensures in
-    let lanes = has_lanes h g.E.Lanes.WIDTH g.met.E.Lanes.known in
     c.copy_from_slice.ensures.after
     ∙ group_of_digests h pass c.args.salt.now c.args.number c.args.iterations g.E.Lanes.WIDTH (length c.args.out.now)
-    c.div_ceil-count.result c.sum_group.new.t (rw is_size at c.div_ceil-count.ensures) lanes.some_bytes
+    c.div_ceil-count.result c.sum_group.new.t (rw is_size at c.div_ceil-count.ensures)
     c.requires.capacity (c.sum_group.ensures pass holds_inner holds_outer is_inner is_outer)

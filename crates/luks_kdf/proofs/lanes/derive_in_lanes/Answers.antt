@@ -1,10 +1,11 @@
-use Rattle.std.proofs.Common.{◌≡◌, ◌∙◌, ℕ, ◌+◌, ◌-◌, ◌*◌, ◌<◌, ap, ap₂, drop, length, arith, length-drop, min}
-use Rattle.std.proofs.lemmas.List.{length-take}
+use Rattle.std.proofs.Common.{◌≡◌, ◌∙◌, ℕ, ◌+◌, ◌*◌, ◌<◌, ap, ap₂, length, arith, min, refl, sym}
 use Rattle.luks_kdf.specs.Hash.{digest_len}
-use Rattle.luks_kdf.proofs.BytesLemmas.{cut, cut_step, none_replaced, piece_begins}
-use Rattle.luks_kdf.proofs.LaneLemmas.{count_end, count_group, group_at}
-use Rattle.luks_kdf.proofs.LaneLemmas.{group_from, groups_end, has_lanes, length-blocks}
-use Rattle.luks_kdf.proofs.Pbkdf2Lemmas.{block_t, count_none}
+use Rattle.luks_kdf.specs.Pbkdf2.{derived_key}
+use Rattle.luks_kdf.proofs.BytesLemmas.{cut, cut_step, length-part, none_replaced, piece_begins}
+use Rattle.luks_kdf.proofs.HashLemmas.{digest_sizes}
+use Rattle.luks_kdf.proofs.LaneLemmas.{count_end, count_group, group_at, group_from, groups_end, length-group_at}
+use Rattle.luks_kdf.proofs.LaneLemmas.{some_in_group}
+use Rattle.luks_kdf.proofs.Pbkdf2Lemmas.{block_t, count_none, length-block_t}
 use Rattle.std.specs.Int.{div_ceil}
 use Rattle.luks_kdf.proofs.lanes.derive_in_lanes.Goals as goal
 
@@ -25,46 +26,46 @@ fill-preserved g c =
     let pass = c.args.pass.now in
     let salt = c.args.salt.now in
     let iterations = c.args.iterations in
+    let t = block_t h pass salt iterations in
     let before = c.args.out.now in
     let group = c.WIDTH.result * c.size.result in
+    let start = c.fill.i * group in
     let known = g.met.E.Lanes.known in
     let is_size : c.size.result ≡ digest_len h = c.size.ensures ∙ ap digest_len c.hash.ensures in
     let is_group : group ≡ w * digest_len h = ap₂ ◌*◌ c.WIDTH.ensures is_size in
-    let inside : c.fill.i * group < length before =
-    piece_begins (length before) group c.div_ceil-count.result c.fill.i (rw is_group ((has_lanes h w known).long))
+    let each = length-block_t h pass salt iterations (digest_len h) refl in
+    let inside : start < length before =
+    piece_begins (length before) group c.div_ceil-count.result c.fill.i (rw is_group (some_in_group h w known))
     c.div_ceil-count.ensures c.fill-test.true in
     let is_number = ap (λ (n : ℕ). n * c.fill.i + 1) c.WIDTH-in-fill.ensures in
     let key = c.derive_group.ensures.key pass c.new-keyed.ensures.inner c.new-keyed.ensures.outer
     c.key_blocks-blocks.ensures.inner c.key_blocks-blocks.ensures.outer in (
-      cut_step (group_at (block_t h pass salt iterations) w) group
-          (length-blocks h pass salt iterations w group is_group) before
+      cut_step (group_at t w) group (λ k. length-group_at t (digest_len h) each w k ∙ sym is_group) before
           c.fill.out c.derive_group.new.out c.fill.i c.min-end.result inside c.fill.auto.out c.fill.invariant.0
-          c.min-end.ensures (group_from h pass salt iterations w c.fill.i _ _ _ is_number key),
+          c.min-end.ensures (λ old. group_from h pass salt iterations w c.fill.i _ _ _ is_number key),
       count_group h w group c.args.work.now c.fill.work c.derive_group.new.work iterations (length before) c.fill.i
-          c.min-end.result _ known is_group c.fill.invariant.1 inside
-          (omega (arith, c.min-end.ensures, c.fill.auto.out))
-          (omega (
-            arith,
-            c.min-end.ensures,
-            c.fill.auto.out,
-            length-take (c.min-end.result - c.fill.i * group) (drop (c.fill.i * group) c.fill.out),
-            length-drop (c.fill.i * group) c.fill.out,
-          ))
+          _ known is_group c.fill.invariant.1 inside
+          (length-part start group c.min-end.result before c.fill.out c.fill.auto.out c.min-end.ensures)
           c.derive_group.ensures.work,
     )
 
 pub returns : goal.returns
+unfolding derived_key
 returns g c =
     let h = g.E.Engine.function in
     let w = g.E.Lanes.WIDTH in
+    let size = digest_len h in
     let group = c.WIDTH.result * c.size.result in
     let count = c.div_ceil-count.result in
     let known = g.met.E.Lanes.known in
-    let is_size : c.size.result ≡ digest_len h = c.size.ensures ∙ ap digest_len c.hash.ensures in
-    let is_group : group ≡ w * digest_len h = ap₂ ◌*◌ c.WIDTH.ensures is_size in
+    let is_size : c.size.result ≡ size = c.size.ensures ∙ ap digest_len c.hash.ensures in
+    let is_group : group ≡ w * size = ap₂ ◌*◌ c.WIDTH.ensures is_size in
+    let last : c.fill.i ≡ count = omega arith in
     record {
-      key = groups_end h c.args.pass.now c.args.salt.now c.args.out.now c.fill.out c.args.iterations w group count
-          c.fill.i known is_group c.div_ceil-count.ensures (omega arith) c.fill.invariant.0;
+      key = groups_end (block_t h c.args.pass.now c.args.salt.now c.args.iterations) size
+          (length-block_t h c.args.pass.now c.args.salt.now c.args.iterations size refl) c.args.out.now c.fill.out w
+          group count c.fill.i (omega (arith, (digest_sizes h).least)) (some_in_group h w known) is_group
+          c.div_ceil-count.ensures last c.fill.invariant.0;
       work = count_end h w group c.args.work.now c.fill.work c.args.iterations (length c.args.out.now) count c.fill.i
-          known is_group c.requires.some c.div_ceil-count.ensures (omega arith) c.fill.invariant.1;
+          known is_group c.requires.some c.div_ceil-count.ensures last c.fill.invariant.1;
     }

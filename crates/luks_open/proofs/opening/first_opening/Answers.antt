@@ -7,20 +7,20 @@ pub returns-in-Some-clause-value : goal.returns-in-Some-clause-value
 returns-in-Some-clause-value c =
     let some : slot_key c.entry-item.result c.args.image.now c.args.pass.now
     ≡ Some c.in-Some.key = sym c.slot_key.ensures.value ∙ c.in-Some.is in
-    sym (go_last _ _ _ _ _ _ _ _ _ c.entries.invariant c.entries-test.true c.entry-item.is some
-    c.slot_key.ensures.work).0
+    sym (go_last _ _ _ _ _ _ c.entries.invariant _ _ c.entries-test.true c.entry-item.is c.slot_key.ensures.work _
+    some).0
 
 pub returns-in-Some-clause-work : goal.returns-in-Some-clause-work
 returns-in-Some-clause-work c =
     let some : slot_key c.entry-item.result c.args.image.now c.args.pass.now
     ≡ Some c.in-Some.key = sym c.slot_key.ensures.value ∙ c.in-Some.is in
-    (go_last _ _ _ _ _ _ _ _ _ c.entries.invariant c.entries-test.true c.entry-item.is some c.slot_key.ensures.work).1
+    (go_last _ _ _ _ _ _ c.entries.invariant _ _ c.entries-test.true c.entry-item.is c.slot_key.ensures.work _ some).1
 
 pub entries-preserved : goal.entries-preserved
 entries-preserved c =
     let none : slot_key c.entry-item.result c.args.image.now c.args.pass.now ≡ None = sym c.slot_key.ensures.value
     ∙ c.in_default.is in
-    go_on _ _ _ _ _ _ _ _ c.entries.invariant c.entries-test.true c.entry-item.is none c.slot_key.ensures.work
+    go_on _ _ _ _ _ _ c.entries.invariant _ _ c.entries-test.true c.entry-item.is c.slot_key.ensures.work none
 
 pub returns-clause-value : goal.returns-clause-value
 returns-clause-value c = sym (go_out _ _ _ _ _ _ c.entries.invariant c.entries-test.false).0

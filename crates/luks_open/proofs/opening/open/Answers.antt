@@ -1,6 +1,6 @@
 use Rattle.std.proofs.Common.{rules, length}
 use Rattle.luks_open.specs.Opening.{opening_of, work_of}
-use Rattle.luks_open.proofs.TrialLemmas.{All-IsTriable, All-volume_key}
+use Rattle.luks_open.proofs.CallerLemmas.{All-IsTriable, All-volume_key}
 use Rattle.luks_open.proofs.opening.open.Goals as goal
 
 pub first_opening-requires : goal.first_opening-requires
@@ -8,8 +8,8 @@ first_opening-requires c =
     let order = c.requires.order in
     let segment = c.requires.segment in
     rw (c.entries.ensures, c.as_slice.ensures.value)
-    (All-IsTriable c.args.header.now segment.0 order.0 order.1 c.args.order.now (length c.args.area.now.bytes) segment.1
-    order.2 c.requires.loaded)
+    (All-IsTriable c.args.header.now order.0 order.1 c.args.order.now order.2 segment.0 segment.1
+    (length c.args.area.now.bytes) c.requires.loaded)
 
 pub returns-in-Some : goal.returns-in-Some
 unfolding opening_of work_of
@@ -20,7 +20,7 @@ returns-in-Some c =
       work = search rules;
       key_length = λ segment is_segment.
           rw c.in-Some.is at (c.first_opening.ensures.len segment.mode (rw c.entries.ensures
-          (All-volume_key c.args.header.now segment order.0 order.1 c.args.order.now is_segment order.2)));
+          (All-volume_key c.args.header.now order.0 order.1 c.args.order.now order.2 segment is_segment)));
     }
 
 pub returns-in-None-clause-work : goal.returns-in-None-clause-work

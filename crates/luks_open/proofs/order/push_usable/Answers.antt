@@ -1,12 +1,11 @@
-use Rattle.std.proofs.Common.{rules, ◌≡◌, ◌∙◌, ◌≤◌, ◌∷◌, ◌++◌, [], List, Some, None, IsSome, ap, sym, refl, length}
-use Rattle.std.proofs.Common.{append_assoc, arith}
+use Rattle.std.proofs.Common.{rules, ◌∙◌, ◌≤◌, ◌++◌, [], List, IsSome, ap, sym, subst, length, append_assoc, arith}
+use Rattle.std.specs.List.{cons_option}
 use Rattle.std.proofs.lemmas.List.{append-nil}
 use Rattle.luks_verdict.specs.Table.{ascending}
-use Rattle.luks_verdict.proofs.TableLemmas.{ascending_none, ascending_not, ascending_one, some_rising}
+use Rattle.luks_verdict.proofs.TableLemmas.{ascending_more, ascending_none, some_rising}
 use Rattle.luks_open.specs.Order.{usable_at}
 use Rattle.luks_open.specs.declared.entry.Entry.{Entry}
 use Rattle.luks_open.proofs.order.push_usable.Goals as goal
-use Rattle.luks_open.proofs.order.push_usable.Goals.{in-Some+in_ok-push, in_default}
 
 pub loop-number-init : goal.loop-number-init
 loop-number-init c =
@@ -21,10 +20,11 @@ returns-in_err-entry-clause-err c =
     some_rising f c.loop-number.number 32 c.in_err-entry.ensures.err (omega arith) in
     search (rules, many)
 
-pub returns-in_err-push-clause-err : goal.returns-in_err-push-clause-err
-returns-in_err-push-clause-err c =
+pub returns-in_err-push_entry-clause-err : goal.returns-in_err-push_entry-clause-err
+returns-in_err-push_entry-clause-err c =
     let f = usable_at c.args.header.now c.args.limit c.args.priority in
-    let some : IsSome (f c.loop-number.number) = rw (← c.in_ok-entry.ensures.ok, c.in-Some.is) refl in
+    let some : IsSome (f c.loop-number.number) =
+    subst IsSome c.in_ok-entry.ensures.ok c.in_err-push_entry.ensures.err in
     let many : 1 ≤ length (ascending f 32) = some_rising f c.loop-number.number 32 some (omega arith) in
     search (rules, many)
 
@@ -33,14 +33,8 @@ loop-number-preserved c =
     let f = usable_at c.args.header.now c.args.limit c.args.priority in
     let n = c.loop-number.number in
     let old = c.args.entries.now.items in
-    let before = c.loop-number.invariant in
-    elim c.match-branch-2.branch [
-      | in-Some+in_ok-push w ↦
-          (let one : f n ≡ Some w.in-Some.entry = sym c.in_ok-entry.ensures.ok ∙ w.in-Some.is in
-          rw w.entries-is (w.in_ok-push.ensures.items ∙ (ap (λ (l : List Entry). l ++ w.in-Some.entry ∷ []) before
-          ∙ (append_assoc old (ascending f n) (w.in-Some.entry ∷ [])
-          ∙ ap (λ (l : List Entry). old ++ l) (sym (ascending_one f n w.in-Some.entry one))))))
-      | in_default w ↦
-          (let none : f n ≡ None = sym c.in_ok-entry.ensures.ok ∙ w.in_default.is in
-          rw w.entries-is (before ∙ ap (λ (l : List Entry). old ++ l) (sym (ascending_not f n none))))
-    ]
+    c.in_ok-push_entry.ensures.ok
+    ∙ ap (λ (l : List Entry). l ++ cons_option c.in_ok-entry.entry []) c.loop-number.invariant
+    ∙ ap (λ entry. (old ++ ascending f n) ++ cons_option entry []) c.in_ok-entry.ensures.ok
+    ∙ append_assoc old (ascending f n) (cons_option (f n) [])
+    ∙ ap (λ (l : List Entry). old ++ l) (sym (ascending_more f n))

@@ -1,6 +1,6 @@
 use Rattle.std.proofs.Common.{rules, ◌∙◌, Some, ap, sym, IsSome}
 use Rattle.luks_open.specs.Order.{usable_at}
-use Rattle.luks_open.proofs.OrderLemmas.{usable_there}
+use Rattle.luks_open.proofs.CallerLemmas.{usable_there}
 use Rattle.luks_open.proofs.order.usable_at.Goals as goal
 
 pub returns-in-Some-Usable-clause-err : goal.returns-in-Some-Usable-clause-err

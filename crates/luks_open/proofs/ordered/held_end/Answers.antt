@@ -1,7 +1,7 @@
-use Rattle.std.proofs.Common.{ap, arith}
+use Rattle.std.proofs.Common.{◌≡◌, drop, ap, arith}
 use Rattle.std.proofs.lemmas.List.{drop_all}
 use Rattle.luks_open.specs.Order.{key_material_end}
-use Rattle.luks_open.proofs.OrderLemmas.{key_material_end-drop, key_material_end-nil, key_material_end-within}
+use Rattle.luks_open.proofs.CallerLemmas.{key_material_end-drop, key_material_end-within}
 use Rattle.luks_open.proofs.ordered.held_end.Goals as goal
 
 pub overflow_add-slot : goal.overflow_add-slot
@@ -17,9 +17,12 @@ loop-entry-preserved c =
     omega (arith, next, c.loop-entry.invariant, c.need.ensures, c.max-end.ensures)
 
 pub returns-clause-value : goal.returns-clause-value
+unfolding key_material_end
 returns-clause-value c =
-    let none = drop_all c.loop-entry.entry-index c.entries-entry-items.result.now (omega arith) in
-    omega (arith, c.loop-entry.invariant, ap key_material_end none, key_material_end-nil)
+    let items = c.entries-entry-items.result.now in
+    let none : key_material_end (drop c.loop-entry.entry-index items) ≡ 0 =
+    ap key_material_end (drop_all c.loop-entry.entry-index items (omega arith)) in
+    omega (arith, c.loop-entry.invariant, none)
 
 pub returns-clause-within : goal.returns-clause-within
 returns-clause-within c = omega (arith, returns-clause-value c, key_material_end-within c.args.order.now.entries)

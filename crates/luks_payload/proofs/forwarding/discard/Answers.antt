@@ -1,19 +1,17 @@
 use Rattle.std.proofs.Common.{◌≡◌, ◌+◌, ◌-◌, ◌<◌, ◌∙◌, length, length-take-le, arith}
-use Rattle.std.proofs.lemmas.Result.{err_from_is_err_and}
-use Rattle.luks_io.proofs.CountsLemmas.{reads_more}
-use Rattle.luks_io.proofs.Consuming.{consumed_all, consumed_more, consumed_sum}
+use Rattle.luks_io.proofs.ErrorLemmas.{given_error}
+use Rattle.luks_io.proofs.EffectLemmas.{consumed_all, consumed_more, consumed_sum, reads_more}
 use Rattle.luks_payload.proofs.ForwardingLemmas.{whole_reads}
 use Rattle.luks_payload.proofs.forwarding.discard.Goals as goal
 
 pub returns-in_err-fill-clause-err : goal.returns-in_err-fill-clause-err
 returns-in_err-fill-clause-err g c =
-    let p = err_from_is_err_and c.from_residual.result c.from_residual.ensures.1 in
     let few = c.pieces.invariant.few in
     let sized : length c.fill.new.buf ≡ c.min-size.result = c.fill.auto.buf
     ∙ length-take-le c.min-size.result c.pieces.piece (omega arith) in
     let below : c.args.count - c.pieces.left + c.in_err-fill.field-0.0.got
     < c.args.count = omega (arith, c.in_err-fill.ensures.bound) in
-    rw (p.1, p.2) (λ known is. (
+    rw (given_error _ _ c.from_residual.ensures.1) (λ known is. (
       c.args.count - c.pieces.left + c.in_err-fill.field-0.0.got,
       below,
       consumed_more known _ _ _ _ (c.pieces.invariant.consumed known is)

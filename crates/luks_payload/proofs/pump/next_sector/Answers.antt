@@ -1,7 +1,7 @@
 use Rattle.std.proofs.Common.{◌≡◌, ◌<◌, ◌∙◌, take, length, length-take-le, arith}
-use Rattle.std.proofs.lemmas.Result.{err_from_is_err_and}
+use Rattle.luks_io.proofs.ErrorLemmas.{given_error}
 use Rattle.luks_verdict.proofs.SectorLemmas.{sector_blocks}
-use Rattle.luks_payload.specs.SectorEffects.{max_sectors}
+use Rattle.luks_payload.specs.PumpEffects.{max_sectors}
 use Rattle.luks_payload.specs.Plain.{sector_len}
 use Rattle.luks_payload.proofs.ForwardingLemmas.{short_reads, whole_reads}
 use Rattle.luks_payload.proofs.StepLemmas.{sector_appended, broken_reads, broken_writes, may_be_torn, may_break}
@@ -17,14 +17,13 @@ returns-then-count-max_sectors-clause-run g c image few positioned =
 
 pub returns-in_err-got : goal.returns-in_err-got
 returns-in_err-got g c =
-    let p = err_from_is_err_and c.from_residual.result c.from_residual.ensures.1 in
     let below : c.args.count < max_sectors c.args.segment.now = omega arith in
     let most = (sector_blocks c.args.segment.now.sector_size).short in
     let sized : length (take c.bytes-size.result c.args.buffer.now) ≡ sector_len c.args.segment.now =
     length-take-le c.bytes-size.result c.args.buffer.now (omega arith) ∙ c.bytes-size.ensures in
     let aborted = c.in_err-got.ensures in
     let only = aborted.forwards.only in
-    rw (p.1, p.2) (record {
+    rw (given_error _ _ c.from_residual.ensures.1) (record {
       limit = λ full. absurd (omega arith);
       only = may_break c.args.segment.now c.args.count _ only;
       run = λ image few positioned.

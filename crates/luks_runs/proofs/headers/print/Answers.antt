@@ -1,11 +1,10 @@
-use Rattle.std.proofs.lemmas.Result.{err_from_is_err_and}
+use Rattle.luks_io.proofs.ErrorLemmas.{given_error}
 use Rattle.luks_runs.proofs.HeaderRuns.{runs_with_text, runs_without_header}
 use Rattle.luks_runs.proofs.headers.print.Goals as goal
 
 pub returns-in_err-header-clause-run : goal.returns-in_err-header-clause-run
 returns-in_err-header-clause-run g c =
-    let p = err_from_is_err_and c.from_residual.result c.from_residual.ensures.1 in
-    rw (p.1, p.2) (λ known is.
+    rw (given_error _ _ c.from_residual.ensures.1) (λ known is.
     runs_without_header c.args.location c.args.printout known _ _ _ _ c.in_err-header.field-0.0
     (c.in_err-header.ensures.no_header known is))
 

@@ -1,12 +1,11 @@
 use Rattle.std.proofs.Common.{◌≡◌, ◌+◌, length-take-le, vec_len, arith, ℕ, ◌<◌, ◌≤◌, ◌⊎◌, inl, inr, List, ◌++◌, Option}
 use Rattle.std.proofs.Common.{◌∙◌, ap, sym, take, drop, length, take_all, length-drop, min}
 use Rattle.std.proofs.lemmas.Bool.{le-ltb}
-use Rattle.std.proofs.lemmas.Result.{err_from_is_err_and}
-use Rattle.luks_io.proofs.CountsLemmas.{reads_more}
+use Rattle.luks_io.proofs.ErrorLemmas.{given_error}
 use Rattle.luks_runs.specs.KeyFile.{max_key_file_len, NoKeyFileRead}
 use Rattle.luks_runs.proofs.key_file.read_key_file.Goals as goal
 use Rattle.std.proofs.Math.Seq.{take-add}
-use Rattle.luks_io.proofs.Consuming.{consumed-all, consumed_behind, consumed_more}
+use Rattle.luks_io.proofs.EffectLemmas.{consumed-all, consumed_behind, consumed_more, reads_more}
 use Rattle.luks_io.specs.Devices.{ConsumedExactly, ConsumedAtMost, IfKnown}
 use Rattle.luks_report.specs.declared.message.Message.{Message}
 use Rattle.luks_report.specs.declared.message.Message.TheVariants.{OutOfMemory, ReadFailed}
@@ -44,9 +43,8 @@ module _ (known : List ℕ) (n : ℕ) (s s' : Option (List ℕ)) (consumption : 
 
 pub returns-in_err-read_piece-clause-err : goal.returns-in_err-read_piece-clause-err
 returns-in_err-read_piece-clause-err g c =
-    let p = err_from_is_err_and c.from_residual.result c.from_residual.ensures.1 in
     let sized = length-take-le c.min-size.result c.pieces.buffer (omega arith) in
-    rw (p.1, p.2) (λ known is.
+    rw (given_error _ _ c.from_residual.ensures.1) (λ known is.
     let so_far = c.pieces.invariant.consumed known is in
     piece_lost known _ _ _ so_far.1 c.min-size.result _ (omega arith) (rw sized at c.in_err-read_piece.ensures.err)
     c.in_err-read_piece.ensures.only)

@@ -1,6 +1,6 @@
 use Rattle.std.proofs.Common.{◌+◌, ap, arith, inl, inr, refl}
-use Rattle.std.proofs.lemmas.Result.{err_from_is_err_and}
-use Rattle.luks_io.proofs.CountsLemmas.{no_writes, reads_more, writes_more}
+use Rattle.luks_io.proofs.ErrorLemmas.{given_error}
+use Rattle.luks_io.proofs.EffectLemmas.{no_writes, reads_more, writes_more}
 use Rattle.luks_runs.proofs.PayloadLemmas.{few_sectors, forwarding_aborts, forwarding_ends, forwarding_more}
 use Rattle.luks_runs.proofs.PayloadLemmas.{forwarding_start, reads_with_ahead_allowed}
 use Rattle.luks_runs.proofs.payload.write_payload.Goals as goal
@@ -39,10 +39,14 @@ sectors-preserved g c =
 
 pub returns-in_err-step-clause-run : goal.returns-in_err-step-clause-run
 returns-in_err-step-clause-run g c =
-    let p = err_from_is_err_and c.from_residual.result c.from_residual.ensures.1 in
     let so_far = c.sectors.invariant in
     let step = c.in_err-step.ensures in
-    rw (p.1, p.2, ← so_far.segment, ← so_far.cipher, ← c.allow_read_ahead.ensures.bytes)
+    rw (
+      given_error _ _ c.from_residual.ensures.1,
+      ← so_far.segment,
+      ← so_far.cipher,
+      ← c.allow_read_ahead.ensures.bytes,
+    )
     (λ whole few prefix consumption.
     let forwarding = so_far.forwarding whole few prefix consumption in
     forwarding_aborts _ whole _ _ _ _ _ _ forwarding _ _ _ (λ same. ap g.O.Sink.written same) step.writes_sectors

@@ -1,12 +1,11 @@
 use Rattle.std.proofs.Common.{◌≡◌, ◌∙◌, length, take_all, arith}
-use Rattle.std.proofs.lemmas.Result.{err_from_is_err_and}
-use Rattle.luks_io.proofs.Consuming.{consumed-all}
+use Rattle.luks_io.proofs.ErrorLemmas.{given_error}
+use Rattle.luks_io.proofs.EffectLemmas.{consumed-all}
 use Rattle.luks_runs.proofs.stripes.read_key.Goals as goal
 
 pub returns-in_err-len-clause-err : goal.returns-in_err-len-clause-err
 returns-in_err-len-clause-err g c =
-    let p = err_from_is_err_and c.from_residual.result c.from_residual.ensures.1 in
-    rw (p.1, p.2) (λ key is.
+    rw (given_error _ _ c.from_residual.ensures.1) (λ key is.
     let next = c.in_err-len.ensures.bytes key is in
     (c.in_err-len.field-0.0.got, omega (arith, c.in_err-len.ensures.bound, next.0.within), next.0))
 

@@ -1,13 +1,11 @@
 use Rattle.std.proofs.Common.{◌≡◌, ◌≤◌, ◌+◌, ◌-◌, ◌∙◌, length, length-take-le, arith}
 use Rattle.std.proofs.Math.Nat.{mul-le-mul_right}
-use Rattle.std.proofs.lemmas.Result.{err_from_is_err_and}
+use Rattle.luks_io.proofs.ErrorLemmas.{given_error}
 use Rattle.luks_runs.proofs.StripeLemmas.{key_merged, reading_stops_at, stripe_more}
 use Rattle.luks_runs.proofs.stripes.read_merged_key.Goals as goal
 
 pub returns-in_err-read_stripe-clause-err : goal.returns-in_err-read_stripe-clause-err
 returns-in_err-read_stripe-clause-err g c =
-    let p = err_from_is_err_and c.from_residual-in_err-read_stripe.result
-    c.from_residual-in_err-read_stripe.ensures.1 in
     let m = c.args.merging.now in
     let size = m.key_bytes.in_range in
     let count = m.stripes.in_range in
@@ -15,7 +13,7 @@ returns-in_err-read_stripe-clause-err g c =
     c.read_stripes.auto.stripe ∙ length-take-le _ _ (omega arith) ∙ c.requires in
     let next = rw (c.read_stripe.auto.stripe ∙ stripe) at c.in_err-read_stripe.ensures.err in
     let below : m.stripes.count - 1 + 1 ≤ m.stripes.count = omega arith in
-    rw (p.1, p.2) (λ bytes is.
+    rw (given_error _ _ c.from_residual-in_err-read_stripe.ensures.1) (λ bytes is.
     let consumed = rw (stripe, c.get.ensures) at (c.in_ok-splitter.ensures.ok bytes is) in
     reading_stops_at bytes _ _ _ consumed.1 _ _ _ (mul-le-mul_right _ below) next)
 

@@ -1,10 +1,9 @@
 use Rattle.std.proofs.Common.{◌+◌, ◌≤◌, ◌∙◌, sym, arith, rules, zero-mul}
 use Rattle.std.proofs.Math.Nat.{mul-le-mul_right}
-use Rattle.std.proofs.lemmas.Result.{err_from_is_err_and}
-use Rattle.luks_io.proofs.CountsLemmas.{no_reads}
+use Rattle.luks_io.proofs.ErrorLemmas.{given_error}
 use Rattle.luks_kdf.proofs.StripesLemmas.{chain_more, chain_start}
 use Rattle.luks_runs.proofs.StripeLemmas.{reading_stops_at, stripe_more}
-use Rattle.luks_io.proofs.Consuming.{consumed-none}
+use Rattle.luks_io.proofs.EffectLemmas.{consumed-none, no_reads}
 use Rattle.luks_runs.proofs.stripes.read_stripes.Goals as goal
 
 pub stripes-init : goal.stripes-init
@@ -16,9 +15,8 @@ stripes-init g c = record {
 
 pub returns-in_err-read_stripe-clause-err : goal.returns-in_err-read_stripe-clause-err
 returns-in_err-read_stripe-clause-err g c =
-    let p = err_from_is_err_and c.from_residual.result c.from_residual.ensures.1 in
     let below : c.stripes.counter + 1 ≤ c.args.count = omega arith in
-    rw (p.1, p.2) (λ bytes is. rw c.read_stripe.auto.stripe
+    rw (given_error _ _ c.from_residual.ensures.1) (λ bytes is. rw c.read_stripe.auto.stripe
     (reading_stops_at bytes _ _ _ (c.stripes.invariant.consumed bytes is).1 _ _ _ (mul-le-mul_right _ below)
     (rw c.read_stripe.auto.stripe at c.in_err-read_stripe.ensures.err)))
 

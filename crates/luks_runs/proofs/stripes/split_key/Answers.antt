@@ -1,29 +1,26 @@
 use Rattle.std.proofs.Common.{◌≡◌, ◌∙◌, length, length-take-le, arith}
-use Rattle.std.proofs.lemmas.Result.{err_from_is_err_and}
-use Rattle.luks_runs.proofs.StripeLemmas.{last_stripe, runs_to_end, runs_without_last, runs_without_stripes}
+use Rattle.luks_io.proofs.ErrorLemmas.{given_error}
+use Rattle.luks_runs.proofs.StripeLemmas.{runs_to_end, runs_without_last, runs_without_stripes}
 use Rattle.luks_runs.proofs.stripes.split_key.Goals as goal
 
 pub returns-in_err-splitter-clause-run : goal.returns-in_err-splitter-clause-run
 returns-in_err-splitter-clause-run g c =
-    let p = err_from_is_err_and c.from_residual.result c.from_residual.ensures.1 in
     let key = c.args.key.now in
     let stripe : length c.forward_stripes.new.stripe ≡ length key =
     c.forward_stripes.auto.stripe ∙ length-take-le (length key) _ (omega arith) in
-    rw (p.1, p.2) (λ left consumption bytes known.
+    rw (given_error _ _ c.from_residual.ensures.1) (λ left consumption bytes known.
     runs_without_stripes _ _ key bytes c.requires.0 c.requires.1 left _ _ _ consumption _
     (rw (stripe, c.get.ensures) at (c.in_err-splitter.ensures.err bytes known)))
 
 pub returns-in_err-put_all-clause-run : goal.returns-in_err-put_all-clause-run
 returns-in_err-put_all-clause-run g c =
-    let p = err_from_is_err_and c.from_residual-in_err-put_all.result c.from_residual-in_err-put_all.ensures.1 in
     let key = c.args.key.now in
     let stripe : length c.forward_stripes.new.stripe ≡ length key =
     c.forward_stripes.auto.stripe ∙ length-take-le (length key) _ (omega arith) in
-    rw (p.1, p.2) (λ left consumption bytes known.
+    rw (given_error _ _ c.from_residual-in_err-put_all.ensures.1) (λ left consumption bytes known.
     let forwarded = rw (stripe, c.get.ensures) at (c.in_ok-splitter.ensures.ok bytes known) in
-    let last = last_stripe _ _ key bytes _ forwarded.0 forwarded.1.consumption.within c.last.new.out c.last.ensures in
-    runs_without_last _ _ key bytes c.requires.0 c.requires.1 left _ _ _ consumption c.last.new.out forwarded.1 last _
-    c.in_err-put_all.field-0.0.written c.in_err-put_all.ensures.err.0
+    runs_without_last _ _ key bytes c.requires.0 c.requires.1 left _ _ _ consumption _ forwarded.0 forwarded.1
+    c.last.new.out c.last.ensures _ c.in_err-put_all.field-0.0.written c.in_err-put_all.ensures.err.0
     (c.last.auto.out ∙ stripe) c.in_err-put_all.ensures.err.1)
 
 pub returns-clause-run : goal.returns-clause-run
@@ -32,6 +29,5 @@ returns-clause-run g c left consumption bytes known =
     let stripe : length c.forward_stripes.new.stripe ≡ length key =
     c.forward_stripes.auto.stripe ∙ length-take-le (length key) _ (omega arith) in
     let forwarded = rw (stripe, c.get.ensures) at (c.in_ok-splitter.ensures.ok bytes known) in
-    let last = last_stripe _ _ key bytes _ forwarded.0 forwarded.1.consumption.within c.last.new.out c.last.ensures in
-    runs_to_end _ _ key bytes c.requires.0 c.requires.1 left _ _ _ consumption c.last.new.out forwarded.1 last _
-    c.in_ok-put_all.ensures.ok
+    runs_to_end _ _ key bytes c.requires.0 c.requires.1 left _ _ _ consumption _ forwarded.0 forwarded.1 c.last.new.out
+    c.last.ensures _ c.in_ok-put_all.ensures.ok

@@ -1,5 +1,5 @@
 use Rattle.std.proofs.Common.{arith}
-use Rattle.luks_sha_lanes.proofs.Lane1Lemmas.{rounds_at}
+use Rattle.luks_sha_lanes.proofs.LaneLemmas.{rounds_at}
 use Rattle.luks_sha_lanes.proofs.block1.first_four_steps.Goals as goal
 
 pub returns : goal.returns

@@ -3,7 +3,7 @@ use Rattle.std.proofs.lemmas.List.{map-set}
 use Rattle.sha1.specs.Sha1.{parity}
 use Rattle.sha1.proofs.Schedule.{round_constant_last, round_fn_last, rounds_window}
 use Rattle.luks_sha_lanes.specs.Lanes.{lane, word}
-use Rattle.luks_sha_lanes.proofs.Lane1Lemmas.{of_three}
+use Rattle.luks_sha_lanes.proofs.LaneLemmas.{of_three}
 use Rattle.luks_sha_lanes.proofs.block1.last_step.Goals as goal
 
 pub returns : goal.returns

@@ -1,6 +1,6 @@
 use Rattle.std.proofs.Common.{refl}
 use Rattle.sha2.specs.Sha256.{big_sigma1}
-use Rattle.luks_sha_lanes.proofs.TwiceLemmas.{lane_rotated, low_sum, sum_of_shifts}
+use Rattle.luks_sha_lanes.proofs.LaneLemmas.{lane_rotated, low_sum, sum_of_shifts}
 use Rattle.luks_sha_lanes.proofs.block256.big_sigma1.Goals as goal
 
 pub returns : goal.returns

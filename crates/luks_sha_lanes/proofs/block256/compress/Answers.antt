@@ -1,10 +1,7 @@
 use Rattle.std.proofs.Common.{◌≡◌, ◌*◌, ◌∙◌, [], ap, arith, refl, ◌∷◌}
 use Rattle.sha2.specs.Sha256.{add_state, compress, rounds}
-use Rattle.luks_sha_lanes.specs.Lanes.{lane}
-use Rattle.luks_sha_lanes.specs.Lanes256.{IsPairAt}
-use Rattle.luks_sha_lanes.proofs.Lane256Lemmas.{pair_at, window_of_block, all_twice}
-use Rattle.luks_sha_lanes.proofs.LaneLemmas.{word_of_lane}
-use Rattle.luks_sha_lanes.proofs.WordLemmas.{below_eight}
+use Rattle.luks_sha_lanes.specs.Lanes.{IsPairAt, lane}
+use Rattle.luks_sha_lanes.proofs.LaneLemmas.{all_twice, below_eight, pair_at, window256_of_block, word_of_lane}
 use Rattle.luks_sha_lanes.proofs.block256.compress.Goals as goal
 
 pub schedule-init : goal.schedule-init
@@ -18,7 +15,7 @@ schedule-init g c = λ j b in_lane twice words block.
     let filled : IsPairAt j b h c.args.words.now c.first_four_steps-v-4.result 16 = record {
       window = words;
       variables = s4.variables;
-      rounds = (window_of_block j c.args.words.now b block, s4.rounds);
+      rounds = (window256_of_block j c.args.words.now b block, s4.rounds);
     } in
     let p1 = c.four_steps-v.ensures j b h in_lane filled in
     let p2 = c.four_steps-v-2.ensures j b h in_lane p1 in

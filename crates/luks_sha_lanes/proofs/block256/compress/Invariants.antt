@@ -1,6 +1,5 @@
 use Rattle.std.proofs.Common.{ℕ, ◌<◌, ◌*◌, List}
-use Rattle.luks_sha_lanes.specs.Lanes.{IsBlock, lane}
-use Rattle.luks_sha_lanes.specs.Lanes256.{AllTwice, IsPairAt}
+use Rattle.luks_sha_lanes.specs.Lanes.{AllTwice, IsBlock, IsPairAt, lane}
 use Rattle.luks_sha_lanes.proofs.block256.compress.Given as goal
 
 abbrev pub invariant-schedule : goal.invariant-schedule

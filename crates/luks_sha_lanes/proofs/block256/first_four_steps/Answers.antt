@@ -1,5 +1,5 @@
 use Rattle.std.proofs.Common.{arith}
-use Rattle.luks_sha_lanes.proofs.Lane256Lemmas.{first_at}
+use Rattle.luks_sha_lanes.proofs.LaneLemmas.{first_at}
 use Rattle.luks_sha_lanes.proofs.block256.first_four_steps.Goals as goal
 
 pub returns : goal.returns

@@ -1,5 +1,5 @@
 use Rattle.std.proofs.Common.{arith}
-use Rattle.luks_sha_lanes.proofs.Lane256Lemmas.{pair_at}
+use Rattle.luks_sha_lanes.proofs.LaneLemmas.{pair_at}
 use Rattle.luks_sha_lanes.proofs.block256.four_steps.Goals as goal
 
 pub returns : goal.returns

@@ -1,4 +1,4 @@
-use Rattle.luks_sha_lanes.proofs.TwiceLemmas.{all_doubled, low_doubled}
+use Rattle.luks_sha_lanes.proofs.LaneLemmas.{all_doubled, low_doubled}
 use Rattle.luks_sha_lanes.proofs.block256.twice.Goals as goal
 
 pub returns : goal.returns

@@ -2,8 +2,7 @@ use Rattle.std.proofs.Common.{◌∙◌}
 use Rattle.sha1.specs.Sha1.{compress, initial_hash, sha1}
 use Rattle.luks_sha_lanes.specs.Chains.{digest_at}
 use Rattle.luks_sha_lanes.specs.Lanes.{after_digest}
-use Rattle.luks_sha_lanes.proofs.ChainLemmas.{sum_of_lane}
-use Rattle.luks_sha_lanes.proofs.Padded1Lemmas.{chained1}
+use Rattle.luks_sha_lanes.proofs.WordLemmas.{chained1, sum_of_lane}
 use Rattle.luks_sha_lanes.proofs.chains1.add_chains.Goals as goal
 
 pub returns : goal.returns

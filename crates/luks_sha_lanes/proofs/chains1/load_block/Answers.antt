@@ -1,5 +1,5 @@
 use Rattle.std.proofs.Common.{refl}
-use Rattle.luks_sha_lanes.proofs.WordLemmas.{below_sixteen}
+use Rattle.luks_sha_lanes.proofs.LaneLemmas.{below_sixteen}
 use Rattle.luks_sha_lanes.proofs.chains1.load_block.Goals as goal
 
 pub returns : goal.returns

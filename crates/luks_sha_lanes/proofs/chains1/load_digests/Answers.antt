@@ -1,6 +1,7 @@
 use Rattle.std.proofs.Common.{[], ◌∷◌, arith}
 use Rattle.luks_sha_lanes.specs.Lanes.{lane}
-use Rattle.luks_sha_lanes.proofs.WordLemmas.{below_five, words_of_digest}
+use Rattle.luks_sha_lanes.proofs.LaneLemmas.{below_five}
+use Rattle.luks_sha_lanes.proofs.WordLemmas.{words_of_digest}
 use Rattle.luks_sha_lanes.proofs.chains1.load_digests.Goals as goal
 
 pub returns : goal.returns

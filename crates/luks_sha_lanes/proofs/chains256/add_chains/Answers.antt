@@ -2,9 +2,7 @@ use Rattle.std.proofs.Common.{◌∙◌}
 use Rattle.sha2.specs.Sha256.{compress, digest_bytes, initial_hash_256, sha256}
 use Rattle.luks_sha_lanes.specs.Chains.{digest_at}
 use Rattle.luks_sha_lanes.specs.Lanes.{after_digest, lane}
-use Rattle.luks_sha_lanes.proofs.ChainLemmas.{sum_of_lane}
-use Rattle.luks_sha_lanes.proofs.Padded256Lemmas.{chained256}
-use Rattle.luks_sha_lanes.proofs.WordLemmas.{length-digest_bytes, two_digests}
+use Rattle.luks_sha_lanes.proofs.WordLemmas.{chained256, length-digest_bytes, sum_of_lane, two_digests}
 use Rattle.luks_sha_lanes.proofs.chains256.add_chains.Goals as goal
 
 pub returns : goal.returns

@@ -1,6 +1,5 @@
 use Rattle.std.proofs.Common.{[], ◌∷◌, refl}
-use Rattle.luks_sha_lanes.proofs.WordLemmas.{below_sixteen}
-use Rattle.luks_sha_lanes.proofs.Lane256Lemmas.{all_twice}
+use Rattle.luks_sha_lanes.proofs.LaneLemmas.{all_twice, below_sixteen}
 use Rattle.luks_sha_lanes.proofs.chains256.load_block.Goals as goal
 
 pub returns : goal.returns

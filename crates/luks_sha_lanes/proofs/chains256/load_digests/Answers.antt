@@ -1,6 +1,7 @@
 use Rattle.std.proofs.Common.{[], ◌∷◌, arith}
 use Rattle.luks_sha_lanes.specs.Lanes.{lane}
-use Rattle.luks_sha_lanes.proofs.WordLemmas.{below_eight, words_of_digest}
+use Rattle.luks_sha_lanes.proofs.LaneLemmas.{below_eight}
+use Rattle.luks_sha_lanes.proofs.WordLemmas.{words_of_digest}
 use Rattle.luks_sha_lanes.proofs.chains256.load_digests.Goals as goal
 
 pub returns-clause-words : goal.returns-clause-words

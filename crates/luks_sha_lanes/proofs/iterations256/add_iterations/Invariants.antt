@@ -1,8 +1,7 @@
 use Rattle.std.proofs.Common.{◌≡◌, ℕ, ◌<◌}
 use Rattle.sha2.specs.Sha256.{compress}
 use Rattle.luks_sha_lanes.specs.Chains.{sums, iterations}
-use Rattle.luks_sha_lanes.specs.Lanes.{after_digest, lane}
-use Rattle.luks_sha_lanes.specs.Lanes256.{AllTwice}
+use Rattle.luks_sha_lanes.specs.Lanes.{AllTwice, after_digest, lane}
 use Rattle.luks_sha_lanes.proofs.iterations256.add_iterations.Given as goal
 
 -- in each lane, `u` is the digest after `counter` iterations, and `t` is `sum` with as many digests XORed into it

@@ -1,19 +1,17 @@
-use Rattle.std.proofs.lemmas.Result.{err_from_is_err_and}
+use Rattle.luks_io.proofs.ErrorLemmas.{given_error}
 use Rattle.luks_request.specs.Request.{volume_request}
 use Rattle.luks_unlock.proofs.VolumeLemmas.{aborts_without_header, aborts_without_slots}
 use Rattle.luks_unlock.proofs.found.find_volume.Goals as goal
 
 pub returns-in_err-header-clause-err : goal.returns-in_err-header-clause-err
 returns-in_err-header-clause-err g c =
-    let p = err_from_is_err_and c.from_residual.result c.from_residual.ensures.1 in
-    rw (p.1, p.2) (λ known is.
+    rw (given_error _ _ c.from_residual.ensures.1) (λ known is.
     aborts_without_header c.args.location _ known _ _ _ c.in_err-header.field-0.0
     (c.in_err-header.ensures.no_header known is))
 
 pub returns-in_err-segment-clause-err : goal.returns-in_err-segment-clause-err
 returns-in_err-segment-clause-err g c =
-    let p = err_from_is_err_and c.from_residual-in_err-segment.result c.from_residual-in_err-segment.ensures.1 in
-    rw (p.1, p.2) (λ known is.
+    rw (given_error _ _ c.from_residual-in_err-segment.ensures.1) (λ known is.
     let read = c.in_ok-header.ensures.consumed known is in
     aborts_without_slots c.args.location (volume_request c.args.opening.now) known _ c.in_ok-header.header read.0 read.2
     _ c.in_err-segment.ensures.err)

@@ -1,4 +1,4 @@
-use Rattle.std.proofs.lemmas.Result.{err_from_is_err_and}
+use Rattle.luks_io.proofs.ErrorLemmas.{given_error}
 use Rattle.std.proofs.Common.{inr, sym, refl}
 use Rattle.luks_request.specs.Request.{volume_request}
 use Rattle.luks_unlock.proofs.VolumeLemmas.{no_order}
@@ -6,8 +6,7 @@ use Rattle.luks_unlock.proofs.found.segment_and_slots.Goals as goal
 
 pub returns-in_err-segment-clause-err : goal.returns-in_err-segment-clause-err
 returns-in_err-segment-clause-err c =
-    let p = err_from_is_err_and c.from_residual.result c.from_residual.ensures.1 in
-    rw (p.1, p.2) (inr (rw (← c.in_err-segment.ensures) refl))
+    rw (given_error _ _ c.from_residual.ensures.1) (inr (rw (← c.in_err-segment.ensures) refl))
 
 pub returns-in-Err-clause-err : goal.returns-in-Err-clause-err
 returns-in-Err-clause-err c =

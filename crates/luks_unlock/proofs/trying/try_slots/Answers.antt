@@ -1,4 +1,4 @@
-use Rattle.std.proofs.lemmas.Result.{err_from_is_err_and}
+use Rattle.luks_io.proofs.ErrorLemmas.{given_error}
 use Rattle.std.proofs.Common.{inl, inr, refl, sym}
 use Rattle.luks_header.proofs.HeaderLemmas.{short_from_not_whole}
 use Rattle.luks_unlock.proofs.VolumeLemmas.{none_behind, opening_reads}
@@ -6,8 +6,7 @@ use Rattle.luks_unlock.proofs.trying.try_slots.Goals as goal
 
 pub returns-in_err-extend_to-clause-run : goal.returns-in_err-extend_to-clause-run
 returns-in_err-extend_to-clause-run g c =
-    let p = err_from_is_err_and c.from_residual.result c.from_residual.ensures.1 in
-    rw (p.1, p.2) (λ rest there nothing.
+    rw (given_error _ _ c.from_residual.ensures.1) (λ rest there nothing.
     inl (
       c.in_err-extend_to.field-0.0,
       refl,

@@ -1,10 +1,9 @@
 use Rattle.std.proofs.Common.{◌≡◌, ◌∙◌, drop, length, length-append, length-drop, length-take-le, arith, ℕ, ◌+◌, ◌-◌}
 use Rattle.std.proofs.Common.{◌<◌, List, ◌++◌, Option, None, Some, take, min, ap, sym, refl}
-use Rattle.std.proofs.lemmas.List.{drop-drop, drop_all, take-append-drop}
+use Rattle.std.proofs.lemmas.List.{drop-drop, drop_all, take_at, take-append-drop}
 use Rattle.std.specs.Io.KnownBytes.{Consumes, IsAtEnd}
 use Rattle.luks_io.specs.Devices.{IfKnown}
-use Rattle.luks_kdf.proofs.BytesLemmas.{take_prefix}
-use Rattle.luks_access.specs.Image.{IsAt, remaining_from}
+use Rattle.luks_access.specs.Sectors.{IsAt, remaining_from}
 use Rattle.luks_access.proofs.source.ImageSourceSource.read.Goals as goal
 
 -- the bytes that were read are the next ones
@@ -15,7 +14,7 @@ gives_part None place count buf rest long bytes = tt
 gives_part (Some known) place count buf rest long bytes =
     let is : buf ≡ take count (drop place known) =
     (bytes known refl).same ∙ ap (λ n. take n (drop place known)) long in
-    sym (ap (λ l. l ++ drop (place + count) known) (take_prefix count buf rest long ∙ is)
+    sym (ap (λ l. l ++ drop (place + count) known) (take_at buf rest count long ∙ is)
     ∙ ap (λ l. take count (drop place known) ++ l) (sym (drop-drop count place known))
     ∙ take-append-drop count (drop place known))
 

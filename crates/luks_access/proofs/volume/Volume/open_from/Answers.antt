@@ -1,5 +1,5 @@
 use Rattle.std.proofs.Common.{ap}
-use Rattle.std.proofs.lemmas.Result.{err_from_is_err_and}
+use Rattle.luks_io.proofs.ErrorLemmas.{given_error}
 use Rattle.luks_request.specs.Request.{volume_request}
 use Rattle.luks_access.proofs.OpeningLemmas.{opened_by, refused_unfound, refused_unopened, volume_opened}
 use Rattle.luks_access.proofs.OpeningLemmas.{volume_refused}
@@ -17,16 +17,14 @@ returns-clause-opens g c known is =
 
 pub returns-in_err-found-clause-refuses : goal.returns-in_err-found-clause-refuses
 returns-in_err-found-clause-refuses g c =
-    let p = err_from_is_err_and c.from_residual.result c.from_residual.ensures.1 in
-    rw (p.1, p.2) (λ known is.
+    rw (given_error _ _ c.from_residual.ensures.1) (λ known is.
     volume_refused c.args.options.now known c.args.pass.now _ c.in_err-found.ensures.only (λ never.
     refused_unfound c.args.options.now (volume_request c.opening-opening.result) known c.args.pass.now _
     c.opening-opening.ensures _ never (c.in_err-found.ensures.err known is)))
 
 pub returns-in_err-unlocked-clause-refuses : goal.returns-in_err-unlocked-clause-refuses
 returns-in_err-unlocked-clause-refuses g c =
-    let p = err_from_is_err_and c.from_residual-in_err-unlocked.result c.from_residual-in_err-unlocked.ensures.1 in
-    rw (p.1, p.2) (λ known is.
+    rw (given_error _ _ c.from_residual-in_err-unlocked.ensures.1) (λ known is.
     volume_refused c.args.options.now known c.args.pass.now _ c.in_err-unlocked.ensures.only (λ never.
     let found = c.in_ok-found.ensures.found in
     let read = found.header known is in
@@ -37,9 +35,9 @@ returns-in_err-unlocked-clause-refuses g c =
 -- the key slots were tried after the volume was found
 pub returns-in_err-unlocked-clause-reads : goal.returns-in_err-unlocked-clause-reads
 returns-in_err-unlocked-clause-reads g c =
-    let p = err_from_is_err_and c.from_residual-in_err-unlocked.result c.from_residual-in_err-unlocked.ensures.1 in
     let then = c.in_err-unlocked.ensures in
-    rw (p.1, p.2) (reads_on _ _ then.reads.0 _ _ _ c.in_ok-found.ensures.found.loaded.reads
+    rw (given_error _ _ c.from_residual-in_err-unlocked.ensures.1)
+    (reads_on _ _ then.reads.0 _ _ _ c.in_ok-found.ensures.found.loaded.reads
     (λ ended. ap g.S.Source.counts (then.ended ended)) then.reads.1)
 
 pub returns-clause-reads : goal.returns-clause-reads

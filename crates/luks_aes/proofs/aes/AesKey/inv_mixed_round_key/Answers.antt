@@ -1,24 +1,18 @@
-use Rattle.std.proofs.Common.{◌≡◌, ℕ, ◌+◌, ◌*◌, ◌%◌, ◌<◌, arith, ◌∙◌}
-use Rattle.std.specs.Prelude.{slice_index}
-use Rattle.luks_aes.specs.Aes.{key_expansion}
-use Rattle.luks_aes.proofs.MixingLemmas.{inv_mixed}
+use Rattle.std.proofs.Common.{ℕ, ◌+◌, ◌*◌, ◌%◌, ◌<◌, arith, ◌∙◌}
+use Rattle.luks_aes.proofs.MixingLemmas.{inv_mixed, product_at}
 use Rattle.luks_aes.proofs.ScheduleLemmas.{round_in_schedule, round_byte}
-use Rattle.luks_aes.proofs.InvMixedLemmas.{product_at}
 use Rattle.luks_aes.proofs.aes.AesKey.inv_mixed_round_key.Goals as goal
 
 pub round_key-requires : goal.round_key-requires
-round_key-requires c = round_in_schedule _ _ _ _ c.self.told.0 c.self.invariant c.self.view_is _ c.requires
+round_key-requires c = round_in_schedule c.self.told.0 c.self.invariant c.self.view_is _ c.requires
 
 pub returns : goal.returns
 returns c = λ r k low small.
     let n = c.args.n in
-    let schedule = c.self.inside.schedule in
     let is = c.self.invariant in
-    let inside = round_in_schedule _ _ _ _ c.self.told.0 is c.self.view_is n c.requires in
-    let same : (q : ℕ) → q < 4
-    → slice_index schedule (q + 4 * (4 * n + k)) ≡ slice_index (key_expansion c.args.self.now) (q + 4 * (4 * n + k)) =
-    λ q row. round_byte _ _ _ _ c.self.told.0 is c.self.view_is n q k c.requires row small in
+    let inside = round_in_schedule c.self.told.0 is c.self.view_is n c.requires in
+    let same = λ (q : ℕ) (row : q < 4). round_byte c.self.told.0 is c.self.view_is n q k c.requires row small in
     c.round_key.ensures r k low small
-    ∙ product_at schedule _ 60 (4 * n + k) r is.products (omega arith) low
+    ∙ product_at c.self.inside.schedule _ 60 (4 * n + k) r is.products (omega arith) low
     ∙ (λ t. inv_mixed (same r low t) (same ((r + 1) % 4) (omega arith) t) (same ((r + 2) % 4) (omega arith) t)
     (same ((r + 3) % 4) (omega arith) t))

@@ -1,4 +1,4 @@
-use Rattle.luks_aes.proofs.TableLemmas.{inv_mixed_table}
+use Rattle.luks_aes.proofs.ColumnLemmas.{inv_mixed_table}
 use Rattle.luks_aes.proofs.mixing.InvMixing.new.Goals as goal
 
 pub invariant_of-result : goal.invariant_of-result

@@ -1,4 +1,4 @@
-use Rattle.luks_aes.proofs.SboxLemmas.{inv_sbox_entry}
+use Rattle.luks_aes.proofs.Bytes.{inv_sbox_entry}
 use Rattle.luks_aes.proofs.sbox.InverseSubstitution.new.Goals as goal
 
 pub invariant_of-result : goal.invariant_of-result

@@ -1,4 +1,4 @@
-use Rattle.luks_aes.proofs.SboxLemmas.{sbox_entry}
+use Rattle.luks_aes.proofs.Bytes.{sbox_entry}
 use Rattle.luks_aes.proofs.sbox.Substitution.new.Goals as goal
 
 pub invariant_of-result : goal.invariant_of-result

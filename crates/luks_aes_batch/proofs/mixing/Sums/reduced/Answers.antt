@@ -1,4 +1,4 @@
-use Rattle.luks_aes_batch.proofs.PlaneLemmas.{reduced_bits, doubled_with}
+use Rattle.luks_aes_batch.proofs.MixLemmas.{reduced_bits, doubled_with}
 use Rattle.luks_aes_batch.proofs.mixing.Sums.reduced.Goals as goal
 
 pub returns-clause-to_1 : goal.returns-clause-to_1

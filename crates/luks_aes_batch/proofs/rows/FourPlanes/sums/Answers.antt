@@ -1,4 +1,4 @@
-use Rattle.luks_bitslice.proofs.RowLemmas.{sum_plane}
+use Rattle.luks_bitslice.proofs.GateLemmas.{sum_plane}
 use Rattle.luks_aes_batch.proofs.rows.FourPlanes.sums.Goals as goal
 
 pub returns-clause-all : goal.returns-clause-all

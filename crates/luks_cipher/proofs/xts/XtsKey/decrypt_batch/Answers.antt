@@ -1,8 +1,7 @@
 use Rattle.std.proofs.Common.{ℕ, List, ap, sym, ◌∙◌}
 use Rattle.luks_aes.specs.Aes.{decrypted}
 use Rattle.luks_cipher.specs.Xts.{block_at}
-use Rattle.luks_cipher.proofs.TweakLemmas.{halves}
-use Rattle.luks_cipher.proofs.BatchLemmas.{xts_batch, tweaks_xored}
+use Rattle.luks_cipher.proofs.UnitLemmas.{halves, xts_batch}
 use Rattle.luks_cipher.proofs.xts.XtsKey.decrypt_batch.Goals as goal
 
 pub returns : goal.returns
@@ -10,12 +9,11 @@ returns c =
     let key = c.args.self.now in
     let half = (halves c.self.inside.data_key c.self.inside.tweak_key key c.self.invariant.same_length
     c.self.view_is).0 in
-    let kept = c.put_tweaks-next.ensures.value in
     record {
-      value = xts_batch key c.args.tweak c.args.batch.now _ c.decrypt_batch.new.batch _
-          (tweaks_xored c.args.tweak _ _ _ kept c.xor_tweaks.ensures)
+      value = xts_batch key c.args.tweak _ c.args.batch.now _ c.decrypt_batch.new.batch _
+          c.put_tweaks-next.ensures.value c.xor_tweaks.ensures
           (λ n low. c.decrypt_batch.ensures n low
           ∙ ap (λ (k : List ℕ). decrypted k (block_at c.xor_tweaks.new.batch n)) (sym half))
-          (tweaks_xored c.args.tweak _ _ _ kept c.xor_tweaks-2.ensures);
+          c.xor_tweaks-2.ensures;
       next = c.put_tweaks-next.ensures.next;
     }

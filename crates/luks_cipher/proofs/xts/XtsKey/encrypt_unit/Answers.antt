@@ -1,6 +1,6 @@
-use Rattle.std.proofs.Common.{◌≡◌, ◌/◌, length, ap, arith, ◌∙◌, rules}
-use Rattle.luks_cipher.specs.Xts.{tweak_of, block_encrypted, xts_encrypted, xts_decrypted}
-use Rattle.luks_cipher.proofs.TweakLemmas.{done_none, done_next, next_tweak, done_all}
+use Rattle.std.proofs.Common.{◌≡◌, ◌/◌, length, ap, add-one, arith, ◌∙◌, rules}
+use Rattle.luks_cipher.specs.Xts.{doubled, tweak_of, xts_encrypted, xts_decrypted}
+use Rattle.luks_cipher.proofs.UnitLemmas.{done_none, done_all, progress_next}
 use Rattle.luks_cipher.proofs.UnitsUndone.{xts_decrypted-xts_encrypted}
 use Rattle.luks_cipher.proofs.xts.XtsKey.encrypt_unit.Goals as goal
 
@@ -9,14 +9,11 @@ loop-j-init c = record
     { bytes = record { each = search rules }; next = c.first_tweak-tweak.ensures.value; done = done_none _ _ }
 
 pub loop-j-preserved : goal.loop-j-preserved
+unfolding tweak_of
 loop-j-preserved c =
     let before = c.loop-j.invariant in
-    record {
-      bytes = before.bytes;
-      next = next_tweak _ _ _ _ _ before.next c.doubled-next.ensures;
-      done = done_next (block_encrypted c.args.self.now) (tweak_of c.args.self.now c.args.number) _ _ _ _ c.loop-j.j
-          before.done (omega arith) (omega arith) before.next c.encrypt_piece.ensures;
-    }
+    progress_next _ _ _ _ _ _ _ c.loop-j.j before (omega arith) (omega arith) c.encrypt_piece.ensures
+    (rw add-one (c.doubled-next.ensures ∙ ap doubled before.next))
 
 pub returns : goal.returns
 unfolding xts_encrypted

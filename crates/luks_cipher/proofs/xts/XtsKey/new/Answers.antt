@@ -4,7 +4,7 @@ use Rattle.std.specs.Prelude.{if◌then◌else◌}
 use Rattle.std.proofs.lemmas.List.{length-take-le}
 use Rattle.luks_aes.specs.Bytes.{IsBytes}
 use Rattle.luks_aes.proofs.ByteLists.{bytes_take, bytes_drop}
-use Rattle.luks_cipher.specs.KeyPair.{IsKeyPair}
+use Rattle.luks_cipher.specs.Xts.{IsKeyPair}
 use Rattle.luks_cipher.proofs.xts.XtsKey.new.Goals as goal
 
 -- a value that comes out of a test is the value that went in

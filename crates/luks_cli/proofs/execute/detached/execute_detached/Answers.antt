@@ -11,8 +11,8 @@ returns-in-IsLuks g c = rw (c.report.ensures, c.in-IsLuks.is) (record {
   unneeded = λ _. refl;
   untouched = λ _. refl;
   reads_first = λ _ _. refl;
-  calls = detached_calls_without_payload ReadsOnce _ _ _ _ _ _ _ _ (none_read _)
-      (calls_of_is_luks (result_message c.is_luks.result) _ _ _ _ _ c.is_luks.ensures.only c.is_luks.ensures.reads.1);
+  calls = detached_calls_without_payload ReadsOnce (none_read _)
+      (calls_of_is_luks (result_message c.is_luks.result) c.is_luks.ensures.only c.is_luks.ensures.reads.1);
 })
 
 pub returns-in-LuksUuid : goal.returns-in-LuksUuid
@@ -22,8 +22,8 @@ returns-in-LuksUuid g c = rw (c.report-in-LuksUuid.ensures, c.in-LuksUuid.is) (r
   unneeded = λ _. refl;
   untouched = λ _. refl;
   reads_first = λ _. c.print.ensures.reads_first;
-  calls = detached_calls_without_payload ReadsOnce _ _ _ _ _ _ _ _ (none_read _)
-      (calls_of_image (result_message c.print.result) _ _ _ _ _ _ c.print.ensures.reads.1 c.print.ensures.writes);
+  calls = detached_calls_without_payload ReadsOnce (none_read _)
+      (calls_of_image (result_message c.print.result) c.print.ensures.reads.1 c.print.ensures.writes);
 })
 
 pub returns-in-LuksDump : goal.returns-in-LuksDump
@@ -33,8 +33,8 @@ returns-in-LuksDump g c = rw (c.report-in-LuksDump.ensures, c.in-LuksDump.is) (r
   unneeded = λ _. refl;
   untouched = λ _. refl;
   reads_first = λ _. c.print-in-LuksDump.ensures.reads_first;
-  calls = detached_calls_without_payload ReadsOnce _ _ _ _ _ _ _ _ (none_read _)
-      (calls_of_image (result_message c.print-in-LuksDump.result) _ _ _ _ _ _
+  calls = detached_calls_without_payload ReadsOnce (none_read _)
+      (calls_of_image (result_message c.print-in-LuksDump.result)
       c.print-in-LuksDump.ensures.reads.1 c.print-in-LuksDump.ensures.writes);
 })
 
@@ -45,8 +45,8 @@ returns-in-LuksCheck g c = rw (c.report-in-LuksCheck.ensures, c.in-LuksCheck.is)
   unneeded = λ _. refl;
   untouched = λ _. refl;
   reads_first = λ _. c.print-in-LuksCheck.ensures.reads_first;
-  calls = detached_calls_without_payload ReadsOnce _ _ _ _ _ _ _ _ (none_read _)
-      (calls_of_image (result_message c.print-in-LuksCheck.result) _ _ _ _ _ _
+  calls = detached_calls_without_payload ReadsOnce (none_read _)
+      (calls_of_image (result_message c.print-in-LuksCheck.result)
       c.print-in-LuksCheck.ensures.reads.1 c.print-in-LuksCheck.ensures.writes);
 })
 
@@ -57,7 +57,7 @@ returns-in-TestPassphrase g c = rw (c.report-in-TestPassphrase.ensures, c.in-Tes
   unneeded = λ needs. c.test_passphrase.ensures.unneeded needs.0 needs.1 needs.2;
   untouched = λ _. refl;
   reads_first = λ _. c.test_passphrase.ensures.reads_first;
-  calls = detached_calls_without_payload ReadsOnce _ _ _ _ _ _ _ _ (none_read _) c.test_passphrase.ensures.calls;
+  calls = detached_calls_without_payload ReadsOnce (none_read _) c.test_passphrase.ensures.calls;
 })
 
 pub returns-in-LuksCat : goal.returns-in-LuksCat

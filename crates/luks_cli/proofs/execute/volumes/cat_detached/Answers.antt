@@ -1,22 +1,21 @@
-use Rattle.std.proofs.lemmas.Result.{err_from_is_err_and}
 use Rattle.std.proofs.Common.{inl, inr, refl, true}
-use Rattle.luks_io.proofs.Consuming.{consumed-none}
+use Rattle.luks_io.proofs.ErrorLemmas.{given_error}
+use Rattle.luks_io.proofs.EffectLemmas.{consumed-none}
 use Rattle.luks_io.specs.Devices.{ConsumedExactly}
 use Rattle.luks_runs.specs.Run.{result_message}
+use Rattle.luks_runs.specs.declared.location.HeaderLocation.TheVariants.{Detached}
 use Rattle.luks_unlock.specs.Volume.{detached_payload_outcome}
 use Rattle.luks_cli.proofs.CallLemmas.{detached_calls_without_payload, calls_unopened, none_read}
-use Rattle.luks_cli.proofs.OpenedRuns.{detached_payload_consumes_loaded, detached_runs_forwarded, with_key}
-use Rattle.luks_cli.proofs.OpenedRuns.{runs_at}
+use Rattle.luks_cli.proofs.OpenedRuns.{detached_payload_consumes_loaded, detached_runs_forwarded, runs_at, with_key}
 use Rattle.luks_cli.specs.CommandRun.{ReadsOnce}
-use Rattle.luks_cli.specs.Unlocking.{PromptDetachedCat}
+use Rattle.luks_cli.specs.Unlocking.{PromptCat}
 use Rattle.luks_cli.proofs.execute.volumes.cat_detached.Goals as goal
 
 pub returns-in_err-unlocked-clause-run : goal.returns-in_err-unlocked-clause-run
 returns-in_err-unlocked-clause-run g c =
-    let p = err_from_is_err_and c.from_residual.result c.from_residual.ensures.1 in
     let stop = c.in_err-unlocked.ensures in
-    rw (p.1, p.2) (λ file there known is pass has counted.
-    runs_at (PromptDetachedCat file) (PromptDetachedCat file) _ _ _ (ConsumedExactly known _) _ _
+    rw (given_error _ _ c.from_residual.ensures.1) (λ file there known is pass has counted.
+    runs_at (PromptCat Detached file) (PromptCat Detached file) _ _ _ (ConsumedExactly known _) _ _
     (λ input payload secret output is. is) (consumed-none known _ is)
     (stop.err file there pass has (detached_payload_outcome known pass)
     (detached_payload_consumes_loaded known pass) _))
@@ -32,10 +31,10 @@ returns-clause-before_key g c without = absurd (with_key _ c.write_plain.ensures
 
 pub returns-in_err-unlocked-clause-calls : goal.returns-in_err-unlocked-clause-calls
 returns-in_err-unlocked-clause-calls g c =
-    let p = err_from_is_err_and c.from_residual.result c.from_residual.ensures.1 in
     let stop = c.in_err-unlocked.ensures in
-    rw (p.1, p.2) (detached_calls_without_payload _ _ _ _ _ _ _ _ _ (_, (λ file there pass has. inl refl), none_read _)
-    (calls_unopened ReadsOnce _ _ _ _ _ _ stop.only stop.counts))
+    rw (given_error _ _ c.from_residual.ensures.1)
+    (detached_calls_without_payload _ (_, (λ file there pass has. inl refl), none_read _)
+    (calls_unopened ReadsOnce _ stop.only stop.counts))
 
 pub returns-clause-calls : goal.returns-clause-calls
 returns-clause-calls g c =

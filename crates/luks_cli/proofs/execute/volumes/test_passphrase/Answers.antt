@@ -1,16 +1,15 @@
-use Rattle.std.proofs.lemmas.Result.{err_from_is_err_and}
 use Rattle.std.proofs.Common.{refl}
+use Rattle.luks_io.proofs.ErrorLemmas.{given_error}
 use Rattle.luks_unlock.specs.Volume.{slot_outcome}
 use Rattle.luks_runs.specs.Run.{AnyPromptness, ConsumedNothing, result_message}
 use Rattle.luks_cli.proofs.CallLemmas.{calls_unopened}
 use Rattle.luks_cli.specs.CommandRun.{ReadsOnce}
-use Rattle.luks_cli.proofs.OpenedRuns.{runs_at, runs_slot, slot_message, slot_reads_nothing, slot_consumes_loaded}
+use Rattle.luks_cli.proofs.OpenedRuns.{runs_at, runs_slot, slot_message, slot_consumes_loaded}
 use Rattle.luks_cli.proofs.execute.volumes.test_passphrase.Goals as goal
 
 pub returns-in_err-unlocked-clause-run : goal.returns-in_err-unlocked-clause-run
 returns-in_err-unlocked-clause-run g c =
-    let p = err_from_is_err_and c.from_residual.result c.from_residual.ensures.1 in
-    rw (p.1, p.2) (λ known is pass has.
+    rw (given_error _ _ c.from_residual.ensures.1) (λ known is pass has.
     runs_at _ AnyPromptness _ _ _ ConsumedNothing _ _ (λ input payload secret output is. tt) refl
     (c.in_err-unlocked.ensures.err known is pass has (slot_outcome pass) (slot_consumes_loaded pass) _))
 
@@ -21,23 +20,22 @@ returns-clause-run g c known is pass has =
 
 pub returns-clause-only : goal.returns-clause-only
 returns-clause-only g c =
-    slot_message c.in_ok-unlocked.unlocked.volume.slot _ _ (result_message c.write_opened_line.result)
-    c.write_opened_line.ensures.written
+    (slot_message c.in_ok-unlocked.unlocked.volume.slot _ _ (result_message c.write_opened_line.result)
+    c.write_opened_line.ensures.written).0
 
 pub returns-clause-reads_first : goal.returns-clause-reads_first
 returns-clause-reads_first g c failed =
-    let no_read = slot_reads_nothing c.in_ok-unlocked.unlocked.volume.slot _ _
-    (result_message c.write_opened_line.result) c.write_opened_line.ensures.written in
+    let no_read = (slot_message c.in_ok-unlocked.unlocked.volume.slot _ _
+    (result_message c.write_opened_line.result) c.write_opened_line.ensures.written).1 in
     absurd (cc (rw failed at no_read))
 
 pub returns-in_err-unlocked-clause-calls : goal.returns-in_err-unlocked-clause-calls
 returns-in_err-unlocked-clause-calls g c =
-    let p = err_from_is_err_and c.from_residual.result c.from_residual.ensures.1 in
     let stop = c.in_err-unlocked.ensures in
-    rw (p.1, p.2) (calls_unopened ReadsOnce _ _ _ _ _ _ stop.only stop.counts)
+    rw (given_error _ _ c.from_residual.ensures.1) (calls_unopened ReadsOnce _ stop.only stop.counts)
 
 pub returns-clause-calls : goal.returns-clause-calls
 returns-clause-calls g c =
-    let not_read = slot_reads_nothing c.in_ok-unlocked.unlocked.volume.slot _ _
-    (result_message c.write_opened_line.result) c.write_opened_line.ensures.written in
+    let not_read = (slot_message c.in_ok-unlocked.unlocked.volume.slot _ _
+    (result_message c.write_opened_line.result) c.write_opened_line.ensures.written).1 in
     record { reads = rw not_read c.in_ok-unlocked.ensures.counts; out_writes = c.write_opened_line.ensures.writes }

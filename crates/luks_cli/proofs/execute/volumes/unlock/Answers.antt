@@ -1,5 +1,5 @@
-use Rattle.std.proofs.lemmas.Result.{err_from_is_err_and}
-use Rattle.std.proofs.Common.{◌∙◌, [], Some, ap, false, refl}
+use Rattle.std.proofs.Common.{◌∙◌, [], Some, ap, false}
+use Rattle.luks_io.proofs.ErrorLemmas.{given_error}
 use Rattle.luks_request.specs.Request.{volume_request}
 use Rattle.luks_unlock.proofs.VolumeLemmas.{nothing_left, reads_within, there_is_volume}
 use Rattle.luks_cli.proofs.CallLemmas.{reads_before, reads_of_image}
@@ -8,24 +8,21 @@ use Rattle.luks_cli.proofs.execute.volumes.unlock.Goals as goal
 
 pub returns-in_err-volume-clause-err : goal.returns-in_err-volume-clause-err
 returns-in_err-volume-clause-err g c =
-    let p = err_from_is_err_and c.from_residual.result c.from_residual.ensures.1 in
-    rw (p.1, p.2) (λ known is pass has on_opened takes written.
+    rw (given_error _ _ c.from_residual.ensures.1) (λ known is pass has on_opened takes written.
     runs_without_volume c.args.location _ known pass _ _ _ on_opened takes _ c.in_err-volume.ensures.only
     (c.in_err-volume.ensures.err known is) has)
 
 pub returns-in_err-volume-clause-counts : goal.returns-in_err-volume-clause-counts
 returns-in_err-volume-clause-counts g c =
-    let p = err_from_is_err_and c.from_residual.result c.from_residual.ensures.1 in
-    rw (p.1, p.2) (reads_of_image _ _ _ _ _ c.in_err-volume.ensures.reads.1)
+    rw (given_error _ _ c.from_residual.ensures.1) (reads_of_image c.in_err-volume.ensures.reads.1)
 
 pub returns-in_err-opened-clause-err : goal.returns-in_err-opened-clause-err
 returns-in_err-opened-clause-err g c =
-    let p = err_from_is_err_and c.from_residual-in_err-opened.result c.from_residual-in_err-opened.ensures.1 in
-    rw (p.1, p.2) (λ known is pass has on_opened takes written.
+    rw (given_error _ _ c.from_residual-in_err-opened.ensures.1) (λ known is pass has on_opened takes written.
     let found = c.in_ok-volume.ensures.found in
     let read = found.header known is in
     runs_without_key c.args.location (volume_request c.args.opening.now) known pass _ _ _ _ _ _ read.0
-    found.slots.segment found.slots.order _ _ read.1 on_opened takes (record { within = read.2.within; left = refl }) _
+    found.slots.segment found.slots.order _ _ read.1 on_opened takes _
     (c.in_err-opened.ensures.run _ read.2.left pass has (nothing_left _ _ _ _ _ known _ found.loaded is read.2.left)))
 
 pub returns-in_err-opened-clause-unneeded : goal.returns-in_err-opened-clause-unneeded
@@ -35,11 +32,10 @@ returns-in_err-opened-clause-unneeded g c known is none =
 -- the key slots were tried after the volume was found
 pub returns-in_err-opened-clause-counts : goal.returns-in_err-opened-clause-counts
 returns-in_err-opened-clause-counts g c =
-    let p = err_from_is_err_and c.from_residual-in_err-opened.result c.from_residual-in_err-opened.ensures.1 in
     let first = c.in_ok-volume.ensures.found.loaded.reads in
     let then = c.in_err-opened.ensures.counts in
-    rw (p.1, p.2) (reads_before _ _ _ _ _ _ _ first
-    (λ ended. ap g.I.Source.counts (c.unlock_found-opened.ensures.ended ended)) then)
+    rw (given_error _ _ c.from_residual-in_err-opened.ensures.1)
+    (reads_before first (λ ended. ap g.I.Source.counts (c.unlock_found-opened.ensures.ended ended)) then)
 
 pub returns-clause-ok : goal.returns-clause-ok
 returns-clause-ok g c known is pass has =
@@ -57,7 +53,7 @@ pub returns-clause-counts : goal.returns-clause-counts
 returns-clause-counts g c =
     let first = c.in_ok-volume.ensures.found.loaded.reads in
     let then = c.in_ok-opened.ensures.counts in
-    reads_before _ _ _ _ _ _ _ first (λ ended. ap g.I.Source.counts (c.unlock_found-opened.ensures.ended ended)) then
+    reads_before first (λ ended. ap g.I.Source.counts (c.unlock_found-opened.ensures.ended ended)) then
 
 pub returns-clause-loaded : goal.returns-clause-loaded
 returns-clause-loaded g c =

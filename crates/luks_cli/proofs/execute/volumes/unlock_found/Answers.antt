@@ -1,20 +1,19 @@
-use Rattle.std.proofs.lemmas.Result.{err_from_is_err_and}
 use Rattle.std.proofs.Common.{◌≡◌, ◌≤◌, ap, arith, false, inl, inr, length, refl, true}
+use Rattle.luks_io.proofs.ErrorLemmas.{given_error}
 use Rattle.luks_runs.specs.KeyFile.{max_key_file_len}
 use Rattle.luks_cli.proofs.CallLemmas.{within_areas}
-use Rattle.luks_io.proofs.CountsLemmas.{no_reads}
+use Rattle.luks_io.proofs.EffectLemmas.{no_reads}
 use Rattle.luks_cli.proofs.execute.volumes.unlock_found.Goals as goal
 
 pub returns-in_err-passphrase-clause-run : goal.returns-in_err-passphrase-clause-run
 returns-in_err-passphrase-clause-run g c =
-    let p = err_from_is_err_and c.from_residual.result c.from_residual.ensures.1 in
-    rw (p.1, p.2) (λ rest there pass has nothing. inr (_, refl, c.in_err-passphrase.ensures.err pass has, refl, there))
+    rw (given_error _ _ c.from_residual.ensures.1)
+    (λ rest there pass has nothing. inr (_, refl, c.in_err-passphrase.ensures.err pass has, refl, there))
 
 pub returns-in_err-passphrase-clause-counts : goal.returns-in_err-passphrase-clause-counts
 returns-in_err-passphrase-clause-counts g c =
-    let p = err_from_is_err_and c.from_residual.result c.from_residual.ensures.1 in
     let passphrase = c.in_err-passphrase.ensures.reads in
-    rw (p.1, p.2)
+    rw (given_error _ _ c.from_residual.ensures.1)
     (record { in_input = false; input_reads = (false, no_reads _); secret_reads = (passphrase.0, passphrase.1) })
 
 pub returns-clause-run : goal.returns-clause-run

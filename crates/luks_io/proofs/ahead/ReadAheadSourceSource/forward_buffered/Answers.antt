@@ -7,9 +7,9 @@ returns-clause-forwards g c =
     let at = c.self.inside in
     let put = c.put_transformed-answer in
     rw (← c.self.view_is)
-    (forwards_buffered at.buffer.items put.new.buffer at.buffer.len at.start at.end c.args.count _ _ _
-    (g.C.Transform.transformed c.args.transform.now) put.result _ (omega arith) (omega arith) (search rules)
-    (search rules) (search rules) (search rules) (search rules))
+    (forwards_buffered at.buffer.items put.new.buffer at.buffer.len at.start at.end c.args.count (omega arith)
+    (omega arith) (search rules) (search rules) (search rules) _ _ _ (g.C.Transform.transformed c.args.transform.now)
+    put.result _ (search rules) (search rules))
 
 pub returns-clause-leaves : goal.returns-clause-leaves
 returns-clause-leaves g c =

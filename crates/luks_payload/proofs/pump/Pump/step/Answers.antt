@@ -1,8 +1,7 @@
-use Rattle.std.proofs.Common.{◌≡◌, ◌+◌, ◌≤◌, ◌∙◌, ap, sym, subst, length, inl, inr}
-use Rattle.std.proofs.lemmas.Result.{err_from_is_err_and}
+use Rattle.std.proofs.Common.{◌≡◌, ◌+◌, ◌≤◌, ◌∙◌, ap, sym, subst, length, inl, inr, refl}
+use Rattle.luks_io.proofs.ErrorLemmas.{given_error}
 use Rattle.luks_payload.specs.Plain.{sector_start}
-use Rattle.luks_payload.specs.SectorEffects.{PositionedAt, max_sectors}
-use Rattle.luks_payload.specs.PumpEffects.{PumpModel, StepEffect}
+use Rattle.luks_payload.specs.PumpEffects.{PositionedAt, PumpModel, StepEffect, max_sectors}
 use Rattle.luks_payload.specs.declared.state.State.TheVariants.{Ended}
 use Rattle.luks_payload.proofs.StepLemmas.{resumed, steps_skipped, steps_unskipped}
 use Rattle.luks_payload.proofs.StepLemmas.{unskipped_reads, unskipped_writes, was_before}
@@ -10,28 +9,25 @@ use Rattle.luks_payload.proofs.pump.Pump.step.Goals as goal
 
 pub returns-in_err-skip-clause-run : goal.returns-in_err-skip-clause-run
 returns-in_err-skip-clause-run g c =
-    let p = err_from_is_err_and c.from_residual.result c.from_residual.ensures.1 in
     let was = c.args.self.now in
-    rw (p.1, p.2) (λ image few positioned.
-    steps_unskipped was.segment was.cipher was.consumed_before was.count was.prefix image _ _ _ _
-    was.state _ _ positioned c.in_err-skip.ensures.again c.in_err-skip.ensures.fresh
-    (λ first. c.in_err-skip.ensures.run image first positioned))
+    rw (given_error _ _ c.from_residual.ensures.1) (λ image few positioned.
+    let first = was_before was.state _ _ c.in_err-skip.ensures.again positioned.running in
+    steps_unskipped was image _ _ _ _ first (c.in_err-skip.ensures.fresh first) positioned _
+    (c.in_err-skip.ensures.run image first positioned))
 
 pub returns-in_err-skip-clause-reads : goal.returns-in_err-skip-clause-reads
 returns-in_err-skip-clause-reads g c =
-    let p = err_from_is_err_and c.from_residual.result c.from_residual.ensures.1 in
     let was = c.args.self.now in
     let aborted = c.in_err-skip.ensures in
-    rw (p.1, p.2) (λ running.
+    rw (given_error _ _ c.from_residual.ensures.1) (λ running.
     unskipped_reads was.segment was.count _ (aborted.only (was_before was.state _ _ aborted.again running)) _ _
     (aborted.reads running))
 
 pub returns-in_err-skip-clause-writes : goal.returns-in_err-skip-clause-writes
 returns-in_err-skip-clause-writes g c =
-    let p = err_from_is_err_and c.from_residual.result c.from_residual.ensures.1 in
     let was = c.args.self.now in
     let aborted = c.in_err-skip.ensures in
-    rw (p.1, p.2) (λ running.
+    rw (given_error _ _ c.from_residual.ensures.1) (λ running.
     unskipped_writes was.segment was.count _ (aborted.only (was_before was.state _ _ aborted.again running)) _)
 
 pub returns-clause-run : goal.returns-clause-run
@@ -39,8 +35,8 @@ returns-clause-run g c image few positioned =
     let was = c.args.self.now in
     let skip = c.in_ok-skip.ensures in
     let now = c.self.view_is ∙ skip.pump in
-    steps_skipped was.segment was.cipher was.consumed_before was.count was.prefix image _ _ _ _ _ _
-    was.state _ positioned (subst (λ (p : PumpModel). p.consumed_before ≤ p.segment.offset) now c.self.invariant.0)
+    steps_skipped was image _ _ _ _ _ _ positioned
+    (subst (λ (p : PumpModel). p.consumed_before ≤ p.segment.offset) now c.self.invariant.0) was.state _ refl
     skip.again (λ same. ap g.S.Source.to_come same) skip.fresh (λ first. skip.run image first positioned)
     (subst (λ (p : PumpModel).
     PositionedAt image p.prefix (sector_start p.segment p.count) (g.S.Source.to_come c.skip.new.source)

@@ -1,13 +1,72 @@
--- The steps of the loops that move bytes piece by piece.
-use Rattle.std.proofs.Common.{◌≡◌, ℕ, ◌+◌, ◌-◌, ◌≤◌, List, ◌++◌, Option, ◌∙◌, ap, sym, subst, take, drop, length}
-use Rattle.std.proofs.Common.{take_all, length-append, length-take-le, append-nil, Some, None, [], min, arith}
+-- Effects of calls on devices, call after call: bytes that are consumed from a source and written to a sink, and what
+-- is counted.
+use Rattle.std.proofs.Common.{◌≡◌, ℕ, ◌+◌, ◌-◌, ◌<◌, ◌≤◌, List, [], ◌++◌, Option, Some, None, ◌∙◌, ap, sym, subst, min}
+use Rattle.std.proofs.Common.{drop, take, take_all, length, length-append, length-drop, length-take-le, append-nil}
+use Rattle.std.proofs.Common.{append_assoc, arith, Bool, false, refl}
 use Rattle.std.specs.Io.KnownBytes.{Appends, Consumes, Keeps}
 use Rattle.std.proofs.KnownBytes.{Consumes-kept, Consumes-trans, Appends-trans}
 use Rattle.std.proofs.Transfers.{drop-appended}
 use Rattle.std.proofs.Math.Seq.{take-add, take-append-add}
-use Rattle.std.proofs.lemmas.List.{take-append-le, take_rest, take_at}
-use Rattle.luks_io.specs.Devices.{Appended, ConsumedInto, IfKnown}
+use Rattle.std.proofs.lemmas.List.{drop-drop, drop_all, take-append-le, take_rest, take_at}
+use Rattle.luks_io.specs.Devices.{Appended, ConsumedExactly, ConsumedInto, IfKnown, counted}
+use Rattle.luks_io.specs.Counts.{IsLive, Reads, Writes}
+use Rattle.luks_io.specs.declared.counts.ReadCounts.{ReadCounts}
+use Rattle.luks_io.specs.declared.counts.WriteCounts.{WriteCounts}
 use borrow.Rule.Slice.PartMut.{post_of, put_mid}
+
+module _ (known : List ℕ) (r r' : Option (List ℕ)) where
+  -- m bytes were consumed, and then n more of those after them
+  pub consumed_behind : (m n : ℕ) → ConsumedExactly known r m → ConsumedExactly (drop m known) r' n
+      → ConsumedExactly known r' (m + n)
+  consumed_behind m n before then = record {
+    within = omega (arith, length-drop m known, then.within, before.within);
+    left = then.left ∙ ap Some (drop-drop n m known);
+  }
+
+  -- m bytes were consumed, and then n more
+  pub consumed_more : (m n : ℕ) → ConsumedExactly known r m → IfKnown r (λ rest. ConsumedExactly rest r' n)
+      → ConsumedExactly known r' (m + n)
+  consumed_more m n before next = consumed_behind m n before (next (drop m known) before.left)
+
+  -- the same, for a given sum of m and n
+  pub consumed_sum : (m n sum : ℕ) → m + n ≡ sum → ConsumedExactly known r m
+      → IfKnown r (λ rest. ConsumedExactly rest r' n) → ConsumedExactly known r' sum
+  consumed_sum m n sum is before next = subst (ConsumedExactly known r') is (consumed_more m n before next)
+
+  -- m bytes were consumed, and then fewer than were requested: these were all
+  pub consumed_all : (m asked n : ℕ) → ConsumedExactly known r m → IfKnown r (λ rest. ConsumedExactly rest r' n)
+      → IfKnown r (λ rest. n ≡ min asked (length rest)) → n < asked
+      → (m + n ≡ length known) × ConsumedExactly known r' (length known)
+  consumed_all m asked n before next all few =
+      let whole : m + n
+      ≡ length known = omega (arith, all (drop m known) before.left, length-drop m known, before.within) in
+      (whole, consumed_sum m n (length known) whole before next)
+
+-- before any byte is consumed
+pub consumed-none : (known : List ℕ) (left : Option (List ℕ)) → left ≡ Some known → ConsumedExactly known left 0
+consumed-none known left is = record { within = omega arith; left = is }
+
+-- all bytes were consumed
+pub consumed-all : (known : List ℕ) (left : Option (List ℕ)) (count : ℕ) → length known ≤ count
+    → left ≡ Some (drop count known) → ConsumedExactly known left (length known)
+consumed-all known left count all is =
+    record {
+      within = omega arith;
+      left = is
+          ∙ ap Some (drop_all count known all ∙ sym (drop_all (length known) known (omega arith)));
+    }
+
+-- if nothing is written, the sink does not change
+pub adds-none : (before : Option (List ℕ)) → Appended before before []
+adds-none before known is = is ∙ ap Some (sym (append-nil known))
+
+-- some bytes were written, and then others
+pub adds-more : (before now after : Option (List ℕ)) (xs ys : List ℕ) → Appended before now xs → Appended now after ys
+    → Appended before after (xs ++ ys)
+adds-more before now after xs ys first second known is = second (known ++ xs) (first known is)
+    ∙ ap Some (append_assoc known xs ys)
+
+-- ---- the steps of loops
 
 -- the first bytes of a list were written, and then the next n
 pub Appends-next : (a b c : Option (List ℕ)) (xs : List ℕ) (at n : ℕ) → Appends a b (take at xs)
@@ -83,3 +142,32 @@ pub adds-all : (a b : Option (List ℕ)) (xs : List ℕ) (at : ℕ) → length x
 adds-all None b xs at all p known is = absurd cc
 adds-all (Some old) None xs at all p known is = absurd p
 adds-all (Some old) (Some new) xs at all p known is = let whole = take_all at xs all in cc
+
+-- ---- counts
+
+-- without a read, nothing is counted
+pub no_reads : (a : ReadCounts) → Reads false false a a
+no_reads a = record { failures = refl; ends = refl; needed = λ live. refl; ahead = omega arith }
+
+-- reads that neither failed nor hit the end, and further ones after them, count as one run of reads
+pub reads_more : (failed ended : Bool) (a b c : ReadCounts) → Reads false false a b → Reads failed ended b c
+    → Reads failed ended a c
+reads_more failed ended a b c first then = record {
+  failures = then.failures ∙ ap (counted failed) first.failures;
+  ends = then.ends ∙ ap (counted ended) first.ends;
+  needed = λ live.
+      let still : IsLive b = record { failed = first.failures ∙ live.failed; ended = first.ends ∙ live.ended } in
+      then.needed still ∙ first.needed live;
+  ahead = omega (arith, first.ahead, then.ahead);
+}
+
+-- without a write, nothing is counted
+pub no_writes : (a : WriteCounts) → Writes false a a
+no_writes a = record { failures = refl; needed = λ live. refl }
+
+-- writes that did not fail, and further ones after them, count as one run of writes
+pub writes_more : (failed : Bool) (a b c : WriteCounts) → Writes false a b → Writes failed b c → Writes failed a c
+writes_more failed a b c first then = record {
+  failures = then.failures ∙ ap (counted failed) first.failures;
+  needed = λ live. then.needed (first.failures ∙ live) ∙ first.needed live;
+}

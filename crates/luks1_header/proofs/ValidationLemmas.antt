@@ -1,0 +1,161 @@
+-- Properties of a header whose segment is valid, and of a slot that there is no reason to skip.
+use Rattle.std.proofs.Common.{◌≡◌, ◌∙◌, ℕ, ◌+◌, ◌*◌, ◌≤◌, ap, sym, subst, refl, Bool, true, false, Option, Some, None}
+use Rattle.std.proofs.Common.{Ok, Err, arith}
+use Rattle.std.specs.Prelude.{if◌then◌else◌, option_and_then, slice_get}
+use Rattle.std.proofs.lemmas.Bool.Decides.{nat_tests}
+use Rattle.std.proofs.lemmas.Bool.{ltb-false, not-false}
+use Rattle.std.proofs.lemmas.Option.{same_Some}
+use Rattle.luks_area.specs.Area.{max_loaded_len}
+use Rattle.luks_cipher.specs.declared.mode.Mode.{Mode}
+use Rattle.luks_kdf.specs.declared.hash.Hash.{Hash}
+use Rattle.luks_verdict.specs.Rule.{exceeds, iterations_out_of_range, is_in_range, area_out_of_range}
+use Rattle.luks_verdict.specs.Rule.{stripes_out_of_range, need_of}
+use Rattle.luks_verdict.specs.Segment.{segment_from}
+use Rattle.luks_verdict.specs.Slot.{are_in_range, material_end, verdict_by, verdict_kind_of, slot_of}
+use Rattle.luks_verdict.proofs.MadeLemmas.{digest_there, mapped, of_usable, parts_made, refused_or-fault}
+use Rattle.luks_verdict.proofs.MadeLemmas.{refused_or-none, refused_or-ok, slot_from-yes, some_from_not_none}
+use Rattle.luks_verdict.proofs.TableLemmas.{none_holds}
+use Rattle.luks_verdict.specs.declared.digest.KeyDigest.{KeyDigest}
+use Rattle.luks_verdict.specs.declared.refusal.SegmentFault.{SegmentFault}
+use Rattle.luks_verdict.specs.declared.sector_size.SectorSize.TheVariants.{B512}
+use Rattle.luks_verdict.specs.declared.segment.Segment.{Segment}
+use Rattle.luks_verdict.specs.declared.slot.Slot.{Slot}
+use Rattle.luks_verdict.specs.declared.slot.Verdict.TheVariants.{Usable, Disabled as VerdictDisabled}
+use Rattle.luks_verdict.specs.declared.slot.VerdictKind.TheVariants.{Usable as KindUsable}
+use Rattle.luks1_header.specs.Segment1.{fault1_of, is_key_length1, made1, overlaps_header1, segment1_of}
+use Rattle.luks1_header.specs.Segment1.{segment_faults1, segment_parts1_of}
+use Rattle.luks1_header.specs.Slot1.{digest1_of, hash1_of, is_disabled, area1_out_of_range, mode1_of, payload1_start}
+use Rattle.luks1_header.specs.Slot1.{reason1_of, slot1_at, slot1_of, slot_parts1_of, slot_reasons1, verdict1_at}
+use Rattle.luks1_header.specs.Slot1.{verdict1_of}
+use Rattle.luks1_header.specs.declared.header.Header1.{Header1}
+use Rattle.luks1_header.specs.declared.header.StoredSlot.{StoredSlot}
+
+-- a volume that can be read: its mode and hash function are known, its key has a length that the mode allows, and with
+-- an attached header its payload starts after the header
+pub record IsReadable (header : Header1) : Type 0 where
+  pub mode : (mode : Mode) × (mode1_of header ≡ Some mode)
+  pub hash : (hash : Hash) × (hash1_of header ≡ Some hash)
+  pub key : is_key_length1 (mode1_of header) header.key_bytes ≡ true
+  pub after_header : header.detached ≡ false → 592 ≤ 512 * header.payload_offset
+
+-- the segment of a header, by its fields
+pub record IsSegment1 (header : Header1) (segment : Segment) : Type 0 where
+  pub offset : segment.offset ≡ 512 * header.payload_offset
+  pub mode : mode1_of header ≡ Some segment.mode
+
+-- a header whose segment is valid has that segment and can be read
+pub IsReadable-ok : (header : Header1) (segment : Segment) → segment1_of header ≡ Ok segment
+    → IsSegment1 header segment × IsReadable header
+unfolding segment1_of segment_from fault1_of overlaps_header1
+IsReadable-ok header segment is =
+    let made = refused_or-ok _ _ (made1 header) segment is in
+    let parts = parts_made (Some (512 * header.payload_offset)) (Some None) (Some 0) (Some B512) (mode1_of header)
+    segment made.1 in
+    let all = none_holds (segment_faults1 header) made.0 in
+    let outside : overlaps_header1 header ≡ false = all.1.1.1.0 in
+    let readable : IsReadable header = record {
+      mode = some_from_not_none (mode1_of header) all.0;
+      hash = some_from_not_none (hash1_of header) all.1.0;
+      key = not-false (is_key_length1 (mode1_of header) header.key_bytes) all.1.1.0;
+      after_header = λ attached. ltb-false (512 * header.payload_offset) 592 (rw attached at outside);
+    } in
+    (record { offset = sym (same_Some _ _ parts.0); mode = parts.1 }, readable)
+
+-- a segment with a fault is refused with that fault
+pub segment1-fault : (header : Header1) (fault : SegmentFault) → fault1_of header ≡ Some fault
+    → segment1_of header ≡ Err fault
+unfolding segment1_of
+segment1-fault header fault is = refused_or-fault _ _ (made1 header) fault is
+
+pub segment1-none : (header : Header1) (segment : Segment) → fault1_of header ≡ None
+    → segment_from (segment_parts1_of header) ≡ Some segment → segment1_of header ≡ Ok segment
+unfolding segment1_of
+segment1-none header segment none made = refused_or-none _ _ (made1 header) segment none made
+
+-- ---- slots
+
+-- what is needed to open a slot is from this header, its key material ends at or before the payload's start, if the
+-- header is attached, and there is a digest
+pub record IsOf (header : Header1) (usable : Slot) : Type 0 where
+  pub kdf : usable.parts.kdf_hash ≡ hash1_of header
+  pub af : usable.parts.af_hash ≡ hash1_of header
+  pub volume_key : usable.parts.key_bytes ≡ header.key_bytes
+  pub area_key : usable.parts.area_key_bytes ≡ header.key_bytes
+  pub area_mode : usable.parts.area_mode ≡ mode1_of header
+  pub before_payload : exceeds (payload1_start header) (material_end usable) ≡ false
+  pub digest : (digest : KeyDigest) × (digest1_of header ≡ Some digest)
+
+-- key material that is in range ends at or before the payload's start, if that is known, and within the longest area
+placed : (header : Header1) (slot : StoredSlot) → area1_out_of_range header slot ≡ false
+    → (exceeds (payload1_start header) (512 * slot.offset + need_of header.key_bytes slot.stripes) ≡ false)
+    × (512 * slot.offset + need_of header.key_bytes slot.stripes ≤ max_loaded_len)
+unfolding area1_out_of_range area_out_of_range
+placed header slot is = (grind (arith, nat_tests), grind (arith, nat_tests))
+
+module _ (header : Header1) (limit : Option ℕ) (slot : StoredSlot) where
+  -- if these reasons to skip the slot do not hold, its numbers are in range
+  range_of : stripes_out_of_range slot.stripes ≡ false → iterations_out_of_range limit slot.iterations ≡ false
+      → area1_out_of_range header slot ≡ false → are_in_range (slot_parts1_of header slot) ≡ true
+  unfolding is_in_range iterations_out_of_range stripes_out_of_range slot_parts1_of
+  range_of stripes iterations area =
+      let place = placed header slot area in
+      grind (arith, nat_tests)
+
+  -- if there is no reason to skip the slot, there is what is needed to open it
+  pub slot_there : reason1_of header limit slot ≡ None
+      → (is : are_in_range (slot_parts1_of header slot) ≡ true)
+      × (slot1_of header slot ≡ Some (slot_of (slot_parts1_of header slot) is))
+  unfolding slot1_of reason1_of
+  slot_there none =
+      let all = none_holds (slot_reasons1 header limit slot) none in
+      let is = range_of all.1.0 all.1.1.0 all.1.1.1.0 in
+      (is, slot_from-yes (slot_parts1_of header slot) is)
+
+  -- the kind of verdict on a slot that is not disabled and that there is no reason to skip: it can be tried
+  pub usable_verdict : is_disabled slot.state ≡ false → reason1_of header limit slot ≡ None
+      → verdict_kind_of (verdict1_of header limit slot) ≡ KindUsable 1
+  unfolding verdict1_of slot_of slot_parts1_of
+  usable_verdict enabled none =
+      let there = slot_there none in
+      rw (enabled, none, there.1) refl
+
+  -- if the verdict is that the slot can be tried, there is no reason to skip it, and this is what is needed to open it
+  of_verdict : (usable : Slot) → verdict1_of header limit slot ≡ Usable usable
+      → (reason1_of header limit slot ≡ None) × (slot1_of header slot ≡ Some usable)
+  unfolding verdict1_of
+  of_verdict usable is = by (is_disabled slot.state) is where
+    by : (disabled : Bool)
+        → (if disabled then VerdictDisabled else verdict_by (reason1_of header limit slot) (slot1_of header slot))
+        ≡ Usable usable → (reason1_of header limit slot ≡ None) × (slot1_of header slot ≡ Some usable)
+    by true h = absurd cc
+    by false h = of_usable (reason1_of header limit slot) (slot1_of header slot) usable h
+
+  -- if the slot can be tried, what is needed to open it is from this header
+  usable_is : (usable : Slot) → verdict1_of header limit slot ≡ Usable usable
+      → IsOf header usable × (slot1_of header slot ≡ Some usable)
+  unfolding slot_of slot_parts1_of reason1_of
+  usable_is usable is =
+      let verdict = of_verdict usable is in
+      let all = none_holds (slot_reasons1 header limit slot) verdict.0 in
+      let there = slot_there verdict.0 in
+      let same : usable ≡ slot_of (slot_parts1_of header slot) there.0 = same_Some _ _ (sym verdict.1 ∙ there.1) in
+      let known : IsOf header (slot_of (slot_parts1_of header slot) there.0) = record {
+        kdf = refl;
+        af = refl;
+        volume_key = refl;
+        area_key = refl;
+        area_mode = refl;
+        before_payload = (placed header slot all.1.1.1.0).0;
+        digest = digest_there limit (digest1_of header) all.1.1.1.1.0;
+      } in
+      (subst (IsOf header) (sym same) known, verdict.1)
+
+-- if the slot of this number can be tried, this is what is needed to open it, and it is from this header
+pub slot_usable_at : (header : Header1) (limit : Option ℕ) (number : ℕ) (usable : Slot)
+    → verdict1_at header limit number ≡ Some (Usable usable)
+    → IsOf header usable × (slot1_at header number ≡ Some usable)
+unfolding verdict1_at slot1_at
+slot_usable_at header limit number usable is =
+    let slot = mapped (verdict1_of header limit) (slice_get header.slots number) (Usable usable) is in
+    let known = usable_is header limit slot.0 usable slot.2 in
+    (known.0, ap (option_and_then (slot1_of header)) slot.1 ∙ known.1)

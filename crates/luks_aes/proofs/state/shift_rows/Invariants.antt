@@ -1,7 +1,0 @@
-use Rattle.std.proofs.Common.{◌+◌, ◌%◌}
-use Rattle.luks_aes.specs.Aes.{cell}
-use Rattle.luks_aes.proofs.StateLemmas.{IsFilled}
-use Rattle.luks_aes.proofs.state.shift_rows.Given as goal
-
-abbrev pub invariant-loop-i : goal.invariant-loop-i
-invariant-loop-i l = IsFilled (λ r c. cell l.s r ((c + r) % 4)) l.next l.i

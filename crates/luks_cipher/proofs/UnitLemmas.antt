@@ -1,0 +1,342 @@
+-- The halves of a key, tweaks and their doubling, and units that are transformed block by block or in batches of 32
+-- blocks.
+use Rattle.std.proofs.Common.{◌≡◌, ℕ, zero, suc, ◌+◌, ◌-◌, ◌*◌, ◌/◌, ◌%◌, ◌^◌, ◌<◌, ◌≤◌, List, [], ◌∷◌, ◌++◌, length}
+use Rattle.std.proofs.Common.{take, drop, arith, length-append, append_assoc, refl, sym, ap, subst, ◌∙◌, inl, inr, ltb}
+use Rattle.std.proofs.Common.{true, false}
+use Rattle.std.specs.Int.{w128, to_le_bytes, from_le_bytes}
+use Rattle.std.specs.Int.Bits.{bit_xor, xor_zero_r, xor_shifted}
+use Rattle.std.specs.Simd.Lanes.{Each1, zip2, put_chunk, number_l, digits_l}
+use Rattle.std.proofs.Math.Nat.{div-div-eq-div-mul, pow-zero, pow-succ'}
+use Rattle.std.proofs.lemmas.Nat.{xor_block}
+use Rattle.std.proofs.lemmas.Bool.{lt-ltb, le-ltb, cases_lt}
+use Rattle.std.proofs.lemmas.Simd.{get_or-zip2, length-zip2, put_chunk_whole}
+use Rattle.std.proofs.lemmas.List.{append-nil, take_at, drop_at, take_all, take-take, drop-take, drop-drop}
+use Rattle.std.proofs.lemmas.Slice.{take-put_mid, drop-put_mid}
+use borrow.Rule.Slice.PartMut.{put_mid}
+use Rattle.luks_aes.specs.Field.{◌⊕◌}
+use Rattle.luks_aes.specs.Aes.{cell, encrypted, decrypted}
+use Rattle.luks_aes.specs.Bytes.{IsBytes}
+use Rattle.luks_aes.proofs.Undone.{whole_state}
+use Rattle.luks_aes.proofs.MixingLemmas.{same_cells}
+use Rattle.luks_cipher.specs.Xts.{data_key, tweak_key, doubled_number, doubled, tweak_of, block_at, joined, block_xor}
+use Rattle.luks_cipher.specs.Xts.{block_encrypted, block_decrypted, tweak_after}
+use Rattle.luks_cipher.specs.Cbc.{block_before}
+use Rattle.luks_cipher.proofs.UnitsUndone.{sum_len, joined_at, joined_same}
+
+-- ---- the two halves of a key
+
+module _ (a b key : List ℕ) (same : length a ≡ length b) (whole : a ++ b ≡ key) where
+  pub halves : (data_key key ≡ a) × (tweak_key key ≡ b)
+  halves =
+      let half : length key / 2 ≡ length a = rw (← whole, length-append a b) (omega arith) in
+      (rw (half, ← whole) (take_at a b (length a) refl), rw (half, ← whole) (drop_at a b (length a) refl))
+
+  pub piece_encrypted : (tweak piece : List ℕ)
+      → block_xor (encrypted a (block_xor piece tweak)) tweak ≡ block_encrypted key tweak piece
+  unfolding block_encrypted
+  piece_encrypted tweak piece = rw (halves.0) refl
+
+  pub piece_decrypted : (tweak piece : List ℕ)
+      → block_xor (decrypted a (block_xor piece tweak)) tweak ≡ block_decrypted key tweak piece
+  unfolding block_decrypted
+  piece_decrypted tweak piece = rw (halves.0) refl
+
+-- ---- XORs of blocks
+
+pub piece_sum : (piece iv : List ℕ) → length piece ≡ 16 → length iv ≡ 16
+    → put_chunk 0 piece (zip2 bit_xor (take 16 piece) iv) ≡ block_xor piece iv
+unfolding block_xor
+piece_sum piece iv long same =
+    let all = take_all 16 piece (omega arith) in
+    let sum = zip2 bit_xor piece iv in
+    let size : length sum ≡ 16 = length-zip2 bit_xor piece iv (long ∙ sym same) ∙ long in
+    ap (λ x. put_chunk 0 piece (zip2 bit_xor x iv)) all
+    ∙ put_chunk_whole piece sum (long ∙ sym size)
+    ∙ whole_state sum size
+    ∙ same_cells (cell sum) (λ r c. cell piece r c ⊕ cell iv r c)
+    (λ r c low small. get_or-zip2 bit_xor piece iv (r + 4 * c) 0 0 0 (omega arith) (omega arith))
+
+-- ---- units that are transformed block by block
+
+-- the first j blocks are done, and the others are unchanged
+pub record IsDoneBefore (f : ℕ → List ℕ) (old new : List ℕ) (j : ℕ) : Type 0 where
+  pub done : take (16 * j) new ≡ joined f j
+  pub left : drop (16 * j) new ≡ drop (16 * j) old
+
+pub done_none : (f : ℕ → List ℕ) (old : List ℕ) → IsDoneBefore f old old 0
+unfolding joined
+done_none f old = record { done = refl; left = refl }
+
+pub joined_more : (f : ℕ → List ℕ) (a b : ℕ) → joined f (a + b) ≡ joined f a ++ joined (λ n. f (a + n)) b
+unfolding joined
+joined_more f a zero =
+    let none : a + 0 ≡ a = omega arith in
+    rw none (sym (append-nil (joined f a)))
+joined_more f a (suc b) =
+    let next : a + suc b ≡ suc (a + b) = omega arith in
+    rw next (ap (λ x. x ++ f (a + b)) (joined_more f a b) ∙ append_assoc (joined f a) (joined (λ n. f (a + n)) b)
+    (f (a + b)))
+
+-- a unit with n more blocks done at once
+done_many : (f : ℕ → List ℕ) (old new piece : List ℕ) (at k j n : ℕ) → at ≡ 16 * j → k ≡ 16 * n
+    → IsDoneBefore f old new j → 16 * j + 16 * n ≤ length new → length piece ≡ 16 * n
+    → piece ≡ joined (λ m. f (j + m)) n → IsDoneBefore f old (put_mid at k new piece) (j + n)
+done_many f old new piece at k j n place size before capacity long is =
+    let next = 16 * (j + n) in
+    let split : next ≡ 16 * j + 16 * n = omega arith in
+    let rest : drop next new ≡ drop next old =
+    rw (split, ← drop-drop (16 * n) (16 * j) new, ← drop-drop (16 * n) (16 * j) old) (ap (drop (16 * n)) before.left) in
+    let start : take at new ≡ joined f j = ap (λ i. take i new) place ∙ before.done in
+    record {
+      done = take-put_mid at k new piece next (omega arith) (omega arith)
+          ∙ (λ i. start i ++ is i) ∙ sym (joined_more f j n);
+      left = drop-put_mid at k new piece next (omega arith) (omega arith) (omega arith) ∙ rest;
+    }
+
+pub done_more : (f : ℕ → List ℕ) (old new piece : List ℕ) (j : ℕ) → IsDoneBefore f old new j → 16 * j + 16 ≤ length new
+    → length piece ≡ 16 → piece ≡ f j → IsDoneBefore f old (put_mid (16 * j) (16 * j + 16 - 16 * j) new piece) (j + 1)
+unfolding joined
+done_more f old new piece j before capacity size is =
+    let here : j ≡ j + 0 = omega arith in
+    done_many f old new piece (16 * j) (16 * j + 16 - 16 * j) j 1 refl (omega arith) before (omega arith) (omega arith)
+    (is ∙ ap f here)
+
+pub done_all : (f : ℕ → List ℕ) (old new : List ℕ) (j n : ℕ) → IsDoneBefore f old new j → length new ≡ 16 * j → j ≡ n
+    → new ≡ joined f n
+done_all f old new j n before size at_end =
+    sym (take_all (16 * j) new (omega arith)) ∙ before.done ∙ ap (joined f) at_end
+
+-- the slice that the code reads is block j
+pub block_is : (old new : List ℕ) (j : ℕ) → drop (16 * j) new ≡ drop (16 * j) old
+    → take (16 * j + 16 - 16 * j) (drop (16 * j) new) ≡ block_at old j
+block_is old new j left =
+    let size : 16 * j + 16 - 16 * j ≡ 16 = omega arith in
+    rw (size, left) refl
+
+-- one more block is done, from the block that the code reads and a value of its own, such as its tweak
+pub done_next : (g : List ℕ → List ℕ → List ℕ) (t : ℕ → List ℕ) (old new piece own : List ℕ) (j : ℕ)
+    → IsDoneBefore (λ j. g (t j) (block_at old j)) old new j → 16 * j + 16 ≤ length new → length piece ≡ 16
+    → own ≡ t j → piece ≡ g own (take (16 * j + 16 - 16 * j) (drop (16 * j) new))
+    → IsDoneBefore (λ j. g (t j) (block_at old j)) old (put_mid (16 * j) (16 * j + 16 - 16 * j) new piece) (j + 1)
+done_next g t old new piece own j before capacity size same is =
+    done_more (λ j. g (t j) (block_at old j)) old new piece j before capacity size
+    (is ∙ (λ i. g (same i) (block_is old new j before.left i)))
+
+-- ---- units whose next block's own value is known
+
+-- a unit of bytes whose first j blocks are done by g, from a value t of its own for each and from what it was, and the
+-- value for the next block
+pub record IsProgress (g : List ℕ → List ℕ → List ℕ) (t : ℕ → List ℕ) (old new own : List ℕ) (j : ℕ) : Type 0 where
+  pub bytes : IsBytes old
+  pub next : own ≡ t j
+  pub done : IsDoneBefore (λ j. g (t j) (block_at old j)) old new j
+
+-- one more block is done
+pub progress_next : (g : List ℕ → List ℕ → List ℕ) (t : ℕ → List ℕ) (old new piece own next : List ℕ) (j : ℕ)
+    → IsProgress g t old new own j → 16 * j + 16 ≤ length new → length piece ≡ 16
+    → piece ≡ g own (take (16 * j + 16 - 16 * j) (drop (16 * j) new)) → next ≡ t (j + 1)
+    → IsProgress g t old (put_mid (16 * j) (16 * j + 16 - 16 * j) new piece) next (j + 1)
+progress_next g t old new piece own next j before capacity size is is_next = record {
+  bytes = before.bytes;
+  next = is_next;
+  done = done_next g t old new piece own j before.done capacity size before.next is;
+}
+
+-- block m of batch i, as the code reads it
+pub batch_block : (old new : List ℕ) (i : ℕ) → drop (16 * (32 * i)) new ≡ drop (16 * (32 * i)) old
+    → (m : ℕ) → m < 32 → block_at (take (512 * i + 512 - 512 * i) (drop (512 * i) new)) m ≡ block_at old (32 * i + m)
+batch_block old new i left m low =
+    let j = 32 * i in
+    let place : 512 * i ≡ 16 * j = omega arith in
+    let size : 512 * i + 512 - 512 * i ≡ 16 * m + (512 - 16 * m) = omega arith in
+    let there : 16 * j + 16 * m ≡ 16 * (j + m) = omega arith in
+    (λ t. take 16 (drop (16 * m) (take (size t) (drop (place t) new))))
+    ∙ ap (λ l. take 16 (drop (16 * m) (take (16 * m + (512 - 16 * m)) l))) left
+    ∙ ap (take 16) (drop-take (16 * m) (512 - 16 * m) (drop (16 * j) old))
+    ∙ take-take 16 (512 - 16 * m) (drop (16 * m) (drop (16 * j) old)) (omega arith)
+    ∙ ap (take 16) (drop-drop (16 * m) (16 * j) old)
+    ∙ ap (λ n. take 16 (drop n old)) there
+
+-- batch i is done, from what the code reads; `after n` is the own value of the block n after the batch's first
+pub progress_batch : (g : List ℕ → List ℕ → List ℕ) (t after : ℕ → List ℕ) (old new piece own next : List ℕ) (i : ℕ)
+    → IsProgress g t old new own (32 * i) → 512 * i + 512 ≤ length new → length piece ≡ 512
+    → piece ≡ joined (λ n. g (after n) (block_at (take (512 * i + 512 - 512 * i) (drop (512 * i) new)) n)) 32
+    → next ≡ after 32 → ((n : ℕ) → n ≤ 32 → after n ≡ t (32 * i + n))
+    → IsProgress g t old (put_mid (512 * i) (512 * i + 512 - 512 * i) new piece) next (32 * (i + 1))
+progress_batch g t after old new piece own next i before capacity long is is_next same =
+    let f : ℕ → List ℕ = λ j. g (t j) (block_at old j) in
+    let batch = take (512 * i + 512 - 512 * i) (drop (512 * i) new) in
+    let blocks : joined (λ n. g (after n) (block_at batch n)) 32 ≡ joined (λ m. f (32 * i + m)) 32 =
+    joined_same (λ n. g (after n) (block_at batch n)) (λ m. f (32 * i + m)) 32
+    (λ n low k. g (same n (omega arith) k) (batch_block old new i before.done.left n low k)) in
+    let more : 32 * i + 32 ≡ 32 * (i + 1) = omega arith in
+    subst (IsProgress g t old (put_mid (512 * i) (512 * i + 512 - 512 * i) new piece) next) more
+    (record {
+      bytes = before.bytes;
+      next = is_next ∙ same 32 (omega arith);
+      done = done_many f old new piece (512 * i) (512 * i + 512 - 512 * i) (32 * i) 32 (omega arith) (omega arith)
+          before.done (omega arith) (omega arith) (is ∙ blocks);
+    })
+
+-- ---- tweaks
+
+pub tweak_more : (key : List ℕ) (number j n : ℕ) → tweak_after (tweak_of key number j) n ≡ tweak_of key number (j + n)
+unfolding tweak_of tweak_after
+tweak_more key number j zero =
+    let none : j + 0 ≡ j = omega arith in
+    rw none refl
+tweak_more key number j (suc n) =
+    let next : j + suc n ≡ suc (j + n) = omega arith in
+    rw next (ap doubled (tweak_more key number j n))
+
+pub doubled_len : (tweak : List ℕ) → length (doubled tweak) ≡ 16
+unfolding doubled
+doubled_len tweak = refl
+
+pub tweak_len : (tweak : List ℕ) (n : ℕ) → length tweak ≡ 16 → length (tweak_after tweak n) ≡ 16
+unfolding tweak_after
+tweak_len tweak zero long = long
+tweak_len tweak (suc n) long = doubled_len (tweak_after tweak n)
+
+-- a batch that is decrypted between two XORs with the tweaks of its blocks
+pub xts_batch : (key tweak kept old s t new : List ℕ) → ((n : ℕ) → n < 32 → block_at kept n ≡ tweak_after tweak n)
+    → s ≡ joined (λ n. block_xor (block_at old n) (block_at kept n)) 32
+    → ((n : ℕ) → n < 32 → block_at t n ≡ decrypted (data_key key) (block_at s n))
+    → new ≡ joined (λ n. block_xor (block_at t n) (block_at kept n)) 32
+    → new ≡ joined (λ n. block_decrypted key (tweak_after tweak n) (block_at old n)) 32
+unfolding block_decrypted
+xts_batch key tweak kept old s t new tweaks masked back unmasked =
+    let mask : ℕ → List ℕ = λ n. block_xor (block_at old n) (block_at kept n) in
+    let plain : (n : ℕ) → n < 32
+    → block_at t n ≡ decrypted (data_key key) (block_xor (block_at old n) (tweak_after tweak n)) = λ n low.
+    back n low
+    ∙ ap (decrypted (data_key key))
+    (ap (λ x. block_at x n) masked ∙ joined_at mask 32 n (λ j below. sum_len (block_at old j) (block_at kept j)) low
+    ∙ ap (block_xor (block_at old n)) (tweaks n low)) in
+    unmasked
+    ∙ joined_same (λ n. block_xor (block_at t n) (block_at kept n))
+    (λ n. block_decrypted key (tweak_after tweak n) (block_at old n)) 32
+    (λ n low i. block_xor (plain n low i) (tweaks n low i))
+
+-- ---- chains
+
+pub before_same : (iv before old batch : List ℕ) (j n : ℕ) → before ≡ block_before iv old j
+    → ((m : ℕ) → m < 32 → block_at batch m ≡ block_at old (j + m)) → n ≤ 32
+    → block_before before batch n ≡ block_before iv old (j + n)
+unfolding block_before
+before_same iv before old batch j zero first same low =
+    let none : j + 0 ≡ j = omega arith in
+    rw none first
+before_same iv before old batch j (suc n) first same low =
+    let next : j + suc n ≡ suc (j + n) = omega arith in
+    rw next (same n (omega arith))
+
+-- ---- the bytes of a number, as lanes and as a number
+
+deeper : (a n p : ℕ) → a ≡ n / p → a / 256 ≡ n / (p * 256)
+deeper a n p is = ap (λ m. m / 256) is ∙ div-div-eq-div-mul n p 256
+
+pub lanes_of_number : (n : ℕ) → digits_l 256 16 n ≡ to_le_bytes w128 n
+lanes_of_number n =
+    let a1 : n / 256 ≡ n / 256 = refl in
+    let a2 : n / 256 / 256 ≡ n / 65536 = deeper (n / 256) n 256 a1 in
+    let a3 = deeper _ n 65536 a2 in
+    let a4 = deeper _ n 16777216 a3 in
+    let a5 = deeper _ n 4294967296 a4 in
+    let a6 = deeper _ n 1099511627776 a5 in
+    let a7 = deeper _ n 281474976710656 a6 in
+    let a8 = deeper _ n 72057594037927936 a7 in
+    let a9 = deeper _ n 18446744073709551616 a8 in
+    let a10 = deeper _ n 4722366482869645213696 a9 in
+    let a11 = deeper _ n 1208925819614629174706176 a10 in
+    let a12 = deeper _ n 309485009821345068724781056 a11 in
+    let a13 = deeper _ n 79228162514264337593543950336 a12 in
+    let a14 = deeper _ n 20282409603651670423947251286016 a13 in
+    let a15 = deeper _ n 5192296858534827628530496329220096 a14 in
+    λ i. n % 256 ∷ n / 256 % 256 ∷ a2 i % 256 ∷ a3 i % 256 ∷ a4 i % 256 ∷ a5 i % 256 ∷ a6 i % 256 ∷ a7 i % 256 ∷ a8 i
+    % 256 ∷ a9 i % 256 ∷ a10 i % 256 ∷ a11 i % 256 ∷ a12 i % 256 ∷ a13 i % 256 ∷ a14 i % 256 ∷ a15 i % 256 ∷ []
+
+joined_lanes : (b0 b1 b2 b3 b4 b5 b6 b7 b8 b9 b10 b11 b12 b13 b14 b15 : ℕ)
+    → number_l 256
+    (b0 ∷ b1 ∷ b2 ∷ b3 ∷ b4 ∷ b5 ∷ b6 ∷ b7 ∷ b8 ∷ b9 ∷ b10 ∷ b11 ∷ b12 ∷ b13 ∷ b14 ∷ b15 ∷ [])
+    ≡ from_le_bytes w128
+    (b0 ∷ b1 ∷ b2 ∷ b3 ∷ b4 ∷ b5 ∷ b6 ∷ b7 ∷ b8 ∷ b9 ∷ b10 ∷ b11 ∷ b12 ∷ b13 ∷ b14 ∷ b15 ∷ [])
+joined_lanes b0 b1 b2 b3 b4 b5 b6 b7 b8 b9 b10 b11 b12 b13 b14 b15 = omega arith
+
+pub number_of_lanes : (bs : List ℕ) → length bs ≡ 16 → number_l 256 bs ≡ from_le_bytes w128 bs
+number_of_lanes bs long =
+    let whole = whole_state bs long in
+    ap (number_l 256) whole
+    ∙ joined_lanes _ _ _ _ _ _ _ _ _ _ _ _ _ _ _ _
+    ∙ ap (from_le_bytes w128) (sym whole)
+
+pub lanes_fit : (bs : List ℕ) → Each1 (λ x. x < 256) bs → number_l 256 bs < 256 ^ length bs
+lanes_fit [] all = rw (pow-zero 256) (omega arith)
+lanes_fit (b ∷ bs) all =
+    let rest = lanes_fit bs all.1 in
+    rw (pow-succ' 256 (length bs)) (omega (arith, all.0, rest))
+
+-- ---- the doubled halves of a number
+
+-- the bit that leaves the low half becomes the lowest bit of the doubled high half
+carried_up : (low high : ℕ) → low < 2 ^ 64 → bit_xor (high * 2 % 2 ^ 64) (low / 2 ^ 63 * 1 % 2 ^ 64)
+    ≡ high % 2 ^ 63 * 2 + low / 2 ^ 63
+carried_up low high fits =
+    let up : high * 2 % 2 ^ 64 ≡ high % 2 ^ 63 * 2 = omega arith in
+    let bit : low / 2 ^ 63 * 1 % 2 ^ 64 ≡ low / 2 ^ 63 = omega arith in
+    (λ i. bit_xor (up i) (bit i)) ∙ xor_shifted (high % 2 ^ 63) 1 (low / 2 ^ 63) (omega arith)
+
+-- both doubled halves make the doubled number
+halves_doubled : (low high : ℕ) → low < 2 ^ 64 → high < 2 ^ 64
+    → bit_xor (low * 2 % 2 ^ 64) (high / 2 ^ 63 * 0x87 % 2 ^ 64) + 2 ^ 64 * (high % 2 ^ 63 * 2 + low / 2 ^ 63)
+    ≡ doubled_number (low + 2 ^ 64 * high)
+unfolding doubled_number
+halves_doubled low high fits also =
+    let n = low + 2 ^ 64 * high in
+    let up = high % 2 ^ 63 * 2 + low / 2 ^ 63 in
+    let rest = low * 2 % 2 ^ 64 in
+    elim (cases_lt high (2 ^ 63)) [
+      | inl below ↦
+          let test : ltb n (2 ^ 127) ≡ true = lt-ltb n (2 ^ 127) (omega arith) in
+          let none : high / 2 ^ 63 * 0x87 % 2 ^ 64 ≡ 0 = omega arith in
+          let whole : rest + 2 ^ 64 * up ≡ 2 * n = omega arith in
+          rw test (ap (λ m. m + 2 ^ 64 * up) (ap (bit_xor rest) none ∙ xor_zero_r rest) ∙ whole)
+      | inr above ↦
+          let test : ltb n (2 ^ 127) ≡ false = le-ltb n (2 ^ 127) (omega arith) in
+          let one : high / 2 ^ 63 * 0x87 % 2 ^ 64 ≡ 0x87 = omega arith in
+          let whole : 2 * n - 2 ^ 128 ≡ up * 2 ^ 64 + rest = omega arith in
+          let turned : bit_xor rest 0x87 + 2 ^ 64 * up ≡ up * 2 ^ 64 + bit_xor rest 0x87 = omega arith in
+          rw test
+          (ap (λ m. bit_xor rest m + 2 ^ 64 * up) one
+          ∙ turned
+          ∙ sym (ap (λ m. bit_xor m 0x87) whole
+          ∙ xor_block 64 up 0 rest 0x87 (omega arith) (omega arith)
+          ∙ ap (λ m. m * 2 ^ 64 + bit_xor rest 0x87) (xor_zero_r up)))
+    ]
+
+doubled_halves : (low high : ℕ) → low < 2 ^ 64 → high < 2 ^ 64
+    → number_l (2 ^ 64)
+    (bit_xor (low * 2 % 2 ^ 64) (high / 2 ^ 63 * 0x87 % 2 ^ 64) ∷ bit_xor (high * 2 % 2 ^ 64) (low / 2 ^ 63 * 1 % 2 ^
+    64) ∷ [])
+    ≡ doubled_number (low + 2 ^ 64 * high)
+doubled_halves low high fits also =
+    let first = bit_xor (low * 2 % 2 ^ 64) (high / 2 ^ 63 * 0x87 % 2 ^ 64) in
+    let flat : first + 2 ^ 64 * (high % 2 ^ 63 * 2 + low / 2 ^ 63 + 2 ^ 64 * 0)
+    ≡ first + 2 ^ 64 * (high % 2 ^ 63 * 2 + low / 2 ^ 63) = omega arith in
+    ap (λ m. first + 2 ^ 64 * (m + 2 ^ 64 * 0)) (carried_up low high fits) ∙ flat ∙ halves_doubled low high fits also
+
+-- the bytes that the code computes from both halves are those of the doubled tweak
+pub doubled_lanes : (tweak : List ℕ) → length tweak ≡ 16 → Each1 (λ x. x < 256) tweak
+    → (low high : ℕ) → low ≡ number_l 256 tweak % 2 ^ 64 → high ≡ number_l 256 tweak / 2 ^ 64 % 2 ^ 64
+    → digits_l 256 16 (number_l (2 ^ 64)
+    (bit_xor (low * 2 % 2 ^ 64) (high / 2 ^ 63 * 0x87 % 2 ^ 64) ∷ bit_xor (high * 2 % 2 ^ 64) (low / 2 ^ 63 * 1 % 2 ^
+    64) ∷ []))
+    ≡ doubled tweak
+unfolding doubled
+doubled_lanes tweak long bytes low high is_low is_high =
+    let fits : number_l 256 tweak < 2 ^ 128 = rw long at (lanes_fit tweak bytes) in
+    let parts : low + 2 ^ 64 * high ≡ number_l 256 tweak = omega arith in
+    lanes_of_number _
+    ∙ ap (to_le_bytes w128)
+    (doubled_halves low high (omega arith) (omega arith)
+    ∙ ap doubled_number (parts ∙ number_of_lanes tweak long))
