@@ -6,7 +6,7 @@
 . "$(dirname "$0")/../tests/common.sh"
 
 python3 - "$program" "${SEED:-$(date +%s)}" "${HEADERS:-50000}" <<'PYTHON'
-import hashlib, json, random, struct, subprocess, sys
+import hashlib, json, os, random, signal, struct, sys
 program, seed, count = sys.argv[1], int(sys.argv[2]), int(sys.argv[3])
 print('seed', seed, flush=True)
 draw = random.Random(seed)
@@ -82,6 +82,22 @@ def second():
     image = header(0, b'LUKS\xba\xbe') + header(size, b'SKUL\xba\xbe')
     return image[:draw.choice([len(image)] * 9 + [draw.randrange(len(image))])]
 
+def run_on(image, words):
+    """The output, the message and the status of a run with this image on a pipe, which holds 64 KiB. After a minute the run is killed."""
+    reader, writer = os.pipe()
+    assert os.write(writer, image) == len(image)
+    os.close(writer)
+    printed = [os.open(name, os.O_RDWR | os.O_CREAT | os.O_TRUNC, 0o600) for name in ('out', 'err')]
+    streams = [reader] + printed
+    child = os.posix_spawn(program, words, {}, file_actions=[(os.POSIX_SPAWN_DUP2, stream, to) for to, stream in enumerate(streams)])
+    signal.signal(signal.SIGALRM, lambda *_: os.kill(child, signal.SIGKILL))
+    signal.alarm(60)
+    status = os.waitstatus_to_exitcode(os.waitpid(child, 0)[1])
+    signal.alarm(0)
+    output, message = [os.pread(stream, os.fstat(stream).st_size, 0) for stream in printed]
+    for stream in streams: os.close(stream)
+    return output, message, status
+
 COMMANDS = ['isLuks', 'luksUUID', 'luksDump', 'luksCheck', 'testPassphrase', 'luksCat']
 statuses, wrong = {}, 0
 for run in range(count):
@@ -92,14 +108,14 @@ for run in range(count):
     command = draw.choice(COMMANDS)
     words = [program, command] + (['--key-file', '/dev/null', '--max-iterations', '100'] if command in COMMANDS[4:] else [])
     words += ['--header', '-', '/dev/null'] if draw.random() < 0.3 else ['-']
-    done = subprocess.run(words, input=bytes(image), capture_output=True, timeout=60)
-    printed = done.stdout + done.stderr
-    statuses[command, done.returncode] = statuses.get((command, done.returncode), 0) + 1
+    output, message, status = run_on(bytes(image), words)
+    printed = output + message
+    statuses[command, status] = statuses.get((command, status), 0) + 1
     clean = all(byte == 10 or 32 <= byte <= 126 for byte in printed) or command == 'luksCat'
-    told = done.stderr == b'' or (done.stderr.startswith(b'luksrd: ') and done.stderr.count(b'\n') == 1)
-    if done.returncode not in (0, 1, 2, 4) or not clean or not told:
+    told = message == b'' or (message.startswith(b'luksrd: ') and message.count(b'\n') == 1)
+    if status not in (0, 1, 2, 4) or not clean or not told:
         wrong += 1
-        print('FAILED header', run, command, 'status', done.returncode, done.stderr[:200])
+        print('FAILED header', run, command, 'status', status, message[:200])
 for (command, status), number_of in sorted(statuses.items()): print(f'{command} ended with {status}: {number_of}')
 print(f'{count - wrong} passed, {wrong} failed')
 sys.exit(wrong != 0)
