@@ -95,7 +95,9 @@ payload_after failed ended segment loaded a b c first reads =
 pub detached_calls_without_payload : (ReadsIt : Bool → ReadCounts → ReadCounts → Type 0) {message : Message}
     {header header' image secret secret' : ReadCounts} {out out' : WriteCounts} → ReadsIt false image image
     → CountsCalls ReadsOnce message header header' secret secret' out out'
-    → CountsCallsDetached ReadsIt message header header' image image secret secret' out out'
+    → CountsCallsDetached ReadsIt message (record { before = header; after = header' })
+    (record { before = image; after = image }) (record { before = secret; after = secret' })
+    (record { before = out; after = out' })
 detached_calls_without_payload ReadsIt none calls =
     record { in_payload = false; reads = calls.reads; payload_reads = none; out_writes = calls.out_writes }
 

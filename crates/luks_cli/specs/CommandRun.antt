@@ -47,14 +47,21 @@ abbrev pub IsCounted : Request → List ℕ → Type 0
 IsCounted (luks_cat o) image = length image < 2 ^ 64
 IsCounted _ image = Unit {0}
 
+-- what a device has before and after a run
+pub record Change (T : Type 0) : Type 0 where
+  pub before : T
+  pub after : T
+
 -- if the inputs of a command know their bytes, and the image is not too long to be counted, the run has the outcome
 -- that is specified for those bytes, or was aborted on the way to it
-abbrev pub RunsAsStated : Request → Message → Option (List ℕ) → Option (List ℕ) → Option (List ℕ) → Option (List ℕ)
-    → Option (List ℕ) → Option (List ℕ) → Type 0
-RunsAsStated request message image image' secret secret' written written' =
-    IfKnown image (λ known. (known_secret : List ℕ) → KnowsSecret request secret known_secret → IsCounted request known
+abbrev pub RunsAsStated : Request → Message → Change (Option (List ℕ)) → Change (Option (List ℕ))
+    → Change (Option (List ℕ)) → Type 0
+RunsAsStated request message image secret written =
+    IfKnown image.before
+    (λ known. (known_secret : List ℕ) → KnowsSecret request secret.before known_secret → IsCounted request known
     → RunMatches (promptness_of Attached request known) (outcome_of request known known_secret) message
-    (ConsumedExactly known image') (ConsumedOfSecret request known_secret secret') (Appended written written'))
+    (ConsumedExactly known image.after) (ConsumedOfSecret request known_secret secret.after)
+    (Appended written.before written.after))
 
 -- what `luksCat` writes if the volume is honestly sealed: a run that is not aborted writes the plaintext and succeeds
 abbrev pub WritesPlain : Request → Message → Option (List ℕ) → Option (List ℕ) → Option (List ℕ) → Option (List ℕ)
@@ -144,18 +151,18 @@ ConsumedOfPayload request image left = ConsumedNothing
 
 -- if the inputs of a command know their bytes, and the payload's image is not too long to be counted, the run has the
 -- outcome that is specified for those bytes, or was aborted on the way to it
-abbrev pub RunsDetached : Request → Message → Option (List ℕ) → Option (List ℕ) → Option (List ℕ) → Option (List ℕ)
-    → Option (List ℕ) → Option (List ℕ) → Option (List ℕ) → Option (List ℕ) → Type 0
-RunsDetached request message header header' image image' secret secret' written written' =
-    IfKnown header (λ file. (known : List ℕ) → KnowsPayload request image known → (known_secret : List ℕ)
-    → KnowsSecret request secret known_secret → IsCounted request known
+abbrev pub RunsDetached : Request → Message → Change (Option (List ℕ)) → Change (Option (List ℕ))
+    → Change (Option (List ℕ)) → Change (Option (List ℕ)) → Type 0
+RunsDetached request message header image secret written =
+    IfKnown header.before (λ file. (known : List ℕ) → KnowsPayload request image.before known
+    → (known_secret : List ℕ) → KnowsSecret request secret.before known_secret → IsCounted request known
     → DetachedRunMatches (promptness_of Detached request file)
     (detached_outcome_of request file known known_secret) message
-    (ConsumedExactly file header') (ConsumedOfPayload request known image')
-    (ConsumedOfSecret request known_secret secret') (Appended written written'))
+    (ConsumedExactly file header.after) (ConsumedOfPayload request known image.after)
+    (ConsumedOfSecret request known_secret secret.after) (Appended written.before written.after))
 
--- the run ended before a key was found, with a message of opening other than a failed read, since that read may be the
--- payload's
+-- the run surely ended before a key was found: with a message of opening, but not with a failed read, which may have
+-- been a read of the payload
 abbrev pub EndsWithoutKey : Message → Type 0
 EndsWithoutKey message = OpeningMessage message × (is_run_read_failure message ≡ false)
 
@@ -167,9 +174,10 @@ NeedsNoPayload request message = Unit {0}
 -- what a run that reads the payload's image in this way adds to the counts of its devices: a failure of one of its
 -- inputs if a read failed, one of the output if a write failed, at most one end of each input, and no needless call
 pub record CountsCallsDetached (ReadsIt : Bool → ReadCounts → ReadCounts → Type 0) (message : Message)
-    (header header' image image' secret secret' : ReadCounts) (out out' : WriteCounts) : Type 0 where
+    (header image secret : Change ReadCounts) (out : Change WriteCounts) : Type 0 where
   -- if a read failed, it was one of the payload's image
   pub in_payload : Bool
-  pub reads : CountsReads ReadsOnce (not in_payload && is_run_read_failure message) header header' secret secret'
-  pub payload_reads : ReadsIt (in_payload && is_run_read_failure message) image image'
-  pub out_writes : Writes (is_run_write_failure message) out out'
+  pub reads : CountsReads ReadsOnce (not in_payload && is_run_read_failure message) header.before header.after
+      secret.before secret.after
+  pub payload_reads : ReadsIt (in_payload && is_run_read_failure message) image.before image.after
+  pub out_writes : Writes (is_run_write_failure message) out.before out.after

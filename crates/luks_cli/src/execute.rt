@@ -58,8 +58,9 @@ pub fn execute<I: Source, K: Source, O: Sink>(
 ) -> Report
     requires attached { has_header_file (request_of command.now) ≡ false }
     ensures run { RunsAsStated (request_of command.now) result.message
-        (I.to_come image.old) (I.to_come image.new) (K.to_come secret.old) (K.to_come secret.new)
-        (O.written out.old) (O.written out.new) }
+        (record { before = I.to_come image.old; after = I.to_come image.new })
+        (record { before = K.to_come secret.old; after = K.to_come secret.new })
+        (record { before = O.written out.old; after = O.written out.new }) }
     ensures honest { WritesPlain (request_of command.now) result.message
         (I.to_come image.old) (K.to_come secret.old)
         (O.written out.old) (O.written out.new) }

@@ -35,8 +35,10 @@ pub fn execute_detached<H: Source, I: Source, K: Source, O: Sink>(
 ) -> Report
     requires detached { has_header_file (request_of command.now) ≡ true }
     ensures run { RunsDetached (request_of command.now) result.message
-        (H.to_come header.old) (H.to_come header.new) (I.to_come image.old) (I.to_come image.new)
-        (K.to_come secret.old) (K.to_come secret.new) (O.written out.old) (O.written out.new) }
+        (record { before = H.to_come header.old; after = H.to_come header.new })
+        (record { before = I.to_come image.old; after = I.to_come image.new })
+        (record { before = K.to_come secret.old; after = K.to_come secret.new })
+        (record { before = O.written out.old; after = O.written out.new }) }
     ensures only { MayReport (request_of command.now) result.message }
     ensures unneeded { NeedsNoSecret detached_header_of (request_of command.now)
         (H.to_come header.old) → secret.new ≡ secret.old }
@@ -46,9 +48,10 @@ pub fn execute_detached<H: Source, I: Source, K: Source, O: Sink>(
         → out.new ≡ out.old }
     ensures calls { CountsCallsDetached (ReadsImage HeaderLocation.Detached
         (request_of command.now) (H.to_come header.old) (K.to_come secret.old))
-        result.message (H.counts header.old) (H.counts header.new)
-        (I.counts image.old) (I.counts image.new) (K.counts secret.old) (K.counts secret.new)
-        (O.counts out.old) (O.counts out.new) }
+        result.message (record { before = H.counts header.old; after = H.counts header.new })
+        (record { before = I.counts image.old; after = I.counts image.new })
+        (record { before = K.counts secret.old; after = K.counts secret.new })
+        (record { before = O.counts out.old; after = O.counts out.new }) }
 {
     let location = HeaderLocation::Detached;
     match command {

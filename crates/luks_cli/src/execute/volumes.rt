@@ -246,9 +246,11 @@ pub(super) fn cat_detached<H: Source, I: Source, K: Source, O: Sink>(
     ensures calls { CountsCallsDetached
         (ReadsPayload (CatAllows HeaderLocation.Detached (volume_request opening.now)
         (H.to_come header.old) (K.to_come secret.old)))
-        (result_message result) (H.counts header.old) (H.counts header.new)
-        (I.counts image.old) (I.counts image.new)
-        (K.counts secret.old) (K.counts secret.new) (O.counts out.old) (O.counts out.new) }
+        (result_message result)
+        (record { before = H.counts header.old; after = H.counts header.new })
+        (record { before = I.counts image.old; after = I.counts image.new })
+        (record { before = K.counts secret.old; after = K.counts secret.new })
+        (record { before = O.counts out.old; after = O.counts out.new }) }
 {
     let unlocked = unlock(alloc, HeaderLocation::Detached, opening, header, secret)?;
     write_plain(&unlocked.volume, &[], image, out)

@@ -10,7 +10,8 @@ use Rattle.luks_cli.specs.CommandRun.{RunsAsStated, WritesPlain}
 
 -- a run of `luksCat` that matches its outcome and is not aborted writes the plaintext of an honestly sealed volume
 writes_plain : (o : VolumeRequest) (message : Message) (image image' secret secret' written written' : Option (List ℕ))
-    → RunsAsStated (luks_cat o) message image image' secret secret' written written'
+    → RunsAsStated (luks_cat o) message (record { before = image; after = image' })
+    (record { before = secret; after = secret' }) (record { before = written; after = written' })
     → WritesPlain (luks_cat o) message image secret written written'
 writes_plain o message image image' secret secret' written written' runs =
     λ known is passphrase is_secret plain counted honest whole.
