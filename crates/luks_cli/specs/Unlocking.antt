@@ -28,9 +28,9 @@ pub record ConsumesLoaded (secret : List ℕ) (on_opened : OnOpened) : Type 0 wh
   pub whole : (segment : Segment) (opened : Opened) (loaded : ℕ)
       → (on_opened segment opened loaded).secret_consumed ≡ length secret
 
--- the bytes read for the header end at or before the payload's start, or more bytes than those were consumed. Both
--- can fail only if a damaged primary header has a size that reaches past the payload's start, and no byte past that
--- size was consumed
+-- the header's bytes end before the payload starts, or the run consumed more than the header's bytes. (Neither holds
+-- only if a damaged primary header has a size that reaches past the payload's start, and the run consumed no byte past
+-- that size.)
 abbrev pub IsPastHeader : Segment → ℕ → ℕ → Type 0
 IsPastHeader s header_len consumed = (header_len ≤ s.offset) ⊎ (header_len < consumed)
 
