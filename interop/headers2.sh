@@ -86,7 +86,8 @@ same 'a damaged secondary header: luksDump' "$(told luksDump damaged)" "$(theirs
 same 'a damaged secondary header: luksCheck' "$(told luksCheck damaged)" 'secondary header: not valid
 luksrd: the header has findings
 1'
-printf x | dd of=damaged bs=1 seek=5000 conv=notrunc status=none
+# The brace that the primary header's metadata start with: most bytes after it are random, and would sometimes be the one written here.
+printf x | dd of=damaged bs=1 seek=4096 conv=notrunc status=none
 for command in luksUUID luksDump luksCheck; do
     same "both headers damaged: $command" "$(told "$command" damaged)" 'luksrd: not a LUKS image
 4'
