@@ -1,4 +1,5 @@
-//! What no clause says: that calls succeed, how many bytes one moves, and which one fails.
+//! What no clause says of devices: that calls succeed, how many bytes one moves, and which one
+//! fails.
 
 mod ahead;
 mod devices;

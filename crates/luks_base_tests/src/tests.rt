@@ -1,4 +1,5 @@
 //! Tests, by the crate that they test.
 
 mod cipher;
+mod io;
 mod kdf;
