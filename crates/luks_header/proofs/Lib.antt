@@ -1,2 +1,1 @@
-pub mod HeaderLemmas
 pub mod KnownLemmas

@@ -104,6 +104,17 @@ merged_by_number h len stripes n some whole =
     let number : length stripes / len ≡ n = ap (λ m. m / len) whole ∙ mul-div_cancel n some in
     ap (λ m. xor (splitter_block h len stripes (m - 1)) (stripe_at len stripes (m - 1))) number
 
+-- the key has the length of a stripe
+pub length-merged : (h : Hash) (len : ℕ) (stripes : List ℕ) (n : ℕ) → 0 < len → length stripes ≡ suc n * len
+    → length (merged h len stripes) ≡ len
+length-merged h len stripes n some whole =
+    let block = length-splitter_block h len stripes n (omega (arith, whole)) in
+    let last = length-stripe_at len stripes n (omega (arith, whole)) in
+    let one_less : suc n - 1 ≡ n = omega arith in
+    ap length (merged_by_number h len stripes (suc n) some whole)
+    ∙ (ap (λ m. length (xor (splitter_block h len stripes m) (stripe_at len stripes m))) one_less
+    ∙ (length-xor (splitter_block h len stripes n) (stripe_at len stripes n) (block ∙ sym last) ∙ block))
+
 -- the key that stripes merge to, from the last stripe and those before it
 pub merged_push : (h : Hash) (len : ℕ) (before last : List ℕ) (i : ℕ) → 0 < len
     → length before ≡ i * len → length last ≡ len

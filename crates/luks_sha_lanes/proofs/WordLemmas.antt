@@ -155,8 +155,8 @@ written_next size k j now digest rest f inside whole so_far is_next below = elim
 
 -- ---- chains of digests: the padding of a digest fills its block
 
--- what the iterations need from a hash function with digests of m words: the hash of a block b followed by a digest has
--- the words that `step` gives from the hash value `after b` and the words of that digest
+-- what the iterations need from a hash function with digests of m words: the words of the hash of a block b and a
+-- digest after it are those that `step` computes from the hash value `after b` and the words of the digest
 abbrev pub IsChained : (List ℕ → List ℕ) → (List ℕ → List ℕ) → (List ℕ → List ℕ → List ℕ) → ℕ → Type 0
 IsChained hash after step m =
     (b w : List ℕ) → length b ≡ 64 → hash (b ++ digest_bytes w m) ≡ digest_bytes (step (after b) w) m

@@ -1,4 +1,4 @@
-use Rattle.std.proofs.Common.{ℕ, ◌+◌, sym, ap, arith, ◌∙◌, option_map, length-drop, rules}
+use Rattle.std.proofs.Common.{ℕ, ◌+◌, sym, ap, arith, ◌∙◌, option_map, length-drop}
 use Rattle.luks2_json.proofs.EncodedLemmas.{len_rest, not_encoded}
 use Rattle.luks2_json.proofs.encoded.encoded_len.Goals as goal
 
@@ -12,9 +12,3 @@ groups-preserved c = (
   len_rest c.groups.rest.now c.groups.before c.groups-test.true (cc) ∙ c.groups.invariant.0,
   omega (arith, length-drop 4 c.groups.rest.now),
 )
-
-pub returns-in_err-last_len : goal.returns-in_err-last_len
-returns-in_err-last_len c = search rules
-
-pub returns : goal.returns
-returns c = search rules

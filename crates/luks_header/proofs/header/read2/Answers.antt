@@ -2,7 +2,7 @@ use Rattle.std.proofs.Common.{◌∙◌, Err, ap, inl, inr, sym, arith}
 use Rattle.luks_io.proofs.ErrorLemmas.{given_error}
 use Rattle.luks2_binary.specs.Text2.{json_text_of}
 use Rattle.luks2_json.specs.Tree.{tree_of}
-use Rattle.luks_header.proofs.HeaderLemmas.{begins_longer, found_read, json_reading_aborted, search_aborted}
+use Rattle.luks_header.proofs.KnownLemmas.{begins_longer, found_read, json_reading_aborted, search_aborted}
 use Rattle.luks_header.proofs.header.read2.Goals as goal
 
 -- no header of LUKS2 was found

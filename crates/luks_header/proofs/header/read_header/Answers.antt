@@ -5,8 +5,8 @@ use Rattle.luks_header.specs.declared.header.Header.TheVariants.{V1}
 use Rattle.luks_area.specs.declared.fault.HeaderFault.TheVariants.{NotLuks, Cut}
 use Rattle.luks2_binary.proofs.ChoiceLemmas.{none_short}
 use Rattle.luks2_binary.proofs.PrefixLemmas.{nothing_behind, prefix_of_itself}
-use Rattle.luks_header.proofs.HeaderLemmas.{aborts_reading, begins_longer, first_loaded, first_read, header_of-cut}
-use Rattle.luks_header.proofs.HeaderLemmas.{header_other, rest_reading_aborted, short_read, starts_as, whole_read}
+use Rattle.luks_header.proofs.KnownLemmas.{aborts_reading, begins_longer, first_loaded, first_read, header_of-cut}
+use Rattle.luks_header.proofs.KnownLemmas.{header_other, rest_reading_aborted, short_read, starts_as, whole_read}
 use Rattle.luks_header.proofs.header.read_header.Goals as goal
 
 pub returns-in_err-whole-clause-no_header : goal.returns-in_err-whole-clause-no_header

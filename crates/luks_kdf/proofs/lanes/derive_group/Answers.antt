@@ -1,6 +1,6 @@
 use Rattle.std.proofs.Common.{◌≡◌, ◌∙◌, ap, arith, length}
 use Rattle.luks_kdf.specs.Hash.{digest_len}
-use Rattle.luks_kdf.proofs.LaneLemmas.{group_of_digests, group_of_one}
+use Rattle.luks_kdf.proofs.Pbkdf2Lemmas.{group_of_digests, group_of_one}
 use Rattle.luks_kdf.proofs.lanes.derive_group.Goals as goal
 
 pub returns-then-not-LONE-clause-key : goal.returns-then-not-LONE-clause-key

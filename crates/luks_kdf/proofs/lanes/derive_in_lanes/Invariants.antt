@@ -4,7 +4,7 @@ use Rattle.luks_kdf.specs.Bytes.{joined}
 use Rattle.luks_kdf.specs.Hash.{digest_len}
 use Rattle.luks_kdf.specs.Pbkdf2.{capped}
 use Rattle.luks_kdf.proofs.BytesLemmas.{cut}
-use Rattle.luks_kdf.proofs.LaneLemmas.{group_at}
+use Rattle.luks_kdf.proofs.Pbkdf2Lemmas.{group_at}
 use Rattle.luks_kdf.proofs.Pbkdf2Lemmas.{block_t}
 use Rattle.luks_kdf.proofs.lanes.derive_in_lanes.Given as goal
 

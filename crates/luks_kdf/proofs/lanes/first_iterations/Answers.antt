@@ -2,7 +2,7 @@ use Rattle.std.proofs.Common.{◌≡◌, ◌∙◌, ◌*◌, ◌+◌, ap, arith,
 use Rattle.luks_sha_lanes.proofs.WordLemmas.{written_next}
 use Rattle.luks_kdf.specs.Hash.{digest_len}
 use Rattle.luks_kdf.specs.Pbkdf2.{u_of}
-use Rattle.luks_kdf.proofs.LaneLemmas.{digest_ends, length-first_u}
+use Rattle.luks_kdf.proofs.Pbkdf2Lemmas.{digest_ends, length-first_u}
 use Rattle.luks_kdf.proofs.lanes.first_iterations.Goals as goal
 
 pub first-preserved : goal.first-preserved

@@ -1,7 +1,7 @@
 use Rattle.std.proofs.Common.{◌-◌, ◌∙◌, List, ℕ, ap}
 use Rattle.luks_sha_lanes.specs.Chains.{chain_xor, digest_at}
 use Rattle.luks_kdf.specs.Hash.{hash_of, digest_len}
-use Rattle.luks_kdf.proofs.LaneLemmas.{sum_of_block}
+use Rattle.luks_kdf.proofs.Pbkdf2Lemmas.{sum_of_block}
 use Rattle.luks_kdf.proofs.lanes.sum_group.Goals as goal
 
 pub returns : goal.returns
