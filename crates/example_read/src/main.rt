@@ -5,7 +5,7 @@
 use luks_access::file::FileImage;
 use luks_access::options::Options;
 use luks_access::volume::Volume;
-use luks_access::{HeaderLocation, Message};
+use luks_access::{HeaderLocation, Message, SlotChoice};
 use luks_io::adapters::WriteSink;
 use std::env;
 use std::fs::{self, File};
@@ -19,8 +19,10 @@ fn first_sector(rt: &HostRuntime, image: &str, passphrase: &str) -> Result<[u8; 
     let passphrase = fs::read(rt, passphrase).map_err(|_| Message::ReadFailed)?;
     let options = Options {
         location: HeaderLocation::Attached,
-        key_slot: None,
-        max_iterations: None,
+        slots: SlotChoice {
+            named: None,
+            max_iterations: None,
+        },
     };
     let volume = Volume::open(rt.alloc(), &options, &image, &passphrase)?;
     let mut sector = [0; 512];

@@ -11,7 +11,7 @@ use Rattle.luks_kdf.specs.declared.hash.Hash.{Hash}
 use Rattle.luks_verdict.specs.Rule.{exceeds, iterations_out_of_range, is_in_range, area_out_of_range}
 use Rattle.luks_verdict.specs.Rule.{stripes_out_of_range, need_of}
 use Rattle.luks_verdict.specs.Segment.{segment_from}
-use Rattle.luks_verdict.specs.Slot.{are_in_range, material_end, verdict_by, verdict_kind_of, slot_of}
+use Rattle.luks_verdict.specs.Slot.{are_in_range, material_end, verdict_by, verdict_kind_of, slot_from, slot_of}
 use Rattle.luks_verdict.proofs.MadeLemmas.{digest_there, mapped, of_usable, parts_made, refused_or-fault}
 use Rattle.luks_verdict.proofs.MadeLemmas.{refused_or-none, refused_or-ok, slot_from-yes, some_from_not_none}
 use Rattle.luks_verdict.proofs.TableLemmas.{none_holds}
@@ -74,8 +74,8 @@ segment1-none header segment none made = refused_or-none _ _ (made1 header) segm
 
 -- ---- slots
 
--- what is needed to open a slot is from this header, its key material ends at or before the payload's start, if the
--- header is attached, and there is a digest
+-- what is needed to open a slot is from this header, its digest is the header's, and its key material ends at or before
+-- the payload's start, if the header is attached
 pub record IsOf (header : Header1) (usable : Slot) : Type 0 where
   pub kdf : usable.parts.kdf_hash ≡ hash1_of header
   pub af : usable.parts.af_hash ≡ hash1_of header
@@ -83,7 +83,7 @@ pub record IsOf (header : Header1) (usable : Slot) : Type 0 where
   pub area_key : usable.parts.area_key_bytes ≡ header.key_bytes
   pub area_mode : usable.parts.area_mode ≡ mode1_of header
   pub before_payload : exceeds (payload1_start header) (material_end usable) ≡ false
-  pub digest : (digest : KeyDigest) × (digest1_of header ≡ Some digest)
+  pub digest : digest1_of header ≡ Some usable.digest
 
 -- key material that is in range ends at or before the payload's start, if that is known, and within the longest area
 placed : (header : Header1) (slot : StoredSlot) → area1_out_of_range header slot ≡ false
@@ -101,15 +101,20 @@ module _ (header : Header1) (limit : Option ℕ) (slot : StoredSlot) where
       let place = placed header slot area in
       grind (arith, nat_tests)
 
-  -- if there is no reason to skip the slot, there is what is needed to open it
+  -- if there is no reason to skip the slot, there is what is needed to open it, with the digest
   pub slot_there : reason1_of header limit slot ≡ None
-      → (is : are_in_range (slot_parts1_of header slot) ≡ true)
-      × (slot1_of header slot ≡ Some (slot_of (slot_parts1_of header slot) is))
+      → (digest : KeyDigest) × (digest1_of header ≡ Some digest)
+      × (is : are_in_range (slot_parts1_of header slot) ≡ true)
+      × (slot1_of header slot ≡ Some (slot_of (slot_parts1_of header slot) digest is))
   unfolding slot1_of reason1_of
   slot_there none =
       let all = none_holds (slot_reasons1 header limit slot) none in
+      let there = digest_there limit (digest1_of header) all.1.1.1.1.0 in
       let is = range_of all.1.0 all.1.1.0 all.1.1.1.0 in
-      (is, slot_from-yes (slot_parts1_of header slot) is)
+      let made : slot_from (slot_parts1_of header slot) (digest1_of header)
+      ≡ Some (slot_of (slot_parts1_of header slot) there.0 is) =
+      ap (slot_from (slot_parts1_of header slot)) there.1 ∙ slot_from-yes (slot_parts1_of header slot) there.0 is in
+      (there.0, there.1, is, made)
 
   -- the kind of verdict on a slot that is not disabled and that there is no reason to skip: it can be tried
   pub usable_verdict : is_disabled slot.state ≡ false → reason1_of header limit slot ≡ None
@@ -117,7 +122,7 @@ module _ (header : Header1) (limit : Option ℕ) (slot : StoredSlot) where
   unfolding verdict1_of slot_of slot_parts1_of
   usable_verdict enabled none =
       let there = slot_there none in
-      rw (enabled, none, there.1) refl
+      rw (enabled, none, there.3) refl
 
   -- if the verdict is that the slot can be tried, there is no reason to skip it, and this is what is needed to open it
   of_verdict : (usable : Slot) → verdict1_of header limit slot ≡ Usable usable
@@ -138,15 +143,16 @@ module _ (header : Header1) (limit : Option ℕ) (slot : StoredSlot) where
       let verdict = of_verdict usable is in
       let all = none_holds (slot_reasons1 header limit slot) verdict.0 in
       let there = slot_there verdict.0 in
-      let same : usable ≡ slot_of (slot_parts1_of header slot) there.0 = same_Some _ _ (sym verdict.1 ∙ there.1) in
-      let known : IsOf header (slot_of (slot_parts1_of header slot) there.0) = record {
+      let same : usable ≡ slot_of (slot_parts1_of header slot) there.0 there.2 =
+      same_Some _ _ (sym verdict.1 ∙ there.3) in
+      let known : IsOf header (slot_of (slot_parts1_of header slot) there.0 there.2) = record {
         kdf = refl;
         af = refl;
         volume_key = refl;
         area_key = refl;
         area_mode = refl;
         before_payload = (placed header slot all.1.1.1.0).0;
-        digest = digest_there limit (digest1_of header) all.1.1.1.1.0;
+        digest = there.1;
       } in
       (subst (IsOf header) (sym same) known, verdict.1)
 

@@ -93,9 +93,9 @@ slot_parts1_of header slot = record {
   area_mode = mode1_of header;
 }
 
--- what is needed to open a slot, if its numbers are in range
+-- what is needed to open a slot, if its numbers are in range and there is a usable digest
 unfoldable pub slot1_of : Header1 → StoredSlot → Option Slot
-slot1_of header slot = slot_from (slot_parts1_of header slot)
+slot1_of header slot = slot_from (slot_parts1_of header slot) (digest1_of header)
 
 -- the verdict on a slot
 unfoldable pub verdict1_of : Header1 → Option ℕ → StoredSlot → Verdict
@@ -106,6 +106,6 @@ verdict1_of header limit slot =
 unfoldable pub verdict1_at : Header1 → Option ℕ → ℕ → Option Verdict
 verdict1_at header limit number = option_map (verdict1_of header limit) (slice_get header.slots number)
 
--- what is needed to open the slot of this number, if it is there and its numbers are in range
+-- what is needed to open the slot of this number, if it is there, its numbers are in range and there is a usable digest
 unfoldable pub slot1_at : Header1 → ℕ → Option Slot
 slot1_at header number = option_and_then (slot1_of header) (slice_get header.slots number)

@@ -36,7 +36,8 @@ pub struct Header1 {
     pub uuid: FixedText<40>,
     /// The key slots.
     pub slots: [StoredSlot; 8],
-    /// Whether the header is detached. No header stores this: it is read as an attached one.
+    /// Whether the header is detached. This is not stored: every header is read as an attached one
+    /// and marked afterwards.
     pub detached: bool,
 }
 

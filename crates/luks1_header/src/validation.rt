@@ -136,7 +136,7 @@ pub fn verdict_kind(header: &Header1, limit: Option<u32>, number: u8) -> Option<
     }
 }
 
-// What is needed to open a slot, if its numbers are in range.
+// What is needed to open a slot, if its numbers are in range and there is a usable digest.
 #[tactic(auto, unfolding(crate::specs::Slot1::slot1_of, crate::specs::Slot1::slot_parts1_of))]
 fn slot1_of(alloc: Global, header: &Header1, slot: &StoredSlot) -> Result<Option<Slot>, AllocError>
     ensures { IfOk result (λ usable. usable ≡ slot1_of header.now slot.now) }
@@ -154,10 +154,11 @@ fn slot1_of(alloc: Global, header: &Header1, slot: &StoredSlot) -> Result<Option
         area_size: need(header.key_bytes, slot.stripes),
         area_mode: header.mode(),
     };
-    Ok(Slot::from_parts(parts))
+    Ok(Slot::from_parts(parts, digest(alloc, header)?))
 }
 
-/// What is needed to open the slot of this number, if it is there and its numbers are in range.
+/// What is needed to open the slot of this number, if it is there, its numbers are in range and
+/// there is a usable digest.
 #[tactic(auto, unfolding(crate::specs::Slot1::slot1_at))]
 pub fn slot(alloc: Global, header: &Header1, number: u8) -> Result<Option<Slot>, AllocError>
     ensures { IfOk result (λ usable. usable ≡ slot1_at header.now number) }

@@ -5,13 +5,13 @@ use Rattle.std.proofs.Common.{List, [], ◌∷◌, get_or, bytes_eq, option_map,
 use Rattle.luks_kdf.proofs.Pbkdf2Lemmas.{length-derived_key}
 use Rattle.luks_verdict.specs.Rule.{need_of}
 use Rattle.luks_verdict.specs.Segment.{segment_by, segment_from}
-use Rattle.luks_verdict.specs.Slot.{are_in_range, digest_of, has_no_usable_digest, is_usable, slot_of}
+use Rattle.luks_verdict.specs.Slot.{are_in_range, digest_of, has_no_usable_digest, is_usable, slot_from, slot_of}
 use Rattle.luks_verdict.specs.declared.sector_size.SectorSize.TheVariants.{B512}
 use Rattle.luks_verdict.specs.declared.slot.Verdict.TheVariants.{Usable}
-use Rattle.luks_verdict.proofs.MadeLemmas.{digest_from-yes, no_usable_digest-yes}
+use Rattle.luks_verdict.proofs.MadeLemmas.{digest_from-yes, no_usable_digest-yes, slot_from-yes}
 use Rattle.luks1_header.specs.Segment1.{fault1_of, segment1_of, overlaps_header1}
 use Rattle.luks1_header.specs.Slot1.{digest1_of, digest_parts1_of, hash1_of, area1_out_of_range, mode1_of}
-use Rattle.luks1_header.specs.Slot1.{payload1_start, reason1_of, slot_parts1_of, verdict1_of, verdict1_at}
+use Rattle.luks1_header.specs.Slot1.{payload1_start, reason1_of, slot1_of, slot_parts1_of, verdict1_of, verdict1_at}
 use Rattle.luks1_header.proofs.ValidationLemmas.{segment1-none, slot_there}
 use Rattle.luks_seal.specs.Sealed.{IsDigestOf, GivesKey, Sealed, SealsKey, SealsPlain}
 use Rattle.luks_seal.proofs.RuleLemmas.{area_fits, digest_fits, hash_is_named, iterations_fit, mode_is_named}
@@ -21,7 +21,6 @@ use Rattle.luks1_seal.specs.Ranges1.{AreParameters1, AreTyped1, passphrases1_of,
 use Rattle.std.proofs.lemmas.List.Elements.{All-map}
 use Rattle.luks_seal.proofs.FieldLemmas.{at_inside}
 use Rattle.luks1_header.specs.Header1.{is_luks1}
-use Rattle.luks_header.specs.HeaderDigests.{digest_for}
 use Rattle.luks_header.specs.Header.{header_of}
 use Rattle.luks_header.specs.HeaderSegment.{segment_of}
 use Rattle.luks_header.specs.SlotVerdicts.{verdict_at}
@@ -116,12 +115,23 @@ module _ (p : Seal1) (fits : AreParameters1 p) (typed : AreTyped1 p) where
         rw (striped, counted, placed, digested) refl
 
     ranged : are_in_range (slot_parts1_of (found_header p) (found_slot p slot)) ≡ true
-    ranged = (slot_there (found_header p) None (found_slot p slot) no_reason).0
+    ranged = (slot_there (found_header p) None (found_slot p slot) no_reason).2
+
+    slot1_is : slot1_of (found_header p) (found_slot p slot)
+        ≡ Some (slot_of (slot_parts1_of (found_header p) (found_slot p slot))
+        (digest_of (digest_parts1_of (found_header p)) digest_usable) ranged)
+    unfolding slot1_of digest1_of
+    slot1_is =
+        let parts = slot_parts1_of (found_header p) (found_slot p slot) in
+        let digest_parts = digest_parts1_of (found_header p) in
+        ap (slot_from parts) (digest_from-yes digest_parts digest_usable)
+        ∙ slot_from-yes parts (digest_of digest_parts digest_usable) ranged
 
     verdict1_is : verdict1_of (found_header p) None (found_slot p slot)
-        ≡ Usable (slot_of (slot_parts1_of (found_header p) (found_slot p slot)) ranged)
-    unfolding verdict1_of ranged
-    verdict1_is = rw (no_reason, (slot_there (found_header p) None (found_slot p slot) no_reason).1) refl
+        ≡ Usable (slot_of (slot_parts1_of (found_header p) (found_slot p slot))
+        (digest_of (digest_parts1_of (found_header p)) digest_usable) ranged)
+    unfolding verdict1_of
+    verdict1_is = rw (no_reason, slot1_is) refl
 
     -- the slot gives the key
     gives1 : GivesKey (slot_parts1_of (found_header p) (found_slot p slot)) slot.passphrase.now p.key.now (image1_of p)
@@ -145,14 +155,13 @@ module _ (p : Seal1) (fits : AreParameters1 p) (typed : AreTyped1 p) where
         }
 
     seals_key1 : SealsKey (V1 (found_header p)) (image1_of p) p.key.now slot.number slot.passphrase.now
-    unfolding verdict_at verdict1_at digest_for slot_of digest1_of
+    unfolding verdict_at verdict1_at slot_of
     seals_key1 = record {
-      slot = slot_of (slot_parts1_of (found_header p) (found_slot p slot)) ranged;
-      digest = digest_of (digest_parts1_of (found_header p)) digest_usable;
+      slot = slot_of (slot_parts1_of (found_header p) (found_slot p slot))
+          (digest_of (digest_parts1_of (found_header p)) digest_usable) ranged;
       usable = ap (option_map (verdict1_of (found_header p) None)) (slot_read p fits typed slot used)
           ∙ ap Some verdict1_is;
       gives = gives1;
-      is_digest = digest_from-yes (digest_parts1_of (found_header p)) digest_usable;
       digest_of_key = digest1_of_key;
     }
 

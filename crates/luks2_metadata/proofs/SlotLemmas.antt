@@ -9,7 +9,7 @@ use Rattle.luks_cipher.proofs.ModeLemmas.{longest_mode_key}
 use Rattle.luks_verdict.specs.Rule.{exceeds, in_range, iterations_out_of_range, is_in_range, area_out_of_range}
 use Rattle.luks_verdict.specs.Rule.{is_digest, stripes_out_of_range, max_iteration_count}
 use Rattle.luks_verdict.specs.Slot.{are_in_range, digest_of, has_no_usable_digest, material_end, parts_end, slot_of}
-use Rattle.luks_verdict.specs.Slot.{verdict_kind_of}
+use Rattle.luks_verdict.specs.Slot.{slot_from, verdict_kind_of}
 use Rattle.luks_verdict.proofs.MadeLemmas.{digest_from-no, digest_from-yes, digest_there, mapped, of_usable}
 use Rattle.luks_verdict.proofs.MadeLemmas.{slot_from-yes, some_from_not_none}
 use Rattle.luks_verdict.specs.declared.digest.KeyDigest.{KeyDigest}
@@ -117,8 +117,8 @@ pub record IsSmall (slot : Data) : Type 0 where
   pub area_key : area_key_size_of slot ≤ 64
 
 -- what is needed to open the slot agrees with the header: its hash functions and its area's mode are known, its keys
--- have valid lengths for their modes, its key material is after the header and before the payload, and there is a
--- digest
+-- have valid lengths for their modes, its key material is after the header and before the payload, and its digest is
+-- that of its number
 pub record IsOf2 (tree : Data) (bounds : Bounds) (number : ℕ) (usable : Slot) : Type 0 where
   pub kdf : (hash : Hash) × (usable.parts.kdf_hash ≡ Some hash)
   pub af : (hash : Hash) × (usable.parts.af_hash ≡ Some hash)
@@ -127,7 +127,7 @@ pub record IsOf2 (tree : Data) (bounds : Bounds) (number : ℕ) (usable : Slot) 
   pub volume_key : is_length_for (payload_mode2_of tree bounds) usable.parts.key_bytes ≡ true
   pub after_header : bounds.end ≤ usable.parts.area_offset
   pub before_payload : exceeds (payload2_start tree bounds) (material_end usable) ≡ false
-  pub digest : (digest : KeyDigest) × (digest2_for tree number ≡ Some digest)
+  pub digest : digest2_for tree number ≡ Some usable.digest
 
 module _ (tree : Data) (bounds : Bounds) (limit : Option ℕ) (number : ℕ) (slot : Data) where
   pub no_reason : reason2_of tree bounds limit number slot ≡ None → NoReason tree bounds limit number slot
@@ -173,14 +173,20 @@ module _ (tree : Data) (bounds : Bounds) (limit : Option ℕ) (number : ℕ) (sl
         usable_digest_without_limit limit (digest2_for tree number) no.digest,
       ) refl
 
-  -- there is what is needed to open it
+  -- there is what is needed to open it, with the digest
   pub slot_there : reason2_of tree bounds limit number slot ≡ None
-      → (is : are_in_range (slot_parts2_of slot) ≡ true)
-      × (slot2_of tree bounds number slot ≡ Some (slot_of (slot_parts2_of slot) is))
+      → (digest : KeyDigest) × (digest2_for tree number ≡ Some digest)
+      × (is : are_in_range (slot_parts2_of slot) ≡ true)
+      × (slot2_of tree bounds number slot ≡ Some (slot_of (slot_parts2_of slot) digest is))
   unfolding slot2_of
   slot_there none =
-      let is = range_of (no_reason none) in
-      (is, rw (no_reason_none none) (slot_from-yes (slot_parts2_of slot) is))
+      let all = no_reason none in
+      let there = digest_there limit (digest2_for tree number) all.digest in
+      let is = range_of all in
+      let made : slot_from (slot_parts2_of slot) (digest2_for tree number)
+      ≡ Some (slot_of (slot_parts2_of slot) there.0 is) =
+      ap (slot_from (slot_parts2_of slot)) there.1 ∙ slot_from-yes (slot_parts2_of slot) there.0 is in
+      (there.0, there.1, is, rw (no_reason_none none) made)
 
   -- the verdict on it, without what is needed to open it
   pub usable_verdict : reason2_of tree bounds limit number slot ≡ None
@@ -188,7 +194,7 @@ module _ (tree : Data) (bounds : Bounds) (limit : Option ℕ) (number : ℕ) (sl
   unfolding verdict2_of slot_of slot_parts2_of
   usable_verdict none =
       let there = slot_there none in
-      rw (none, there.1) refl
+      rw (none, there.3) refl
 
   pub small_of : reason2_of tree bounds limit number slot ≡ None → IsSmall slot
   unfolding slot_parts2_of
@@ -207,20 +213,20 @@ module _ (tree : Data) (bounds : Bounds) (limit : Option ℕ) (number : ℕ) (sl
       let verdict = of_usable (reason2_of tree bounds limit number slot) (slot2_of tree bounds number slot) usable is in
       let no = no_reason verdict.0 in
       let there = slot_there verdict.0 in
-      let same : usable ≡ slot_of (slot_parts2_of slot) there.0 = same_Some _ _ (sym verdict.1 ∙ there.1) in
+      let same : usable ≡ slot_of (slot_parts2_of slot) there.0 there.2 = same_Some _ _ (sym verdict.1 ∙ there.3) in
       let hashes = or_parts _ _ no.hash in
       let sizes = and_parts _ _ (not-false _ no.key_size) in
       let past = or_parts _ _ no.area in
       let before = or_parts _ _ past.0 in
       let capacity = or_parts _ _ before.0 in
-      let known : IsOf2 tree bounds number (slot_of (slot_parts2_of slot) there.0) = record {
+      let known : IsOf2 tree bounds number (slot_of (slot_parts2_of slot) there.0 there.2) = record {
         kdf = some_from_not_none (kdf_hash_of slot) hashes.0;
         af = some_from_not_none (af_hash_of slot) hashes.1;
         area = known_area (area_mode_of slot) (area_key_size_of slot) no.encryption sizes.0;
         volume_key = sizes.1;
         after_header = ltb-false (area_offset_of slot) bounds.end capacity.0;
         before_payload = before.1;
-        digest = digest_there limit (digest2_for tree number) no.digest;
+        digest = there.1;
       } in
       (subst (IsOf2 tree bounds number) (sym same) known, verdict.1)
 

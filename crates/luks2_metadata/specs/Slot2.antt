@@ -168,7 +168,8 @@ slot_parts2_of slot = record {
 -- iterations
 unfoldable pub slot2_of : Data → Bounds → ℕ → Data → Option Slot
 slot2_of tree bounds number slot =
-    if is_none (reason2_of tree bounds None number slot) then slot_from (slot_parts2_of slot) else None
+    if is_none (reason2_of tree bounds None number slot) then slot_from (slot_parts2_of slot) (digest2_for tree number)
+    else None
 
 -- the verdict on the slot of this number
 unfoldable pub verdict2_of : Data → Bounds → Option ℕ → ℕ → Data → Verdict

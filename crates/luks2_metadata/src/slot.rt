@@ -16,7 +16,7 @@ ghost use Rattle.serde_json.specs.View.{view as data_of};
 mod members;
 
 use crate::bounds::Bounds;
-use crate::digest::digest_iterations_for;
+use crate::digest::{digest_for, digest_iterations_for};
 use crate::payload::{payload_mode, payload2_start};
 use luks_cipher::Mode;
 use luks_kdf::Hash;
@@ -278,18 +278,18 @@ fn parts(alloc: Global, slot: &Value) -> Result<SlotParts, AllocError>
 #[tactic(auto, unfolding(crate::specs::Slot2::slot2_of))]
 fn slot2_of(
     alloc: Global,
-    tree: &Value,
+    metadata: &Metadata,
     bounds: Bounds,
     number: u8,
     slot: &Value,
 ) -> Result<Option<Slot>, AllocError>
     ensures { IfOk result (λ usable. usable
-        ≡ slot2_of (data_of tree.now) bounds number (data_of slot.now)) }
+        ≡ slot2_of metadata.now bounds number (data_of slot.now)) }
 {
-    if reason(tree, bounds, None, number, slot).is_some() {
+    if reason(metadata.tree(), bounds, None, number, slot).is_some() {
         return Ok(None);
     }
-    Ok(Slot::from_parts(parts(alloc, slot)?))
+    Ok(Slot::from_parts(parts(alloc, slot)?, digest_for(alloc, metadata, number)?))
 }
 
 /// What is needed to open the key slot with this number in a header with these bounds, if there is
@@ -304,7 +304,7 @@ pub fn slot(
     ensures { IfOk result (λ usable. usable ≡ slot2_at metadata.now bounds number) }
 {
     match object_numbered(metadata.tree(), "keyslots", number) {
-        Some(slot) => slot2_of(alloc, metadata.tree(), bounds, number, slot),
+        Some(slot) => slot2_of(alloc, metadata, bounds, number, slot),
         None => Ok(None),
     }
 }

@@ -19,9 +19,9 @@ use Rattle.luks2_seal.specs.Ranges2.{area_size, area_size_at, area_start, ArePar
 use Rattle.luks2_seal.specs.Ranges2.{AreTyped2, Seal2, Slot2, passphrases2_of}
 use Rattle.luks2_seal.proofs.Header2.{length-header, primary_start, secondary_start, IsReadAt, read_there}
 use Rattle.luks2_seal.proofs.Bounds.{short_key}
-use Rattle.luks2_seal.proofs.Verdicts2.{need_fits, IsUsed, bounds_of, digest_is, digest_read, of_key, parts_of}
+use Rattle.luks2_seal.proofs.Verdicts2.{need_fits, IsUsed, bounds_of, of_key, parts_of}
 use Rattle.luks2_seal.proofs.TextLemmas.{fixed_size}
-use Rattle.luks2_seal.proofs.Verdicts2.{segment_is, segment_read, slot_is, slot_parts, slot_usable}
+use Rattle.luks2_seal.proofs.Verdicts2.{segment_is, segment_read, slot_digest, slot_is, slot_parts, slot_usable}
 use Rattle.std.specs.Int.{to_be_bytes, w64}
 use Rattle.std.proofs.lemmas.Str.{is_utf8-from_IsUtf8}
 use Rattle.luks_kdf.specs.declared.hash.Hash.TheVariants.{Sha256}
@@ -37,13 +37,13 @@ use Rattle.luks_header.specs.declared.header.Header.TheVariants.{V2}
 use Rattle.luks2_seal.proofs.MetadataLemmas.{area_after_headers}
 use Rattle.std.proofs.lemmas.List.Elements.{All-map}
 use Rattle.luks_verdict.specs.Segment.{segment_by}
+use Rattle.luks_verdict.specs.declared.digest.KeyDigest.{KeyDigest}
 use Rattle.luks_verdict.specs.declared.slot.SlotParts.{SlotParts}
 use Rattle.luks2_metadata.specs.Segment2.{segment2_of}
 use Rattle.luks2_metadata.specs.Slot2.{verdict2_at}
-use Rattle.luks_header.specs.HeaderDigests.{digest_for}
 use Rattle.luks_header.specs.HeaderSegment.{segment_of}
 use Rattle.luks_header.specs.SlotVerdicts.{verdict_at}
-use Rattle.luks_seal.specs.Sealed.{EndsWith, GivesKey, Sealed, SealsKey, SealsPlain}
+use Rattle.luks_seal.specs.Sealed.{EndsWith, GivesKey, IsDigestOf, Sealed, SealsKey, SealsPlain}
 
 -- the key material of a slot
 abbrev pub material2_of : Seal2 → Slot2 → List ℕ
@@ -227,16 +227,15 @@ module _ (p : Seal2) (fits : AreParameters2 p) (json : FitsJson p) (back : Reads
         }
 
     seals_key2 : SealsKey (V2 header_is (metadata_of p)) (image2_of p) p.key.now slot.number slot.passphrase.now
-    unfolding verdict_at digest_for
+    unfolding verdict_at
     seals_key2 = record {
       slot = slot_is p fits typed slot used;
-      digest = digest_is p fits typed;
       usable = ap (λ bounds. verdict2_at (metadata_of p) bounds None slot.number) bounds_there
           ∙ slot_usable p fits typed slot used;
       gives = subst (λ (parts : SlotParts). GivesKey parts slot.passphrase.now p.key.now (image2_of p))
           (sym (slot_parts p fits typed slot used)) gives2;
-      is_digest = digest_read p fits typed slot used;
-      digest_of_key = of_key p fits typed;
+      digest_of_key = subst (λ (digest : KeyDigest). IsDigestOf digest p.key.now)
+          (sym (slot_digest p fits typed slot used)) (of_key p fits typed);
     }
 
   -- ---- the payload

@@ -217,7 +217,7 @@ module _ (p : Seal2) (fits : AreParameters2 p) (typed : AreTyped2 p) where
     unfolding own_digest_at own_digest is_of_slot array_contains digest_object
     own_is = rw (first_there, slot_listed p slot.number 32 slot used.numbered low, digest_found) refl
 
-    pub digest_read : digest2_for (metadata_of p) slot.number ≡ Some digest_is
+    digest_read : digest2_for (metadata_of p) slot.number ≡ Some digest_is
     unfolding digest2_for
     digest_read =
         lowest_found (own_digest_at (metadata_of p) slot.number) 0 32 (lowest_none _) (omega arith) (rw own_is refl)
@@ -321,15 +321,19 @@ module _ (p : Seal2) (fits : AreParameters2 p) (typed : AreTyped2 p) where
         refl
 
     in_range : are_in_range (slot_parts2_of (keyslot_object p slot)) ≡ true
-    in_range = (slot_there (metadata_of p) (bounds_of p) None slot.number (keyslot_object p slot) no_reasons).0
+    in_range = (slot_there (metadata_of p) (bounds_of p) None slot.number (keyslot_object p slot) no_reasons).2
 
-    -- the slot, which has the stated parts
+    -- the slot, which has the stated parts and the digest of the key
     pub slot_is : Slot
-    slot_is = slot_of (slot_parts2_of (keyslot_object p slot)) in_range
+    slot_is = slot_of (slot_parts2_of (keyslot_object p slot)) digest_is in_range
 
     pub slot_parts : slot_is.parts ≡ parts_of p slot
     unfolding slot_is slot_of
     slot_parts = slot_parts_said
+
+    pub slot_digest : slot_is.digest ≡ digest_is
+    unfolding slot_is slot_of
+    slot_digest = refl
 
     there : object_numbered (codes "keyslots") (metadata_of p) slot.number ≡ Some (keyslot_object p slot)
     unfolding object_numbered metadata_of
@@ -338,4 +342,6 @@ module _ (p : Seal2) (fits : AreParameters2 p) (typed : AreTyped2 p) where
     -- the slot is usable
     pub slot_usable : verdict2_at (metadata_of p) (bounds_of p) None slot.number ≡ Some (Usable slot_is)
     unfolding verdict2_at verdict2_of slot2_of slot_is
-    slot_usable = rw (there, no_reasons, slot_from-yes (slot_parts2_of (keyslot_object p slot)) in_range) refl
+    slot_usable =
+        rw (there, no_reasons, digest_read, slot_from-yes (slot_parts2_of (keyslot_object p slot)) digest_is in_range)
+        refl

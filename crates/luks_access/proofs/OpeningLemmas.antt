@@ -9,9 +9,9 @@ use Rattle.luks_report.specs.Faults.{message_at_end}
 use Rattle.luks_report.specs.declared.message.Message.{Message}
 use Rattle.luks_report.specs.declared.message.Message.TheVariants.{Done, KeyFileLength, OutOfMemory, ReadFailed}
 use Rattle.luks_report.specs.declared.message.Message.TheVariants.{WriteFailed}
-use Rattle.luks_request.specs.Request.{VolumeRequest}
+use Rattle.luks_request.specs.declared.command.SlotChoice.{SlotChoice}
 use Rattle.luks_runs.specs.Run.{Outcome, aborts, no_output}
-use Rattle.luks_runs.specs.Location.{HeaderReader, reader_for}
+use Rattle.luks_runs.specs.Location.{reader_for}
 use Rattle.luks_runs.specs.declared.location.HeaderLocation.{HeaderLocation}
 use Rattle.luks_runs.specs.declared.location.HeaderLocation.TheVariants.{Attached, Detached}
 use Rattle.luks_unlock.proofs.HonestVolumes.{unsealed}
@@ -21,8 +21,8 @@ use Rattle.luks_unlock.specs.OpeningMessages.{OpeningMessage}
 use Rattle.luks_unlock.specs.Trying.{opened_of}
 use Rattle.luks_unlock.specs.declared.found.FoundVolume.{FoundVolume}
 use Rattle.luks_unlock.specs.declared.unlocked.UnlockedVolume.{UnlockedVolume}
-use Rattle.luks_unlock.specs.Volume.{OnOpened, Volume, detached_payload_outcome, found_outcome, outcome_after}
-use Rattle.luks_unlock.specs.Volume.{payload_outcome, unlock_read_len, volume_by, volume_in_header, volume_outcome_by}
+use Rattle.luks_unlock.specs.Volume.{OnOpened, Volume, detached_payload_outcome, found_outcome, payload_outcome}
+use Rattle.luks_unlock.specs.Volume.{unlock_read_len, volume_outcome_by}
 use Rattle.luks_verdict.specs.declared.segment.Segment.{Segment}
 use Rattle.luks_payload.proofs.SectorLemmas.{by_ending}
 use Rattle.luks_payload.specs.Plain.{ending_of, ending_of_len, bytes_from_start, sector_len}
@@ -30,60 +30,45 @@ use Rattle.luks_payload.specs.declared.fault.VolumeFault.{VolumeFault}
 use Rattle.luks_payload.specs.declared.fault.VolumeFault.TheVariants.{CutBeforePayload as VolumeCutBeforePayload}
 use Rattle.luks_payload.specs.declared.state.Step.{Step}
 use Rattle.luks_payload.specs.declared.state.Step.TheVariants.{End}
-use Rattle.luks_access.specs.Opens.{HasOptions, HasPlaintext, Opens, OpensVolume, Refuses, RefusesVolume, UnlocksVolume}
+use Rattle.luks_access.specs.Opens.{HasPlaintext, Opens, OpensVolume, Refuses, RefusesVolume, UnlocksVolume}
 use Rattle.luks_access.specs.Opens.{cat_outcome_of, payload_image_of}
 use Rattle.luks_access.specs.declared.options.Options.{Options}
 
--- two requests with the same options, which are the named key slot and the limit, have the same outcome
-same_options : (options : Options) (o p : VolumeRequest) → HasOptions o options → HasOptions p options
-    → (read : HeaderReader) (on_opened : OnOpened) (image pass : List ℕ)
-    → volume_outcome_by read on_opened o image pass ≡ volume_outcome_by read on_opened p image pass
-unfolding volume_outcome_by volume_by
-same_options options o p of_o of_p read on_opened image pass =
-    ap (λ named. outcome_after on_opened named image pass (volume_in_header named o.max_iterations (read image)))
-    (of_o.0 ∙ sym of_p.0)
-    ∙ ap (λ limit. outcome_after on_opened p.key_slot image pass (volume_in_header p.key_slot limit (read image)))
-    (of_o.1 ∙ sym of_p.1)
-
 -- ---- refusals
 
-module _ (options : Options) (o : VolumeRequest) (image pass : List ℕ) (i : Option (List ℕ))
-    (has : HasOptions o options) where
-  -- every command with these options has this outcome if this one has it, whatever it does with an open volume
+module _ (options : Options) (image pass : List ℕ) (i : Option (List ℕ)) where
+  -- the message and what was consumed are the same, whatever a command does with an open volume
   refused_by : (message : Message) (a b : ℕ)
-      → ((on_opened : OnOpened) → volume_outcome_by (reader_for options.location) on_opened o image pass
+      → ((on_opened : OnOpened) → volume_outcome_by (reader_for options.location) on_opened options.slots image pass
       ≡ no_output message a b) → Refuses options image pass message
-  refused_by message a b comes = record {
-    header_consumed = a;
-    secret_consumed = b;
-    outcome = λ p of_p on_opened. same_options options p o of_p has (reader_for options.location) on_opened image pass
-        ∙ comes on_opened;
-  }
+  refused_by message a b comes = record { header_consumed = a; secret_consumed = b; outcome = comes }
 
   -- no volume was found
   pub refused_unfound : (message : Message) → aborts message ≡ false
-      → FindsNoVolume (reader_for options.location) o image i message → Refuses options image pass message
+      → FindsNoVolume (reader_for options.location) options.slots image i message → Refuses options image pass message
   refused_unfound OutOfMemory never stop = cc
   refused_unfound ReadFailed never stop = cc
   refused_unfound WriteFailed never stop = cc
   refused_unfound message never stop =
       refused_by message (header_read_len image) 0
-      (λ on_opened. outcome_is options.location o image pass on_opened (Err message) stop.0)
+      (λ on_opened. outcome_is options.location options.slots image pass on_opened (Err message) stop.0)
 
-  module _ (volume : FoundVolume) (slots : MatchesHeader o volume)
+  module _ (volume : FoundVolume) (matched : MatchesHeader options.slots volume)
       (read : reader_for options.location image ≡ Ok volume.header) (area' : List ℕ)
       (prefix : volume.area.bytes ≡ take (header_read_len image) image) where
     abbrev described : Volume
     described = record { header = volume.header; segment = volume.segment; order = volume.order }
 
-    as_found : (on_opened : OnOpened) → volume_outcome_by (reader_for options.location) on_opened o image pass
-        ≡ found_outcome on_opened o.key_slot described image pass
+    as_found : (on_opened : OnOpened)
+        → volume_outcome_by (reader_for options.location) on_opened options.slots image pass
+        ≡ found_outcome on_opened options.slots.named described image pass
     as_found =
-        found_is options.location o image pass volume.header volume.segment volume.order read slots.segment slots.order
+        found_is options.location options.slots image pass volume.header volume.segment volume.order read
+        matched.segment matched.order
 
     -- the volume was not opened
     pub refused_unopened : (message : Message) → aborts message ≡ false
-        → UnlocksVolume o.key_slot volume pass area' (drop (header_read_len image) image) i (Err message)
+        → UnlocksVolume options.slots.named volume pass area' (drop (header_read_len image) image) i (Err message)
         → Refuses options image pass message
     refused_unopened message never (inl (short, inl (HeaderRead, is, lost))) = cc
     refused_unopened message never (inl (short, inl (HeaderMemory, is, lost))) = cc
@@ -91,37 +76,37 @@ module _ (options : Options) (o : VolumeRequest) (image pass : List ℕ) (i : Op
     refused_unopened message never (inl (short, inr (grows, inl (is, few)))) =
         let cut = area_cut image volume.area.bytes area' i (key_material_end volume.order.entries) prefix grows few in
         rw is (refused_by _ (length image) (length pass)
-        (λ on_opened. as_found on_opened ∙ found_cut on_opened o.key_slot described image pass short cut.0))
+        (λ on_opened. as_found on_opened ∙ found_cut on_opened options.slots.named described image pass short cut.0))
     refused_unopened message never (inl (short, inr (grows, inr (fault, is, enough, tried)))) =
         rw is (refused_by _ (unlock_read_len image described) (length pass)
-        (λ on_opened. tried_is options.location o image pass volume.header volume.segment volume.order read
-        slots.segment slots.order short volume.area.bytes area' i prefix grows enough (Err fault) tried on_opened))
+        (λ on_opened. tried_is options.location options.slots image pass volume.header volume.segment volume.order read
+        matched.segment matched.order short volume.area.bytes area' i prefix grows enough (Err fault) tried on_opened))
     refused_unopened message never (inr (long, is)) =
         let same : message ≡ KeyFileLength = cc in
         rw same (refused_by KeyFileLength (header_read_len image) _
-        (λ on_opened. as_found on_opened ∙ found_long on_opened o.key_slot described image pass long))
+        (λ on_opened. as_found on_opened ∙ found_long on_opened options.slots.named described image pass long))
 
     -- the volume was opened
     pub opened_by : (opened : UnlockedVolume)
-        → UnlocksVolume o.key_slot volume pass area' (drop (header_read_len image) image) i (Ok opened)
+        → UnlocksVolume options.slots.named volume pass area' (drop (header_read_len image) image) i (Ok opened)
         → Opens options image pass opened
     opened_by opened (inl (short, (grows, enough, same, tried))) = record {
       loaded = unlock_read_len image described;
-      outcome = λ p of_p on_opened.
-          same_options options p o of_p has (reader_for options.location) on_opened image pass
-          ∙ tried_is options.location o image pass volume.header volume.segment volume.order read slots.segment
-          slots.order short volume.area.bytes area' i prefix grows enough (Ok (opened_of opened)) tried on_opened
+      outcome = λ on_opened.
+          tried_is options.location options.slots image pass volume.header volume.segment volume.order read
+          matched.segment matched.order short volume.area.bytes area' i prefix grows enough (Ok (opened_of opened))
+          tried on_opened
           ∙ ap (λ s. on_opened s (opened_of opened) (unlock_read_len image described)) (sym same);
     }
     opened_by opened (inr (long, is)) = cc
 
 -- ---- the plaintext of an open volume
 
-module _ (o : VolumeRequest) (header image pass : List ℕ) (v : UnlockedVolume) (loaded : ℕ) where
+module _ (slots : SlotChoice) (header image pass : List ℕ) (v : UnlockedVolume) (loaded : ℕ) where
   cat_by : (location : HeaderLocation)
-      → ((on_opened : OnOpened) → volume_outcome_by (reader_for location) on_opened o header pass
+      → ((on_opened : OnOpened) → volume_outcome_by (reader_for location) on_opened slots header pass
       ≡ on_opened v.segment (opened_of v) loaded)
-      → HasPlaintext (cat_outcome_of location o header image pass) v (payload_image_of location header image)
+      → HasPlaintext (cat_outcome_of location slots header image pass) v (payload_image_of location header image)
   cat_by Attached outcome =
       let cat = outcome (payload_outcome header pass) in
       (ap (λ (out : Outcome). out.output) cat, ap (λ (out : Outcome). out.message) cat)
@@ -148,11 +133,11 @@ pub volume_opened : (options : Options) (image pass : List ℕ) (v : UnlockedVol
     → OpensVolume options image pass v
 volume_opened options image pass v opens = record {
   opens = opens;
-  cats = λ o other has. cat_by o image other pass v opens.loaded options.location (opens.outcome o has);
-  honest = λ o plain attached has honest.
-      let outcome = rw attached at (opens.outcome o has) in
-      let cat = cat_by o image image pass v opens.loaded Attached outcome in
-      let sealed = unsealed o image pass plain honest in
+  cats = λ other. cat_by options.slots image other pass v opens.loaded options.location opens.outcome;
+  honest = λ plain attached honest.
+      let outcome = rw attached at opens.outcome in
+      let cat = cat_by options.slots image image pass v opens.loaded Attached outcome in
+      let sealed = unsealed options.slots image pass plain honest in
       (sym cat.0 ∙ sealed.0, ends_whole v.segment image (sym cat.1 ∙ sealed.1));
 }
 
@@ -160,8 +145,9 @@ pub volume_refused : (options : Options) (image pass : List ℕ) (message : Mess
     → (aborts message ≡ false → Refuses options image pass message) → RefusesVolume options image pass message
 volume_refused options image pass message only refuses = record {
   refuses = refuses;
-  no_honest = λ o plain attached has never honest.
-      let refused = rw attached at ((refuses never).outcome o has (payload_outcome image pass)) in
-      let done = sym (ap (λ (out : Outcome). out.message) refused) ∙ (unsealed o image pass plain honest).1 in
+  no_honest = λ plain attached never honest.
+      let refused = rw attached at ((refuses never).outcome (payload_outcome image pass)) in
+      let sealed = unsealed options.slots image pass plain honest in
+      let done = sym (ap (λ (out : Outcome). out.message) refused) ∙ sealed.1 in
       subst OpeningMessage done only;
 }

@@ -1,10 +1,10 @@
 -- Which volume is opened, compared with `luksCat`.
-use Rattle.std.specs.Prelude.{ℕ, ◌≡◌, List, Ok, false, option_map, ◌⊎◌, ◌<◌, ◌≤◌, length, Option, Result, Err}
+use Rattle.std.specs.Prelude.{ℕ, ◌≡◌, List, Ok, false, ◌⊎◌, ◌<◌, ◌≤◌, length, Option, Result, Err}
 use Rattle.luks_cipher.specs.Sector.{Cipher}
 use Rattle.luks_report.specs.Faults.{message_at_end}
 use Rattle.luks_report.specs.declared.message.Message.{Message}
 use Rattle.luks_report.specs.declared.message.Message.TheVariants.{KeyFileLength}
-use Rattle.luks_request.specs.Request.{VolumeRequest}
+use Rattle.luks_request.specs.declared.command.SlotChoice.{SlotChoice}
 use Rattle.luks_runs.specs.KeyFile.{max_key_file_len}
 use Rattle.luks_runs.specs.Run.{Outcome, aborts, no_output}
 use Rattle.luks_runs.specs.Location.{detached_header_of, reader_for}
@@ -28,25 +28,20 @@ cipher_of v = (v.segment.mode, v.key)
 abbrev pub plaintext_of : UnlockedVolume → List ℕ → List ℕ
 plaintext_of v image = plain_of v.segment (cipher_of v) image
 
--- the request has these options; the names of its files do not matter
-abbrev pub HasOptions : VolumeRequest → Options → Type 0
-HasOptions o options = (o.key_slot ≡ option_map (λ slot. slot.number) options.key_slot)
-    × (o.max_iterations ≡ option_map (λ limit. limit.iterations) options.max_iterations)
-
 -- every command with these options that opens a volume opens this one by this passphrase, from this image or detached
 -- header
 pub record Opens (options : Options) (header pass : List ℕ) (v : UnlockedVolume) : Type 0 where
   pub loaded : ℕ
-  pub outcome : (o : VolumeRequest) → HasOptions o options → (on_opened : OnOpened)
-      → volume_outcome_by (reader_for options.location) on_opened o header pass
+  pub outcome : (on_opened : OnOpened)
+      → volume_outcome_by (reader_for options.location) on_opened options.slots header pass
       ≡ on_opened v.segment (opened_of v) loaded
 
 -- every such command ends with this message and no output
 pub record Refuses (options : Options) (header pass : List ℕ) (message : Message) : Type 0 where
   pub header_consumed : ℕ
   pub secret_consumed : ℕ
-  pub outcome : (o : VolumeRequest) → HasOptions o options → (on_opened : OnOpened)
-      → volume_outcome_by (reader_for options.location) on_opened o header pass
+  pub outcome : (on_opened : OnOpened)
+      → volume_outcome_by (reader_for options.location) on_opened options.slots header pass
       ≡ no_output message header_consumed secret_consumed
 
 -- the key slots of a volume were tried with a passphrase that is not too long, or the passphrase is too long
@@ -63,10 +58,10 @@ payload_image_of Attached header image = header
 payload_image_of Detached header image = image
 
 -- the outcome of `luksCat`, with an attached header, or with a detached one and this image
-abbrev pub cat_outcome_of : HeaderLocation → VolumeRequest → List ℕ → List ℕ → List ℕ → Outcome
-cat_outcome_of Attached o header image pass = volume_outcome (payload_outcome header pass) o header pass
-cat_outcome_of Detached o header image pass =
-    volume_outcome_by detached_header_of (detached_payload_outcome image pass) o header pass
+abbrev pub cat_outcome_of : HeaderLocation → SlotChoice → List ℕ → List ℕ → List ℕ → Outcome
+cat_outcome_of Attached slots header image pass = volume_outcome (payload_outcome header pass) slots header pass
+cat_outcome_of Detached slots header image pass =
+    volume_outcome_by detached_header_of (detached_payload_outcome image pass) slots header pass
 
 -- the volume's plaintext in this image is written, and the run ends as the payload does
 abbrev pub HasPlaintext : Outcome → UnlockedVolume → List ℕ → Type 0
@@ -77,15 +72,15 @@ HasPlaintext outcome v image =
 -- sealed honestly, with an attached header, that is the plaintext that was sealed, and it is whole (`honest`)
 pub record OpensVolume (options : Options) (header pass : List ℕ) (v : UnlockedVolume) : Type 0 where
   pub opens : Opens options header pass v
-  pub cats : (o : VolumeRequest) (image : List ℕ) → HasOptions o options → HasPlaintext
-      (cat_outcome_of options.location o header image pass) v (payload_image_of options.location header image)
-  pub honest : (o : VolumeRequest) (plain : List ℕ) → options.location ≡ Attached → HasOptions o options
-      → OpensHonest o header pass plain → (plaintext_of v header ≡ plain) × (ending_of v.segment header ≡ Ok End)
+  pub cats : (image : List ℕ) → HasPlaintext (cat_outcome_of options.location options.slots header image pass) v
+      (payload_image_of options.location header image)
+  pub honest : (plain : List ℕ) → options.location ≡ Attached → OpensHonest options.slots header pass plain
+      → (plaintext_of v header ≡ plain) × (ending_of v.segment header ≡ Ok End)
 
 -- no volume was opened. Unless memory ran out, or a read or a write failed, every command ends with this message
 -- (`refuses`), and the image is no honestly sealed volume, with an attached header, that this passphrase opens
 -- (`no_honest`)
 pub record RefusesVolume (options : Options) (header pass : List ℕ) (message : Message) : Type 0 where
   pub refuses : aborts message ≡ false → Refuses options header pass message
-  pub no_honest : (o : VolumeRequest) (plain : List ℕ) → options.location ≡ Attached → HasOptions o options
-      → aborts message ≡ false → OpensHonest o header pass plain → ⊥
+  pub no_honest : (plain : List ℕ) → options.location ≡ Attached → aborts message ≡ false
+      → OpensHonest options.slots header pass plain → ⊥

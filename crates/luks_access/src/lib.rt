@@ -5,7 +5,7 @@
 #![tactic(auto)]
 
 pub use luks_report::message::Message;
-pub use luks_request::number::{IterationLimit, SlotNumber};
+pub use luks_request::command::SlotChoice;
 pub use luks_runs::location::HeaderLocation;
 
 pub mod fault;

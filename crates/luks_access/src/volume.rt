@@ -4,7 +4,6 @@ ghost use Rattle.std.specs.Prelude.{◌≡◌, ◌≢◌, ◌+◌, ◌-◌, ◌%
 ghost use Rattle.std.specs.Prelude.{[], IfErr, IfOk, OnOk, length, nat_le, replicate, true};
 ghost use Rattle.luks_io.specs.Counts.{Reads};
 ghost use Rattle.luks_io.specs.Devices.{IfKnown};
-ghost use Rattle.luks_request.specs.Request.{volume_request};
 ghost use Rattle.luks_runs.specs.Run.{is_run_read_failure, result_message};
 ghost use Rattle.luks_unlock.specs.Found.{MatchesHeader};
 ghost use Rattle.luks_unlock.specs.OpeningMessages.{OpeningMessage};
@@ -15,7 +14,7 @@ ghost use Rattle.luks_access.specs.Opens.{OpensVolume, RefusesVolume, UnlocksVol
 
 use crate::fault::RangeFault;
 use crate::image::ReadAt;
-use crate::options::{Options, opening};
+use crate::options::Options;
 use crate::range::Plaintext;
 use crate::sectors::{payload_ending, plaintext_len};
 use crate::source::ImageSource;
@@ -26,7 +25,7 @@ use luks_kdf::Work;
 use luks_payload::fault::VolumeFault;
 use luks_payload::state::Step;
 use luks_report::message::Message;
-use luks_request::command::VolumeArgs;
+use luks_request::command::SlotChoice;
 use luks_unlock::found::{FoundVolume, find_volume};
 use luks_unlock::trying::try_slots;
 use luks_unlock::unlocked::UnlockedVolume;
@@ -58,16 +57,16 @@ impl Model for Volume {
 /// Tries the key slots of a volume that was found, unless the passphrase is too long. The volume is
 /// moved in, so that it is not tried again.
 fn unlock<S: Source>(
-    opening: &VolumeArgs<'_>,
+    slots: SlotChoice,
     found: FoundVolume,
     source: &mut S,
     pass: &[u8],
     work: &mut Work,
 ) -> Result<UnlockedVolume, Message>
-    requires { MatchesHeader (volume_request opening.now) found }
+    requires { MatchesHeader slots found }
     ensures run { IfKnown (S.to_come source.old) (λ rest. (found.area.ended ≡ true → rest ≡ [])
-        → (loaded : List ℕ) × UnlocksVolume (volume_request opening.now).key_slot found
-        pass.now loaded rest (S.to_come source.new) result) }
+        → (loaded : List ℕ) × UnlocksVolume slots.named found pass.now loaded rest
+        (S.to_come source.new) result) }
     ensures work { (loaded : List ℕ)
         × CountsTrials found.order loaded pass.now work.old work.new }
     ensures only { IfErr result OpeningMessage }
@@ -79,7 +78,7 @@ fn unlock<S: Source>(
         return Err(Message::KeyFileLength);
     }
     let mut found = found;
-    try_slots(opening, &mut found, source, pass, work)
+    try_slots(slots, &mut found, source, pass, work)
 }
 
 impl Volume {
@@ -102,9 +101,8 @@ impl Volume {
         ensures reads { (ended : Bool) × Reads (is_run_read_failure (result_message result)) ended
             (S.counts source.old) (S.counts source.new) }
     {
-        let opening = opening(options);
-        let found = find_volume(alloc, options.location, &opening, source)?;
-        let unlocked = unlock(&opening, found, source, pass, &mut Work::new(0))?;
+        let found = find_volume(alloc, options.location, options.slots, source)?;
+        let unlocked = unlock(options.slots, found, source, pass, &mut Work::new(0))?;
         let cipher = unlocked.cipher();
         Ok(Volume { unlocked, cipher })
     }

@@ -1,6 +1,6 @@
 -- The key schedule as the code keeps it.
-use Rattle.std.proofs.Common.{◌≡◌, ℕ, zero, suc, ◌+◌, ◌-◌, ◌*◌, ◌/◌, ◌≤◌, ◌<◌, ◌⊎◌, List, [], ◌∷◌, length, take, inl}
-use Rattle.std.proofs.Common.{inr, true, arith, refl, sym, ap, ◌∙◌}
+use Rattle.std.proofs.Common.{◌≡◌, ℕ, zero, suc, ◌+◌, ◌-◌, ◌*◌, ◌/◌, ◌≤◌, ◌<◌, List, [], ◌∷◌, length, take}
+use Rattle.std.proofs.Common.{true, arith, refl, sym, ap, ◌∙◌}
 use Rattle.std.specs.Prelude.{IsTrue, slice_index}
 use Rattle.std.proofs.lemmas.Bool.Decides.{nat_tests}
 use Rattle.std.proofs.lemmas.List.{get_or-take, length-take-le, length-append, take_all, take-take, take-append-le}
@@ -10,13 +10,6 @@ use Rattle.luks_aes.specs.Bytes.{IsBytes}
 use Rattle.luks_aes.specs.Schedule.{IsSchedule}
 use Rattle.luks_aes.specs.Columns.{IsMultiplied}
 use Rattle.luks_aes.proofs.ByteLists.{bytes_take}
-
-pub known_key_length : (n : ℕ) → (n ≡ 16) ⊎ ((n ≡ 24) ⊎ (n ≡ 32)) → IsTrue (is_aes_key_length n)
-known_key_length n one =
-    elim one [
-      | inl e ↦ rw e refl
-      | inr other ↦ elim other [ inl e ↦ rw e refl | inr e ↦ rw e refl ]
-    ]
 
 pub record IsKeyLength (n : ℕ) : Type 0 where
   pub whole : 4 * (n / 4) ≡ n

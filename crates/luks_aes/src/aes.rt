@@ -1,7 +1,7 @@
 //! A key of AES and its schedule.
 
 ghost use Rattle.std.specs.Prelude.{◌≡◌, ◌+◌, ◌*◌, ◌<◌, ◌≤◌, List, ℕ, take, length, Some, None};
-ghost use Rattle.std.specs.Prelude.{if◌then◌else◌};
+ghost use Rattle.std.specs.Prelude.{if◌then◌else◌, true};
 ghost use Rattle.luks_aes.specs.Aes.{encrypted, decrypted, is_aes_key_length, rounds_of};
 ghost use Rattle.luks_aes.specs.Aes.{key_expansion, cell};
 ghost use Rattle.luks_aes.specs.Bytes.{IsBytes};
@@ -37,17 +37,31 @@ impl AesKey {
     pub fn new(key: &[u8]) -> Option<AesKey>
         ensures { result ≡ (if is_aes_key_length (length key.now) then Some key.now else None) }
     {
-        match key.len() {
-            16 | 24 | 32 => {
-                let schedule = key_expansion(key);
-                let inv_mixed = inv_mixed_words(&schedule);
-                Some(AesKey {
-                    words: key.len() / 4,
-                    schedule,
-                    inv_mixed,
-                })
-            }
-            _ => None,
+        if AesKey::has_length(key.len()) {
+            Some(AesKey::expanded(key))
+        } else {
+            None
+        }
+    }
+
+    /// Whether a key can have this number of bytes: 16, 24 or 32.
+    pub fn has_length(len: usize) -> bool
+        ensures { result ≡ is_aes_key_length len }
+    {
+        len == 16 || len == 24 || len == 32
+    }
+
+    /// The key with these bytes, whose number is known to be 16, 24 or 32.
+    pub fn expanded(key: &[u8]) -> AesKey
+        requires { is_aes_key_length (length key.now) ≡ true }
+        ensures { result ≡ key.now }
+    {
+        let schedule = key_expansion(key);
+        let inv_mixed = inv_mixed_words(&schedule);
+        AesKey {
+            words: key.len() / 4,
+            schedule,
+            inv_mixed,
         }
     }
 

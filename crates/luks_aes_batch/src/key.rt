@@ -1,6 +1,7 @@
 //! An AES key with bitsliced round keys, for batches of 32 blocks.
 
 ghost use Rattle.std.specs.Prelude.{◌≡◌, ◌+◌, ◌<◌, ◌≤◌, List, ℕ, length, Some, None, if◌then◌else◌};
+ghost use Rattle.std.specs.Prelude.{true};
 ghost use Rattle.luks_aes.specs.Field.{◌⊕◌};
 ghost use Rattle.luks_aes.specs.Aes.{cell, state_of, decrypted, is_aes_key_length, rounds_of};
 ghost use Rattle.luks_aes.specs.Aes.{key_expansion};
@@ -140,9 +141,21 @@ impl BatchKey {
     pub fn new(key: &[u8]) -> Option<BatchKey>
         ensures { result ≡ (if is_aes_key_length (length key.now) then Some key.now else None) }
     {
-        let key = AesKey::new(key)?;
+        if AesKey::has_length(key.len()) {
+            Some(BatchKey::expanded(key))
+        } else {
+            None
+        }
+    }
+
+    /// The key with these bytes, whose number is known to be 16, 24 or 32.
+    pub fn expanded(key: &[u8]) -> BatchKey
+        requires { is_aes_key_length (length key.now) ≡ true }
+        ensures { result ≡ key.now }
+    {
+        let key = AesKey::expanded(key);
         let round_keys = round_keys(&key);
-        Some(BatchKey { key, round_keys })
+        BatchKey { key, round_keys }
     }
 
     /// The key for single blocks.

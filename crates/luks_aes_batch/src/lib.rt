@@ -2,8 +2,8 @@
 //!
 //! [`BatchKey`] decrypts 512 bytes at once. The state is bitsliced: vectors of 128 bits have the
 //! bits of all 32 blocks, and the inverse S-box is a circuit of gates on them, so decryption reads
-//! no table. [`BatchKey::new`] does: it expands the key by the tables of `luks_aes`, at addresses
-//! that depend on the key. Nothing here allocates memory, and no key is wiped.
+//! no table. Making a key does: it is expanded by the tables of `luks_aes`, at addresses that
+//! depend on the key. Nothing here allocates memory, and no key is wiped.
 #![tactic(auto)]
 
 mod key;

@@ -58,15 +58,14 @@ header_args_in rows = do
 abbrev pub volume_args_in : List Row → Option VolumeRequest
 volume_args_in rows = do
   key_file ← text_in (codes "key-file") rows
-  key_slot ← key_slot_in rows
+  named ← key_slot_in rows
   max_iterations ← max_iterations_in rows
   image ← input_in rows
   Some (record {
     image = image;
     header = header_file_in rows;
     key_file = key_file;
-    key_slot = key_slot;
-    max_iterations = max_iterations;
+    slots = record { named = named; max_iterations = max_iterations };
   })
 
 abbrev pub split_args_in : List Row → Option SplitRequest

@@ -8,7 +8,7 @@ ghost use Rattle.luks_args.specs.Command.{stripes_in, text_in};
 
 use clap::ArgMatches;
 use luks_kdf::Hash;
-use luks_request::number::{IterationLimit, KeyBytes, SlotNumber, StripeCount};
+use luks_request::number::{KeyBytes, StripeCount, iteration_limit, slot_number};
 
 // The text of the option or input.
 pub(super) fn text<'a>(options: &ArgMatches<'a>, name: &str) -> Option<&'a str>
@@ -45,24 +45,22 @@ pub(super) fn key_bytes(options: &ArgMatches<'_>) -> Option<KeyBytes>
 
 // The number of `--key-slot`, if it is given.
 #[tactic(auto, unfolding(crate::specs::Command::key_slot_in))]
-pub(super) fn key_slot(options: &ArgMatches<'_>) -> Option<Option<SlotNumber>>
-    ensures { option_map (option_map (λ slot. slot.number)) result
-        ≡ key_slot_in (rows_of (found_of options.now)) }
+pub(super) fn key_slot(options: &ArgMatches<'_>) -> Option<Option<u8>>
+    ensures { result ≡ key_slot_in (rows_of (found_of options.now)) }
 {
     match text(options, "key-slot") {
-        Some(text) => Some(Some(SlotNumber::read(text)?)),
+        Some(text) => Some(Some(slot_number(text)?)),
         None => Some(None),
     }
 }
 
 // The number of `--max-iterations`, if it is given.
 #[tactic(auto, unfolding(crate::specs::Command::max_iterations_in))]
-pub(super) fn max_iterations(options: &ArgMatches<'_>) -> Option<Option<IterationLimit>>
-    ensures { option_map (option_map (λ limit. limit.iterations)) result
-        ≡ max_iterations_in (rows_of (found_of options.now)) }
+pub(super) fn max_iterations(options: &ArgMatches<'_>) -> Option<Option<u32>>
+    ensures { result ≡ max_iterations_in (rows_of (found_of options.now)) }
 {
     match text(options, "max-iterations") {
-        Some(text) => Some(Some(IterationLimit::read(text)?)),
+        Some(text) => Some(Some(iteration_limit(text)?)),
         None => Some(None),
     }
 }

@@ -13,7 +13,7 @@ use crate::grammar::grammar;
 use crate::options::{hash, key_bytes, key_slot, max_iterations, stripes, text};
 use clap::ArgMatches;
 use clap::error::ErrorKind;
-use luks_request::command::{Command, HeaderArgs, MergeArgs, SplitArgs, VolumeArgs};
+use luks_request::command::{Command, HeaderArgs, MergeArgs, SlotChoice, SplitArgs, VolumeArgs};
 use std::alloc::{AllocError, Global};
 use std::convert::AsStr;
 
@@ -126,7 +126,7 @@ fn volume_args<'a>(options: &ArgMatches<'a>) -> Option<VolumeArgs<'a>>
     ensures { option_map volume_request result ≡ volume_args_in (rows_of (found_of options.now)) }
 {
     let key_file = text(options, "key-file")?;
-    let key_slot = key_slot(options)?;
+    let named = key_slot(options)?;
     let max_iterations = max_iterations(options)?;
     let header = text(options, "header");
     let image = text(options, "input")?;
@@ -134,8 +134,10 @@ fn volume_args<'a>(options: &ArgMatches<'a>) -> Option<VolumeArgs<'a>>
         image,
         header,
         key_file,
-        key_slot,
-        max_iterations,
+        slots: SlotChoice {
+            named,
+            max_iterations,
+        },
     })
 }
 

@@ -1,6 +1,6 @@
 -- The codes and the structs of `c/luksrd.h`, field by field, and how a volume is read back.
 use Rattle.std.specs.Prelude.{ℕ, ◌≡◌, ◌-◌, ◌==◌, if◌then◌else◌, drop, length, replicate, take, Option, None, Some}
-use Rattle.std.specs.Prelude.{[], Bool, List, codes, false, min, nat_lt, option_map, unwrap_or}
+use Rattle.std.specs.Prelude.{[], Bool, List, codes, false, min, nat_lt, unwrap_or}
 use Rattle.luks_access.specs.declared.options.Options.{Options}
 use Rattle.luks_unlock.specs.declared.unlocked.UnlockedVolume.{UnlockedVolume}
 use Rattle.luks_cipher.specs.Sector.{Cipher}
@@ -17,7 +17,6 @@ use Rattle.luks_report.specs.declared.message.Message.{Message}
 use Rattle.luks_report.specs.declared.message.Message.TheVariants.{Done, NotLuks, Cut, Json, SegmentRefused, NoSuchSlot}
 use Rattle.luks_report.specs.declared.message.Message.TheVariants.{SlotDisabled, SlotSkipped, NothingTried, NoKey}
 use Rattle.luks_report.specs.declared.message.Message.TheVariants.{KeyFileLength, CutBeforePayload, Tail, Short}
-use Rattle.luks_request.specs.declared.number.SlotNumber.{SlotNumber}
 use Rattle.luks_runs.specs.declared.location.HeaderLocation.TheVariants.{Attached, Detached}
 use Rattle.luks_c.specs.declared.message.LuksrdMessage.{LuksrdMessage}
 use Rattle.luks_c.specs.declared.options.LuksrdOptions.{LuksrdOptions}
@@ -79,20 +78,23 @@ StoresMessage c message =
 abbrev pub StoresCode : LuksrdMessage → ℕ → Type 0
 StoresCode c code = StoresText c (sentence_for code).0 (sentence_for code).1
 
--- the key slot that is named
-abbrev pub IsNamed : LuksrdOptions → Option SlotNumber → Type 0
-IsNamed c slot = option_map (λ number. number.number) slot ≡ (if c.has_key_slot == 0 then None else Some c.key_slot)
+-- the number of the key slot that is named, if one is
+abbrev pub named_in : LuksrdOptions → Option ℕ
+named_in c = if c.has_key_slot == 0 then None else Some c.key_slot
 
 -- the options name a key slot by a number above 31
 abbrev pub names_no_slot : LuksrdOptions → Bool
 names_no_slot c = if c.has_key_slot == 0 then false else nat_lt 31 c.key_slot
 
--- the struct has these options; the limit 0 means no limit
+-- the limit on iterations; 0 means no limit
+abbrev pub limit_in : LuksrdOptions → Option ℕ
+limit_in c = if c.max_iterations == 0 then None else Some c.max_iterations
+
+-- the struct has these options
 pub record AreOptions (c : LuksrdOptions) (options : Options) : Type 0 where
   pub location : options.location ≡ (if c.detached == 0 then Attached else Detached)
-  pub key_slot : IsNamed c options.key_slot
-  pub max_iterations : option_map (λ limit. limit.iterations) options.max_iterations
-      ≡ (if c.max_iterations == 0 then None else Some c.max_iterations)
+  pub named : options.slots.named ≡ named_in c
+  pub max_iterations : options.slots.max_iterations ≡ limit_in c
 
 -- the numbers of `enum luksrd_mode`
 abbrev pub mode_number : Mode → ℕ

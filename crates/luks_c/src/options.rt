@@ -1,10 +1,10 @@
 //! How a volume is opened, as C passes it.
 
 ghost use Rattle.std.specs.Prelude.{◌≡◌, IfSome, MatchOption, false, true};
-ghost use Rattle.luks_c.specs.Stored.{AreOptions, IsNamed, names_no_slot};
+ghost use Rattle.luks_c.specs.Stored.{AreOptions, limit_in, named_in, names_no_slot};
 
 use luks_access::options::Options;
-use luks_access::{HeaderLocation, IterationLimit, SlotNumber};
+use luks_access::{HeaderLocation, SlotChoice};
 
 /// How a volume is opened.
 #[repr(C)]
@@ -20,14 +20,29 @@ pub struct LuksrdOptions {
 }
 
 // The key slot that is named, if any is, or `None` if its number is above 31.
-fn named_slot(options: &LuksrdOptions) -> Option<Option<SlotNumber>>
+fn named_slot(options: &LuksrdOptions) -> Option<Option<u8>>
     ensures { MatchOption result (names_no_slot options.now ≡ true) (λ slot.
-        (names_no_slot options.now ≡ false) × IsNamed options.now slot) }
+        (names_no_slot options.now ≡ false) × (slot ≡ named_in options.now)) }
 {
     if options.has_key_slot == 0 {
         return Some(None);
     }
-    Some(Some(SlotNumber::new(u64::from(options.key_slot))?))
+    if options.key_slot <= 31 {
+        Some(Some(options.key_slot as u8))
+    } else {
+        None
+    }
+}
+
+// The limit on iterations, if there is one.
+fn max_iterations(options: &LuksrdOptions) -> Option<u32>
+    ensures { result ≡ limit_in options.now }
+{
+    if options.max_iterations == 0 {
+        None
+    } else {
+        Some(options.max_iterations)
+    }
 }
 
 /// The options that C passes, or `None` if they name a key slot by a number above 31.
@@ -36,16 +51,18 @@ pub(crate) fn options_in(options: &LuksrdOptions) -> Option<Options>
         (λ _. names_no_slot options.now ≡ false) }
     ensures made { IfSome result (λ made. AreOptions options.now made) }
 {
-    let key_slot = named_slot(options)?;
+    let named = named_slot(options)?;
     let location = if options.detached == 0 {
         HeaderLocation::Attached
     } else {
         HeaderLocation::Detached
     };
-    let max_iterations = IterationLimit::new(u64::from(options.max_iterations));
+    let max_iterations = max_iterations(options);
     Some(Options {
         location,
-        key_slot,
-        max_iterations,
+        slots: SlotChoice {
+            named,
+            max_iterations,
+        },
     })
 }

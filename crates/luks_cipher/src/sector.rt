@@ -1,12 +1,9 @@
 //! A key for the sectors of a disk, in one of the modes.
 
-ghost use Rattle.std.specs.Prelude.{◌≡◌, ◌%◌, ◌≤◌, ◌==◌, ◌||◌, List, ℕ, length, Some, None};
+ghost use Rattle.std.specs.Prelude.{◌≡◌, ◌%◌, ◌≤◌, List, ℕ, length, Some, None, true};
 ghost use Rattle.std.specs.Prelude.{if◌then◌else◌};
 ghost use Rattle.luks_cipher.specs.declared.mode.Mode.{Mode};
-ghost use Rattle.luks_cipher.specs.declared.mode.Mode.TheVariants.{XtsPlain64, XtsPlain};
-ghost use Rattle.luks_cipher.specs.declared.mode.Mode.TheVariants.{CbcEssivSha256, CbcPlain64};
 ghost use Rattle.luks_cipher.specs.Sector.{is_mode_key_length, sector_encrypted, sector_decrypted};
-ghost use Rattle.luks_cipher.specs.Sector.{essiv_iv};
 ghost use Rattle.luks_cipher.specs.SectorKey.{keys_mode, key_bytes_of, IsSectorKey};
 ghost use Rattle.luks_aes.specs.Bytes.{IsBytes};
 ghost use Rattle.sha2.specs.Sha256.{sha256};
@@ -44,10 +41,10 @@ impl Model for SectorCipher {
 }
 
 // The key for the IVs of essiv:sha256: the digest of the data key.
-fn iv_key(key: &[u8]) -> Option<AesKey>
-    ensures { result ≡ Some (sha256 key.now) }
+fn iv_key(key: &[u8]) -> AesKey
+    ensures { result ≡ sha256 key.now }
 {
-    AesKey::new(&Sha256::digest(key))
+    AesKey::expanded(&Sha256::digest(key))
 }
 
 // The IV of plain64: the sector's number, little-endian.
@@ -57,66 +54,32 @@ fn number_block(number: u64) -> [u8; 16]
     u128::from(number).to_le_bytes()
 }
 
-// An AES key for CBC, of 16 or 32 bytes; `None` for any other length.
-fn cbc_key(key: &[u8]) -> Option<BatchKey>
-    ensures { result
-        ≡ (if (length key.now == 16) || (length key.now == 32) then Some key.now else None) }
-{
-    match key.len() {
-        16 | 32 => BatchKey::new(key),
-        _ => None,
-    }
-}
-
 impl SectorCipher {
-    fn xts_plain64(key: &[u8]) -> Option<SectorCipher>
-        ensures { result
-            ≡ (if is_mode_key_length XtsPlain64 (length key.now) then Some
-            (XtsPlain64, key.now) else None) }
-    {
-        let keys = Keys::XtsPlain64(XtsKey::new(key)?);
-        Some(SectorCipher { keys })
-    }
-
-    fn xts_plain(key: &[u8]) -> Option<SectorCipher>
-        ensures { result
-            ≡ (if is_mode_key_length XtsPlain (length key.now) then Some
-            (XtsPlain, key.now) else None) }
-    {
-        let keys = Keys::XtsPlain(XtsKey::new(key)?);
-        Some(SectorCipher { keys })
-    }
-
-    fn cbc_essiv(key: &[u8]) -> Option<SectorCipher>
-        ensures { result
-            ≡ (if is_mode_key_length CbcEssivSha256 (length key.now) then Some
-            (CbcEssivSha256, key.now) else None) }
-    {
-        let keys = Keys::CbcEssivSha256(cbc_key(key)?, iv_key(key)?);
-        Some(SectorCipher { keys })
-    }
-
-    fn cbc_plain64(key: &[u8]) -> Option<SectorCipher>
-        ensures { result
-            ≡ (if is_mode_key_length CbcPlain64 (length key.now) then Some
-            (CbcPlain64, key.now) else None) }
-    {
-        let keys = Keys::CbcPlain64(cbc_key(key)?);
-        Some(SectorCipher { keys })
-    }
-
     /// The cipher of this mode and key: 32 or 64 bytes for XTS, 16 or 32 for CBC; `None` for any
     /// other length.
     pub fn new(mode: Mode, key: &[u8]) -> Option<SectorCipher>
         ensures { result
             ≡ (if is_mode_key_length mode (length key.now) then Some (mode, key.now) else None) }
     {
-        match mode {
-            Mode::XtsPlain64 => SectorCipher::xts_plain64(key),
-            Mode::XtsPlain => SectorCipher::xts_plain(key),
-            Mode::CbcEssivSha256 => SectorCipher::cbc_essiv(key),
-            Mode::CbcPlain64 => SectorCipher::cbc_plain64(key),
+        if mode.has_key_length(key.len()) {
+            Some(SectorCipher::expanded(mode, key))
+        } else {
+            None
         }
+    }
+
+    /// The cipher of this mode and key, whose length is known to be one of the mode.
+    pub fn expanded(mode: Mode, key: &[u8]) -> SectorCipher
+        requires { is_mode_key_length mode (length key.now) ≡ true }
+        ensures { result ≡ (mode, key.now) }
+    {
+        let keys = match mode {
+            Mode::XtsPlain64 => Keys::XtsPlain64(XtsKey::expanded(key)),
+            Mode::XtsPlain => Keys::XtsPlain(XtsKey::expanded(key)),
+            Mode::CbcEssivSha256 => Keys::CbcEssivSha256(BatchKey::expanded(key), iv_key(key)),
+            Mode::CbcPlain64 => Keys::CbcPlain64(BatchKey::expanded(key)),
+        };
+        SectorCipher { keys }
     }
 
     /// Encrypts the sector of this number in place, in the cipher's mode: a data unit of XTS (IEEE

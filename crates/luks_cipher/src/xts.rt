@@ -1,7 +1,7 @@
 //! XTS-AES (IEEE 1619) over data units of whole blocks.
 
 ghost use Rattle.std.specs.Prelude.{◌≡◌, ◌+◌, ◌*◌, ◌%◌, ◌<◌, ◌≤◌, List, ℕ, ◌++◌, length};
-ghost use Rattle.std.specs.Prelude.{Some, None, if◌then◌else◌};
+ghost use Rattle.std.specs.Prelude.{Some, None, if◌then◌else◌, true};
 ghost use Rattle.luks_cipher.specs.Xts.{doubled, tweak_of, block_xor, block_at, joined};
 ghost use Rattle.luks_cipher.specs.Xts.{block_encrypted, block_decrypted, xts_encrypted};
 ghost use Rattle.luks_cipher.specs.Xts.{xts_decrypted, is_xts_key_length, tweak_after, IsKeyPair};
@@ -52,6 +52,13 @@ fn xor_tweaks(tweaks: &[u8], batch: &mut [u8])
     }
 }
 
+// Whether a key can have this number of bytes.
+fn has_length(len: usize) -> bool
+    ensures { result ≡ is_xts_key_length len }
+{
+    len == 32 || len == 64
+}
+
 /// A key of XTS-AES-128 or XTS-AES-256 (IEEE 1619). Contracts see it as its bytes: the first half
 /// is the key for the data, and the second half is the key for the tweaks.
 #[derive(Drop)]
@@ -73,15 +80,22 @@ impl XtsKey {
     pub fn new(key: &[u8]) -> Option<XtsKey>
         ensures { result ≡ (if is_xts_key_length (length key.now) then Some key.now else None) }
     {
-        match key.len() {
-            32 | 64 => {
-                let (data_key, tweak_key) = key.split_at(key.len() / 2);
-                Some(XtsKey {
-                    data_key: BatchKey::new(data_key)?,
-                    tweak_key: AesKey::new(tweak_key)?,
-                })
-            }
-            _ => None,
+        if has_length(key.len()) {
+            Some(XtsKey::expanded(key))
+        } else {
+            None
+        }
+    }
+
+    /// The key with these bytes, whose number is known to be 32 or 64.
+    pub fn expanded(key: &[u8]) -> XtsKey
+        requires { is_xts_key_length (length key.now) ≡ true }
+        ensures { result ≡ key.now }
+    {
+        let (data_key, tweak_key) = key.split_at(key.len() / 2);
+        XtsKey {
+            data_key: BatchKey::expanded(data_key),
+            tweak_key: AesKey::expanded(tweak_key),
         }
     }
 

@@ -1,3 +1,2 @@
-pub mod CallLemmas
 pub mod OpenedRuns
 pub mod VolumeRuns

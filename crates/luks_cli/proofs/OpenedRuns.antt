@@ -1,8 +1,8 @@
--- How the commands on volumes end after their volume was opened.
-use Rattle.std.proofs.Common.{◌≡◌, ℕ, ◌+◌, ◌*◌, ◌/◌, ◌<◌, ◌≤◌, List, Option, Some, ◌⊎◌, inl, inr, Bool, true, false, ap}
-use Rattle.std.proofs.Common.{refl, subst, sym, length, max, [], drop, length-drop, arith}
+-- How the commands on volumes end after their volume was opened, and the counts of a run from those of its parts.
+use Rattle.std.proofs.Common.{◌≡◌, ℕ, ◌+◌, ◌*◌, ◌/◌, ◌<◌, ◌≤◌, List, Option, Some, ◌⊎◌, inl, inr, Bool, true, false}
+use Rattle.std.proofs.Common.{ap, refl, subst, sym, length, max, [], drop, length-drop, arith, ◌&&◌, Result, Ok, Err}
 use Rattle.std.proofs.Math.Nat.{div-eq_of_lt-le, mul-le-mul_right}
-use Rattle.std.specs.Prelude.{MatchBool}
+use Rattle.std.specs.Prelude.{MatchBool, IfOk}
 use Rattle.luks_header.specs.Header.{header_of}
 use Rattle.luks_verdict.specs.declared.segment.Segment.{Segment}
 use Rattle.luks_io.specs.Devices.{Appended, ConsumedExactly, counted}
@@ -11,23 +11,31 @@ use Rattle.luks_payload.specs.Plain.{payload_end_of, sector_len, sector_start, s
 use Rattle.luks_runs.proofs.PayloadLemmas.{plain_len}
 use Rattle.luks_runs.proofs.RunLemmas.{aborted_at, runs_printed}
 use Rattle.luks_cli.proofs.VolumeRuns.{same_segment_by}
-use Rattle.luks_runs.specs.Run.{Outcome, Prints, Aborted, AnyPromptness, Completed, ConsumedNothing, DetachedRunMatches}
-use Rattle.luks_runs.specs.Run.{Promptness, RunMatches, aborts, is_run_read_failure}
+use Rattle.luks_runs.specs.Run.{Outcome, Prints, Aborted, AnyPromptness, Completed, ConsumedNothing}
+use Rattle.luks_runs.specs.Run.{DetachedRunMatches, Promptness, RunMatches, aborts, is_run_read_failure}
+use Rattle.luks_runs.specs.Run.{is_run_write_failure, result_message}
 use Rattle.luks_unlock.specs.Volume.{payload_outcome, slot_outcome, volume_outcome, volume_outcome_by}
 use Rattle.luks_unlock.specs.Volume.{detached_payload_outcome}
 use Rattle.luks_runs.specs.Location.{reader_for, detached_header_of}
 use Rattle.luks_runs.specs.declared.location.HeaderLocation.{HeaderLocation}
 use Rattle.luks_runs.specs.declared.location.HeaderLocation.TheVariants.{Attached, Detached}
-use Rattle.luks_runs.specs.Payload.{ForwardsPayload}
+use Rattle.luks_runs.specs.Payload.{ForwardsPayload, with_payload_ahead}
 use Rattle.luks_cli.specs.Unlocking.{PromptCat, ConsumesLoaded, Unlocks}
-use Rattle.luks_runs.specs.RunMessages.{PayloadMessage}
-use Rattle.luks_request.specs.Request.{VolumeRequest}
+use Rattle.luks_runs.specs.RunMessages.{PayloadMessage, IsLuksMessage}
+use Rattle.luks_request.specs.declared.command.SlotChoice.{SlotChoice}
 use Rattle.luks_unlock.specs.OpeningMessages.{OpeningMessage}
 use Rattle.luks_report.specs.Texts.{opened_line}
 use Rattle.luks_report.specs.declared.message.Message.{Message}
 use Rattle.luks_report.specs.declared.message.Message.TheVariants.{Done, OutOfMemory, ReadFailed, WriteFailed}
 use Rattle.luks_report.specs.declared.message.Message.TheVariants.{CutBeforePayload, Tail, Short}
-use Rattle.luks_cli.specs.CommandRun.{EndsWithoutKey}
+use Rattle.luks_cli.specs.CommandRun.{EndsWithoutKey, CatAllows, CountsCalls, CountsReads, ReadsOnce, ReadsPayload}
+use Rattle.luks_cli.specs.CommandRun.{CountsCallsDetached}
+use Rattle.luks_io.proofs.EffectLemmas.{no_reads, no_writes, reads_more}
+use Rattle.luks_io.specs.Counts.{Reads, Writes}
+use Rattle.luks_io.specs.declared.counts.ReadCounts.{ReadCounts}
+use Rattle.luks_io.specs.declared.counts.WriteCounts.{WriteCounts}
+use Rattle.luks_unlock.proofs.VolumeLemmas.{reads_on}
+use Rattle.luks_unlock.specs.Trying.{HitsMaterialEof}
 
 pub slot_consumes_loaded : (secret : List ℕ) → ConsumesLoaded secret (slot_outcome secret)
 slot_consumes_loaded secret =
@@ -61,11 +69,11 @@ runs_at is_prompt is_prompt' out message ConsumedInput ConsumedPayload ConsumedS
       output = run.output;
     }
 
-module _ (location : HeaderLocation) (o : VolumeRequest) (image pass : List ℕ) (segment : Segment) (opened : Opened)
-    (loaded : List ℕ) (i s : Option (List ℕ)) (u : Unlocks location o image pass segment opened loaded i s) where
+module _ (location : HeaderLocation) (slots : SlotChoice) (image pass : List ℕ) (segment : Segment) (opened : Opened)
+    (loaded : List ℕ) (i s : Option (List ℕ)) (u : Unlocks location slots image pass segment opened loaded i s) where
   -- the line about the key slot was written, whole or in part, or memory for it ran out
   pub runs_slot : (w w' : Option (List ℕ)) (message : Message) → Prints (opened_line opened.slot) Done w w' message
-      → RunMatches AnyPromptness (volume_outcome_by (reader_for location) (slot_outcome pass) o image pass) message
+      → RunMatches AnyPromptness (volume_outcome_by (reader_for location) (slot_outcome pass) slots image pass) message
       (ConsumedExactly image i) (ConsumedExactly pass s) (Appended w w')
   runs_slot w w' message printed = rw (u.outcome (slot_outcome pass))
       (runs_printed (slot_outcome pass segment opened (length loaded)) (ConsumedExactly image i)
@@ -93,14 +101,14 @@ positioned_within segment image count written few less =
     ≤ sectors_of segment image * sector_len segment = mul-le-mul_right (sector_len segment) (omega arith) in
     (omega arith, div-eq_of_lt-le (sector_len segment) (omega arith) (omega arith))
 
-module _ (o : VolumeRequest) (image pass : List ℕ) (segment : Segment) (opened : Opened) (loaded : List ℕ)
-    (i s : Option (List ℕ)) (u : Unlocks Attached o image pass segment opened loaded i s) where
+module _ (slots : SlotChoice) (image pass : List ℕ) (segment : Segment) (opened : Opened) (loaded : List ℕ)
+    (i s : Option (List ℕ)) (u : Unlocks Attached slots image pass segment opened loaded i s) where
   -- the payload was forwarded, to its end or not; of the image was consumed what its source says
   pub runs_forwarded : (left i' w w' : Option (List ℕ)) (message : Message) → PayloadMessage message
       → ForwardsPayload segment (segment.mode, opened.key) image (length loaded) left w w' message
       → ((n : ℕ) → (is_run_read_failure message ≡ false → length loaded ≤ n) → ConsumedExactly image left n
       → ConsumedExactly image i' n)
-      → RunMatches (PromptCat Attached image) (volume_outcome (payload_outcome image pass) o image pass) message
+      → RunMatches (PromptCat Attached image) (volume_outcome (payload_outcome image pass) slots image pass) message
       (ConsumedExactly image i') (ConsumedExactly pass s) (Appended w w')
   runs_forwarded left i' w w' OutOfMemory only forwarded as_source = absurd only
   runs_forwarded left i' w w' ReadFailed only (place, count, position, whole, inside, consumption, output) as_source =
@@ -150,14 +158,14 @@ pub detached_payload_consumes_loaded : (image pass : List ℕ) → ConsumesLoade
 detached_payload_consumes_loaded image pass =
     record { loaded = λ segment opened loaded. omega arith; whole = λ segment opened loaded. refl }
 
-module _ (o : VolumeRequest) (file image pass : List ℕ) (segment : Segment) (opened : Opened) (loaded : List ℕ)
-    (h s : Option (List ℕ)) (u : Unlocks Detached o file pass segment opened loaded h s)
+module _ (slots : SlotChoice) (file image pass : List ℕ) (segment : Segment) (opened : Opened) (loaded : List ℕ)
+    (h s : Option (List ℕ)) (u : Unlocks Detached slots file pass segment opened loaded h s)
     (i' w w' : Option (List ℕ)) where
   -- the payload was forwarded, to its end or not
   pub detached_runs_forwarded : (message : Message) → PayloadMessage message
       → ForwardsPayload segment (segment.mode, opened.key) image 0 i' w w' message
       → DetachedRunMatches (PromptCat Detached file)
-      (volume_outcome_by detached_header_of (detached_payload_outcome image pass) o file pass) message
+      (volume_outcome_by detached_header_of (detached_payload_outcome image pass) slots file pass) message
       (ConsumedExactly file h) (ConsumedExactly image i') (ConsumedExactly pass s) (Appended w w')
   detached_runs_forwarded OutOfMemory only forwarded = absurd only
   detached_runs_forwarded ReadFailed only (place, count, position, whole, inside, consumption, output) =
@@ -194,3 +202,88 @@ with_key (Short n) forwarded without = absurd without.0
 with_key WriteFailed forwarded without = absurd without.0
 with_key ReadFailed forwarded without = let wrong : true ≡ false = without.1 in cc
 with_key _ forwarded without = absurd forwarded
+
+-- the first input alone was read
+pub reads_of_image : {failed ended : Bool} {image image' secret : ReadCounts} → Reads failed ended image image'
+    → CountsReads ReadsOnce failed image image' secret secret
+reads_of_image reads = record { in_input = true; input_reads = (_, reads); secret_reads = (false, no_reads _) }
+
+pub calls_of_image : (message : Message) {ended : Bool} {image image' secret : ReadCounts} {out out' : WriteCounts}
+    → Reads (is_run_read_failure message) ended image image' → Writes (is_run_write_failure message) out out'
+    → CountsCalls ReadsOnce message image image' secret secret out out'
+calls_of_image message reads writes = record { reads = reads_of_image reads; out_writes = writes }
+
+-- no write fails in `isLuks`, which makes none
+pub calls_of_is_luks : (message : Message) {ended : Bool} {image image' secret : ReadCounts} {out : WriteCounts}
+    → IsLuksMessage message → Reads (is_run_read_failure message) ended image image'
+    → CountsCalls ReadsOnce message image image' secret secret out out
+calls_of_is_luks WriteFailed only reads = absurd only
+calls_of_is_luks message only reads = calls_of_image message reads (no_writes _)
+
+-- the start of the image was read before; if that hit the image's end, the image was not read again
+pub reads_before : {failed ended : Bool} {image image' image'' secret secret' : ReadCounts}
+    → Reads false ended image image' → (ended ≡ true → image'' ≡ image')
+    → CountsReads ReadsOnce failed image' image'' secret secret'
+    → CountsReads ReadsOnce failed image image'' secret secret'
+reads_before first kept then = record {
+  in_input = then.in_input;
+  input_reads = reads_on _ _ then.input_reads.0 _ _ _ first kept then.input_reads.1;
+  secret_reads = then.secret_reads;
+}
+
+-- the key areas were read, or a read of them failed; if a key slot opened, the image did not end within them
+pub within_areas : {T : Type 0} (result : Result T Message) (Same : Type 0) (ended : Bool) (image image' : ReadCounts)
+    → IfOk result (λ _. Same) → Reads (is_run_read_failure (result_message result)) ended image image'
+    → HitsMaterialEof (result_message result) ended → IfOk result (λ _. Same × Reads false false image image')
+within_areas (Ok value) Same ended image image' same reads none = (same, rw none at reads)
+within_areas (Err message) Same ended image image' same reads none = tt
+
+-- the volume was not opened, and nothing was written
+pub calls_unopened : (ReadsIt : Bool → ReadCounts → ReadCounts → Type 0) (message : Message)
+    {image image' secret secret' : ReadCounts} {out : WriteCounts} → OpeningMessage message
+    → CountsReads ReadsIt (is_run_read_failure message) image image' secret secret'
+    → CountsCalls ReadsIt message image image' secret secret' out out
+calls_unopened ReadsIt WriteFailed only reads = absurd only
+calls_unopened ReadsIt message only reads = record { reads = reads; out_writes = no_writes _ }
+
+-- no read of either input failed
+pub none_failed : (in_it : Bool) (before after : ReadCounts) → ReadsOnce (in_it && false) before after
+    → ReadsOnce false before after
+none_failed true before after reads = reads
+none_failed false before after reads = reads
+
+-- the payload was not read: no more read-ahead is allowed than before
+pub reads_without_payload : (location : HeaderLocation) (slots : SlotChoice) (known known_secret : Option (List ℕ))
+    (failed : Bool) (image image' secret secret' : ReadCounts)
+    → CountsReads ReadsOnce failed image image' secret secret'
+    → CountsReads (ReadsPayload (CatAllows location slots known known_secret)) failed image image' secret secret'
+reads_without_payload location slots known known_secret failed image image' secret secret' reads = record {
+  in_input = reads.in_input;
+  input_reads = (image.ahead, (λ file is pass has. inl refl), (reads.input_reads.0, reads.input_reads.1));
+  secret_reads = reads.secret_reads;
+}
+
+-- the start of the image was read before read-ahead of its payload was allowed, and then the payload
+pub payload_after : (failed ended : Bool) (segment : Segment) (loaded : ℕ) (a b c : ReadCounts) → Reads false false a b
+    → Reads failed ended (with_payload_ahead segment loaded b) c
+    → Reads failed ended (with_payload_ahead segment loaded a) c
+payload_after failed ended segment loaded a b c first reads =
+    reads_more failed ended (with_payload_ahead segment loaded a) (with_payload_ahead segment loaded b) c (record {
+      failures = first.failures;
+      ends = first.ends;
+      needed = λ live. first.needed (record { failed = live.failed; ended = live.ended });
+      ahead = omega (arith, first.ahead);
+    }) reads
+
+-- nothing of the payload's image was read
+pub detached_calls_without_payload : (ReadsIt : Bool → ReadCounts → ReadCounts → Type 0) {message : Message}
+    {header header' image secret secret' : ReadCounts} {out out' : WriteCounts} → ReadsIt false image image
+    → CountsCalls ReadsOnce message header header' secret secret' out out'
+    → CountsCallsDetached ReadsIt message (record { before = header; after = header' })
+    (record { before = image; after = image }) (record { before = secret; after = secret' })
+    (record { before = out; after = out' })
+detached_calls_without_payload ReadsIt none calls =
+    record { in_payload = false; reads = calls.reads; payload_reads = none; out_writes = calls.out_writes }
+
+pub none_read : (image : ReadCounts) → ReadsOnce false image image
+none_read image = (false, no_reads image)

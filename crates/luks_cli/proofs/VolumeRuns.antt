@@ -19,7 +19,7 @@ use Rattle.luks_unlock.proofs.VolumeLemmas.{found_whole, prefix_length, outcome_
 use Rattle.luks_report.specs.Faults.{message_for_header, message_for_opening}
 use Rattle.luks_unlock.specs.Volume.{OnOpened, found_outcome, opened_outcome, outcome_after, volume_outcome_by, Volume}
 use Rattle.luks_unlock.specs.Volume.{unlock_read_len, volume_by}
-use Rattle.luks_request.specs.Request.{VolumeRequest}
+use Rattle.luks_request.specs.declared.command.SlotChoice.{SlotChoice}
 use Rattle.luks_runs.specs.Run.{RunMatches}
 use Rattle.luks_runs.proofs.RunLemmas.{aborted_unwritten}
 use Rattle.luks_io.proofs.EffectLemmas.{adds-none, consumed-none}
@@ -116,27 +116,27 @@ module _ (on_opened : OnOpened) (named : Option ℕ) (v : Volume) (image secret 
 
 -- ---- runs on a volume
 
-module _ (location : HeaderLocation) (o : VolumeRequest) (image pass : List ℕ) (i s w : Option (List ℕ)) where
+module _ (location : HeaderLocation) (slots : SlotChoice) (image pass : List ℕ) (i s w : Option (List ℕ)) where
   -- a run that wrote nothing matches the outcome of what is done with an opened volume
   abbrev Matches : OnOpened → Message → Type 0
   Matches on_opened message =
-      RunMatches (PromptCat location image) (volume_outcome_by (reader_for location) on_opened o image pass) message
+      RunMatches (PromptCat location image) (volume_outcome_by (reader_for location) on_opened slots image pass) message
       (ConsumedExactly image i) (ConsumedExactly pass s) (Appended w w)
 
   module _ (on_opened : OnOpened) (takes : ConsumesLoaded pass on_opened) where
     header_read_len_consumed : header_read_len image
-        ≤ (volume_outcome_by (reader_for location) on_opened o image pass).input_consumed
+        ≤ (volume_outcome_by (reader_for location) on_opened slots image pass).input_consumed
     unfolding volume_outcome_by
-    header_read_len_consumed = after (volume_by (reader_for location) o image)
+    header_read_len_consumed = after (volume_by (reader_for location) slots image)
       where
         after : (r : Result Volume Message)
-            → header_read_len image ≤ (outcome_after on_opened o.key_slot image pass r).input_consumed
-        after (Ok v) = (found_within on_opened o.key_slot v image pass takes).0
+            → header_read_len image ≤ (outcome_after on_opened slots.named image pass r).input_consumed
+        after (Ok v) = (found_within on_opened slots.named v image pass takes).0
         after (Err message) = omega arith
 
     -- no volume was found, or reading the header failed
     pub runs_without_volume : (message : Message) → OpeningMessage message
-        → FindsNoVolume (reader_for location) o image i message → s ≡ Some pass → Matches on_opened message
+        → FindsNoVolume (reader_for location) slots image i message → s ≡ Some pass → Matches on_opened message
     runs_without_volume OutOfMemory only stop whole =
         aborted_unwritten stop.0 0 refl (prompt_in_header location image OutOfMemory stop.0 0 stop.1)
         (omega (arith, stop.1, header_read_len_consumed)) (omega arith) stop.2 (consumed-none pass s whole)
@@ -146,25 +146,25 @@ module _ (location : HeaderLocation) (o : VolumeRequest) (image pass : List ℕ)
     runs_without_volume WriteFailed only stop whole = absurd only
     runs_without_volume message only stop whole =
         let unread = consumed-none pass s whole in
-        rw (outcome_is location o image pass on_opened (Err message) stop.0) (record
+        rw (outcome_is location slots image pass on_opened (Err message) stop.0) (record
         { as_specified = refl; input = stop.1; payload = refl; secret = unread; output = adds-none w })
 
   -- the header names this segment and these key slots to be tried
   module _ (header : Header) (segment : Segment) (order : OrderModel) (found : reader_for location image ≡ Ok header)
       (is_segment : segment_of header ≡ Ok segment)
-      (ordered : order_of header o.key_slot o.max_iterations ≡ Ok order) where
+      (ordered : order_of header slots.named slots.max_iterations ≡ Ok order) where
     abbrev volume : Volume
     volume = volume_with header segment order
 
-    outcome_found : (on_opened : OnOpened) → volume_outcome_by (reader_for location) on_opened o image pass
-        ≡ found_outcome on_opened o.key_slot volume image pass
-    outcome_found on_opened = found_is location o image pass header segment order found is_segment ordered on_opened
+    outcome_found : (on_opened : OnOpened) → volume_outcome_by (reader_for location) on_opened slots image pass
+        ≡ found_outcome on_opened slots.named volume image pass
+    outcome_found on_opened = found_is location slots image pass header segment order found is_segment ordered on_opened
 
     -- with an attached header, the key material of the slots to be tried ends before the payload starts
     loaded_before_payload : location ≡ Attached
         → unlock_read_len image volume ≤ max (header_read_len image) segment.offset
     loaded_before_payload attached =
-        let few = key_areas_before_payload header segment o.key_slot o.max_iterations order
+        let few = key_areas_before_payload header segment slots.named slots.max_iterations order
         (is_attached image header (rw attached at found)) is_segment ordered in
         omega (arith, few)
 
@@ -172,15 +172,15 @@ module _ (location : HeaderLocation) (o : VolumeRequest) (image pass : List ℕ)
     runs_without_secret : (on_opened : OnOpened) → ConsumesLoaded pass on_opened → (message : Message)
         → NoKeyFileRead pass s message → ConsumedExactly image i (header_read_len image) → Matches on_opened message
     runs_without_secret on_opened takes KeyFileLength stop rest =
-        rw (outcome_found on_opened, found_long on_opened o.key_slot volume image pass stop.0) (record
+        rw (outcome_found on_opened, found_long on_opened slots.named volume image pass stop.0) (record
         { as_specified = refl; input = rest; payload = refl; secret = stop.1; output = adds-none w })
     runs_without_secret on_opened takes OutOfMemory stop rest =
-        let within = found_within on_opened o.key_slot volume image pass takes in
+        let within = found_within on_opened slots.named volume image pass takes in
         rw (outcome_found on_opened) (aborted_unwritten (header_read_len image) stop.0 refl
         (prompt_in_header location image OutOfMemory (header_read_len image) stop.0 (omega arith)) within.0
         (omega (arith, stop.1, within.1)) rest stop.2)
     runs_without_secret on_opened takes ReadFailed stop rest =
-        let within = found_within on_opened o.key_slot volume image pass takes in
+        let within = found_within on_opened slots.named volume image pass takes in
         rw (outcome_found on_opened) (aborted_unwritten (header_read_len image) stop.0 (omega arith)
         (prompt_in_header location image ReadFailed (header_read_len image) stop.0 (omega arith)) within.0
         (omega (arith, stop.1, within.1)) rest stop.2)
@@ -197,13 +197,13 @@ module _ (location : HeaderLocation) (o : VolumeRequest) (image pass : List ℕ)
           let more = area_more image area area' i (key_material_end order.entries) prefix stop.0 stop.2 in
           let few : header_read_len image + stop.0 ≤ unlock_read_len image volume =
           omega (arith, stop.1, prefix_length image area area' i (key_material_end order.entries) prefix) in
-          let within = area_within on_opened o.key_slot volume image pass takes short in
+          let within = area_within on_opened slots.named volume image pass takes short in
           rw (outcome_found on_opened) (aborted_unwritten (header_read_len image + stop.0) (length pass) (omega arith)
           (prompt_before_payload location image ReadFailed (header_read_len image + stop.0) (length pass) segment
           (header, found, is_segment) (λ attached. omega (arith, few, loaded_before_payload attached)))
           (omega (arith, within.0, more.1.within, few)) within.1 more.1 read)
       runs_without_area on_opened takes HeaderMemory stop =
-          let within = area_within on_opened o.key_slot volume image pass takes short in
+          let within = area_within on_opened slots.named volume image pass takes short in
           rw (outcome_found on_opened) (aborted_unwritten (header_read_len image) (length pass) refl
           (prompt_in_header location image OutOfMemory (header_read_len image) (length pass) (omega arith))
           (omega (arith, within.0, header_read_len_within image)) within.1
@@ -214,15 +214,15 @@ module _ (location : HeaderLocation) (o : VolumeRequest) (image pass : List ℕ)
       module _ (grows : ConsumedMaterial order area area' (drop (header_read_len image) image) i)
           (enough : key_material_end order.entries ≤ length area') where
         outcome_tried : (r : Result Opened OpenFault) → opening_of order area' pass ≡ r → (on_opened : OnOpened)
-            → volume_outcome_by (reader_for location) on_opened o image pass
-            ≡ opened_outcome on_opened o.key_slot volume image pass r
+            → volume_outcome_by (reader_for location) on_opened slots image pass
+            ≡ opened_outcome on_opened slots.named volume image pass r
         outcome_tried r tried on_opened =
-            tried_is location o image pass header segment order found is_segment ordered short area area' i prefix
+            tried_is location slots image pass header segment order found is_segment ordered short area area' i prefix
             grows enough r tried on_opened
 
         -- none of them opens
         runs_unopened : (fault : OpenFault) → opening_of order area' pass ≡ Err fault → (on_opened : OnOpened)
-            → Matches on_opened (message_for_opening o.key_slot fault)
+            → Matches on_opened (message_for_opening slots.named fault)
         runs_unopened Memory tried on_opened =
             let loaded = area_loaded image area area' i (key_material_end order.entries) prefix grows enough in
             rw (outcome_tried (Err Memory) tried on_opened)
@@ -237,14 +237,14 @@ module _ (location : HeaderLocation) (o : VolumeRequest) (image pass : List ℕ)
     -- the volume was not opened
     pub runs_without_key : (area area' : List ℕ) → area ≡ take (header_read_len image) image → (on_opened : OnOpened)
         → ConsumesLoaded pass on_opened → (message : Message)
-        → UnlockEffect o.key_slot segment order pass area area' (drop (header_read_len image) image) i s (Err message)
+        → UnlockEffect slots.named segment order pass area area' (drop (header_read_len image) image) i s (Err message)
         → Matches on_opened message
     runs_without_key area area' prefix on_opened takes message (inl (short, read, inl lost)) =
         rw lost.1 (runs_without_area short read area area' prefix on_opened takes lost.0 lost.2)
     -- the image ended within the key areas
     runs_without_key area area' prefix on_opened takes message (inl (short, read, inr (grows, inl cut))) =
         let ends = area_cut image area area' i (key_material_end order.entries) prefix grows cut.1 in
-        rw cut.0 (rw (outcome_found on_opened, found_cut on_opened o.key_slot volume image pass short ends.0) (record
+        rw cut.0 (rw (outcome_found on_opened, found_cut on_opened slots.named volume image pass short ends.0) (record
         { as_specified = refl; input = ends.1; payload = refl; secret = read; output = adds-none w }))
     runs_without_key area area' prefix on_opened takes message (inl (short, read, inr (grows, inr none))) =
         rw none.1 (runs_unopened short read area area' prefix grows none.2 none.0 none.3 on_opened)
@@ -255,8 +255,8 @@ module _ (location : HeaderLocation) (o : VolumeRequest) (image pass : List ℕ)
 
     -- the volume was opened
     pub unlocks_volume : (area area' : List ℕ) → area ≡ take (header_read_len image) image → (opened : UnlockedVolume)
-        → UnlockEffect o.key_slot segment order pass area area' (drop (header_read_len image) image) i s (Ok opened)
-        → Unlocks location o image pass opened.segment (opened_of opened) area' i s
+        → UnlockEffect slots.named segment order pass area area' (drop (header_read_len image) image) i s (Ok opened)
+        → Unlocks location slots image pass opened.segment (opened_of opened) area' i s
     unlocks_volume area area' prefix opened (inl (short, read, tries)) =
         let loaded = area_loaded image area area' i (key_material_end order.entries) prefix tries.0 tries.1 in
         rw tries.2 (record {

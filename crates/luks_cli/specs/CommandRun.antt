@@ -8,7 +8,8 @@ use Rattle.luks_io.specs.declared.counts.ReadCounts.{ReadCounts}
 use Rattle.luks_io.specs.declared.counts.WriteCounts.{WriteCounts}
 use Rattle.luks_io.specs.Devices.{Appended, ConsumedExactly, IfKnown}
 use Rattle.luks_cli.specs.Unlocking.{PromptCat}
-use Rattle.luks_request.specs.Request.{Request, VolumeRequest, test_passphrase, luks_cat, af_split, secret_of}
+use Rattle.luks_request.specs.Request.{Request, test_passphrase, luks_cat, af_split, secret_of}
+use Rattle.luks_request.specs.declared.command.SlotChoice.{SlotChoice}
 use Rattle.luks_cli.specs.Outcome.{outcome_of, detached_outcome_of}
 use Rattle.luks_runs.specs.Location.{HeaderReader, reader_for}
 use Rattle.luks_runs.specs.declared.location.HeaderLocation.{HeaderLocation}
@@ -68,7 +69,7 @@ abbrev pub WritesPlain : Request → Message → Option (List ℕ) → Option (L
     → Type 0
 WritesPlain (luks_cat o) message image secret written written' =
     IfKnown image (λ known. IfKnown secret (λ passphrase.
-    (plain : List ℕ) → length known < 2 ^ 64 → OpensHonest o known passphrase plain → aborts message ≡ false
+    (plain : List ℕ) → length known < 2 ^ 64 → OpensHonest o.slots known passphrase plain → aborts message ≡ false
     → (message ≡ Done) × Appended written written' plain))
 WritesPlain _ message image secret written written' = Unit {0}
 
@@ -85,8 +86,8 @@ Knows device Holds = (known : List ℕ) × (device ≡ Some known) × Holds know
 -- the command has no second input, or needs none of it: the header, read in this way, the segment, the order of the key
 -- slots or, for `afSplit`, the length of the key to be split ends the run
 abbrev pub NeedsNoSecret : HeaderReader → Request → Option (List ℕ) → Type 0
-NeedsNoSecret read (test_passphrase o) image = Knows image (λ known. is_err (volume_by read o known) ≡ true)
-NeedsNoSecret read (luks_cat o) image = Knows image (λ known. is_err (volume_by read o known) ≡ true)
+NeedsNoSecret read (test_passphrase o) image = Knows image (λ known. is_err (volume_by read o.slots known) ≡ true)
+NeedsNoSecret read (luks_cat o) image = Knows image (λ known. is_err (volume_by read o.slots known) ≡ true)
 NeedsNoSecret read (af_split s) image = Knows image (λ known. (length known ≡ 0) ⊎ (max_key_len < length known))
 NeedsNoSecret read _ image = Unit {0}
 
@@ -108,20 +109,21 @@ AllowsPayload IsOf consumed ahead most = (most ≡ ahead)
 
 -- how many bytes of the payload's image are consumed to open the volume: as many as `testPassphrase` consumes, or none
 -- if the header is detached
-abbrev pub consumed_to_open : HeaderLocation → VolumeRequest → List ℕ → List ℕ → ℕ
-consumed_to_open Attached o image secret = (volume_outcome (slot_outcome secret) o image secret).input_consumed
-consumed_to_open Detached o file secret = 0
+abbrev pub consumed_to_open : HeaderLocation → SlotChoice → List ℕ → List ℕ → ℕ
+consumed_to_open Attached slots image secret = (volume_outcome (slot_outcome secret) slots image secret).input_consumed
+consumed_to_open Detached slots file secret = 0
 
 -- how much read-ahead `luksCat` allows for its payload's image
-abbrev pub CatAllows : HeaderLocation → VolumeRequest → Option (List ℕ) → Option (List ℕ) → ℕ → ℕ → Type 0
-CatAllows location o input secret ahead most =
+abbrev pub CatAllows : HeaderLocation → SlotChoice → Option (List ℕ) → Option (List ℕ) → ℕ → ℕ → Type 0
+CatAllows location slots input secret ahead most =
     IfKnown input (λ known. IfKnown secret (λ passphrase.
-    AllowsPayload (HasSegmentBy (reader_for location) known) (consumed_to_open location o known passphrase) ahead most))
+    AllowsPayload (HasSegmentBy (reader_for location) known) (consumed_to_open location slots known passphrase) ahead
+    most))
 
 -- what a command adds to the counts of its image, or of its payload's image: only `luksCat` reads a payload
 abbrev pub ReadsImage : HeaderLocation → Request → Option (List ℕ) → Option (List ℕ) → Bool → ReadCounts → ReadCounts
     → Type 0
-ReadsImage location (luks_cat o) input secret = ReadsPayload (CatAllows location o input secret)
+ReadsImage location (luks_cat o) input secret = ReadsPayload (CatAllows location o.slots input secret)
 ReadsImage location _ input secret = ReadsOnce
 
 -- what a part of a run that reads its first input in this way adds to the counts of both inputs: a failure of one of

@@ -28,8 +28,8 @@ outcome_by read on_payload (luks_uuid _) image secret = print_outcome_by read Uu
 outcome_by read on_payload (luks_dump _) image secret = print_outcome_by read Dump image
 outcome_by read on_payload (luks_check _) image secret = print_outcome_by read Check image
 outcome_by read on_payload (test_passphrase o) image secret =
-    volume_outcome_by read (slot_outcome secret) o image secret
-outcome_by read on_payload (luks_cat o) image secret = volume_outcome_by read on_payload o image secret
+    volume_outcome_by read (slot_outcome secret) o.slots image secret
+outcome_by read on_payload (luks_cat o) image secret = volume_outcome_by read on_payload o.slots image secret
 outcome_by read on_payload (af_split s) image secret = split_outcome s.hash s.stripes image secret
 outcome_by read on_payload (af_merge m) image secret = merge_outcome m.hash m.stripes m.key_bytes image
 

@@ -7,7 +7,7 @@ use Rattle.luks_header.specs.Header.{header_read_len}
 use Rattle.luks_verdict.specs.declared.segment.Segment.{Segment}
 use Rattle.luks_open.specs.Order.{OrderModel}
 use Rattle.luks_open.specs.declared.opening.Opened.{Opened}
-use Rattle.luks_request.specs.Request.{VolumeRequest}
+use Rattle.luks_request.specs.declared.command.SlotChoice.{SlotChoice}
 use Rattle.luks_report.specs.declared.message.Message.{Message}
 use Rattle.luks_runs.specs.KeyFile.{NoKeyFileRead, max_key_file_len}
 use Rattle.luks_runs.specs.Location.{reader_for, detached_header_of}
@@ -55,19 +55,19 @@ PromptCat Detached file message input_consumed payload_consumed secret_consumed 
 
 -- the volume was not opened, and the message says why: nothing was written, and the run matches the specified outcome,
 -- whatever the command would do with an open volume
-abbrev pub EndsLocked : HeaderLocation → VolumeRequest → List ℕ → List ℕ → Message → Option (List ℕ)
+abbrev pub EndsLocked : HeaderLocation → SlotChoice → List ℕ → List ℕ → Message → Option (List ℕ)
     → Option (List ℕ) → Type 0
-EndsLocked location o image secret message image' secret' =
+EndsLocked location slots image secret message image' secret' =
     (on_opened : OnOpened) → ConsumesLoaded secret on_opened → (written : Option (List ℕ))
-    → RunMatches (PromptCat location image) (volume_outcome_by (reader_for location) on_opened o image secret)
+    → RunMatches (PromptCat location image) (volume_outcome_by (reader_for location) on_opened slots image secret)
     message (ConsumedExactly image image') (ConsumedExactly secret secret') (Appended written written)
 
 -- the volume was opened: its segment and its key are these, and these first bytes of the image, or of the file with the
 -- header, are loaded. With an attached header they reach past the payload's start only as far as the header was read
-pub record Unlocks (location : HeaderLocation) (o : VolumeRequest) (image secret : List ℕ) (segment : Segment)
+pub record Unlocks (location : HeaderLocation) (slots : SlotChoice) (image secret : List ℕ) (segment : Segment)
     (opened : Opened) (loaded : List ℕ) (image' secret' : Option (List ℕ)) : Type 0 where
   pub outcome : (on_opened : OnOpened)
-      → volume_outcome_by (reader_for location) on_opened o image secret ≡ on_opened segment opened (length loaded)
+      → volume_outcome_by (reader_for location) on_opened slots image secret ≡ on_opened segment opened (length loaded)
   pub has : HasSegmentBy (reader_for location) image segment
   pub no_further : location ≡ Attached → length loaded ≤ max (header_read_len image) segment.offset
   pub prefix : loaded ≡ take (length loaded) image

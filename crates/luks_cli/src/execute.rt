@@ -28,11 +28,13 @@ mod volumes;
 /// What is written, reported and consumed of both inputs is one function of the command and of the
 /// bytes that the inputs give. If an allocation, a read or a write fails, what was written is a
 /// prefix of that output, and no input was consumed further than specified; a failed read or write
-/// is reported exactly if one failed. If a write failed, not all of the output is written. The
-/// second input's source is unchanged if the command has no second input, or if the image knows its
-/// bytes and the header, the segment, the order of the key slots or, for `afSplit`, the length of
-/// the key to be split ends the run. Except for `luksCat` and `afSplit`, nothing is written if a
-/// read fails.
+/// is reported exactly if one failed. If a write failed, not all of the output is written. Except
+/// for `luksCat` and `afSplit`, nothing is written if a read fails.
+///
+/// The second input's source is unchanged if the command has no second input. It is also unchanged
+/// if the run ends before that input is needed: with a message about the header, the segment, the
+/// order of the key slots or, for `afSplit`, the length of the key. (The image must know its bytes
+/// for that.)
 ///
 /// No device is called needlessly: no read goes into a buffer without capacity or follows one that
 /// failed or hit the end, and no write is empty or follows one that failed. The end of each input
@@ -46,9 +48,9 @@ mod volumes;
 /// or write fails.
 ///
 /// `luksCat` writes each sector as it comes. If a write fails, nothing past the current sector was
-/// consumed, except for the header. If a read fails, all whole sectors that were consumed are
-/// written, unless a damaged primary header reaches into the payload. All this holds for images
-/// shorter than 2^64 bytes.
+/// consumed, except for the header. If a read fails, every whole sector that was consumed is
+/// written, unless a damaged primary header made the search for another one read into the payload.
+/// All this holds for images shorter than 2^64 bytes.
 pub fn execute<I: Source, K: Source, O: Sink>(
     alloc: Global,
     command: &Command<'_>,
@@ -87,9 +89,14 @@ pub fn execute<I: Source, K: Source, O: Sink>(
             out,
         )),
         Command::TestPassphrase(opening) => report(volumes::test_passphrase(
-            alloc, location, opening, image, secret, out,
+            alloc,
+            location,
+            opening.slots,
+            image,
+            secret,
+            out,
         )),
-        Command::LuksCat(opening) => report(volumes::cat(alloc, opening, image, secret, out)),
+        Command::LuksCat(opening) => report(volumes::cat(alloc, opening.slots, image, secret, out)),
         Command::AfSplit(splitting) => report(stripes::split(splitting, image, secret, out)),
         Command::AfMerge(merging) => report(stripes::merge(merging, image, out)),
     }

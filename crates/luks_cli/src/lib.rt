@@ -8,8 +8,8 @@ pub use luks_args::planning::{PlanFault, plan};
 pub use luks_report::input::{NOT_OPENED, not_opened_text};
 pub use luks_report::message::Message;
 pub use luks_report::report::Report;
-pub use luks_request::command::{Command, MergeArgs, SplitArgs, VolumeArgs};
-pub use luks_request::number::{IterationLimit, KeyBytes, SlotNumber, StripeCount};
+pub use luks_request::command::{Command, MergeArgs, SlotChoice, SplitArgs, VolumeArgs};
+pub use luks_request::number::{KeyBytes, StripeCount};
 
 pub mod execute;
 pub mod plan_fault;

@@ -22,9 +22,9 @@ abbrev pub can_be_tried : Option Verdict → Bool
 can_be_tried (Some (Usable slot)) = true
 can_be_tried verdict = false
 
--- what is needed to open the key slot of this number. A LUKS1 slot that exists has it if its numbers are in range,
--- whatever its state and its digest; a LUKS2 slot that exists has it if there is no reason to skip it except a limit on
--- iterations
+-- what is needed to open the key slot of this number. A LUKS1 slot that exists has it if its numbers are in range and
+-- there is a usable digest, whatever its state; a LUKS2 slot that exists has it if there is no reason to skip it except
+-- a limit on iterations
 unfoldable pub slot_at : Header → ℕ → Option Slot
 slot_at (V1 header) number = slot1_at header number
 slot_at (V2 header tree) number = slot2_at tree (bounds2_of header) number

@@ -29,10 +29,10 @@ pub fn verdict_kind(header: &Header, limit: Option<u32>, number: u8) -> Option<V
     }
 }
 
-/// What is needed to open the key slot of this number. For LUKS1 it is returned if the header has
-/// the slot and its numbers are in range, whatever its state and its digest. For LUKS2 it is
-/// returned if the header has the slot and there is no reason to skip it except a limit on
-/// iterations.
+/// What is needed to open the key slot of this number, or `None` if the header has no such slot. A
+/// LUKS1 slot is returned if its numbers are in range and there is a usable digest, whatever its
+/// state is. A LUKS2 slot is returned if nothing but a limit on iterations can be a reason to skip
+/// it.
 ///
 /// # Errors
 ///

@@ -1,14 +1,15 @@
--- Properties of the key slots to be tried and of their key material, for the functions here and for their callers.
+-- Properties of the key slots to be tried, one after the other, and of their key material, for the functions here and
+-- for their callers.
 use Rattle.std.proofs.Common.{◌≡◌, ◌∙◌, ℕ, ◌+◌, ◌*◌, ◌/◌, ◌==◌, ◌<◌, ◌≤◌, max, Bool, true, false, List, [], ◌∷◌, ◌++◌}
 use Rattle.std.proofs.Common.{length, take, drop, get_or, Option, Some, None, Ok, IsOk, IsSome, refl, sym, ap, subst}
 use Rattle.std.proofs.Common.{arith}
-use Rattle.std.specs.Prelude.{if◌then◌else◌, option_map, slice_index_or}
-use Rattle.std.specs.List.{AllByRecursion, All, cons_option}
+use Rattle.std.specs.Prelude.{if◌then◌else◌, is_some, option_map, slice_index_or, sum_by}
+use Rattle.std.specs.List.{AllByRecursion, All}
 use Rattle.std.proofs.lemmas.Bool.{eq-eqb}
-use Rattle.std.proofs.lemmas.List.{drop_more}
+use Rattle.std.proofs.lemmas.List.{drop_more, drop_all}
 use Rattle.std.proofs.lemmas.List.Elements.{All-from_recursion, recursion_from_All}
 use Rattle.std.proofs.lemmas.Option.{same_Some}
-use Rattle.luks_kdf.specs.Pbkdf2.{derived_key}
+use Rattle.luks_kdf.specs.Pbkdf2.{derived_key, capped}
 use Rattle.luks_kdf.specs.Stripes.{merged}
 use Rattle.luks_kdf.specs.declared.hash.Hash.{Hash}
 use Rattle.luks_area.specs.Area.{max_loaded_len}
@@ -20,62 +21,53 @@ use Rattle.luks_cipher.proofs.UnitsUndone.{joined_same}
 use Rattle.luks_verdict.specs.Rule.{max_slots, need_of}
 use Rattle.luks_verdict.specs.Slot.{material_end, verdict_kind_of}
 use Rattle.luks_verdict.specs.Table.{ascending}
-use Rattle.luks_verdict.specs.declared.digest.KeyDigest.{KeyDigest}
 use Rattle.luks_verdict.specs.declared.refusal.SkipReason.{SkipReason}
 use Rattle.luks_verdict.specs.declared.segment.Segment.{Segment}
+use Rattle.luks_verdict.specs.declared.slot.Slot.{Slot}
 use Rattle.luks_verdict.specs.declared.slot.Verdict.{Verdict}
 use Rattle.luks_verdict.specs.declared.slot.Verdict.TheVariants.{Usable}
 use Rattle.luks_verdict.specs.declared.slot.VerdictKind.TheVariants.{Usable as KindUsable}
 use Rattle.luks_verdict.proofs.MadeLemmas.{usable_from_open}
 use Rattle.luks_verdict.proofs.TableLemmas.{AllByRecursion-append, All-ascending}
 use Rattle.luks_header.specs.Header.{is_detached}
-use Rattle.luks_header.specs.HeaderDigests.{digest_for}
 use Rattle.luks_header.specs.HeaderSegment.{segment_of}
-use Rattle.luks_header.specs.SlotVerdicts.{verdict_at}
+use Rattle.luks_header.specs.SlotVerdicts.{can_be_tried, verdict_at}
 use Rattle.luks_header.specs.declared.header.Header.{Header}
-use Rattle.luks_header.proofs.KnownLemmas.{IsKnown, before_payload, digest_of_usable, known_usable}
+use Rattle.luks_header.proofs.KnownLemmas.{IsKnown, before_payload, known_usable}
 use Rattle.luks_open.specs.Candidate.{candidate_by, candidate_of, decrypted_material, material_sector, recovered}
+use Rattle.luks_open.specs.Candidate.{matches_digest}
 use Rattle.luks_open.specs.Opening.{first_opening, if_matches_digest, slot_key, opened_or, opening_of, answer_of}
-use Rattle.luks_open.specs.Order.{OrderModel, entry_at, entry_of, key_material_end, order_of, skipped_at}
-use Rattle.luks_open.specs.Order.{order_of_all, order_of_named, unless_none, usable_at, usable_with_priority}
+use Rattle.luks_open.specs.Opening.{evaluations_of, tried_of}
+use Rattle.luks_open.specs.Order.{OrderModel, entry_with_priority, key_material_end, order_of, order_of_all}
+use Rattle.luks_open.specs.Order.{order_of_named, skipped_at, tried_with, unless_none}
 use Rattle.luks_open.specs.Trial.{IsTriable}
 use Rattle.luks_open.specs.declared.entry.Entry.{Entry}
 use Rattle.luks_open.specs.declared.opening.Opened.{Opened}
+use Rattle.std.proofs.lemmas.List.Sums.{sum_by-cons}
+use Rattle.luks_open.proofs.MaterialLemmas.{length-recovered}
 
--- an entry is one of this header: its key slot can be tried, and this is its digest
+-- an entry is one of this header: its key slot can be tried, and the entry has the verdict's own slot
 pub record IsOf (header : Header) (limit : Option ℕ) (entry : Entry) : Type 0 where
   pub usable : verdict_at header limit entry.number ≡ Some (Usable entry.slot)
-  pub digest : digest_for header entry.number ≡ Some entry.digest
 
--- an entry that was found in a header is one of this header
-entry_at-some : (header : Header) (limit : Option ℕ) (number : ℕ) (entry : Entry)
-    → entry_at header limit number ≡ Some entry → IsOf header limit entry
-unfolding entry_at
-entry_at-some header limit number entry is =
-    of_parts (verdict_at header limit number) (digest_for header number) refl refl is
+-- a key slot that is tried with a priority is one of this header
+tried_with-some : (header : Header) (limit : Option ℕ) (priority number : ℕ) (entry : Entry)
+    → tried_with header limit priority number ≡ Some entry → IsOf header limit entry
+tried_with-some header limit priority number entry is = of_verdict (verdict_at header limit number) refl is
   where
-    of_parts : (verdict : Option Verdict) (digest : Option KeyDigest) → verdict_at header limit number ≡ verdict
-        → digest_for header number ≡ digest → entry_of number verdict digest ≡ Some entry → IsOf header limit entry
-    of_parts (Some (Usable slot)) (Some digest) usable its_digest h =
-        let made : Entry = record { number = number; slot = slot; digest = digest } in
-        let same : made ≡ entry = same_Some _ _ h in
-        subst (IsOf header limit) same (record { usable = usable; digest = its_digest })
-    of_parts _ _ usable its_digest h = absurd cc
-
--- an entry that was found by its priority is one of this header too
-usable_at-some : (header : Header) (limit : Option ℕ) (priority number : ℕ) (entry : Entry)
-    → usable_at header limit priority number ≡ Some entry → IsOf header limit entry
-usable_at-some header limit priority number entry is = of_verdict (verdict_at header limit number) is
-  where
-    of_test : (test : Bool) → (if test then entry_at header limit number else None) ≡ Some entry
+    of_test : (test : Bool) (made : Entry) → IsOf header limit made → (if test then Some made else None) ≡ Some entry
         → IsOf header limit entry
-    of_test true h = entry_at-some header limit number entry h
-    of_test false h = absurd cc
+    of_test true made of_header h =
+        let same : made ≡ entry = same_Some _ _ h in
+        subst (IsOf header limit) same of_header
+    of_test false made of_header h = absurd cc
 
-    of_verdict : (verdict : Option Verdict) → usable_with_priority priority (entry_at header limit number) verdict ≡
-        Some entry → IsOf header limit entry
-    of_verdict (Some (Usable slot)) h = of_test (slot.parts.priority == priority) h
-    of_verdict _ h = absurd cc
+    of_verdict : (verdict : Option Verdict) → verdict_at header limit number ≡ verdict
+        → entry_with_priority priority number verdict ≡ Some entry → IsOf header limit entry
+    of_verdict (Some (Usable slot)) usable h =
+        let made : Entry = record { number = number; slot = slot } in
+        of_test (slot.parts.priority == priority) made (record { usable = usable }) h
+    of_verdict _ usable h = absurd cc
 
 -- if an order is made from entries, it has exactly these
 order-unless_none : (entries : List Entry) (skipped : List (ℕ × SkipReason)) (order : OrderModel)
@@ -93,24 +85,20 @@ All-order header None limit order is =
     subst (AllByRecursion (IsOf header limit))
     (order-unless_none _ (ascending (skipped_at header limit) max_slots) order is)
     (AllByRecursion-append (IsOf header limit) _ _
-    (All-ascending (IsOf header limit) (usable_at header limit 2) max_slots (usable_at-some header limit 2))
-    (All-ascending (IsOf header limit) (usable_at header limit 1) max_slots (usable_at-some header limit 1)))
-All-order header (Some number) limit order is = of_verdict (verdict_at header limit number) is
+    (All-ascending (IsOf header limit) (tried_with header limit 2) max_slots (tried_with-some header limit 2))
+    (All-ascending (IsOf header limit) (tried_with header limit 1) max_slots (tried_with-some header limit 1)))
+All-order header (Some number) limit order is = of_verdict (verdict_at header limit number) refl is
   where
-    of_entry : (entry : Option Entry) → entry_at header limit number ≡ entry
-        → AllByRecursion (IsOf header limit) (cons_option entry [])
-    of_entry None e = tt
-    of_entry (Some entry) e = (entry_at-some header limit number entry e, tt)
+    of_alone : (entry : Entry) → IsOf header limit entry → AllByRecursion (IsOf header limit) (entry ∷ [])
+    of_alone entry of_header = (of_header, tt)
 
-    of_verdict : (verdict : Option Verdict)
-        → order_of_named (entry_at header limit number) (option_map verdict_kind_of verdict) ≡ Ok order
-        → AllByRecursion (IsOf header limit) order.entries
-    of_verdict (Some (Usable slot)) h =
-        let alone : OrderModel = record { entries = cons_option (entry_at header limit number) []; skipped = [] } in
-        let same : alone ≡ order = cc in
-        subst (λ (t : OrderModel). AllByRecursion (IsOf header limit) t.entries) same
-        (of_entry (entry_at header limit number) refl)
-    of_verdict _ h = absurd cc
+    of_verdict : (verdict : Option Verdict) → verdict_at header limit number ≡ verdict
+        → order_of_named number verdict ≡ Ok order → AllByRecursion (IsOf header limit) order.entries
+    of_verdict (Some (Usable slot)) usable h =
+        let tried : Entry = record { number = number; slot = slot } in
+        subst (AllByRecursion (IsOf header limit)) (order-unless_none (tried ∷ []) [] order h)
+        (of_alone tried (record { usable = usable }))
+    of_verdict _ usable h = absurd cc
 
 -- ---- headers with a key slot to try
 
@@ -121,15 +109,34 @@ some_tried [] [] skipped some = absurd (omega arith)
 some_tried [] (entry ∷ entries) skipped some = refl
 some_tried (entry ∷ entries) second skipped some = refl
 
--- a key slot whose verdict is that it can be tried with this priority has an entry of this priority
+-- a key slot whose verdict is that it can be tried with this priority is tried with it
 pub usable_there : (header : Header) (limit : Option ℕ) (priority number : ℕ)
     → option_map verdict_kind_of (verdict_at header limit number) ≡ Some (KindUsable priority)
-    → IsSome (usable_at header limit priority number)
-unfolding entry_at
+    → IsSome (tried_with header limit priority number)
 usable_there header limit priority number is =
     let usable = usable_from_open (verdict_at header limit number) priority is in
-    let its_digest = digest_of_usable header limit number usable.0 usable.1 in
-    rw (usable.1, eq-eqb usable.0.parts.priority priority usable.2, its_digest.1) refl
+    rw (usable.1, eq-eqb usable.0.parts.priority priority usable.2) refl
+
+-- an entry that is there if a test holds is this entry
+entry_if : (test : Bool) (entry : Entry) → IsSome (if test then Some entry else None)
+    → (if test then Some entry else None) ≡ Some entry
+entry_if true entry some = refl
+entry_if false entry some = absurd cc
+
+-- a key slot that is tried with a priority is the verdict's own, with its number
+pub tried_usable : (header : Header) (limit : Option ℕ) (priority number : ℕ) (slot : Slot)
+    → verdict_at header limit number ≡ Some (Usable slot) → IsSome (tried_with header limit priority number)
+    → tried_with header limit priority number ≡ Some record { number = number; slot = slot }
+tried_usable header limit priority number slot is some =
+    ap (entry_with_priority priority number) is
+    ∙ entry_if (slot.parts.priority == priority) (record { number = number; slot = slot })
+    (sym (ap (λ (verdict : Option Verdict). is_some (entry_with_priority priority number verdict)) is) ∙ some)
+
+-- if the named key slot can be tried, there is an order
+pub named_tried : (number : ℕ) (verdict : Option Verdict) → can_be_tried verdict ≡ true
+    → IsOk (order_of_named number verdict)
+named_tried number (Some (Usable slot)) is = refl
+named_tried number _ is = absurd cc
 
 -- ---- the end of the last key material
 
@@ -233,7 +240,7 @@ key_beginning : (entry : Entry) (n : ℕ) (image pass : List ℕ) → material_e
 unfolding slot_key candidate_of
 key_beginning entry n image pass before =
     let parts = entry.slot.parts in
-    ap (if_matches_digest entry.digest) (of_read parts.kdf_hash parts.af_hash parts.area_mode)
+    ap (if_matches_digest entry.slot.digest) (of_read parts.kdf_hash parts.af_hash parts.area_mode)
   where
     of_read : (kdf af : Option Hash) (mode : Option Mode)
         → candidate_by kdf af mode entry.slot.parts (take n image) pass
@@ -260,3 +267,119 @@ opening_beginning order n image pass loaded =
         ap (λ (key : Option (List ℕ)). opened_or entry.number key (first_opening entries (take n image) pass))
         (key_beginning entry n image pass ends.0)
         ∙ ap (opened_or entry.number (slot_key entry image pass)) (of_entries entries ends.1)
+
+-- the candidate of a key slot is as long as the slot says
+candidate_length : (slot : Slot) (image pass key : List ℕ) → IsTriable (length image) slot
+    → candidate_of slot image pass ≡ Some key → length key ≡ slot.parts.key_bytes
+unfolding candidate_of
+candidate_length slot image pass key triable is =
+    of_names slot.parts.kdf_hash slot.parts.af_hash slot.parts.area_mode is
+  where
+    of_names : (kdf af : Option Hash) (mode : Option Mode)
+        → candidate_by kdf af mode slot.parts image pass ≡ Some key → length key ≡ slot.parts.key_bytes
+    of_names (Some kdf) (Some af) (Some mode) h =
+        let parts = slot.parts in
+        let area_key = derived_key kdf pass parts.salt parts.iterations parts.area_key_bytes in
+        let same : recovered af (mode, area_key) image parts.area_offset parts.key_bytes parts.stripes ≡ key =
+        same_Some _ _ h in
+        ap length (sym same)
+        ∙ length-recovered af (mode, area_key) image parts.area_offset parts.key_bytes parts.stripes triable.volume_key
+        slot.in_range.some_stripes triable.there
+    of_names _ _ _ h = absurd cc
+
+-- so is the volume key that it gives
+slot_key_length : (entry : Entry) (image pass key : List ℕ) → IsTriable (length image) entry.slot
+    → slot_key entry image pass ≡ Some key → length key ≡ entry.slot.parts.key_bytes
+unfolding slot_key
+slot_key_length entry image pass key triable is = of_candidate (candidate_of entry.slot image pass) refl is
+  where
+    of_test : (test : Bool) (made : List ℕ) → candidate_of entry.slot image pass ≡ Some made
+        → (if test then Some made else None) ≡ Some key → length key ≡ entry.slot.parts.key_bytes
+    of_test true made is_made h = candidate_length entry.slot image pass key triable (is_made ∙ h)
+    of_test false made is_made h = absurd cc
+
+    of_candidate : (made : Option (List ℕ)) → candidate_of entry.slot image pass ≡ made
+        → if_matches_digest entry.slot.digest made ≡ Some key → length key ≡ entry.slot.parts.key_bytes
+    of_candidate (Some made) is_made h = of_test (matches_digest entry.slot.digest made) made is_made h
+    of_candidate None is_made h = absurd cc
+
+-- the key of the key slot that opens has a length of this mode if those of all key slots to be tried do
+pub opened_key_length : (mode : Mode) (entries : List Entry) (image pass : List ℕ) (opened : Opened)
+    → AllByRecursion (λ (entry : Entry). IsTriable (length image) entry.slot) entries
+    → AllByRecursion (λ (entry : Entry). is_mode_key_length mode entry.slot.parts.key_bytes ≡ true) entries
+    → first_opening entries image pass ≡ Some opened → is_mode_key_length mode (length opened.key) ≡ true
+unfolding first_opening
+opened_key_length mode [] image pass opened triable known is = absurd cc
+opened_key_length mode (entry ∷ entries) image pass opened triable known is =
+    of_key (slot_key entry image pass) refl
+    (opened_key_length mode entries image pass opened triable.1 known.1) is
+  where
+    of_key : (key : Option (List ℕ)) → slot_key entry image pass ≡ key
+        → (first_opening entries image pass ≡ Some opened → is_mode_key_length mode (length opened.key) ≡ true)
+        → opened_or entry.number key (first_opening entries image pass) ≡ Some opened
+        → is_mode_key_length mode (length opened.key) ≡ true
+    of_key (Some key) gives further h =
+        let made : Opened = record { slot = entry.number; key = key } in
+        let same : made ≡ opened = same_Some _ _ h in
+        subst (λ (o : Opened). is_mode_key_length mode (length o.key) ≡ true) same
+        (ap (is_mode_key_length mode) (slot_key_length entry image pass key triable.0 gives) ∙ known.0)
+    of_key None gives further h = further h
+
+-- the evaluations of HMAC for trying these entries, up to the first that opens
+abbrev pub work_on : List Entry → List ℕ → List ℕ → ℕ
+work_on entries image pass = sum_by evaluations_of (tried_of entries image pass)
+
+-- none of the first i entries opened, and the count of work went from `start` to `now`
+pub record NoneOpenedBefore (entries : List Entry) (image pass : List ℕ) (i start now : ℕ) : Type 0 where
+  pub value : first_opening (drop i entries) image pass ≡ first_opening entries image pass
+  pub work : capped (now + work_on (drop i entries) image pass) ≡ capped (start + work_on entries image pass)
+  pub count : now ≡ capped now
+
+module _ (entries : List Entry) (image pass : List ℕ) (i start now : ℕ)
+    (before : NoneOpenedBefore entries image pass i start now) where
+  pub go_out : length entries ≤ i
+      → (first_opening entries image pass ≡ None) × (now ≡ capped (start + work_on entries image pass))
+  unfolding first_opening tried_of
+  go_out all =
+      let none = drop_all i entries all in
+      let left : work_on (drop i entries) image pass ≡ 0 = ap (λ (s : List Entry). work_on s image pass) none in (
+        sym before.value ∙ ap (λ (s : List Entry). first_opening s image pass) none,
+        omega (arith, left, before.work, before.count),
+      )
+
+  -- the next entry
+  module _ (entry : Entry) (new : ℕ) (there : i < length entries) (is : entry ≡ get_or entries i entry)
+      (is_new : new ≡ capped (now + evaluations_of entry)) where
+    -- whether the entry opens decides what opens, and whether the others are tried too
+    after_entry : (key : Option (List ℕ)) → slot_key entry image pass ≡ key
+        → (first_opening entries image pass
+        ≡ opened_or entry.number key (first_opening (drop (i + 1) entries) image pass))
+        × (capped (new + sum_by evaluations_of (if is_some key then [] else tried_of (drop (i + 1) entries) image pass))
+        ≡ capped (start + work_on entries image pass))
+    unfolding first_opening tried_of
+    after_entry key gives =
+        let further = first_opening (drop (i + 1) entries) image pass in
+        let rest = tried_of (drop (i + 1) entries) image pass in
+        let all = from_entry entries i entry there is in
+        let left : work_on (drop i entries) image pass
+        ≡ evaluations_of entry + sum_by evaluations_of (if is_some key then [] else rest) =
+        ap (λ (s : List Entry). work_on s image pass) all
+        ∙ ap (λ (key : Option (List ℕ)). sum_by evaluations_of (entry ∷ (if is_some key then [] else rest))) gives
+        ∙ sum_by-cons evaluations_of entry (if is_some key then [] else rest) in (
+          sym before.value ∙ ap (λ (s : List Entry). first_opening s image pass) all
+              ∙ ap (λ (key : Option (List ℕ)). opened_or entry.number key further) gives,
+          omega (arith, is_new, left, before.work),
+        )
+
+    pub go_on : slot_key entry image pass ≡ None → NoneOpenedBefore entries image pass (i + 1) start new
+    go_on none =
+        let past = after_entry None none in
+        record { value = sym past.0; work = past.1; count = omega (arith, is_new) }
+
+    pub go_last : (key : List ℕ) → slot_key entry image pass ≡ Some key
+        → (first_opening entries image pass ≡ Some record { slot = entry.number; key = key })
+        × (new ≡ capped (start + work_on entries image pass))
+    go_last key some =
+        let last = after_entry (Some key) some in
+        let all : capped (new + sum_by evaluations_of []) ≡ capped (start + work_on entries image pass) = last.1 in
+        (last.0, omega (arith, is_new, all))

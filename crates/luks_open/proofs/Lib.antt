@@ -1,3 +1,2 @@
 pub mod CallerLemmas
 pub mod MaterialLemmas
-pub mod OpeningLemmas

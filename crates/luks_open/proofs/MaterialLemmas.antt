@@ -1,17 +1,19 @@
 -- Key material that is decrypted a sector at a time, and merged a stripe at a time.
-use Rattle.std.proofs.Common.{◌≡◌, ◌∙◌, ℕ, suc, ◌+◌, ◌-◌, ◌*◌, ◌/◌, ◌%◌, ◌<◌, ◌≤◌, ◌⊎◌, inl, inr, true, List, ◌++◌}
-use Rattle.std.proofs.Common.{length, replicate, take, drop, refl, sym, ap, append_assoc, mul_assoc, arith}
+use Rattle.std.proofs.Common.{◌≡◌, ◌∙◌, ℕ, zero, suc, ◌+◌, ◌-◌, ◌*◌, ◌/◌, ◌%◌, ◌<◌, ◌≤◌, ◌⊎◌, inl, inr, true, List}
+use Rattle.std.proofs.Common.{◌++◌, length, replicate, take, drop, refl, sym, ap, append_assoc, mul_assoc, arith}
 use Rattle.std.proofs.Common.{length-append, length-drop, add-one}
+use Rattle.std.proofs.Math.Nat.{mul_comm}
 use Rattle.std.proofs.Math.Seq.{take-add, take-append-add}
 use Rattle.std.proofs.lemmas.Bool.Decides.{nat_tests}
 use Rattle.std.proofs.lemmas.List.{length-take-le, take-append-le, take_all}
 use Rattle.luks_cipher.specs.Sector.{Cipher, is_key_length}
 use Rattle.luks_cipher.specs.Xts.{joined}
+use Rattle.luks_cipher.proofs.ModeLemmas.{length-sector_decrypted}
 use Rattle.luks_cipher.proofs.UnitLemmas.{joined_more}
 use Rattle.luks_kdf.specs.declared.hash.Hash.{Hash}
 use Rattle.luks_kdf.specs.Bytes.{xor}
 use Rattle.luks_kdf.specs.Stripes.{AfSplitterModel, splitter_after, splitter_with, merged}
-use Rattle.luks_kdf.proofs.StripesLemmas.{chain_push, chain_start, merged_push}
+use Rattle.luks_kdf.proofs.StripesLemmas.{chain_push, chain_start, length-merged, merged_push}
 use Rattle.luks_verdict.specs.Rule.{need_of}
 use Rattle.luks_open.specs.Candidate.{decrypted_material, material_sector, recovered}
 
@@ -95,6 +97,36 @@ pub length-joined_more : (f : ℕ → List ℕ) (i : ℕ) (sector : List ℕ) �
 unfolding joined
 length-joined_more f i sector before is whole =
     rw add-one (let one = ap length is in omega (arith, length-append (joined f i) (f i)))
+
+-- the sectors of key material that the image contains
+length-sectors : (key : Cipher) (image : List ℕ) (offset n : ℕ) → offset + 512 * n ≤ length image
+    → length (joined (material_sector key image offset) n) ≡ n * 512
+unfolding joined
+length-sectors key image offset zero there = refl
+length-sectors key image offset (suc n) there =
+    let f = material_sector key image offset in
+    let before = length-sectors key image offset n (omega (arith, there)) in
+    let stored : length (take 512 (drop (offset + 512 * n) image)) ≡ 512 =
+    length-take-le 512 (drop (offset + 512 * n) image) (omega (arith, there, length-drop (offset + 512 * n) image)) in
+    let one : length (f n) ≡ 512 =
+    length-sector_decrypted key n (take 512 (drop (offset + 512 * n) image)) (omega (arith, stored)) ∙ stored in
+    omega (arith, before, one, length-append (joined f n) (f n))
+
+-- the key that key material holds has the length of a stripe
+pub length-recovered : (af : Hash) (key : Cipher) (image : List ℕ) (offset len stripes : ℕ)
+    → is_key_length len ≡ true → 1 ≤ stripes → offset + need_of len stripes ≤ length image
+    → length (recovered af key image offset len stripes) ≡ len
+unfolding recovered decrypted_material need_of
+length-recovered af key image offset len stripes is some there =
+    let count = need_of len stripes / 512 in
+    let material = joined (material_sector key image offset) count in
+    let all : length material ≡ count * 512 =
+    length-sectors key image offset count (omega (arith, there)) in
+    let whole : length (take (len * stripes) material) ≡ len * stripes =
+    length-take-le (len * stripes) material (omega (arith, all)) in
+    let number : stripes ≡ suc (stripes - 1) = omega (arith, some) in
+    length-merged af len (take (len * stripes) material) (stripes - 1) (omega (arith, some_bytes len is))
+    (whole ∙ (mul_comm len stripes ∙ ap (λ n. n * len) number))
 
 -- whole sectors consist of whole stripes
 pub whole_sectors : (number in_sector len : ℕ) → in_sector * len ≡ 512 → number * 512 ≡ number * in_sector * len

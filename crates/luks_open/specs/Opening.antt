@@ -20,7 +20,7 @@ if_matches_digest digest (Some key) = if matches_digest digest key then Some key
 
 -- the volume key that a key slot gives under a passphrase, if it opens
 unfoldable pub slot_key : Entry → List ℕ → List ℕ → Option (List ℕ)
-slot_key entry image pass = if_matches_digest entry.digest (candidate_of entry.slot image pass)
+slot_key entry image pass = if_matches_digest entry.slot.digest (candidate_of entry.slot image pass)
 
 -- this key slot if it opens, or else the further one that opens
 abbrev pub opened_or : ℕ → Option (List ℕ) → Option Opened → Option Opened
@@ -51,7 +51,7 @@ evaluations None iterations bytes = 0
 unfoldable pub evaluations_of : Entry → ℕ
 evaluations_of entry =
     evaluations entry.slot.parts.kdf_hash entry.slot.parts.iterations entry.slot.parts.area_key_bytes
-    + evaluations entry.digest.hash entry.digest.iterations (length entry.digest.value)
+    + evaluations entry.slot.digest.hash entry.slot.digest.iterations (length entry.slot.digest.value)
 
 -- the key slots that are tried: up to the first that opens, or all
 unfoldable pub tried_of : List Entry → List ℕ → List ℕ → List Entry

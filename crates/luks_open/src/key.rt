@@ -32,44 +32,6 @@ impl Model for Key {
 }
 
 impl Key {
-    // A key of `len` bytes, which are yet to be written.
-    fn blank(len: usize) -> Key
-        requires { len ≤ 64 }
-        ensures { length result ≡ len }
-    {
-        Key {
-            bytes: [0; MAX_KEY_LEN],
-            len,
-        }
-    }
-
-    // Writes the key that PBKDF2 derives from a passphrase or a candidate key.
-    fn derive(&mut self, hash: Hash, secret: &[u8], salt: &[u8], iterations: u32, work: &mut Work)
-        requires iterations { 1 ≤ iterations }
-        requires some { 1 ≤ length self.old }
-        ensures key { self.new ≡ derived_key hash secret.now salt.now iterations (length self.old) }
-        ensures work { work.new ≡ capped (work.old
-            + iterations * div_ceil (length self.old) (digest_len hash)) }
-    {
-        let len = self.len;
-        let bytes = &mut self.bytes[..len];
-        pbkdf2(hash, secret, salt, iterations, bytes, work);
-    }
-
-    // Writes the volume key that the key material from `offset` on holds.
-    fn recover(&mut self, af: Hash, key: &SectorCipher, image: &[u8], offset: usize, stripes: usize)
-        requires key_bytes { is_key_length (length self.old) ≡ true }
-        requires some { 1 ≤ stripes }
-        requires few { stripes ≤ max_stripes }
-        requires there { offset + need_of (length self.old) stripes ≤ length image.now }
-        ensures key { self.new ≡ recovered af key.now image.now offset (length self.old) stripes }
-        ensures len { length self.new ≡ length self.old }
-    {
-        let len = self.len;
-        let bytes = &mut self.bytes[..len];
-        material::recover(af, key, image, offset, stripes, bytes);
-    }
-
     /// The key of `len` bytes that PBKDF2 derives from a passphrase or from a candidate key.
     pub(crate) fn derived(
         hash: Hash,
@@ -85,9 +47,9 @@ impl Key {
         ensures key { result ≡ derived_key hash secret.now salt.now iterations len }
         ensures work { work.new ≡ capped (work.old + iterations * div_ceil len (digest_len hash)) }
     {
-        let mut key = Key::blank(len);
-        key.derive(hash, secret, salt, iterations, work);
-        key
+        let mut bytes = [0; MAX_KEY_LEN];
+        pbkdf2(hash, secret, salt, iterations, &mut bytes[..len], work);
+        Key { bytes, len }
     }
 
     /// The volume key of `len` bytes that the key material from `offset` on holds.
@@ -103,12 +65,11 @@ impl Key {
         requires some { 1 ≤ stripes }
         requires few { stripes ≤ max_stripes }
         requires there { offset + need_of len stripes ≤ length image.now }
-        ensures key { result ≡ recovered af key.now image.now offset len stripes }
-        ensures len { length result ≡ len }
+        ensures { result ≡ recovered af key.now image.now offset len stripes }
     {
-        let mut volume_key = Key::blank(len);
-        volume_key.recover(af, key, image, offset, stripes);
-        volume_key
+        let mut bytes = [0; MAX_KEY_LEN];
+        material::recover(af, key, image, offset, stripes, &mut bytes[..len]);
+        Key { bytes, len }
     }
 
     /// The bytes of the key.

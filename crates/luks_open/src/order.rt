@@ -1,53 +1,56 @@
 //! The order in which key slots are tried.
 
 ghost use Rattle.std.specs.Prelude.{◌≡◌, ◌++◌, Err, IfOk, IsOk, IsSome, OnOk, OnErr, option_map};
-ghost use Rattle.std.specs.Prelude.{[], ◌≤◌, length};
+ghost use Rattle.std.specs.Prelude.{[], ◌∷◌, ◌≤◌, is_some, length};
 ghost use Rattle.std.specs.List.{cons_option};
 ghost use Rattle.luks_verdict.specs.Rule.{max_slots};
-ghost use Rattle.luks_verdict.specs.Slot.{verdict_kind_of};
 ghost use Rattle.luks_verdict.specs.Table.{ascending};
-ghost use Rattle.luks_open.specs.Order.{IsOrMemory, order_of, skipped_at, entry_at};
-ghost use Rattle.luks_open.specs.Order.{order_of_all, order_of_named, usable_at};
+ghost use Rattle.luks_open.specs.Order.{IsOrMemory, order_of, skipped_at};
+ghost use Rattle.luks_open.specs.Order.{order_of_all, order_of_named, tried_with};
 ghost use Rattle.luks_header.specs.SlotVerdicts.{verdict_at};
 
-use crate::entry::{Entry, entry_at};
+use crate::entry::Entry;
 use crate::fault::OpenFault;
 use crate::ordered::Order;
 use crate::skipped::SkippedSlots;
 use luks_header::header::Header;
 use luks_header::refusal::SkipReason;
 use luks_header::rule::MAX_SLOTS;
-use luks_header::slot::{VerdictKind, verdict_kind};
+use luks_header::slot::{Slot, Verdict, VerdictKind, verdict, verdict_kind};
 use std::alloc::{AllocError, Global};
 
-// The entry of the key slot of this number, if it can be tried and has this priority. Otherwise it
+// Whether the key slot of this number can be tried and has this priority.
+fn has_priority(header: &Header, limit: Option<u32>, priority: u8, number: u8) -> bool
+    ensures { result ≡ is_some (tried_with header.now limit priority number) }
+{
+    match verdict_kind(header, limit, number) {
+        Some(VerdictKind::Usable(its)) if its == priority => true,
+        _ => false,
+    }
+}
+
+// Appends the key slot of this number, if it can be tried and has this priority. Otherwise it
 // allocates nothing, which is why it looks at the kind of the verdict first.
-fn usable_at(
+fn push_tried(
     alloc: Global,
+    entries: &mut Vec<Entry>,
     header: &Header,
     limit: Option<u32>,
     priority: u8,
     number: u8,
-) -> Result<Option<Entry>, AllocError>
-    ensures ok { IfOk result (λ entry. entry ≡ usable_at header.now limit priority number) }
-    ensures err { OnErr result (IsSome (usable_at header.now limit priority number)) }
+) -> Result<(), AllocError>
+    ensures ok { OnOk result (entries.new.items
+        ≡ entries.old.items ++ cons_option (tried_with header.now limit priority number) []) }
+    ensures err { OnErr result (IsSome (tried_with header.now limit priority number)) }
 {
-    match verdict_kind(header, limit, number) {
-        Some(VerdictKind::Usable(its)) if its == priority => {
-            entry_at(alloc, header, limit, number)
-        }
-        _ => Ok(None),
+    if !has_priority(header, limit, priority, number) {
+        return Ok(());
     }
-}
-
-// Appends the entry, if there is one.
-fn push_entry(entries: &mut Vec<Entry>, entry: Option<Entry>) -> Result<(), AllocError>
-    ensures ok { OnOk result (entries.new.items ≡ entries.old.items ++ cons_option entry []) }
-    ensures err { OnErr result (IsSome entry) }
-{
-    if let Some(entry) = entry {
-        entries.push(entry)?;
-    }
+    let verdict = verdict(alloc, header, limit, number)?;
+    let Some(Verdict::Usable(slot)) = verdict else {
+        return Ok(());
+    };
+    entries.push(Entry { number, slot })?;
     Ok(())
 }
 
@@ -60,13 +63,12 @@ fn push_usable(
     priority: u8,
 ) -> Result<(), AllocError>
     ensures ok { OnOk result (entries.new.items
-        ≡ entries.old.items ++ ascending (usable_at header.now limit priority) max_slots) }
+        ≡ entries.old.items ++ ascending (tried_with header.now limit priority) max_slots) }
     ensures err { OnErr result (1
-        ≤ length (ascending (usable_at header.now limit priority) max_slots)) }
+        ≤ length (ascending (tried_with header.now limit priority) max_slots)) }
 {
     for number in 0..MAX_SLOTS {
-        let entry = usable_at(alloc, header, limit, priority, number)?;
-        push_entry(entries, entry)?;
+        push_tried(alloc, entries, header, limit, priority, number)?;
     }
     Ok(())
 }
@@ -110,19 +112,13 @@ fn order_all(alloc: Global, header: &Header, limit: Option<u32>) -> Result<Order
     Ok(Order::new(entries, skipped))
 }
 
-// The order if a key slot that can be tried is named.
-fn order_usable(
-    alloc: Global,
-    header: &Header,
-    limit: Option<u32>,
-    named: u8,
-) -> Result<Order, AllocError>
+// The order that tries this key slot alone.
+fn order_alone(alloc: Global, number: u8, slot: Slot) -> Result<Order, AllocError>
     ensures { IfOk result (λ order. order
-        ≡ record { entries = cons_option (entry_at header.now limit named) []; skipped = [] }) }
+        ≡ record { entries = record { number = number; slot = slot } ∷ []; skipped = [] }) }
 {
-    let entry = entry_at(alloc, header, limit, named)?;
     let mut alone = Vec::new(alloc);
-    push_entry(&mut alone, entry)?;
+    alone.push(Entry { number, slot })?;
     Ok(Order::new(alone, SkippedSlots::new()))
 }
 
@@ -133,17 +129,16 @@ fn order_named(
     limit: Option<u32>,
     named: u8,
 ) -> Result<Order, OpenFault>
-    ensures answer { IsOrMemory (order_of_named (entry_at header.now limit named)
-        (option_map verdict_kind_of (verdict_at header.now limit named))) result }
+    ensures answer { IsOrMemory (order_of_named named (verdict_at header.now limit named)) result }
     ensures memory { result ≡ Err OpenFault.Memory
-        → IsOk (order_of_named (entry_at header.now limit named)
-        (option_map verdict_kind_of (verdict_at header.now limit named))) }
+        → IsOk (order_of_named named (verdict_at header.now limit named)) }
 {
-    match verdict_kind(header, limit, named) {
+    let verdict = verdict(alloc, header, limit, named)?;
+    match verdict {
         None => Err(OpenFault::NoSuchSlot),
-        Some(VerdictKind::Disabled) => Err(OpenFault::Disabled),
-        Some(VerdictKind::Skipped(reason)) => Err(OpenFault::NamedSkipped(reason)),
-        Some(VerdictKind::Usable(_)) => Ok(order_usable(alloc, header, limit, named)?),
+        Some(Verdict::Disabled) => Err(OpenFault::Disabled),
+        Some(Verdict::Skipped(reason)) => Err(OpenFault::NamedSkipped(reason)),
+        Some(Verdict::Usable(slot)) => Ok(order_alone(alloc, named, slot)?),
     }
 }
 

@@ -33,7 +33,7 @@ impl Order {
         Order { entries, skipped }
     }
 
-    /// The key slots with their numbers and digests, in the order in which they are tried.
+    /// The key slots with their numbers, in the order in which they are tried.
     pub fn entries(&self) -> &[Entry]
         ensures { result.now ≡ self.now.entries }
     {

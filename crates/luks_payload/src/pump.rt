@@ -26,9 +26,9 @@ const CAPACITY: usize = 4096;
 
 /// Forwards a payload, sector by sector. It buffers one sector and allocates nothing.
 ///
-/// A clause sees its segment, its cipher, the number of the image's bytes before the payload that
-/// were consumed before it was made, the number of sectors that it has forwarded, its state, and
-/// the next bytes of the payload that were consumed before it was made.
+/// A clause sees its segment and its cipher, the number of sectors that it has forwarded, and its
+/// state. It also sees what was consumed before it was made: how many of the image's bytes before
+/// the payload, and the first bytes of the payload.
 #[derive(Drop)]
 pub struct Pump<'a> {
     segment: Segment,

@@ -20,8 +20,8 @@ message_for_header Json = M.Json
 message_for_header HeaderRead = M.ReadFailed
 message_for_header HeaderMemory = M.OutOfMemory
 
--- the message if no key slot was tried or none opens; `named` is the number of the named slot, if there is one. Without
--- it, no fault is about a named slot
+-- the message if no key slot was tried or none opens; `named` is the number of the named slot, if there is one. If none
+-- is named, the fault is not about a named slot, and the 0 is not used
 abbrev pub message_for_opening : Option ℕ → OpenFault → Message
 message_for_opening named NoSuchSlot = M.NoSuchSlot (unwrap_or named 0)
 message_for_opening named Disabled = M.SlotDisabled (unwrap_or named 0)

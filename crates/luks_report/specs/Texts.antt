@@ -1,7 +1,7 @@
 -- The texts of luksrd: its usage, its messages as printed on standard error, with the exit status of each, and what a
 -- check prints.
 use Prim.Native.String.{String}
-use Rattle.std.specs.Prelude.{ℕ, List, [], ◌∷◌, ◌++◌, ◌==◌, codes, flat_map, if◌then◌else◌, length}
+use Rattle.std.specs.Prelude.{ℕ, List, [], ◌∷◌, ◌++◌, ◌==◌, codes, flat_map, if◌then◌else◌, length, Result, Ok, Err}
 use Rattle.std.specs.Fmt.{decimal}
 pub use Rattle.luks_check.specs.Findings.{findings_of}
 use Rattle.luks_header.specs.SegmentFault.{fault_text}
@@ -116,3 +116,8 @@ check_of header = if length (findings_of header) == 0 then codes "clean" ++ 10 �
 -- how `luksCheck` of a header ends
 unfoldable pub message_for_check : Header → Message
 message_for_check header = if length (findings_of header) == 0 then Done else Findings
+
+-- the message of a part of a run
+abbrev pub result_message : {T : Type 0} → Result T Message → Message
+result_message (Ok _) = Done
+result_message (Err message) = message

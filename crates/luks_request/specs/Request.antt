@@ -7,6 +7,7 @@ use Rattle.luks_request.specs.declared.command.Command.{Command}
 use Rattle.luks_request.specs.declared.command.Command.TheVariants.{AfMerge, AfSplit, IsLuks, LuksCat}
 use Rattle.luks_request.specs.declared.command.Command.TheVariants.{LuksCheck, LuksDump, LuksUuid, TestPassphrase}
 use Rattle.luks_request.specs.declared.command.HeaderArgs.{HeaderArgs}
+use Rattle.luks_request.specs.declared.command.SlotChoice.{SlotChoice}
 use Rattle.luks_request.specs.declared.command.VolumeArgs.{VolumeArgs}
 use Rattle.luks_request.specs.declared.command.SplitArgs.{SplitArgs}
 use Rattle.luks_request.specs.declared.command.MergeArgs.{MergeArgs}
@@ -23,8 +24,7 @@ pub record VolumeRequest : Type 0 where
   pub image : Argument
   pub header : Option Argument
   pub key_file : Argument
-  pub key_slot : Option ℕ
-  pub max_iterations : Option ℕ
+  pub slots : SlotChoice
 
 pub record SplitRequest : Type 0 where
   pub hash : Hash
@@ -106,8 +106,7 @@ volume_request o = record {
   image = o.image.now;
   header = option_map (λ file. file.now) o.header;
   key_file = o.key_file.now;
-  key_slot = option_map (λ slot. slot.number) o.key_slot;
-  max_iterations = option_map (λ limit. limit.iterations) o.max_iterations;
+  slots = o.slots;
 }
 
 abbrev pub split_request : SplitArgs → SplitRequest

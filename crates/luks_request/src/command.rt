@@ -5,7 +5,7 @@ ghost use Rattle.luks_request.specs.Request.{header_file_of, image_of, has_heade
 ghost use Rattle.luks_request.specs.Request.{is_standard};
 ghost use Rattle.luks_request.specs.Request.{reuses_stdin, request_of, secret_of};
 
-use crate::number::{IterationLimit, KeyBytes, SlotNumber, StripeCount};
+use crate::number::{KeyBytes, StripeCount};
 use luks_kdf::Hash;
 
 /// A request to luksrd. The texts are those of the arguments; an input named `-` is standard input.
@@ -38,6 +38,15 @@ pub struct HeaderArgs<'a> {
     pub header: Option<&'a str>,
 }
 
+/// The key slots of a volume that may be tried.
+#[derive(Clone, Copy, PartialEq, Eq, Debug)]
+pub struct SlotChoice {
+    /// The only key slot to try. If none is named, all that can be tried are tried.
+    pub named: Option<u8>,
+    /// The most iterations that a key slot or a digest may have.
+    pub max_iterations: Option<u32>,
+}
+
 /// A volume to be opened.
 #[derive(Clone, Copy, PartialEq, Eq, Debug)]
 pub struct VolumeArgs<'a> {
@@ -47,10 +56,8 @@ pub struct VolumeArgs<'a> {
     pub header: Option<&'a str>,
     /// The name of the input with the passphrase.
     pub key_file: &'a str,
-    /// The only key slot to try. If none is named, all that can be tried are tried.
-    pub key_slot: Option<SlotNumber>,
-    /// The most iterations that a key slot or a digest may have.
-    pub max_iterations: Option<IterationLimit>,
+    /// The key slots that may be tried.
+    pub slots: SlotChoice,
 }
 
 /// A key to be split into stripes.

@@ -81,80 +81,29 @@ impl KeyBytes {
     }
 }
 
-/// The number of a key slot: 0 to 31.
-#[derive(Clone, Copy, PartialEq, Eq, Debug)]
-pub struct SlotNumber {
-    /// The number.
-    pub number: u8,
-    ghost in_range: { number ≤ 31 },
-}
-
-impl SlotNumber {
-    /// The slot of this number, or `None` if it is out of range.
-    pub fn new(number: u64) -> Option<SlotNumber>
-        ensures { option_map (λ slot. slot.number) result ≡ if_within 0 31 number }
-    {
-        if number <= 31 {
-            Some(SlotNumber {
-                number: number as u8,
-            })
-        } else {
-            None
-        }
-    }
-
-    /// The number.
-    pub fn get(self) -> u8
-        ensures { result ≡ self.number }
-    {
-        self.number
-    }
-
-    /// The slot whose number is in a text of 1 to 10 digits, or `None` for any other text and if
-    /// the number is out of range.
-    pub fn read(text: &str) -> Option<SlotNumber>
-        ensures { option_map (λ slot. slot.number) result ≡ number_within 0 31 text.now }
-    {
-        SlotNumber::new(number(text)?)
+/// The number of a key slot, 0 to 31, in a text of 1 to 10 digits, or `None` for any other text and
+/// if the number is out of range.
+pub fn slot_number(text: &str) -> Option<u8>
+    ensures { result ≡ number_within 0 31 text.now }
+{
+    let number = number(text)?;
+    if number <= 31 {
+        Some(number as u8)
+    } else {
+        None
     }
 }
 
-/// A limit on iterations: 1 to 4294967295.
-#[derive(Clone, Copy, PartialEq, Eq, Debug)]
-pub struct IterationLimit {
-    /// The most iterations that are allowed.
-    pub iterations: u32,
-    ghost in_range: { 1 ≤ iterations },
-}
-
-impl IterationLimit {
-    /// This limit, or `None` if it is out of range.
-    pub fn new(number: u64) -> Option<IterationLimit>
-        ensures { option_map (λ limit. limit.iterations) result ≡ if_within 1 4294967295 number }
-    {
-        if 1 <= number && number <= 4294967295 {
-            Some(IterationLimit {
-                iterations: number as u32,
-            })
-        } else {
-            None
-        }
-    }
-
-    /// The most iterations that are allowed.
-    pub fn get(self) -> u32
-        ensures { result ≡ self.iterations }
-    {
-        self.iterations
-    }
-
-    /// The limit in a text of 1 to 10 digits, or `None` for any other text and if the limit is out
-    /// of range.
-    pub fn read(text: &str) -> Option<IterationLimit>
-        ensures { option_map (λ limit. limit.iterations) result
-            ≡ number_within 1 4294967295 text.now }
-    {
-        IterationLimit::new(number(text)?)
+/// A limit on iterations, 1 to 4294967295, in a text of 1 to 10 digits, or `None` for any other
+/// text and if the limit is out of range.
+pub fn iteration_limit(text: &str) -> Option<u32>
+    ensures { result ≡ number_within 1 4294967295 text.now }
+{
+    let number = number(text)?;
+    if 1 <= number && number <= 4294967295 {
+        Some(number as u32)
+    } else {
+        None
     }
 }
 

@@ -4,7 +4,7 @@ use Rattle.std.proofs.Common.{◌≡◌, ℕ, Bool, true, false, List, Option, O
 use Rattle.luks_io.specs.Devices.{Appended, ConsumedExactly}
 use Rattle.luks_io.proofs.EffectLemmas.{adds-none}
 use Rattle.luks_header.specs.Header.{ReadsNoHeader, header_read_len, header_of}
-use Rattle.luks_header.proofs.HeaderLemmas.{memory_below, probe_is}
+use Rattle.luks_header.proofs.KnownLemmas.{memory_below, probe_is}
 use Rattle.luks_header.specs.declared.header.Header.{Header}
 use Rattle.luks_area.specs.declared.fault.HeaderFault.{HeaderFault}
 use Rattle.luks_area.specs.declared.fault.HeaderFault.TheVariants.{Read, Memory}

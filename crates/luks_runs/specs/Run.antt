@@ -1,10 +1,11 @@
 -- The outcome of a run, its effects on its devices, and what it still satisfies if it is aborted. Each device is
 -- treated by itself: a run consumes this many bytes of the first and of the second input, and writes this output; what
 -- that means for a device is a separate fact.
-use Rattle.std.specs.Prelude.{◌≡◌, ℕ, ◌<◌, ◌≤◌, List, length, take, Bool, true, false, MatchBool, Result, Ok, Err}
+use Rattle.std.specs.Prelude.{◌≡◌, ℕ, ◌<◌, ◌≤◌, List, length, take, Bool, true, false, MatchBool}
 use Rattle.std.specs.Prelude.{Option, []}
+pub use Rattle.luks_report.specs.Texts.{result_message}
 use Rattle.luks_report.specs.declared.message.Message.{Message}
-use Rattle.luks_report.specs.declared.message.Message.TheVariants.{Done, OutOfMemory, ReadFailed, WriteFailed}
+use Rattle.luks_report.specs.declared.message.Message.TheVariants.{OutOfMemory, ReadFailed, WriteFailed}
 use Rattle.luks_io.specs.Devices.{Appended}
 
 -- the output, the message, and how many bytes are consumed of each input. `input_consumed` counts the input that is
@@ -91,11 +92,6 @@ ConsumedNothing count = count ≡ 0
 abbrev pub RunMatches : Promptness → Outcome → Message → (ℕ → Type 0) → (ℕ → Type 0) → (List ℕ → Type 0) → Type 0
 RunMatches pace outcome message ConsumedInput ConsumedSecret Wrote =
     DetachedRunMatches pace outcome message ConsumedInput ConsumedNothing ConsumedSecret Wrote
-
--- the message of a part of a run
-abbrev pub result_message : {T : Type 0} → Result T Message → Message
-result_message (Ok _) = Done
-result_message (Err message) = message
 
 -- a failed read is reported
 abbrev pub is_run_read_failure : Message → Bool

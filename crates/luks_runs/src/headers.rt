@@ -58,30 +58,21 @@ pub enum Printout {
     Check,
 }
 
-/// The text of a printout, and the message once it is printed.
+/// The text of a printout, and how the command ends once it is printed.
 fn printed_text(
     alloc: Global,
     printout: Printout,
     header: &Header,
-) -> Result<(String, Message), AllocError>
+) -> Result<(String, Result<(), Message>), AllocError>
     ensures text { IfOk result
         (λ printed. string_bytes printed.0 ≡ printout_text printout header.now) }
-    ensures reported { IfOk result (λ printed. printed.1 ≡ printout_message printout header.now) }
+    ensures reported { IfOk result
+        (λ printed. result_message printed.1 ≡ printout_message printout header.now) }
 {
     match printout {
-        Printout::Uuid => Ok((uuid_text(alloc, header)?, Message::Done)),
-        Printout::Dump => Ok((dump_text(alloc, header)?, Message::Done)),
+        Printout::Uuid => Ok((uuid_text(alloc, header)?, Ok(()))),
+        Printout::Dump => Ok((dump_text(alloc, header)?, Ok(()))),
         Printout::Check => check_text(alloc, header),
-    }
-}
-
-/// A run that ends with this message.
-fn ended(message: Message) -> Result<(), Message>
-    ensures { result_message result ≡ message }
-{
-    match message {
-        Message::Done => Ok(()),
-        other => Err(other),
     }
 }
 
@@ -123,7 +114,7 @@ fn print_text<O: Sink>(
     ensures writes { Writes (is_run_write_failure (result_message result))
         (O.counts out.old) (O.counts out.new) }
 {
-    let (text, message) = printed_text(alloc, printout, header)?;
+    let (text, ending) = printed_text(alloc, printout, header)?;
     put_all(out, text.as_bytes())?;
-    ended(message)
+    ending
 }

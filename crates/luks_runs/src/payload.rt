@@ -40,7 +40,8 @@ fn pump_after<'a>(segment: Segment, cipher: SectorCipher, loaded: &'a [u8]) -> P
 }
 
 /// How many bytes of an image are still needed to forward its payload, if its first `loaded` bytes
-/// are loaded: those up to the payload's end, or as many as there can be if it ends with the image.
+/// are loaded: those up to the payload's end. A payload without a fixed size ends with the image,
+/// and may need all that an image can have.
 fn bytes_needed(segment: &Segment, loaded: usize) -> u64
     ensures { result ≡ max_needed segment.now.size segment.now.offset loaded }
 {

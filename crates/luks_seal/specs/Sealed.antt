@@ -17,7 +17,6 @@ use Rattle.luks_verdict.specs.declared.segment.Segment.{Segment}
 use Rattle.luks_verdict.specs.declared.slot.Slot.{Slot}
 use Rattle.luks_verdict.specs.declared.slot.SlotParts.{SlotParts}
 use Rattle.luks_verdict.specs.declared.slot.Verdict.TheVariants.{Usable}
-use Rattle.luks_header.specs.HeaderDigests.{digest_for}
 use Rattle.luks_header.specs.Header.{header_of}
 use Rattle.luks_header.specs.HeaderSegment.{segment_of}
 use Rattle.luks_header.specs.SlotVerdicts.{verdict_at}
@@ -62,15 +61,13 @@ pub record IsDigestOf (digest : KeyDigest) (key : List ℕ) : Type 0 where
   pub is_hash : digest.hash ≡ Some hash
   pub value : digest.value ≡ derived_key hash key digest.salt digest.iterations (length digest.value)
 
--- the key slot of this number is usable without a limit on iterations, it gives the key under this passphrase, and its
--- digest is that of the key
+-- the key slot of this number is usable without a limit on iterations, it gives the key under this passphrase, and the
+-- digest of the slot is that of the key
 pub record SealsKey (header : Header) (image key : List ℕ) (number : ℕ) (passphrase : List ℕ) : Type 0 where
   pub slot : Slot
-  pub digest : KeyDigest
   pub usable : verdict_at header None number ≡ Some (Usable slot)
   pub gives : GivesKey slot.parts passphrase key image
-  pub is_digest : digest_for header number ≡ Some digest
-  pub digest_of_key : IsDigestOf digest key
+  pub digest_of_key : IsDigestOf slot.digest key
 
 -- the unit number of sector i: unit numbers count in steps of 512 bytes, whatever the sector size, and wrap at 2^64
 abbrev pub unit_number : Segment → ℕ → ℕ

@@ -69,10 +69,7 @@ pub fn cipher_with(mode: Mode, key: &[u8]) -> SectorCipher
     requires { FitsKey mode (length key.now) }
     ensures { result ≡ (mode, key.now) }
 {
-    let Some(cipher) = SectorCipher::new(mode, key) else {
-        unreachable!()
-    };
-    cipher
+    SectorCipher::expanded(mode, key)
 }
 
 /// The unit number of a sector.

@@ -36,7 +36,7 @@ use Rattle.luks_header.proofs.KnownLemmas.{known_usable, slot_of_usable, is_atta
 use Rattle.luks_open.specs.Candidate.{decrypted_material, material_sector, recovered, candidate_of, matches_digest}
 use Rattle.luks_open.specs.Opening.{first_opening, slot_key, opened_or, answer_of, opening_of}
 use Rattle.luks_open.specs.declared.entry.Entry.{Entry}
-use Rattle.luks_open.specs.Order.{entry_at, key_material_end, order_of}
+use Rattle.luks_open.specs.Order.{key_material_end, order_of}
 use Rattle.luks_open.specs.declared.opening.Opened.{Opened}
 use Rattle.luks_open.proofs.CallerLemmas.{All-order, IsOf, key_areas_before_payload}
 use Rattle.luks_payload.proofs.SectorLemmas.{one_more_fits}
@@ -47,7 +47,7 @@ use Rattle.luks_seal.proofs.MaterialLemmas.{derived_bytes, hash_bytes}
 use Rattle.luks_seal.specs.Sealed.{EndsWith, GivesKey, IsDigestOf, IsStoredEncrypted, Sealed, SealsKey, SealsPlain}
 use Rattle.luks_report.specs.Faults.{message_at_end}
 use Rattle.luks_report.specs.declared.message.Message.TheVariants.{Done}
-use Rattle.luks_request.specs.Request.{VolumeRequest}
+use Rattle.luks_request.specs.declared.command.SlotChoice.{SlotChoice}
 use Rattle.luks_runs.specs.Run.{Outcome}
 use Rattle.luks_runs.specs.declared.location.HeaderLocation.TheVariants.{Attached}
 use Rattle.luks_runs.specs.KeyFile.{max_key_file_len}
@@ -170,11 +170,10 @@ module _ (passphrase key image : List ℕ) where
       let same_slot : entry.slot ≡ seals.slot =
       same_Some _ _ (sym (slot_of_usable header limit entry.number entry.slot is.usable)
       ∙ slot_of_usable header None entry.number seals.slot seals.usable) in
-      let same_digest : entry.digest ≡ seals.digest = same_Some _ _ (sym is.digest ∙ seals.is_digest) in
       let known = known_usable header segment None entry.number seals.slot is_segment seals.usable in
       let some = rw seals.gives.key_bytes at (some_key segment.mode seals.slot.parts.key_bytes known.volume_key) in
       let candidate = candidate_again seals.slot some seals.gives in
-      rw (same_slot, same_digest, candidate, matches_again seals.digest seals.digest_of_key) refl
+      rw (same_slot, candidate, matches_again seals.slot.digest seals.digest_of_key) refl
 
 -- ---- the first key slot that opens
 
@@ -214,7 +213,8 @@ in_the_middle : {X : Type 0} (P : X → Type 0) (before : List X) (x : X) (after
 in_the_middle P [] x after all = all.0
 in_the_middle P (y ∷ before) x after all = in_the_middle P before x after all.1
 
-module _ (o : VolumeRequest) (image passphrase plain : List ℕ) (honest : OpensHonest o image passphrase plain) where
+module _ (slots : SlotChoice) (image passphrase plain : List ℕ)
+    (honest : OpensHonest slots image passphrase plain) where
   abbrev volume : Volume
   volume = record { header = honest.sealed.header; segment = honest.sealed.segment; order = honest.order }
 
@@ -224,12 +224,12 @@ module _ (o : VolumeRequest) (image passphrase plain : List ℕ) (honest : Opens
   opens =
       let sealed = honest.sealed in
       let first = honest.first in
-      let tried = All-order sealed.header o.key_slot o.max_iterations honest.order honest.is_order in
-      let is = in_the_middle (IsOf sealed.header o.max_iterations) first.before first.entry first.after
-      (subst (AllByRecursion (IsOf sealed.header o.max_iterations)) first.are tried) in
+      let tried = All-order sealed.header slots.named slots.max_iterations honest.order honest.is_order in
+      let is = in_the_middle (IsOf sealed.header slots.max_iterations) first.before first.entry first.after
+      (subst (AllByRecursion (IsOf sealed.header slots.max_iterations)) first.are tried) in
       let seals = sealed_with image honest.key plain passphrase honest.passphrases honest.number sealed
       honest.is_passphrase in
-      let gives = key_again passphrase honest.key image sealed.header sealed.segment o.max_iterations first.entry
+      let gives = key_again passphrase honest.key image sealed.header sealed.segment slots.max_iterations first.entry
       sealed.is_segment is
       (subst (λ (n : ℕ). SealsKey sealed.header image honest.key n passphrase) (sym first.is_number) seals) in
       let found = first_again first.before first.entry first.after image passphrase honest.key
@@ -239,26 +239,26 @@ module _ (o : VolumeRequest) (image passphrase plain : List ℕ) (honest : Opens
             first.are ∙ ap (λ (opened : Option Opened). answer_of opened honest.order.skipped) found.1,
       )
 
-  opened_is : (number : ℕ) × (volume_outcome (payload_outcome image passphrase) o image passphrase
+  opened_is : (number : ℕ) × (volume_outcome (payload_outcome image passphrase) slots image passphrase
       ≡ payload_outcome image passphrase honest.sealed.segment (record { slot = number; key = honest.key })
       (unlock_read_len image volume))
   opened_is =
       let sealed = honest.sealed in
-      let before = key_areas_before_payload sealed.header sealed.segment o.key_slot o.max_iterations honest.order
+      let before = key_areas_before_payload sealed.header sealed.segment slots.named slots.max_iterations honest.order
       (is_attached image sealed.header sealed.is_header) sealed.is_segment honest.is_order in
       let within : key_material_end honest.order.entries ≤ length image =
       omega (arith, before, sealed.payload.is_stored.there) in
       let cat = payload_outcome image passphrase in (
         opens.0,
-        found_is Attached o image passphrase sealed.header sealed.segment honest.order sealed.is_header
+        found_is Attached slots image passphrase sealed.header sealed.segment honest.order sealed.is_header
             sealed.is_segment honest.is_order cat
-            ∙ found_whole cat o.key_slot volume image passphrase honest.short within
-            ∙ ap (opened_outcome cat o.key_slot volume image passphrase) opens.1,
+            ∙ found_whole cat slots.named volume image passphrase honest.short within
+            ∙ ap (opened_outcome cat slots.named volume image passphrase) opens.1,
       )
 
   -- `luksCat` writes the plaintext and succeeds
-  pub unsealed : ((volume_outcome (payload_outcome image passphrase) o image passphrase).output ≡ plain)
-      × ((volume_outcome (payload_outcome image passphrase) o image passphrase).message ≡ Done)
+  pub unsealed : ((volume_outcome (payload_outcome image passphrase) slots image passphrase).output ≡ plain)
+      × ((volume_outcome (payload_outcome image passphrase) slots image passphrase).message ≡ Done)
   unsealed =
       let sealed = honest.sealed in (
         ap (λ (out : Outcome). out.output) opened_is.1
@@ -269,14 +269,14 @@ module _ (o : VolumeRequest) (image passphrase plain : List ℕ) (honest : Opens
 
 -- a sealed volume is honest for a passphrase of the named key slot, which is no longer than a key file may be, if there
 -- is no limit on iterations
-pub named_is_honest : (o : VolumeRequest) (image passphrase plain key : List ℕ) (passphrases : List (ℕ × List ℕ))
+pub named_is_honest : (slots : SlotChoice) (image passphrase plain key : List ℕ) (passphrases : List (ℕ × List ℕ))
     (number : ℕ) → Sealed image passphrases key plain → Contains passphrases (number, passphrase)
-    → length passphrase ≤ max_key_file_len → o.key_slot ≡ Some number → o.max_iterations ≡ None
-    → OpensHonest o image passphrase plain
-unfolding order_of entry_at
-named_is_honest o image passphrase plain key passphrases number sealed is short named unlimited =
+    → length passphrase ≤ max_key_file_len → slots.named ≡ Some number → slots.max_iterations ≡ None
+    → OpensHonest slots image passphrase plain
+unfolding order_of
+named_is_honest slots image passphrase plain key passphrases number sealed is short named unlimited =
     let seals = sealed_with image key plain passphrase passphrases number sealed is in
-    let tried : Entry = record { number = number; slot = seals.slot; digest = seals.digest } in
+    let tried : Entry = record { number = number; slot = seals.slot } in
     record {
       passphrases = passphrases;
       key = key;
@@ -285,7 +285,7 @@ named_is_honest o image passphrase plain key passphrases number sealed is short 
       is_passphrase = is;
       short = short;
       order = record { entries = tried ∷ []; skipped = [] };
-      is_order = rw (named, unlimited, seals.usable, seals.is_digest) refl;
+      is_order = rw (named, unlimited, seals.usable) refl;
       first = record {
         before = [];
         entry = tried;

@@ -1,36 +1,36 @@
--- Finding the volume of an image, and the outcome of a command that opens it.
+-- Finding the volume of an image, the outcome of a command that opens it, and the bytes that decide both.
 use Rattle.std.proofs.Common.{◌≡◌, ◌∙◌, ℕ, ◌⊎◌, inl, inr, List, [], ◌∷◌, Option, Some, Ok, Err, true, false, ap, refl}
 use Rattle.std.proofs.Common.{Bool, min, sym, length, append-nil, arith, ◌+◌, ◌-◌, ◌<◌, ◌≤◌, ◌++◌, Result, take, drop}
-use Rattle.std.proofs.Common.{length-drop, length-take-le, max}
-use Rattle.std.specs.Prelude.{is_err}
-use Rattle.std.proofs.lemmas.Bool.{le-ltb, lt-ltb}
+use Rattle.std.proofs.Common.{length-drop, length-take-le, max, take-take, take_all, lit≤}
+use Rattle.std.specs.Prelude.{is_err, ok_or, if◌then◌else◌}
+use Rattle.std.proofs.lemmas.Bool.{le-ltb, lt-ltb, cases_lt}
 use Rattle.std.proofs.lemmas.List.{drop-drop}
 use Rattle.std.proofs.Math.Seq.{take-add}
 use Rattle.luks_io.proofs.EffectLemmas.{reads_more}
 use Rattle.luks_io.specs.Counts.{Reads}
 use Rattle.luks_io.specs.Devices.{ConsumedExactly, counted}
 use Rattle.luks_io.specs.declared.counts.ReadCounts.{ReadCounts}
-use Rattle.luks_area.specs.Area.{ConsumedOnto, HeaderAreaModel}
+use Rattle.luks_area.specs.Area.{ConsumedOnto, HeaderAreaModel, max_loaded_len}
 use Rattle.luks_area.specs.declared.fault.HeaderFault.{HeaderFault}
-use Rattle.luks_area.specs.declared.fault.HeaderFault.TheVariants.{Read as HeaderRead, Memory as HeaderMemory}
+use Rattle.luks_area.specs.declared.fault.HeaderFault.TheVariants.{Read as HeaderRead, Memory as HeaderMemory, NotLuks}
 use Rattle.luks_verdict.specs.declared.segment.Segment.{Segment}
-use Rattle.luks_header.specs.Header.{ReadsNoHeader, header_read_len}
-use Rattle.luks_header.proofs.HeaderLemmas.{memory_below}
+use Rattle.luks_header.specs.Header.{ReadsNoHeader, header_read_len, header_of, with_metadata, with_text}
+use Rattle.luks_header.proofs.KnownLemmas.{memory_below, begins_longer}
 use Rattle.luks_header.specs.HeaderSegment.{segment_of}
 use Rattle.luks_header.specs.declared.header.Header.{Header}
 use Rattle.luks_open.specs.Order.{OrderModel, order_of, key_material_end}
 use Rattle.luks_open.specs.declared.fault.OpenFault.{OpenFault}
 use Rattle.luks_open.specs.declared.fault.OpenFault.TheVariants.{Memory}
-use Rattle.luks_open.proofs.CallerLemmas.{opening_beginning}
+use Rattle.luks_open.proofs.CallerLemmas.{opening_beginning, key_material_end-within}
 use Rattle.luks_open.specs.Opening.{opening_of}
 use Rattle.luks_open.specs.declared.opening.Opened.{Opened}
 use Rattle.luks_report.specs.Faults.{message_for_header, message_for_opening}
 use Rattle.luks_report.specs.declared.message.Message.{Message}
 use Rattle.luks_report.specs.declared.message.Message.TheVariants.{OutOfMemory, ReadFailed, Cut, KeyFileLength}
-use Rattle.luks_request.specs.Request.{VolumeRequest}
+use Rattle.luks_request.specs.declared.command.SlotChoice.{SlotChoice}
 use Rattle.luks_runs.proofs.HeaderRuns.{reading_fault, header_read_len_within}
 use Rattle.luks_runs.specs.Run.{is_run_read_failure, no_output}
-use Rattle.luks_runs.specs.Location.{LoadedFrom, reader_for}
+use Rattle.luks_runs.specs.Location.{LoadedFrom, reader_for, as_detached}
 use Rattle.luks_runs.specs.declared.location.HeaderLocation.{HeaderLocation}
 use Rattle.luks_runs.specs.KeyFile.{max_key_file_len}
 use Rattle.luks_unlock.specs.Found.{FindsNoVolume, FindsVolume}
@@ -38,6 +38,18 @@ use Rattle.luks_unlock.specs.Trying.{HitsMaterialEof}
 use Rattle.luks_unlock.specs.declared.found.FoundVolume.{FoundVolume}
 use Rattle.luks_unlock.specs.Volume.{volume_by, volume_in_header, OnOpened, Volume, found_outcome, opened_outcome}
 use Rattle.luks_unlock.specs.Volume.{outcome_after, volume_outcome_by}
+use Rattle.luks1_header.specs.Header1.{is_luks1}
+use Rattle.luks2_binary.proofs.ChoiceLemmas.{json_beginning, probe_other, probe_primary, stable_by}
+use Rattle.luks2_binary.proofs.SearchLemmas.{furthest, search_len_is}
+use Rattle.luks2_binary.proofs.ValidLemmas.{fits_parts, probe_fit, probe_unfit, size_range, valid_range}
+use Rattle.luks2_binary.specs.Choice2.{binary_at, fits, header2_of, is_valid}
+use Rattle.luks2_binary.specs.ReadLen2.{header2_read_len, probe2_len, probe_end, greatest}
+use Rattle.luks2_binary.specs.Reading2.{IsPrefixOf}
+use Rattle.luks2_binary.specs.Header2.{sizes}
+use Rattle.luks2_binary.specs.Text2.{json_text_of}
+use Rattle.luks2_binary.specs.declared.header.Header2.{Header2}
+use Rattle.luks2_json.specs.Tree.{tree_of}
+use Rattle.luks_runs.specs.declared.location.HeaderLocation.TheVariants.{Attached, Detached}
 
 -- nothing is consumed from an image of which no bytes remain
 pub none_behind : (area rest : List ℕ) (left : Option (List ℕ)) (most : ℕ) → left ≡ Some rest → rest ≡ []
@@ -59,24 +71,24 @@ nothing_left area left left' counts counts' known rest loaded knows there ended 
 -- if the first reads hit the end and the others changed no count, all of them together hit the end
 ends_for_good : (failed ended : Bool) (a b c : ReadCounts) → Reads false true a b → c ≡ b → Reads failed ended b c
     → Reads failed true a c
-ends_for_good failed ended a b c first kept then = record {
-  failures = then.failures ∙ ap (counted failed) first.failures;
+ends_for_good failed ended a b c first kept next = record {
+  failures = next.failures ∙ ap (counted failed) first.failures;
   ends = ap (λ (counts : ReadCounts). counts.ends) kept ∙ first.ends;
   needed = λ live. ap (λ (counts : ReadCounts). counts.needless) kept ∙ first.needed live;
-  ahead = omega (arith, first.ahead, then.ahead);
+  ahead = omega (arith, first.ahead, next.ahead);
 }
 
 -- reads without a failure and further reads count as one run of reads, if none was made after the end
 pub reads_on : (failed ended ended' : Bool) (a b c : ReadCounts) → Reads false ended a b → (ended ≡ true → c ≡ b)
     → Reads failed ended' b c → (last : Bool) × Reads failed last a c
-reads_on failed true ended' a b c first kept then = (true, ends_for_good failed ended' a b c first (kept refl) then)
-reads_on failed false ended' a b c first kept then = (ended', reads_more failed ended' a b c first then)
+reads_on failed true ended' a b c first kept next = (true, ends_for_good failed ended' a b c first (kept refl) next)
+reads_on failed false ended' a b c first kept next = (ended', reads_more failed ended' a b c first next)
 
 -- if the further reads did not hit the end, the run hit it if and only if the first reads did
 pub reads_within : (failed ended : Bool) (a b c : ReadCounts) → Reads false ended a b → (ended ≡ true → c ≡ b)
     → Reads failed false b c → Reads failed ended a c
-reads_within failed true a b c first kept then = ends_for_good failed false a b c first (kept refl) then
-reads_within failed false a b c first kept then = reads_more failed false a b c first then
+reads_within failed true a b c first kept next = ends_for_good failed false a b c first (kept refl) next
+reads_within failed false a b c first kept next = reads_more failed false a b c first next
 
 -- no fault of opening is reported as a failed read, or as an image that ended
 pub opening_reads : (named : Option ℕ) (fault : OpenFault) (a b : ReadCounts) → Reads false false a b
@@ -87,10 +99,10 @@ opening_reads named _ a b reads = (false, reads, refl)
 
 -- ---- the header of an image
 
-module _ (location : HeaderLocation) (o : VolumeRequest) (image : List ℕ) (left : Option (List ℕ)) where
+module _ (location : HeaderLocation) (slots : SlotChoice) (image : List ℕ) (left : Option (List ℕ)) where
   -- if there is no header, or reading it was aborted, no volume is found
   pub aborts_without_header : (ends ends' : ℕ) (fault : HeaderFault) → ReadsNoHeader image left ends ends' fault
-      → FindsNoVolume (reader_for location) o image left (message_for_header fault)
+      → FindsNoVolume (reader_for location) slots image left (message_for_header fault)
   unfolding volume_by
   aborts_without_header ends ends' HeaderRead stop = stop.0
   aborts_without_header ends ends' HeaderMemory stop = memory_below image left ends ends' stop
@@ -99,8 +111,8 @@ module _ (location : HeaderLocation) (o : VolumeRequest) (image : List ℕ) (lef
   -- if there is no volume with this header, or memory for the order of its key slots ran out, no volume is found
   pub aborts_without_slots : (header : Header) → reader_for location image ≡ Ok header
       → ConsumedExactly image left (header_read_len image) → (message : Message)
-      → (message ≡ OutOfMemory) ⊎ (volume_in_header o.key_slot o.max_iterations (Ok header) ≡ Err message)
-      → FindsNoVolume (reader_for location) o image left message
+      → (message ≡ OutOfMemory) ⊎ (volume_in_header slots.named slots.max_iterations (Ok header) ≡ Err message)
+      → FindsNoVolume (reader_for location) slots image left message
   unfolding volume_by
   aborts_without_slots header found rest OutOfMemory why = (header_read_len image, omega arith, rest)
   aborts_without_slots header found rest ReadFailed why = (header_read_len image, omega arith, rest)
@@ -108,31 +120,31 @@ module _ (location : HeaderLocation) (o : VolumeRequest) (image : List ℕ) (lef
   aborts_without_slots header found rest _ (inr why) = (rw found why, rest)
 
 -- the header of an image, its segment and its order make its volume
-pub volume_is : (location : HeaderLocation) (o : VolumeRequest) (image : List ℕ) (header : Header) (segment : Segment)
+pub volume_is : (location : HeaderLocation) (slots : SlotChoice) (image : List ℕ) (header : Header) (segment : Segment)
     (order : OrderModel) → reader_for location image ≡ Ok header → segment_of header ≡ Ok segment
-    → order_of header o.key_slot o.max_iterations ≡ Ok order
-    → volume_by (reader_for location) o image ≡ Ok (record { header = header; segment = segment; order = order })
+    → order_of header slots.named slots.max_iterations ≡ Ok order
+    → volume_by (reader_for location) slots image ≡ Ok (record { header = header; segment = segment; order = order })
 unfolding volume_by
-volume_is location o image header segment order found is ordered = rw (found, is, ordered) refl
+volume_is location slots image header segment order found is ordered = rw (found, is, ordered) refl
 
 -- an image in which a volume was found has one
-pub there_is_volume : (location : HeaderLocation) (o : VolumeRequest) (volume : FoundVolume)
+pub there_is_volume : (location : HeaderLocation) (slots : SlotChoice) (volume : FoundVolume)
     (left left' : Option (List ℕ)) (counts counts' : ReadCounts) (known : List ℕ)
-    → FindsVolume location o volume left left' counts counts' → left ≡ Some known
-    → is_err (volume_by (reader_for location) o known) ≡ true → ⊥
-there_is_volume location o volume left left' counts counts' known found is none =
-    let there = volume_is location o known volume.header volume.segment volume.order (found.header known is).0
+    → FindsVolume location slots volume left left' counts counts' → left ≡ Some known
+    → is_err (volume_by (reader_for location) slots known) ≡ true → ⊥
+there_is_volume location slots volume left left' counts counts' known found is none =
+    let there = volume_is location slots known volume.header volume.segment volume.order (found.header known is).0
     found.slots.segment found.slots.order in
     let wrong : false ≡ true = rw there at none in
     cc
 
 -- if a header has no order of key slots, there is no volume with it, unless memory ran out
-pub no_order : (o : VolumeRequest) (header : Header) (segment : Segment) → segment_of header ≡ Ok segment
-    → (fault : OpenFault) → (fault ≡ Memory) ⊎ (order_of header o.key_slot o.max_iterations ≡ Err fault)
-    → (message_for_opening o.key_slot fault ≡ OutOfMemory)
-    ⊎ (volume_in_header o.key_slot o.max_iterations (Ok header) ≡ Err (message_for_opening o.key_slot fault))
-no_order o header segment is fault (inl memory) = inl (rw memory refl)
-no_order o header segment is fault (inr why) = inr (rw (is, why) refl)
+pub no_order : (slots : SlotChoice) (header : Header) (segment : Segment) → segment_of header ≡ Ok segment
+    → (fault : OpenFault) → (fault ≡ Memory) ⊎ (order_of header slots.named slots.max_iterations ≡ Err fault)
+    → (message_for_opening slots.named fault ≡ OutOfMemory)
+    ⊎ (volume_in_header slots.named slots.max_iterations (Ok header) ≡ Err (message_for_opening slots.named fault))
+no_order slots header segment is fault (inl memory) = inl (rw memory refl)
+no_order slots header segment is fault (inr why) = inr (rw (is, why) refl)
 
 -- ---- the outcome of a volume that was found
 
@@ -156,8 +168,6 @@ module _ (on_opened : OnOpened) (named : Option ℕ) (v : Volume) (image secret 
   found_whole short enough =
       let allowed = le-ltb max_key_file_len (length secret) short in
       rw (allowed, le-ltb (length image) (key_material_end v.order.entries) enough) refl
-
--- ---- the loaded area
 
 module _ (image area area' : List ℕ) (i : Option (List ℕ)) (loaded : ℕ)
     (prefix : area ≡ take (header_read_len image) image) where
@@ -211,21 +221,22 @@ module _ (image area area' : List ℕ) (i : Option (List ℕ)) (loaded : ℕ)
 abbrev pub volume_with : Header → Segment → OrderModel → Volume
 volume_with header segment order = record { header = header; segment = segment; order = order }
 
-module _ (location : HeaderLocation) (o : VolumeRequest) (image pass : List ℕ) where
-  pub outcome_is : (on_opened : OnOpened) (r : Result Volume Message) → volume_by (reader_for location) o image ≡ r
-      → volume_outcome_by (reader_for location) on_opened o image pass ≡ outcome_after on_opened o.key_slot image pass r
+module _ (location : HeaderLocation) (slots : SlotChoice) (image pass : List ℕ) where
+  pub outcome_is : (on_opened : OnOpened) (r : Result Volume Message) → volume_by (reader_for location) slots image ≡ r
+      → volume_outcome_by (reader_for location) on_opened slots image pass
+      ≡ outcome_after on_opened slots.named image pass r
   unfolding volume_outcome_by
   outcome_is on_opened r is = rw is refl
 
   -- the header has this segment and these key slots to be tried
   module _ (header : Header) (segment : Segment) (order : OrderModel) (found : reader_for location image ≡ Ok header)
       (is_segment : segment_of header ≡ Ok segment)
-      (ordered : order_of header o.key_slot o.max_iterations ≡ Ok order) where
-    pub found_is : (on_opened : OnOpened) → volume_outcome_by (reader_for location) on_opened o image pass
-        ≡ found_outcome on_opened o.key_slot (volume_with header segment order) image pass
+      (ordered : order_of header slots.named slots.max_iterations ≡ Ok order) where
+    pub found_is : (on_opened : OnOpened) → volume_outcome_by (reader_for location) on_opened slots image pass
+        ≡ found_outcome on_opened slots.named (volume_with header segment order) image pass
     found_is on_opened =
         outcome_is on_opened (Ok (volume_with header segment order))
-        (volume_is location o image header segment order found is_segment ordered)
+        (volume_is location slots image header segment order found is_segment ordered)
 
     -- if the key areas were loaded and trying the key slots has this result, the outcome is that of the result
     pub tried_is : (short : length pass ≤ max_key_file_len) (area area' : List ℕ) (i : Option (List ℕ))
@@ -234,12 +245,154 @@ module _ (location : HeaderLocation) (o : VolumeRequest) (image pass : List ℕ)
         (min (key_material_end order.entries - length area) (length (drop (header_read_len image) image))))
         (enough : key_material_end order.entries ≤ length area') (r : Result Opened OpenFault)
         (tried : opening_of order area' pass ≡ r) (on_opened : OnOpened)
-        → volume_outcome_by (reader_for location) on_opened o image pass
-        ≡ opened_outcome on_opened o.key_slot (volume_with header segment order) image pass r
+        → volume_outcome_by (reader_for location) on_opened slots image pass
+        ≡ opened_outcome on_opened slots.named (volume_with header segment order) image pass r
     tried_is short area area' i prefix grows enough r tried on_opened =
         let v = volume_with header segment order in
         let loaded = area_loaded image area area' i (key_material_end order.entries) prefix grows enough in
         let whole = sym (opening_beginning order (max (header_read_len image) (key_material_end order.entries)) image
         pass (omega arith)) ∙ ap (λ l. opening_of order l pass) (sym loaded.2) ∙ tried in
-        found_is on_opened ∙ found_whole on_opened o.key_slot v image pass short loaded.0
-        ∙ ap (opened_outcome on_opened o.key_slot v image pass) whole
+        found_is on_opened ∙ found_whole on_opened slots.named v image pass short loaded.0
+        ∙ ap (opened_outcome on_opened slots.named v image pass) whole
+
+-- ---- the end of the search for a LUKS2 header
+
+furthest_by : (b : Bool) (here rest most : ℕ) → here ≤ most → rest ≤ most → max here (if b then 0 else rest) ≤ most
+furthest_by true here rest most near far = omega arith
+furthest_by false here rest most near far = omega arith
+
+module _ (image : List ℕ) where
+  probe_by : (place : ℕ) (b : Bool) → fits image place ≡ b → place ≤ 4194304 → probe_end image place ≤ 8388608
+  probe_by place true is near =
+      let size = size_range place (binary_at image place) (fits_parts image place is).1 in
+      omega (arith, probe_fit image place is, size.1)
+  probe_by place false is near = omega (arith, probe_unfit image place is)
+
+  probe_near : (place : ℕ) → place ≤ 4194304 → probe_end image place ≤ 8388608
+  probe_near place = probe_by place (fits image place) refl
+
+  -- the search at offsets within the first 4 MiB stays within the first 8 MiB
+  furthest_within : (places : List ℕ) → greatest places ≤ 4194304
+      → furthest (is_valid image) (probe_end image) places ≤ 8388608
+  unfolding furthest
+  furthest_within [] near = omega arith
+  furthest_within (place ∷ places) near =
+      furthest_by (is_valid image place) (probe_end image place) (furthest (is_valid image) (probe_end image) places)
+      8388608 (probe_near place (omega arith)) (furthest_within places (omega arith))
+
+  search_within : furthest (is_valid image) (probe_end image) sizes ≤ 8388608
+  unfolding sizes
+  search_within = furthest_within sizes (lit≤ tt)
+
+-- the search for a LUKS2 header stays within the first 8 MiB
+probe2_within : (image : List ℕ) → probe2_len image ≤ 8388608
+probe2_within image = by (is_valid image 0) refl where
+  by : (b : Bool) → is_valid image 0 ≡ b → probe2_len image ≤ 8388608
+  by true is = omega (arith, probe_primary image is, (valid_range image 0 is).2)
+  by false is =
+      let first = probe_near image 0 (omega arith) in
+      omega (arith, first, probe_other image is, search_len_is image, search_within image)
+
+module _ (image : List ℕ) (n : ℕ) (far : 8388608 ≤ n) (more : n ≤ length image) where
+  long : length (take n image) ≡ n
+  long = length-take-le n image more
+
+  begins : take (length (take n image)) image ≡ take n image
+  begins = ap (λ k. take k image) long
+
+  prefix2 : (header2_of (take n image) ≡ header2_of image) × (header2_read_len (take n image) ≡ header2_read_len image)
+  unfolding header2_of header2_read_len
+  prefix2 =
+      let within = probe2_within image in
+      let prefix : IsPrefixOf (take n image) false image =
+      record { begins = begins; within = omega (arith, long); ends = λ wrong. absurd (cc) } in
+      let same = stable_by (take n image) image prefix (is_valid image 0) refl (omega (arith, long)) in
+      (ap (λ chosen. ok_or chosen NotLuks) same.0, omega (arith, same.1, long))
+
+  with_text_prefix : (r : Result Header2 HeaderFault) → header2_of image ≡ r
+      → with_text (take n image) r ≡ with_text image r
+  unfolding header2_read_len
+  with_text_prefix (Ok header) found =
+      let within = probe2_within image in
+      let cut = ap (λ k. take k (take n image)) prefix2.1 ∙ take-take (header2_read_len image) n image (omega arith) in
+      ap (λ text. with_metadata header (tree_of text))
+      (sym (json_beginning (take n image) header (prefix2.0 ∙ found))
+      ∙ ap (λ bytes. json_text_of bytes header) cut ∙ json_beginning image header found)
+  with_text_prefix (Err fault) found = refl
+
+  begins_alike : is_luks1 (take n image) ≡ is_luks1 image
+  begins_alike = sym (begins_longer (take n image) image (omega (arith, long)) begins)
+
+  -- the first bytes of an image have the header of the whole image, and reading it consumes as many bytes
+  header_by : (b : Bool) → is_luks1 image ≡ b
+      → (header_of (take n image) ≡ header_of image) × (header_read_len (take n image) ≡ header_read_len image)
+  unfolding header_of header_read_len
+  header_by true is =
+      let short = le-ltb (length (take n image)) 592 (omega (arith, long)) in
+      let shorter = le-ltb (length image) 592 (omega arith) in (
+        rw (begins_alike, is, short, shorter, take-take 592 n image (omega arith)) refl,
+        rw (begins_alike, is) (omega (arith, long)),
+      )
+  header_by false is = (
+    rw (begins_alike, is, prefix2.0) (with_text_prefix (header2_of image) refl),
+    rw (begins_alike, is) prefix2.1,
+  )
+
+-- ---- opening by the first bytes
+
+module _ (location : HeaderLocation) (slots : SlotChoice) (image pass : List ℕ) (n : ℕ) (far : max_loaded_len ≤ n)
+    (more : n ≤ length image) (on_opened : OnOpened) where
+  same_header : (header_of (take n image) ≡ header_of image) × (header_read_len (take n image) ≡ header_read_len image)
+  same_header = header_by image n (omega arith) more (is_luks1 image) refl
+
+  opened_prefix : (v : Volume) (r : Result Opened OpenFault)
+      → opened_outcome on_opened slots.named v (take n image) pass r
+      ≡ opened_outcome on_opened slots.named v image pass r
+  opened_prefix v (Ok opened) =
+      ap (λ cost. on_opened v.segment opened (max cost (key_material_end v.order.entries))) same_header.1
+  opened_prefix v (Err fault) = rw same_header.1 refl
+
+  after_prefix : (r : Result Volume Message)
+      → outcome_after on_opened slots.named (take n image) pass r ≡ outcome_after on_opened slots.named image pass r
+  unfolding found_outcome
+  after_prefix (Ok v) =
+      let within = key_material_end-within v.order.entries in
+      let long = length-take-le n image more in
+      let all = le-ltb (length (take n image)) (key_material_end v.order.entries) (omega (arith, long)) in
+      let whole = le-ltb (length image) (key_material_end v.order.entries) (omega arith) in
+      let opening = opening_beginning v.order n image pass (omega arith) in
+      rw (all, whole, same_header.1, opening, opened_prefix v (opening_of v.order image pass)) refl
+  after_prefix (Err message) = rw same_header.1 refl
+
+  reading_prefix : reader_for location (take n image) ≡ reader_for location image
+  reading_prefix = by location where
+    by : (location : HeaderLocation) → reader_for location (take n image) ≡ reader_for location image
+    by Attached = same_header.0
+    by Detached = ap as_detached same_header.0
+
+  -- a command has the same outcome on the first bytes of a longer image as on all of it
+  longer_prefix : volume_outcome_by (reader_for location) on_opened slots (take n image) pass
+      ≡ volume_outcome_by (reader_for location) on_opened slots image pass
+  unfolding volume_outcome_by volume_by
+  longer_prefix =
+      ap (λ r. outcome_after on_opened slots.named (take n image) pass
+      (volume_in_header slots.named slots.max_iterations r)) reading_prefix
+      ∙ after_prefix (volume_in_header slots.named slots.max_iterations (reader_for location image))
+
+-- and so it has on the first bytes of any image
+outcome_prefix : (location : HeaderLocation) (slots : SlotChoice) (image pass : List ℕ) (n : ℕ) → max_loaded_len ≤ n
+    → (on_opened : OnOpened) → volume_outcome_by (reader_for location) on_opened slots (take n image) pass
+    ≡ volume_outcome_by (reader_for location) on_opened slots image pass
+outcome_prefix location slots image pass n far on_opened = elim (cases_lt n (length image)) [
+  | inl more ↦ longer_prefix location slots image pass n far (omega arith) on_opened
+  | inr all ↦ ap (λ bytes. volume_outcome_by (reader_for location) on_opened slots bytes pass) (take_all n image all)
+]
+
+-- a command has the same outcome on images with the same first bytes
+pub outcome_decided : (location : HeaderLocation) (slots : SlotChoice) (a b pass : List ℕ) (on_opened : OnOpened)
+    → take max_loaded_len a ≡ take max_loaded_len b → volume_outcome_by (reader_for location) on_opened slots a pass
+    ≡ volume_outcome_by (reader_for location) on_opened slots b pass
+outcome_decided location slots a b pass on_opened same =
+    sym (outcome_prefix location slots a pass max_loaded_len (omega arith) on_opened)
+    ∙ ap (λ bytes. volume_outcome_by (reader_for location) on_opened slots bytes pass) same
+    ∙ outcome_prefix location slots b pass max_loaded_len (omega arith) on_opened

@@ -7,7 +7,7 @@ use Rattle.luks_header.specs.HeaderSegment.{segment_of}
 use Rattle.luks_header.specs.declared.header.Header.{Header}
 use Rattle.luks_verdict.specs.declared.segment.Segment.{Segment}
 use Rattle.luks_open.specs.Order.{order_of}
-use Rattle.luks_request.specs.Request.{VolumeRequest}
+use Rattle.luks_request.specs.declared.command.SlotChoice.{SlotChoice}
 use Rattle.luks_report.specs.declared.message.Message.{Message}
 use Rattle.luks_report.specs.declared.message.Message.TheVariants.{OutOfMemory, ReadFailed}
 use Rattle.luks_runs.specs.Location.{HeaderReader, LoadedFrom, reader_for}
@@ -25,21 +25,21 @@ HasSegment = HasSegmentBy header_of
 
 -- no volume whose header is read in this way was found, for this reason: a read failed, memory ran out, or the image
 -- has none
-abbrev pub FindsNoVolume : HeaderReader → VolumeRequest → List ℕ → Option (List ℕ) → Message → Type 0
-FindsNoVolume read o image left ReadFailed = ConsumedAtMost image left (header_read_len image)
-FindsNoVolume read o image left OutOfMemory = ConsumedAtMost image left (header_read_len image)
-FindsNoVolume read o image left message =
-    (volume_by read o image ≡ Err message) × ConsumedExactly image left (header_read_len image)
+abbrev pub FindsNoVolume : HeaderReader → SlotChoice → List ℕ → Option (List ℕ) → Message → Type 0
+FindsNoVolume read slots image left ReadFailed = ConsumedAtMost image left (header_read_len image)
+FindsNoVolume read slots image left OutOfMemory = ConsumedAtMost image left (header_read_len image)
+FindsNoVolume read slots image left message =
+    (volume_by read slots image ≡ Err message) × ConsumedExactly image left (header_read_len image)
 
 -- a volume has the segment of its header, and the order of its header's key slots
-pub record MatchesHeader (o : VolumeRequest) (volume : FoundVolume) : Type 0 where
+pub record MatchesHeader (slots : SlotChoice) (volume : FoundVolume) : Type 0 where
   pub segment : segment_of volume.header ≡ Ok volume.segment
-  pub order : order_of volume.header o.key_slot o.max_iterations ≡ Ok volume.order
+  pub order : order_of volume.header slots.named slots.max_iterations ≡ Ok volume.order
 
 -- a volume was found: its area has the bytes that were consumed and no more, and its header is the one read from them
-pub record FindsVolume (location : HeaderLocation) (o : VolumeRequest) (volume : FoundVolume)
+pub record FindsVolume (location : HeaderLocation) (choice : SlotChoice) (volume : FoundVolume)
     (before after : Option (List ℕ)) (counts counts' : ReadCounts) : Type 0 where
-  pub slots : MatchesHeader o volume
+  pub slots : MatchesHeader choice volume
   pub of_area : reader_for location volume.area.bytes ≡ Ok volume.header
   pub area : length volume.area.bytes ≡ header_read_len volume.area.bytes
   pub header : IfKnown before (λ known. (reader_for location known ≡ Ok volume.header)

@@ -4,7 +4,7 @@ use Rattle.luks_open.specs.Opening.{slot_key}
 use Rattle.luks_open.specs.Order.{OrderModel, order_of}
 use Rattle.luks_open.specs.declared.entry.Entry.{Entry}
 use Rattle.luks_seal.specs.Sealed.{Sealed}
-use Rattle.luks_request.specs.Request.{VolumeRequest}
+use Rattle.luks_request.specs.declared.command.SlotChoice.{SlotChoice}
 use Rattle.luks_runs.specs.KeyFile.{max_key_file_len}
 
 -- if the key slot opens under this passphrase, it gives this key
@@ -22,7 +22,7 @@ pub record ComesFirst (number : ℕ) (entries : List Entry) (image passphrase ke
 
 -- the image is an honestly sealed volume of this plaintext; this passphrase is no longer than a key file may be, and is
 -- that of a key slot to be tried, before which no key slot gives another key under it
-pub record OpensHonest (o : VolumeRequest) (image passphrase plain : List ℕ) : Type 0 where
+pub record OpensHonest (slots : SlotChoice) (image passphrase plain : List ℕ) : Type 0 where
   pub passphrases : List (ℕ × List ℕ)
   pub key : List ℕ
   pub sealed : Sealed image passphrases key plain
@@ -30,5 +30,5 @@ pub record OpensHonest (o : VolumeRequest) (image passphrase plain : List ℕ) :
   pub is_passphrase : Contains passphrases (number, passphrase)
   pub short : length passphrase ≤ max_key_file_len
   pub order : OrderModel
-  pub is_order : order_of sealed.header o.key_slot o.max_iterations ≡ Ok order
+  pub is_order : order_of sealed.header slots.named slots.max_iterations ≡ Ok order
   pub first : ComesFirst number order.entries image passphrase key

@@ -10,7 +10,7 @@ use Rattle.luks_verdict.specs.declared.segment.Segment.{Segment}
 use Rattle.luks_open.specs.Order.{OrderModel, key_material_end, order_of}
 use Rattle.luks_open.specs.declared.fault.OpenFault.{OpenFault}
 use Rattle.luks_report.specs.Faults.{message_for_header, message_for_opening, message_at_end}
-use Rattle.luks_request.specs.Request.{VolumeRequest}
+use Rattle.luks_request.specs.declared.command.SlotChoice.{SlotChoice}
 use Rattle.luks_open.specs.Opening.{opening_of}
 use Rattle.luks_open.specs.declared.opening.Opened.{Opened}
 use Rattle.luks_payload.specs.Plain.{ending_of, payload_end_of, plain_of}
@@ -44,11 +44,11 @@ volume_in_header named limit (Err fault) = Err (message_for_header fault)
 
 -- the volume whose header is read in this way, or the message if there is none: about its header first, then about its
 -- segment, then about the order of its key slots
-unfoldable pub volume_by : HeaderReader → VolumeRequest → List ℕ → Result Volume Message
-volume_by read o image = volume_in_header o.key_slot o.max_iterations (read image)
+unfoldable pub volume_by : HeaderReader → SlotChoice → List ℕ → Result Volume Message
+volume_by read slots image = volume_in_header slots.named slots.max_iterations (read image)
 
 -- the volume of an image
-abbrev pub volume_of : VolumeRequest → List ℕ → Result Volume Message
+abbrev pub volume_of : SlotChoice → List ℕ → Result Volume Message
 volume_of = volume_by header_of
 
 -- the number of bytes of the image that are consumed to open the volume: up to the end of those read for the header or
@@ -105,10 +105,10 @@ outcome_after on_opened named image secret (Ok volume) = found_outcome on_opened
 outcome_after on_opened named image secret (Err message) = no_output message (header_read_len image) 0
 
 -- the outcome of a command that opens a volume whose header is read in this way
-unfoldable pub volume_outcome_by : HeaderReader → OnOpened → VolumeRequest → List ℕ → List ℕ → Outcome
-volume_outcome_by read on_opened o image secret =
-    outcome_after on_opened o.key_slot image secret (volume_by read o image)
+unfoldable pub volume_outcome_by : HeaderReader → OnOpened → SlotChoice → List ℕ → List ℕ → Outcome
+volume_outcome_by read on_opened slots image secret =
+    outcome_after on_opened slots.named image secret (volume_by read slots image)
 
 -- the outcome of a command that opens a volume
-abbrev pub volume_outcome : OnOpened → VolumeRequest → List ℕ → List ℕ → Outcome
+abbrev pub volume_outcome : OnOpened → SlotChoice → List ℕ → List ℕ → Outcome
 volume_outcome = volume_outcome_by header_of

@@ -5,7 +5,6 @@ ghost use Rattle.luks_io.specs.Counts.{Reads};
 ghost use Rattle.luks_io.specs.Devices.{IfKnown};
 ghost use Rattle.luks_header.specs.HeaderSegment.{segment_of};
 ghost use Rattle.luks_open.specs.Order.{order_of};
-ghost use Rattle.luks_request.specs.Request.{volume_request};
 ghost use Rattle.luks_runs.specs.Run.{is_run_read_failure, result_message};
 ghost use Rattle.luks_runs.specs.Location.{reader_for};
 ghost use Rattle.luks_unlock.specs.Found.{FindsNoVolume, FindsVolume};
@@ -20,7 +19,7 @@ use luks_io::source::Source;
 use luks_open::order::order;
 use luks_open::ordered::Order;
 use luks_report::message::Message;
-use luks_request::command::VolumeArgs;
+use luks_request::command::SlotChoice;
 use luks_runs::location::{HeaderLocation, read_header_at};
 use std::alloc::Global;
 
@@ -38,46 +37,24 @@ pub struct FoundVolume {
     pub order: Order,
 }
 
-/// The number of the named key slot, if one is named.
-pub(crate) fn named_slot(opening: &VolumeArgs<'_>) -> Option<u8>
-    ensures { result ≡ (volume_request opening.now).key_slot }
-{
-    match opening.key_slot {
-        Some(slot) => Some(slot.get()),
-        None => None,
-    }
-}
-
-/// The limit on iterations, if there is one.
-fn max_iterations(opening: &VolumeArgs<'_>) -> Option<u32>
-    ensures { result ≡ (volume_request opening.now).max_iterations }
-{
-    match opening.max_iterations {
-        Some(limit) => Some(limit.get()),
-        None => None,
-    }
-}
-
 /// Finds the segment of a header and its key slots to be tried.
 fn segment_and_slots(
     alloc: Global,
-    opening: &VolumeArgs<'_>,
+    slots: SlotChoice,
     header: &Header,
 ) -> Result<(Segment, Order), Message>
     ensures segment { IfOk result (λ found. segment_of header.now ≡ Ok found.0) }
-    ensures order { IfOk result (λ found. let o = volume_request opening.now in
-        order_of header.now o.key_slot o.max_iterations ≡ Ok found.1) }
-    ensures err { IfErr result (λ message. let o = volume_request opening.now in
-        (message ≡ Message.OutOfMemory)
-        ⊎ (volume_in_header o.key_slot o.max_iterations (Ok header.now) ≡ Err message)) }
+    ensures order { IfOk result (λ found.
+        order_of header.now slots.named slots.max_iterations ≡ Ok found.1) }
+    ensures err { IfErr result (λ message. (message ≡ Message.OutOfMemory)
+        ⊎ (volume_in_header slots.named slots.max_iterations (Ok header.now) ≡ Err message)) }
     ensures only { IfErr result OpeningMessage }
     ensures unread { IfErr result (λ message. message ≢ Message.ReadFailed) }
 {
     let segment = segment(header)?;
-    let named = named_slot(opening);
-    match order(alloc, header, named, max_iterations(opening)) {
+    match order(alloc, header, slots.named, slots.max_iterations) {
         Ok(order) => Ok((segment, order)),
-        Err(fault) => Err(Message::of_opening(named, fault)),
+        Err(fault) => Err(Message::of_opening(slots.named, fault)),
     }
 }
 
@@ -85,20 +62,20 @@ fn segment_and_slots(
 pub fn find_volume<I: Source>(
     alloc: Global,
     location: HeaderLocation,
-    opening: &VolumeArgs<'_>,
+    slots: SlotChoice,
     image: &mut I,
 ) -> Result<FoundVolume, Message>
-    ensures found { IfOk result (λ volume. FindsVolume location (volume_request opening.now) volume
+    ensures found { IfOk result (λ volume. FindsVolume location slots volume
         (I.to_come image.old) (I.to_come image.new) (I.counts image.old) (I.counts image.new)) }
     ensures err { IfErr result (λ message. IfKnown (I.to_come image.old)
-        (λ known. FindsNoVolume (reader_for location) (volume_request opening.now) known
+        (λ known. FindsNoVolume (reader_for location) slots known
         (I.to_come image.new) message)) }
     ensures only { IfErr result OpeningMessage }
     ensures reads { (ended : Bool) × Reads (is_run_read_failure (result_message result)) ended
         (I.counts image.old) (I.counts image.new) }
 {
     let (header, area) = read_header_at(alloc, location, image)?;
-    let (segment, order) = segment_and_slots(alloc, opening, &header)?;
+    let (segment, order) = segment_and_slots(alloc, slots, &header)?;
     Ok(FoundVolume {
         header,
         area,

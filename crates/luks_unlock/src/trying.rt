@@ -3,13 +3,12 @@
 ghost use Rattle.std.specs.Prelude.{◌≡◌, ◌<◌, ◌≤◌, Bool, [], IfOk, IfErr, false, length, true};
 ghost use Rattle.luks_io.specs.Counts.{Reads};
 ghost use Rattle.luks_io.specs.Devices.{IfKnown};
-ghost use Rattle.luks_request.specs.Request.{volume_request};
 ghost use Rattle.luks_runs.specs.Run.{is_run_read_failure, result_message};
 ghost use Rattle.luks_unlock.specs.Found.{MatchesHeader};
 ghost use Rattle.luks_unlock.specs.OpeningMessages.{OpeningMessage};
 ghost use Rattle.luks_unlock.specs.Trying.{CountsTrials, HitsMaterialEof, TriesSlots};
 
-use crate::found::{FoundVolume, named_slot};
+use crate::found::FoundVolume;
 use crate::unlocked::UnlockedVolume;
 use luks_header::area::HeaderArea;
 use luks_io::source::Source;
@@ -17,22 +16,22 @@ use luks_kdf::Work;
 use luks_open::opening::open;
 use luks_open::ordered::held_end;
 use luks_report::message::Message;
-use luks_request::command::VolumeArgs;
+use luks_request::command::SlotChoice;
 
 /// Tries the key slots of a volume under a passphrase, after reading on in the image up to the end
-/// of the last key material. Nothing is read if the end of the image was hit before. The count of
-/// work is raised once by the cost of [`open`], or not at all.
+/// of the last key material. Nothing is read if the end of the image was hit before. If [`open`] is
+/// called, the count of work is raised by its cost, once; otherwise the count stays.
 pub fn try_slots<I: Source>(
-    opening: &VolumeArgs<'_>,
+    slots: SlotChoice,
     volume: &mut FoundVolume,
     image: &mut I,
     pass: &[u8],
     work: &mut Work,
 ) -> Result<UnlockedVolume, Message>
-    requires { MatchesHeader (volume_request opening.now) volume.old }
+    requires { MatchesHeader slots volume.old }
     ensures run { IfKnown (I.to_come image.old) (λ rest.
         (volume.old.area.ended ≡ true → rest ≡ [])
-        → TriesSlots (volume_request opening.now).key_slot volume.old.segment volume.old.order
+        → TriesSlots slots.named volume.old.segment volume.old.order
         pass.now volume.old.area.bytes volume.new.area.bytes rest (I.to_come image.new) result) }
     ensures work { CountsTrials volume.old.order volume.new.area.bytes pass.now work.old work.new }
     ensures kept { volume.new ≡ record volume.old { area = volume.new.area } }
@@ -60,7 +59,7 @@ pub fn try_slots<I: Source>(
     } = volume;
     match open(header, area, order, pass, work) {
         Ok(opened) => Ok(UnlockedVolume::new(segment, opened)),
-        Err(fault) => Err(Message::of_opening(named_slot(opening), fault)),
+        Err(fault) => Err(Message::of_opening(slots.named, fault)),
     }
 }
 

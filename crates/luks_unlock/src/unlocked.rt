@@ -36,10 +36,6 @@ impl UnlockedVolume {
     pub fn cipher(&self) -> SectorCipher
         ensures { result ≡ (self.now.segment.mode, self.now.key) }
     {
-        let Some(cipher) = SectorCipher::new(self.segment.mode, self.key.as_slice()) else {
-            // The type says that the key has a length of this mode.
-            unreachable!()
-        };
-        cipher
+        SectorCipher::expanded(self.segment.mode, self.key.as_slice())
     }
 }

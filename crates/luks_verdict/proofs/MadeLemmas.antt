@@ -32,17 +32,25 @@ pub evidence_if-no : (test : Bool) → test ≡ false → evidence_if test ≡ N
 evidence_if-no true is = absurd cc
 evidence_if-no false is = refl
 
-pub slot_from-yes : (parts : SlotParts) (is : are_in_range parts ≡ true) → slot_from parts ≡ Some (slot_of parts is)
+pub slot_from-yes : (parts : SlotParts) (digest : KeyDigest) (is : are_in_range parts ≡ true)
+    → slot_from parts (Some digest) ≡ Some (slot_of parts digest is)
 unfolding slot_from
-slot_from-yes parts is = ap (option_map (slot_of parts)) (evidence_if-yes (are_in_range parts) is)
+slot_from-yes parts digest is = ap (option_map (slot_of parts digest)) (evidence_if-yes (are_in_range parts) is)
 
-pub slot_made : (parts : SlotParts) (range : InRange parts.iterations parts.stripes (parts_end parts))
-    → are_in_range parts ≡ true → Some (slot_with parts range) ≡ slot_from parts
+pub slot_from-no : (parts : SlotParts) (digest : Option KeyDigest) → are_in_range parts ≡ false
+    → slot_from parts digest ≡ None
+unfolding slot_from
+slot_from-no parts (Some digest) is = ap (option_map (slot_of parts digest)) (evidence_if-no (are_in_range parts) is)
+slot_from-no parts None is = refl
+
+pub slot_made : (parts : SlotParts) (digest : KeyDigest)
+    (range : InRange parts.iterations parts.stripes (parts_end parts))
+    → are_in_range parts ≡ true → Some (slot_with parts digest range) ≡ slot_from parts (Some digest)
 unfolding slot_of
-slot_made parts range is =
+slot_made parts digest range is =
     let all : IsProp (InRange parts.iterations parts.stripes (parts_end parts)) = hlevel (le_prop) in
-    ap (λ (r : InRange parts.iterations parts.stripes (parts_end parts)). Some (slot_with parts r))
-    (all range (in_range parts.iterations parts.stripes (parts_end parts) is)) ∙ sym (slot_from-yes parts is)
+    ap (λ (r : InRange parts.iterations parts.stripes (parts_end parts)). Some (slot_with parts digest r))
+    (all range (in_range parts.iterations parts.stripes (parts_end parts) is)) ∙ sym (slot_from-yes parts digest is)
 
 pub digest_from-yes : (parts : DigestParts) (is : is_usable parts ≡ true)
     → digest_from parts ≡ Some (digest_of parts is)

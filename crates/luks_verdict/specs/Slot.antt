@@ -26,20 +26,22 @@ material_end slot = parts_end slot.parts
 abbrev pub are_in_range : SlotParts → Bool
 are_in_range parts = is_in_range parts.iterations parts.stripes (parts_end parts)
 
--- the key slot with these numbers, which are in range
-abbrev pub slot_with : (parts : SlotParts) → InRange parts.iterations parts.stripes (parts_end parts) → Slot
-slot_with parts range = record { parts = parts; in_range = range }
+-- the key slot with these numbers, which are in range, and this digest
+abbrev pub slot_with : (parts : SlotParts) (digest : KeyDigest)
+    → InRange parts.iterations parts.stripes (parts_end parts) → Slot
+slot_with parts digest range = record { parts = parts; digest = digest; in_range = range }
 
--- the key slot with these parts, from a test that found their numbers in range
-unfoldable pub slot_of : (parts : SlotParts) → are_in_range parts ≡ true → Slot
-slot_of parts is = slot_with parts (in_range parts.iterations parts.stripes (parts_end parts) is)
+-- the key slot with these parts and this digest, from a test that found their numbers in range
+unfoldable pub slot_of : (parts : SlotParts) (digest : KeyDigest) → are_in_range parts ≡ true → Slot
+slot_of parts digest is = slot_with parts digest (in_range parts.iterations parts.stripes (parts_end parts) is)
 
--- the key slot with these parts, if their numbers are in range
-unfoldable pub slot_from : SlotParts → Option Slot
-slot_from parts = option_map (slot_of parts) (evidence_if (are_in_range parts))
+-- the key slot with these parts and this digest, if their numbers are in range and there is a digest
+unfoldable pub slot_from : SlotParts → Option KeyDigest → Option Slot
+slot_from parts (Some digest) = option_map (slot_of parts digest) (evidence_if (are_in_range parts))
+slot_from parts None = None
 
 -- a key slot can be tried if there is no reason to skip it. The third case does not occur: without a reason the parts
--- are in range
+-- are in range and there is a digest
 abbrev pub verdict_by : Option SkipReason → Option Slot → Verdict
 verdict_by (Some reason) slot = Skipped reason
 verdict_by None (Some slot) = Usable slot

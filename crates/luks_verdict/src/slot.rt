@@ -4,6 +4,7 @@ ghost use Rattle.std.specs.Prelude.{◌≡◌, ◌+◌};
 ghost use Rattle.luks_verdict.specs.Rule.{InRange, need_of};
 
 use crate::bytes::HeaderBytes;
+use crate::digest::KeyDigest;
 use crate::refusal::SkipReason;
 use crate::rule::{in_range, need};
 use luks_cipher::Mode;
@@ -44,6 +45,8 @@ pub struct SlotParts {
 pub struct Slot {
     /// Its parts, as they were read.
     pub parts: SlotParts,
+    /// The digest that its volume key must match.
+    pub digest: KeyDigest,
     ghost in_range: { InRange parts.iterations parts.stripes
         (parts.area_offset + need_of parts.key_bytes parts.stripes) },
 }
@@ -53,10 +56,11 @@ impl Slot {
     ghost use Rattle.luks_verdict.specs.Rule.{need_of};
     ghost use Rattle.luks_verdict.specs.Slot.{slot_from};
 
-    /// The key slot with these parts, if their numbers are in range.
+    /// The key slot with these parts and this digest, if their numbers are in range and there is
+    /// one.
     #[tactic(auto, unfolding(crate::specs::Slot::slot_from))]
-    pub fn from_parts(parts: SlotParts) -> Option<Slot>
-        ensures { result ≡ slot_from parts }
+    pub fn from_parts(parts: SlotParts, digest: Option<KeyDigest>) -> Option<Slot>
+        ensures { result ≡ slot_from parts digest }
     {
         let need = need(parts.key_bytes, parts.stripes);
         if !in_range(
@@ -67,7 +71,8 @@ impl Slot {
         ) {
             return None;
         }
-        Some(Slot { parts })
+        let digest = digest?;
+        Some(Slot { parts, digest })
     }
 
     /// The number of bytes of the key material: one key for each stripe, rounded up to whole

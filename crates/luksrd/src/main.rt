@@ -42,8 +42,8 @@ fn main(rt: HostRuntime) -> ExitCode {
 }
 
 /// Opens the inputs and runs the command over them: the image is opened first, then a detached
-/// header's file, then the second input. The result is the exit status either way: `Err` if the
-/// command was not started, or if its output could not be flushed.
+/// header's file, then the second input. Both variants of the result hold an exit status: `Err`
+/// that of a command which was not started, or whose output could not be flushed.
 fn run(rt: &HostRuntime, command: &Command<'_>) -> Result<ExitCode, ExitCode> {
     let image = ReadSource::new(open(rt, Some(command.image()))?);
     let Ok(mut image) = ReadAheadSource::new(rt.alloc(), BUFFER, image) else {

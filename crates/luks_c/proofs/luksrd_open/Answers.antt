@@ -5,7 +5,7 @@ use Rattle.luks_io.specs.Devices.{counted}
 use Rattle.luks_report.specs.declared.message.Message.{Message}
 use Rattle.luks_report.specs.declared.message.Message.TheVariants.{Done, ReadFailed}
 use Rattle.luks_runs.specs.Run.{is_run_read_failure}
-use Rattle.luks_unlock.proofs.PrefixLemmas.{outcome_decided}
+use Rattle.luks_unlock.proofs.VolumeLemmas.{outcome_decided}
 use Rattle.luks_unlock.specs.OpeningMessages.{OpeningMessage}
 use Rattle.luks_c.specs.Stored.{code_for}
 use Rattle.luks_c.proofs.luksrd_open.Goals as goal
@@ -33,9 +33,10 @@ returns-in-Ok-clause-opens c done =
       filled = c.store.ensures;
       opens = λ image begins. record {
         loaded = known.opens.loaded;
-        outcome = λ o has on_opened.
-            outcome_decided c.in-Some.options.location o image c.args.header.now c.args.passphrase.now on_opened begins
-            ∙ known.opens.outcome o has on_opened;
+        outcome = λ on_opened.
+            outcome_decided c.in-Some.options.location c.in-Some.options.slots image c.args.header.now
+            c.args.passphrase.now on_opened begins
+            ∙ known.opens.outcome on_opened;
       };
       says = c.set.ensures;
     }
@@ -58,8 +59,9 @@ returns-in-Err-clause-refuses c some other =
       refuses = λ never image begins. record {
         header_consumed = (known.refuses never).header_consumed;
         secret_consumed = (known.refuses never).secret_consumed;
-        outcome = λ o has on_opened.
-            outcome_decided c.in-Some.options.location o image c.args.header.now c.args.passphrase.now on_opened begins
-            ∙ (known.refuses never).outcome o has on_opened;
+        outcome = λ on_opened.
+            outcome_decided c.in-Some.options.location c.in-Some.options.slots image c.args.header.now
+            c.args.passphrase.now on_opened begins
+            ∙ (known.refuses never).outcome on_opened;
       };
     }

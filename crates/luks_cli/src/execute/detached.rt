@@ -24,7 +24,7 @@ use std::alloc::Global;
 /// header's file, and the payload from the image, at the segment's own offset. Only `luksCat` reads
 /// the image, after a key was found: if a write fails, no byte of the image past the current sector
 /// was consumed, and if a read of it fails, all its whole sectors that were consumed are written.
-/// Unlike there, no clause is about honestly sealed volumes.
+/// No clause is about honestly sealed volumes, since these have attached headers.
 pub fn execute_detached<H: Source, I: Source, K: Source, O: Sink>(
     alloc: Global,
     command: &Command<'_>,
@@ -77,12 +77,14 @@ pub fn execute_detached<H: Source, I: Source, K: Source, O: Sink>(
             header,
             out,
         )),
-        Command::TestPassphrase(opening) => report(volumes::test_passphrase(
-            alloc, location, opening, header, secret, out,
-        )),
-        Command::LuksCat(opening) => report(volumes::cat_detached(
-            alloc, opening, header, image, secret, out,
-        )),
+        Command::TestPassphrase(opening) => {
+            let slots = opening.slots;
+            report(volumes::test_passphrase(alloc, location, slots, header, secret, out))
+        }
+        Command::LuksCat(opening) => {
+            let slots = opening.slots;
+            report(volumes::cat_detached(alloc, slots, header, image, secret, out))
+        }
         Command::AfSplit(_) | Command::AfMerge(_) => unreachable!(),
     }
 }

@@ -10,7 +10,6 @@ ghost use Rattle.luks_unlock.specs.Trying.{CountsTrials, opened_of};
 ghost use Rattle.luks_unlock.specs.Volume.{detached_payload_outcome, payload_outcome, slot_outcome};
 ghost use Rattle.luks_unlock.specs.Volume.{volume_by, volume_of, volume_outcome, volume_outcome_by};
 ghost use Rattle.luks_report.specs.Texts.{opened_line};
-ghost use Rattle.luks_request.specs.Request.{volume_request};
 ghost use Rattle.luks_runs.specs.RunMessages.{PayloadMessage};
 ghost use Rattle.luks_runs.specs.Payload.{ForwardsLoaded, with_payload_ahead};
 ghost use Rattle.luks_runs.specs.Run.{Prints};
@@ -29,7 +28,7 @@ use luks_io::source::Source;
 use luks_kdf::Work;
 use luks_report::message::Message;
 use luks_report::opened::opened_text;
-use luks_request::command::VolumeArgs;
+use luks_request::command::SlotChoice;
 use luks_runs::key_file::read_key_file;
 use luks_runs::location::HeaderLocation;
 use luks_runs::payload::write_payload;
@@ -50,16 +49,16 @@ struct LoadedVolume {
 /// Opens a volume that was found, by the passphrase in the key file.
 fn unlock_found<I: Source, K: Source>(
     alloc: Global,
-    opening: &VolumeArgs<'_>,
+    slots: SlotChoice,
     volume: &mut FoundVolume,
     image: &mut I,
     secret: &mut K,
     work: &mut Work,
 ) -> Result<UnlockedVolume, Message>
-    requires { MatchesHeader (volume_request opening.now) volume.old }
+    requires { MatchesHeader slots volume.old }
     ensures run { IfKnown (I.to_come image.old) (λ rest. IfKnown (K.to_come secret.old)
         (λ passphrase. (volume.old.area.ended ≡ true → rest ≡ [])
-        → UnlockEffect (volume_request opening.now).key_slot volume.old.segment volume.old.order
+        → UnlockEffect slots.named volume.old.segment volume.old.order
         passphrase volume.old.area.bytes volume.new.area.bytes rest (I.to_come image.new)
         (K.to_come secret.new) result)) }
     ensures only { IfErr result OpeningMessage }
@@ -72,7 +71,7 @@ fn unlock_found<I: Source, K: Source>(
         × Reads false false (I.counts image.old) (I.counts image.new)) }
 {
     let passphrase = read_key_file(alloc, secret)?;
-    try_slots(opening, volume, image, &passphrase, work)
+    try_slots(slots, volume, image, &passphrase, work)
 }
 
 /// The loaded bytes of a volume's image. The rest of the found volume is dropped.
@@ -87,21 +86,21 @@ fn area_of(volume: FoundVolume) -> HeaderArea
 fn unlock<I: Source, K: Source>(
     alloc: Global,
     location: HeaderLocation,
-    opening: &VolumeArgs<'_>,
+    slots: SlotChoice,
     image: &mut I,
     secret: &mut K,
 ) -> Result<LoadedVolume, Message>
     ensures ok { IfOk result (λ unlocked. IfKnown (I.to_come image.old) (λ known.
         IfKnown (K.to_come secret.old) (λ passphrase.
-        Unlocks location (volume_request opening.now) known passphrase unlocked.volume.segment
+        Unlocks location slots known passphrase unlocked.volume.segment
         (opened_of unlocked.volume) unlocked.area.bytes (I.to_come image.new)
         (K.to_come secret.new)))) }
     ensures err { IfErr result (λ message. IfKnown (I.to_come image.old) (λ known.
         IfKnown (K.to_come secret.old) (λ passphrase.
-        EndsLocked location (volume_request opening.now) known passphrase message
+        EndsLocked location slots known passphrase message
         (I.to_come image.new) (K.to_come secret.new)))) }
     ensures unneeded { IfKnown (I.to_come image.old) (λ known.
-        is_err (volume_by (reader_for location) (volume_request opening.now) known) ≡ true
+        is_err (volume_by (reader_for location) slots known) ≡ true
         → secret.new ≡ secret.old) }
     ensures only { IfErr result OpeningMessage }
     ensures counts { CountsReads ReadsOnce (is_run_read_failure (result_message result))
@@ -109,10 +108,10 @@ fn unlock<I: Source, K: Source>(
     ensures loaded { IfOk result (λ unlocked. LoadedFrom unlocked.area (I.to_come image.old)
         (I.to_come image.new) (I.counts image.old) (I.counts image.new)) }
 {
-    let mut volume = find_volume(alloc, location, opening, image)?;
+    let mut volume = find_volume(alloc, location, slots, image)?;
     // The amount of work is not reported.
     let work = &mut Work::new(0);
-    let opened = unlock_found(alloc, opening, &mut volume, image, secret, work);
+    let opened = unlock_found(alloc, slots, &mut volume, image, secret, work);
     let area = area_of(volume);
     Ok(LoadedVolume {
         area,
@@ -136,7 +135,7 @@ fn write_opened_line<O: Sink>(alloc: Global, slot: u8, out: &mut O) -> Result<()
 pub(super) fn test_passphrase<I: Source, K: Source, O: Sink>(
     alloc: Global,
     location: HeaderLocation,
-    opening: &VolumeArgs<'_>,
+    slots: SlotChoice,
     image: &mut I,
     secret: &mut K,
     out: &mut O,
@@ -144,12 +143,12 @@ pub(super) fn test_passphrase<I: Source, K: Source, O: Sink>(
     ensures run { IfKnown (I.to_come image.old)
         (λ known. IfKnown (K.to_come secret.old) (λ passphrase.
         RunMatches AnyPromptness (volume_outcome_by (reader_for location) (slot_outcome passphrase)
-        (volume_request opening.now) known passphrase)
-        (result_message result) (ConsumedExactly known (I.to_come image.new))
+        slots known passphrase) (result_message result)
+        (ConsumedExactly known (I.to_come image.new))
         (ConsumedExactly passphrase (K.to_come secret.new))
         (Appended (O.written out.old) (O.written out.new)))) }
     ensures unneeded { IfKnown (I.to_come image.old) (λ known.
-        is_err (volume_by (reader_for location) (volume_request opening.now) known) ≡ true
+        is_err (volume_by (reader_for location) slots known) ≡ true
         → secret.new ≡ secret.old) }
     ensures only { OpeningMessage (result_message result)
         ⊎ (result_message result ≡ Message.Done ⊎ result_message result ≡ Message.WriteFailed) }
@@ -158,7 +157,7 @@ pub(super) fn test_passphrase<I: Source, K: Source, O: Sink>(
         (I.counts image.old) (I.counts image.new) (K.counts secret.old) (K.counts secret.new)
         (O.counts out.old) (O.counts out.new) }
 {
-    let unlocked = unlock(alloc, location, opening, image, secret)?;
+    let unlocked = unlock(alloc, location, slots, image, secret)?;
     write_opened_line(alloc, unlocked.volume.slot, out)
 }
 
@@ -189,7 +188,7 @@ fn write_plain<I: Source, O: Sink>(
 /// `luksCat` of an image with an attached header.
 pub(super) fn cat<I: Source, K: Source, O: Sink>(
     alloc: Global,
-    opening: &VolumeArgs<'_>,
+    slots: SlotChoice,
     image: &mut I,
     secret: &mut K,
     out: &mut O,
@@ -198,20 +197,19 @@ pub(super) fn cat<I: Source, K: Source, O: Sink>(
     ensures run { IfKnown (I.to_come image.old)
         (λ known. IfKnown (K.to_come secret.old) (λ passphrase.
         length known < 2 ^ 64 → RunMatches (PromptCat HeaderLocation.Attached known)
-        (volume_outcome (payload_outcome known passphrase) (volume_request opening.now) known
-        passphrase)
+        (volume_outcome (payload_outcome known passphrase) slots known passphrase)
         (result_message result) (ConsumedExactly known (I.to_come image.new))
         (ConsumedExactly passphrase (K.to_come secret.new))
         (Appended (O.written out.old) (O.written out.new)))) }
     ensures unneeded { IfKnown (I.to_come image.old) (λ known.
-        is_err (volume_of (volume_request opening.now) known) ≡ true → secret.new ≡ secret.old) }
+        is_err (volume_of slots known) ≡ true → secret.new ≡ secret.old) }
     ensures calls { CountsCalls
-        (ReadsPayload (CatAllows HeaderLocation.Attached (volume_request opening.now)
-        (I.to_come image.old) (K.to_come secret.old))) (result_message result)
+        (ReadsPayload (CatAllows HeaderLocation.Attached slots (I.to_come image.old)
+        (K.to_come secret.old))) (result_message result)
         (I.counts image.old) (I.counts image.new) (K.counts secret.old) (K.counts secret.new)
         (O.counts out.old) (O.counts out.new) }
 {
-    let unlocked = unlock(alloc, HeaderLocation::Attached, opening, image, secret)?;
+    let unlocked = unlock(alloc, HeaderLocation::Attached, slots, image, secret)?;
     let loaded = unlocked.area.as_slice();
     if unlocked.area.has_ended() {
         // The image's end was hit: all of it is loaded, and it is not read again.
@@ -223,7 +221,7 @@ pub(super) fn cat<I: Source, K: Source, O: Sink>(
 /// `luksCat` of an image with a detached header.
 pub(super) fn cat_detached<H: Source, I: Source, K: Source, O: Sink>(
     alloc: Global,
-    opening: &VolumeArgs<'_>,
+    slots: SlotChoice,
     header: &mut H,
     image: &mut I,
     secret: &mut K,
@@ -235,23 +233,23 @@ pub(super) fn cat_detached<H: Source, I: Source, K: Source, O: Sink>(
         (λ passphrase. length known < 2 ^ 64
         → DetachedRunMatches (PromptCat HeaderLocation.Detached file)
         (volume_outcome_by detached_header_of (detached_payload_outcome known passphrase)
-        (volume_request opening.now) file passphrase) (result_message result)
+        slots file passphrase) (result_message result)
         (ConsumedExactly file (H.to_come header.new)) (ConsumedExactly known (I.to_come image.new))
         (ConsumedExactly passphrase (K.to_come secret.new)) (Appended (O.written out.old)
         (O.written out.new))))) }
     ensures unneeded { IfKnown (H.to_come header.old) (λ file.
-        is_err (volume_by detached_header_of (volume_request opening.now) file) ≡ true
+        is_err (volume_by detached_header_of slots file) ≡ true
         → secret.new ≡ secret.old) }
     ensures before_key { EndsWithoutKey (result_message result) → image.new ≡ image.old }
     ensures calls { CountsCallsDetached
-        (ReadsPayload (CatAllows HeaderLocation.Detached (volume_request opening.now)
-        (H.to_come header.old) (K.to_come secret.old)))
+        (ReadsPayload (CatAllows HeaderLocation.Detached slots (H.to_come header.old)
+        (K.to_come secret.old)))
         (result_message result)
         (record { before = H.counts header.old; after = H.counts header.new })
         (record { before = I.counts image.old; after = I.counts image.new })
         (record { before = K.counts secret.old; after = K.counts secret.new })
         (record { before = O.counts out.old; after = O.counts out.new }) }
 {
-    let unlocked = unlock(alloc, HeaderLocation::Detached, opening, header, secret)?;
+    let unlocked = unlock(alloc, HeaderLocation::Detached, slots, header, secret)?;
     write_plain(&unlocked.volume, &[], image, out)
 }

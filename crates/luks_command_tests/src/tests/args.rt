@@ -4,8 +4,8 @@ use crate::tests::shared::joined;
 use luks_args::planning::{PlanFault, plan};
 use luks_kdf::Hash;
 use luks_report::usage::usage;
-use luks_request::command::{Command, HeaderArgs, MergeArgs, SplitArgs, VolumeArgs};
-use luks_request::number::{IterationLimit, KeyBytes, SlotNumber, StripeCount};
+use luks_request::command::{Command, HeaderArgs, MergeArgs, SlotChoice, SplitArgs, VolumeArgs};
+use luks_request::number::{KeyBytes, StripeCount, iteration_limit, slot_number};
 use std::process::Abort;
 
 mod memory;
@@ -123,15 +123,17 @@ fn opens_volumes(rt: HostRuntime) {
             image,
             header: *header,
             key_file,
-            key_slot: None,
-            max_iterations: None,
+            slots: SlotChoice {
+                named: None,
+                max_iterations: None,
+            },
         };
         check_opening(&rt, words, opening);
     }
 }
 
 // The arguments of a command, its detached header, its slot and its limit, if any.
-static LIMITED: [(&str, Option<&str>, Option<u64>, Option<u64>); 7] = [
+static LIMITED: [(&str, Option<&str>, Option<u8>, Option<u32>); 7] = [
     ("--key-file f --key-slot 0 i", None, Some(0), None),
     ("--key-file f --key-slot 31 i", None, Some(31), None),
     ("--key-file f --max-iterations 1 i", None, None, Some(1)),
@@ -168,15 +170,11 @@ fn opens_volumes_with_limits(rt: HostRuntime) {
             image: "i",
             header: *header,
             key_file: "f",
-            key_slot: slot.and_then(SlotNumber::new),
-            max_iterations: limit.and_then(IterationLimit::new),
+            slots: SlotChoice {
+                named: *slot,
+                max_iterations: *limit,
+            },
         };
-        assert_of(&rt, words, opening.key_slot.is_some() == slot.is_some());
-        assert_of(
-            &rt,
-            words,
-            opening.max_iterations.is_some() == limit.is_some(),
-        );
         check_opening(&rt, words, opening);
     }
 }
@@ -289,29 +287,33 @@ fn takes_words_as_strings(rt: HostRuntime) {
     );
 }
 
-// A number, and whether it is a valid number of stripes, of bytes of a key, of a slot, and of
-// iterations.
-static NUMBERS: [(u64, [bool; 4]); 12] = [
-    (0, [false, false, true, false]),
-    (1, [true, true, true, true]),
-    (31, [true, true, true, true]),
-    (32, [true, true, false, true]),
-    (256, [true, true, false, true]),
-    (512, [true, true, false, true]),
-    (513, [true, false, false, true]),
-    (4000, [true, false, false, true]),
-    (4001, [false, false, false, true]),
-    (4_294_967_295, [false, false, false, true]),
-    (4_294_967_296, [false, false, false, false]),
-    (u64::MAX, [false, false, false, false]),
+// A number and its text, and whether it is a valid number of stripes, of bytes of a key, of a slot,
+// and of iterations.
+static NUMBERS: [(u64, &str, [bool; 4]); 12] = [
+    (0, "0", [false, false, true, false]),
+    (1, "1", [true, true, true, true]),
+    (31, "31", [true, true, true, true]),
+    (32, "32", [true, true, false, true]),
+    (256, "256", [true, true, false, true]),
+    (512, "512", [true, true, false, true]),
+    (513, "513", [true, false, false, true]),
+    (4000, "4000", [true, false, false, true]),
+    (4001, "4001", [false, false, false, true]),
+    (4_294_967_295, "4294967295", [false, false, false, true]),
+    (4_294_967_296, "4294967296", [false, false, false, false]),
+    (
+        u64::MAX,
+        "18446744073709551615",
+        [false, false, false, false],
+    ),
 ];
 
-fn check_number(rt: &impl Abort, number: u64, fits: [bool; 4]) {
+fn check_number(rt: &impl Abort, number: u64, text: &str, fits: [bool; 4]) {
     let numbers = [
         StripeCount::new(number).map(|stripes| stripes.get() as u64),
         KeyBytes::new(number).map(|bytes| bytes.get() as u64),
-        SlotNumber::new(number).map(|slot| slot.get() as u64),
-        IterationLimit::new(number).map(|limit| limit.get() as u64),
+        slot_number(text).map(|slot| slot as u64),
+        iteration_limit(text).map(|limit| limit as u64),
     ];
     let holds = numbers == fits.map(|fits| fits.then_some(number));
     assert!(rt; holds, "{number}");
@@ -319,8 +321,8 @@ fn check_number(rt: &impl Abort, number: u64, fits: [bool; 4]) {
 
 #[test]
 fn numbers_have_ranges(rt: HostRuntime) {
-    for (number, fits) in &NUMBERS {
-        check_number(&rt, *number, *fits);
+    for (number, text, fits) in &NUMBERS {
+        check_number(&rt, *number, text, *fits);
     }
 }
 

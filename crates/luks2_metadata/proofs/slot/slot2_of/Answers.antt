@@ -1,4 +1,4 @@
-use Rattle.std.proofs.Common.{◌≡◌, None, sym, ◌∙◌}
+use Rattle.std.proofs.Common.{◌≡◌, None, ap, sym, ◌∙◌}
 use Rattle.luks2_json.proofs.NumberedLemmas.{none_from_not_some}
 use Rattle.luks2_metadata.proofs.SlotLemmas.{IsSmall, small_of}
 use Rattle.luks2_metadata.proofs.slot.slot2_of.Goals as goal
@@ -8,9 +8,10 @@ use Rattle.serde_json.specs.View.{view}
 -- there is no reason to skip the slot, so its numbers are small
 small : (c : goal.Else-is_some) → IsSmall (view c.args.slot.now)
 small c =
-    let none : reason2_of (view c.args.tree.now) c.args.bounds None c.args.number (view c.args.slot.now) ≡ None =
-    sym c.reason.ensures ∙ none_from_not_some _ (sym c.is_some.ensures ∙ c.if-is_some.false) in
-    small_of (view c.args.tree.now) c.args.bounds None c.args.number (view c.args.slot.now) none
+    let none : reason2_of c.args.metadata.now c.args.bounds None c.args.number (view c.args.slot.now) ≡ None =
+    ap (λ tree. reason2_of tree c.args.bounds None c.args.number (view c.args.slot.now)) (sym c.tree.ensures)
+    ∙ (sym c.reason.ensures ∙ none_from_not_some _ (sym c.is_some.ensures ∙ c.if-is_some.false)) in
+    small_of c.args.metadata.now c.args.bounds None c.args.number (view c.args.slot.now) none
 
 pub parts-requires-clause-iterations : goal.parts-requires-clause-iterations
 parts-requires-clause-iterations c = (small c).iterations

@@ -3,6 +3,3 @@ use Rattle.luks_args.proofs.planning.plan.Goals as goal
 
 pub returns-in-Some-clause-ok : goal.returns-in-Some-clause-ok
 returns-in-Some-clause-ok g c = search rules
-
-pub returns-in_err-matches-clause-usage : goal.returns-in_err-matches-clause-usage
-returns-in_err-matches-clause-usage g c = search rules

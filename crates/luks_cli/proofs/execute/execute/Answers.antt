@@ -1,7 +1,7 @@
 use Rattle.std.proofs.Common.{refl, ◌∙◌, List, ℕ, Option, subst}
 use Rattle.luks_request.specs.Request.{VolumeRequest, luks_cat, volume_request}
 use Rattle.luks_runs.specs.Run.{result_message}
-use Rattle.luks_cli.proofs.CallLemmas.{calls_of_image, calls_of_is_luks}
+use Rattle.luks_cli.proofs.OpenedRuns.{calls_of_image, calls_of_is_luks}
 use Rattle.luks_cli.proofs.execute.execute.Goals as goal
 use Rattle.luks_io.specs.Devices.{Appended}
 use Rattle.luks_report.specs.declared.message.Message.{Message}
@@ -16,7 +16,7 @@ writes_plain : (o : VolumeRequest) (message : Message) (image image' secret secr
 writes_plain o message image image' secret secret' written written' runs =
     λ known is passphrase is_secret plain counted honest whole.
     let run = rw whole at (runs known is passphrase is_secret counted) in
-    let outcome = unsealed o known passphrase plain honest in
+    let outcome = unsealed o.slots known passphrase plain honest in
     (run.as_specified ∙ outcome.1, subst (λ (bytes : List ℕ). Appended written written' bytes) outcome.0 run.output)
 
 pub returns-in-IsLuks : goal.returns-in-IsLuks

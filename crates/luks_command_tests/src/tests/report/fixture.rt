@@ -25,12 +25,12 @@ pub fn check_findings(rt: &(impl Abort + AllocGlobal), image: &[u8], wanted: &st
     let header = read(rt, image);
     let found = findings(rt.alloc(), &header).expect(rt, "memory");
     assert_text(rt, found.as_str(), wanted);
-    let (shown, message) = if wanted.is_empty() {
-        ("clean\n", Message::Done)
+    let (shown, ending) = if wanted.is_empty() {
+        ("clean\n", Ok(()))
     } else {
-        (wanted, Message::Findings)
+        (wanted, Err(Message::Findings))
     };
     let checked = check_text(rt.alloc(), &header).expect(rt, "memory");
     assert_text(rt, checked.0.as_str(), shown);
-    assert!(rt; checked.1 == message, "{shown}");
+    assert!(rt; checked.1 == ending, "{shown}");
 }

@@ -156,8 +156,9 @@ fn each_bound_of_a_slot(rt: HostRuntime) {
     check_slots(&rt, &SLOTS);
 }
 
-// Whether a slot has all parts of the usable slot 0, with this many stripes and this hash function.
-// 3999 stripes of 64 bytes are 499 sectors and seven eighths of one, and areas are whole sectors.
+// Whether a slot has all parts of the usable slot 0, with this many stripes and this hash function,
+// and the header's digest. 3999 stripes of 64 bytes are 499 sectors and seven eighths of one, and
+// areas are whole sectors.
 fn has_parts(slot: &Slot, stripes: u32, hash: Option<Hash>) -> bool {
     let parts = &slot.parts;
     let numbers = [
@@ -167,7 +168,7 @@ fn has_parts(slot: &Slot, stripes: u32, hash: Option<Hash>) -> bool {
         parts.area_key_bytes,
     ];
     let sizes = [slot.need(), parts.area_size, parts.area_offset];
-    let salt = parts.salt.as_slice();
+    let (salt, value) = (parts.salt.as_slice(), slot.digest.value.as_slice());
     (numbers == [1000, stripes, 64, 64])
         & (parts.priority == 1)
         & ([parts.kdf_hash, parts.af_hash] == [hash, hash])
@@ -175,6 +176,7 @@ fn has_parts(slot: &Slot, stripes: u32, hash: Option<Hash>) -> bool {
         & (parts.area_mode == Some(Mode::XtsPlain64))
         & (salt.len() == 32)
         & (salt.first() == Some(&0x40))
+        & (value.last() == Some(&0x13))
 }
 
 /// Numbers, the name of the hash, and the stripes and the hash of slot 0.
@@ -352,4 +354,5 @@ fn a_digest_has_its_numbers(rt: HostRuntime) {
     check_numbers(&rt, first(&rt, &[], &[]));
     let none = first(&rt, &[(DIGEST_ITERATIONS, 0)], &[]);
     assert_of(&rt, "no digest", !has_digest(&rt, none, 0));
+    assert_of(&rt, "no slot", !is_there(&rt, none, 0));
 }

@@ -1,6 +1,6 @@
 use Rattle.std.proofs.Common.{◌≡◌, ◌∙◌, None, Some, sym}
 use Rattle.luks_open.specs.Opening.{slot_key}
-use Rattle.luks_open.proofs.OpeningLemmas.{go_last, go_on, go_out}
+use Rattle.luks_open.proofs.CallerLemmas.{go_last, go_on, go_out}
 use Rattle.luks_open.proofs.opening.first_opening.Goals as goal
 
 pub returns-in-Some-clause-value : goal.returns-in-Some-clause-value

@@ -1,4 +1,4 @@
-use Rattle.luks_open.proofs.OpeningLemmas.{NoneOpenedBefore}
+use Rattle.luks_open.proofs.CallerLemmas.{NoneOpenedBefore}
 use Rattle.luks_open.proofs.opening.first_opening.Given as goal
 
 -- none of the earlier key slots opened

@@ -1,6 +1,8 @@
-use Rattle.std.proofs.Common.{rules, length}
+use Rattle.std.proofs.Common.{rules, ◌∙◌, length, sym}
+use Rattle.std.proofs.lemmas.List.Elements.{recursion_from_All}
 use Rattle.luks_open.specs.Opening.{opening_of, work_of}
 use Rattle.luks_open.proofs.CallerLemmas.{All-IsTriable, All-volume_key}
+use Rattle.luks_open.proofs.CallerLemmas.{opened_key_length}
 use Rattle.luks_open.proofs.opening.open.Goals as goal
 
 pub first_opening-requires : goal.first_opening-requires
@@ -19,10 +21,11 @@ returns-in-Some c =
       value = search rules;
       work = search rules;
       key_length = λ segment is_segment.
-          rw c.in-Some.is at (c.first_opening.ensures.len segment.mode (rw c.entries.ensures
-          (All-volume_key c.args.header.now order.0 order.1 c.args.order.now order.2 segment is_segment)));
+          opened_key_length segment.mode c.args.order.now.entries c.args.area.now.bytes c.args.pass.now
+          c.in-Some.opened
+          (recursion_from_All _ c.args.order.now.entries (All-IsTriable c.args.header.now order.0 order.1
+          c.args.order.now order.2 segment is_segment (length c.args.area.now.bytes) c.requires.loaded))
+          (recursion_from_All _ c.args.order.now.entries (All-volume_key c.args.header.now order.0 order.1
+          c.args.order.now order.2 segment is_segment))
+          (rw (c.entries.ensures, c.as_slice.ensures.value) at (sym c.first_opening.ensures.value ∙ c.in-Some.is));
     }
-
-pub returns-in-None-clause-work : goal.returns-in-None-clause-work
-unfolding work_of
-returns-in-None-clause-work c = search rules

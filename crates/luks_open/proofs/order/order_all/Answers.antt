@@ -1,22 +1,22 @@
 use Rattle.std.proofs.Common.{rules, arith}
 use Rattle.luks_verdict.specs.Rule.{max_slots}
 use Rattle.luks_verdict.specs.Table.{ascending}
-use Rattle.luks_open.specs.Order.{order_of_all, usable_at}
+use Rattle.luks_open.specs.Order.{order_of_all, tried_with}
 use Rattle.luks_open.proofs.CallerLemmas.{some_tried}
 use Rattle.luks_open.proofs.order.order_all.Goals as goal
 
 pub returns-in_err-push_usable-clause-memory : goal.returns-in_err-push_usable-clause-memory
 unfolding order_of_all
 returns-in_err-push_usable-clause-memory c = λ memory.
-    let usable = usable_at c.args.header.now c.args.limit in
-    some_tried (ascending (usable 2) max_slots) (ascending (usable 1) max_slots) _
+    let tried = tried_with c.args.header.now c.args.limit in
+    some_tried (ascending (tried 2) max_slots) (ascending (tried 1) max_slots) _
     (omega (arith, c.in_err-push_usable.ensures.err))
 
 pub returns-in_err-push_usable-2-clause-memory : goal.returns-in_err-push_usable-2-clause-memory
 unfolding order_of_all
 returns-in_err-push_usable-2-clause-memory c = λ memory.
-    let usable = usable_at c.args.header.now c.args.limit in
-    some_tried (ascending (usable 2) max_slots) (ascending (usable 1) max_slots) _
+    let tried = tried_with c.args.header.now c.args.limit in
+    some_tried (ascending (tried 2) max_slots) (ascending (tried 1) max_slots) _
     (omega (arith, c.in_err-push_usable-2.ensures.err))
 
 pub returns-then-is_empty : goal.returns-then-is_empty

@@ -1,40 +1,31 @@
-use Rattle.std.proofs.Common.{rules, ◌∙◌, ◌≤◌, ◌++◌, [], List, IsSome, ap, sym, subst, length, append_assoc, arith}
+use Rattle.std.proofs.Common.{rules, ◌∙◌, ◌≤◌, ◌++◌, [], List, ap, sym, length, append_assoc, arith}
 use Rattle.std.specs.List.{cons_option}
 use Rattle.std.proofs.lemmas.List.{append-nil}
 use Rattle.luks_verdict.specs.Table.{ascending}
 use Rattle.luks_verdict.proofs.TableLemmas.{ascending_more, ascending_none, some_rising}
-use Rattle.luks_open.specs.Order.{usable_at}
+use Rattle.luks_open.specs.Order.{tried_with}
 use Rattle.luks_open.specs.declared.entry.Entry.{Entry}
 use Rattle.luks_open.proofs.order.push_usable.Goals as goal
 
 pub loop-number-init : goal.loop-number-init
 loop-number-init c =
-    let f = usable_at c.args.header.now c.args.limit c.args.priority in
+    let f = tried_with c.args.header.now c.args.limit c.args.priority in
     sym (append-nil c.args.entries.now.items)
     ∙ ap (λ (l : List Entry). c.args.entries.now.items ++ l) (sym (ascending_none f))
 
-pub returns-in_err-entry-clause-err : goal.returns-in_err-entry-clause-err
-returns-in_err-entry-clause-err c =
-    let f = usable_at c.args.header.now c.args.limit c.args.priority in
+pub returns-in_err-push_tried-clause-err : goal.returns-in_err-push_tried-clause-err
+returns-in_err-push_tried-clause-err c =
+    let f = tried_with c.args.header.now c.args.limit c.args.priority in
     let many : 1 ≤ length (ascending f 32) =
-    some_rising f c.loop-number.number 32 c.in_err-entry.ensures.err (omega arith) in
-    search (rules, many)
-
-pub returns-in_err-push_entry-clause-err : goal.returns-in_err-push_entry-clause-err
-returns-in_err-push_entry-clause-err c =
-    let f = usable_at c.args.header.now c.args.limit c.args.priority in
-    let some : IsSome (f c.loop-number.number) =
-    subst IsSome c.in_ok-entry.ensures.ok c.in_err-push_entry.ensures.err in
-    let many : 1 ≤ length (ascending f 32) = some_rising f c.loop-number.number 32 some (omega arith) in
+    some_rising f c.loop-number.number 32 c.in_err-push_tried.ensures.err (omega arith) in
     search (rules, many)
 
 pub loop-number-preserved : goal.loop-number-preserved
 loop-number-preserved c =
-    let f = usable_at c.args.header.now c.args.limit c.args.priority in
+    let f = tried_with c.args.header.now c.args.limit c.args.priority in
     let n = c.loop-number.number in
     let old = c.args.entries.now.items in
-    c.in_ok-push_entry.ensures.ok
-    ∙ ap (λ (l : List Entry). l ++ cons_option c.in_ok-entry.entry []) c.loop-number.invariant
-    ∙ ap (λ entry. (old ++ ascending f n) ++ cons_option entry []) c.in_ok-entry.ensures.ok
+    c.in_ok-push_tried.ensures.ok
+    ∙ ap (λ (l : List Entry). l ++ cons_option (f n) []) c.loop-number.invariant
     ∙ append_assoc old (ascending f n) (cons_option (f n) [])
     ∙ ap (λ (l : List Entry). old ++ l) (sym (ascending_more f n))

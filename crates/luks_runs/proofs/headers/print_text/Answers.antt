@@ -18,12 +18,12 @@ returns-in_err-put_all-clause-run g c =
 
 pub returns-clause-run : goal.returns-clause-run
 returns-clause-run g c =
-    rw (c.ended.ensures, c.in_ok-text.ensures.reported) (printout_written c.args.printout c.args.header.now _ _ _
+    rw c.in_ok-text.ensures.reported (printout_written c.args.printout c.args.header.now _ _ _
     (c.as_bytes.ensures.value ∙ c.in_ok-text.ensures.text) c.in_ok-put_all.ensures.ok)
 
 pub returns-clause-only : goal.returns-clause-only
 returns-clause-only g c =
-    rw (c.ended.ensures, c.in_ok-text.ensures.reported)
+    rw c.in_ok-text.ensures.reported
     (by_printout PrintoutMessage tt tt tt tt c.args.printout c.args.header.now)
 
 pub returns-clause-writes : goal.returns-clause-writes
@@ -31,4 +31,4 @@ returns-clause-writes g c =
     let unfailed : is_run_write_failure (printout_message c.args.printout c.args.header.now) ≡ false =
     by_printout (λ _ message. is_run_write_failure message ≡ false) refl refl refl refl c.args.printout
     c.args.header.now in
-    rw (c.ended.ensures, c.in_ok-text.ensures.reported, unfailed) c.in_ok-put_all.ensures.writes
+    rw (c.in_ok-text.ensures.reported, unfailed) c.in_ok-put_all.ensures.writes

@@ -1,5 +1,4 @@
 use Rattle.luks_io.proofs.ErrorLemmas.{given_error}
-use Rattle.luks_request.specs.Request.{volume_request}
 use Rattle.luks_unlock.proofs.VolumeLemmas.{aborts_without_header, aborts_without_slots}
 use Rattle.luks_unlock.proofs.found.find_volume.Goals as goal
 
@@ -13,7 +12,7 @@ pub returns-in_err-segment-clause-err : goal.returns-in_err-segment-clause-err
 returns-in_err-segment-clause-err g c =
     rw (given_error _ _ c.from_residual-in_err-segment.ensures.1) (λ known is.
     let read = c.in_ok-header.ensures.consumed known is in
-    aborts_without_slots c.args.location (volume_request c.args.opening.now) known _ c.in_ok-header.header read.0 read.2
+    aborts_without_slots c.args.location c.args.slots known _ c.in_ok-header.header read.0 read.2
     _ c.in_err-segment.ensures.err)
 
 pub returns-clause-found : goal.returns-clause-found

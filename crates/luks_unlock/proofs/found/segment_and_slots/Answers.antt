@@ -1,6 +1,5 @@
 use Rattle.luks_io.proofs.ErrorLemmas.{given_error}
 use Rattle.std.proofs.Common.{inr, sym, refl}
-use Rattle.luks_request.specs.Request.{volume_request}
 use Rattle.luks_unlock.proofs.VolumeLemmas.{no_order}
 use Rattle.luks_unlock.proofs.found.segment_and_slots.Goals as goal
 
@@ -10,6 +9,5 @@ returns-in_err-segment-clause-err c =
 
 pub returns-in-Err-clause-err : goal.returns-in-Err-clause-err
 returns-in-Err-clause-err c =
-    rw (c.of_opening.ensures, c.named_slot-named.ensures) (no_order (volume_request c.args.opening.now)
-    c.args.header.now _ (sym c.in_ok-segment.ensures) _
-    (rw (c.named_slot-named.ensures, c.max_iterations.ensures) at c.in-Err.ensures.answer))
+    rw c.of_opening.ensures (no_order c.args.slots c.args.header.now _ (sym c.in_ok-segment.ensures) _
+    c.in-Err.ensures.answer)

@@ -1,6 +1,6 @@
 use Rattle.luks_io.proofs.ErrorLemmas.{given_error}
 use Rattle.std.proofs.Common.{inl, inr, refl, sym}
-use Rattle.luks_header.proofs.HeaderLemmas.{short_from_not_whole}
+use Rattle.luks_header.proofs.KnownLemmas.{short_from_not_whole}
 use Rattle.luks_unlock.proofs.VolumeLemmas.{none_behind, opening_reads}
 use Rattle.luks_unlock.proofs.trying.try_slots.Goals as goal
 
@@ -34,7 +34,7 @@ returns-in-Ok-clause-run g c rest there nothing =
     )
 
 pub returns-in-Err-clause-run : goal.returns-in-Err-clause-run
-returns-in-Err-clause-run g c = rw (c.of_opening.ensures, c.named_slot.ensures) (λ rest there nothing.
+returns-in-Err-clause-run g c = rw c.of_opening.ensures (λ rest there nothing.
     let end = c.held_end-end.ensures.value in
     inr (
       rw end at (c.in_ok-extend_to.ensures.consumed rest there),
@@ -73,4 +73,4 @@ returns-in-Err-clause-ended g c ended = (c.extend_to.ensures.already (c.is_cut.e
 pub returns-in-Err-clause-reads : goal.returns-in-Err-clause-reads
 returns-in-Err-clause-reads g c =
     rw c.of_opening.ensures
-    (opening_reads c.named_slot.result c.in-Err.fault _ _ (rw c.if-not-branch.false at c.in_ok-extend_to.ensures.reads))
+    (opening_reads c.args.slots.named c.in-Err.fault _ _ (rw c.if-not-branch.false at c.in_ok-extend_to.ensures.reads))

@@ -7,7 +7,7 @@ use luks_access::image::{ReadAt, ReadAtFault};
 use luks_access::memory::MemImage;
 use luks_access::options::Options;
 use luks_access::volume::Volume;
-use luks_access::{HeaderLocation, Message};
+use luks_access::{HeaderLocation, Message, SlotChoice};
 use luks_seal::parameters::Seal2;
 use luks_seal_fixtures::bytes::{at, counted};
 use luks_seal_fixtures::parameters::{parameters1, parameters2, slot1, slot2};
@@ -24,8 +24,10 @@ pub const PASS: &[u8] = b"second";
 /// The options that open each volume here.
 pub const OPTIONS: Options = Options {
     location: HeaderLocation::Attached,
-    key_slot: None,
-    max_iterations: None,
+    slots: SlotChoice {
+        named: None,
+        max_iterations: None,
+    },
 };
 
 /// This many bytes that count up, to be read or overwritten.

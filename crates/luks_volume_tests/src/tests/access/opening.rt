@@ -5,7 +5,7 @@ use crate::tests::shared::assert_of;
 use luks_access::memory::MemImage;
 use luks_access::options::Options;
 use luks_access::volume::{MAX_PASSPHRASE_LEN, Volume};
-use luks_access::{HeaderLocation, IterationLimit, Message, SlotNumber};
+use luks_access::{HeaderLocation, Message, SlotChoice};
 use luks_seal_fixtures::bytes::at;
 use luks_seal_fixtures::parameters::KEY;
 use luks_test_support::scarce::Scarcity;
@@ -14,17 +14,23 @@ use std::alloc::Global;
 use std::process::Abort;
 
 // Options that name the key slot with this number.
-fn named(slot: u64) -> Options {
+fn named(slot: u8) -> Options {
     Options {
-        key_slot: SlotNumber::new(slot),
+        slots: SlotChoice {
+            named: Some(slot),
+            max_iterations: None,
+        },
         ..OPTIONS
     }
 }
 
 // Options with this limit on iterations.
-fn limited(iterations: u64) -> Options {
+fn limited(iterations: u32) -> Options {
     Options {
-        max_iterations: IterationLimit::new(iterations),
+        slots: SlotChoice {
+            named: None,
+            max_iterations: Some(iterations),
+        },
         ..OPTIONS
     }
 }

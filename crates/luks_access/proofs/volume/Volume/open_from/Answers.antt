@@ -1,6 +1,5 @@
 use Rattle.std.proofs.Common.{ap}
 use Rattle.luks_io.proofs.ErrorLemmas.{given_error}
-use Rattle.luks_request.specs.Request.{volume_request}
 use Rattle.luks_access.proofs.OpeningLemmas.{opened_by, refused_unfound, refused_unopened, volume_opened}
 use Rattle.luks_access.proofs.OpeningLemmas.{volume_refused}
 use Rattle.luks_unlock.proofs.VolumeLemmas.{nothing_left, reads_on}
@@ -11,16 +10,14 @@ returns-clause-opens g c known is =
     let found = c.in_ok-found.ensures.found in
     let read = found.header known is in
     volume_opened c.args.options.now known c.args.pass.now _
-    (opened_by c.args.options.now (volume_request c.opening-opening.result) known c.args.pass.now _
-    c.opening-opening.ensures _ found.slots read.0 _ read.1 _
+    (opened_by c.args.options.now known c.args.pass.now _ _ found.slots read.0 _ read.1 _
     (c.in_ok-unlocked.ensures.run _ read.2.left (nothing_left _ _ _ _ _ known _ found.loaded is read.2.left)).1)
 
 pub returns-in_err-found-clause-refuses : goal.returns-in_err-found-clause-refuses
 returns-in_err-found-clause-refuses g c =
     rw (given_error _ _ c.from_residual.ensures.1) (λ known is.
     volume_refused c.args.options.now known c.args.pass.now _ c.in_err-found.ensures.only (λ never.
-    refused_unfound c.args.options.now (volume_request c.opening-opening.result) known c.args.pass.now _
-    c.opening-opening.ensures _ never (c.in_err-found.ensures.err known is)))
+    refused_unfound c.args.options.now known c.args.pass.now _ _ never (c.in_err-found.ensures.err known is)))
 
 pub returns-in_err-unlocked-clause-refuses : goal.returns-in_err-unlocked-clause-refuses
 returns-in_err-unlocked-clause-refuses g c =
@@ -28,8 +25,7 @@ returns-in_err-unlocked-clause-refuses g c =
     volume_refused c.args.options.now known c.args.pass.now _ c.in_err-unlocked.ensures.only (λ never.
     let found = c.in_ok-found.ensures.found in
     let read = found.header known is in
-    refused_unopened c.args.options.now (volume_request c.opening-opening.result) known c.args.pass.now _
-    c.opening-opening.ensures _ found.slots read.0 _ read.1 _ never
+    refused_unopened c.args.options.now known c.args.pass.now _ _ found.slots read.0 _ read.1 _ never
     (c.in_err-unlocked.ensures.run _ read.2.left (nothing_left _ _ _ _ _ known _ found.loaded is read.2.left)).1))
 
 -- the key slots were tried after the volume was found

@@ -1,6 +1,6 @@
 use Rattle.std.proofs.Common.{refl}
 use Rattle.luks_runs.specs.Run.{result_message}
-use Rattle.luks_cli.proofs.CallLemmas.{detached_calls_without_payload, calls_of_image, calls_of_is_luks, none_read}
+use Rattle.luks_cli.proofs.OpenedRuns.{detached_calls_without_payload, calls_of_image, calls_of_is_luks, none_read}
 use Rattle.luks_cli.specs.CommandRun.{ReadsOnce}
 use Rattle.luks_cli.proofs.execute.detached.execute_detached.Goals as goal
 

@@ -4,9 +4,8 @@ use Rattle.luks_io.specs.Counts.{MemSourceModel}
 use Rattle.luks_runs.specs.Run.{Outcome, result_message}
 use Rattle.luks_runs.specs.Payload.{max_needed}
 use Rattle.luks_runs.specs.declared.location.HeaderLocation.TheVariants.{Attached}
-use Rattle.luks_request.specs.Request.{volume_request}
 use Rattle.luks_unlock.specs.Volume.{slot_outcome}
-use Rattle.luks_cli.proofs.CallLemmas.{calls_unopened, none_failed, payload_after, reads_without_payload}
+use Rattle.luks_cli.proofs.OpenedRuns.{calls_unopened, none_failed, payload_after, reads_without_payload}
 use Rattle.luks_cli.proofs.OpenedRuns.{loaded_from_none, loaded_whole, never_read, runs_forwarded}
 use Rattle.luks_cli.proofs.execute.volumes.cat.Goals as goal
 
@@ -46,7 +45,7 @@ returns-in_err-unlocked-clause-calls g c =
     let stop = c.in_err-unlocked.ensures in
     rw (given_error _ _ c.from_residual.ensures.1)
     (calls_unopened _ _ stop.only
-    (reads_without_payload Attached (volume_request c.args.opening.now) _ _ _ _ _ _ _ stop.counts))
+    (reads_without_payload Attached c.args.slots _ _ _ _ _ _ _ stop.counts))
 
 -- ---- the image's end was hit: its payload is forwarded from memory
 
@@ -67,6 +66,6 @@ returns-then-has_ended-clause-calls g c =
     let counts = c.in_ok-unlocked.ensures.counts in
     let unread = never_read (result_message c.write_plain.result) c.write_plain.ensures.reads.1.failures in
     record {
-      reads = rw unread (reads_without_payload Attached (volume_request c.args.opening.now) _ _ _ _ _ _ _ counts);
+      reads = rw unread (reads_without_payload Attached c.args.slots _ _ _ _ _ _ _ counts);
       out_writes = c.write_plain.ensures.writes;
     }

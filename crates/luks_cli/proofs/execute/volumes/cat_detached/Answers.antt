@@ -5,7 +5,7 @@ use Rattle.luks_io.specs.Devices.{ConsumedExactly}
 use Rattle.luks_runs.specs.Run.{result_message}
 use Rattle.luks_runs.specs.declared.location.HeaderLocation.TheVariants.{Detached}
 use Rattle.luks_unlock.specs.Volume.{detached_payload_outcome}
-use Rattle.luks_cli.proofs.CallLemmas.{detached_calls_without_payload, calls_unopened, none_read}
+use Rattle.luks_cli.proofs.OpenedRuns.{detached_calls_without_payload, calls_unopened, none_read}
 use Rattle.luks_cli.proofs.OpenedRuns.{detached_payload_consumes_loaded, detached_runs_forwarded, runs_at, with_key}
 use Rattle.luks_cli.specs.CommandRun.{ReadsOnce}
 use Rattle.luks_cli.specs.Unlocking.{PromptCat}

@@ -2,7 +2,7 @@ use Rattle.std.proofs.Common.{refl}
 use Rattle.luks_io.proofs.ErrorLemmas.{given_error}
 use Rattle.luks_unlock.specs.Volume.{slot_outcome}
 use Rattle.luks_runs.specs.Run.{AnyPromptness, ConsumedNothing, result_message}
-use Rattle.luks_cli.proofs.CallLemmas.{calls_unopened}
+use Rattle.luks_cli.proofs.OpenedRuns.{calls_unopened}
 use Rattle.luks_cli.specs.CommandRun.{ReadsOnce}
 use Rattle.luks_cli.proofs.OpenedRuns.{runs_at, runs_slot, slot_message, slot_consumes_loaded}
 use Rattle.luks_cli.proofs.execute.volumes.test_passphrase.Goals as goal

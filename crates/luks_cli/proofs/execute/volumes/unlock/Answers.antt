@@ -1,8 +1,7 @@
 use Rattle.std.proofs.Common.{◌∙◌, [], Some, ap, false}
 use Rattle.luks_io.proofs.ErrorLemmas.{given_error}
-use Rattle.luks_request.specs.Request.{volume_request}
 use Rattle.luks_unlock.proofs.VolumeLemmas.{nothing_left, reads_within, there_is_volume}
-use Rattle.luks_cli.proofs.CallLemmas.{reads_before, reads_of_image}
+use Rattle.luks_cli.proofs.OpenedRuns.{reads_before, reads_of_image}
 use Rattle.luks_cli.proofs.VolumeRuns.{runs_without_key, runs_without_volume, unlocks_volume}
 use Rattle.luks_cli.proofs.execute.volumes.unlock.Goals as goal
 
@@ -21,7 +20,7 @@ returns-in_err-opened-clause-err g c =
     rw (given_error _ _ c.from_residual-in_err-opened.ensures.1) (λ known is pass has on_opened takes written.
     let found = c.in_ok-volume.ensures.found in
     let read = found.header known is in
-    runs_without_key c.args.location (volume_request c.args.opening.now) known pass _ _ _ _ _ _ read.0
+    runs_without_key c.args.location c.args.slots known pass _ _ _ _ _ _ read.0
     found.slots.segment found.slots.order _ _ read.1 on_opened takes _
     (c.in_err-opened.ensures.run _ read.2.left pass has (nothing_left _ _ _ _ _ known _ found.loaded is read.2.left)))
 
@@ -41,7 +40,7 @@ pub returns-clause-ok : goal.returns-clause-ok
 returns-clause-ok g c known is pass has =
     let found = c.in_ok-volume.ensures.found in
     let read = found.header known is in
-    rw c.area_of-area.ensures (unlocks_volume c.args.location (volume_request c.args.opening.now) known pass
+    rw c.area_of-area.ensures (unlocks_volume c.args.location c.args.slots known pass
     _ _ (Some []) _ _ _ read.0 found.slots.segment found.slots.order _ _ read.1 _
     (c.in_ok-opened.ensures.run _ read.2.left pass has (nothing_left _ _ _ _ _ known _ found.loaded is read.2.left)))
 

@@ -1,7 +1,7 @@
 use Rattle.std.proofs.Common.{◌≡◌, ◌≤◌, ap, arith, false, inl, inr, length, refl, true}
 use Rattle.luks_io.proofs.ErrorLemmas.{given_error}
 use Rattle.luks_runs.specs.KeyFile.{max_key_file_len}
-use Rattle.luks_cli.proofs.CallLemmas.{within_areas}
+use Rattle.luks_cli.proofs.OpenedRuns.{within_areas}
 use Rattle.luks_io.proofs.EffectLemmas.{no_reads}
 use Rattle.luks_cli.proofs.execute.volumes.unlock_found.Goals as goal
 
