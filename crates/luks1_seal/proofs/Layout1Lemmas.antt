@@ -17,7 +17,7 @@ use Rattle.luks_seal.proofs.FieldLemmas.{Part, part, padded_begins, length-padde
 use Rattle.luks_seal.proofs.FieldLemmas.{IsThere}
 use Rattle.luks_seal.proofs.SectorLemmas.{IsImage, image_made, pieces_length, piece_at}
 use Rattle.luks_seal.proofs.MaterialLemmas.{AreRandomStripes, length-material}
-use Rattle.luks_seal.proofs.RuleLemmas.{cipher_is_named, hash_is_named, mode_is_named}
+use Rattle.luks_seal.proofs.MaterialLemmas.{cipher_is_named, hash_is_named, mode_is_named}
 use Rattle.luks_seal.proofs.SlotLemmas.{found_has}
 use Rattle.luks1_seal.specs.Layout1.{area1_of, area_key1_of, area_sectors_of, digest1_fields, fields1_of, header1_bytes}
 use Rattle.luks1_seal.specs.Layout1.{image1_of, key_slot1_of, material1_of, middle1_of, payload1_bytes, slot1_numbered}

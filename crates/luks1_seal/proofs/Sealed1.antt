@@ -14,8 +14,8 @@ use Rattle.luks1_header.specs.Slot1.{digest1_of, digest_parts1_of, hash1_of, are
 use Rattle.luks1_header.specs.Slot1.{payload1_start, reason1_of, slot1_of, slot_parts1_of, verdict1_of, verdict1_at}
 use Rattle.luks1_header.proofs.ValidationLemmas.{segment1-none, slot_there}
 use Rattle.luks_seal.specs.Sealed.{IsDigestOf, GivesKey, Sealed, SealsKey, SealsPlain}
-use Rattle.luks_seal.proofs.RuleLemmas.{area_fits, digest_fits, hash_is_named, iterations_fit, mode_is_named}
-use Rattle.luks_seal.proofs.RuleLemmas.{stripes_fit}
+use Rattle.luks_seal.proofs.MaterialLemmas.{area_fits, digest_fits, hash_is_named, iterations_fit, mode_is_named}
+use Rattle.luks_seal.proofs.MaterialLemmas.{stripes_fit, made_material, material_is_stored}
 use Rattle.luks1_seal.specs.Layout1.{area_sectors_of, area_key1_of, image1_of, material1_of}
 use Rattle.luks1_seal.specs.Ranges1.{AreParameters1, AreTyped1, passphrases1_of, Seal1, Slot1}
 use Rattle.std.proofs.lemmas.List.Elements.{All-map}
@@ -25,7 +25,6 @@ use Rattle.luks_header.specs.Header.{header_of}
 use Rattle.luks_header.specs.HeaderSegment.{segment_of}
 use Rattle.luks_header.specs.SlotVerdicts.{verdict_at}
 use Rattle.luks_header.specs.declared.header.Header.TheVariants.{V1}
-use Rattle.luks_seal.proofs.MaterialLemmas.{made_material, material_is_stored}
 use Rattle.luks_seal.specs.Pieces.{sector_padded, stripes_of}
 use Rattle.luks_seal.proofs.SlotLemmas.{found_by_number}
 use Rattle.luks1_seal.proofs.Layout1Lemmas.{IsUsed, ends_before, found_header, found_slot, header1_are, header1_read}

@@ -21,7 +21,7 @@ use Rattle.luks2_binary.specs.declared.header.PairFinding.TheVariants.{Sequences
 use Rattle.luks2_binary.specs.declared.header.Header2.{Header2}
 use Rattle.luks2_binary.specs.declared.header.HeaderRole.{HeaderRole}
 use Rattle.luks2_binary.specs.declared.header.HeaderRole.TheVariants.{Primary, Secondary}
-use Rattle.luks2_binary.proofs.SearchLemmas.{first_is, furthest, search_len_is}
+use Rattle.luks2_binary.proofs.ValidLemmas.{first_is, furthest, search_len_is}
 use Rattle.luks2_binary.proofs.ValidLemmas.{at-prefix, fits-prefix, own_size, probe_fit, probe_least, short-fits}
 use Rattle.luks2_binary.proofs.ValidLemmas.{unfit-is_valid, valid-prefix, valid_parts, valid_range}
 

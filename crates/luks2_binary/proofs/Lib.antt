@@ -1,4 +1,3 @@
 pub mod ChoiceLemmas
 pub mod PrefixLemmas
-pub mod SearchLemmas
 pub mod ValidLemmas

@@ -1,2 +1,1 @@
-pub mod SegmentLemmas
 pub mod SlotLemmas

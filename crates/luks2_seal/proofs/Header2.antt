@@ -9,7 +9,7 @@ use Rattle.std.proofs.lemmas.Slice.Eq.{bytes_eq-Decides}
 use Rattle.luks_area.specs.Fields.{at, be64, text_of}
 use Rattle.luks_kdf.specs.Hash.{hash_named, hash_of}
 use Rattle.luks_kdf.specs.declared.hash.Hash.TheVariants.{Sha256}
-use Rattle.luks_kdf.proofs.HashLemmas.{length-hash_of}
+use Rattle.luks_kdf.proofs.Pbkdf2Lemmas.{length-hash_of}
 use Rattle.luks2_binary.specs.Checksum2.{checksum_matches, no_checksum, without_checksum}
 use Rattle.luks2_binary.specs.Choice2.{beginning_at, is_binary_of, binary_at, fits as has_binary, is_valid, size_at}
 use Rattle.luks2_binary.specs.Header2.{checksum_hash_in, hdr_offset_in, sequence_in, size_in}

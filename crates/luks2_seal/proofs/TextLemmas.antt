@@ -20,7 +20,7 @@ use Rattle.luks_verdict.specs.declared.sector_size.SectorSize.TheVariants.{B512}
 use Rattle.luks2_json.specs.Member.{decimal_of, decimal_member, encryption_mode, string_is, string_member}
 use Rattle.luks2_json.proofs.EncodedLemmas.{numerals}
 use Rattle.luks2_metadata.specs.Segment2.{sector_size_with, size_member}
-use Rattle.luks_seal.proofs.RuleLemmas.{mode_is_named}
+use Rattle.luks_seal.proofs.MaterialLemmas.{mode_is_named}
 use Rattle.luks2_seal.specs.Layout2.{size_value}
 
 pub decimal_read : (n : ℕ) → n < 2 ^ 64 → decimal_of (decimal n) ≡ Some n

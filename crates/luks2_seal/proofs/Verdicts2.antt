@@ -14,8 +14,7 @@ use Rattle.luks2_metadata.specs.Segment2.{iv_tweak_of, mode2_of, offset_of, sect
 use Rattle.luks2_metadata.specs.Segment2.{segment2_of, segment_parts2_of, size_member, overlaps_headers2}
 use Rattle.luks2_metadata.specs.Segment2.{offset_is_wrong, the_segment, payload2_start, payload_mode2_of}
 use Rattle.luks2_metadata.specs.declared.bounds.Bounds.{Bounds}
-use Rattle.luks2_metadata.proofs.SegmentLemmas.{segment2-none, segment2-ok}
-use Rattle.luks2_metadata.proofs.SlotLemmas.{slot_there}
+use Rattle.luks2_metadata.proofs.SlotLemmas.{segment2-none, segment2-ok, slot_there}
 use Rattle.luks2_seal.specs.Layout2.{config_object, metadata_of, segment_object, digest_object, af_object}
 use Rattle.luks2_seal.specs.Layout2.{area_object, kdf_object, keyslot_object}
 use Rattle.luks2_seal.specs.Ranges2.{AreParameters2, FitsSlot2, AreTyped2, IsTypedSlot2, slot_numbered, area_size}
@@ -26,8 +25,7 @@ use Rattle.luks2_seal.proofs.TextLemmas.{whole_size}
 use Rattle.std.proofs.lemmas.Fmt.{decimal_digit}
 use Rattle.luks_kdf.specs.Hash.{digest_len}
 use Rattle.luks_kdf.specs.Pbkdf2.{derived_key}
-use Rattle.luks_kdf.proofs.HashLemmas.{digest_sizes}
-use Rattle.luks_kdf.proofs.Pbkdf2Lemmas.{length-derived_key}
+use Rattle.luks_kdf.proofs.Pbkdf2Lemmas.{digest_sizes, length-derived_key}
 use Rattle.luks_verdict.specs.declared.digest.DigestParts.{DigestParts}
 use Rattle.luks_verdict.specs.declared.digest.KeyDigest.{KeyDigest}
 use Rattle.luks2_json.specs.List.{has_strings, array_contains}
@@ -37,7 +35,7 @@ use Rattle.luks2_metadata.specs.Digest2.{digest2_for, digest2_of, is_digest2, is
 use Rattle.luks2_metadata.specs.Digest2.{own_digest_at, value_in}
 use Rattle.luks_seal.specs.Sealed.{IsDigestOf}
 use Rattle.luks_seal.proofs.MaterialLemmas.{derived_bytes}
-use Rattle.luks_seal.proofs.RuleLemmas.{digest_fits, hash_is_named, area_fits, iterations_fit, stripes_fit}
+use Rattle.luks_seal.proofs.MaterialLemmas.{digest_fits, hash_is_named, area_fits, iterations_fit, stripes_fit}
 use Rattle.luks_verdict.specs.declared.slot.SlotParts.{SlotParts}
 use Rattle.luks2_metadata.specs.Slot2.{af_hash_of, area_mode_of, has_members, is_af, is_area, is_kdf, is_pbkdf2}
 use Rattle.luks2_metadata.specs.Slot2.{kdf_hash_of, priority_of, slot_parts2_of, are_key_sizes, has_unknown_hash}

@@ -1,7 +1,6 @@
 pub mod Bytes
 pub mod StateLemmas
 pub mod ScheduleLemmas
-pub mod ByteLists
 pub mod MixingLemmas
 pub mod Undone
 pub mod ColumnLemmas

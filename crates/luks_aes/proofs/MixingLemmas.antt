@@ -14,7 +14,7 @@ use Rattle.luks_aes.specs.Aes.{cell, state_of, word_of, word_at, multiplied_colu
 use Rattle.luks_aes.specs.Bytes.{IsBytes}
 use Rattle.luks_aes.specs.Columns.{column_product, IsMultiplied, key_byte, inv_mixed_row}
 use Rattle.luks_aes.proofs.Bytes.{same_below, each_below_4}
-use Rattle.luks_aes.proofs.ByteLists.{IsState, xor_byte, times_x_byte, product_byte}
+use Rattle.luks_aes.proofs.ColumnLemmas.{IsState, xor_byte, times_x_byte, product_byte}
 
 -- ---- products
 

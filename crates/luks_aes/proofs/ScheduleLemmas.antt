@@ -9,7 +9,7 @@ use Rattle.luks_aes.specs.Aes.{key_expansion}
 use Rattle.luks_aes.specs.Bytes.{IsBytes}
 use Rattle.luks_aes.specs.Schedule.{IsSchedule}
 use Rattle.luks_aes.specs.Columns.{IsMultiplied}
-use Rattle.luks_aes.proofs.ByteLists.{bytes_take}
+use Rattle.luks_aes.proofs.ColumnLemmas.{bytes_take}
 
 pub record IsKeyLength (n : ℕ) : Type 0 where
   pub whole : 4 * (n / 4) ≡ n

@@ -10,8 +10,8 @@ use Rattle.luks_aes.specs.Aes.{state_after, cipher, inv_state_after, inv_cipher,
 use Rattle.luks_aes.specs.Bytes.{IsBytes}
 use Rattle.luks_aes.proofs.Bytes.{sbox_entry, inv_sbox_entry, inv_sbox_byte, there_and_back, back_and_there}
 use Rattle.luks_aes.proofs.StateLemmas.{filled_all, cell_at}
-use Rattle.luks_aes.proofs.ByteLists.{IsState, sbox_byte, sub_bytes_state, shift_rows_state, columns_state, after_state}
-use Rattle.luks_aes.proofs.ByteLists.{made_state, add_round_key_state, expansion_bytes}
+use Rattle.luks_aes.proofs.ColumnLemmas.{IsState, sbox_byte, sub_bytes_state, shift_rows_state, columns_state}
+use Rattle.luks_aes.proofs.ColumnLemmas.{after_state, made_state, add_round_key_state, expansion_bytes}
 use Rattle.luks_aes.proofs.MixingLemmas.{AreInverse, inverse_of_mix, inverse_of_inv_mix, row_undone}
 
 -- ---- a round of the cipher and of the inverse cipher

@@ -1,3 +1,2 @@
 pub mod MixLemmas
-pub mod StateLemmas
 pub mod RoundLemmas

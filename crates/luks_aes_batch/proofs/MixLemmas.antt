@@ -8,7 +8,7 @@ use Rattle.std.proofs.lemmas.Nat.Bits.{same_from_bits, bit_at_xor}
 use Rattle.luks_aes.specs.Field.{◌⊕◌, ◌•◌, times_x, product_of_bits}
 use Rattle.luks_aes.specs.Columns.{inv_mixed_row}
 use Rattle.luks_aes.proofs.Bytes.{same_below, listed_below_8}
-use Rattle.luks_aes.proofs.ByteLists.{times_x_byte, product_byte, xor_byte}
+use Rattle.luks_aes.proofs.ColumnLemmas.{times_x_byte, product_byte, xor_byte}
 use Rattle.luks_aes.proofs.MixingLemmas.{inv_mixed, times_x_xor}
 use Rattle.luks_bitslice.specs.BitPlanes.{IsBitPlane}
 use Rattle.luks_bitslice.proofs.GateLemmas.{added_plane}

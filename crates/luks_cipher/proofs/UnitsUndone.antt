@@ -11,8 +11,8 @@ use Rattle.luks_cipher.specs.Xts.{data_key, doubled_number, doubled, tweak_of, b
 use Rattle.luks_cipher.specs.Xts.{block_decrypted, joined, xts_encrypted, xts_decrypted}
 use Rattle.luks_cipher.specs.Cbc.{block_before, chained, cbc_encrypted, cbc_decrypted}
 use Rattle.luks_aes.specs.Bytes.{IsBytes}
-use Rattle.luks_aes.proofs.ByteLists.{IsState, made_state, xor_byte, bytes_nil, bytes_cons, bytes_take, bytes_drop}
-use Rattle.luks_aes.proofs.ByteLists.{encrypted_state}
+use Rattle.luks_aes.proofs.ColumnLemmas.{IsState, made_state, xor_byte, bytes_nil, bytes_cons, bytes_take, bytes_drop}
+use Rattle.luks_aes.proofs.ColumnLemmas.{encrypted_state}
 use Rattle.luks_aes.proofs.Undone.{whole_state, same_states, xor_twice, decrypted-encrypted}
 use Rattle.luks_aes.proofs.Undone.{decrypted_state, encrypted-decrypted}
 use Rattle.luks_aes_batch.proofs.RoundLemmas.{block_state}

@@ -12,7 +12,7 @@ use Rattle.luks_kdf.specs.Stripes.{AfSplitterModel, IsSplit, splitter_after, spl
 use Rattle.luks_kdf.specs.Stripes.{diffused_piece, splitter_with, merged, piece_of, stripe_at}
 use Rattle.luks_kdf.proofs.BytesLemmas.{cut, drop_prefix, joined_same, length-filled, length-xor, take-joined}
 use Rattle.luks_kdf.proofs.BytesLemmas.{xor-undone}
-use Rattle.luks_kdf.proofs.HashLemmas.{length-hash_of, digest_sizes}
+use Rattle.luks_kdf.proofs.Pbkdf2Lemmas.{length-hash_of, digest_sizes}
 
 -- the digest of the number of a piece and the piece
 unfoldable pub hashed_piece : Hash → List ℕ → ℕ → List ℕ

@@ -1,4 +1,3 @@
-pub mod HeaderRuns
 pub mod PayloadLemmas
 pub mod RunLemmas
 pub mod StripeLemmas

@@ -1,8 +1,7 @@
 -- The outcome of a run, its effects on its devices, and what it still satisfies if it is aborted. Each device is
 -- treated by itself: a run consumes this many bytes of the first and of the second input, and writes this output; what
 -- that means for a device is a separate fact.
-use Rattle.std.specs.Prelude.{◌≡◌, ℕ, ◌<◌, ◌≤◌, List, length, take, Bool, true, false, MatchBool}
-use Rattle.std.specs.Prelude.{Option, []}
+use Rattle.std.specs.Prelude.{◌≡◌, ℕ, ◌<◌, ◌≤◌, List, length, take, Bool, true, false, MatchBool, Option, []}
 pub use Rattle.luks_report.specs.Texts.{result_message}
 use Rattle.luks_report.specs.declared.message.Message.{Message}
 use Rattle.luks_report.specs.declared.message.Message.TheVariants.{OutOfMemory, ReadFailed, WriteFailed}

@@ -4,8 +4,8 @@ use Rattle.luks_io.proofs.ErrorLemmas.{given_error}
 use Rattle.luks2_binary.specs.Choice2.{found_at}
 use Rattle.luks2_binary.specs.ReadLen2.{search_len}
 use Rattle.luks2_binary.proofs.PrefixLemmas.{loads_aborted, loads_as, loads_none, loads_then, prefix_of_itself}
-use Rattle.luks2_binary.proofs.SearchLemmas.{found_least, found_valid, place_range, probe_below, searched_all, so_far}
-use Rattle.luks2_binary.proofs.SearchLemmas.{searched_none, searched_on, searched_place, so_far_next}
+use Rattle.luks2_binary.proofs.ValidLemmas.{found_least, found_valid, place_range, probe_below, searched_all, so_far}
+use Rattle.luks2_binary.proofs.ValidLemmas.{searched_none, searched_on, searched_place, so_far_next}
 use Rattle.luks2_binary.proofs.reading.search.Goals as goal
 
 pub loop-place-init : goal.loop-place-init

@@ -1,5 +1,5 @@
 use Rattle.std.proofs.Common.{arith, ◌∙◌}
-use Rattle.luks2_metadata.proofs.SegmentLemmas.{empty_viewed}
+use Rattle.luks2_metadata.proofs.SlotLemmas.{empty_viewed}
 use Rattle.luks2_metadata.proofs.payload.is_empty_array.Goals as goal
 use Rattle.serde_json.specs.View.{view}
 

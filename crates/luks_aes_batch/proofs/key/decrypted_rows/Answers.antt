@@ -1,11 +1,10 @@
 use Rattle.std.proofs.Common.{◌≡◌, ℕ, ◌+◌, ◌-◌, arith, refl, sym, ap, subst, ◌∙◌}
 use Rattle.luks_aes.specs.Aes.{key_expansion, rounds_of, inv_state_after, inv_cipher, decrypted, add_round_key}
 use Rattle.luks_aes.specs.Aes.{inv_sub_bytes, inv_shift_rows}
-use Rattle.luks_aes.proofs.ByteLists.{expansion_bytes}
+use Rattle.luks_aes.proofs.ColumnLemmas.{expansion_bytes}
 use Rattle.luks_aes.proofs.Undone.{inv_round_after, inv_after_state}
 use Rattle.luks_aes_batch.specs.RoundKeys.{rows_of, HasInvMixedKey}
-use Rattle.luks_aes_batch.proofs.StateLemmas.{all_as}
-use Rattle.luks_aes_batch.proofs.RoundLemmas.{rows_keyed, rows_plain, states_same, rotated_same}
+use Rattle.luks_aes_batch.proofs.RoundLemmas.{all_as, rows_keyed, rows_plain, states_same, rotated_same}
 use Rattle.luks_aes_batch.proofs.key.decrypted_rows.Goals as goal
 
 pub loop-round-init : goal.loop-round-init

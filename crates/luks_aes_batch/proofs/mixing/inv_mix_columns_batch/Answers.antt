@@ -4,7 +4,7 @@ use Rattle.luks_aes.specs.Columns.{inv_mixed_row}
 use Rattle.luks_bitslice.specs.BitPlanes.{rotated_index}
 use Rattle.luks_bitslice.proofs.LaneLemmas.{of_planes}
 use Rattle.luks_aes_batch.specs.RoundKeys.{row_0_of, row_1_of, row_2_of, row_3_of, rows_of}
-use Rattle.luks_aes_batch.proofs.StateLemmas.{four}
+use Rattle.luks_aes_batch.proofs.RoundLemmas.{four}
 use Rattle.luks_aes_batch.proofs.MixLemmas.{all_bytes, row_byte, planes_of, moved_bits, doubled_from}
 use Rattle.luks_aes_batch.proofs.mixing.inv_mix_columns_batch.Goals as goal
 

@@ -3,7 +3,7 @@ use Rattle.std.specs.Prelude.{slice_index}
 use Rattle.std.specs.Int.{bit_at}
 use Rattle.luks_aes.specs.Aes.{cell}
 use Rattle.luks_bitslice.specs.BitPlanes.{column_order, column_index, HasBits}
-use Rattle.luks_aes_batch.proofs.StateLemmas.{four, of_one}
+use Rattle.luks_aes_batch.proofs.RoundLemmas.{four, of_one}
 use Rattle.luks_bitslice.proofs.LaneLemmas.{eight}
 use Rattle.luks_aes_batch.proofs.packing.broadcast.Goals as goal
 

@@ -1,5 +1,5 @@
-use Rattle.luks_bitslice.proofs.TransposeLemmas.{shows_same}
-use Rattle.luks_aes_batch.proofs.StateLemmas.{of_group}
+use Rattle.luks_bitslice.proofs.GateLemmas.{shows_same}
+use Rattle.luks_aes_batch.proofs.RoundLemmas.{of_group}
 use Rattle.luks_aes_batch.proofs.packing.group.Goals as goal
 
 pub returns : goal.returns

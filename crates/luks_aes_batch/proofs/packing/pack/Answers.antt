@@ -3,7 +3,7 @@ use Rattle.std.specs.Prelude.{slice_index}
 use Rattle.std.specs.Int.{bit_at}
 use Rattle.luks_bitslice.specs.BitPlanes.{column_order, HasBits}
 use Rattle.luks_aes_batch.specs.States.{state_byte, block_in}
-use Rattle.luks_aes_batch.proofs.StateLemmas.{four, all_also, packed_row, laid_byte}
+use Rattle.luks_aes_batch.proofs.RoundLemmas.{four, all_also, packed_row, laid_byte}
 use Rattle.luks_bitslice.proofs.LaneLemmas.{eight}
 use Rattle.luks_aes_batch.proofs.packing.pack.Goals as goal
 

@@ -5,7 +5,7 @@ use Rattle.std.proofs.lemmas.Bool.{cases_lt}
 use Rattle.std.proofs.lemmas.Nat.Bits.{same_from_bits_below}
 use Rattle.luks_bitslice.specs.BitPlanes.{column_order}
 use Rattle.luks_aes_batch.specs.States.{state_byte}
-use Rattle.luks_aes_batch.proofs.StateLemmas.{byte_of_rows, placed_bits, state_byte_at_index, ordered_below}
+use Rattle.luks_aes_batch.proofs.RoundLemmas.{byte_of_rows, placed_bits, state_byte_at_index, ordered_below}
 use Rattle.luks_aes_batch.proofs.packing.unpack.Goals as goal
 
 pub loop-g-init : goal.loop-g-init

@@ -1,7 +1,7 @@
 use Rattle.std.proofs.Common.{◌≡◌, ℕ, ◌+◌, ◌*◌, ◌/◌, ◌%◌, ◌<◌}
 use Rattle.std.specs.Prelude.{slice_index}
 use Rattle.luks_aes.specs.Bytes.{IsBytes}
-use Rattle.luks_aes_batch.proofs.StateLemmas.{byte_of_rows}
+use Rattle.luks_aes_batch.proofs.RoundLemmas.{byte_of_rows}
 use Rattle.luks_aes_batch.proofs.packing.unpack.Given as goal
 
 -- the batch consists of bytes, and the blocks so far are written

@@ -1,6 +1,6 @@
 use Rattle.std.proofs.Common.{arith}
 use Rattle.luks_aes.specs.Field.{◌⊕◌}
-use Rattle.luks_aes_batch.proofs.StateLemmas.{four}
+use Rattle.luks_aes_batch.proofs.RoundLemmas.{four}
 use Rattle.luks_aes_batch.proofs.states.add_round_key_batch.Goals as goal
 
 pub returns : goal.returns

@@ -1,7 +1,7 @@
 use Rattle.std.proofs.Common.{arith, refl, sym, ap}
 use Rattle.luks_aes.proofs.Bytes.{same_below}
 use Rattle.luks_bitslice.specs.BitPlanes.{rotated_index}
-use Rattle.luks_aes_batch.proofs.StateLemmas.{four, represents_also}
+use Rattle.luks_aes_batch.proofs.RoundLemmas.{four, represents_also}
 use Rattle.luks_aes_batch.proofs.states.inv_shift_rows_batch.Goals as goal
 
 pub returns : goal.returns

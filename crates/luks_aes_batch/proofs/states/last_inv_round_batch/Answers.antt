@@ -1,7 +1,6 @@
 use Rattle.std.proofs.Common.{arith}
 use Rattle.luks_aes.specs.Aes.{inv_sub_bytes, inv_shift_rows}
-use Rattle.luks_aes_batch.proofs.StateLemmas.{all_as}
-use Rattle.luks_aes_batch.proofs.RoundLemmas.{substituted_bytes, rows_substituted, rows_keyed}
+use Rattle.luks_aes_batch.proofs.RoundLemmas.{all_as, substituted_bytes, rows_substituted, rows_keyed}
 use Rattle.luks_aes_batch.proofs.states.last_inv_round_batch.Goals as goal
 
 pub returns : goal.returns

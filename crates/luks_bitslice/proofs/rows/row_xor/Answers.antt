@@ -1,6 +1,6 @@
 use Rattle.std.proofs.Common.{arith}
 use Rattle.luks_aes.specs.Field.{◌⊕◌}
-use Rattle.luks_aes.proofs.ByteLists.{xor_byte}
+use Rattle.luks_aes.proofs.ColumnLemmas.{xor_byte}
 use Rattle.luks_bitslice.proofs.LaneLemmas.{of_planes}
 use Rattle.luks_bitslice.proofs.GateLemmas.{sum_plane}
 use Rattle.luks_bitslice.proofs.rows.row_xor.Goals as goal

@@ -4,7 +4,7 @@ use Rattle.std.specs.Simd.Lanes.{zip2}
 use Rattle.std.proofs.lemmas.List.{length-map}
 use Rattle.std.proofs.lemmas.Simd.{map-map}
 use Rattle.luks_bitslice.specs.Runs.{low_mask, high_mask, run_bits}
-use Rattle.luks_bitslice.proofs.TransposeLemmas.{has_bits_of_runs, keep, rise}
+use Rattle.luks_bitslice.proofs.GateLemmas.{has_bits_of_runs, keep, rise}
 use Rattle.luks_bitslice.proofs.transpose.swap_low.Goals as goal
 
 pub returns : goal.returns

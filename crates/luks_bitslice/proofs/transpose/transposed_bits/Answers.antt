@@ -1,7 +1,7 @@
 use Rattle.std.proofs.Common.{arith, refl}
 use Rattle.luks_bitslice.specs.BitPlanes.{HasBits}
 use Rattle.luks_bitslice.proofs.LaneLemmas.{eight}
-use Rattle.luks_bitslice.proofs.TransposeLemmas.{shows_same, equal_below_8}
+use Rattle.luks_bitslice.proofs.GateLemmas.{shows_same, equal_below_8}
 use Rattle.luks_bitslice.proofs.transpose.transposed_bits.Goals as goal
 
 pub returns : goal.returns

@@ -1,5 +1,5 @@
 use Rattle.luks_aes.specs.Aes.{encrypted}
-use Rattle.luks_aes.proofs.ByteLists.{IsState}
+use Rattle.luks_aes.proofs.ColumnLemmas.{IsState}
 use Rattle.luks_cipher.specs.Xts.{block_xor}
 use Rattle.luks_cipher.specs.Cbc.{chained}
 use Rattle.luks_cipher.proofs.UnitLemmas.{IsProgress}

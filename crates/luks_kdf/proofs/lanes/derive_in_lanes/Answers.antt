@@ -2,10 +2,8 @@ use Rattle.std.proofs.Common.{◌≡◌, ◌∙◌, ℕ, ◌+◌, ◌*◌, ◌<�
 use Rattle.luks_kdf.specs.Hash.{digest_len}
 use Rattle.luks_kdf.specs.Pbkdf2.{derived_key}
 use Rattle.luks_kdf.proofs.BytesLemmas.{cut, cut_step, length-part, none_replaced, piece_begins}
-use Rattle.luks_kdf.proofs.HashLemmas.{digest_sizes}
-use Rattle.luks_kdf.proofs.Pbkdf2Lemmas.{count_end, count_group, group_at, group_from, groups_end, length-group_at}
-use Rattle.luks_kdf.proofs.Pbkdf2Lemmas.{some_in_group}
-use Rattle.luks_kdf.proofs.Pbkdf2Lemmas.{block_t, count_none, length-block_t}
+use Rattle.luks_kdf.proofs.Pbkdf2Lemmas.{digest_sizes, count_end, count_group, group_at, group_from, groups_end}
+use Rattle.luks_kdf.proofs.Pbkdf2Lemmas.{length-group_at, some_in_group, block_t, count_none, length-block_t}
 use Rattle.std.specs.Int.{div_ceil}
 use Rattle.luks_kdf.proofs.lanes.derive_in_lanes.Goals as goal
 

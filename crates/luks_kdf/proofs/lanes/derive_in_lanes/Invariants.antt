@@ -4,8 +4,7 @@ use Rattle.luks_kdf.specs.Bytes.{joined}
 use Rattle.luks_kdf.specs.Hash.{digest_len}
 use Rattle.luks_kdf.specs.Pbkdf2.{capped}
 use Rattle.luks_kdf.proofs.BytesLemmas.{cut}
-use Rattle.luks_kdf.proofs.Pbkdf2Lemmas.{group_at}
-use Rattle.luks_kdf.proofs.Pbkdf2Lemmas.{block_t}
+use Rattle.luks_kdf.proofs.Pbkdf2Lemmas.{group_at, block_t}
 use Rattle.luks_kdf.proofs.lanes.derive_in_lanes.Given as goal
 
 -- the groups of blocks before number i are filled, and their iterations are counted

@@ -1,7 +1,7 @@
 use Rattle.std.proofs.Common.{◌≡◌, ◌∙◌, length, arith, sym}
 use Rattle.luks_kdf.specs.Hash.{digest_len}
 use Rattle.luks_kdf.proofs.BytesLemmas.{cut, cut_end, cut_step, none_replaced, piece_begins}
-use Rattle.luks_kdf.proofs.HashLemmas.{digest_sizes}
+use Rattle.luks_kdf.proofs.Pbkdf2Lemmas.{digest_sizes}
 use Rattle.luks_kdf.proofs.StripesLemmas.{diffused_is, diffused_part, hashed_piece, length-hashed_piece}
 use Rattle.luks_kdf.proofs.stripes.diffuse.Goals as goal
 

@@ -1,6 +1,6 @@
 use Rattle.std.proofs.Common.{refl}
 use Rattle.luks_io.proofs.EffectLemmas.{adds-none}
-use Rattle.luks_runs.proofs.HeaderRuns.{is_luks_refused}
+use Rattle.luks_runs.proofs.RunLemmas.{is_luks_refused}
 use Rattle.luks_runs.proofs.headers.is_luks.Goals as goal
 use Rattle.luks_runs.proofs.headers.is_luks.Goals.{in-Ok, in-Err}
 

@@ -1,5 +1,5 @@
 use Rattle.luks_io.proofs.ErrorLemmas.{given_error}
-use Rattle.luks_runs.proofs.HeaderRuns.{runs_with_text, runs_without_header}
+use Rattle.luks_runs.proofs.RunLemmas.{runs_with_text, runs_without_header}
 use Rattle.luks_runs.proofs.headers.print.Goals as goal
 
 pub returns-in_err-header-clause-run : goal.returns-in_err-header-clause-run

@@ -3,7 +3,7 @@ use Rattle.luks_io.proofs.ErrorLemmas.{given_error}
 use Rattle.luks_runs.specs.HeaderOutcome.{printout_message}
 use Rattle.luks_runs.specs.Run.{is_run_write_failure}
 use Rattle.luks_runs.specs.RunMessages.{PrintoutMessage}
-use Rattle.luks_runs.proofs.HeaderRuns.{by_printout, printout_written}
+use Rattle.luks_runs.proofs.RunLemmas.{by_printout, printout_written}
 use Rattle.luks_runs.proofs.headers.print_text.Goals as goal
 
 pub returns-in_err-put_all-clause-run : goal.returns-in_err-put_all-clause-run

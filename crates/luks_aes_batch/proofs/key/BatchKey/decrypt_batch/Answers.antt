@@ -1,7 +1,7 @@
 use Rattle.std.proofs.Common.{ℕ, List, arith, rules, ap, ◌∙◌}
 use Rattle.luks_aes.specs.Aes.{decrypted}
 use Rattle.luks_aes.specs.Bytes.{IsBytes}
-use Rattle.luks_aes.proofs.ByteLists.{bytes_take, bytes_drop}
+use Rattle.luks_aes.proofs.ColumnLemmas.{bytes_take, bytes_drop}
 use Rattle.luks_aes.proofs.Undone.{decrypted_state}
 use Rattle.luks_aes_batch.specs.States.{block_in}
 use Rattle.luks_aes_batch.proofs.RoundLemmas.{block_state, block_is}

@@ -2,7 +2,7 @@ use Rattle.std.proofs.Common.{arith, ◌∙◌}
 use Rattle.luks_aes.specs.Field.{◌⊕◌}
 use Rattle.luks_aes.specs.Aes.{inv_sbox}
 use Rattle.luks_aes_batch.specs.RoundKeys.{rows_of}
-use Rattle.luks_aes_batch.proofs.StateLemmas.{four, represents_if_equal}
+use Rattle.luks_aes_batch.proofs.RoundLemmas.{four, represents_if_equal}
 use Rattle.luks_aes_batch.proofs.rows.BitslicedState.inv_sub_bytes_batch.Goals as goal
 
 pub returns : goal.returns

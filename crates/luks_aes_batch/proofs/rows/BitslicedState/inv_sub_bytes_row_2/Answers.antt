@@ -1,6 +1,6 @@
 use Rattle.std.proofs.Common.{refl}
 use Rattle.luks_aes_batch.specs.RoundKeys.{row_0_of, row_1_of, row_2_of, row_3_of}
-use Rattle.luks_aes_batch.proofs.StateLemmas.{represents_if_equal, represented_by_planes}
+use Rattle.luks_aes_batch.proofs.RoundLemmas.{represents_if_equal, represented_by_planes}
 use Rattle.luks_aes_batch.proofs.rows.BitslicedState.inv_sub_bytes_row_2.Goals as goal
 
 pub returns : goal.returns

@@ -1,6 +1,6 @@
 use Rattle.std.proofs.Common.{[]}
 use Rattle.luks_aes_batch.specs.RoundKeys.{row_0_of, row_1_of, row_2_of, row_3_of, rows_of}
-use Rattle.luks_aes_batch.proofs.StateLemmas.{four_same, eight_same}
+use Rattle.luks_aes_batch.proofs.RoundLemmas.{four_same, eight_same}
 use Rattle.luks_aes_batch.proofs.rows.BitslicedState.new.Goals as goal
 
 pub returns : goal.returns

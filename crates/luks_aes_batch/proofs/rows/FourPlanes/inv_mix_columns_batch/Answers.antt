@@ -5,7 +5,7 @@ use Rattle.luks_aes.proofs.Bytes.{same_below}
 use Rattle.luks_bitslice.specs.BitPlanes.{rotated_index}
 use Rattle.luks_bitslice.proofs.GateLemmas.{sum_plane}
 use Rattle.luks_aes_batch.proofs.MixLemmas.{first_row, second_row, third_row, fourth_row}
-use Rattle.luks_aes_batch.proofs.StateLemmas.{plane_also}
+use Rattle.luks_aes_batch.proofs.RoundLemmas.{plane_also}
 use Rattle.luks_aes_batch.proofs.rows.FourPlanes.inv_mix_columns_batch.Goals as goal
 
 pub returns-clause-plane : goal.returns-clause-plane

@@ -4,7 +4,7 @@ use Rattle.std.proofs.lemmas.Bool.Decides.{nat_tests}
 use Rattle.std.proofs.lemmas.List.{length-take-le}
 use Rattle.luks_aes.specs.Aes.{is_aes_key_length}
 use Rattle.luks_aes.specs.Bytes.{IsBytes}
-use Rattle.luks_aes.proofs.ByteLists.{bytes_take, bytes_drop}
+use Rattle.luks_aes.proofs.ColumnLemmas.{bytes_take, bytes_drop}
 use Rattle.luks_cipher.specs.Xts.{IsKeyPair, is_xts_key_length}
 use Rattle.luks_cipher.proofs.xts.XtsKey.expanded.Goals as goal
 

@@ -1,7 +1,7 @@
 use Rattle.std.proofs.Common.{◌∙◌, ap, sym}
 use Rattle.std.specs.Int.{w128, to_le_bytes}
 use Rattle.luks_aes.specs.Aes.{encrypted}
-use Rattle.luks_aes.proofs.ByteLists.{bytes_append}
+use Rattle.luks_aes.proofs.ColumnLemmas.{bytes_append}
 use Rattle.luks_cipher.specs.Xts.{tweak_of}
 use Rattle.luks_cipher.proofs.UnitLemmas.{halves}
 use Rattle.luks_cipher.proofs.xts.XtsKey.first_tweak.Goals as goal
