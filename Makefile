@@ -99,7 +99,7 @@ check: all $(TOOLS) library nbdkit scripts
 # output of each comes when it has ended. Some need the tools, or what is built from C.
 TESTS := stripes volumes devices memory hostile completions
 INTEROP := headers headers2 volumes volumes2 detached filesystems
-PROGRAM_SCRIPTS := test-names $(TESTS:%=test-%) $(INTEROP:%=interop-%)
+PROGRAM_SCRIPTS := test-names test-counts $(TESTS:%=test-%) $(INTEROP:%=interop-%)
 C_SCRIPTS := test-package test-library interop-nbd interop-recipes
 TOOL_SCRIPTS := interop-sealed interop-keys
 ALL_SCRIPTS := $(PROGRAM_SCRIPTS) $(C_SCRIPTS) $(TOOL_SCRIPTS)
@@ -114,8 +114,8 @@ scripts program-scripts c-scripts tool-scripts:
 	tests/packages
 	+$(MAKE) -k -j 4 --output-sync=target --no-print-directory $(ASKED)
 
-test-names:
-	tests/names
+test-names test-counts: test-%:
+	tests/$*
 
 $(TESTS:%=test-%): test-%:
 	tests/$*.sh $(PROGRAM)

@@ -4,7 +4,7 @@ use Rattle.std.proofs.Common.{length, Bool, true, false}
 use Rattle.std.specs.Prelude.{nat_lt, if◌then◌else◌}
 use Rattle.luks_area.specs.declared.fault.HeaderFault.TheVariants.{Read as HeaderRead, Memory as HeaderMemory}
 use Rattle.luks_header.specs.Header.{header_read_len}
-use Rattle.luks_open.specs.Order.{key_material_end}
+use Rattle.luks_open.specs.Opening.{key_material_end}
 use Rattle.luks_report.specs.Faults.{message_at_end}
 use Rattle.luks_report.specs.declared.message.Message.{Message}
 use Rattle.luks_report.specs.declared.message.Message.TheVariants.{Done, KeyFileLength, OutOfMemory, ReadFailed}
@@ -16,13 +16,11 @@ use Rattle.luks_runs.specs.declared.location.HeaderLocation.{HeaderLocation}
 use Rattle.luks_runs.specs.declared.location.HeaderLocation.TheVariants.{Attached, Detached}
 use Rattle.luks_unlock.proofs.HonestVolumes.{unsealed}
 use Rattle.luks_unlock.proofs.VolumeLemmas.{area_cut, found_cut, found_is, found_long, outcome_is, tried_is}
-use Rattle.luks_unlock.specs.Found.{FindsNoVolume, MatchesHeader}
-use Rattle.luks_unlock.specs.OpeningMessages.{OpeningMessage}
-use Rattle.luks_unlock.specs.Trying.{opened_of}
+use Rattle.luks_unlock.specs.Volume.{FindsNoVolume, MatchesHeader, opened_of, OnOpened, Volume, OpeningMessage}
+use Rattle.luks_unlock.specs.Volume.{detached_payload_outcome, found_outcome, payload_outcome, unlock_read_len}
+use Rattle.luks_unlock.specs.Volume.{volume_outcome_by}
 use Rattle.luks_unlock.specs.declared.found.FoundVolume.{FoundVolume}
 use Rattle.luks_unlock.specs.declared.unlocked.UnlockedVolume.{UnlockedVolume}
-use Rattle.luks_unlock.specs.Volume.{OnOpened, Volume, detached_payload_outcome, found_outcome, payload_outcome}
-use Rattle.luks_unlock.specs.Volume.{unlock_read_len, volume_outcome_by}
 use Rattle.luks_verdict.specs.declared.segment.Segment.{Segment}
 use Rattle.luks_payload.proofs.SectorLemmas.{by_ending}
 use Rattle.luks_payload.specs.Plain.{ending_of, ending_of_len, bytes_from_start, sector_len}

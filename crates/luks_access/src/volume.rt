@@ -5,9 +5,9 @@ ghost use Rattle.std.specs.Prelude.{[], IfErr, IfOk, OnOk, length, nat_le, repli
 ghost use Rattle.luks_io.specs.Counts.{Reads};
 ghost use Rattle.luks_io.specs.Devices.{IfKnown};
 ghost use Rattle.luks_runs.specs.Run.{is_run_read_failure, result_message};
-ghost use Rattle.luks_unlock.specs.Found.{MatchesHeader};
-ghost use Rattle.luks_unlock.specs.OpeningMessages.{OpeningMessage};
-ghost use Rattle.luks_unlock.specs.Trying.{CountsTrials};
+ghost use Rattle.luks_unlock.specs.Volume.{MatchesHeader};
+ghost use Rattle.luks_unlock.specs.Volume.{OpeningMessage};
+ghost use Rattle.luks_unlock.specs.Volume.{CountsTrials};
 ghost use Rattle.luks_payload.specs.Plain.{ending_of, sector_len};
 ghost use Rattle.luks_access.specs.Sectors.{IsRangeOf};
 ghost use Rattle.luks_access.specs.Opens.{OpensVolume, RefusesVolume, UnlocksVolume, plaintext_of};
@@ -68,7 +68,7 @@ fn unlock<S: Source>(
         → (loaded : List ℕ) × UnlocksVolume slots.named found pass.now loaded rest
         (S.to_come source.new) result) }
     ensures work { (loaded : List ℕ)
-        × CountsTrials found.order loaded pass.now work.old work.new }
+        × CountsTrials found.order loaded pass.now (result_message result) work.old work.new }
     ensures only { IfErr result OpeningMessage }
     ensures reads { (ended : Bool) × Reads (is_run_read_failure (result_message result)) ended
         (S.counts source.old) (S.counts source.new) }

@@ -16,9 +16,8 @@ use Rattle.luks_verdict.specs.declared.sector_size.SectorSize.{SectorSize}
 use Rattle.luks_verdict.specs.declared.sector_size.SectorSize.TheVariants.{B512, B1024, B2048, B4096}
 use Rattle.luks_verdict.specs.declared.segment.Segment.{Segment}
 use Rattle.luks_payload.specs.Plain.{sector_len, payload_bytes}
-use Rattle.luks_c.specs.Answers.{decrypt_code, range_code, segment_code}
-use Rattle.luks_c.specs.Stored.{Stores, cipher_in, has_size_of, mode_in, mode_number, sector_size_in, segment_in}
-use Rattle.luks_c.specs.Stored.{size_stored_in}
+use Rattle.luks_c.specs.Stored.{decrypt_code, range_code, segment_code, Stores, cipher_in, has_size_of, mode_in}
+use Rattle.luks_c.specs.Stored.{mode_number, sector_size_in, segment_in, size_stored_in}
 use Rattle.luks_c.specs.declared.volume.LuksrdVolume.{LuksrdVolume}
 
 pub size_again : (size : SectorSize) → sector_size_in (bytes_of size) ≡ Some size

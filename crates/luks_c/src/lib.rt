@@ -11,8 +11,8 @@ ghost use Rattle.luks_unlock.specs.declared.unlocked.UnlockedVolume.{UnlockedVol
 ghost use Rattle.luks_access.specs.Sectors.{AreStored, plain_at};
 ghost use Rattle.luks_payload.specs.Plain.{ending_of, sector_len};
 ghost use Rattle.luks_verdict.specs.SectorSize.{bytes_of};
-ghost use Rattle.luks_c.specs.Answers.{EndsAs, Opened, Refused, decrypt_code, fault_bytes};
-ghost use Rattle.luks_c.specs.Answers.{is_range};
+ghost use Rattle.luks_c.specs.Stored.{EndsAs, Opened, Refused, decrypt_code, fault_bytes};
+ghost use Rattle.luks_c.specs.Stored.{is_range};
 ghost use Rattle.luks_c.specs.Stored.{IsCleared, Stores, StoresCode, names_no_slot, sector_size_in};
 
 use crate::code::{BAD_OPTIONS, BAD_RANGE, BAD_VOLUME, OK, code_of, sentence};

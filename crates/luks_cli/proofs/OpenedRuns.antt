@@ -15,27 +15,24 @@ use Rattle.luks_runs.specs.Run.{Outcome, Prints, Aborted, AnyPromptness, Complet
 use Rattle.luks_runs.specs.Run.{DetachedRunMatches, Promptness, RunMatches, aborts, is_run_read_failure}
 use Rattle.luks_runs.specs.Run.{is_run_write_failure, result_message}
 use Rattle.luks_unlock.specs.Volume.{payload_outcome, slot_outcome, volume_outcome, volume_outcome_by}
-use Rattle.luks_unlock.specs.Volume.{detached_payload_outcome}
+use Rattle.luks_unlock.specs.Volume.{detached_payload_outcome, HitsMaterialEof, OpeningMessage}
 use Rattle.luks_runs.specs.Location.{reader_for, detached_header_of}
 use Rattle.luks_runs.specs.declared.location.HeaderLocation.{HeaderLocation}
 use Rattle.luks_runs.specs.declared.location.HeaderLocation.TheVariants.{Attached, Detached}
 use Rattle.luks_runs.specs.Payload.{ForwardsPayload, with_payload_ahead}
-use Rattle.luks_cli.specs.Unlocking.{PromptCat, ConsumesLoaded, Unlocks}
+use Rattle.luks_cli.specs.CommandRun.{PromptCat, ConsumesLoaded, Unlocks, EndsWithoutKey, CatAllows, CountsCalls}
 use Rattle.luks_runs.specs.RunMessages.{PayloadMessage, IsLuksMessage}
 use Rattle.luks_request.specs.declared.command.SlotChoice.{SlotChoice}
-use Rattle.luks_unlock.specs.OpeningMessages.{OpeningMessage}
 use Rattle.luks_report.specs.Texts.{opened_line}
 use Rattle.luks_report.specs.declared.message.Message.{Message}
 use Rattle.luks_report.specs.declared.message.Message.TheVariants.{Done, OutOfMemory, ReadFailed, WriteFailed}
 use Rattle.luks_report.specs.declared.message.Message.TheVariants.{CutBeforePayload, Tail, Short}
-use Rattle.luks_cli.specs.CommandRun.{EndsWithoutKey, CatAllows, CountsCalls, CountsReads, ReadsOnce, ReadsPayload}
-use Rattle.luks_cli.specs.CommandRun.{CountsCallsDetached}
+use Rattle.luks_cli.specs.CommandRun.{CountsReads, ReadsOnce, ReadsPayload, CountsCallsDetached}
 use Rattle.luks_io.proofs.EffectLemmas.{no_reads, no_writes, reads_more}
 use Rattle.luks_io.specs.Counts.{Reads, Writes}
 use Rattle.luks_io.specs.declared.counts.ReadCounts.{ReadCounts}
 use Rattle.luks_io.specs.declared.counts.WriteCounts.{WriteCounts}
 use Rattle.luks_unlock.proofs.VolumeLemmas.{reads_on}
-use Rattle.luks_unlock.specs.Trying.{HitsMaterialEof}
 
 pub slot_consumes_loaded : (secret : List ℕ) → ConsumesLoaded secret (slot_outcome secret)
 slot_consumes_loaded secret =

@@ -1,6 +1,6 @@
 -- How the commands on volumes end if their volume is not opened, and what holds if it is.
 use Rattle.std.proofs.Common.{◌≡◌, ℕ, ◌+◌, ◌-◌, ◌≤◌, inl, inr, List, Option, Some, Result, Ok, Err, ◌∙◌, ap, sym}
-use Rattle.std.proofs.Common.{refl, take, drop, length, max, min, arith, ◌*◌, ◌/◌}
+use Rattle.std.proofs.Common.{refl, take, drop, length, max, min, arith, ◌*◌, ◌/◌, length-take, true}
 use Rattle.std.proofs.lemmas.Bool.{cases_lt}
 use Rattle.luks_header.specs.Area.{AbortsConsuming}
 use Rattle.luks_header.specs.Header.{header_read_len, header_of}
@@ -9,36 +9,34 @@ use Rattle.luks_header.specs.declared.header.Header.{Header}
 use Rattle.luks_area.specs.declared.fault.HeaderFault.{HeaderFault}
 use Rattle.luks_area.specs.declared.fault.HeaderFault.TheVariants.{Read as HeaderRead, Memory as HeaderMemory}
 use Rattle.luks_verdict.specs.declared.segment.Segment.{Segment}
-use Rattle.luks_open.specs.Opening.{opening_of}
-use Rattle.luks_open.specs.Order.{OrderModel, key_material_end, order_of}
+use Rattle.luks_kdf.specs.Pbkdf2.{capped}
+use Rattle.luks_open.specs.Opening.{opening_of, work_of, OrderModel, key_material_end, order_of}
 use Rattle.luks_open.specs.declared.fault.OpenFault.{OpenFault}
 use Rattle.luks_open.specs.declared.fault.OpenFault.TheVariants.{Memory}
 use Rattle.luks_open.specs.declared.opening.Opened.{Opened}
 use Rattle.luks_unlock.proofs.VolumeLemmas.{area_cut, area_loaded, area_more, found_cut, found_is, found_long}
-use Rattle.luks_unlock.proofs.VolumeLemmas.{found_whole, prefix_length, outcome_is, tried_is, volume_with}
+use Rattle.luks_unlock.proofs.VolumeLemmas.{found_whole, prefix_length, outcome_is, tried_is, volume_is, volume_with}
 use Rattle.luks_report.specs.Faults.{message_for_header, message_for_opening}
 use Rattle.luks_unlock.specs.Volume.{OnOpened, found_outcome, opened_outcome, outcome_after, volume_outcome_by, Volume}
-use Rattle.luks_unlock.specs.Volume.{unlock_read_len, volume_by}
+use Rattle.luks_unlock.specs.Volume.{unlock_read_len, volume_by, ConsumedMaterial, CountsTrials, TriesSlots, opened_of}
 use Rattle.luks_request.specs.declared.command.SlotChoice.{SlotChoice}
-use Rattle.luks_runs.specs.Run.{RunMatches}
-use Rattle.luks_runs.proofs.RunLemmas.{aborted_unwritten}
+use Rattle.luks_runs.specs.Run.{RunMatches, result_message}
+use Rattle.luks_runs.proofs.RunLemmas.{aborted_unwritten, header_read_len_within}
 use Rattle.luks_io.proofs.EffectLemmas.{adds-none, consumed-none}
 use Rattle.luks_io.specs.Devices.{Appended, ConsumedExactly}
-use Rattle.luks_runs.proofs.HeaderRuns.{header_read_len_within}
 use Rattle.luks_runs.specs.KeyFile.{NoKeyFileRead, max_key_file_len}
-use Rattle.luks_cli.specs.Unlocking.{ConsumesLoaded, PromptForwarding, UnlockEffect, Unlocks, PromptCat}
-use Rattle.luks_unlock.specs.OpeningMessages.{OpeningMessage}
-use Rattle.luks_unlock.specs.Trying.{ConsumedMaterial, opened_of}
+use Rattle.luks_cli.specs.CommandRun.{ConsumesLoaded, CountsOpening, PromptForwarding, UnlockEffect, Unlocks, PromptCat}
+use Rattle.luks_unlock.specs.Volume.{OpeningMessage, ends_untried, FindsNoVolume, HasSegmentBy}
 use Rattle.luks_unlock.specs.declared.unlocked.UnlockedVolume.{UnlockedVolume}
-use Rattle.luks_unlock.specs.Found.{FindsNoVolume, HasSegmentBy}
 use Rattle.luks_runs.specs.Location.{reader_for, HeaderReader}
 use Rattle.luks_runs.specs.declared.location.HeaderLocation.{HeaderLocation}
 use Rattle.luks_runs.specs.declared.location.HeaderLocation.TheVariants.{Attached, Detached}
 use Rattle.luks_report.specs.declared.message.Message.{Message}
 use Rattle.luks_report.specs.declared.message.Message.TheVariants.{KeyFileLength, OutOfMemory, ReadFailed, WriteFailed}
+use Rattle.luks_report.specs.declared.message.Message.TheVariants.{Done}
 use Rattle.std.proofs.Math.Nat.{zero-div}
 use Rattle.luks_header.proofs.KnownLemmas.{is_attached}
-use Rattle.luks_open.proofs.CallerLemmas.{key_areas_before_payload}
+use Rattle.luks_open.proofs.CallerLemmas.{key_areas_before_payload, work_beginning}
 use Rattle.luks_payload.specs.Plain.{sector_len}
 
 -- ---- promptness: how much of the image a run on a volume consumed before it was aborted
@@ -113,6 +111,55 @@ module _ (on_opened : OnOpened) (named : Option ℕ) (v : Volume) (image secret 
         let all = area_within short in
         (omega (arith, all.0, header_read_len_within image), omega (arith, all.1))
   ]
+
+-- ---- how many evaluations of HMAC a run takes
+
+-- no volume was found, so no key slot was tried
+pub counts_without_volume : (location : HeaderLocation) (slots : SlotChoice) (image pass : List ℕ)
+    (left : Option (List ℕ)) (work : ℕ) (message : Message)
+    → FindsNoVolume (reader_for location) slots image left message
+    → CountsOpening location slots image pass message work work
+counts_without_volume location slots image pass left work OutOfMemory stop = inr (inr refl, refl)
+counts_without_volume location slots image pass left work ReadFailed stop = inr (inr refl, refl)
+counts_without_volume location slots image pass left work message stop = inr (inl (rw stop.0 refl), refl)
+
+-- if the key file was not read, no key slot was tried
+pub untried_without_key_file : (secret : List ℕ) (left : Option (List ℕ)) (message : Message)
+    → NoKeyFileRead secret left message → ends_untried message ≡ true
+untried_without_key_file secret left KeyFileLength stop = refl
+untried_without_key_file secret left OutOfMemory stop = refl
+untried_without_key_file secret left ReadFailed stop = refl
+untried_without_key_file secret left _ stop = absurd stop
+
+-- a command that goes on with an open volume takes no more
+pub counts_on : (location : HeaderLocation) (slots : SlotChoice) (image pass : List ℕ) (message : Message)
+    (work work' : ℕ) → CountsOpening location slots image pass Done work work'
+    → CountsOpening location slots image pass message work work'
+counts_on location slots image pass message work work' (inl tried) = inl tried
+counts_on location slots image pass message work work' (inr (inl none, same)) = inr (inl none, same)
+counts_on location slots image pass message work work' (inr (inr untried, same)) = absurd cc
+
+module _ (image area area' : List ℕ) (i : Option (List ℕ)) (prefix : area ≡ take (header_read_len image) image)
+    (named : Option ℕ) (segment : Segment) (order : OrderModel) (pass : List ℕ) where
+  -- the loaded bytes are the first of the image, also after its key slots were tried
+  prefix_tried : (result : Result UnlockedVolume Message)
+      → TriesSlots named segment order pass area area' (drop (header_read_len image) image) i result
+      → (n : ℕ) × (area' ≡ take n image)
+  prefix_tried (Ok volume) tries = (_, (area_more image area area' i 0 prefix _ tries.0).0)
+  prefix_tried (Err message) (inr tries) = (_, (area_more image area area' i 0 prefix _ tries.0).0)
+  prefix_tried (Err message) (inl lost) = by lost.0 lost.2
+    where
+      by : (fault : HeaderFault) → AbortsConsuming (key_material_end order.entries - length area) area area'
+          (drop (header_read_len image) image) i fault → (n : ℕ) × (area' ≡ take n image)
+      by HeaderRead stop = (_, (area_more image area area' i 0 prefix stop.0 stop.2).0)
+      by HeaderMemory stop = (_, (area_more image area area' i 0 prefix 0 stop).0)
+      by _ stop = absurd stop
+
+  prefix_unlocked : (s : Option (List ℕ)) (result : Result UnlockedVolume Message)
+      → UnlockEffect named segment order pass area area' (drop (header_read_len image) image) i s result
+      → (n : ℕ) × (area' ≡ take n image)
+  prefix_unlocked s result (inl (short, read, tries)) = prefix_tried result tries
+  prefix_unlocked s result (inr none) = (header_read_len image, none.3 ∙ prefix)
 
 -- ---- runs on a volume
 
@@ -252,6 +299,25 @@ module _ (location : HeaderLocation) (slots : SlotChoice) (image pass : List ℕ
         let same : message ≡ none.0 = cc in
         rw same (runs_without_secret on_opened takes none.0 none.2
         (record { within = header_read_len_within image; left = none.4 }))
+
+    -- what trying its key slots took does not depend on which bytes were loaded
+    pub counts_opening : (area area' : List ℕ) → area ≡ take (header_read_len image) image
+        → (result : Result UnlockedVolume Message)
+        → UnlockEffect slots.named segment order pass area area' (drop (header_read_len image) image) i s result
+        → (work work' : ℕ) → CountsTrials order area' pass (result_message result) work work'
+        → CountsOpening location slots image pass (result_message result) work work'
+    counts_opening area area' prefix result effect work work' (inl (enough, counted)) =
+        let begins = prefix_unlocked image area area' i prefix slots.named segment order pass s result effect in
+        let loaded : key_material_end order.entries ≤ begins.0 =
+        omega (arith, enough, ap length begins.1, length-take begins.0 image) in
+        inl (
+          volume,
+          volume_is location slots image header segment order found is_segment ordered,
+          counted ∙ ap (λ (cost : ℕ). capped (work + cost))
+              (ap (λ (bytes : List ℕ). work_of order bytes pass) begins.1
+              ∙ work_beginning order begins.0 image pass loaded),
+        )
+    counts_opening area area' prefix result effect work work' (inr (untried, same)) = inr (inr untried, same)
 
     -- the volume was opened
     pub unlocks_volume : (area area' : List ℕ) → area ≡ take (header_read_len image) image → (opened : UnlockedVolume)

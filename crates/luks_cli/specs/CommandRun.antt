@@ -1,30 +1,158 @@
--- How a run of a command is compared with the outcome that is specified for it: with an attached header, and with a
--- detached one. Then header and key areas come from the header's file, and the payload from the image, at the segment's
--- own offset.
+-- The outcome of a run, a function of the command and the bytes of its inputs, and how a run is compared with it: with
+-- an attached header, and with a detached one. Then header and key areas come from the header's file, and the payload
+-- from the image, at the segment's own offset.
 use Rattle.std.specs.Prelude.{◌≡◌, ℕ, ◌<◌, ◌^◌, max, List, length, Option, Some, Bool, true, ◌&&◌, not, ◌⊎◌, is_err}
-use Rattle.std.specs.Prelude.{IfSome, false}
+use Rattle.std.specs.Prelude.{IfSome, false, ◌≤◌, take, Result, Err, ◌+◌, ◌-◌, ◌*◌, ◌/◌, Ok}
 use Rattle.luks_io.specs.Counts.{Reads, Writes, with_ahead}
 use Rattle.luks_io.specs.declared.counts.ReadCounts.{ReadCounts}
 use Rattle.luks_io.specs.declared.counts.WriteCounts.{WriteCounts}
 use Rattle.luks_io.specs.Devices.{Appended, ConsumedExactly, IfKnown}
-use Rattle.luks_cli.specs.Unlocking.{PromptCat}
-use Rattle.luks_request.specs.Request.{Request, test_passphrase, luks_cat, af_split, secret_of}
+use Rattle.luks_request.specs.Request.{Request, test_passphrase, luks_cat, af_split, secret_of, is_luks, luks_uuid}
+use Rattle.luks_request.specs.Request.{luks_dump, luks_check, af_merge}
 use Rattle.luks_request.specs.declared.command.SlotChoice.{SlotChoice}
-use Rattle.luks_cli.specs.Outcome.{outcome_of, detached_outcome_of}
-use Rattle.luks_runs.specs.Location.{HeaderReader, reader_for}
+use Rattle.luks_runs.specs.Location.{HeaderReader, reader_for, detached_header_of}
 use Rattle.luks_runs.specs.declared.location.HeaderLocation.{HeaderLocation}
 use Rattle.luks_runs.specs.declared.location.HeaderLocation.TheVariants.{Attached, Detached}
 use Rattle.luks_runs.specs.Payload.{max_needed}
 use Rattle.luks_runs.specs.Run.{Promptness, RunMatches, ConsumedNothing, AnyPromptness, is_run_read_failure}
-use Rattle.luks_runs.specs.Run.{is_run_write_failure, DetachedRunMatches, aborts}
-use Rattle.luks_runs.specs.Stripe.{max_key_len, PromptSplit}
-use Rattle.luks_unlock.specs.Found.{HasSegmentBy}
+use Rattle.luks_runs.specs.Run.{is_run_write_failure, DetachedRunMatches, aborts, Outcome}
+use Rattle.luks_runs.specs.Stripe.{max_key_len, PromptSplit, merge_outcome, split_outcome}
+use Rattle.luks_unlock.specs.Volume.{HasSegmentBy, HasSegment, slot_outcome, volume_by, volume_outcome, OnOpened}
+use Rattle.luks_unlock.specs.Volume.{Volume, volume_outcome_by, TriesSlots, OpeningMessage, ends_untried}
+use Rattle.luks_unlock.specs.Volume.{detached_payload_outcome, payload_outcome}
 use Rattle.luks_unlock.specs.Honest.{OpensHonest}
-use Rattle.luks_unlock.specs.Volume.{slot_outcome, volume_by, volume_outcome}
 use Rattle.luks_verdict.specs.declared.segment.Segment.{Segment}
 use Rattle.luks_report.specs.declared.message.Message.{Message}
-use Rattle.luks_report.specs.declared.message.Message.TheVariants.{Done}
-use Rattle.luks_unlock.specs.OpeningMessages.{OpeningMessage}
+use Rattle.luks_report.specs.declared.message.Message.TheVariants.{Done, ReadFailed, WriteFailed, OutOfMemory}
+use Rattle.luks_report.specs.declared.message.Message.TheVariants.{Usage as UsageMessage}
+use Rattle.luks_header.specs.Header.{header_read_len, header_of}
+use Rattle.luks_kdf.specs.Pbkdf2.{capped}
+use Rattle.luks_open.specs.Opening.{work_of, OrderModel}
+use Rattle.luks_open.specs.declared.opening.Opened.{Opened}
+use Rattle.luks_runs.specs.KeyFile.{NoKeyFileRead, max_key_file_len}
+use Rattle.luks_unlock.specs.declared.unlocked.UnlockedVolume.{UnlockedVolume}
+use Rattle.luks_payload.specs.Plain.{sector_len, sector_start}
+use Rattle.luks_args.specs.declared.planning.PlanFault.{PlanFault}
+use Rattle.luks_args.specs.declared.planning.PlanFault.TheVariants.{Memory, Usage}
+use Rattle.luks_runs.specs.HeaderOutcome.{is_luks_outcome, print_outcome_by}
+use Rattle.luks_runs.specs.declared.headers.Printout.TheVariants.{Uuid, Dump, Check}
+use Rattle.luks_runs.specs.RunMessages.{CheckMessage, IsLuksMessage, MergeMessage, PayloadMessage, PrintMessage}
+use Rattle.luks_runs.specs.RunMessages.{SplitMessage}
+
+-- ---- the outcome of a run, and the messages with which it may end
+
+-- the outcome of a command for the bytes of its first and of its second input, if its header is read in this way, and
+-- if this is what `luksCat` does with an opened volume
+abbrev pub outcome_by : HeaderReader → OnOpened → Request → List ℕ → List ℕ → Outcome
+outcome_by read on_payload (is_luks _) image secret = is_luks_outcome image
+outcome_by read on_payload (luks_uuid _) image secret = print_outcome_by read Uuid image
+outcome_by read on_payload (luks_dump _) image secret = print_outcome_by read Dump image
+outcome_by read on_payload (luks_check _) image secret = print_outcome_by read Check image
+outcome_by read on_payload (test_passphrase o) image secret =
+    volume_outcome_by read (slot_outcome secret) o.slots image secret
+outcome_by read on_payload (luks_cat o) image secret = volume_outcome_by read on_payload o.slots image secret
+outcome_by read on_payload (af_split s) image secret = split_outcome s.hash s.stripes image secret
+outcome_by read on_payload (af_merge m) image secret = merge_outcome m.hash m.stripes m.key_bytes image
+
+-- the outcome of a command for the bytes of its inputs
+abbrev pub outcome_of : Request → List ℕ → List ℕ → Outcome
+outcome_of request image secret = outcome_by header_of (payload_outcome image secret) request image secret
+
+-- what a command does with the bytes of the file with the header, of the image and of the second input
+abbrev pub detached_outcome_of : Request → List ℕ → List ℕ → List ℕ → Outcome
+detached_outcome_of request file image secret =
+    outcome_by detached_header_of (detached_payload_outcome image secret) request file secret
+
+-- the messages that a command may end with, whatever its devices do
+abbrev pub MayReport : Request → Message → Type 0
+MayReport (is_luks _) message = IsLuksMessage message
+MayReport (luks_uuid _) message = PrintMessage message
+MayReport (luks_dump _) message = PrintMessage message
+MayReport (luks_check _) message = CheckMessage message
+MayReport (test_passphrase o) message = OpeningMessage message ⊎ (message ≡ Done ⊎ message ≡ WriteFailed)
+MayReport (luks_cat o) message = OpeningMessage message ⊎ PayloadMessage message
+MayReport (af_split s) message = SplitMessage message
+MayReport (af_merge m) message = MergeMessage message
+
+-- the message if the arguments are not a command, or memory ran out
+abbrev pub message_for_plan : PlanFault → Message
+message_for_plan Usage = UsageMessage
+message_for_plan Memory = OutOfMemory
+
+-- ---- opening a volume: its effects on the devices, and how promptly a command on it is aborted
+
+-- whatever is done with a volume consumes at least the bytes of its image that are loaded, and the whole key file
+pub record ConsumesLoaded (secret : List ℕ) (on_opened : OnOpened) : Type 0 where
+  pub loaded : (segment : Segment) (opened : Opened) (loaded : ℕ)
+      → loaded ≤ (on_opened segment opened loaded).input_consumed
+  pub whole : (segment : Segment) (opened : Opened) (loaded : ℕ)
+      → (on_opened segment opened loaded).secret_consumed ≡ length secret
+
+-- the header's bytes end before the payload starts, or the run consumed more than the header's bytes. (Neither holds
+-- only if a damaged primary header has a size that reaches past the payload's start, and the run consumed no byte past
+-- that size.)
+abbrev pub IsPastHeader : Segment → ℕ → ℕ → Type 0
+IsPastHeader s header_len consumed = (header_len ≤ s.offset) ⊎ (header_len < consumed)
+
+-- forwarding a payload is aborted: if a write fails, no byte of the image past the sector in which it failed was
+-- consumed, except for the header's; if a read fails, the output is the whole sectors that were consumed
+abbrev pub PromptForwarding : Segment → ℕ → Message → ℕ → ℕ → Type 0
+PromptForwarding s header_len WriteFailed consumed output =
+    consumed ≤ max header_len (sector_start s (output / sector_len s + 1))
+PromptForwarding s header_len ReadFailed consumed output = IsPastHeader s header_len consumed
+    → output ≡ (consumed - s.offset) / sector_len s * sector_len s
+PromptForwarding s header_len _ consumed output = Unit {0}
+
+-- opening a volume or `luksCat` was aborted, and forwarding the payload was prompt. With a detached header, the payload
+-- is in an image of its own, of which nothing is consumed for a header
+abbrev pub PromptCat : HeaderLocation → List ℕ → Promptness
+PromptCat Attached image message input_consumed payload_consumed secret_consumed output =
+    (segment : Segment) → HasSegment image segment
+    → PromptForwarding segment (header_read_len image) message input_consumed output
+PromptCat Detached file message input_consumed payload_consumed secret_consumed output =
+    (segment : Segment) → HasSegmentBy detached_header_of file segment
+    → PromptForwarding segment 0 message payload_consumed output
+
+-- the volume was not opened, and the message says why: nothing was written, and the run matches the specified outcome,
+-- whatever the command would do with an open volume
+abbrev pub EndsLocked : HeaderLocation → SlotChoice → List ℕ → List ℕ → Message → Option (List ℕ)
+    → Option (List ℕ) → Type 0
+EndsLocked location slots image secret message image' secret' =
+    (on_opened : OnOpened) → ConsumesLoaded secret on_opened → (written : Option (List ℕ))
+    → RunMatches (PromptCat location image) (volume_outcome_by (reader_for location) on_opened slots image secret)
+    message (ConsumedExactly image image') (ConsumedExactly secret secret') (Appended written written)
+
+-- the volume was opened: its segment and its key are these, and these first bytes of the image, or of the file with the
+-- header, are loaded. With an attached header they reach past the payload's start only as far as the header was read
+pub record Unlocks (location : HeaderLocation) (slots : SlotChoice) (image secret : List ℕ) (segment : Segment)
+    (opened : Opened) (loaded : List ℕ) (image' secret' : Option (List ℕ)) : Type 0 where
+  pub outcome : (on_opened : OnOpened)
+      → volume_outcome_by (reader_for location) on_opened slots image secret ≡ on_opened segment opened (length loaded)
+  pub has : HasSegmentBy (reader_for location) image segment
+  pub no_further : location ≡ Attached → length loaded ≤ max (header_read_len image) segment.offset
+  pub prefix : loaded ≡ take (length loaded) image
+  pub input_consumed : ConsumedExactly image image' (length loaded)
+  pub secret_consumed : ConsumedExactly secret secret' (length secret)
+
+-- the effect of trying to open a volume that was found, under the passphrase in the key file. The key file is read
+-- whole before the key slots are tried; if it cannot be, nothing more of the image is consumed
+abbrev pub UnlockEffect : Option ℕ → Segment → OrderModel → List ℕ → List ℕ → List ℕ → List ℕ → Option (List ℕ)
+    → Option (List ℕ) → Result UnlockedVolume Message → Type 0
+UnlockEffect named segment order pass area area' rest left secret' result =
+    ((length pass ≤ max_key_file_len) × ConsumedExactly pass secret' (length pass)
+    × TriesSlots named segment order pass area area' rest left result)
+    ⊎ ((message : Message) × (result ≡ Err message) × NoKeyFileRead pass secret' message × (area' ≡ area)
+    × (left ≡ Some rest))
+
+-- the count of work was raised by the evaluations of HMAC that trying the key slots of the image's volume costs; or the
+-- image has no volume, or the message says that no key slot was tried, and the count is what it was
+abbrev pub CountsOpening : HeaderLocation → SlotChoice → List ℕ → List ℕ → Message → ℕ → ℕ → Type 0
+CountsOpening location slots image secret message work work' =
+    ((volume : Volume) × (volume_by (reader_for location) slots image ≡ Ok volume)
+    × (work' ≡ capped (work + work_of volume.order image secret)))
+    ⊎ (((is_err (volume_by (reader_for location) slots image) ≡ true) ⊎ (ends_untried message ≡ true)) × (work' ≡ work))
+
+-- ---- runs of commands
 
 -- how promptly a command ends if it is aborted, with this image, or this file with a detached header
 abbrev pub promptness_of : HeaderLocation → Request → List ℕ → Promptness
@@ -63,6 +191,15 @@ RunsAsStated request message image secret written =
     → RunMatches (promptness_of Attached request known) (outcome_of request known known_secret) message
     (ConsumedExactly known image.after) (ConsumedOfSecret request known_secret secret.after)
     (Appended written.before written.after))
+
+-- the evaluations of HMAC that a run of a command takes, if its inputs know their bytes: a command that opens no volume
+-- takes none
+abbrev pub CountsWork : HeaderLocation → Request → Message → ℕ → Option (List ℕ) → Option (List ℕ) → Type 0
+CountsWork location (test_passphrase o) message work image secret = IfKnown image (λ known. IfKnown secret (λ passphrase.
+    CountsOpening location o.slots known passphrase message 0 work))
+CountsWork location (luks_cat o) message work image secret = IfKnown image (λ known. IfKnown secret (λ passphrase.
+    CountsOpening location o.slots known passphrase message 0 work))
+CountsWork location _ message work image secret = work ≡ 0
 
 -- what `luksCat` writes if the volume is honestly sealed: a run that is not aborted writes the plaintext and succeeds
 abbrev pub WritesPlain : Request → Message → Option (List ℕ) → Option (List ℕ) → Option (List ℕ) → Option (List ℕ)

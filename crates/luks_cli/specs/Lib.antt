@@ -1,3 +1,1 @@
 pub mod CommandRun
-pub mod Outcome
-pub mod Unlocking

@@ -4,13 +4,14 @@ ghost use Rattle.std.specs.Prelude.{◌≡◌, false};
 ghost use Rattle.luks_header.specs.Header.{header_of};
 ghost use Rattle.luks_request.specs.Request.{has_header_file, request_of};
 ghost use Rattle.luks_runs.specs.Run.{result_message};
-ghost use Rattle.luks_cli.specs.CommandRun.{CountsCalls, NeedsNoSecret};
+ghost use Rattle.luks_cli.specs.CommandRun.{CountsCalls, CountsWork, NeedsNoSecret};
 ghost use Rattle.luks_cli.specs.CommandRun.{ReadsFirst, ReadsImage, RunsAsStated, WritesPlain};
-ghost use Rattle.luks_cli.specs.Outcome.{MayReport};
+ghost use Rattle.luks_cli.specs.CommandRun.{MayReport};
 
 pub use detached::execute_detached;
 use luks_io::sink::Sink;
 use luks_io::source::Source;
+use luks_kdf::Work;
 use luks_report::message::Message;
 use luks_report::report::Report;
 use luks_request::command::Command;
@@ -62,7 +63,9 @@ pub fn execute<I: Source, K: Source, O: Sink>(
     ensures run { RunsAsStated (request_of command.now) result.message
         (record { before = I.to_come image.old; after = I.to_come image.new })
         (record { before = K.to_come secret.old; after = K.to_come secret.new })
-        (record { before = O.written out.old; after = O.written out.new }) }
+        (record { before = O.written out.old; after = O.written out.new })
+        × CountsWork HeaderLocation.Attached (request_of command.now) result.message result.work
+        (I.to_come image.old) (K.to_come secret.old) }
     ensures honest { WritesPlain (request_of command.now) result.message
         (I.to_come image.old) (K.to_come secret.old)
         (O.written out.old) (O.written out.new) }
@@ -77,37 +80,49 @@ pub fn execute<I: Source, K: Source, O: Sink>(
         (K.counts secret.new) (O.counts out.old) (O.counts out.new) }
 {
     let location = HeaderLocation::Attached;
+    let mut work = Work::new(0);
     match command {
-        Command::IsLuks(_) => report(headers::is_luks(alloc, image)),
-        Command::LuksUuid(_) => report(headers::print(alloc, Printout::Uuid, location, image, out)),
-        Command::LuksDump(_) => report(headers::print(alloc, Printout::Dump, location, image, out)),
-        Command::LuksCheck(_) => report(headers::print(
-            alloc,
-            Printout::Check,
-            location,
-            image,
-            out,
-        )),
-        Command::TestPassphrase(opening) => report(volumes::test_passphrase(
-            alloc,
-            location,
-            opening.slots,
-            image,
-            secret,
-            out,
-        )),
-        Command::LuksCat(opening) => report(volumes::cat(alloc, opening.slots, image, secret, out)),
-        Command::AfSplit(splitting) => report(stripes::split(splitting, image, secret, out)),
-        Command::AfMerge(merging) => report(stripes::merge(merging, image, out)),
+        Command::IsLuks(_) => report(headers::is_luks(alloc, image), &work),
+        Command::LuksUuid(_) => {
+            report(
+                headers::print(alloc, Printout::Uuid, location, image, out),
+                &work,
+            )
+        }
+        Command::LuksDump(_) => {
+            report(
+                headers::print(alloc, Printout::Dump, location, image, out),
+                &work,
+            )
+        }
+        Command::LuksCheck(_) => {
+            report(
+                headers::print(alloc, Printout::Check, location, image, out),
+                &work,
+            )
+        }
+        Command::TestPassphrase(opening) => {
+            let slots = opening.slots;
+            report(
+                volumes::test_passphrase(alloc, location, slots, image, secret, out, &mut work),
+                &work,
+            )
+        }
+        Command::LuksCat(opening) => report(
+            volumes::cat(alloc, opening.slots, image, secret, out, &mut work),
+            &work,
+        ),
+        Command::AfSplit(splitting) => report(stripes::split(splitting, image, secret, out), &work),
+        Command::AfMerge(merging) => report(stripes::merge(merging, image, out), &work),
     }
 }
 
-/// The report of a run that succeeded, or ended with this message.
-fn report(run: Result<(), Message>) -> Report
-    ensures { result.message ≡ result_message run }
+/// The report of a run that succeeded, or ended with this message, after this work.
+fn report(run: Result<(), Message>, work: &Work) -> Report
+    ensures { (result.message ≡ result_message run) × (result.work ≡ work.now) }
 {
     match run {
-        Ok(()) => Report::of(Message::Done),
-        Err(message) => Report::of(message),
+        Ok(()) => Report::of(Message::Done, work.count()),
+        Err(message) => Report::of(message, work.count()),
     }
 }

@@ -1,7 +1,7 @@
 //! The report of a run whose arguments give no command.
 
 ghost use Rattle.std.specs.Prelude.{◌≡◌};
-ghost use Rattle.luks_cli.specs.Outcome.{message_for_plan};
+ghost use Rattle.luks_cli.specs.CommandRun.{message_for_plan};
 
 use luks_args::planning::PlanFault;
 use luks_report::message::Message;
@@ -9,10 +9,11 @@ use luks_report::report::Report;
 
 /// The report if the arguments gave no command.
 pub fn report_of_fault(fault: PlanFault) -> Report
-    ensures { result.message ≡ message_for_plan fault }
+    ensures message { result.message ≡ message_for_plan fault }
+    ensures work { result.work ≡ 0 }
 {
     match fault {
-        PlanFault::Usage => Report::of(Message::Usage),
-        PlanFault::Memory => Report::of(Message::OutOfMemory),
+        PlanFault::Usage => Report::of(Message::Usage, 0),
+        PlanFault::Memory => Report::of(Message::OutOfMemory, 0),
     }
 }

@@ -37,9 +37,9 @@ use Rattle.luks_header.proofs.KnownLemmas.{IsKnown, before_payload, known_usable
 use Rattle.luks_open.specs.Candidate.{candidate_by, candidate_of, decrypted_material, material_sector, recovered}
 use Rattle.luks_open.specs.Candidate.{matches_digest}
 use Rattle.luks_open.specs.Opening.{first_opening, if_matches_digest, slot_key, opened_or, opening_of, answer_of}
-use Rattle.luks_open.specs.Opening.{evaluations_of, tried_of}
-use Rattle.luks_open.specs.Order.{OrderModel, entry_with_priority, key_material_end, order_of, order_of_all}
-use Rattle.luks_open.specs.Order.{order_of_named, skipped_at, tried_with, unless_none}
+use Rattle.luks_open.specs.Opening.{evaluations_of, tried_of, work_of}
+use Rattle.luks_open.specs.Opening.{OrderModel, entry_with_priority, key_material_end, order_of, order_of_all}
+use Rattle.luks_open.specs.Opening.{order_of_named, skipped_at, tried_with, unless_none}
 use Rattle.luks_open.specs.Trial.{IsTriable}
 use Rattle.luks_open.specs.declared.entry.Entry.{Entry}
 use Rattle.luks_open.specs.declared.opening.Opened.{Opened}
@@ -267,6 +267,22 @@ opening_beginning order n image pass loaded =
         ap (λ (key : Option (List ℕ)). opened_or entry.number key (first_opening entries (take n image) pass))
         (key_beginning entry n image pass ends.0)
         ∙ ap (opened_or entry.number (slot_key entry image pass)) (of_entries entries ends.1)
+
+-- nor what trying the key slots costs
+pub work_beginning : (order : OrderModel) (n : ℕ) (image pass : List ℕ) → key_material_end order.entries ≤ n
+    → work_of order (take n image) pass ≡ work_of order image pass
+unfolding work_of tried_of
+work_beginning order n image pass loaded =
+    ap (sum_by evaluations_of) (of_entries order.entries (All-key_material_end n order.entries loaded))
+  where
+    of_entries : (entries : List Entry) → AllByRecursion (λ (entry : Entry). material_end entry.slot ≤ n) entries
+        → tried_of entries (take n image) pass ≡ tried_of entries image pass
+    of_entries [] ends = refl
+    of_entries (entry ∷ entries) ends =
+        ap (λ (key : Option (List ℕ)). entry
+        ∷ (if is_some key then [] else tried_of entries (take n image) pass)) (key_beginning entry n image pass ends.0)
+        ∙ ap (λ (further : List Entry). entry ∷ (if is_some (slot_key entry image pass) then [] else further))
+        (of_entries entries ends.1)
 
 -- the candidate of a key slot is as long as the slot says
 candidate_length : (slot : Slot) (image pass key : List ℕ) → IsTriable (length image) slot

@@ -9,7 +9,7 @@ ghost use Rattle.luks_verdict.specs.declared.segment.Segment.{Segment};
 ghost use Rattle.luks_open.specs.Candidate.{candidate_of};
 ghost use Rattle.luks_open.specs.Opening.{evaluations, evaluations_of, first_opening, slot_key};
 ghost use Rattle.luks_open.specs.Opening.{opening_of, tried_of, work_of};
-ghost use Rattle.luks_open.specs.Order.{key_material_end, order_of};
+ghost use Rattle.luks_open.specs.Opening.{key_material_end, order_of};
 ghost use Rattle.luks_open.specs.Trial.{IsTriable};
 
 use crate::digest::key_matches_digest;

@@ -5,8 +5,8 @@ ghost use Rattle.std.specs.Prelude.{[], ◌∷◌, ◌≤◌, is_some, length};
 ghost use Rattle.std.specs.List.{cons_option};
 ghost use Rattle.luks_verdict.specs.Rule.{max_slots};
 ghost use Rattle.luks_verdict.specs.Table.{ascending};
-ghost use Rattle.luks_open.specs.Order.{IsOrMemory, order_of, skipped_at};
-ghost use Rattle.luks_open.specs.Order.{order_of_all, order_of_named, tried_with};
+ghost use Rattle.luks_open.specs.Opening.{IsOrMemory, order_of, skipped_at};
+ghost use Rattle.luks_open.specs.Opening.{order_of_all, order_of_named, tried_with};
 ghost use Rattle.luks_header.specs.SlotVerdicts.{verdict_at};
 
 use crate::entry::Entry;
@@ -97,7 +97,7 @@ fn skipped(header: &Header, limit: Option<u32>) -> SkippedSlots
 }
 
 // The order if no key slot is named.
-#[tactic(auto, unfolding(crate::specs::Order::order_of_all))]
+#[tactic(auto, unfolding(crate::specs::Opening::order_of_all))]
 fn order_all(alloc: Global, header: &Header, limit: Option<u32>) -> Result<Order, OpenFault>
     ensures answer { IsOrMemory (order_of_all header.now limit) result }
     ensures memory { result ≡ Err OpenFault.Memory → IsOk (order_of_all header.now limit) }
@@ -152,7 +152,7 @@ fn order_named(
 /// is named that cannot be tried; [`OpenFault::NothingTried`] if no key slot is named and the
 /// header has none to try; [`OpenFault::Memory`] if memory runs out, which happens only if there is
 /// something to try.
-#[tactic(auto, unfolding(crate::specs::Order::order_of))]
+#[tactic(auto, unfolding(crate::specs::Opening::order_of))]
 pub fn order(
     alloc: Global,
     header: &Header,

@@ -2,7 +2,7 @@
 
 ghost use Rattle.std.specs.Prelude.{◌≡◌, ◌≤◌};
 ghost use Rattle.luks_area.specs.Area.{max_loaded_len};
-ghost use Rattle.luks_open.specs.Order.{key_material_end};
+ghost use Rattle.luks_open.specs.Opening.{key_material_end};
 
 pub use crate::entry::Entry;
 use crate::skipped::SkippedSlots;
@@ -18,7 +18,7 @@ pub struct Order {
 }
 
 impl Model for Order {
-    ghost use Rattle.luks_open.specs.Order.{OrderModel};
+    ghost use Rattle.luks_open.specs.Opening.{OrderModel};
 
     ghost Value = { OrderModel };
 

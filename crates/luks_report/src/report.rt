@@ -5,7 +5,7 @@ ghost use Rattle.luks_report.specs.Texts.{status_of};
 
 use crate::message::Message;
 
-/// The exit status of a run and its message.
+/// The exit status of a run, its message and its work.
 #[derive(Clone, Copy, Debug, PartialEq, Eq)]
 pub struct Report {
     /// 0: success; 1: wrong arguments, a key file that is too long, a refused segment, no key slot
@@ -15,16 +15,24 @@ pub struct Report {
     pub status: u8,
     /// What is printed on standard error.
     pub message: Message,
+    /// The evaluations of HMAC that deriving and checking keys took. The count stays at its
+    /// greatest value.
+    pub work: u128,
     /// The status is that of the message.
     pub ghost of_message: { status ≡ status_of message },
 }
 
 impl Report {
-    /// The report of a run that ended with this message.
-    pub fn of(message: Message) -> Report
-        ensures { result.message ≡ message }
+    /// The report of a run that ended with this message, after this work.
+    pub fn of(message: Message, work: u128) -> Report
+        ensures message { result.message ≡ message }
+        ensures work { result.work ≡ work }
     {
         let status = message.status();
-        Report { status, message }
+        Report {
+            status,
+            message,
+            work,
+        }
     }
 }

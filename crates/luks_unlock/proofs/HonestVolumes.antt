@@ -12,7 +12,7 @@ use Rattle.std.proofs.lemmas.Option.{same_Some}
 use Rattle.std.proofs.lemmas.Slice.Eq.{bytes_eq-Decides}
 use Rattle.std.proofs.lemmas.List.Elements.{All-nil, recursion_from_All}
 use Rattle.luks_aes.specs.Bytes.{IsBytes}
-use Rattle.luks_aes.proofs.ByteLists.{encrypted_state, bytes_drop, bytes_take}
+use Rattle.luks_aes.proofs.ColumnLemmas.{encrypted_state, bytes_drop, bytes_take}
 use Rattle.luks_kdf.specs.declared.hash.Hash.TheVariants.{Sha256}
 use Rattle.luks_kdf.specs.Stripes.{merged}
 use Rattle.luks_kdf.proofs.StripesLemmas.{merged_split}
@@ -36,7 +36,7 @@ use Rattle.luks_header.proofs.KnownLemmas.{known_usable, slot_of_usable, is_atta
 use Rattle.luks_open.specs.Candidate.{decrypted_material, material_sector, recovered, candidate_of, matches_digest}
 use Rattle.luks_open.specs.Opening.{first_opening, slot_key, opened_or, answer_of, opening_of}
 use Rattle.luks_open.specs.declared.entry.Entry.{Entry}
-use Rattle.luks_open.specs.Order.{key_material_end, order_of}
+use Rattle.luks_open.specs.Opening.{key_material_end, order_of}
 use Rattle.luks_open.specs.declared.opening.Opened.{Opened}
 use Rattle.luks_open.proofs.CallerLemmas.{All-order, IsOf, key_areas_before_payload}
 use Rattle.luks_payload.proofs.SectorLemmas.{one_more_fits}

@@ -18,29 +18,26 @@ use Rattle.luks_header.specs.Header.{ReadsNoHeader, header_read_len, header_of, 
 use Rattle.luks_header.proofs.KnownLemmas.{memory_below, begins_longer}
 use Rattle.luks_header.specs.HeaderSegment.{segment_of}
 use Rattle.luks_header.specs.declared.header.Header.{Header}
-use Rattle.luks_open.specs.Order.{OrderModel, order_of, key_material_end}
+use Rattle.luks_open.specs.Opening.{OrderModel, order_of, key_material_end, opening_of}
 use Rattle.luks_open.specs.declared.fault.OpenFault.{OpenFault}
 use Rattle.luks_open.specs.declared.fault.OpenFault.TheVariants.{Memory}
 use Rattle.luks_open.proofs.CallerLemmas.{opening_beginning, key_material_end-within}
-use Rattle.luks_open.specs.Opening.{opening_of}
 use Rattle.luks_open.specs.declared.opening.Opened.{Opened}
 use Rattle.luks_report.specs.Faults.{message_for_header, message_for_opening}
 use Rattle.luks_report.specs.declared.message.Message.{Message}
 use Rattle.luks_report.specs.declared.message.Message.TheVariants.{OutOfMemory, ReadFailed, Cut, KeyFileLength}
 use Rattle.luks_request.specs.declared.command.SlotChoice.{SlotChoice}
-use Rattle.luks_runs.proofs.HeaderRuns.{reading_fault, header_read_len_within}
+use Rattle.luks_runs.proofs.RunLemmas.{reading_fault, header_read_len_within}
 use Rattle.luks_runs.specs.Run.{is_run_read_failure, no_output}
 use Rattle.luks_runs.specs.Location.{LoadedFrom, reader_for, as_detached}
 use Rattle.luks_runs.specs.declared.location.HeaderLocation.{HeaderLocation}
 use Rattle.luks_runs.specs.KeyFile.{max_key_file_len}
-use Rattle.luks_unlock.specs.Found.{FindsNoVolume, FindsVolume}
-use Rattle.luks_unlock.specs.Trying.{HitsMaterialEof}
+use Rattle.luks_unlock.specs.Volume.{FindsNoVolume, FindsVolume, HitsMaterialEof, volume_by, volume_in_header, OnOpened}
+use Rattle.luks_unlock.specs.Volume.{Volume, found_outcome, opened_outcome, outcome_after, volume_outcome_by}
 use Rattle.luks_unlock.specs.declared.found.FoundVolume.{FoundVolume}
-use Rattle.luks_unlock.specs.Volume.{volume_by, volume_in_header, OnOpened, Volume, found_outcome, opened_outcome}
-use Rattle.luks_unlock.specs.Volume.{outcome_after, volume_outcome_by}
 use Rattle.luks1_header.specs.Header1.{is_luks1}
 use Rattle.luks2_binary.proofs.ChoiceLemmas.{json_beginning, probe_other, probe_primary, stable_by}
-use Rattle.luks2_binary.proofs.SearchLemmas.{furthest, search_len_is}
+use Rattle.luks2_binary.proofs.ValidLemmas.{furthest, search_len_is}
 use Rattle.luks2_binary.proofs.ValidLemmas.{fits_parts, probe_fit, probe_unfit, size_range, valid_range}
 use Rattle.luks2_binary.specs.Choice2.{binary_at, fits, header2_of, is_valid}
 use Rattle.luks2_binary.specs.ReadLen2.{header2_read_len, probe2_len, probe_end, greatest}

@@ -1,5 +1,2 @@
-pub mod Found
 pub mod Honest
-pub mod OpeningMessages
-pub mod Trying
 pub mod Volume

@@ -1,25 +1,65 @@
 -- The outcomes of the commands that open volumes: first the volume that an image's header describes, before any key
--- slot is tried, then the outcome of a run.
-use Rattle.std.specs.Prelude.{ℕ, ◌+◌, List, length, max, nat_lt, if◌then◌else◌, Option, Result, Ok, Err}
+-- slot is tried, then the outcome of a run. Then what finding a volume and trying its key slots leave in the device.
+use Rattle.std.specs.Prelude.{ℕ, ◌+◌, List, length, max, nat_lt, if◌then◌else◌, Option, Result, Ok, Err, ◌≡◌, take, ◌-◌}
+use Rattle.std.specs.Prelude.{◌<◌, ◌≤◌, ◌⊎◌, min, Bool, false, true}
 use Rattle.luks_header.specs.Header.{header_read_len, header_of}
 use Rattle.luks_header.specs.HeaderSegment.{segment_of}
 use Rattle.luks_header.specs.declared.header.Header.{Header}
 use Rattle.luks_area.specs.declared.fault.HeaderFault.{HeaderFault}
 use Rattle.luks_verdict.specs.declared.refusal.SegmentFault.{SegmentFault}
 use Rattle.luks_verdict.specs.declared.segment.Segment.{Segment}
-use Rattle.luks_open.specs.Order.{OrderModel, key_material_end, order_of}
+use Rattle.luks_open.specs.Opening.{OrderModel, key_material_end, order_of, opening_of, work_of}
 use Rattle.luks_open.specs.declared.fault.OpenFault.{OpenFault}
 use Rattle.luks_report.specs.Faults.{message_for_header, message_for_opening, message_at_end}
 use Rattle.luks_request.specs.declared.command.SlotChoice.{SlotChoice}
-use Rattle.luks_open.specs.Opening.{opening_of}
 use Rattle.luks_open.specs.declared.opening.Opened.{Opened}
 use Rattle.luks_payload.specs.Plain.{ending_of, payload_end_of, plain_of}
 use Rattle.luks_report.specs.Texts.{opened_line}
 use Rattle.luks_report.specs.declared.message.Message.TheVariants.{Done, Cut, KeyFileLength, SegmentRefused}
+use Rattle.luks_report.specs.declared.message.Message.TheVariants.{OutOfMemory, ReadFailed, NotLuks, Json, NoSuchSlot}
+use Rattle.luks_report.specs.declared.message.Message.TheVariants.{SlotDisabled, SlotSkipped, NothingTried, NoKey}
+use Rattle.luks_report.specs.declared.message.Message.TheVariants.{CutBeforePayload, Tail, Short, WriteFailed}
 use Rattle.luks_runs.specs.KeyFile.{max_key_file_len}
 use Rattle.luks_runs.specs.Run.{Outcome, no_output}
-use Rattle.luks_runs.specs.Location.{HeaderReader}
+use Rattle.luks_runs.specs.Location.{HeaderReader, LoadedFrom, reader_for}
 use Rattle.luks_report.specs.declared.message.Message.{Message}
+use Rattle.luks_io.specs.Devices.{ConsumedExactly, ConsumedAtMost, IfKnown}
+use Rattle.luks_io.specs.declared.counts.ReadCounts.{ReadCounts}
+use Rattle.luks_runs.specs.declared.location.HeaderLocation.{HeaderLocation}
+use Rattle.luks_unlock.specs.declared.found.FoundVolume.{FoundVolume}
+use Rattle.luks_header.specs.Area.{AbortsConsuming, ConsumedOnto}
+use Rattle.luks_kdf.specs.Pbkdf2.{capped}
+use Rattle.luks_unlock.specs.declared.unlocked.UnlockedVolume.{UnlockedVolume}
+
+-- ---- the messages with which opening a volume may end
+
+-- opening a volume may end with this message
+abbrev pub OpeningMessage : Message → Type 0
+OpeningMessage NotLuks = Unit {0}
+OpeningMessage Cut = Unit {0}
+OpeningMessage Json = Unit {0}
+OpeningMessage (SegmentRefused _) = Unit {0}
+OpeningMessage (NoSuchSlot _) = Unit {0}
+OpeningMessage (SlotDisabled _) = Unit {0}
+OpeningMessage (SlotSkipped _ _) = Unit {0}
+OpeningMessage (NothingTried _) = Unit {0}
+OpeningMessage KeyFileLength = Unit {0}
+OpeningMessage (NoKey _) = Unit {0}
+OpeningMessage OutOfMemory = Unit {0}
+OpeningMessage ReadFailed = Unit {0}
+OpeningMessage _ = ⊥
+
+-- a run may end with this message before it tries a key slot
+abbrev pub ends_untried : Message → Bool
+ends_untried Done = false
+ends_untried (NoKey _) = false
+ends_untried CutBeforePayload = false
+ends_untried (Tail _) = false
+ends_untried (Short _) = false
+ends_untried WriteFailed = false
+ends_untried _ = true
+
+-- ---- volumes and outcomes
 
 -- a volume: its header, its segment, and the key slots to be tried
 pub record Volume : Type 0 where
@@ -112,3 +152,74 @@ volume_outcome_by read on_opened slots image secret =
 -- the outcome of a command that opens a volume
 abbrev pub volume_outcome : OnOpened → SlotChoice → List ℕ → List ℕ → Outcome
 volume_outcome = volume_outcome_by header_of
+
+-- ---- finding the volume that a header describes
+
+-- the header that is read in this way has this segment
+abbrev pub HasSegmentBy : HeaderReader → List ℕ → Segment → Type 0
+HasSegmentBy read image segment = (header : Header) × (read image ≡ Ok header) × (segment_of header ≡ Ok segment)
+
+-- the image has a header with this segment
+abbrev pub HasSegment : List ℕ → Segment → Type 0
+HasSegment = HasSegmentBy header_of
+
+-- no volume whose header is read in this way was found, for this reason: a read failed, memory ran out, or the image
+-- has none
+abbrev pub FindsNoVolume : HeaderReader → SlotChoice → List ℕ → Option (List ℕ) → Message → Type 0
+FindsNoVolume read slots image left ReadFailed = ConsumedAtMost image left (header_read_len image)
+FindsNoVolume read slots image left OutOfMemory = ConsumedAtMost image left (header_read_len image)
+FindsNoVolume read slots image left message =
+    (volume_by read slots image ≡ Err message) × ConsumedExactly image left (header_read_len image)
+
+-- a volume has the segment of its header, and the order of its header's key slots
+pub record MatchesHeader (slots : SlotChoice) (volume : FoundVolume) : Type 0 where
+  pub segment : segment_of volume.header ≡ Ok volume.segment
+  pub order : order_of volume.header slots.named slots.max_iterations ≡ Ok volume.order
+
+-- a volume was found: its area has the bytes that were consumed and no more, and its header is the one read from them
+pub record FindsVolume (location : HeaderLocation) (choice : SlotChoice) (volume : FoundVolume)
+    (before after : Option (List ℕ)) (counts counts' : ReadCounts) : Type 0 where
+  pub slots : MatchesHeader choice volume
+  pub of_area : reader_for location volume.area.bytes ≡ Ok volume.header
+  pub area : length volume.area.bytes ≡ header_read_len volume.area.bytes
+  pub header : IfKnown before (λ known. (reader_for location known ≡ Ok volume.header)
+      × (volume.area.bytes ≡ take (header_read_len known) known) × ConsumedExactly known after (header_read_len known))
+  pub loaded : LoadedFrom volume.area before after counts counts'
+
+-- ---- trying the key slots of a volume
+
+-- the key slot that opened a volume, and the key that it gave
+abbrev pub opened_of : UnlockedVolume → Opened
+opened_of volume = record { slot = volume.slot; key = volume.key }
+
+-- the image was consumed up to the end of the last key material, or up to its own end if that comes first
+abbrev pub ConsumedMaterial : OrderModel → List ℕ → List ℕ → List ℕ → Option (List ℕ) → Type 0
+ConsumedMaterial order area area' rest left =
+    ConsumedOnto area area' rest left (min (key_material_end order.entries - length area) (length rest))
+
+-- the key slots of a volume whose header was read were tried: the image was consumed up to the end of the last key
+-- material, and the result is the volume with this segment that those key slots open under this passphrase, or their
+-- fault. Otherwise a read failed, or memory ran out, or the image ended before that
+abbrev pub TriesSlots : Option ℕ → Segment → OrderModel → List ℕ → List ℕ → List ℕ → List ℕ → Option (List ℕ)
+    → Result UnlockedVolume Message → Type 0
+TriesSlots named segment order pass area area' rest left (Ok volume) = ConsumedMaterial order area area' rest left
+    × (key_material_end order.entries ≤ length area') × (volume.segment ≡ segment)
+    × (opening_of order area' pass ≡ Ok (opened_of volume))
+TriesSlots named segment order pass area area' rest left (Err message) =
+    ((fault : HeaderFault) × (message ≡ message_for_header fault)
+    × AbortsConsuming (key_material_end order.entries - length area) area area' rest left fault)
+    ⊎ (ConsumedMaterial order area area' rest left × ((message ≡ Cut × (length area' < key_material_end order.entries))
+    ⊎ ((fault : OpenFault) × (message ≡ message_for_opening named fault)
+    × (key_material_end order.entries ≤ length area') × (opening_of order area' pass ≡ Err fault))))
+
+-- the key material is loaded, and the count of work was raised once by the evaluations of HMAC that trying the key
+-- slots costs; or the message says that they were not tried, and the count is what it was
+abbrev pub CountsTrials : OrderModel → List ℕ → List ℕ → Message → ℕ → ℕ → Type 0
+CountsTrials order area pass message work work' =
+    ((key_material_end order.entries ≤ length area) × (work' ≡ capped (work + work_of order area pass)))
+    ⊎ ((ends_untried message ≡ true) × (work' ≡ work))
+
+-- trying the key slots hit the image's end only if the message is that the image ended
+abbrev pub HitsMaterialEof : Message → Bool → Type 0
+HitsMaterialEof Cut ended = Unit {0}
+HitsMaterialEof _ ended = ended ≡ false

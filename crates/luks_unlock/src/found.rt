@@ -4,11 +4,11 @@ ghost use Rattle.std.specs.Prelude.{◌≡◌, ◌≢◌, ◌⊎◌, Bool, Ok, I
 ghost use Rattle.luks_io.specs.Counts.{Reads};
 ghost use Rattle.luks_io.specs.Devices.{IfKnown};
 ghost use Rattle.luks_header.specs.HeaderSegment.{segment_of};
-ghost use Rattle.luks_open.specs.Order.{order_of};
+ghost use Rattle.luks_open.specs.Opening.{order_of};
 ghost use Rattle.luks_runs.specs.Run.{is_run_read_failure, result_message};
 ghost use Rattle.luks_runs.specs.Location.{reader_for};
-ghost use Rattle.luks_unlock.specs.Found.{FindsNoVolume, FindsVolume};
-ghost use Rattle.luks_unlock.specs.OpeningMessages.{OpeningMessage};
+ghost use Rattle.luks_unlock.specs.Volume.{FindsNoVolume, FindsVolume};
+ghost use Rattle.luks_unlock.specs.Volume.{OpeningMessage};
 ghost use Rattle.luks_unlock.specs.Volume.{volume_in_header};
 
 use luks_header::area::HeaderArea;

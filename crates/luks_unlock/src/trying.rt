@@ -4,9 +4,9 @@ ghost use Rattle.std.specs.Prelude.{◌≡◌, ◌<◌, ◌≤◌, Bool, [], IfO
 ghost use Rattle.luks_io.specs.Counts.{Reads};
 ghost use Rattle.luks_io.specs.Devices.{IfKnown};
 ghost use Rattle.luks_runs.specs.Run.{is_run_read_failure, result_message};
-ghost use Rattle.luks_unlock.specs.Found.{MatchesHeader};
-ghost use Rattle.luks_unlock.specs.OpeningMessages.{OpeningMessage};
-ghost use Rattle.luks_unlock.specs.Trying.{CountsTrials, HitsMaterialEof, TriesSlots};
+ghost use Rattle.luks_unlock.specs.Volume.{MatchesHeader};
+ghost use Rattle.luks_unlock.specs.Volume.{OpeningMessage};
+ghost use Rattle.luks_unlock.specs.Volume.{CountsTrials, HitsMaterialEof, TriesSlots};
 
 use crate::found::FoundVolume;
 use crate::unlocked::UnlockedVolume;
@@ -33,7 +33,8 @@ pub fn try_slots<I: Source>(
         (volume.old.area.ended ≡ true → rest ≡ [])
         → TriesSlots slots.named volume.old.segment volume.old.order
         pass.now volume.old.area.bytes volume.new.area.bytes rest (I.to_come image.new) result) }
-    ensures work { CountsTrials volume.old.order volume.new.area.bytes pass.now work.old work.new }
+    ensures work { CountsTrials volume.old.order volume.new.area.bytes pass.now
+        (result_message result) work.old work.new }
     ensures kept { volume.new ≡ record volume.old { area = volume.new.area } }
     ensures only { IfErr result OpeningMessage }
     ensures reads { (ended : Bool)

@@ -100,7 +100,7 @@ fn report_fault(rt: &HostRuntime, fault: InputFault, name: &str) -> ExitCode {
 
 /// Prints this message and returns its exit status.
 fn end(rt: &HostRuntime, message: Message) -> ExitCode {
-    print_report(rt, &Report::of(message))
+    print_report(rt, &Report::of(message, 0))
 }
 
 /// Prints the message of a report and returns its status. A message that cannot be printed is lost:

@@ -6,7 +6,7 @@ use Rattle.luks_report.specs.declared.message.Message.{Message}
 use Rattle.luks_report.specs.declared.message.Message.TheVariants.{Done, ReadFailed}
 use Rattle.luks_runs.specs.Run.{is_run_read_failure}
 use Rattle.luks_unlock.proofs.VolumeLemmas.{outcome_decided}
-use Rattle.luks_unlock.specs.OpeningMessages.{OpeningMessage}
+use Rattle.luks_unlock.specs.Volume.{OpeningMessage}
 use Rattle.luks_c.specs.Stored.{code_for}
 use Rattle.luks_c.proofs.luksrd_open.Goals as goal
 

@@ -3,13 +3,14 @@
 ghost use Rattle.std.specs.Prelude.{◌≡◌, true};
 ghost use Rattle.luks_request.specs.Request.{has_header_file, request_of};
 ghost use Rattle.luks_runs.specs.Location.{detached_header_of};
-ghost use Rattle.luks_cli.specs.CommandRun.{CountsCallsDetached, NeedsNoPayload, NeedsNoSecret};
-ghost use Rattle.luks_cli.specs.CommandRun.{ReadsFirst, ReadsImage, RunsDetached};
-ghost use Rattle.luks_cli.specs.Outcome.{MayReport};
+ghost use Rattle.luks_cli.specs.CommandRun.{CountsCallsDetached, CountsWork, NeedsNoPayload};
+ghost use Rattle.luks_cli.specs.CommandRun.{NeedsNoSecret, ReadsFirst, ReadsImage, RunsDetached};
+ghost use Rattle.luks_cli.specs.CommandRun.{MayReport};
 
 use super::{report, volumes};
 use luks_io::sink::Sink;
 use luks_io::source::Source;
+use luks_kdf::Work;
 use luks_report::message::Message;
 use luks_report::report::Report;
 use luks_request::command::Command;
@@ -38,7 +39,9 @@ pub fn execute_detached<H: Source, I: Source, K: Source, O: Sink>(
         (record { before = H.to_come header.old; after = H.to_come header.new })
         (record { before = I.to_come image.old; after = I.to_come image.new })
         (record { before = K.to_come secret.old; after = K.to_come secret.new })
-        (record { before = O.written out.old; after = O.written out.new }) }
+        (record { before = O.written out.old; after = O.written out.new })
+        × CountsWork HeaderLocation.Detached (request_of command.now) result.message result.work
+        (H.to_come header.old) (K.to_come secret.old) }
     ensures only { MayReport (request_of command.now) result.message }
     ensures unneeded { NeedsNoSecret detached_header_of (request_of command.now)
         (H.to_come header.old) → secret.new ≡ secret.old }
@@ -54,36 +57,40 @@ pub fn execute_detached<H: Source, I: Source, K: Source, O: Sink>(
         (record { before = O.counts out.old; after = O.counts out.new }) }
 {
     let location = HeaderLocation::Detached;
+    let mut work = Work::new(0);
     match command {
-        Command::IsLuks(_) => report(headers::is_luks(alloc, header)),
-        Command::LuksUuid(_) => report(headers::print(
-            alloc,
-            Printout::Uuid,
-            location,
-            header,
-            out,
-        )),
-        Command::LuksDump(_) => report(headers::print(
-            alloc,
-            Printout::Dump,
-            location,
-            header,
-            out,
-        )),
-        Command::LuksCheck(_) => report(headers::print(
-            alloc,
-            Printout::Check,
-            location,
-            header,
-            out,
-        )),
+        Command::IsLuks(_) => report(headers::is_luks(alloc, header), &work),
+        Command::LuksUuid(_) => {
+            report(
+                headers::print(alloc, Printout::Uuid, location, header, out),
+                &work,
+            )
+        }
+        Command::LuksDump(_) => {
+            report(
+                headers::print(alloc, Printout::Dump, location, header, out),
+                &work,
+            )
+        }
+        Command::LuksCheck(_) => {
+            report(
+                headers::print(alloc, Printout::Check, location, header, out),
+                &work,
+            )
+        }
         Command::TestPassphrase(opening) => {
             let slots = opening.slots;
-            report(volumes::test_passphrase(alloc, location, slots, header, secret, out))
+            report(
+                volumes::test_passphrase(alloc, location, slots, header, secret, out, &mut work),
+                &work,
+            )
         }
         Command::LuksCat(opening) => {
             let slots = opening.slots;
-            report(volumes::cat_detached(alloc, slots, header, image, secret, out))
+            report(
+                volumes::cat_detached(alloc, slots, header, image, secret, out, &mut work),
+                &work,
+            )
         }
         Command::AfSplit(_) | Command::AfMerge(_) => unreachable!(),
     }

@@ -4,9 +4,9 @@ ghost use Rattle.std.specs.Prelude.{◌≡◌, ◌<◌, ◌⊎◌, ◌^◌, [], 
 ghost use Rattle.std.specs.Prelude.{IfOk, IfErr, false, is_err, length, true};
 ghost use Rattle.luks_io.specs.Counts.{Reads, Writes};
 ghost use Rattle.luks_io.specs.Devices.{Appended, ConsumedExactly, IfKnown};
-ghost use Rattle.luks_unlock.specs.Found.{MatchesHeader};
-ghost use Rattle.luks_unlock.specs.OpeningMessages.{OpeningMessage};
-ghost use Rattle.luks_unlock.specs.Trying.{CountsTrials, opened_of};
+ghost use Rattle.luks_unlock.specs.Volume.{MatchesHeader};
+ghost use Rattle.luks_unlock.specs.Volume.{OpeningMessage};
+ghost use Rattle.luks_unlock.specs.Volume.{CountsTrials, opened_of};
 ghost use Rattle.luks_unlock.specs.Volume.{detached_payload_outcome, payload_outcome, slot_outcome};
 ghost use Rattle.luks_unlock.specs.Volume.{volume_by, volume_of, volume_outcome, volume_outcome_by};
 ghost use Rattle.luks_report.specs.Texts.{opened_line};
@@ -19,7 +19,8 @@ ghost use Rattle.luks_runs.specs.Run.{is_run_read_failure, is_run_write_failure,
 ghost use Rattle.luks_runs.specs.Location.{LoadedFrom, reader_for};
 ghost use Rattle.luks_cli.specs.CommandRun.{CatAllows, CountsCalls, CountsReads, ReadsOnce};
 ghost use Rattle.luks_cli.specs.CommandRun.{CountsCallsDetached, EndsWithoutKey, ReadsPayload};
-ghost use Rattle.luks_cli.specs.Unlocking.{EndsLocked, PromptCat, UnlockEffect, Unlocks};
+ghost use Rattle.luks_cli.specs.CommandRun.{CountsOpening, EndsLocked, PromptCat};
+ghost use Rattle.luks_cli.specs.CommandRun.{UnlockEffect, Unlocks};
 
 use luks_header::area::HeaderArea;
 use luks_io::memory::MemSource;
@@ -65,7 +66,7 @@ fn unlock_found<I: Source, K: Source>(
     ensures counts { CountsReads ReadsOnce (is_run_read_failure (result_message result))
         (I.counts image.old) (I.counts image.new) (K.counts secret.old) (K.counts secret.new) }
     ensures work { IfKnown (K.to_come secret.old) (λ passphrase. CountsTrials volume.old.order
-        volume.new.area.bytes passphrase work.old work.new) }
+        volume.new.area.bytes passphrase (result_message result) work.old work.new) }
     ensures ended { volume.old.area.ended ≡ true → image.new ≡ image.old }
     ensures still { IfOk result (λ _. (volume.new.area.ended ≡ volume.old.area.ended)
         × Reads false false (I.counts image.old) (I.counts image.new)) }
@@ -89,6 +90,7 @@ fn unlock<I: Source, K: Source>(
     slots: SlotChoice,
     image: &mut I,
     secret: &mut K,
+    work: &mut Work,
 ) -> Result<LoadedVolume, Message>
     ensures ok { IfOk result (λ unlocked. IfKnown (I.to_come image.old) (λ known.
         IfKnown (K.to_come secret.old) (λ passphrase.
@@ -105,12 +107,13 @@ fn unlock<I: Source, K: Source>(
     ensures only { IfErr result OpeningMessage }
     ensures counts { CountsReads ReadsOnce (is_run_read_failure (result_message result))
         (I.counts image.old) (I.counts image.new) (K.counts secret.old) (K.counts secret.new) }
+    ensures work { IfKnown (I.to_come image.old) (λ known.
+        IfKnown (K.to_come secret.old) (λ passphrase. CountsOpening location slots known
+        passphrase (result_message result) work.old work.new)) }
     ensures loaded { IfOk result (λ unlocked. LoadedFrom unlocked.area (I.to_come image.old)
         (I.to_come image.new) (I.counts image.old) (I.counts image.new)) }
 {
     let mut volume = find_volume(alloc, location, slots, image)?;
-    // The amount of work is not reported.
-    let work = &mut Work::new(0);
     let opened = unlock_found(alloc, slots, &mut volume, image, secret, work);
     let area = area_of(volume);
     Ok(LoadedVolume {
@@ -139,6 +142,7 @@ pub(super) fn test_passphrase<I: Source, K: Source, O: Sink>(
     image: &mut I,
     secret: &mut K,
     out: &mut O,
+    work: &mut Work,
 ) -> Result<(), Message>
     ensures run { IfKnown (I.to_come image.old)
         (λ known. IfKnown (K.to_come secret.old) (λ passphrase.
@@ -153,11 +157,14 @@ pub(super) fn test_passphrase<I: Source, K: Source, O: Sink>(
     ensures only { OpeningMessage (result_message result)
         ⊎ (result_message result ≡ Message.Done ⊎ result_message result ≡ Message.WriteFailed) }
     ensures reads_first { result_message result ≡ Message.ReadFailed → out.new ≡ out.old }
+    ensures work { IfKnown (I.to_come image.old) (λ known.
+        IfKnown (K.to_come secret.old) (λ passphrase. CountsOpening location slots known
+        passphrase (result_message result) work.old work.new)) }
     ensures calls { CountsCalls ReadsOnce (result_message result)
         (I.counts image.old) (I.counts image.new) (K.counts secret.old) (K.counts secret.new)
         (O.counts out.old) (O.counts out.new) }
 {
-    let unlocked = unlock(alloc, location, slots, image, secret)?;
+    let unlocked = unlock(alloc, location, slots, image, secret, work)?;
     write_opened_line(alloc, unlocked.volume.slot, out)
 }
 
@@ -192,6 +199,7 @@ pub(super) fn cat<I: Source, K: Source, O: Sink>(
     image: &mut I,
     secret: &mut K,
     out: &mut O,
+    work: &mut Work,
 ) -> Result<(), Message>
     ensures only { OpeningMessage (result_message result) ⊎ PayloadMessage (result_message result) }
     ensures run { IfKnown (I.to_come image.old)
@@ -203,13 +211,16 @@ pub(super) fn cat<I: Source, K: Source, O: Sink>(
         (Appended (O.written out.old) (O.written out.new)))) }
     ensures unneeded { IfKnown (I.to_come image.old) (λ known.
         is_err (volume_of slots known) ≡ true → secret.new ≡ secret.old) }
+    ensures work { IfKnown (I.to_come image.old) (λ known.
+        IfKnown (K.to_come secret.old) (λ passphrase. CountsOpening HeaderLocation.Attached slots
+        known passphrase (result_message result) work.old work.new)) }
     ensures calls { CountsCalls
         (ReadsPayload (CatAllows HeaderLocation.Attached slots (I.to_come image.old)
         (K.to_come secret.old))) (result_message result)
         (I.counts image.old) (I.counts image.new) (K.counts secret.old) (K.counts secret.new)
         (O.counts out.old) (O.counts out.new) }
 {
-    let unlocked = unlock(alloc, HeaderLocation::Attached, slots, image, secret)?;
+    let unlocked = unlock(alloc, HeaderLocation::Attached, slots, image, secret, work)?;
     let loaded = unlocked.area.as_slice();
     if unlocked.area.has_ended() {
         // The image's end was hit: all of it is loaded, and it is not read again.
@@ -226,6 +237,7 @@ pub(super) fn cat_detached<H: Source, I: Source, K: Source, O: Sink>(
     image: &mut I,
     secret: &mut K,
     out: &mut O,
+    work: &mut Work,
 ) -> Result<(), Message>
     ensures only { OpeningMessage (result_message result) ⊎ PayloadMessage (result_message result) }
     ensures run { IfKnown (H.to_come header.old)
@@ -240,6 +252,9 @@ pub(super) fn cat_detached<H: Source, I: Source, K: Source, O: Sink>(
     ensures unneeded { IfKnown (H.to_come header.old) (λ file.
         is_err (volume_by detached_header_of slots file) ≡ true
         → secret.new ≡ secret.old) }
+    ensures work { IfKnown (H.to_come header.old) (λ file.
+        IfKnown (K.to_come secret.old) (λ passphrase. CountsOpening HeaderLocation.Detached slots
+        file passphrase (result_message result) work.old work.new)) }
     ensures before_key { EndsWithoutKey (result_message result) → image.new ≡ image.old }
     ensures calls { CountsCallsDetached
         (ReadsPayload (CatAllows HeaderLocation.Detached slots (H.to_come header.old)
@@ -250,6 +265,6 @@ pub(super) fn cat_detached<H: Source, I: Source, K: Source, O: Sink>(
         (record { before = K.counts secret.old; after = K.counts secret.new })
         (record { before = O.counts out.old; after = O.counts out.new }) }
 {
-    let unlocked = unlock(alloc, HeaderLocation::Detached, slots, header, secret)?;
+    let unlocked = unlock(alloc, HeaderLocation::Detached, slots, header, secret, work)?;
     write_plain(&unlocked.volume, &[], image, out)
 }

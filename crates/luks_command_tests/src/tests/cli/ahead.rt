@@ -253,7 +253,7 @@ fn check_failed_reads(rt: &(impl Abort + AllocGlobal), image: &[u8]) {
             assert_in(rt, &call, call > 50);
             return;
         }
-        assert_same_in(rt, &call, report, Report::of(Message::ReadFailed));
+        assert_same_in(rt, &call, report.message, Message::ReadFailed);
     }
     rt.panic("no run without a failed read")
 }

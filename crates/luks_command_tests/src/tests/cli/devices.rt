@@ -142,7 +142,7 @@ fn check_failed(rt: &impl Abort, way: Way, report: Report, (written, consumed): 
     } else {
         Message::ReadFailed
     };
-    assert_in(rt, &way, report == Report::of(reported));
+    assert_in(rt, &way, report.message == reported);
     match way.device {
         0 => assert_same_in(rt, &way, written.len(), consumed / 512 * 512),
         2 => assert_in(rt, &way, consumed <= (written.len() / 512 + 1) * 512),
@@ -152,7 +152,7 @@ fn check_failed(rt: &impl Abort, way: Way, report: Report, (written, consumed): 
 
 // The run ends as the trial specifies.
 fn check_whole(rt: &impl Abort, way: Way, trial: &Trial<'_>, ended: &Ended<'_>) {
-    assert_same_in(rt, &way, ended.report, Report::of(trial.message()));
+    assert_same_in(rt, &way, ended.report.message, trial.message());
     assert_same_in(rt, &way, ended.out.as_slice(), trial.whole);
     let lefts = (ended.header.left(), ended.image.left(), ended.secret.left());
     assert_same_in(rt, &way, lefts, (0, trial.left, 0));
@@ -237,7 +237,7 @@ pub(super) fn check_truncated(
     };
     let ended = run(rt, command, trial, way);
     let counts = &ended.image.counts;
-    assert_same_in(rt, &way, ended.report, Report::of(Message::Cut));
+    assert_same_in(rt, &way, ended.report.message, Message::Cut);
     assert_in(rt, &way, counts.ends == 1 && counts.needless == 0);
     assert_in(rt, &way, ended.out.as_slice().is_empty());
 }

@@ -1,7 +1,7 @@
 //! Key files, key slots and options of the commands that open a volume.
 
 use super::rows::{CAT_ROW, Output, Row, check_rows, opened, refused, written};
-use super::runs::{DONE, Ends, Inputs, NO_KEY, OPENS, TEST, check};
+use super::runs::{ALL, CAT, DONE, Ends, Inputs, NO_KEY, OPENS, TEST, check, run_over, sink};
 use super::same::assert_same_in;
 use super::volume::{
     Changes, NEWEST, PASSPHRASE, PLAIN_LEN, SMALL, SMALL_LEN, USUAL_LEN, changed, sealed, usual,
@@ -63,6 +63,31 @@ fn a_usual_volume_opens_as_asked(rt: HostRuntime) {
     let image = usual(&rt);
     assert_same_in(&rt, &"a usual volume", image.len(), USUAL_LEN);
     check_rows(&rt, &image, &OF_USUAL)
+}
+
+/// A line, its second input, and the evaluations of HMAC in its run over a usual volume: 1000 times
+/// 2 blocks for the key of the key material, and 1000 times 1 for the digest.
+static WORKS: [(&str, &[u8], u128); 5] = [
+    (TEST, PASSPHRASE, 3000),
+    (TEST, NEWLINE, 3000),
+    (CAT, PASSPHRASE, 3000),
+    ("luksCat --key-file f --key-slot 8 i", PASSPHRASE, 0),
+    ("luksDump i", b"", 0),
+];
+
+// The work of each run.
+fn check_works(rt: &(impl Abort + AllocGlobal), image: &[u8]) {
+    for (line, secret, work) in &WORKS {
+        let mut out = sink(rt, 8192);
+        let inputs: Inputs<'_> = [&[], image, *secret];
+        let (report, _) = run_over(rt, *line, inputs, (ALL, ALL), &mut out);
+        assert_same_in(rt, line, report.work, *work);
+    }
+}
+
+#[test]
+fn a_report_has_the_work_of_its_run(rt: HostRuntime) {
+    check_works(&rt, &usual(&rt))
 }
 
 // A key slot's state in use.

@@ -30,7 +30,7 @@ fn run_once(
 
 // The run ends as the trial specifies.
 fn check_done(rt: &impl Abort, trial: &Trial<'_>, report: Report, out: &MemSink) {
-    assert_in(rt, &trial.line, report == Report::of(trial.message()));
+    assert_in(rt, &trial.line, report.message == trial.message());
     assert_same_in(rt, &trial.line, out.as_slice(), trial.whole);
 }
 
@@ -65,7 +65,7 @@ fn run_until_done(
         sound = sound && untouched && report.status == 3 && out.as_slice().is_empty();
         scarcity.relent();
     }
-    (Report::of(Message::OutOfMemory), MOST, sound)
+    (Report::of(Message::OutOfMemory, 0), MOST, sound)
 }
 
 // The same with pieces of this many bytes.

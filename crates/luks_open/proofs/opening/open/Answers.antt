@@ -1,8 +1,7 @@
 use Rattle.std.proofs.Common.{rules, ◌∙◌, length, sym}
 use Rattle.std.proofs.lemmas.List.Elements.{recursion_from_All}
 use Rattle.luks_open.specs.Opening.{opening_of, work_of}
-use Rattle.luks_open.proofs.CallerLemmas.{All-IsTriable, All-volume_key}
-use Rattle.luks_open.proofs.CallerLemmas.{opened_key_length}
+use Rattle.luks_open.proofs.CallerLemmas.{All-IsTriable, All-volume_key, opened_key_length}
 use Rattle.luks_open.proofs.opening.open.Goals as goal
 
 pub first_opening-requires : goal.first_opening-requires

@@ -1,4 +1,4 @@
-use Rattle.luks_open.specs.Order.{order_of}
+use Rattle.luks_open.specs.Opening.{order_of}
 use Rattle.luks_open.proofs.order.order.Goals as goal
 
 pub returns-in-None : goal.returns-in-None

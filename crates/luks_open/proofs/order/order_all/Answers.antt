@@ -1,7 +1,7 @@
 use Rattle.std.proofs.Common.{rules, arith}
 use Rattle.luks_verdict.specs.Rule.{max_slots}
 use Rattle.luks_verdict.specs.Table.{ascending}
-use Rattle.luks_open.specs.Order.{order_of_all, tried_with}
+use Rattle.luks_open.specs.Opening.{order_of_all, tried_with}
 use Rattle.luks_open.proofs.CallerLemmas.{some_tried}
 use Rattle.luks_open.proofs.order.order_all.Goals as goal
 

@@ -1,6 +1,6 @@
 use Rattle.std.proofs.Common.{◌∙◌, Some, Ok, ap, sym, inr}
 use Rattle.luks_header.specs.SlotVerdicts.{verdict_at}
-use Rattle.luks_open.specs.Order.{order_of_named}
+use Rattle.luks_open.specs.Opening.{order_of_named}
 use Rattle.luks_open.proofs.CallerLemmas.{named_tried}
 use Rattle.luks_open.proofs.order.order_named.Goals as goal
 

@@ -2,7 +2,7 @@ use Rattle.std.proofs.Common.{rules, ◌≡◌, ◌∙◌, ◌++◌, [], List, O
 use Rattle.std.specs.Prelude.{is_some}
 use Rattle.std.specs.List.{cons_option}
 use Rattle.std.proofs.lemmas.List.{append-nil}
-use Rattle.luks_open.specs.Order.{tried_with}
+use Rattle.luks_open.specs.Opening.{tried_with}
 use Rattle.luks_open.specs.declared.entry.Entry.{Entry}
 use Rattle.luks_open.proofs.CallerLemmas.{tried_usable}
 use Rattle.luks_open.proofs.order.push_tried.Goals as goal

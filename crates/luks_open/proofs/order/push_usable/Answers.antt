@@ -3,7 +3,7 @@ use Rattle.std.specs.List.{cons_option}
 use Rattle.std.proofs.lemmas.List.{append-nil}
 use Rattle.luks_verdict.specs.Table.{ascending}
 use Rattle.luks_verdict.proofs.TableLemmas.{ascending_more, ascending_none, some_rising}
-use Rattle.luks_open.specs.Order.{tried_with}
+use Rattle.luks_open.specs.Opening.{tried_with}
 use Rattle.luks_open.specs.declared.entry.Entry.{Entry}
 use Rattle.luks_open.proofs.order.push_usable.Goals as goal
 

@@ -1,6 +1,6 @@
 use Rattle.std.proofs.Common.{◌≡◌, ◌++◌}
 use Rattle.luks_verdict.specs.Table.{ascending}
-use Rattle.luks_open.specs.Order.{tried_with}
+use Rattle.luks_open.specs.Opening.{tried_with}
 use Rattle.luks_open.proofs.order.push_usable.Given as goal
 
 -- the key slots of this priority before this number were appended

@@ -2,7 +2,7 @@ use Rattle.std.proofs.Common.{◌≡◌, ◌∙◌, ◌∷◌, ◌++◌, [], ℕ
 use Rattle.std.specs.Prelude.{option_map}
 use Rattle.luks_verdict.specs.declared.refusal.SkipReason.{SkipReason}
 use Rattle.luks_verdict.proofs.TableLemmas.{length-ascending, ascending_none, ascending_not, ascending_one}
-use Rattle.luks_open.specs.Order.{skipped_at}
+use Rattle.luks_open.specs.Opening.{skipped_at}
 use Rattle.luks_open.proofs.order.skipped.Goals as goal
 use Rattle.luks_open.proofs.order.skipped.Goals.{in-Some, in_default}
 

@@ -1,6 +1,6 @@
 use Rattle.std.proofs.Common.{◌≡◌}
 use Rattle.luks_verdict.specs.Table.{ascending}
-use Rattle.luks_open.specs.Order.{skipped_at}
+use Rattle.luks_open.specs.Opening.{skipped_at}
 use Rattle.luks_open.proofs.order.skipped.Given as goal
 
 -- the skipped ones among the key slots before this number

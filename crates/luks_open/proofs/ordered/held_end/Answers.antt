@@ -1,6 +1,6 @@
 use Rattle.std.proofs.Common.{◌≡◌, drop, ap, arith}
 use Rattle.std.proofs.lemmas.List.{drop_all}
-use Rattle.luks_open.specs.Order.{key_material_end}
+use Rattle.luks_open.specs.Opening.{key_material_end}
 use Rattle.luks_open.proofs.CallerLemmas.{key_material_end-drop, key_material_end-within}
 use Rattle.luks_open.proofs.ordered.held_end.Goals as goal
 

@@ -1,5 +1,5 @@
 use Rattle.std.proofs.Common.{◌≡◌, max, drop}
-use Rattle.luks_open.specs.Order.{key_material_end}
+use Rattle.luks_open.specs.Opening.{key_material_end}
 use Rattle.luks_open.proofs.ordered.held_end.Given as goal
 
 -- the later one of the end so far and that of the remaining key slots is the end of all

@@ -13,6 +13,13 @@ returns-in_err-extend_to-clause-run g c =
       rw c.held_end-end.ensures.value at (c.in_err-extend_to.ensures.consumed rest there),
     ))
 
+pub returns-in_err-extend_to-clause-work : goal.returns-in_err-extend_to-clause-work
+returns-in_err-extend_to-clause-work g c =
+    rw (given_error _ _ c.from_residual.ensures.1) (elim c.in_err-extend_to.ensures.loads.only [
+      | inl read ↦ rw read (inr (refl, refl))
+      | inr memory ↦ rw memory (inr (refl, refl))
+    ])
+
 pub returns-then-not-branch-clause-run : goal.returns-then-not-branch-clause-run
 returns-then-not-branch-clause-run g c rest there nothing =
     let end = c.held_end-end.ensures.value in
@@ -32,6 +39,18 @@ returns-in-Ok-clause-run g c rest there nothing =
       c.new.ensures.segment,
       rw (c.new.ensures.slot, c.new.ensures.key) (sym c.in-Ok.ensures.value),
     )
+
+pub returns-in-Ok-clause-work : goal.returns-in-Ok-clause-work
+returns-in-Ok-clause-work g c = inl (
+  rw c.held_end-end.ensures.value at (c.in_ok-extend_to.ensures.loads.whole.0 c.if-not-branch.false),
+  c.open.ensures.work,
+)
+
+pub returns-in-Err-clause-work : goal.returns-in-Err-clause-work
+returns-in-Err-clause-work g c = inl (
+  rw c.held_end-end.ensures.value at (c.in_ok-extend_to.ensures.loads.whole.0 c.if-not-branch.false),
+  c.open.ensures.work,
+)
 
 pub returns-in-Err-clause-run : goal.returns-in-Err-clause-run
 returns-in-Err-clause-run g c = rw c.of_opening.ensures (λ rest there nothing.

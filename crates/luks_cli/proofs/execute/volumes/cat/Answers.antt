@@ -7,6 +7,7 @@ use Rattle.luks_runs.specs.declared.location.HeaderLocation.TheVariants.{Attache
 use Rattle.luks_unlock.specs.Volume.{slot_outcome}
 use Rattle.luks_cli.proofs.OpenedRuns.{calls_unopened, none_failed, payload_after, reads_without_payload}
 use Rattle.luks_cli.proofs.OpenedRuns.{loaded_from_none, loaded_whole, never_read, runs_forwarded}
+use Rattle.luks_cli.proofs.VolumeRuns.{counts_on}
 use Rattle.luks_cli.proofs.execute.volumes.cat.Goals as goal
 
 pub returns-clause-run : goal.returns-clause-run
@@ -69,3 +70,14 @@ returns-then-has_ended-clause-calls g c =
       reads = rw unread (reads_without_payload Attached c.args.slots _ _ _ _ _ _ _ counts);
       out_writes = c.write_plain.ensures.writes;
     }
+
+pub returns-in_err-unlocked-clause-work : goal.returns-in_err-unlocked-clause-work
+returns-in_err-unlocked-clause-work g c = rw (given_error _ _ c.from_residual.ensures.1) c.in_err-unlocked.ensures.work
+
+pub returns-clause-work : goal.returns-clause-work
+returns-clause-work g c known is pass has =
+    counts_on Attached c.args.slots known pass _ _ _ (c.in_ok-unlocked.ensures.work known is pass has)
+
+pub returns-then-has_ended-clause-work : goal.returns-then-has_ended-clause-work
+returns-then-has_ended-clause-work g c known is pass has =
+    counts_on Attached c.args.slots known pass _ _ _ (c.in_ok-unlocked.ensures.work known is pass has)

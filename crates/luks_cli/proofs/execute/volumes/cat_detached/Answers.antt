@@ -7,8 +7,8 @@ use Rattle.luks_runs.specs.declared.location.HeaderLocation.TheVariants.{Detache
 use Rattle.luks_unlock.specs.Volume.{detached_payload_outcome}
 use Rattle.luks_cli.proofs.OpenedRuns.{detached_calls_without_payload, calls_unopened, none_read}
 use Rattle.luks_cli.proofs.OpenedRuns.{detached_payload_consumes_loaded, detached_runs_forwarded, runs_at, with_key}
-use Rattle.luks_cli.specs.CommandRun.{ReadsOnce}
-use Rattle.luks_cli.specs.Unlocking.{PromptCat}
+use Rattle.luks_cli.specs.CommandRun.{ReadsOnce, PromptCat}
+use Rattle.luks_cli.proofs.VolumeRuns.{counts_on}
 use Rattle.luks_cli.proofs.execute.volumes.cat_detached.Goals as goal
 
 pub returns-in_err-unlocked-clause-run : goal.returns-in_err-unlocked-clause-run
@@ -46,3 +46,10 @@ returns-clause-calls g c =
       payload_reads = (_, (λ file is pass has. inr (_, (unlocked.ok file is pass has).has, refl)), forwarded.reads);
       out_writes = forwarded.writes;
     }
+
+pub returns-in_err-unlocked-clause-work : goal.returns-in_err-unlocked-clause-work
+returns-in_err-unlocked-clause-work g c = rw (given_error _ _ c.from_residual.ensures.1) c.in_err-unlocked.ensures.work
+
+pub returns-clause-work : goal.returns-clause-work
+returns-clause-work g c known is pass has =
+    counts_on Detached c.args.slots known pass _ _ _ (c.in_ok-unlocked.ensures.work known is pass has)

@@ -2,9 +2,9 @@ use Rattle.std.proofs.Common.{refl}
 use Rattle.luks_io.proofs.ErrorLemmas.{given_error}
 use Rattle.luks_unlock.specs.Volume.{slot_outcome}
 use Rattle.luks_runs.specs.Run.{AnyPromptness, ConsumedNothing, result_message}
-use Rattle.luks_cli.proofs.OpenedRuns.{calls_unopened}
+use Rattle.luks_cli.proofs.OpenedRuns.{calls_unopened, runs_at, runs_slot, slot_message, slot_consumes_loaded}
 use Rattle.luks_cli.specs.CommandRun.{ReadsOnce}
-use Rattle.luks_cli.proofs.OpenedRuns.{runs_at, runs_slot, slot_message, slot_consumes_loaded}
+use Rattle.luks_cli.proofs.VolumeRuns.{counts_on}
 use Rattle.luks_cli.proofs.execute.volumes.test_passphrase.Goals as goal
 
 pub returns-in_err-unlocked-clause-run : goal.returns-in_err-unlocked-clause-run
@@ -39,3 +39,10 @@ returns-clause-calls g c =
     let not_read = (slot_message c.in_ok-unlocked.unlocked.volume.slot _ _
     (result_message c.write_opened_line.result) c.write_opened_line.ensures.written).1 in
     record { reads = rw not_read c.in_ok-unlocked.ensures.counts; out_writes = c.write_opened_line.ensures.writes }
+
+pub returns-in_err-unlocked-clause-work : goal.returns-in_err-unlocked-clause-work
+returns-in_err-unlocked-clause-work g c = rw (given_error _ _ c.from_residual.ensures.1) c.in_err-unlocked.ensures.work
+
+pub returns-clause-work : goal.returns-clause-work
+returns-clause-work g c known is pass has =
+    counts_on c.args.location c.args.slots known pass _ _ _ (c.in_ok-unlocked.ensures.work known is pass has)

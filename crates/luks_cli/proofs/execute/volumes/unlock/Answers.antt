@@ -2,7 +2,8 @@ use Rattle.std.proofs.Common.{◌∙◌, [], Some, ap, false}
 use Rattle.luks_io.proofs.ErrorLemmas.{given_error}
 use Rattle.luks_unlock.proofs.VolumeLemmas.{nothing_left, reads_within, there_is_volume}
 use Rattle.luks_cli.proofs.OpenedRuns.{reads_before, reads_of_image}
-use Rattle.luks_cli.proofs.VolumeRuns.{runs_without_key, runs_without_volume, unlocks_volume}
+use Rattle.luks_cli.proofs.VolumeRuns.{counts_opening, counts_without_volume, runs_without_key, runs_without_volume}
+use Rattle.luks_cli.proofs.VolumeRuns.{unlocks_volume}
 use Rattle.luks_cli.proofs.execute.volumes.unlock.Goals as goal
 
 pub returns-in_err-volume-clause-err : goal.returns-in_err-volume-clause-err
@@ -10,6 +11,11 @@ returns-in_err-volume-clause-err g c =
     rw (given_error _ _ c.from_residual.ensures.1) (λ known is pass has on_opened takes written.
     runs_without_volume c.args.location _ known pass _ _ _ on_opened takes _ c.in_err-volume.ensures.only
     (c.in_err-volume.ensures.err known is) has)
+
+pub returns-in_err-volume-clause-work : goal.returns-in_err-volume-clause-work
+returns-in_err-volume-clause-work g c =
+    rw (given_error _ _ c.from_residual.ensures.1) (λ known is pass has.
+    counts_without_volume c.args.location c.args.slots known pass _ _ _ (c.in_err-volume.ensures.err known is))
 
 pub returns-in_err-volume-clause-counts : goal.returns-in_err-volume-clause-counts
 returns-in_err-volume-clause-counts g c =
@@ -23,6 +29,16 @@ returns-in_err-opened-clause-err g c =
     runs_without_key c.args.location c.args.slots known pass _ _ _ _ _ _ read.0
     found.slots.segment found.slots.order _ _ read.1 on_opened takes _
     (c.in_err-opened.ensures.run _ read.2.left pass has (nothing_left _ _ _ _ _ known _ found.loaded is read.2.left)))
+
+pub returns-in_err-opened-clause-work : goal.returns-in_err-opened-clause-work
+returns-in_err-opened-clause-work g c =
+    rw (given_error _ _ c.from_residual-in_err-opened.ensures.1) (λ known is pass has.
+    let found = c.in_ok-volume.ensures.found in
+    let read = found.header known is in
+    counts_opening c.args.location c.args.slots known pass _ _ (Some []) _ _ _ read.0
+    found.slots.segment found.slots.order _ _ read.1 _
+    (c.in_err-opened.ensures.run _ read.2.left pass has (nothing_left _ _ _ _ _ known _ found.loaded is read.2.left))
+    _ _ (c.in_err-opened.ensures.work pass has))
 
 pub returns-in_err-opened-clause-unneeded : goal.returns-in_err-opened-clause-unneeded
 returns-in_err-opened-clause-unneeded g c known is none =
@@ -43,6 +59,15 @@ returns-clause-ok g c known is pass has =
     rw c.area_of-area.ensures (unlocks_volume c.args.location c.args.slots known pass
     _ _ (Some []) _ _ _ read.0 found.slots.segment found.slots.order _ _ read.1 _
     (c.in_ok-opened.ensures.run _ read.2.left pass has (nothing_left _ _ _ _ _ known _ found.loaded is read.2.left)))
+
+pub returns-clause-work : goal.returns-clause-work
+returns-clause-work g c known is pass has =
+    let found = c.in_ok-volume.ensures.found in
+    let read = found.header known is in
+    counts_opening c.args.location c.args.slots known pass _ _ (Some []) _ _ _ read.0
+    found.slots.segment found.slots.order _ _ read.1 _
+    (c.in_ok-opened.ensures.run _ read.2.left pass has (nothing_left _ _ _ _ _ known _ found.loaded is read.2.left))
+    _ _ (c.in_ok-opened.ensures.work pass has)
 
 pub returns-clause-unneeded : goal.returns-clause-unneeded
 returns-clause-unneeded g c known is none =

@@ -2,6 +2,7 @@ use Rattle.std.proofs.Common.{◌≡◌, ◌≤◌, ap, arith, false, inl, inr, 
 use Rattle.luks_io.proofs.ErrorLemmas.{given_error}
 use Rattle.luks_runs.specs.KeyFile.{max_key_file_len}
 use Rattle.luks_cli.proofs.OpenedRuns.{within_areas}
+use Rattle.luks_cli.proofs.VolumeRuns.{untried_without_key_file}
 use Rattle.luks_io.proofs.EffectLemmas.{no_reads}
 use Rattle.luks_cli.proofs.execute.volumes.unlock_found.Goals as goal
 
@@ -9,6 +10,11 @@ pub returns-in_err-passphrase-clause-run : goal.returns-in_err-passphrase-clause
 returns-in_err-passphrase-clause-run g c =
     rw (given_error _ _ c.from_residual.ensures.1)
     (λ rest there pass has nothing. inr (_, refl, c.in_err-passphrase.ensures.err pass has, refl, there))
+
+pub returns-in_err-passphrase-clause-work : goal.returns-in_err-passphrase-clause-work
+returns-in_err-passphrase-clause-work g c =
+    rw (given_error _ _ c.from_residual.ensures.1)
+    (λ pass has. inr (untried_without_key_file pass _ _ (c.in_err-passphrase.ensures.err pass has), refl))
 
 pub returns-in_err-passphrase-clause-counts : goal.returns-in_err-passphrase-clause-counts
 returns-in_err-passphrase-clause-counts g c =
