@@ -1,4 +1,5 @@
 use Rattle.std.proofs.Common.{◌∙◌, sym, arith, rules}
+use Rattle.std.proofs.lemmas.Grind.{common_steps}
 use Rattle.luks2_binary.specs.Choice2.{with_valid_primary}
 use Rattle.luks2_binary.proofs.ValidLemmas.{valid_range}
 use Rattle.luks2_binary.proofs.choice.with_valid_primary.Goals as goal
@@ -13,3 +14,7 @@ binary_at-requires-2 c =
 pub returns-then-not-is_valid : goal.returns-then-not-is_valid
 unfolding with_valid_primary
 returns-then-not-is_valid c = search rules
+
+pub returns-then-primary-secondary : goal.returns-then-primary-secondary
+unfolding with_valid_primary
+returns-then-primary-secondary c = grind (arith, common_steps)

@@ -43,6 +43,9 @@ returns-in-Ok-clause-loads g c = record {
   only = search rules;
 }
 
+pub returns-in-Ok-clause-reads : goal.returns-in-Ok-clause-reads
+returns-in-Ok-clause-reads g c = grind (arith, common_steps)
+
 pub returns-in-Err-clause-loads : goal.returns-in-Err-clause-loads
 returns-in-Err-clause-loads g c = record {
   whole = search rules;

@@ -1,4 +1,4 @@
-use Rattle.std.proofs.Common.{◌≡◌, ◌∙◌, ap, arith, length}
+use Rattle.std.proofs.Common.{◌≡◌, ◌∙◌, ap, arith, length, rules}
 use Rattle.luks_kdf.specs.Hash.{digest_len}
 use Rattle.luks_kdf.proofs.Pbkdf2Lemmas.{group_of_digests, group_of_one}
 use Rattle.luks_kdf.proofs.lanes.derive_group.Goals as goal
@@ -19,3 +19,6 @@ returns-else-out-size-clause-key g c = λ pass holds_inner holds_outer is_inner 
     ∙ group_of_digests h pass c.args.salt.now c.args.number c.args.iterations g.E.Lanes.WIDTH (length c.args.out.now)
     c.div_ceil-count.result c.sum_group.new.t (rw is_size at c.div_ceil-count.ensures)
     c.requires.capacity (c.sum_group.ensures pass holds_inner holds_outer is_inner is_outer)
+
+pub returns-else-out-size-clause-work : goal.returns-else-out-size-clause-work
+returns-else-out-size-clause-work g c = search rules
