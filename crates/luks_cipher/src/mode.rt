@@ -3,11 +3,11 @@
 ghost use Rattle.std.specs.Prelude.{◌≡◌};
 ghost use Rattle.luks_cipher.specs.Sector.{is_mode_key_length, mode_name, mode_named};
 
-/// A mode of AES over sectors, and how a sector's number enters it (the kernel's documentation of
-/// dm-crypt).
+/// A mode of AES over sectors, and how a sector's unit number enters it (the kernel's documentation
+/// of dm-crypt).
 #[derive(Clone, Copy, PartialEq, Eq, Debug)]
 pub enum Mode {
-    /// XTS under the sector's number.
+    /// XTS under the sector's unit number.
     XtsPlain64,
     /// XTS under the number's 32 low bits.
     XtsPlain,

@@ -47,7 +47,7 @@ fn iv_key(key: &[u8]) -> AesKey
     AesKey::expanded(&Sha256::digest(key))
 }
 
-// The IV of plain64: the sector's number, little-endian.
+// The IV of plain64: the sector's unit number, little-endian.
 fn number_block(number: u64) -> [u8; 16]
     ensures { result ≡ to_le_bytes w128 number }
 {
@@ -82,9 +82,9 @@ impl SectorCipher {
         SectorCipher { keys }
     }
 
-    /// Encrypts the sector of this number in place, in the cipher's mode: a data unit of XTS (IEEE
-    /// 1619, 5.3.2) or a chain of CBC (NIST SP 800-38A, 6.2). Its length is a multiple of 16 bytes,
-    /// from 16 to 4096.
+    /// Encrypts the sector of this unit number in place, in the cipher's mode: a data unit of XTS
+    /// (IEEE 1619, 5.3.2) or a chain of CBC (NIST SP 800-38A, 6.2). Its length is a multiple of 16
+    /// bytes, from 16 to 4096.
     pub fn encrypt_unit(&self, number: u64, unit: &mut [u8])
         requires whole_blocks { length unit.old % 16 ≡ 0 }
         requires shortest { 16 ≤ length unit.old }
@@ -104,9 +104,9 @@ impl SectorCipher {
         }
     }
 
-    /// Decrypts the sector of this number in place, in the cipher's mode: a data unit of XTS (IEEE
-    /// 1619, 5.4.2) or a chain of CBC (NIST SP 800-38A, 6.2). Its length is a multiple of 16 bytes,
-    /// from 16 to 4096.
+    /// Decrypts the sector of this unit number in place, in the cipher's mode: a data unit of XTS
+    /// (IEEE 1619, 5.4.2) or a chain of CBC (NIST SP 800-38A, 6.2). Its length is a multiple of 16
+    /// bytes, from 16 to 4096.
     pub fn decrypt_unit(&self, number: u64, unit: &mut [u8])
         requires whole_blocks { length unit.old % 16 ≡ 0 }
         requires shortest { 16 ≤ length unit.old }

@@ -195,10 +195,10 @@ RunsAsStated request message image secret written =
 -- the evaluations of HMAC that a run of a command takes, if its inputs know their bytes: a command that opens no volume
 -- takes none
 abbrev pub CountsWork : HeaderLocation → Request → Message → ℕ → Option (List ℕ) → Option (List ℕ) → Type 0
-CountsWork location (test_passphrase o) message work image secret = IfKnown image (λ known. IfKnown secret (λ passphrase.
-    CountsOpening location o.slots known passphrase message 0 work))
-CountsWork location (luks_cat o) message work image secret = IfKnown image (λ known. IfKnown secret (λ passphrase.
-    CountsOpening location o.slots known passphrase message 0 work))
+CountsWork location (test_passphrase o) message work image secret = IfKnown image (λ known.
+    IfKnown secret (λ passphrase. CountsOpening location o.slots known passphrase message 0 work))
+CountsWork location (luks_cat o) message work image secret = IfKnown image (λ known.
+    IfKnown secret (λ passphrase. CountsOpening location o.slots known passphrase message 0 work))
 CountsWork location _ message work image secret = work ≡ 0
 
 -- what `luksCat` writes if the volume is honestly sealed: a run that is not aborted writes the plaintext and succeeds

@@ -62,8 +62,8 @@ impl<'a> Model for Pump<'a> {
         × (p.state ≡ BeforePayload → (p.count ≡ 0) × (p.prefix.now ≡ [])) };
 }
 
-/// Forwards the sector of this number, which starts with the bytes of `prefix`, or reports how the
-/// payload ends before it. The buffer is long enough for the sector.
+/// Forwards the sector after `count` others, which starts with the bytes of `prefix`, or reports
+/// how the payload ends before it. The buffer is long enough for the sector.
 fn next_sector<S: Source, O: Sink>(
     segment: &Segment,
     cipher: &SectorCipher,

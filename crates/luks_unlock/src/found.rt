@@ -59,6 +59,7 @@ fn segment_and_slots(
 }
 
 /// Reads an attached or a detached header, and finds its segment and its key slots to be tried.
+/// `image` is the image with an attached header, or the file of a detached one.
 pub fn find_volume<I: Source>(
     alloc: Global,
     location: HeaderLocation,
