@@ -6,7 +6,7 @@ use Rattle.std.specs.Prelude.{option_and_then, option_map, unwrap_or}
 use Rattle.std.specs.Result.{result_ok}
 use Rattle.luks_cipher.specs.declared.mode.Mode.{Mode}
 use Rattle.luks_verdict.specs.Rule.{evidence_if}
-use Rattle.luks_verdict.specs.SectorSize.{has_whole_sectors}
+use Rattle.luks_verdict.specs.SectorSize.{has_whole_sectors, sector_size_with}
 use Rattle.luks_verdict.specs.Segment.{refused_or, segment_by, segment_from, segment_of_all}
 use Rattle.luks_verdict.specs.Table.{first_match}
 use Rattle.luks_verdict.proofs.TableLemmas.{none_holds}
@@ -14,7 +14,6 @@ use Rattle.luks_verdict.specs.declared.refusal.SegmentFault.{SegmentFault}
 use Rattle.luks_verdict.specs.declared.refusal.SegmentFault.TheVariants.{Requirement, Segments, Member, Kind, Integrity}
 use Rattle.luks_verdict.specs.declared.refusal.SegmentFault.TheVariants.{Encryption, SectorSize, Offset, Size}
 use Rattle.luks_verdict.specs.declared.sector_size.SectorSize.{SectorSize as Sector}
-use Rattle.luks_verdict.specs.declared.sector_size.SectorSize.TheVariants.{B512, B1024, B2048, B4096}
 use Rattle.luks_verdict.specs.declared.segment.Segment.{Segment}
 use Rattle.luks_verdict.specs.declared.segment.SegmentParts.{SegmentParts}
 use Rattle.luks2_metadata.specs.declared.bounds.Bounds.{Bounds}
@@ -77,15 +76,6 @@ size_member segment = if string_is (codes "size") (codes "dynamic") segment then
 -- the unit number of the segment's first sector
 abbrev pub iv_tweak_of : Data → Option ℕ
 iv_tweak_of segment = decimal_member (codes "iv_tweak") segment
-
--- the sector size of this many bytes, if there is one
-abbrev pub sector_size_with : ℕ → Option Sector
-sector_size_with bytes =
-    if bytes == 512 then Some B512
-    else if bytes == 1024 then Some B1024
-    else if bytes == 2048 then Some B2048
-    else if bytes == 4096 then Some B4096
-    else None
 
 unfoldable pub sector_size_of : Data → Option Sector
 sector_size_of segment = option_and_then sector_size_with (integer_member (codes "sector_size") segment)

@@ -1,12 +1,13 @@
 //! Where the payload is, or why it cannot be read.
 
 ghost use Rattle.std.specs.Prelude.{◌≡◌, option_map};
+ghost use Rattle.luks_verdict.specs.SectorSize.{sector_size_with};
 ghost use Rattle.luks_verdict.specs.Table.{first_match};
 ghost use Rattle.luks2_metadata.specs.Segment2.{has_none_of, has_requirement, has_segment_members};
 ghost use Rattle.luks2_metadata.specs.Segment2.{is_empty_array, is_segment, size_is_wrong};
 ghost use Rattle.luks2_metadata.specs.Segment2.{mode2_of};
 ghost use Rattle.luks2_metadata.specs.Segment2.{payload2_start, payload_mode2_of, requires_nothing};
-ghost use Rattle.luks2_metadata.specs.Segment2.{sector_size_of, sector_size_with, segment2_of};
+ghost use Rattle.luks2_metadata.specs.Segment2.{sector_size_of, segment2_of};
 ghost use Rattle.luks2_metadata.specs.Segment2.{segment_faults, segment_parts2_of, size_member};
 ghost use Rattle.luks2_metadata.specs.Segment2.{overlaps_headers2, offset_is_wrong, the_segment};
 ghost use Rattle.serde_json.specs.View.{view as data_of};

@@ -11,16 +11,16 @@ use Rattle.luks_cipher.specs.declared.mode.Mode.{Mode}
 use Rattle.luks_cipher.specs.declared.mode.Mode.TheVariants.{XtsPlain64, XtsPlain, CbcEssivSha256, CbcPlain64}
 use Rattle.luks_verdict.proofs.MadeLemmas.{segment_made}
 use Rattle.luks_verdict.specs.Segment.{segment_from}
-use Rattle.luks_verdict.specs.SectorSize.{HasWholeSectors, has_whole_sectors, bytes_of}
+use Rattle.luks_verdict.specs.SectorSize.{HasWholeSectors, has_whole_sectors, bytes_of, sector_size_with}
 use Rattle.luks_verdict.specs.declared.sector_size.SectorSize.{SectorSize}
 use Rattle.luks_verdict.specs.declared.sector_size.SectorSize.TheVariants.{B512, B1024, B2048, B4096}
 use Rattle.luks_verdict.specs.declared.segment.Segment.{Segment}
 use Rattle.luks_payload.specs.Plain.{sector_len, payload_bytes}
 use Rattle.luks_c.specs.Stored.{decrypt_code, range_code, segment_code, Stores, cipher_in, has_size_of, mode_in}
-use Rattle.luks_c.specs.Stored.{mode_number, sector_size_in, segment_in, size_stored_in}
+use Rattle.luks_c.specs.Stored.{mode_number, segment_in, size_stored_in}
 use Rattle.luks_c.specs.declared.volume.LuksrdVolume.{LuksrdVolume}
 
-pub size_again : (size : SectorSize) → sector_size_in (bytes_of size) ≡ Some size
+pub size_again : (size : SectorSize) → sector_size_with (bytes_of size) ≡ Some size
 size_again B512 = refl
 size_again B1024 = refl
 size_again B2048 = refl
@@ -38,8 +38,8 @@ whole_are None z whole = refl
 whole_are (Some bytes) z whole = ap (λ n. n == 0) (whole bytes refl)
 
 module _ (c : LuksrdVolume) (v : UnlockedVolume) (stored : Stores c v) where
-  pub stored_sector : sector_size_in c.sector_size ≡ Some v.segment.sector_size
-  stored_sector = ap sector_size_in stored.sector_size ∙ size_again v.segment.sector_size
+  pub stored_sector : sector_size_with c.sector_size ≡ Some v.segment.sector_size
+  stored_sector = ap sector_size_with stored.sector_size ∙ size_again v.segment.sector_size
 
   stored_mode : mode_in c.mode ≡ Some v.segment.mode
   stored_mode = ap mode_in stored.mode ∙ mode_again v.segment.mode
@@ -69,7 +69,7 @@ module _ (c : LuksrdVolume) (v : UnlockedVolume) (stored : Stores c v) where
 
   -- the length that is computed from the fields is that of the plaintext
   pub len_for : (z : SectorSize) (size : Option ℕ) (image : List ℕ) (image_len len : ℕ)
-      → Some z ≡ sector_size_in c.sector_size → size ≡ size_stored_in c → length image ≡ image_len
+      → Some z ≡ sector_size_with c.sector_size → size ≡ size_stored_in c → length image ≡ image_len
       → len ≡ payload_bytes size (image_len - c.offset) / bytes_of z * bytes_of z → len ≡ length (plaintext_of v image)
   len_for z size image image_len len sector fixed long is =
       let z_is : z ≡ v.segment.sector_size = same_Some z v.segment.sector_size (sector ∙ stored_sector) in

@@ -8,9 +8,8 @@ use Rattle.luks_cipher.specs.Sector.{Cipher, is_mode_key_length}
 use Rattle.luks_cipher.specs.declared.mode.Mode.{Mode}
 use Rattle.luks_cipher.specs.declared.mode.Mode.TheVariants.{XtsPlain64, XtsPlain, CbcEssivSha256, CbcPlain64}
 use Rattle.luks_verdict.specs.Segment.{segment_from}
-use Rattle.luks_verdict.specs.SectorSize.{bytes_of}
+use Rattle.luks_verdict.specs.SectorSize.{bytes_of, sector_size_with}
 use Rattle.luks_verdict.specs.declared.sector_size.SectorSize.{SectorSize}
-use Rattle.luks_verdict.specs.declared.sector_size.SectorSize.TheVariants.{B512, B1024, B2048, B4096}
 use Rattle.luks_verdict.specs.declared.segment.Segment.{Segment}
 use Rattle.luks_c.specs.declared.volume.LuksrdVolume.{LuksrdVolume}
 use Rattle.luks_report.specs.Texts.{line_of, status_of}
@@ -151,11 +150,6 @@ pub record IsCleared (c : LuksrdVolume) : Type 0 where
 
 -- ---- reading a volume back
 
-abbrev pub sector_size_in : ℕ → Option SectorSize
-sector_size_in n =
-    if n == 512 then Some B512 else if n == 1024 then Some B1024 else if n == 2048 then Some B2048
-    else if n == 4096 then Some B4096 else None
-
 abbrev pub mode_in : ℕ → Option Mode
 mode_in n =
     if n == 1 then Some XtsPlain64 else if n == 2 then Some XtsPlain else if n == 3 then Some CbcEssivSha256
@@ -170,7 +164,7 @@ segment_in c = segment_from record {
   offset = Some c.offset;
   size = Some (size_stored_in c);
   iv_tweak = Some c.iv_tweak;
-  sector_size = sector_size_in c.sector_size;
+  sector_size = sector_size_with c.sector_size;
   mode = mode_in c.mode;
 }
 

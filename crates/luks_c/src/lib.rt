@@ -10,10 +10,10 @@ ghost use Rattle.luks_access.specs.Opens.{cipher_of, plaintext_of};
 ghost use Rattle.luks_unlock.specs.declared.unlocked.UnlockedVolume.{UnlockedVolume};
 ghost use Rattle.luks_access.specs.Sectors.{AreStored, plain_at};
 ghost use Rattle.luks_payload.specs.Plain.{ending_of, sector_len};
-ghost use Rattle.luks_verdict.specs.SectorSize.{bytes_of};
+ghost use Rattle.luks_verdict.specs.SectorSize.{bytes_of, sector_size_with};
 ghost use Rattle.luks_c.specs.Stored.{EndsAs, Opened, Refused, decrypt_code, fault_bytes};
 ghost use Rattle.luks_c.specs.Stored.{is_range};
-ghost use Rattle.luks_c.specs.Stored.{IsCleared, Stores, StoresCode, names_no_slot, sector_size_in};
+ghost use Rattle.luks_c.specs.Stored.{IsCleared, Stores, StoresCode, names_no_slot};
 
 use crate::code::{BAD_OPTIONS, BAD_RANGE, BAD_VOLUME, OK, code_of, sentence};
 use crate::message::LuksrdMessage;
@@ -91,7 +91,7 @@ pub extern "C" fn luksrd_len(volume: &LuksrdVolume, image_len: u64) -> u64
     ensures value { (v : UnlockedVolume) (image : List ℕ) → Stores volume.now v
         → length image ≡ image_len
         → result ≡ length (plaintext_of v image) }
-    ensures unfilled { sector_size_in volume.now.sector_size ≡ None → result ≡ 0 }
+    ensures unfilled { sector_size_with volume.now.sector_size ≡ None → result ≡ 0 }
 {
     match volume::sector_size(volume) {
         Some(sector_size) => {
@@ -112,9 +112,9 @@ pub extern "C" fn luksrd_ending(
     ensures value { (v : UnlockedVolume) (image : List ℕ) → Stores volume.now v
         → length image ≡ image_len
         → EndsAs (ending_of v.segment image) result bytes.new message.new }
-    ensures unfilled { sector_size_in volume.now.sector_size ≡ None
+    ensures unfilled { sector_size_with volume.now.sector_size ≡ None
         → (result ≡ BAD_VOLUME) × (bytes.new ≡ 0) × StoresCode message.new BAD_VOLUME }
-    ensures bad_volume { result ≡ BAD_VOLUME → sector_size_in volume.now.sector_size ≡ None }
+    ensures bad_volume { result ≡ BAD_VOLUME → sector_size_with volume.now.sector_size ≡ None }
 {
     *bytes = 0;
     let Some(sector_size) = volume::sector_size(volume) else {

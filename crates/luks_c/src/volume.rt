@@ -4,7 +4,8 @@ ghost use Rattle.std.specs.Prelude.{◌≡◌, ◌-◌, ◌≤◌, MatchOption, 
 ghost use Rattle.std.specs.Prelude.{replicate, take, true};
 ghost use Rattle.luks_cipher.specs.Sector.{is_mode_key_length};
 ghost use Rattle.luks_c.specs.Stored.{Filled, IsCleared, cipher_in, mode_in, mode_number};
-ghost use Rattle.luks_c.specs.Stored.{sector_size_in, segment_in, size_stored_in};
+ghost use Rattle.luks_verdict.specs.SectorSize.{sector_size_with};
+ghost use Rattle.luks_c.specs.Stored.{segment_in, size_stored_in};
 
 use luks_access::volume::Volume;
 use luks_cipher::{Mode, SectorCipher};
@@ -66,7 +67,7 @@ fn mode_of_number(number: u32) -> Option<Mode>
 
 /// The sector size of a volume that C keeps.
 pub(crate) fn sector_size(volume: &LuksrdVolume) -> Option<SectorSize>
-    ensures { result ≡ sector_size_in volume.now.sector_size }
+    ensures { result ≡ sector_size_with volume.now.sector_size }
 {
     match volume.sector_size {
         512 => Some(SectorSize::B512),

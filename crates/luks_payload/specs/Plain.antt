@@ -1,9 +1,10 @@
 -- The plaintext of a payload, over the whole image as one list of bytes.
-use Rattle.std.specs.Prelude.{ℕ, ◌+◌, ◌-◌, ◌*◌, ◌/◌, ◌%◌, ◌^◌, ◌==◌, min, nat_lt, if◌then◌else◌, List, length, take}
+use Rattle.std.specs.Prelude.{ℕ, ◌+◌, ◌-◌, ◌*◌, ◌/◌, ◌%◌, ◌==◌, min, nat_lt, if◌then◌else◌, List, length, take}
 use Rattle.std.specs.Prelude.{drop, Option, None, Some, Result, Ok, Err}
 use Rattle.luks_cipher.specs.Sector.{Cipher, sector_decrypted}
 use Rattle.luks_cipher.specs.Xts.{joined}
 use Rattle.luks_verdict.specs.SectorSize.{bytes_of}
+pub use Rattle.luks_verdict.specs.Segment.{unit_number}
 use Rattle.luks_verdict.specs.declared.segment.Segment.{Segment}
 use Rattle.luks_payload.specs.declared.fault.VolumeFault.{VolumeFault}
 use Rattle.luks_payload.specs.declared.fault.VolumeFault.TheVariants.{CutBeforePayload, Tail, Short}
@@ -17,10 +18,6 @@ sector_len s = bytes_of s.sector_size
 -- the offset of sector i in the image
 abbrev pub sector_start : Segment → ℕ → ℕ
 sector_start s i = s.offset + i * sector_len s
-
--- the unit number of sector i: unit numbers count in steps of 512 bytes, whatever the sector's length, and wrap at 2^64
-abbrev pub unit_number : Segment → ℕ → ℕ
-unit_number s i = (s.iv_tweak + i * (sector_len s / 512)) % 2 ^ 64
 
 -- the plaintext of a stored unit. No other definition here applies the cipher
 unfoldable pub unit_plain : Cipher → ℕ → List ℕ → List ℕ

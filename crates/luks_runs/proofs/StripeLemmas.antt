@@ -11,7 +11,7 @@ use Rattle.std.proofs.lemmas.Nat.{le-div}
 use Rattle.std.specs.Prelude.{◌&&◌, nat_lt, nat_le}
 use Rattle.luks_kdf.specs.declared.hash.Hash.{Hash}
 use Rattle.luks_kdf.specs.Bytes.{xor}
-use Rattle.luks_kdf.specs.Stripes.{AfSplitterModel, splitter_after, splitter_block, stripe_at, merged}
+use Rattle.luks_kdf.specs.Stripes.{AfSplitterModel, splitter_after, splitter_block, split_stripes, stripe_at, merged}
 use Rattle.luks_kdf.proofs.StripesLemmas.{splitter_block-append, merged_by_number, stripe_at-append}
 use Rattle.luks_io.proofs.EffectLemmas.{adds-more, adds-none, consumed-none, consumed_behind}
 use Rattle.luks_io.specs.Devices.{Appended, ConsumedExactly, ConsumedInto, IfKnown}
@@ -19,7 +19,7 @@ use Rattle.luks_report.specs.declared.message.Message.{Message}
 use Rattle.luks_report.specs.declared.message.Message.TheVariants.{Done, KeyLength, FewRandomBytes, ReadFailed}
 use Rattle.luks_report.specs.declared.message.Message.TheVariants.{WriteFailed, FewStripes}
 use Rattle.luks_runs.specs.Run.{Outcome, no_output, RunMatches, Prints, ConsumedNothing, AnyPromptness}
-use Rattle.luks_runs.specs.Stripe.{split_outcome, split_stripes, merge_outcome, NoKeyRead, ForwardedBytes}
+use Rattle.luks_runs.specs.Stripe.{split_outcome, merge_outcome, NoKeyRead, ForwardedBytes}
 use Rattle.luks_runs.specs.Stripe.{AbortsAtStripe, PromptSplit, AbortsInStripe, AbortsReadingStripes}
 use Rattle.luks_runs.proofs.RunLemmas.{aborted_at, aborted_unwritten, runs_printed}
 

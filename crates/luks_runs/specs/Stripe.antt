@@ -1,8 +1,7 @@
 -- The outcomes of the commands on stripes, and the effects of their parts on their devices.
-use Rattle.std.specs.Prelude.{ℕ, ◌≤◌, ◌+◌, ◌-◌, ◌*◌, ◌/◌, ◌&&◌, ◌++◌, List, length, take, min, nat_lt, nat_le}
+use Rattle.std.specs.Prelude.{ℕ, ◌≤◌, ◌+◌, ◌-◌, ◌*◌, ◌/◌, ◌&&◌, List, length, take, min, nat_lt, nat_le}
 use Rattle.std.specs.Prelude.{if◌then◌else◌, ◌≡◌, ◌<◌, ◌⊎◌, not, Bool, true, false, Option}
-use Rattle.luks_kdf.specs.Bytes.{xor}
-use Rattle.luks_kdf.specs.Stripes.{splitter_block, merged}
+use Rattle.luks_kdf.specs.Stripes.{merged, split_stripes}
 use Rattle.luks_kdf.specs.declared.hash.Hash.{Hash}
 use Rattle.luks_report.specs.declared.message.Message.TheVariants.{Done, KeyLength, FewRandomBytes, FewStripes}
 use Rattle.luks_report.specs.declared.message.Message.TheVariants.{ReadFailed, WriteFailed}
@@ -19,10 +18,6 @@ max_key_len = 512
 -- the length is one that a key may have
 abbrev pub IsKeyLen : ℕ → Type 0
 IsKeyLen len = (1 ≤ len) × (len ≤ max_key_len)
-
--- the stripes of a key: the random ones, and the last one, which makes them all merge to the key
-abbrev pub split_stripes : Hash → ℕ → List ℕ → List ℕ → List ℕ
-split_stripes hash count key random = random ++ xor (splitter_block hash (length key) random (count - 1)) key
 
 -- `afSplit`: the key is the whole first input, and the random bytes are the second one
 unfoldable pub split_outcome : Hash → ℕ → List ℕ → List ℕ → Outcome

@@ -2,8 +2,8 @@
 use Rattle.std.specs.Prelude.{ℕ, ◌+◌, ◌-◌, ◌*◌, ◌/◌, ◌%◌, ◌^◌, List, ◌++◌, length, replicate, take, drop}
 use Rattle.std.specs.Int.{div_ceil}
 use Rattle.luks_cipher.specs.Sector.{Cipher, sector_encrypted}
-use Rattle.luks_kdf.specs.Bytes.{joined, xor}
-use Rattle.luks_kdf.specs.Stripes.{splitter_block}
+use Rattle.luks_kdf.specs.Bytes.{joined}
+use Rattle.luks_kdf.specs.Stripes.{split_stripes}
 use Rattle.luks_kdf.specs.declared.hash.Hash.{Hash}
 
 -- bytes padded with zeros to this length
@@ -29,10 +29,9 @@ unfoldable pub sectors_encrypted : Cipher → ℕ → ℕ → ℕ → List ℕ �
 sectors_encrypted cipher first step size bytes =
     joined (encrypted_sector cipher first step size bytes) (length bytes / size)
 
--- the stripes of a key (LUKS1 On-Disk Format 1.2.3, "AF splitting"): the random ones, and one more that makes them
--- merge to the key
+-- the stripes of a key, under a name that stays folded in the proofs about whole images
 unfoldable pub stripes_of : Hash → List ℕ → ℕ → List ℕ → List ℕ
-stripes_of hash key count random = random ++ xor (splitter_block hash (length key) random (count - 1)) key
+stripes_of hash key count random = split_stripes hash count key random
 
 -- bytes padded with zeros to whole sectors of 512 bytes
 unfoldable pub sector_padded : List ℕ → List ℕ

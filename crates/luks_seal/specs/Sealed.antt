@@ -1,7 +1,7 @@
 -- What it means for an image to be an honestly sealed volume of the keys, the passphrases and the plaintext that went
 -- into it, in the terms of both formats (LUKS1 On-Disk Format Specification 1.2.3, sections 2 to 4; LUKS2 On-Disk
 -- Format Specification 1.1, sections 2 to 4). These definitions do not state how an image is made or how it is opened.
-use Rattle.std.specs.Prelude.{◌≡◌, ℕ, ◌+◌, ◌*◌, ◌/◌, ◌%◌, ◌^◌, ◌<◌, ◌≤◌, All, List, length, take, Option, None, Some}
+use Rattle.std.specs.Prelude.{◌≡◌, ℕ, ◌+◌, ◌*◌, ◌/◌, ◌%◌, ◌<◌, ◌≤◌, All, List, length, take, Option, None, Some}
 use Rattle.std.specs.Prelude.{Ok}
 use Rattle.luks_aes.specs.Bytes.{IsBytes}
 use Rattle.luks_cipher.specs.Sector.{Cipher, sector_encrypted}
@@ -12,6 +12,7 @@ use Rattle.luks_kdf.specs.declared.hash.Hash.{Hash}
 use Rattle.luks_area.specs.Fields.{at}
 use Rattle.luks_verdict.specs.Rule.{need_of}
 use Rattle.luks_verdict.specs.SectorSize.{bytes_of}
+use Rattle.luks_verdict.specs.Segment.{unit_number}
 use Rattle.luks_verdict.specs.declared.digest.KeyDigest.{KeyDigest}
 use Rattle.luks_verdict.specs.declared.segment.Segment.{Segment}
 use Rattle.luks_verdict.specs.declared.slot.Slot.{Slot}
@@ -68,10 +69,6 @@ pub record SealsKey (header : Header) (image key : List ℕ) (number : ℕ) (pas
   pub usable : verdict_at header None number ≡ Some (Usable slot)
   pub gives : GivesKey slot.parts passphrase key image
   pub digest_of_key : IsDigestOf slot.digest key
-
--- the unit number of sector i: unit numbers count in steps of 512 bytes, whatever the sector size, and wrap at 2^64
-abbrev pub unit_number : Segment → ℕ → ℕ
-unit_number segment i = (segment.iv_tweak + i * (bytes_of segment.sector_size / 512)) % 2 ^ 64
 
 -- the payload is as long as the plaintext: a fixed size is that length; without one, the image ends at byte `end`
 abbrev pub EndsWith : Option ℕ → List ℕ → ℕ → List ℕ → Type 0

@@ -1,8 +1,8 @@
 -- Segments, made from the parts that were read.
-use Rattle.std.specs.Prelude.{◌≡◌, ◌≢◌, ℕ, true, Option, Some, None, Result, Ok, Err, option_map, refl}
+use Rattle.std.specs.Prelude.{◌≡◌, ◌≢◌, ℕ, ◌+◌, ◌*◌, ◌/◌, ◌%◌, ◌^◌, true, Option, Some, None, Result, Ok, Err, option_map, refl}
 use Rattle.luks_cipher.specs.declared.mode.Mode.{Mode}
 use Rattle.luks_verdict.specs.Rule.{evidence_if}
-use Rattle.luks_verdict.specs.SectorSize.{HasWholeSectors, has_whole_sectors, whole_by_test}
+use Rattle.luks_verdict.specs.SectorSize.{HasWholeSectors, bytes_of, has_whole_sectors, whole_by_test}
 use Rattle.luks_verdict.specs.declared.refusal.SegmentFault.{SegmentFault}
 use Rattle.luks_verdict.specs.declared.sector_size.SectorSize.{SectorSize}
 use Rattle.luks_verdict.specs.declared.segment.Segment.{Segment}
@@ -42,3 +42,7 @@ abbrev pub refused_or : (fault : Option SegmentFault) (segment : Option Segment)
 refused_or (Some fault) segment made = Err fault
 refused_or None (Some segment) made = Ok segment
 refused_or None None made = absurd (made refl refl)
+
+-- the unit number of sector i: unit numbers count in steps of 512 bytes, whatever the sector's length, and wrap at 2^64
+abbrev pub unit_number : Segment → ℕ → ℕ
+unit_number segment i = (segment.iv_tweak + i * (bytes_of segment.sector_size / 512)) % 2 ^ 64
