@@ -97,9 +97,9 @@ bytes_choice false xs ys first second = second
 word_at_bytes : (w : List ℕ) (i : ℕ) → IsBytes w → IsBytes (word_at w i)
 word_at_bytes w i all = word_bytes (λ k. slice_index w (4 * i + k)) (λ k. all.each (4 * i + k))
 
-word_sum_bytes : (a b : List ℕ) → IsBytes a → IsBytes b → IsBytes (word_xor a b)
+word_xor_bytes : (a b : List ℕ) → IsBytes a → IsBytes b → IsBytes (word_xor a b)
 unfolding word_xor
-word_sum_bytes a b first second =
+word_xor_bytes a b first second =
     word_bytes (λ k. slice_index a k ⊕ slice_index b k)
     (λ k. xor_byte (slice_index a k) (slice_index b k) (first.each k) (second.each k))
 
@@ -120,9 +120,9 @@ next_word_bytes : (nk : ℕ) (w : List ℕ) (i : ℕ) → IsBytes w → IsBytes 
 unfolding next_word
 next_word_bytes nk w i all =
     let last = word_at_bytes w (i - 1) all in
-    word_sum_bytes _ _ (word_at_bytes w (i - nk) all)
+    word_xor_bytes _ _ (word_at_bytes w (i - nk) all)
     (bytes_choice (eqb (i % nk) 0) _ _
-    (word_sum_bytes _ _ (sub_word_bytes _ (rot_word_bytes _ last)) (constant_bytes (i / nk)))
+    (word_xor_bytes _ _ (sub_word_bytes _ (rot_word_bytes _ last)) (constant_bytes (i / nk)))
     (bytes_choice _ _ _ (sub_word_bytes _ last) last))
 
 words_bytes : (nk : ℕ) (key : List ℕ) (n : ℕ) → IsBytes key → IsBytes (words_after nk key n)
@@ -215,12 +215,12 @@ inv_mixed_table = column_table (14 ∷ 11 ∷ 13 ∷ 9 ∷ []) INV_MIXED INV_SBO
 -- ---- words
 
 -- the bytes of an XOR
-byte_sum : (a b k : ℕ) → bit_xor a b / 2 ^ k % 2 ^ 8 ≡ bit_xor (a / 2 ^ k % 2 ^ 8) (b / 2 ^ k % 2 ^ 8)
-byte_sum a b k = ap (λ n. n % 2 ^ 8) (xor_shr a b k) ∙ xor_mod (a / 2 ^ k) (b / 2 ^ k) 8
+byte_of_xor : (a b k : ℕ) → bit_xor a b / 2 ^ k % 2 ^ 8 ≡ bit_xor (a / 2 ^ k % 2 ^ 8) (b / 2 ^ k % 2 ^ 8)
+byte_of_xor a b k = ap (λ n. n % 2 ^ 8) (xor_shr a b k) ∙ xor_mod (a / 2 ^ k) (b / 2 ^ k) 8
 
-pub bytes_of_sum : (a b : ℕ) → to_le_bytes w32 (bit_xor a b) ≡ word_xor (to_le_bytes w32 a) (to_le_bytes w32 b)
+pub bytes_of_xor : (a b : ℕ) → to_le_bytes w32 (bit_xor a b) ≡ word_xor (to_le_bytes w32 a) (to_le_bytes w32 b)
 unfolding word_xor
-bytes_of_sum a b = λ i. xor_mod a b 8 i ∷ byte_sum a b 8 i ∷ byte_sum a b 16 i ∷ byte_sum a b 24 i ∷ []
+bytes_of_xor a b = λ i. xor_mod a b 8 i ∷ byte_of_xor a b 8 i ∷ byte_of_xor a b 16 i ∷ byte_of_xor a b 24 i ∷ []
 
 -- the bytes of a word that is rotated left by whole bytes: the first column of the matrix becomes the second, third or
 -- fourth
@@ -284,19 +284,19 @@ from_fourth : (p q r s : ℕ) → ((p ⊕ q) ⊕ r) ⊕ s ≡ ((s ⊕ p) ⊕ q) 
 from_fourth p q r s = same_from_bits _ _ (λ i. simp bit_at_xor (omega arith))
 
 -- the first column times p, and three more entries that are rotated to the next columns
-pub columns_added : (a : List ℕ) (k l m n p q r s : ℕ) {x y z : ℕ} → l < 2 ^ 32 → m < 2 ^ 32 → n < 2 ^ 32
+pub columns_xored : (a : List ℕ) (k l m n p q r s : ℕ) {x y z : ℕ} → l < 2 ^ 32 → m < 2 ^ 32 → n < 2 ^ 32
     → to_le_bytes w32 k ≡ matrix_column a 0 p → to_le_bytes w32 l ≡ matrix_column a 0 q
     → to_le_bytes w32 m ≡ matrix_column a 0 r → to_le_bytes w32 n ≡ matrix_column a 0 s
     → x ≡ rotate_left w32 l 8 → y ≡ rotate_left w32 m 16 → z ≡ rotate_left w32 n 24
     → to_le_bytes w32 (bit_xor (bit_xor (bit_xor k x) y) z) ≡ column_product a (p ∷ q ∷ r ∷ s ∷ [])
 unfolding word_xor
-columns_added a k l m n p q r s {x} {y} {z} l_fits m_fits n_fits first at_l at_m at_n is_x is_y is_z =
+columns_xored a k l m n p q r s {x} {y} {z} l_fits m_fits n_fits first at_l at_m at_n is_x is_y is_z =
     let second = ap (to_le_bytes w32) is_x ∙ column_1 a l q l_fits at_l in
     let third = ap (to_le_bytes w32) is_y ∙ column_2 a m r m_fits at_m in
     let fourth = ap (to_le_bytes w32) is_z ∙ column_3 a n s n_fits at_n in
-    bytes_of_sum (bit_xor (bit_xor k x) y) z
-    ∙ ap (λ w. word_xor w (to_le_bytes w32 z)) (bytes_of_sum (bit_xor k x) y)
-    ∙ ap (λ w. word_xor (word_xor w (to_le_bytes w32 y)) (to_le_bytes w32 z)) (bytes_of_sum k x)
+    bytes_of_xor (bit_xor (bit_xor k x) y) z
+    ∙ ap (λ w. word_xor w (to_le_bytes w32 z)) (bytes_of_xor (bit_xor k x) y)
+    ∙ ap (λ w. word_xor (word_xor w (to_le_bytes w32 y)) (to_le_bytes w32 z)) (bytes_of_xor k x)
     ∙ (λ i. word_xor (word_xor (word_xor (first i) (second i)) (third i)) (fourth i))
     ∙ (λ i. (((slice_index a 0 • p ⊕ slice_index a 1 • q) ⊕ slice_index a 2 • r) ⊕ slice_index a 3 • s)
     ∷ from_second (slice_index a 3 • p) (slice_index a 0 • q) (slice_index a 1 • r) (slice_index a 2 • s) i
@@ -319,9 +319,9 @@ pub key_column : (s w : List ℕ) (round k at p q : ℕ) → at ≡ 4 * (4 * rou
     → to_le_bytes w32 p
     ≡ word_of (λ r. slice_index (to_le_bytes w32 (slice_index s k)) r ⊕ slice_index w (r + 4 * (4 * round + k)))
 unfolding word_xor
-key_column s w round k at p q place read added =
+key_column s w round k at p q place read xored =
     let there = rw place at read in
-    added ∙ ap (word_xor (to_le_bytes w32 (slice_index s k))) there
+    xored ∙ ap (word_xor (to_le_bytes w32 (slice_index s k))) there
 
 -- the bytes of columns are a state
 pub state_from_words : (words : List ℕ) → IsState (bytes_of_words words)

@@ -30,13 +30,13 @@ times_x_xor a b p q =
     let low : n % 256 ≡ b = mod-mul-add a 256 b q in
     rw (high, low) at (times_x_pair n (omega arith))
 
--- the second and the third of four terms can change places
-exchanged : (p q r s : ℕ) → (p ⊕ q) ⊕ (r ⊕ s) ≡ (p ⊕ r) ⊕ (q ⊕ s)
-exchanged p q r s = same_from_bits _ _ (λ i. simp bit_at_xor (omega arith))
+-- the second and the third of four terms can be swapped
+inner_swapped : (p q r s : ℕ) → (p ⊕ q) ⊕ (r ⊕ s) ≡ (p ⊕ r) ⊕ (q ⊕ s)
+inner_swapped p q r s = same_from_bits _ _ (λ i. simp bit_at_xor (omega arith))
 
-choice_sum : (t : Bool) (a b : ℕ) → cond t (a ⊕ b) 0 ≡ cond t a 0 ⊕ cond t b 0
-choice_sum true a b = refl
-choice_sum false a b = refl
+choice_xor : (t : Bool) (a b : ℕ) → cond t (a ⊕ b) 0 ≡ cond t a 0 ⊕ cond t b 0
+choice_xor true a b = refl
+choice_xor false a b = refl
 
 product_of_bits_xor : (n c a b : ℕ) → a < 256 → b < 256
     → product_of_bits n c (a ⊕ b) ≡ product_of_bits n c a ⊕ product_of_bits n c b
@@ -44,9 +44,9 @@ unfolding product_of_bits
 product_of_bits_xor zero c a b p q = refl
 product_of_bits_xor (suc n) c a b p q =
     let rest = product_of_bits_xor n (c / 2) (times_x a) (times_x b) (times_x_byte a p) (times_x_byte b q) in
-    let here = choice_sum (eqb (c % 2) 1) a b in
+    let here = choice_xor (eqb (c % 2) 1) a b in
     rw (here, times_x_xor a b p q, rest)
-    (exchanged (cond (eqb (c % 2) 1) a 0) (cond (eqb (c % 2) 1) b 0) (product_of_bits n (c / 2) (times_x a))
+    (inner_swapped (cond (eqb (c % 2) 1) a 0) (cond (eqb (c % 2) 1) b 0) (product_of_bits n (c / 2) (times_x a))
     (product_of_bits n (c / 2) (times_x b)))
 
 -- the product with the XOR of two bytes is the XOR of both products
@@ -54,9 +54,9 @@ pub product_xor : (c a b : ℕ) → a < 256 → b < 256 → c • (a ⊕ b) ≡ 
 unfolding ◌•◌
 product_xor c a b p q = product_of_bits_xor 8 c a b p q
 
-product_sum4 : (k a b c d : ℕ) → a < 256 → b < 256 → c < 256 → d < 256
+product_xor4 : (k a b c d : ℕ) → a < 256 → b < 256 → c < 256 → d < 256
     → k • (a ⊕ b ⊕ c ⊕ d) ≡ k • a ⊕ k • b ⊕ k • c ⊕ k • d
-product_sum4 k a b c d p q r s =
+product_xor4 k a b c d p q r s =
     let ab = xor_byte a b p q in
     rw (product_xor k (a ⊕ b ⊕ c) d (xor_byte (a ⊕ b) c ab r) s, product_xor k (a ⊕ b) c ab r, product_xor k a b p q)
     refl
@@ -80,7 +80,7 @@ products_of : (m : List ℕ) (k a b c d : ℕ) → a < 256 → b < 256 → c < 2
     → k • row_product m a b c d
     ≡ k • (slice_index m 0 • a) ⊕ k • (slice_index m 1 • b) ⊕ k • (slice_index m 2 • c) ⊕ k • (slice_index m 3 • d)
 products_of m k a b c d p q r s =
-    product_sum4 k _ _ _ _ (product_byte (slice_index m 0) a p) (product_byte (slice_index m 1) b q)
+    product_xor4 k _ _ _ _ (product_byte (slice_index m 0) a p) (product_byte (slice_index m 1) b q)
     (product_byte (slice_index m 2) c r) (product_byte (slice_index m 3) d s)
 
 -- one byte of a column after the matrices of m and k, in the row that is n rows above its own
@@ -166,15 +166,15 @@ products_more a words old word i k before capacity is = record {
 
 -- ---- InvMixColumns of a state XORed with a round key
 
-sums_regrouped : (p q r s k l m n : ℕ) → (p ⊕ k) ⊕ (q ⊕ l) ⊕ (r ⊕ m) ⊕ (s ⊕ n) ≡ (p ⊕ q ⊕ r ⊕ s) ⊕ (k ⊕ l ⊕ m ⊕ n)
-sums_regrouped p q r s k l m n = same_from_bits _ _ (λ i. simp bit_at_xor (omega arith))
+xors_regrouped : (p q r s k l m n : ℕ) → (p ⊕ k) ⊕ (q ⊕ l) ⊕ (r ⊕ m) ⊕ (s ⊕ n) ≡ (p ⊕ q ⊕ r ⊕ s) ⊕ (k ⊕ l ⊕ m ⊕ n)
+xors_regrouped p q r s k l m n = same_from_bits _ _ (λ i. simp bit_at_xor (omega arith))
 
 pub inv_mixed_row_xor : (f g : ℕ → ℕ → ℕ) (r c : ℕ) → ((q : ℕ) → f q c < 256) → ((q : ℕ) → g q c < 256)
     → inv_mixed_row (λ r c. f r c ⊕ g r c) r c ≡ inv_mixed_row f r c ⊕ inv_mixed_row g r c
 inv_mixed_row_xor f g r c p q =
     let one = λ (k : ℕ) (n : ℕ). product_xor k (f n c) (g n c) (p n) (q n) in
     (λ i. one 14 r i ⊕ one 11 ((r + 1) % 4) i ⊕ one 13 ((r + 2) % 4) i ⊕ one 9 ((r + 3) % 4) i)
-    ∙ sums_regrouped (14 • f r c) (11 • f ((r + 1) % 4) c) (13 • f ((r + 2) % 4) c) (9 • f ((r + 3) % 4) c)
+    ∙ xors_regrouped (14 • f r c) (11 • f ((r + 1) % 4) c) (13 • f ((r + 2) % 4) c) (9 • f ((r + 3) % 4) c)
     (14 • g r c) (11 • g ((r + 1) % 4) c) (13 • g ((r + 2) % 4) c) (9 • g ((r + 3) % 4) c)
 
 -- row r of word i after InvMixColumns

@@ -194,9 +194,9 @@ module _ (block w : List ℕ) (nr : ℕ) (is : IsState block) (keys : IsBytes w)
   unfolding inv_state_after
   inv_round_undone m =
       let half = inv_half_after m in
-      let added = add_round_key_state half w (nr - suc m) (inv_half_state m).bytes keys in
+      let keyed = add_round_key_state half w (nr - suc m) (inv_half_state m).bytes keys in
       ap (λ s. add_round_key s w (nr - suc m)) (columns_undone (2 ∷ 3 ∷ 1 ∷ 1 ∷ []) (14 ∷ 11 ∷ 13 ∷ 9 ∷ [])
-      (add_round_key half w (nr - suc m)) inverse_of_inv_mix added)
+      (add_round_key half w (nr - suc m)) inverse_of_inv_mix keyed)
       ∙ add_round_key_undone half w (nr - suc m) (inv_half_state m).len
 
   inv_start_undone : add_round_key (inv_state_after block nr w 0) w nr ≡ block

@@ -13,7 +13,7 @@ a ⊕ b = bit_xor a b
 unfoldable pub times_x : ℕ → ℕ
 times_x b = if nat_lt b 128 then 2 * b else (2 * b) ⊕ 0x11b
 
--- the sum of b times x^i over those of the n lowest bits i that are set in a
+-- the XOR of b times x^i, over the set bits i among the n lowest bits of a
 unfoldable pub product_of_bits : ℕ → ℕ → ℕ → ℕ
 product_of_bits zero a b = 0
 product_of_bits (suc n) a b = (if a % 2 == 1 then b else 0) ⊕ product_of_bits n (a / 2) (times_x b)

@@ -51,7 +51,7 @@ impl AesKey {
         len == 16 || len == 24 || len == 32
     }
 
-    /// The key with these bytes, whose number is known to be 16, 24 or 32.
+    /// The key with these 16, 24 or 32 bytes.
     pub fn expanded(key: &[u8]) -> AesKey
         requires { is_aes_key_length (length key.now) ≡ true }
         ensures { result ≡ key.now }

@@ -21,8 +21,8 @@ pub fn cipher(block: [u8; 16], rounds: usize, schedule: &[u8]) -> [u8; 16]
     }
     let last = bytes_of(state);
     let shifted = columns_of(sub_bytes_and_shift_rows(last));
-    let sum = with_round_key(shifted, schedule, rounds);
-    bytes_of(sum)
+    let keyed = with_round_key(shifted, schedule, rounds);
+    bytes_of(keyed)
 }
 
 /// The block whose cipher under the same round keys is `block`. `inv_mixed` has each word of the
@@ -42,6 +42,6 @@ pub fn inv_cipher(block: [u8; 16], rounds: usize, schedule: &[u8], inv_mixed: &[
     }
     let last = bytes_of(state);
     let shifted = columns_of(inv_shift_rows_and_sub_bytes(last));
-    let sum = with_round_key(shifted, schedule, 0);
-    bytes_of(sum)
+    let keyed = with_round_key(shifted, schedule, 0);
+    bytes_of(keyed)
 }

@@ -25,7 +25,7 @@ fn inv_mixed_word(schedule: &[u8; MAX_SCHEDULE_LEN], i: usize) -> [u8; 4]
 
 // Writes word `i`.
 fn write_inv_mixed(schedule: &[u8; MAX_SCHEDULE_LEN], inv_mixed: &mut [u8], i: usize)
-    requires place { 4 * i + 4 ≤ MAX_SCHEDULE_LEN }
+    requires capacity { 4 * i + 4 ≤ MAX_SCHEDULE_LEN }
     requires before { (length inv_mixed.old ≡ MAX_SCHEDULE_LEN)
         × IsMultiplied (14 ∷ 11 ∷ 13 ∷ 9 ∷ []) schedule.now inv_mixed.old i }
     ensures { IsMultiplied (14 ∷ 11 ∷ 13 ∷ 9 ∷ []) schedule.now inv_mixed.new (i + 1) }

@@ -1,4 +1,4 @@
--- InvMixColumns by doublings and XORs, plane by plane.
+-- InvMixColumns by doublings and XORs, one bit plane at a time.
 use Rattle.std.proofs.Common.{◌≡◌, ℕ, zero, suc, ◌+◌, ◌%◌, ◌<◌, List, [], arith, refl, sym, ap, ◌∙◌}
 use Rattle.std.specs.Prelude.{slice_index_or}
 use Rattle.std.specs.Int.{bit_at}
@@ -11,13 +11,13 @@ use Rattle.luks_aes.proofs.Bytes.{same_below, listed_below_8}
 use Rattle.luks_aes.proofs.ColumnLemmas.{times_x_byte, product_byte, xor_byte}
 use Rattle.luks_aes.proofs.MixingLemmas.{inv_mixed, times_x_xor}
 use Rattle.luks_bitslice.specs.BitPlanes.{IsBitPlane}
-use Rattle.luks_bitslice.proofs.GateLemmas.{added_plane}
+use Rattle.luks_bitslice.proofs.GateLemmas.{plane_of_xors}
 use Rattle.luks_aes_batch.specs.States.{RepresentRows}
 use Rattle.luks_aes_batch.specs.RoundKeys.{row_0_of, row_1_of, row_2_of, row_3_of, rows_of}
 use Rattle.luks_aes_batch.specs.Mixing.{column_bytes_xor, even_of, step_of, AreBytes, IsOfPlane}
 use Rattle.luks_aes_batch.specs.Mixing.{HasSharedValues, HasDoubledValues}
 use Rattle.luks_aes_batch.specs.declared.rows.BitslicedState.{BitslicedState}
-use Rattle.luks_aes_batch.specs.declared.mixing.Sums.{Sums}
+use Rattle.luks_aes_batch.specs.declared.mixing.SharedValues.{SharedValues}
 
 -- a byte doubled n times
 abbrev times_x_n : ℕ → ℕ → ℕ
@@ -184,7 +184,7 @@ reduced_bits = (
   same_below (λ b. bit_at (times_x b) 4) (λ b. (bit_at b 3 + bit_at b 7) % 2) 256 refl,
 )
 
--- ---- planes of the doubled bytes: a plane as it is, or XORed with plane 7
+-- ---- bit planes of the doubled bytes: a bit plane unchanged, or XORed with bit plane 7
 
 pub moved : (f : ℕ → ℕ) (j k : ℕ) {v : List ℕ} → IsMoved j k
     → ((q : ℕ) → f q < 256) → IsBitPlane f j v → IsBitPlane (λ q. times_x (f q)) k v
@@ -192,15 +192,15 @@ moved f j k law bytes is = record { len = is.len; at = λ q low. is.at q low ∙
 
 -- ---- the shared values as bytes
 
-pub sum_bytes : (y : ℕ → ℕ → ℕ) → AreBytes y → (q : ℕ) → column_bytes_xor (y 0 q) (y 1 q) (y 2 q) (y 3 q) < 256
-sum_bytes y all q =
+pub xor_bytes : (y : ℕ → ℕ → ℕ) → AreBytes y → (q : ℕ) → column_bytes_xor (y 0 q) (y 1 q) (y 2 q) (y 3 q) < 256
+xor_bytes y all q =
     xor_byte _ (y 3 q)
     (xor_byte _ (y 1 q) (xor_byte (y 0 q) (y 2 q) (all.at 0 q (omega arith)) (all.at 2 q (omega arith)))
     (all.at 1 q (omega arith))) (all.at 3 q (omega arith))
 
 pub even_bytes : (y : ℕ → ℕ → ℕ) → AreBytes y → (q : ℕ) → even_of (y 0 q) (y 1 q) (y 2 q) (y 3 q) < 256
 even_bytes y all q =
-    xor_byte _ _ (times_x_byte _ (sum_bytes y all q))
+    xor_byte _ _ (times_x_byte _ (xor_bytes y all q))
     (xor_byte (y 0 q) (y 2 q) (all.at 0 q (omega arith)) (all.at 2 q (omega arith)))
 
 step_bytes : (y : ℕ → ℕ → ℕ) → AreBytes y → (q : ℕ) → step_of (y 0 q) (y 1 q) (y 2 q) (y 3 q) < 256
@@ -208,25 +208,25 @@ step_bytes y all q =
     xor_byte _ (y 1 q) (xor_byte _ (y 0 q) (times_x_byte _ (even_bytes y all q)) (all.at 0 q (omega arith)))
     (all.at 1 q (omega arith))
 
--- ---- the shared values in one plane as doubled values in another
+-- ---- the shared values in one bit plane as doubled values in another
 
-pub doubled_from : (y : ℕ → ℕ → ℕ) (j k : ℕ) (x : Sums) → IsMoved j k
+pub doubled_from : (y : ℕ → ℕ → ℕ) (j k : ℕ) (x : SharedValues) → IsMoved j k
     → AreBytes y → HasSharedValues y j x → HasDoubledValues y k x
 doubled_from y j k x law all has = record {
-  all = moved _ j k law (sum_bytes y all) has.all;
+  all = moved _ j k law (xor_bytes y all) has.all;
   even = moved _ j k law (even_bytes y all) has.even;
   step = moved _ j k law (step_bytes y all) has.step;
 }
 
 -- the doubled values in plane k are the values in plane j XORed with those in plane 7, if bit k of each doubled byte is
 -- the XOR of the byte's bits j and 7
-pub doubled_with : (y : ℕ → ℕ → ℕ) (j k : ℕ) (x top r : Sums) → IsReduced j k
+pub doubled_with : (y : ℕ → ℕ → ℕ) (j k : ℕ) (x top r : SharedValues) → IsReduced j k
     → AreBytes y → HasSharedValues y j x → HasSharedValues y 7 top → r.all ≡ zip2 bit_xor x.all top.all
     → r.even ≡ zip2 bit_xor x.even top.even → r.step ≡ zip2 bit_xor x.step top.step → HasDoubledValues y k r
 doubled_with y j k x top r law all has last a e s = record {
-  all = added_plane _ k has.all last.all a (λ q. law _ (sum_bytes y all q));
-  even = added_plane _ k has.even last.even e (λ q. law _ (even_bytes y all q));
-  step = added_plane _ k has.step last.step s (λ q. law _ (step_bytes y all q));
+  all = plane_of_xors _ k has.all last.all a (λ q. law _ (xor_bytes y all q));
+  even = plane_of_xors _ k has.even last.even e (λ q. law _ (even_bytes y all q));
+  step = plane_of_xors _ k has.step last.step s (λ q. law _ (step_bytes y all q));
 }
 
 -- ---- rows
@@ -243,7 +243,7 @@ row_byte y z all keys r q low =
     (all.at ((r + 3) % 4) q (omega arith)))
     (keys.at r q low)
 
--- plane j of the rows
+-- bit plane j of the rows
 plane_of : (y : ℕ → ℕ → ℕ) (x : BitslicedState) → RepresentRows y (rows_of x) → (j : ℕ) → j < 8
     → IsOfPlane y j (record {
       row_0 = slice_index_or (row_0_of x) j [];

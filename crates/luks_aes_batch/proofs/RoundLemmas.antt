@@ -26,11 +26,11 @@ use Rattle.std.specs.Simd.Lanes.{chunk}
 use Rattle.std.proofs.lemmas.Simd.{get_or-chunk}
 use Rattle.luks_aes.proofs.Bytes.{same_below, each_below_4}
 use Rattle.luks_bitslice.proofs.LaneLemmas.{of_planes, byte_in_block}
-use Rattle.luks_bitslice.proofs.GateLemmas.{shows_same}
+use Rattle.luks_bitslice.proofs.GateLemmas.{bits_also}
 
 -- ---- rows
 
--- planes and rows that represent some bytes also represent equal ones
+-- bit planes and rows that represent some bytes also represent equal ones
 pub plane_also : (y z : ℕ → ℕ) (j : ℕ) (v : List ℕ) → IsBitPlane y j v → ((q : ℕ) → q < 128 → y q ≡ z q)
     → IsBitPlane z j v
 plane_also y z j v is same = record { len = is.len; at = λ q low. is.at q low ∙ ap (λ b. bit_at b j) (same q low) }
@@ -59,7 +59,7 @@ represents_if_equal {y} same is = subst (λ (x : List (List ℕ)). Represents y 
 pub all_as : {y : ℕ → ℕ → ℕ} {a b : List (List (List ℕ))} → a ≡ b → RepresentRows y b → RepresentRows y a
 all_as {y} same is = subst (λ (x : List (List (List ℕ))). RepresentRows y x) (sym same) is
 
--- the eight planes of a row, listed one by one, represent the bytes that the row represents
+-- the eight bit planes of a row, listed one by one, represent the bytes that the row represents
 pub represented_by_planes : {y : ℕ → ℕ} {x : List (List ℕ)} → Represents y x
     → Represents y (slice_index_or x 0 [] ∷ slice_index_or x 1 [] ∷ slice_index_or x 2 [] ∷ slice_index_or x 3 []
     ∷ slice_index_or x 4 [] ∷ slice_index_or x 5 [] ∷ slice_index_or x 6 [] ∷ slice_index_or x 7 [] ∷ [])
@@ -147,8 +147,8 @@ packed_row s r q low inside =
     ∙ sym (in_block s (block_index q) (r + 4 * column_index q) small)
     ∙ sym (xor_zero_r (slice_index (block_in s (block_index q)) (r + 4 * column_index q)))
 
-pub laid_byte : (s : List ℕ) (r q : ℕ) → ((k : ℕ) → slice_index s k < 256) → state_byte (block_in s) 0 r q < 256
-laid_byte s r q low =
+pub packed_byte : (s : List ℕ) (r q : ℕ) → ((k : ℕ) → slice_index s k < 256) → state_byte (block_in s) 0 r q < 256
+packed_byte s r q low =
     xor_byte _ 0 ((bytes_take 16 (drop (16 * block_index q) s) (bytes_drop (16 * block_index q) s
     (record { each = low }))).each (r + 4 * column_index q)) (omega arith)
 
@@ -158,7 +158,7 @@ pub of_one : (s : List ℕ) (r : ℕ) (v : List ℕ)
     (p % 4))) k) v
     → HasBits (λ p k. bit_at (slice_index s (r + 4 * column_order (p % 4))) k) v
 of_one s r v is =
-    shows_same (λ p k. bit_at (slice_index s (r + 4 * column_order (p % 4))) k) is
+    bits_also (λ p k. bit_at (slice_index s (r + 4 * column_order (p % 4))) k) is
     (λ p low k small.
     ap (λ l. bit_at (slice_index l (r + 4 * column_order (p % 4))) k)
     (each_below_4 (λ m. slice_index_or (s ∷ s ∷ s ∷ s ∷ []) m [] ≡ s) refl refl refl refl (p / 4) (omega arith)))
@@ -180,14 +180,14 @@ abbrev pub byte_of_rows : List (List ℕ) → List (List ℕ) → List (List ℕ
 byte_of_rows a b c d g m i =
     byte_in_block (slice_index_or a g []) (slice_index_or b g []) (slice_index_or c g []) (slice_index_or d g []) m i
 
-pub placed_bits : (y : ℕ → ℕ → ℕ) (a b c d : List (List ℕ)) (g m i : ℕ)
+pub unpacked_bits : (y : ℕ → ℕ → ℕ) (a b c d : List (List ℕ)) (g m i : ℕ)
     → ((p k : ℕ) → p < 16 → k < 8 → bit_at (slice_index (slice_index_or a g []) p) k ≡ bit_at (y 0 (8 * p + g)) k)
     → ((p k : ℕ) → p < 16 → k < 8 → bit_at (slice_index (slice_index_or b g []) p) k ≡ bit_at (y 1 (8 * p + g)) k)
     → ((p k : ℕ) → p < 16 → k < 8 → bit_at (slice_index (slice_index_or c g []) p) k ≡ bit_at (y 2 (8 * p + g)) k)
     → ((p k : ℕ) → p < 16 → k < 8 → bit_at (slice_index (slice_index_or d g []) p) k ≡ bit_at (y 3 (8 * p + g)) k)
     → (k : ℕ) → m < 4 → i < 16 → k < 8
     → bit_at (byte_of_rows a b c d g m i) k ≡ bit_at (y (i % 4) (8 * (4 * m + column_order (i / 4)) + g)) k
-placed_bits y a b c d g m i first second third fourth k low inside bit =
+unpacked_bits y a b c d g m i first second third fourth k low inside bit =
     let p = 4 * m + column_order (i / 4) in
     let small : p < 16 = omega (arith, ordered_below (i / 4)) in
     each_below_4
@@ -211,9 +211,9 @@ substituted_cell s r c low small =
     cell_of (λ r c. inv_sbox (cell (inv_shift_rows s) r c)) r c low small
     ∙ ap inv_sbox (cell_of (λ r c. cell s r ((c + 4 - r) % 4)) r c low small)
 
-added_cell : (s w : List ℕ) (n r c : ℕ) → r < 4 → c < 4 → cell (add_round_key s w n) r c ≡ cell s r c ⊕ key_byte w n r c
+keyed_cell : (s w : List ℕ) (n r c : ℕ) → r < 4 → c < 4 → cell (add_round_key s w n) r c ≡ cell s r c ⊕ key_byte w n r c
 unfolding add_round_key
-added_cell s w n r c low small = cell_of (λ r c. cell s r c ⊕ key_byte w n r c) r c low small
+keyed_cell s w n r c low small = cell_of (λ r c. cell s r c ⊕ key_byte w n r c) r c low small
 
 -- a cell of a state after AddRoundKey and InvMixColumns
 inv_mixed_cell : (s w : List ℕ) (n r c : ℕ) → IsBytes s → IsBytes w → r < 4 → c < 4
@@ -222,7 +222,7 @@ inv_mixed_cell : (s w : List ℕ) (n r c : ℕ) → IsBytes s → IsBytes w → 
 unfolding multiplied_columns
 inv_mixed_cell s w n r c all keys low small =
     let t = add_round_key s w n in
-    let at = λ (k : ℕ) (inside : k < 4). added_cell s w n k c inside small in
+    let at = λ (k : ℕ) (inside : k < 4). keyed_cell s w n k c inside small in
     cell_of (inv_mixed_row (cell t)) r c low small
     ∙ (λ i. inv_mixed (at r low i) (at ((r + 1) % 4) (omega arith) i) (at ((r + 2) % 4) (omega arith) i)
     (at ((r + 3) % 4) (omega arith) i))
@@ -279,7 +279,7 @@ rows_keyed t w n k rows small all keys is = record {
       xor_byte _ k (state.bytes.each (r + 4 * column_index q)) small)
       (λ r q low inside.
       sym (xor_assoc _ _ k)
-      ∙ ap (λ x. x ⊕ k) (sym (added_cell (t (block_index q)) w n r (column_index q) low (ordered_below (q / 8 % 4)))));
+      ∙ ap (λ x. x ⊕ k) (sym (keyed_cell (t (block_index q)) w n r (column_index q) low (ordered_below (q / 8 % 4)))));
 }
 
 -- rows that represent states with 0 XORed into each byte represent the cells of those states
@@ -301,12 +301,12 @@ rotated_same s t rows same hold = subst (λ (f : ℕ → List ℕ). RepresentRot
 -- ---- round keys
 
 -- the rows of a block with k XORed into each of its bytes
-pub block_represented : (block sum : List ℕ) (k : ℕ) (f : ℕ → ℕ → ℕ) (rows kept : List (List (List ℕ)))
-    → sum ≡ state_of (λ r c. cell block r c ⊕ k) → ((r c : ℕ) → r < 4 → c < 4 → cell block r c ≡ f r c)
-    → RepresentRows (λ r q. cell sum r (column_index q)) rows → kept ≡ rows
+pub block_represented : (block xored : List ℕ) (k : ℕ) (f : ℕ → ℕ → ℕ) (rows kept : List (List (List ℕ)))
+    → xored ≡ state_of (λ r c. cell block r c ⊕ k) → ((r c : ℕ) → r < 4 → c < 4 → cell block r c ≡ f r c)
+    → RepresentRows (λ r q. cell xored r (column_index q)) rows → kept ≡ rows
     → RepresentRows (λ r q. f r (column_index q) ⊕ k) kept
-block_represented block sum k f rows kept is same represented kept_rows =
-    let at : (r q : ℕ) → r < 4 → cell sum r (column_index q) ≡ f r (column_index q) ⊕ k = λ r q low.
+block_represented block xored k f rows kept is same represented kept_rows =
+    let at : (r q : ℕ) → r < 4 → cell xored r (column_index q) ≡ f r (column_index q) ⊕ k = λ r q low.
     let small = ordered_below (q / 8 % 4) in
     ap (λ s. cell s r (column_index q)) is
     ∙ cell_of (λ r c. cell block r c ⊕ k) r (column_index q) low small

@@ -1,12 +1,12 @@
--- InvMixColumns (FIPS 197, 5.3.3) by doublings and XORs, plane by plane. Sums and products are those of the field, so
--- `+` is XOR. The four rows of the result for a column a, b, c, d share three values: `all` is a + b + c + d, `even` is
--- 2 * all + a + c, and `step` is 2 * even + a + b. Row 0 is 14a + 11b + 13c + 9d, which is 2 * step + all + a.
--- Row 1 is row 0 + step. Row 2 is row 0 + even. Row 3 is row 1 + even + all.
+-- InvMixColumns (FIPS 197, 5.3.3) by doublings and XORs, one bit plane at a time. Products are those of the field. The
+-- four rows of the result for a column a, b, c, d share three values: `all` is a ⊕ b ⊕ c ⊕ d, `even` is
+-- 2 • all ⊕ a ⊕ c, and `step` is 2 • even ⊕ a ⊕ b. Row 0 is 14 • a ⊕ 11 • b ⊕ 13 • c ⊕ 9 • d, which is
+-- 2 • step ⊕ all ⊕ a. Row 1 is row 0 ⊕ step. Row 2 is row 0 ⊕ even. Row 3 is row 1 ⊕ even ⊕ all.
 use Rattle.std.specs.Prelude.{ℕ, ◌<◌}
 use Rattle.luks_aes.specs.Field.{◌⊕◌, times_x}
 use Rattle.luks_bitslice.specs.BitPlanes.{IsBitPlane}
 use Rattle.luks_aes_batch.specs.declared.rows.FourPlanes.{FourPlanes}
-use Rattle.luks_aes_batch.specs.declared.mixing.Sums.{Sums}
+use Rattle.luks_aes_batch.specs.declared.mixing.SharedValues.{SharedValues}
 
 -- ---- the values that the rows of a column share
 
@@ -19,7 +19,7 @@ even_of a b c d = times_x (column_bytes_xor a b c d) ⊕ (a ⊕ c)
 abbrev pub step_of : ℕ → ℕ → ℕ → ℕ → ℕ
 step_of a b c d = (times_x (even_of a b c d) ⊕ a) ⊕ b
 
--- ---- planes
+-- ---- bit planes
 
 pub record AreBytes (y : ℕ → ℕ → ℕ) : Type 0 where
   pub at : (r q : ℕ) → r < 4 → y r q < 256
@@ -32,13 +32,13 @@ pub record IsOfPlane (y : ℕ → ℕ → ℕ) (j : ℕ) (x : FourPlanes) : Type
   pub row_3 : IsBitPlane (y 3) j x.row_3
 
 -- `x` holds bit j of the shared values
-pub record HasSharedValues (y : ℕ → ℕ → ℕ) (j : ℕ) (x : Sums) : Type 0 where
+pub record HasSharedValues (y : ℕ → ℕ → ℕ) (j : ℕ) (x : SharedValues) : Type 0 where
   pub all : IsBitPlane (λ q. column_bytes_xor (y 0 q) (y 1 q) (y 2 q) (y 3 q)) j x.all
   pub even : IsBitPlane (λ q. even_of (y 0 q) (y 1 q) (y 2 q) (y 3 q)) j x.even
   pub step : IsBitPlane (λ q. step_of (y 0 q) (y 1 q) (y 2 q) (y 3 q)) j x.step
 
 -- `x` holds bit j of the doubled shared values
-pub record HasDoubledValues (y : ℕ → ℕ → ℕ) (j : ℕ) (x : Sums) : Type 0 where
+pub record HasDoubledValues (y : ℕ → ℕ → ℕ) (j : ℕ) (x : SharedValues) : Type 0 where
   pub all : IsBitPlane (λ q. times_x (column_bytes_xor (y 0 q) (y 1 q) (y 2 q) (y 3 q))) j x.all
   pub even : IsBitPlane (λ q. times_x (even_of (y 0 q) (y 1 q) (y 2 q) (y 3 q))) j x.even
   pub step : IsBitPlane (λ q. times_x (step_of (y 0 q) (y 1 q) (y 2 q) (y 3 q))) j x.step

@@ -7,7 +7,7 @@ use Rattle.luks_bitslice.specs.BitPlanes.{column_index}
 use Rattle.luks_aes_batch.specs.States.{RepresentRows}
 use Rattle.luks_aes_batch.specs.declared.rows.BitslicedState.{BitslicedState}
 
--- the four rows of a bitsliced state, each as the list of its eight planes
+-- the four rows of a bitsliced state, each as the list of its eight bit planes
 unfoldable pub row_0_of : BitslicedState → List (List ℕ)
 row_0_of x =
     x.plane_0.row_0 ∷ x.plane_1.row_0 ∷ x.plane_2.row_0 ∷ x.plane_3.row_0

@@ -19,7 +19,7 @@ use luks_aes::AesKey;
 use std::marker::Model;
 use std::simd::prelude::*;
 
-// The largest number of round keys between the first and the last.
+// The maximum number of round keys between the first and the last.
 const MAX_INNER_KEYS: usize = 13;
 
 // The circuit of the inverse S-box expects bytes with this constant XORed into them.
@@ -54,11 +54,11 @@ impl Model for BatchKey {
 fn block_xor_number(block: [u8; 16], number: u8) -> [u8; 16]
     ensures { result ≡ state_of (λ r c. cell block r c ⊕ number) }
 {
-    let mut sum = [0; 16];
+    let mut xored = [0; 16];
     for i in 0..16 {
-        sum[i] = block[i] ^ number;
+        xored[i] = block[i] ^ number;
     }
-    sum
+    xored
 }
 
 // Round key `n`, with a number XORed into each byte.
@@ -148,7 +148,7 @@ impl BatchKey {
         }
     }
 
-    /// The key with these bytes, whose number is known to be 16, 24 or 32.
+    /// The key with these 16, 24 or 32 bytes.
     pub fn expanded(key: &[u8]) -> BatchKey
         requires { is_aes_key_length (length key.now) ≡ true }
         ensures { result ≡ key.now }

@@ -1,4 +1,4 @@
-//! InvMixColumns, AddRoundKey and InvShiftRows on a bitsliced state, plane by plane.
+//! InvMixColumns, AddRoundKey and InvShiftRows on a bitsliced state, one bit plane at a time.
 
 ghost use Rattle.std.specs.Prelude.{◌≡◌, ◌+◌, ◌%◌, ◌<◌, ℕ};
 ghost use Rattle.luks_aes.specs.Field.{◌⊕◌, ◌•◌, times_x};
@@ -14,21 +14,20 @@ use crate::rows::{BitslicedState, FourPlanes};
 use luks_bitslice::{Columns, plane_rotated, xor};
 use std::simd::prelude::*;
 
-/// One plane of the values that the rows after InvMixColumns share: `all` is the XOR of a column's
-/// four bytes, `even` is the doubled `all` XORed with the bytes of rows 0 and 2, and `step` is the
-/// doubled `even` XORed with the bytes of rows 0 and 1.
+/// One bit plane of the values that the four rows of a column after InvMixColumns share, or of
+/// these values doubled. `specs/Mixing.antt` defines them.
 #[derive(Clone, Copy, Drop)]
-struct Sums {
+struct SharedValues {
     all: u8x16,
     even: u8x16,
     step: u8x16,
 }
 
-impl Sums {
-    // The doubled values in the next plane, if x^8 reduces to that plane (FIPS 197, 4.2): the
-    // values in this plane XORed with those in plane 7.
+impl SharedValues {
+    // The doubled values in the next bit plane, if the reduction of x^8 (FIPS 197, 4.2) has a term
+    // there: the values in this plane XORed with those in plane 7.
     #[inline(always)]
-    fn reduced(&self, top: &Sums) -> Sums
+    fn reduced(&self, top: &SharedValues) -> SharedValues
         ensures to_1 { (y : ℕ → ℕ → ℕ) → AreBytes y → HasSharedValues y 0 self.now
             → HasSharedValues y 7 top.now → HasDoubledValues y 1 result }
         ensures to_3 { (y : ℕ → ℕ → ℕ) → AreBytes y → HasSharedValues y 2 self.now
@@ -36,7 +35,7 @@ impl Sums {
         ensures to_4 { (y : ℕ → ℕ → ℕ) → AreBytes y → HasSharedValues y 3 self.now
             → HasSharedValues y 7 top.now → HasDoubledValues y 4 result }
     {
-        Sums {
+        SharedValues {
             all: xor(self.all, top.all),
             even: xor(self.even, top.even),
             step: xor(self.step, top.step),
@@ -47,7 +46,7 @@ impl Sums {
 impl FourPlanes {
     // The shared values in this plane, from the doubled values in it.
     #[inline(always)]
-    fn sums(&self, all_doubled: u8x16, even_doubled: u8x16) -> Sums
+    fn shared_values(&self, all_doubled: u8x16, even_doubled: u8x16) -> SharedValues
         ensures all { (y : ℕ → ℕ → ℕ) (j : ℕ) → IsOfPlane y j self.now
             → IsBitPlane (λ q. column_bytes_xor (y 0 q) (y 1 q) (y 2 q) (y 3 q)) j result.all }
         ensures even { (y : ℕ → ℕ → ℕ) (j : ℕ) → IsOfPlane y j self.now
@@ -64,44 +63,44 @@ impl FourPlanes {
         let even = xor(all_doubled, ends);
         let with_first = xor(even_doubled, self.row_0);
         let step = xor(with_first, self.row_1);
-        Sums { all, even, step }
+        SharedValues { all, even, step }
     }
 
     // Applies InvMixColumns, AddRoundKey and InvShiftRows to this plane, with the doubled values in
     // it, and returns the shared values in it.
     #[inline(always)]
-    fn inv_mix_columns_batch(&mut self, key: &FourPlanes, doubled: Sums) -> Sums
+    fn inv_mix_columns_batch(&mut self, key: &FourPlanes, doubled: SharedValues) -> SharedValues
         ensures plane { (y z : ℕ → ℕ → ℕ) (j : ℕ) → AreBytes y → IsOfPlane y j self.old
             → IsOfPlane z j key.now → HasDoubledValues y j doubled
             → IsOfPlane (λ r q. inv_mixed_row y r (rotated_index r q) ⊕ z r (rotated_index r q)) j
             self.new }
-        ensures sums { (y : ℕ → ℕ → ℕ) (j : ℕ) → IsOfPlane y j self.old
+        ensures shared { (y : ℕ → ℕ → ℕ) (j : ℕ) → IsOfPlane y j self.old
             → HasDoubledValues y j doubled → HasSharedValues y j result }
     {
-        let sums = self.sums(doubled.all, doubled.even);
-        let with_all = xor(doubled.step, sums.all);
+        let shared = self.shared_values(doubled.all, doubled.even);
+        let with_all = xor(doubled.step, shared.all);
         let first = xor(with_all, self.row_0);
-        let second = xor(first, sums.step);
-        let third = xor(first, sums.even);
-        let with_even = xor(second, sums.even);
-        let fourth = xor(with_even, sums.all);
+        let second = xor(first, shared.step);
+        let third = xor(first, shared.even);
+        let with_even = xor(second, shared.even);
+        let fourth = xor(with_even, shared.all);
         self.row_0 = xor(first, key.row_0);
         self.row_1 = plane_rotated(xor(second, key.row_1), Columns::One);
         self.row_2 = plane_rotated(xor(third, key.row_2), Columns::Two);
         self.row_3 = plane_rotated(xor(fourth, key.row_3), Columns::Three);
-        sums
+        shared
     }
 }
 
 // The shared values in plane 7, which depend on those in planes 5 and 6.
 #[inline(always)]
-fn top_sums(rows: &BitslicedState) -> Sums
+fn top_shared_values(rows: &BitslicedState) -> SharedValues
     ensures { (y : ℕ → ℕ → ℕ) → RepresentRows y (rows_of rows.now) → HasSharedValues y 7 result }
 {
     let unknown = u8x16::splat(0);
-    let below = rows.plane_5.sums(unknown, unknown);
-    let middle = rows.plane_6.sums(below.all, unknown);
-    rows.plane_7.sums(middle.all, middle.even)
+    let below = rows.plane_5.shared_values(unknown, unknown);
+    let middle = rows.plane_6.shared_values(below.all, unknown);
+    rows.plane_7.shared_values(middle.all, middle.even)
 }
 
 /// InvMixColumns (FIPS 197, 5.3.3), AddRoundKey with a round key that is itself after
@@ -113,19 +112,19 @@ pub fn inv_mix_columns_batch(rows: &mut BitslicedState, key: &BitslicedState)
         → RepresentRows (λ r q. inv_mixed_row y r (rotated_index r q) ⊕ z r (rotated_index r q))
         (rows_of rows.new) }
 {
-    let top = top_sums(rows);
-    let sums_0 = rows.plane_0.inv_mix_columns_batch(&key.plane_0, top);
-    let sums_1 = rows
+    let top = top_shared_values(rows);
+    let shared_0 = rows.plane_0.inv_mix_columns_batch(&key.plane_0, top);
+    let shared_1 = rows
         .plane_1
-        .inv_mix_columns_batch(&key.plane_1, sums_0.reduced(&top));
-    let sums_2 = rows.plane_2.inv_mix_columns_batch(&key.plane_2, sums_1);
-    let sums_3 = rows
+        .inv_mix_columns_batch(&key.plane_1, shared_0.reduced(&top));
+    let shared_2 = rows.plane_2.inv_mix_columns_batch(&key.plane_2, shared_1);
+    let shared_3 = rows
         .plane_3
-        .inv_mix_columns_batch(&key.plane_3, sums_2.reduced(&top));
-    let sums_4 = rows
+        .inv_mix_columns_batch(&key.plane_3, shared_2.reduced(&top));
+    let shared_4 = rows
         .plane_4
-        .inv_mix_columns_batch(&key.plane_4, sums_3.reduced(&top));
-    let sums_5 = rows.plane_5.inv_mix_columns_batch(&key.plane_5, sums_4);
-    let sums_6 = rows.plane_6.inv_mix_columns_batch(&key.plane_6, sums_5);
-    rows.plane_7.inv_mix_columns_batch(&key.plane_7, sums_6);
+        .inv_mix_columns_batch(&key.plane_4, shared_3.reduced(&top));
+    let shared_5 = rows.plane_5.inv_mix_columns_batch(&key.plane_5, shared_4);
+    let shared_6 = rows.plane_6.inv_mix_columns_batch(&key.plane_6, shared_5);
+    rows.plane_7.inv_mix_columns_batch(&key.plane_7, shared_6);
 }

@@ -32,7 +32,7 @@ pub struct BitslicedState {
     pub plane_7: FourPlanes,
 }
 
-// Plane `j` of a row. (The prover knows the length of an array if it is a parameter.)
+// Bit plane `j` of a row. (The prover knows the length of an array if it is a parameter.)
 #[inline(always)]
 fn plane_in(row: &[u8x16; 8], j: usize) -> u8x16
     requires { j < 8 }
@@ -42,7 +42,7 @@ fn plane_in(row: &[u8x16; 8], j: usize) -> u8x16
     row[j]
 }
 
-// Plane `j` of the rows.
+// Bit plane `j` of the rows.
 #[inline(always)]
 fn plane_at(rows: &[[u8x16; 8]; 4], j: usize) -> FourPlanes
     requires { j < 8 }

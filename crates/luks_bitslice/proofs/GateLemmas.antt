@@ -43,22 +43,22 @@ gate_bit op bit law v w r long also is q low =
 
 -- ---- bit planes
 
--- the XOR of two planes is a plane whose bits are the sums modulo 2
-pub added_plane : (x : ℕ → ℕ) (k : ℕ) {y z : ℕ → ℕ} {i j : ℕ} {v w r : List ℕ} → IsBitPlane y i v → IsBitPlane z j w
+-- the XOR of two bit planes is a bit plane, whose bits are the XORs of theirs
+pub plane_of_xors : (x : ℕ → ℕ) (k : ℕ) {y z : ℕ → ℕ} {i j : ℕ} {v w r : List ℕ} → IsBitPlane y i v → IsBitPlane z j w
     → r ≡ zip2 bit_xor v w → ((q : ℕ) → bit_at (x q) k ≡ (bit_at (y q) i + bit_at (z q) j) % 2) → IsBitPlane x k r
-added_plane x k {y} {z} {i} {j} {v} {w} {r} first second is law = record {
+plane_of_xors x k {y} {z} {i} {j} {v} {w} {r} first second is law = record {
   len = gate_len bit_xor v w r first.len second.len is;
   at = λ q low. gate_bit bit_xor (λ a b. (a + b) % 2) bit_at_xor v w r first.len second.len is q low
       ∙ (λ t. (first.at q low t + second.at q low t) % 2)
       ∙ sym (law q);
 }
 
-pub sum_plane : {y z : ℕ → ℕ} {j : ℕ} {v w r : List ℕ} → IsBitPlane y j v → IsBitPlane z j w → r ≡ zip2 bit_xor v w
+pub xor_plane : {y z : ℕ → ℕ} {j : ℕ} {v w r : List ℕ} → IsBitPlane y j v → IsBitPlane z j w → r ≡ zip2 bit_xor v w
     → IsBitPlane (λ q. y q ⊕ z q) j r
-sum_plane {y} {z} {j} first second is =
-    added_plane (λ q. y q ⊕ z q) j first second is (λ q. bit_at_xor (y q) (z q) j)
+xor_plane {y} {z} {j} first second is =
+    plane_of_xors (λ q. y q ⊕ z q) j first second is (λ q. bit_at_xor (y q) (z q) j)
 
--- for each byte of a rotated plane, the index that it comes from
+-- for each byte of a rotated bit plane, the index that it comes from
 abbrev pub sources : Columns → List ℕ
 sources One = 2 ∷ 0 ∷ 3 ∷ 1 ∷ 6 ∷ 4 ∷ 7 ∷ 5 ∷ 10 ∷ 8 ∷ 11 ∷ 9 ∷ 14 ∷ 12 ∷ 15 ∷ 13 ∷ []
 sources Two = 3 ∷ 2 ∷ 1 ∷ 0 ∷ 7 ∷ 6 ∷ 5 ∷ 4 ∷ 11 ∷ 10 ∷ 9 ∷ 8 ∷ 15 ∷ 14 ∷ 13 ∷ 12 ∷ []
@@ -90,35 +90,35 @@ rotated Three a y j is = computed_plane a (sources Three) y (rotated_index 3) j 
 
 -- ---- truth tables
 
-carried : (op bit : ℕ → ℕ → ℕ) → ((a b k : ℕ) → bit_at (op a b) k ≡ bit (bit_at a k) (bit_at b k))
+gate_table : (op bit : ℕ → ℕ → ℕ) → ((a b k : ℕ) → bit_at (op a b) k ≡ bit (bit_at a k) (bit_at b k))
     → {y : ℕ → ℕ} {v w r : List ℕ} {f g : ℕ} → HasTruthTable y v f → HasTruthTable y w g → r ≡ zip2 op v w
     → HasTruthTable y r (op f g)
-carried op bit law {y} {v} {w} {r} {f} {g} first second is = record {
+gate_table op bit law {y} {v} {w} {r} {f} {g} first second is = record {
   len = gate_len op v w r first.len second.len is;
   at = λ q low. gate_bit op bit law v w r first.len second.len is q low
       ∙ (λ i. bit (first.at q low i) (second.at q low i))
       ∙ sym (law f g (y q));
 }
 
-pub sum_carried : {y : ℕ → ℕ} {v w r : List ℕ} {f g : ℕ} → HasTruthTable y v f → HasTruthTable y w g
+pub xor_table : {y : ℕ → ℕ} {v w r : List ℕ} {f g : ℕ} → HasTruthTable y v f → HasTruthTable y w g
     → r ≡ zip2 bit_xor v w
     → HasTruthTable y r (bit_xor f g)
-sum_carried = carried bit_xor (λ a b. (a + b) % 2) bit_at_xor
+xor_table = gate_table bit_xor (λ a b. (a + b) % 2) bit_at_xor
 
-pub both_carried : {y : ℕ → ℕ} {v w r : List ℕ} {f g : ℕ} → HasTruthTable y v f → HasTruthTable y w g
+pub and_table : {y : ℕ → ℕ} {v w r : List ℕ} {f g : ℕ} → HasTruthTable y v f → HasTruthTable y w g
     → r ≡ zip2 bit_and v w
     → HasTruthTable y r (bit_and f g)
-both_carried = carried bit_and min bit_at_and
+and_table = gate_table bit_and min bit_at_and
 
-pub either_carried : {y : ℕ → ℕ} {v w r : List ℕ} {f g : ℕ} → HasTruthTable y v f → HasTruthTable y w g
+pub or_table : {y : ℕ → ℕ} {v w r : List ℕ} {f g : ℕ} → HasTruthTable y v f → HasTruthTable y w g
     → r ≡ zip2 bit_or v w
     → HasTruthTable y r (bit_or f g)
-either_carried = carried bit_or max bit_at_or
+or_table = gate_table bit_or max bit_at_or
 
-pub other_carried : {y : ℕ → ℕ} {v w r : List ℕ} {f g : ℕ} → HasTruthTable y v f → HasTruthTable y w g → r
+pub andn_table : {y : ℕ → ℕ} {v w r : List ℕ} {f g : ℕ} → HasTruthTable y v f → HasTruthTable y w g → r
     ≡ zip2 bit_xor (zip2 bit_and v w) w
     → HasTruthTable y r (bit_xor (bit_and f g) g)
-other_carried first second is = sum_carried (both_carried first second refl) second is
+andn_table first second is = xor_table (and_table first second refl) second is
 
 -- ---- the truth tables of the bits of bytes
 
@@ -153,15 +153,15 @@ plane_bits =
 abbrev HasPlane : (ℕ → ℕ) → List (List ℕ) → ℕ → Type 0
 HasPlane y x j = HasTruthTable y (slice_index_or x j []) (plane_table j)
 
-plane_carried : (y : ℕ → ℕ) (x : List (List ℕ)) → Represents y x → (j : ℕ) → j < 8 → HasPlane y x j
-plane_carried y x is j below =
+plane_has_table : (y : ℕ → ℕ) (x : List (List ℕ)) → Represents y x → (j : ℕ) → j < 8 → HasPlane y x j
+plane_has_table y x is j below =
     let plane = is.at j below in
     record { len = plane.len; at = λ q low. plane.at q low ∙ sym (plane_bits j (y q) below (is.bytes q)) }
 
-pub planes_carried : (y : ℕ → ℕ) (x : List (List ℕ)) → Represents y x
+pub planes_have_tables : (y : ℕ → ℕ) (x : List (List ℕ)) → Represents y x
     → HasPlane y x 0 × HasPlane y x 1 × HasPlane y x 2 × HasPlane y x 3
     × HasPlane y x 4 × HasPlane y x 5 × HasPlane y x 6 × HasPlane y x 7
-planes_carried y x is = listed_below_8 (λ j. HasPlane y x j) (plane_carried y x is)
+planes_have_tables y x is = listed_below_8 (λ j. HasPlane y x j) (plane_has_table y x is)
 
 -- the tables of the bits of the inverse S-box of a byte with 0x63 XORed into it
 abbrev pub value_table : ℕ → ℕ
@@ -185,9 +185,9 @@ value_bits =
 
 value_plane : (y : ℕ → ℕ) → ((q : ℕ) → y q < 256) → (j : ℕ) → j < 8 → {v : List ℕ} → HasTruthTable y v (value_table j)
     → IsBitPlane (λ q. inv_sbox (y q ⊕ 0x63)) j v
-value_plane y bytes j below carried = record {
-  len = carried.len;
-  at = λ q low. carried.at q low ∙ value_bits j (y q) below (bytes q)
+value_plane y bytes j below is = record {
+  len = is.len;
+  at = λ q low. is.at q low ∙ value_bits j (y q) below (bytes q)
       ∙ ap (λ n. bit_at n j) (inv_sbox_entry (y q ⊕ 0x63) (xor_byte (y q) 0x63 (bytes q) (omega arith)));
 }
 
@@ -217,7 +217,7 @@ computed_at_bits f g all x k p q =
     let low : n % 8 ≡ k = mod-mul-add x 8 k q in
     rw (high, low) at (same_below (λ n. f (n / 8) (n % 8)) (λ n. g (n / 8) (n % 8)) 2048 all n (omega arith))
 
--- if one of two bits is replaced by 0, their sum modulo 2 is the other one
+-- if one of two bits is replaced by 0, their XOR is the other one
 chosen : (t : Bool) (u w : ℕ) → u < 2 → w < 2 → (cond t u 0 + cond t 0 w) % 2 ≡ cond t u w
 chosen true u w p q = omega arith
 chosen false u w p q = omega arith
@@ -295,9 +295,9 @@ above Nibble k small even = omega arith
 
 -- ---- eight vectors
 
-pub shows_same : {f : ℕ → ℕ → ℕ} (g : ℕ → ℕ → ℕ) {v : List ℕ} → HasBits f v
+pub bits_also : {f : ℕ → ℕ → ℕ} (g : ℕ → ℕ → ℕ) {v : List ℕ} → HasBits f v
     → ((p : ℕ) → p < 16 → (k : ℕ) → k < 8 → f p k ≡ g p k) → HasBits g v
-shows_same g is same = record { len = is.len; at = λ p k low small. is.at p k low small ∙ same p low k small }
+bits_also g is same = record { len = is.len; at = λ p k low small. is.at p k low small ∙ same p low k small }
 
 pub equal_below_8 : (f g : ℕ → ℕ) → f 0 ≡ g 0 → f 1 ≡ g 1 → f 2 ≡ g 2 → f 3 ≡ g 3 → f 4 ≡ g 4 → f 5 ≡ g 5 → f 6 ≡ g 6
     → f 7 ≡ g 7 → (k : ℕ) → k < 8 → f k ≡ g k

@@ -32,9 +32,9 @@ of_planes y bytes p0 p1 p2 p3 p4 p5 p6 p7 =
     record { bytes = bytes; at = eight (IsBitPlane y) _ _ _ _ _ _ _ _ p0 p1 p2 p3 p4 p5 p6 p7 }
 
 -- a vector has the bits of its bytes
-pub shown : (v : List ℕ) (f : ℕ → ℕ) → length v ≡ 16 → ((p : ℕ) → p < 16 → slice_index v p ≡ f p)
+pub of_bytes : (v : List ℕ) (f : ℕ → ℕ) → length v ≡ 16 → ((p : ℕ) → p < 16 → slice_index v p ≡ f p)
     → HasBits (λ p k. bit_at (f p) k) v
-shown v f long same = record { len = long; at = λ p k low small. ap (λ b. bit_at b k) (same p low) }
+of_bytes v f long same = record { len = long; at = λ p k low small. ap (λ b. bit_at b k) (same p low) }
 
 -- ---- four blocks and four rows of bytes
 

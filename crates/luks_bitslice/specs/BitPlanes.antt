@@ -7,10 +7,10 @@ use Rattle.std.specs.Int.{bit_at}
 abbrev pub plane_bit : List ℕ → ℕ → ℕ
 plane_bit v q = bit_at (slice_index v (q / 8)) (q % 8)
 
--- ---- the 128 bits of a plane
--- A plane represents one row of the states of 32 blocks, with 4 columns per block. Bits are numbered 8 * byte + bit.
--- The 16 bytes are four groups of four. Byte c of group m belongs to the blocks whose number is m modulo 4, and to the
--- c-th column in the order 0, 1, 3, 2. Bit k of that byte belongs to block 4 * k + m.
+-- ---- the 128 bits of a bit plane
+-- A bit plane represents one row of the states of 32 blocks, with 4 columns per block. Bits are numbered 8 * byte +
+-- bit. The 16 bytes are four groups of four. Byte c of group m belongs to the blocks whose number is m modulo 4, and to
+-- the c-th column in the order 0, 1, 3, 2. Bit k of that byte belongs to block 4 * k + m.
 
 -- the i-th column in that order; the order is its own inverse
 abbrev pub column_order : ℕ → ℕ
@@ -44,7 +44,7 @@ pub record IsBitPlane (y : ℕ → ℕ) (j : ℕ) (v : List ℕ) : Type 0 where
   pub len : length v ≡ 16
   pub at : (q : ℕ) → q < 128 → plane_bit v q ≡ bit_at (y q) j
 
--- the eight planes represent the bytes y q
+-- the eight bit planes represent the bytes y q
 pub record Represents (y : ℕ → ℕ) (planes : List (List ℕ)) : Type 0 where
   pub bytes : (q : ℕ) → y q < 256
   pub at : (j : ℕ) → j < 8 → IsBitPlane y j (slice_index_or planes j [])

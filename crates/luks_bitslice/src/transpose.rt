@@ -1,4 +1,4 @@
-//! The transposition of eight vectors of bytes to the eight planes of their bits, and back.
+//! The transposition of eight vectors of bytes to eight bit planes, and back.
 
 ghost use Rattle.std.specs.Prelude.{◌≡◌, ◌<◌, ℕ, List, [], ◌∷◌, slice_index_or};
 ghost use Rattle.luks_bitslice.specs.BitPlanes.{HasBits, swapped_low, swapped_high};

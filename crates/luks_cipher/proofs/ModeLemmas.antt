@@ -1,4 +1,4 @@
--- The lengths of keys and of decrypted units.
+-- The lengths of keys and of decrypted data units.
 use Rattle.std.proofs.Common.{◌≡◌, ◌∙◌, ℕ, ◌/◌, ◌%◌, ◌≤◌, List, length, refl, arith, true}
 use Rattle.std.proofs.lemmas.Bool.Decides.{nat_tests}
 use Rattle.luks_cipher.specs.Cbc.{cbc_decrypted}
@@ -21,7 +21,7 @@ longest_mode_key mode n is =
     let known = key_length_of_mode mode n is in
     grind (arith, nat_tests)
 
--- a unit of whole blocks keeps its length if each of its blocks is replaced by one of 16 bytes
+-- a data unit of whole blocks keeps its length if each of its blocks is replaced by one of 16 bytes
 pub blocks_length : (f : ℕ → List ℕ) (unit : List ℕ) → ((j : ℕ) → length (f j) ≡ 16) → length unit % 16 ≡ 0
     → length (joined f (length unit / 16)) ≡ length unit
 blocks_length f unit sizes whole = joined_length f (length unit / 16) (λ j low. sizes j) ∙ omega arith

@@ -1,5 +1,5 @@
--- The halves of a key, tweaks and their doubling, and units that are transformed block by block or in batches of 32
--- blocks.
+-- The halves of a key, tweaks and their doubling, and data units that are transformed block by block or in batches of
+-- 32 blocks.
 use Rattle.std.proofs.Common.{◌≡◌, ℕ, zero, suc, ◌+◌, ◌-◌, ◌*◌, ◌/◌, ◌%◌, ◌^◌, ◌<◌, ◌≤◌, List, [], ◌∷◌, ◌++◌, length}
 use Rattle.std.proofs.Common.{take, drop, arith, length-append, append_assoc, refl, sym, ap, subst, ◌∙◌, inl, inr, ltb}
 use Rattle.std.proofs.Common.{true, false}
@@ -21,7 +21,7 @@ use Rattle.luks_aes.proofs.MixingLemmas.{same_cells}
 use Rattle.luks_cipher.specs.Xts.{data_key, tweak_key, doubled_number, doubled, tweak_of, block_at, joined, block_xor}
 use Rattle.luks_cipher.specs.Xts.{block_encrypted, block_decrypted, tweak_after}
 use Rattle.luks_cipher.specs.Cbc.{block_before}
-use Rattle.luks_cipher.proofs.UnitsUndone.{sum_len, joined_at, joined_same}
+use Rattle.luks_cipher.proofs.UnitsUndone.{block_xor_len, joined_at, joined_same}
 
 -- ---- the two halves of a key
 
@@ -43,20 +43,20 @@ module _ (a b key : List ℕ) (same : length a ≡ length b) (whole : a ++ b ≡
 
 -- ---- XORs of blocks
 
-pub piece_sum : (piece iv : List ℕ) → length piece ≡ 16 → length iv ≡ 16
-    → put_chunk 0 piece (zip2 bit_xor (take 16 piece) iv) ≡ block_xor piece iv
+pub piece_xor : (piece vector : List ℕ) → length piece ≡ 16 → length vector ≡ 16
+    → put_chunk 0 piece (zip2 bit_xor (take 16 piece) vector) ≡ block_xor piece vector
 unfolding block_xor
-piece_sum piece iv long same =
+piece_xor piece vector long same =
     let all = take_all 16 piece (omega arith) in
-    let sum = zip2 bit_xor piece iv in
-    let size : length sum ≡ 16 = length-zip2 bit_xor piece iv (long ∙ sym same) ∙ long in
-    ap (λ x. put_chunk 0 piece (zip2 bit_xor x iv)) all
-    ∙ put_chunk_whole piece sum (long ∙ sym size)
-    ∙ whole_state sum size
-    ∙ same_cells (cell sum) (λ r c. cell piece r c ⊕ cell iv r c)
-    (λ r c low small. get_or-zip2 bit_xor piece iv (r + 4 * c) 0 0 0 (omega arith) (omega arith))
+    let xored = zip2 bit_xor piece vector in
+    let size : length xored ≡ 16 = length-zip2 bit_xor piece vector (long ∙ sym same) ∙ long in
+    ap (λ x. put_chunk 0 piece (zip2 bit_xor x vector)) all
+    ∙ put_chunk_whole piece xored (long ∙ sym size)
+    ∙ whole_state xored size
+    ∙ same_cells (cell xored) (λ r c. cell piece r c ⊕ cell vector r c)
+    (λ r c low small. get_or-zip2 bit_xor piece vector (r + 4 * c) 0 0 0 (omega arith) (omega arith))
 
--- ---- units that are transformed block by block
+-- ---- data units that are transformed block by block
 
 -- the first j blocks are done, and the others are unchanged
 pub record IsDoneBefore (f : ℕ → List ℕ) (old new : List ℕ) (j : ℕ) : Type 0 where
@@ -77,7 +77,7 @@ joined_more f a (suc b) =
     rw next (ap (λ x. x ++ f (a + b)) (joined_more f a b) ∙ append_assoc (joined f a) (joined (λ n. f (a + n)) b)
     (f (a + b)))
 
--- a unit with n more blocks done at once
+-- a data unit with n more blocks done at once
 done_many : (f : ℕ → List ℕ) (old new piece : List ℕ) (at k j n : ℕ) → at ≡ 16 * j → k ≡ 16 * n
     → IsDoneBefore f old new j → 16 * j + 16 * n ≤ length new → length piece ≡ 16 * n
     → piece ≡ joined (λ m. f (j + m)) n → IsDoneBefore f old (put_mid at k new piece) (j + n)
@@ -122,10 +122,10 @@ done_next g t old new piece own j before capacity size same is =
     done_more (λ j. g (t j) (block_at old j)) old new piece j before capacity size
     (is ∙ (λ i. g (same i) (block_is old new j before.left i)))
 
--- ---- units whose next block's own value is known
+-- ---- data units whose next block's own value is known
 
--- a unit of bytes whose first j blocks are done by g, from a value t of its own for each and from what it was, and the
--- value for the next block
+-- a data unit of bytes whose first j blocks are done by g, from a value t of its own for each and from what it was, and
+-- the value for the next block
 pub record IsProgress (g : List ℕ → List ℕ → List ℕ) (t : ℕ → List ℕ) (old new own : List ℕ) (j : ℕ) : Type 0 where
   pub bytes : IsBytes old
   pub next : own ≡ t j
@@ -211,8 +211,8 @@ xts_batch key tweak kept old s t new tweaks masked back unmasked =
     → block_at t n ≡ decrypted (data_key key) (block_xor (block_at old n) (tweak_after tweak n)) = λ n low.
     back n low
     ∙ ap (decrypted (data_key key))
-    (ap (λ x. block_at x n) masked ∙ joined_at mask 32 n (λ j below. sum_len (block_at old j) (block_at kept j)) low
-    ∙ ap (block_xor (block_at old n)) (tweaks n low)) in
+    (ap (λ x. block_at x n) masked ∙ joined_at mask 32 n (λ j below. block_xor_len (block_at old j) (block_at kept j))
+    low ∙ ap (block_xor (block_at old n)) (tweaks n low)) in
     unmasked
     ∙ joined_same (λ n. block_xor (block_at t n) (block_at kept n))
     (λ n. block_decrypted key (tweak_after tweak n) (block_at old n)) 32

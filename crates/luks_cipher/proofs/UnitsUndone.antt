@@ -19,21 +19,21 @@ use Rattle.luks_aes_batch.proofs.RoundLemmas.{block_state}
 
 -- ---- one block
 
-pub sum_state : (a b : List ℕ) → IsState a → IsState b → IsState (block_xor a b)
+pub block_xor_state : (a b : List ℕ) → IsState a → IsState b → IsState (block_xor a b)
 unfolding block_xor
-sum_state a b first second =
+block_xor_state a b first second =
     made_state (λ r c. cell a r c ⊕ cell b r c)
     (λ r c. xor_byte (cell a r c) (cell b r c) (first.bytes.each (r + 4 * c)) (second.bytes.each (r + 4 * c)))
 
-pub sum_twice : (a b : List ℕ) → length a ≡ 16 → block_xor (block_xor a b) b ≡ a
+pub block_xor_twice : (a b : List ℕ) → length a ≡ 16 → block_xor (block_xor a b) b ≡ a
 unfolding block_xor
-sum_twice a b len =
+block_xor_twice a b len =
     same_states (λ r c. (cell a r c ⊕ cell b r c) ⊕ cell b r c) (cell a) (λ r c. xor_twice (cell a r c) (cell b r c))
     ∙ sym (whole_state a len)
 
-pub sum_len : (a b : List ℕ) → length (block_xor a b) ≡ 16
+pub block_xor_len : (a b : List ℕ) → length (block_xor a b) ≡ 16
 unfolding block_xor
-sum_len a b = refl
+block_xor_len a b = refl
 
 -- ---- tweaks
 
@@ -87,7 +87,7 @@ joined_same f g zero same = refl
 joined_same f g (suc n) same =
     rw (joined_same f g n (λ j low. same j (omega arith)), same n (omega arith)) refl
 
--- joining the first n units of `size` bytes of a list gives its first `n * size` bytes
+-- joining the first n pieces of `size` bytes of a list gives its first `n * size` bytes
 pub joined_units : (bytes : List ℕ) (size n : ℕ)
     → joined (λ i. take size (drop (i * size) bytes)) n ≡ take (n * size) bytes
 unfolding joined
@@ -96,7 +96,7 @@ joined_units bytes size (suc n) =
     let more : suc n * size ≡ n * size + size = omega arith in
     rw (more, joined_units bytes size n) (sym (take-add (n * size) size bytes))
 
--- if the blocks of a unit become blocks f j, and the blocks of the unit come from these again, so does the unit
+-- if the blocks of a data unit become blocks f j, and come from these again, so does the data unit
 unit_again : (f g : ℕ → List ℕ) (unit : List ℕ) → length unit % 16 ≡ 0
     → ((j : ℕ) → j < length unit / 16 → length (f j) ≡ 16)
     → ((j : ℕ) → j < length unit / 16 → g j ≡ block_at unit j)
@@ -122,10 +122,10 @@ module _ (f g : List ℕ → List ℕ)
   block_undone : (tweak block : List ℕ) → IsState tweak → IsState block
       → under_tweak g tweak (under_tweak f tweak block) ≡ block
   block_undone tweak block mask is =
-      let masked = undoes (block_xor block tweak) (sum_state block tweak is mask) in
-      rw (sum_twice (f (block_xor block tweak)) tweak masked.0, masked.1) (sum_twice block tweak is.len)
+      let masked = undoes (block_xor block tweak) (block_xor_state block tweak is mask) in
+      rw (block_xor_twice (f (block_xor block tweak)) tweak masked.0, masked.1) (block_xor_twice block tweak is.len)
 
-  -- and on a unit, each of whose blocks is under a tweak
+  -- and on a data unit, each of whose blocks is under a tweak
   unit_undone : (tweak : ℕ → List ℕ) (unit : List ℕ) → ((j : ℕ) → IsState (tweak j)) → IsBytes unit
       → length unit % 16 ≡ 0 → joined (λ j. under_tweak g (tweak j)
       (block_at (joined (λ j. under_tweak f (tweak j) (block_at unit j)) (length unit / 16)) j))
@@ -135,7 +135,7 @@ module _ (f g : List ℕ → List ℕ)
       let size : length unit ≡ 16 * n = omega arith in
       let there : ℕ → List ℕ = λ j. under_tweak f (tweak j) (block_at unit j) in
       let sizes : (j : ℕ) → j < n → length (there j) ≡ 16 =
-      λ j low. sum_len (f (block_xor (block_at unit j) (tweak j))) (tweak j) in
+      λ j low. block_xor_len (f (block_xor (block_at unit j) (tweak j))) (tweak j) in
       unit_again there (λ j. under_tweak g (tweak j) (block_at (joined there n) j)) unit whole sizes
       (λ j low.
       ap (under_tweak g (tweak j)) (joined_at there n j sizes low)
@@ -170,7 +170,7 @@ module _ (key : List ℕ) (number : ℕ) (unit : List ℕ) (keys : IsBytes key) 
 
 -- ---- chains
 
--- a key, an IV and a unit of whole blocks, which consist of bytes
+-- a key, an IV and a data unit of whole blocks, which consist of bytes
 module _ (key iv unit : List ℕ) (keys : IsBytes key) (first : IsState iv) (all : IsBytes unit)
     (whole : length unit % 16 ≡ 0) where
   abbrev count : ℕ
@@ -184,7 +184,7 @@ module _ (key iv unit : List ℕ) (keys : IsBytes key) (first : IsState iv) (all
   chained_state zero low = first
   chained_state (suc j) low =
       let before = chained_state j (omega arith) in
-      encrypted_state key _ keys (sum_state (block_at unit j) _ (unit_state j (omega arith)) before)
+      encrypted_state key _ keys (block_xor_state (block_at unit j) _ (unit_state j (omega arith)) before)
 
   chained_len : (j : ℕ) → j < count → length (chained key iv unit (suc j)) ≡ 16
   chained_len j low = (chained_state (suc j) (omega arith)).len
@@ -204,8 +204,8 @@ module _ (key iv unit : List ℕ) (keys : IsBytes key) (first : IsState iv) (all
       let before = chained_state j (omega arith) in
       let block = unit_state j low in
       rw (decrypted-encrypted key (block_xor (block_at unit j) (chained key iv unit j)) keys
-      (sum_state _ _ block before))
-      (sum_twice (block_at unit j) (chained key iv unit j) block.len)
+      (block_xor_state _ _ block before))
+      (block_xor_twice (block_at unit j) (chained key iv unit j) block.len)
 
   -- decryption undoes encryption
   pub cbc_decrypted-cbc_encrypted : cbc_decrypted key iv (cbc_encrypted key iv unit) ≡ unit
@@ -229,12 +229,12 @@ module _ (key iv unit : List ℕ) (keys : IsBytes key) (first : IsState iv) (all
   chained_decrypted (suc j) low =
       let back : ℕ → List ℕ = λ j. block_xor (decrypted key (block_at unit j)) (block_before iv unit j) in
       let here = joined_at back count j
-      (λ k below. sum_len (decrypted key (block_at unit k)) (block_before iv unit k)) (omega arith) in
+      (λ k below. block_xor_len (decrypted key (block_at unit k)) (block_before iv unit k)) (omega arith) in
       let before = chained_decrypted j (omega arith) in
       let block = unit_state j (omega arith) in
       (λ i. encrypted key (block_xor (here i) (before i)))
-      ∙ ap (encrypted key)
-      (sum_twice (decrypted key (block_at unit j)) (block_before iv unit j) (decrypted_state key _ keys block).len)
+      ∙ ap (encrypted key) (block_xor_twice (decrypted key (block_at unit j)) (block_before iv unit j)
+      (decrypted_state key _ keys block).len)
       ∙ encrypted-decrypted key (block_at unit j) keys block
 
   -- encryption undoes decryption
@@ -243,7 +243,7 @@ module _ (key iv unit : List ℕ) (keys : IsBytes key) (first : IsState iv) (all
   cbc_encrypted-cbc_decrypted =
       let back : ℕ → List ℕ = λ j. block_xor (decrypted key (block_at unit j)) (block_before iv unit j) in
       unit_again back (λ j. chained key iv (joined back count) (suc j)) unit whole
-      (λ j low. sum_len (decrypted key (block_at unit j)) (block_before iv unit j))
+      (λ j low. block_xor_len (decrypted key (block_at unit j)) (block_before iv unit j))
       (λ j low. chained_decrypted (suc j) (omega arith))
 
 -- the same chain under an equal key and from an equal IV

@@ -1,5 +1,5 @@
 -- Encryption of sectors under AES, in the modes that dm-crypt's documentation calls by these names. A sector is a data
--- unit of whole blocks with a number.
+-- unit of whole blocks with a unit number.
 use Rattle.std.specs.Prelude.{ℕ, ◌%◌, ◌^◌, Bool, ◌||◌, ◌==◌, if◌then◌else◌, bytes_eq, codes, List, Option, Some, None}
 use Rattle.std.specs.Int.{w128, to_le_bytes}
 use Rattle.sha2.specs.Sha256.{sha256}
@@ -36,7 +36,7 @@ is_mode_key_length CbcPlain64 n = (n == 16) || (n == 32)
 abbrev pub is_key_length : ℕ → Bool
 is_key_length n = n == 16 || n == 32 || n == 64
 
--- the IV of plain64: the sector's number, little-endian, and zeros
+-- the IV of plain64: the sector's unit number, little-endian, and zeros
 abbrev pub plain64_iv : ℕ → List ℕ
 plain64_iv number = to_le_bytes w128 number
 
@@ -48,14 +48,14 @@ essiv_iv key number = encrypted (sha256 key) (to_le_bytes w128 number)
 abbrev pub Cipher : Type 0
 Cipher = Mode × List ℕ
 
--- the sector with this number, encrypted; xts-plain cuts the number to its 32 low bits
+-- the sector with this unit number, encrypted; xts-plain cuts the number to its 32 low bits
 abbrev pub sector_encrypted : Mode → List ℕ → ℕ → List ℕ → List ℕ
 sector_encrypted XtsPlain64 key number sector = xts_encrypted key number sector
 sector_encrypted XtsPlain key number sector = xts_encrypted key (number % 2 ^ 32) sector
 sector_encrypted CbcEssivSha256 key number sector = cbc_encrypted key (essiv_iv key number) sector
 sector_encrypted CbcPlain64 key number sector = cbc_encrypted key (plain64_iv number) sector
 
--- the sector with this number, decrypted
+-- the sector with this unit number, decrypted
 abbrev pub sector_decrypted : Mode → List ℕ → ℕ → List ℕ → List ℕ
 sector_decrypted XtsPlain64 key number sector = xts_decrypted key number sector
 sector_decrypted XtsPlain key number sector = xts_decrypted key (number % 2 ^ 32) sector

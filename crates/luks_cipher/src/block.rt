@@ -10,11 +10,11 @@ use std::simd::prelude::*;
 pub fn block_xor(a: [u8; 16], b: [u8; 16]) -> [u8; 16]
     ensures { result ≡ block_xor a b }
 {
-    let mut sum = [0; 16];
+    let mut xored = [0; 16];
     for i in 0..16 {
-        sum[i] = a[i] ^ b[i];
+        xored[i] = a[i] ^ b[i];
     }
-    sum
+    xored
 }
 
 /// The 16 bytes of the slice as a block.
@@ -34,6 +34,6 @@ pub fn xor_vector(vector: u8x16, piece: &mut [u8])
     requires { length piece.old ≡ 16 }
     ensures { piece.new ≡ block_xor piece.old vector }
 {
-    let sum = u8x16::from_slice(piece) ^ vector;
-    sum.copy_to_slice(piece);
+    let xored = u8x16::from_slice(piece) ^ vector;
+    xored.copy_to_slice(piece);
 }

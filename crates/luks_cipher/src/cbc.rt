@@ -1,4 +1,4 @@
-//! CBC (NIST SP 800-38A, 6.2) over units of whole blocks.
+//! CBC (NIST SP 800-38A, 6.2) over data units of whole blocks.
 
 ghost use Rattle.std.specs.Prelude.{◌≡◌, ◌%◌, List, length, ℕ};
 ghost use Rattle.luks_aes.specs.Aes.{encrypted, decrypted};

@@ -1,8 +1,8 @@
 //! Sectors of disks under AES: XTS, as IEEE 1619 defines it, and the older modes of dm-crypt.
 //!
-//! [`SectorCipher`] encrypts and decrypts a sector of up to 4096 bytes under its number, in one of
-//! the modes that [`Mode`] names; [`XtsKey`] is XTS alone, and [`cbc`] is CBC alone. Nothing here
-//! allocates memory, runs in constant time, or wipes keys.
+//! [`SectorCipher`] encrypts and decrypts a sector of up to 4096 bytes under its unit number, in
+//! one of the modes that [`Mode`] names; [`XtsKey`] is XTS alone, and [`cbc`] is CBC alone. Nothing
+//! here allocates memory, runs in constant time, or wipes keys.
 #![tactic(auto)]
 
 mod block;

@@ -9,11 +9,11 @@ ghost use Rattle.luks_cipher.specs.Sector.{is_mode_key_length, mode_name, mode_n
 pub enum Mode {
     /// XTS under the sector's unit number.
     XtsPlain64,
-    /// XTS under the number's 32 low bits.
+    /// XTS under the unit number's 32 low bits.
     XtsPlain,
-    /// CBC with the number encrypted under the SHA-256 digest of the key as IV.
+    /// CBC whose IV is the unit number, encrypted under the SHA-256 digest of the key.
     CbcEssivSha256,
-    /// CBC with the number as IV.
+    /// CBC whose IV is the unit number.
     CbcPlain64,
 }
 

@@ -68,7 +68,7 @@ impl SectorCipher {
         }
     }
 
-    /// The cipher of this mode and key, whose length is known to be one of the mode.
+    /// The cipher of this mode and key. The mode allows the key's length.
     pub fn expanded(mode: Mode, key: &[u8]) -> SectorCipher
         requires { is_mode_key_length mode (length key.now) ≡ true }
         ensures { result ≡ (mode, key.now) }

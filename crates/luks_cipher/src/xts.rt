@@ -87,7 +87,7 @@ impl XtsKey {
         }
     }
 
-    /// The key with these bytes, whose number is known to be 32 or 64.
+    /// The key with these 32 or 64 bytes.
     pub fn expanded(key: &[u8]) -> XtsKey
         requires { is_xts_key_length (length key.now) ≡ true }
         ensures { result ≡ key.now }

@@ -18,7 +18,7 @@ use luks_sha_lanes::{chains1, chains256};
 use sha1::Sha1;
 use sha2::Sha256;
 
-// The greatest length in bytes of all the digests that are computed side by side.
+// The maximum total length in bytes of the digests that are computed side by side.
 const MAX_GROUP: usize = 80;
 
 /// A hash function that computes several chains of digests side by side.
@@ -28,22 +28,22 @@ pub(crate) trait Lanes: Engine {
 
     ghost WIDTH: { ℕ };
 
-    // Whether `add_chains` is faster than the hasher on a single chain.
+    // Whether `xor_chains` is faster than the hasher on a single chain.
     const LONE: bool;
 
-    /// XORs the next `count` digests of each of the first `used` chains into its bytes in `sums`,
+    /// XORs the next `count` digests of each of the first `used` chains into its bytes in `xors`,
     /// where the chains follow one another. `last` has the last digest of each chain, in the same
     /// order.
-    fn add_chains(inner: &[u8], outer: &[u8], used: usize, count: u32, last: &[u8], sums: &mut [u8])
+    fn xor_chains(inner: &[u8], outer: &[u8], used: usize, count: u32, last: &[u8], xors: &mut [u8])
         requires inner { length inner.now ≡ 64 }
         requires outer { length outer.now ≡ 64 }
         requires used { used ≤ WIDTH }
         requires last { length last.now ≡ WIDTH * digest_len Self.function }
-        requires sums { length sums.old ≡ WIDTH * digest_len Self.function }
-        ensures { (j : ℕ) → j < used → digest_at (digest_len Self.function) j sums.new
+        requires xors { length xors.old ≡ WIDTH * digest_len Self.function }
+        ensures { (j : ℕ) → j < used → digest_at (digest_len Self.function) j xors.new
             ≡ chain_xor (hash_of Self.function) inner.now outer.now
             (digest_at (digest_len Self.function) j last.now)
-            (digest_at (digest_len Self.function) j sums.old) count };
+            (digest_at (digest_len Self.function) j xors.old) count };
 
     ghost known: { ((Self.function ≡ Variants.Sha1) × (WIDTH ≡ 4))
         ⊎ ((Self.function ≡ Variants.Sha256) × (WIDTH ≡ 2)) };
@@ -56,18 +56,18 @@ impl Lanes for Sha1 {
 
     const LONE: bool = true;
 
-    fn add_chains(
+    fn xor_chains(
         inner: &[u8],
         outer: &[u8],
         used: usize,
         count: u32,
         last: &[u8],
-        sums: &mut [u8],
+        xors: &mut [u8],
     ) {
         if used == 1 {
-            chains1::add_chains::<1>(inner, outer, count, &last[..20], &mut sums[..20]);
+            chains1::xor_chains::<1>(inner, outer, count, &last[..20], &mut xors[..20]);
         } else {
-            chains1::add_chains::<4>(inner, outer, count, last, sums);
+            chains1::xor_chains::<4>(inner, outer, count, last, xors);
         }
     }
 
@@ -81,15 +81,15 @@ impl Lanes for Sha256 {
 
     const LONE: bool = false;
 
-    fn add_chains(
+    fn xor_chains(
         inner: &[u8],
         outer: &[u8],
         _used: usize,
         count: u32,
         last: &[u8],
-        sums: &mut [u8],
+        xors: &mut [u8],
     ) {
-        chains256::add_chains(inner, outer, count, last, sums);
+        chains256::xor_chains(inner, outer, count, last, xors);
     }
 
     ghost known = { inr (refl, refl) };
@@ -163,14 +163,14 @@ fn derive_group<E: Lanes>(
         let mut t = [0; MAX_GROUP];
         let t = &mut t[..E::WIDTH * size];
         let count = out.len().div_ceil(size);
-        sum_group(keyed, blocks, salt, number, count, iterations, t);
+        write_group(keyed, blocks, salt, number, count, iterations, t);
         work.raise_by(count as u128 * iterations as u128);
         out.copy_from_slice(&t[..out.len()]);
     }
 }
 
 // Writes `count` of the blocks T, from this number on.
-fn sum_group<E: Lanes>(
+fn write_group<E: Lanes>(
     keyed: &Keyed<E>,
     blocks: &KeyBlocks,
     salt: &[u8],
@@ -194,7 +194,7 @@ fn sum_group<E: Lanes>(
     let u = &mut u[..t.len()];
     first_iterations(keyed, salt, number, count, u);
     t.copy_from_slice(u);
-    E::add_chains(&blocks.inner, &blocks.outer, count, iterations - 1, u, t);
+    E::xor_chains(&blocks.inner, &blocks.outer, count, iterations - 1, u, t);
 }
 
 // Writes the first U of `count` blocks, from this number on.

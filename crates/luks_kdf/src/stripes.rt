@@ -94,8 +94,8 @@ fn diffuse_piece(hash: Hash, number: u32, piece: &mut [u8])
     ensures { piece.new
         ≡ take (length piece.old) (hash_of hash (to_be_bytes w32 number ++ piece.old)) }
 {
-    let mut capacity = [0; MAX_DIGEST];
-    let whole = &mut capacity[..hash.size()];
+    let mut buffer = [0; MAX_DIGEST];
+    let whole = &mut buffer[..hash.size()];
     digest(hash, &number.to_be_bytes(), piece, &[], whole);
     piece.copy_from_slice(&whole[..piece.len()]);
 }

@@ -14,7 +14,7 @@ use Rattle.std.proofs.lemmas.Nat.{be_bytes_4, from_be_bytes-to_be_bytes_4, xor_m
 use Rattle.sha1.specs.Sha1 as Sha1
 use Rattle.sha2.specs.Sha256.{compress, digest_bytes, hash_after, initial_hash_256, padded_message, padding, sha256}
 use Rattle.sha2.specs.Sha256.{word_at}
-use Rattle.luks_sha_lanes.specs.Chains.{chain, chain_xor, digest_at, hmac_by, iterations, sums, xor_words}
+use Rattle.luks_sha_lanes.specs.Chains.{chain, chain_xor, digest_at, hmac_by, iterations, iterations_xor, xor_words}
 use Rattle.luks_sha_lanes.specs.Lanes.{AllTwice, IsTwice, after_digest, lane, word}
 use Rattle.luks_sha_lanes.proofs.LaneLemmas.{all_twice, below_sixteen, below_two, word_of_lane, word_splat, words_fit}
 
@@ -63,8 +63,8 @@ pub xor_of_words : (n : ℕ) (a b : List ℕ)
     → zip2 bit_xor (digest_bytes a n) (digest_bytes b n) ≡ digest_bytes (xor_words n a b) n
 unfolding xor_words
 xor_of_words n a b =
-    let sum = λ (k : ℕ). bit_xor (slice_index a k) (slice_index b k) in
-    xor_digests a b (xor_words n a b) n (λ k below. get_or-map-range_with_len sum 0 n k k 0 below (omega arith))
+    let xored = λ (k : ℕ). bit_xor (slice_index a k) (slice_index b k) in
+    xor_digests a b (xor_words n a b) n (λ k below. get_or-map-range_with_len xored 0 n k k 0 below (omega arith))
 
 -- ---- words that are read from bytes
 
@@ -175,18 +175,18 @@ module _ (hash after : List ℕ → List ℕ) (step : List ℕ → List ℕ → 
   chain_iterations w zero = refl
   chain_iterations w (suc n) = ap (hmac_by hash inner outer) (chain_iterations w n) ∙ hmac_iteration _
 
-  sums_iterations : (w t : List ℕ) (n : ℕ) → chain_xor hash inner outer (digest_bytes w m) (digest_bytes t m) n
-      ≡ digest_bytes (sums m step (after inner) (after outer) w t n) m
-  unfolding chain_xor sums
-  sums_iterations w t zero = refl
-  sums_iterations w t (suc n) =
-      ap₂ (zip2 bit_xor) (sums_iterations w t n) (chain_iterations w (suc n)) ∙ xor_of_words m _ _
+  chain_xor_iterations : (w t : List ℕ) (n : ℕ) → chain_xor hash inner outer (digest_bytes w m) (digest_bytes t m) n
+      ≡ digest_bytes (iterations_xor m step (after inner) (after outer) w t n) m
+  unfolding chain_xor iterations_xor
+  chain_xor_iterations w t zero = refl
+  chain_xor_iterations w t (suc n) =
+      ap₂ (zip2 bit_xor) (chain_xor_iterations w t n) (chain_iterations w (suc n)) ∙ xor_of_words m _ _
 
   -- the words in a lane after n iterations have the bytes of `chain_xor`
-  pub sum_of_lane : (u t i o w s r : List ℕ) (n : ℕ) → i ≡ after inner → o ≡ after outer → digest_bytes w m ≡ u
-      → digest_bytes s m ≡ t → r ≡ sums m step i o w s n → digest_bytes r m ≡ chain_xor hash inner outer u t n
-  sum_of_lane u t i o w s r n is_i is_o is_u is_t is_r =
-      rw (is_r, is_i, is_o, ← is_u, ← is_t) (sym (sums_iterations w s n))
+  pub chain_xor_of_lane : (u t i o w s r : List ℕ) (n : ℕ) → i ≡ after inner → o ≡ after outer → digest_bytes w m ≡ u
+      → digest_bytes s m ≡ t → r ≡ iterations_xor m step i o w s n → digest_bytes r m ≡ chain_xor hash inner outer u t n
+  chain_xor_of_lane u t i o w s r n is_i is_o is_u is_t is_r =
+      rw (is_r, is_i, is_o, ← is_u, ← is_t) (sym (chain_xor_iterations w s n))
 
 -- ---- the words of the block
 

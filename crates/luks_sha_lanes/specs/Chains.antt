@@ -37,7 +37,7 @@ unfoldable pub xor_words : ℕ → List ℕ → List ℕ → List ℕ
 xor_words n x y = map (λ (k : ℕ). bit_xor (slice_index x k) (slice_index y k)) (range_with_len 0 n)
 
 -- the m words t with the words of the next n digests XORed into them
-unfoldable pub sums : ℕ → (List ℕ → List ℕ → List ℕ) → List ℕ → List ℕ → List ℕ → List ℕ → ℕ → List ℕ
-sums m after_digest inner outer d t zero = t
-sums m after_digest inner outer d t (suc n) =
-    xor_words m (sums m after_digest inner outer d t n) (iterations after_digest inner outer d (suc n))
+unfoldable pub iterations_xor : ℕ → (List ℕ → List ℕ → List ℕ) → List ℕ → List ℕ → List ℕ → List ℕ → ℕ → List ℕ
+iterations_xor m after_digest inner outer d t zero = t
+iterations_xor m after_digest inner outer d t (suc n) =
+    xor_words m (iterations_xor m after_digest inner outer d t n) (iterations after_digest inner outer d (suc n))

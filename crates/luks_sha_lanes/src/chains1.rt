@@ -7,35 +7,35 @@ ghost use Rattle.luks_sha_lanes.specs.Chains.{chain_xor, digest_at};
 ghost use Rattle.luks_sha_lanes.specs.Lanes.{IsBlock, lane, word};
 
 use crate::block1::compress;
-use crate::iterations1::add_iterations;
+use crate::iterations1::xor_iterations;
 use crate::words::{five, load_be, sixteen};
 use std::simd::prelude::*;
 
-/// XORs the next `count` digests of each of `N` chains into its bytes in `sums`, where the chains
+/// XORs the next `count` digests of each of `N` chains into its bytes in `xors`, where the chains
 /// follow one another. `last` has the last digest of each chain, in the same order; `inner` and
 /// `outer` are the key's two blocks. `N` is a number of lanes: one chain and four are fast.
-pub fn add_chains<const N: usize>(
+pub fn xor_chains<const N: usize>(
     inner: &[u8],
     outer: &[u8],
     count: u32,
     last: &[u8],
-    sums: &mut [u8],
+    xors: &mut [u8],
 )
     requires lanes { N ≤ 64 }
     requires inner { length inner.now ≡ 64 }
     requires outer { length outer.now ≡ 64 }
     requires last { length last.now ≡ 20 * N }
-    requires sums { length sums.old ≡ 20 * N }
-    ensures { (j : ℕ) → j < N → digest_at 20 j sums.new
+    requires xors { length xors.old ≡ 20 * N }
+    ensures { (j : ℕ) → j < N → digest_at 20 j xors.new
         ≡ chain_xor sha1 inner.now outer.now (digest_at 20 j last.now)
-        (digest_at 20 j sums.old) count }
+        (digest_at 20 j xors.old) count }
 {
     let inside = after_block(inner);
     let outside = after_block(outer);
     let digests = load_digests(last);
-    let before = load_digests(sums);
-    let after = add_iterations::<N>(&inside, &outside, &digests, count, &before);
-    store(&after, sums);
+    let before = load_digests(xors);
+    let after = xor_iterations::<N>(&inside, &outside, &digests, count, &before);
+    store(&after, xors);
 }
 
 // The same word of all digests, at byte `i` of each.

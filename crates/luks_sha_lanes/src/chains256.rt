@@ -6,28 +6,28 @@ ghost use Rattle.luks_sha_lanes.specs.Chains.{chain_xor, digest_at};
 ghost use Rattle.luks_sha_lanes.specs.Lanes.{AllTwice, IsBlock, IsTwice, lane, word};
 
 use crate::block256::compress;
-use crate::iterations256::add_iterations;
+use crate::iterations256::xor_iterations;
 use crate::words::load_be;
 use std::simd::prelude::*;
 
-/// XORs the next `count` digests of each of two chains into its bytes in `sums`, where the chains
+/// XORs the next `count` digests of each of two chains into its bytes in `xors`, where the chains
 /// follow one another. `last` has the last digest of each chain, in the same order; `inner` and
 /// `outer` are the key's two blocks.
-pub fn add_chains(inner: &[u8], outer: &[u8], count: u32, last: &[u8], sums: &mut [u8])
+pub fn xor_chains(inner: &[u8], outer: &[u8], count: u32, last: &[u8], xors: &mut [u8])
     requires inner { length inner.now ≡ 64 }
     requires outer { length outer.now ≡ 64 }
     requires last { length last.now ≡ 64 }
-    requires sums { length sums.old ≡ 64 }
-    ensures { (j : ℕ) → j < 2 → digest_at 32 j sums.new
+    requires xors { length xors.old ≡ 64 }
+    ensures { (j : ℕ) → j < 2 → digest_at 32 j xors.new
         ≡ chain_xor sha256 inner.now outer.now (digest_at 32 j last.now)
-        (digest_at 32 j sums.old) count }
+        (digest_at 32 j xors.old) count }
 {
     let inside = after_block(inner);
     let outside = after_block(outer);
     let digests = load_digests(last);
-    let before = load_digests(sums);
-    let after = add_iterations(&inside, &outside, &digests, count, &before);
-    let (first, second) = sums.split_at_mut(32);
+    let before = load_digests(xors);
+    let after = xor_iterations(&inside, &outside, &digests, count, &before);
+    let (first, second) = xors.split_at_mut(32);
     store(&after, 0, first);
     store(&after, 1, second);
 }

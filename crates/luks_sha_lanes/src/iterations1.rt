@@ -3,7 +3,7 @@
 ghost use Rattle.std.specs.Prelude.{◌≡◌, ℕ, ◌<◌, ◌≤◌, ◌++◌};
 ghost use Rattle.sha1.specs.Sha1.{compress};
 ghost use Rattle.sha2.specs.Sha256.{digest_bytes, padding};
-ghost use Rattle.luks_sha_lanes.specs.Chains.{sums, iterations, xor_words};
+ghost use Rattle.luks_sha_lanes.specs.Chains.{iterations_xor, iterations, xor_words};
 ghost use Rattle.luks_sha_lanes.specs.Lanes.{IsBlock, after_digest, lane};
 
 use crate::block1::{compress, xor};
@@ -62,22 +62,22 @@ fn xor_words<const N: usize>(x: &[Simd<u32, N>; 5], y: &[Simd<u32, N>; 5]) -> [S
     )
 }
 
-/// `sum` with the words of the next `count` digests XORed into it, in each lane. `last` is the
-/// digest before those.
-pub(crate) fn add_iterations<const N: usize>(
+/// `before` with the words of the next `count` digests XORed into it, in each lane. `last` is the
+/// digest that precedes them.
+pub(crate) fn xor_iterations<const N: usize>(
     inner: &[Simd<u32, N>; 5],
     outer: &[Simd<u32, N>; 5],
     last: &[Simd<u32, N>; 5],
     count: u32,
-    sum: &[Simd<u32, N>; 5],
+    before: &[Simd<u32, N>; 5],
 ) -> [Simd<u32, N>; 5]
     requires { N ≤ 64 }
     ensures { (j : ℕ) → j < N → lane j result
-        ≡ sums 5 (after_digest compress 5) (lane j inner.now) (lane j outer.now) (lane j last.now)
-        (lane j sum.now) count }
+        ≡ iterations_xor 5 (after_digest compress 5) (lane j inner.now) (lane j outer.now)
+        (lane j last.now) (lane j before.now) count }
 {
     let mut u = *last;
-    let mut t = *sum;
+    let mut t = *before;
     'iterations: for _ in 0..count {
         let middle = after_digest(inner, &u);
         let next = after_digest(outer, &middle);

@@ -2,7 +2,7 @@
 
 ghost use Rattle.std.specs.Prelude.{◌≡◌, ℕ, ◌<◌, ◌++◌, List, bit_xor};
 ghost use Rattle.sha2.specs.Sha256.{compress, digest_bytes, padding};
-ghost use Rattle.luks_sha_lanes.specs.Chains.{sums, iterations, xor_words};
+ghost use Rattle.luks_sha_lanes.specs.Chains.{iterations_xor, iterations, xor_words};
 ghost use Rattle.luks_sha_lanes.specs.Lanes.{AllTwice, IsBlock, after_digest, lane, word};
 
 use crate::block256::compress;
@@ -69,21 +69,21 @@ fn xor(a: u64x2, b: u64x2) -> u64x2
     a ^ b
 }
 
-/// `sum` with the words of the next `count` digests XORed into it, in each lane. `last` is the
-/// digest before those.
-pub(crate) fn add_iterations(
+/// `before` with the words of the next `count` digests XORed into it, in each lane. `last` is the
+/// digest that precedes them.
+pub(crate) fn xor_iterations(
     inner: &[u64x2; 8],
     outer: &[u64x2; 8],
     last: &[u64x2; 8],
     count: u32,
-    sum: &[u64x2; 8],
+    before: &[u64x2; 8],
 ) -> [u64x2; 8]
     ensures { (j : ℕ) → j < 2 → AllTwice j inner.now → AllTwice j outer.now → AllTwice j last.now
-        → lane j result ≡ sums 8 (after_digest compress 8) (lane j inner.now) (lane j outer.now)
-        (lane j last.now) (lane j sum.now) count }
+        → lane j result ≡ iterations_xor 8 (after_digest compress 8) (lane j inner.now)
+        (lane j outer.now) (lane j last.now) (lane j before.now) count }
 {
     let mut u = *last;
-    let mut t = *sum;
+    let mut t = *before;
     'iterations: for _ in 0..count {
         let middle = after_digest(inner, &u);
         let next = after_digest(outer, &middle);

@@ -23,6 +23,6 @@ returns c =
     let w = c.args.schedule.now in
     let last : c.loop-round.round ≡ c.args.rounds = omega arith in
     let state = c.bytes_of-last.ensures ∙ c.loop-round.invariant ∙ ap (λ n. state_after c.args.block w (n - 1)) last in
-    c.bytes_of.ensures ∙ c.with_round_key-sum.ensures
+    c.bytes_of.ensures ∙ c.with_round_key-keyed.ensures
     ∙ ap (λ s. add_round_key s w c.args.rounds)
     (c.columns_of-shifted.ensures ∙ c.sub_bytes_and_shift_rows.ensures ∙ ap (λ s. shift_rows (sub_bytes s)) state)

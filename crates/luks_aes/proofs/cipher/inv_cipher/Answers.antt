@@ -40,7 +40,7 @@ returns c =
     let last : c.args.rounds - c.loop-round.round ≡ c.args.rounds - 1 = omega arith in
     let state = c.bytes_of-last.ensures ∙ c.loop-round.invariant.1
     ∙ ap (inv_state_after c.args.block c.args.rounds w) last in
-    c.bytes_of.ensures ∙ c.with_round_key-sum.ensures
+    c.bytes_of.ensures ∙ c.with_round_key-keyed.ensures
     ∙ ap (λ s. add_round_key s w 0)
     (c.columns_of-shifted.ensures ∙ c.inv_shift_rows_and_sub_bytes.ensures
     ∙ ap (λ s. inv_sub_bytes (inv_shift_rows s)) state)

@@ -3,7 +3,7 @@ use Rattle.std.specs.Prelude.{slice_index}
 use Rattle.std.specs.Int.{bit_at}
 use Rattle.luks_bitslice.specs.BitPlanes.{column_order, HasBits}
 use Rattle.luks_aes_batch.specs.States.{state_byte, block_in}
-use Rattle.luks_aes_batch.proofs.RoundLemmas.{four, all_also, packed_row, laid_byte}
+use Rattle.luks_aes_batch.proofs.RoundLemmas.{four, all_also, packed_row, packed_byte}
 use Rattle.luks_bitslice.proofs.LaneLemmas.{eight}
 use Rattle.luks_aes_batch.proofs.packing.pack.Goals as goal
 
@@ -24,6 +24,6 @@ returns c =
     record {
       represented = all_also (λ r q. e r (q % 8) (q / 8)) (state_byte (block_in s) 0) _
           (four (λ r q. e r (q % 8) (q / 8)) _ _ _ _ row0 row1 row2 row3)
-          (λ r q small. laid_byte s r q low)
+          (λ r q small. packed_byte s r q low)
           (λ r q small inside. packed_row s r q small inside);
     }

@@ -5,7 +5,7 @@ use Rattle.std.proofs.lemmas.Bool.{cases_lt}
 use Rattle.std.proofs.lemmas.Nat.Bits.{same_from_bits_below}
 use Rattle.luks_bitslice.specs.BitPlanes.{column_order}
 use Rattle.luks_aes_batch.specs.States.{state_byte}
-use Rattle.luks_aes_batch.proofs.RoundLemmas.{byte_of_rows, placed_bits, state_byte_at_index, ordered_below}
+use Rattle.luks_aes_batch.proofs.RoundLemmas.{byte_of_rows, unpacked_bits, state_byte_at_index, ordered_below}
 use Rattle.luks_aes_batch.proofs.packing.unpack.Goals as goal
 
 pub loop-g-init : goal.loop-g-init
@@ -44,7 +44,7 @@ returns c =
     same_from_bits_below 8 _ _ (l.invariant.bytes.each (16 * n + i)) (omega (arith, byte, place))
     (λ k bit.
     ap (λ x. bit_at x k) (l.invariant.done n i (omega arith) inside)
-    ∙ placed_bits (state_byte s 0) c.groups-a.result c.groups-b.result c.groups-c.result c.groups-d.result (n / 4)
+    ∙ unpacked_bits (state_byte s 0) c.groups-a.result c.groups-b.result c.groups-c.result c.groups-d.result (n / 4)
     (n % 4) i
     (λ p k. (c.groups-a.ensures (state_byte s 0 0) (represented.at 0 (omega arith)) (n / 4) (omega arith)).at p k)
     (λ p k. (c.groups-b.ensures (state_byte s 0 1) (represented.at 1 (omega arith)) (n / 4) (omega arith)).at p k)

@@ -3,7 +3,7 @@ use Rattle.std.specs.Prelude.{slice_index, slice_index_or}
 use Rattle.std.specs.Int.{bit_at}
 use Rattle.luks_aes.proofs.Bytes.{each_below_4}
 use Rattle.luks_bitslice.specs.BitPlanes.{HasBits}
-use Rattle.luks_bitslice.proofs.LaneLemmas.{shown, byte_in_row, rows_at}
+use Rattle.luks_bitslice.proofs.LaneLemmas.{of_bytes, byte_in_row, rows_at}
 use Rattle.luks_bitslice.proofs.lanes.blocks_to_rows.Goals as goal
 
 pub returns : goal.returns
@@ -25,7 +25,7 @@ returns c =
     (λ r. HasBits (λ p k. bit_at (byte_in_row a b third d r p) k)
     (slice_index_or (c.low_halves.result ∷ c.high_halves.result ∷ c.low_halves-2.result ∷ c.high_halves-2.result ∷ []) r
     []))
-    (shown _ (byte_in_row a b third d 0) (ap length row0) (λ p below. ap (λ l. slice_index l p) row0 ∙ (at p below).0))
-    (shown _ (byte_in_row a b third d 1) (ap length row1) (λ p below. ap (λ l. slice_index l p) row1 ∙ (at p below).1))
-    (shown _ (byte_in_row a b third d 2) (ap length row2) (λ p below. ap (λ l. slice_index l p) row2 ∙ (at p below).2))
-    (shown _ (byte_in_row a b third d 3) (ap length row3) (λ p below. ap (λ l. slice_index l p) row3 ∙ (at p below).3))
+    (of_bytes _ (byte_in_row a b third d 0) (ap length row0) (λ p fits. ap (λ l. slice_index l p) row0 ∙ (at p fits).0))
+    (of_bytes _ (byte_in_row a b third d 1) (ap length row1) (λ p fits. ap (λ l. slice_index l p) row1 ∙ (at p fits).1))
+    (of_bytes _ (byte_in_row a b third d 2) (ap length row2) (λ p fits. ap (λ l. slice_index l p) row2 ∙ (at p fits).2))
+    (of_bytes _ (byte_in_row a b third d 3) (ap length row3) (λ p fits. ap (λ l. slice_index l p) row3 ∙ (at p fits).3))

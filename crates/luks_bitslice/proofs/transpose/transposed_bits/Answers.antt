@@ -1,7 +1,7 @@
 use Rattle.std.proofs.Common.{arith, refl}
 use Rattle.luks_bitslice.specs.BitPlanes.{HasBits}
 use Rattle.luks_bitslice.proofs.LaneLemmas.{eight}
-use Rattle.luks_bitslice.proofs.GateLemmas.{shows_same, equal_below_8}
+use Rattle.luks_bitslice.proofs.GateLemmas.{bits_also, equal_below_8}
 use Rattle.luks_bitslice.proofs.transpose.transposed_bits.Goals as goal
 
 pub returns : goal.returns
@@ -31,11 +31,11 @@ returns c = λ f is.
     let c3 = c.swap_low-c3.ensures _ _ b3 b7 in
     let c7 = c.swap_high-c7.ensures _ _ b3 b7 in
     eight (λ j. HasBits (λ p k. f k p j)) _ _ _ _ _ _ _ _
-    (shows_same (λ p k. f k p 0) c0 (λ p low. equal_below_8 _ (λ k. f k p 0) refl refl refl refl refl refl refl refl))
-    (shows_same (λ p k. f k p 1) c1 (λ p low. equal_below_8 _ (λ k. f k p 1) refl refl refl refl refl refl refl refl))
-    (shows_same (λ p k. f k p 2) c2 (λ p low. equal_below_8 _ (λ k. f k p 2) refl refl refl refl refl refl refl refl))
-    (shows_same (λ p k. f k p 3) c3 (λ p low. equal_below_8 _ (λ k. f k p 3) refl refl refl refl refl refl refl refl))
-    (shows_same (λ p k. f k p 4) c4 (λ p low. equal_below_8 _ (λ k. f k p 4) refl refl refl refl refl refl refl refl))
-    (shows_same (λ p k. f k p 5) c5 (λ p low. equal_below_8 _ (λ k. f k p 5) refl refl refl refl refl refl refl refl))
-    (shows_same (λ p k. f k p 6) c6 (λ p low. equal_below_8 _ (λ k. f k p 6) refl refl refl refl refl refl refl refl))
-    (shows_same (λ p k. f k p 7) c7 (λ p low. equal_below_8 _ (λ k. f k p 7) refl refl refl refl refl refl refl refl))
+    (bits_also (λ p k. f k p 0) c0 (λ p low. equal_below_8 _ (λ k. f k p 0) refl refl refl refl refl refl refl refl))
+    (bits_also (λ p k. f k p 1) c1 (λ p low. equal_below_8 _ (λ k. f k p 1) refl refl refl refl refl refl refl refl))
+    (bits_also (λ p k. f k p 2) c2 (λ p low. equal_below_8 _ (λ k. f k p 2) refl refl refl refl refl refl refl refl))
+    (bits_also (λ p k. f k p 3) c3 (λ p low. equal_below_8 _ (λ k. f k p 3) refl refl refl refl refl refl refl refl))
+    (bits_also (λ p k. f k p 4) c4 (λ p low. equal_below_8 _ (λ k. f k p 4) refl refl refl refl refl refl refl refl))
+    (bits_also (λ p k. f k p 5) c5 (λ p low. equal_below_8 _ (λ k. f k p 5) refl refl refl refl refl refl refl refl))
+    (bits_also (λ p k. f k p 6) c6 (λ p low. equal_below_8 _ (λ k. f k p 6) refl refl refl refl refl refl refl refl))
+    (bits_also (λ p k. f k p 7) c7 (λ p low. equal_below_8 _ (λ k. f k p 7) refl refl refl refl refl refl refl refl))

@@ -17,8 +17,8 @@ returns-else-out-size-clause-key g c = λ pass holds_inner holds_outer is_inner 
     let is_size : c.size-size.result ≡ digest_len h = c.size-size.ensures ∙ ap digest_len c.hash.ensures in
     c.copy_from_slice.ensures.after
     ∙ group_of_digests h pass c.args.salt.now c.args.number c.args.iterations g.E.Lanes.WIDTH (length c.args.out.now)
-    c.div_ceil-count.result c.sum_group.new.t (rw is_size at c.div_ceil-count.ensures)
-    c.requires.capacity (c.sum_group.ensures pass holds_inner holds_outer is_inner is_outer)
+    c.div_ceil-count.result c.write_group.new.t (rw is_size at c.div_ceil-count.ensures)
+    c.requires.capacity (c.write_group.ensures pass holds_inner holds_outer is_inner is_outer)
 
 pub returns-else-out-size-clause-work : goal.returns-else-out-size-clause-work
 returns-else-out-size-clause-work g c = search rules

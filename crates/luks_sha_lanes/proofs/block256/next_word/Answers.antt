@@ -4,7 +4,7 @@ use Rattle.luks_sha_lanes.proofs.block256.next_word.Goals as goal
 
 pub returns-clause-value : goal.returns-clause-value
 returns-clause-value c = λ j lane twice.
-    let p = c.args.place in
+    let p = c.args.index in
     let at : p % 16 ≡ p = omega arith in
     rw (
       c.twice-next.ensures.word j lane,

@@ -9,5 +9,5 @@ returns c =
     let read = c.block_of-block.ensures in
     let ciphered = c.encrypt_block.ensures.value in
     let written = c.copy_from_slice.ensures.after in
-    let summed = c.xor_vector-2.ensures in
+    let unmasked = c.xor_vector-2.ensures in
     cc

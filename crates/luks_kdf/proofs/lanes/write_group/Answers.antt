@@ -1,16 +1,16 @@
 use Rattle.std.proofs.Common.{◌-◌, ◌∙◌, List, ℕ, ap}
 use Rattle.luks_sha_lanes.specs.Chains.{chain_xor, digest_at}
 use Rattle.luks_kdf.specs.Hash.{hash_of, digest_len}
-use Rattle.luks_kdf.proofs.Pbkdf2Lemmas.{sum_of_block}
-use Rattle.luks_kdf.proofs.lanes.sum_group.Goals as goal
+use Rattle.luks_kdf.proofs.Pbkdf2Lemmas.{chain_xor_of_block}
+use Rattle.luks_kdf.proofs.lanes.write_group.Goals as goal
 
 pub returns : goal.returns
 returns g c = λ pass holds_inner holds_outer is_inner is_outer k below.
     let h = g.E.Engine.function in
     let blocks = c.args.blocks.now in
     let first = digest_at (digest_len h) k c.first_iterations.new.u in
-    sum_of_block h pass c.args.salt.now blocks.inner blocks.outer first _ _ c.args.iterations is_inner is_outer
+    chain_xor_of_block h pass c.args.salt.now blocks.inner blocks.outer first _ _ c.args.iterations is_inner is_outer
     (c.first_iterations.ensures pass holds_inner holds_outer k below) c.requires.iterations
-    (c.add_chains.ensures k below
+    (c.xor_chains.ensures k below
     ∙ ap (λ (t : List ℕ). chain_xor (hash_of h) blocks.inner blocks.outer first (digest_at (digest_len h) k t)
     (c.args.iterations - 1)) c.copy_from_slice.ensures.after)

@@ -1,15 +1,15 @@
 use Rattle.std.proofs.Common.{◌≡◌, ◌∙◌, ap, ap₂, refl, arith, add-one}
-use Rattle.luks_sha_lanes.specs.Chains.{sums, iterations, xor_words}
+use Rattle.luks_sha_lanes.specs.Chains.{iterations_xor, iterations, xor_words}
 use Rattle.sha1.specs.Sha1.{compress}
 use Rattle.luks_sha_lanes.specs.Lanes.{after_digest}
-use Rattle.luks_sha_lanes.proofs.iterations1.add_iterations.Goals as goal
+use Rattle.luks_sha_lanes.proofs.iterations1.xor_iterations.Goals as goal
 
 pub iterations-init : goal.iterations-init
-unfolding sums iterations
+unfolding iterations_xor iterations
 iterations-init g c = λ j in_lane. (refl, refl)
 
 pub iterations-preserved : goal.iterations-preserved
-unfolding sums iterations
+unfolding iterations_xor iterations
 iterations-preserved g c = λ j in_lane.
     let so_far = c.iterations.invariant j in_lane in
     let middle = c.after_digest-middle.ensures j in_lane in
@@ -20,4 +20,4 @@ iterations-preserved g c = λ j in_lane.
 pub returns : goal.returns
 returns g c = λ j in_lane.
     let all : c.iterations.counter ≡ c.args.count = omega arith in
-    (c.iterations.invariant j in_lane).1 ∙ ap (sums 5 (after_digest compress 5) _ _ _ _) all
+    (c.iterations.invariant j in_lane).1 ∙ ap (iterations_xor 5 (after_digest compress 5) _ _ _ _) all

@@ -1,15 +1,15 @@
 use Rattle.std.proofs.Common.{◌≡◌, ◌∙◌, ap, ap₂, refl, arith, add-one}
-use Rattle.luks_sha_lanes.specs.Chains.{sums, iterations, xor_words}
+use Rattle.luks_sha_lanes.specs.Chains.{iterations_xor, iterations, xor_words}
 use Rattle.sha2.specs.Sha256.{compress}
 use Rattle.luks_sha_lanes.specs.Lanes.{after_digest}
-use Rattle.luks_sha_lanes.proofs.iterations256.add_iterations.Goals as goal
+use Rattle.luks_sha_lanes.proofs.iterations256.xor_iterations.Goals as goal
 
 pub iterations-init : goal.iterations-init
-unfolding sums iterations
+unfolding iterations_xor iterations
 iterations-init c = λ j in_lane inner outer last. (last, refl, refl)
 
 pub iterations-preserved : goal.iterations-preserved
-unfolding sums iterations
+unfolding iterations_xor iterations
 iterations-preserved c = λ j in_lane inner outer last.
     let so_far = c.iterations.invariant j in_lane inner outer last in
     let middle = c.after_digest-middle.ensures j in_lane inner so_far.0 in
@@ -20,4 +20,4 @@ iterations-preserved c = λ j in_lane inner outer last.
 pub returns : goal.returns
 returns c = λ j in_lane inner outer last.
     let all : c.iterations.counter ≡ c.args.count = omega arith in
-    (c.iterations.invariant j in_lane inner outer last).2 ∙ ap (sums 8 (after_digest compress 8) _ _ _ _) all
+    (c.iterations.invariant j in_lane inner outer last).2 ∙ ap (iterations_xor 8 (after_digest compress 8) _ _ _ _) all
