@@ -16,10 +16,10 @@ pub fn counted(alloc: Global, len: usize) -> Result<Vec<u8>, AllocError>
 }
 
 /// This many bytes from this offset on, or as many as there are.
-pub fn at(image: &[u8], place: usize, len: usize) -> &[u8]
-    ensures { result.now ≡ take len (drop place image.now) }
+pub fn at(image: &[u8], offset: usize, len: usize) -> &[u8]
+    ensures { result.now ≡ take len (drop offset image.now) }
 {
-    let place = place.min(image.len());
-    let rest = &image[place..];
+    let offset = offset.min(image.len());
+    let rest = &image[offset..];
     &rest[..len.min(rest.len())]
 }

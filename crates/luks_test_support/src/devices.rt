@@ -159,7 +159,7 @@ pub struct BrokenSource<'a> {
 }
 
 impl<'a> BrokenSource<'a> {
-    /// A source of these bytes, of which it gives the first `given`.
+    /// A source of these bytes that gives only the first `given`.
     pub fn new(bytes: &'a [u8], given: usize) -> BrokenSource<'a>
         ensures bytes { ⟦<BrokenSource<'a> as Source>⟧.to_come result ≡ Some bytes.entry.now }
         ensures counts { ⟦<BrokenSource<'a> as Source>⟧.counts result

@@ -10,9 +10,9 @@ pub const SIZE: usize = 16_384;
 
 /// Writes a header with this sequence number and JSON text at an offset of an image. Its checksum
 /// is by SHA-256, and written last.
-pub fn write_header(image: &mut [u8], place: usize, sequence: u64, json: &str) {
-    let header = range_mut(image, place, SIZE);
-    let magic = if place == 0 { b"LUKS" } else { b"SKUL" };
+pub fn write_header(image: &mut [u8], offset: usize, sequence: u64, json: &str) {
+    let header = range_mut(image, offset, SIZE);
+    let magic = if offset == 0 { b"LUKS" } else { b"SKUL" };
     put(header, 0, magic);
     put(header, 4, &[0xba, 0xbe, 0, 2]);
     put(header, 8, &(SIZE as u64).to_be_bytes());
@@ -20,11 +20,11 @@ pub fn write_header(image: &mut [u8], place: usize, sequence: u64, json: &str) {
     put(header, 24, b"a\\label\xc3\n~");
     put(header, 72, b"SHA256");
     put(header, 168, b"11111111-2222-3333-4444-555555555555");
-    put(header, 256, &(place as u64).to_be_bytes());
+    put(header, 256, &(offset as u64).to_be_bytes());
     put(header, 4096, json.as_bytes());
-    let mut sum = [0; 32];
-    digest(Hash::Sha256, header, b"", b"", &mut sum);
-    put(header, 448, &sum);
+    let mut checksum = [0; 32];
+    digest(Hash::Sha256, header, b"", b"", &mut checksum);
+    put(header, 448, &checksum);
 }
 
 /// An image of zeros with space for both headers.

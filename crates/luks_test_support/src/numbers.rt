@@ -1,6 +1,6 @@
 //! Pseudorandom numbers.
 
-/// The next number: the upper half of a linear congruence of 64 bits.
+/// The next number: the upper half of the state of a 64-bit linear congruential generator.
 pub fn next(state: &mut u64) -> u32 {
     *state = state
         .wrapping_mul(6_364_136_223_846_793_005)

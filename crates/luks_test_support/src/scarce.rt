@@ -34,7 +34,7 @@ impl Scarcity {
         }
         let mut block_size = LARGEST;
         for _ in 0..HALVINGS {
-            take(alloc, &mut blocks, block_size);
+            allocate(alloc, &mut blocks, block_size);
             block_size /= 2;
         }
         Ok(Scarcity { pieces, blocks })
@@ -47,7 +47,7 @@ impl Scarcity {
 }
 
 // Allocates blocks of this size until one allocation fails.
-fn take(alloc: Global, blocks: &mut Vec<Vec<u8>>, size: usize) {
+fn allocate(alloc: Global, blocks: &mut Vec<Vec<u8>>, size: usize) {
     for _ in 0..BLOCKS {
         if blocks.len() == blocks.capacity() {
             return;

@@ -24,13 +24,13 @@ fn bytes(rt: &(impl Abort + AllocGlobal), digits: &str) -> Vec<u8> {
 }
 
 // `length` bytes, modulo 256, from 0 on. Each is greater than the one before it by `step`, and by
-// `turn` more at the start of each 256 bytes.
-fn counted(rt: &(impl Abort + AllocGlobal), length: usize, step: usize, turn: usize) -> Vec<u8> {
+// `extra` more at the start of each 256 bytes.
+fn counted(rt: &(impl Abort + AllocGlobal), length: usize, step: usize, extra: usize) -> Vec<u8> {
     let mut bytes = Vec::new(rt.alloc());
     for i in 0..length {
         let byte = i
             .wrapping_mul(step)
-            .wrapping_add((i / 256).wrapping_mul(turn))
+            .wrapping_add((i / 256).wrapping_mul(extra))
             % 256;
         bytes.push(byte as u8).expect(rt, "memory");
     }

@@ -3,7 +3,7 @@
 
 mod ahead;
 mod devices;
-mod passing;
+mod forwarding;
 mod testing;
 
 use std::process::Abort;

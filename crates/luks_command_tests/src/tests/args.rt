@@ -17,7 +17,7 @@ fn assert_of(rt: &impl Abort, line: &str, holds: bool) {
 }
 
 // The arguments of a line, separated by single spaces.
-fn words_of<'a>(rt: &(impl Abort + AllocGlobal), line: &'a str) -> Vec<&'a str> {
+fn args_of<'a>(rt: &(impl Abort + AllocGlobal), line: &'a str) -> Vec<&'a str> {
     line.split(' ').collect(rt.alloc()).expect(rt, "memory")
 }
 
@@ -35,7 +35,7 @@ fn check_line(
     assert_of(
         rt,
         line,
-        plan(rt.alloc(), &words_of(rt, line)) == Ok(command),
+        plan(rt.alloc(), &args_of(rt, line)) == Ok(command),
     );
     assert_of(rt, line, command.image() == image);
     assert_of(rt, line, command.secret().unwrap_or(NONE) == secret);
@@ -64,7 +64,7 @@ static READINGS: [(&str, &str, Option<&str>); 16] = [
 ];
 
 // Each command on headers reads these arguments like this.
-fn check_reading(rt: &(impl Abort + AllocGlobal), words: &str, reading: HeaderArgs<'_>) {
+fn check_reading(rt: &(impl Abort + AllocGlobal), args: &str, reading: HeaderArgs<'_>) {
     let commands = [
         ("isLuks ", Command::IsLuks(reading)),
         ("luksUUID ", Command::LuksUuid(reading)),
@@ -73,18 +73,18 @@ fn check_reading(rt: &(impl Abort + AllocGlobal), words: &str, reading: HeaderAr
     ];
     let inputs = [reading.image, NONE, reading.header.unwrap_or(NONE)];
     for (name, command) in &commands {
-        check_line(rt, joined(rt, &[name, words]).as_str(), *command, inputs);
+        check_line(rt, joined(rt, &[name, args]).as_str(), *command, inputs);
     }
 }
 
 #[test]
 fn reads_headers(rt: HostRuntime) {
-    for (words, image, header) in &READINGS {
+    for (args, image, header) in &READINGS {
         let reading = HeaderArgs {
             image,
             header: *header,
         };
-        check_reading(&rt, words, reading);
+        check_reading(&rt, args, reading);
     }
 }
 
@@ -104,7 +104,7 @@ static OPENINGS: [(&str, &str, &str, Option<&str>); 11] = [
 ];
 
 // Both commands that open a volume read these arguments like this.
-fn check_opening(rt: &(impl Abort + AllocGlobal), words: &str, opening: VolumeArgs<'_>) {
+fn check_opening(rt: &(impl Abort + AllocGlobal), args: &str, opening: VolumeArgs<'_>) {
     let commands = [
         ("testPassphrase ", Command::TestPassphrase(opening)),
         ("luksCat ", Command::LuksCat(opening)),
@@ -112,13 +112,13 @@ fn check_opening(rt: &(impl Abort + AllocGlobal), words: &str, opening: VolumeAr
     let header = opening.header.unwrap_or(NONE);
     let inputs = [opening.image, opening.key_file, header];
     for (name, command) in &commands {
-        check_line(rt, joined(rt, &[name, words]).as_str(), *command, inputs);
+        check_line(rt, joined(rt, &[name, args]).as_str(), *command, inputs);
     }
 }
 
 #[test]
 fn opens_volumes(rt: HostRuntime) {
-    for (words, image, key_file, header) in &OPENINGS {
+    for (args, image, key_file, header) in &OPENINGS {
         let opening = VolumeArgs {
             image,
             header: *header,
@@ -128,7 +128,7 @@ fn opens_volumes(rt: HostRuntime) {
                 max_iterations: None,
             },
         };
-        check_opening(&rt, words, opening);
+        check_opening(&rt, args, opening);
     }
 }
 
@@ -165,7 +165,7 @@ static LIMITED: [(&str, Option<&str>, Option<u8>, Option<u32>); 7] = [
 
 #[test]
 fn opens_volumes_with_limits(rt: HostRuntime) {
-    for (words, header, slot, limit) in &LIMITED {
+    for (args, header, slot, limit) in &LIMITED {
         let opening = VolumeArgs {
             image: "i",
             header: *header,
@@ -175,7 +175,7 @@ fn opens_volumes_with_limits(rt: HostRuntime) {
                 max_iterations: *limit,
             },
         };
-        check_opening(&rt, words, opening);
+        check_opening(&rt, args, opening);
     }
 }
 
@@ -274,12 +274,12 @@ fn merges_stripes(rt: HostRuntime) {
 }
 
 #[test]
-fn takes_words_as_strings(rt: HostRuntime) {
-    let mut words = Vec::new(rt.alloc());
+fn accepts_arguments_that_are_strings(rt: HostRuntime) {
+    let mut args = Vec::new(rt.alloc());
     for word in "afMerge --hash sha1 --stripes 1 --key-bytes 20 s".split(' ') {
-        words.push(joined(&rt, &[word])).expect(&rt, "memory");
+        args.push(joined(&rt, &[word])).expect(&rt, "memory");
     }
-    let planned = plan(rt.alloc(), &words);
+    let planned = plan(rt.alloc(), &args);
     assert_of(
         &rt,
         "strings",

@@ -3,8 +3,8 @@
 
 mod detached;
 mod digests;
-mod drawn;
 mod fixture;
+mod generated;
 mod header;
 mod second;
 mod validation;

@@ -1,5 +1,5 @@
 //! What no clause says: ranges of volumes that the tests seal from a known text, which sectors are
-//! read for a range, and images of which a read fails or that are shorter than they report.
+//! read for a range, and images with a read that fails or that are shorter than they report.
 
 mod endings;
 mod failing;

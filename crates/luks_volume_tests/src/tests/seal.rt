@@ -1,5 +1,5 @@
 //! What no clause says: whole images compared with those of another program, and that the ranges
-//! are the stated ones.
+//! are the specified ones.
 
 mod generated1;
 mod images;
@@ -34,10 +34,10 @@ static KEY_LENGTHS: [(Mode, usize, bool); 16] = [
 // Checks that the volume of this row is sealed if its parameters fit, and that they are refused if
 // not.
 fn check_fits(rt: &impl Abort, row: usize, fault: Option<SealFault>, fits: bool) {
-    let stated = if fits {
+    let expected = if fits {
         None
     } else {
         Some(SealFault::Parameters)
     };
-    assert!(rt; fault == stated, "row {row}: {fault:?}");
+    assert!(rt; fault == expected, "row {row}: {fault:?}");
 }

@@ -6,7 +6,7 @@ fn times_x(b: u8) -> u8 {
 }
 
 fn product(a: u8, b: u8) -> u8 {
-    let mut sum = 0;
+    let mut xor = 0;
     let mut bits = a;
     let mut shifted = b;
     for _ in 0..8u32 {
@@ -14,12 +14,12 @@ fn product(a: u8, b: u8) -> u8 {
             break;
         }
         if bits % 2 == 1 {
-            sum ^= shifted;
+            xor ^= shifted;
         }
         bits /= 2;
         shifted = times_x(shifted);
     }
-    sum
+    xor
 }
 
 // The field's inverse, and 0 for 0 (4.4).
@@ -40,21 +40,21 @@ fn affine(a: u8) -> u8 {
 // The S-box (5.1.1) and its inverse (5.3.2).
 #[derive(Drop)]
 struct Boxes {
-    there: [u8; 256],
-    back: [u8; 256],
+    s_box: [u8; 256],
+    inv_s_box: [u8; 256],
 }
 
 impl Boxes {
     // The S-box is the inverse, then the affine map. The inverse S-box maps its values back.
     fn new() -> Boxes {
-        let mut there = [0; 256];
-        let mut back = [0; 256];
+        let mut s_box = [0; 256];
+        let mut inv_s_box = [0; 256];
         for b in 0..=255u8 {
             let c = affine(inverse(b));
-            there[b as usize] = c;
-            back[c as usize] = b;
+            s_box[b as usize] = c;
+            inv_s_box[c as usize] = b;
         }
-        Boxes { there, back }
+        Boxes { s_box, inv_s_box }
     }
 }
 
@@ -62,7 +62,7 @@ pub type State = [u8; 16];
 
 // The bytes substituted by the table, and row r rotated left by `by * r` columns (5.1.1 and 5.1.2
 // with the S-box and 1; 5.3.1 and 5.3.2 with the inverse S-box and 3).
-fn turned(table: &[u8; 256], by: usize, s: State) -> State {
+fn shifted_rows(table: &[u8; 256], by: usize, s: State) -> State {
     let mut next = [0; 16];
     for i in 0..16 {
         let row = i % 4;
@@ -87,7 +87,7 @@ fn multiplied(a: [u8; 4], s: State) -> State {
 }
 
 // XOR of two states.
-pub fn sum(a: State, b: State) -> State {
+pub fn xored(a: State, b: State) -> State {
     let mut next = [0; 16];
     for i in 0..16 {
         next[i] = a[i] ^ b[i];
@@ -101,14 +101,14 @@ type Word = [u8; 4];
 type Words = [Word; 60];
 
 // Word `i` of the schedule of a key of `words` words, from the words before it (5.2).
-fn next_word(there: &[u8; 256], all: &Words, words: usize, i: usize, constant: u8) -> Word {
+fn next_word(s_box: &[u8; 256], all: &Words, words: usize, i: usize, constant: u8) -> Word {
     let [a, b, c, d] = all[i.saturating_sub(1).min(59)];
     let mut word = [a, b, c, d];
     let substituted = [
-        there[a as usize],
-        there[b as usize],
-        there[c as usize],
-        there[d as usize],
+        s_box[a as usize],
+        s_box[b as usize],
+        s_box[c as usize],
+        s_box[d as usize],
     ];
     if i.checked_rem(words) == Some(0) {
         let [a, b, c, d] = substituted;
@@ -127,16 +127,16 @@ fn next_word(there: &[u8; 256], all: &Words, words: usize, i: usize, constant: u
 fn key_word(key: &[u8], i: usize) -> Word {
     let mut word = [0; 4];
     for k in 0..4 {
-        let place = i.saturating_mul(4).saturating_add(k);
-        if place < key.len() {
-            word[k] = key[place];
+        let offset = i.saturating_mul(4).saturating_add(k);
+        if offset < key.len() {
+            word[k] = key[offset];
         }
     }
     word
 }
 
 // The schedule of a key of 16 or 32 bytes (5.2).
-fn schedule(there: &[u8; 256], key: &[u8]) -> Words {
+fn schedule(s_box: &[u8; 256], key: &[u8]) -> Words {
     let words = key.len() / 4;
     let mut all = [[0; 4]; 60];
     let mut constant = 1;
@@ -145,7 +145,7 @@ fn schedule(there: &[u8; 256], key: &[u8]) -> Words {
             all[i] = key_word(key, i);
             continue;
         }
-        all[i] = next_word(there, &all, words, i, constant);
+        all[i] = next_word(s_box, &all, words, i, constant);
         if i.checked_rem(words) == Some(0) {
             constant = times_x(constant);
         }
@@ -200,8 +200,8 @@ impl Bytewise {
     pub fn new(key: &[u8]) -> Bytewise {
         let boxes = Boxes::new();
         let (data_key, tweak_key) = key.split_at(key.len() / 2);
-        let data_words = schedule(&boxes.there, data_key);
-        let tweak_words = schedule(&boxes.there, tweak_key);
+        let data_words = schedule(&boxes.s_box, data_key);
+        let tweak_words = schedule(&boxes.s_box, tweak_key);
         Bytewise {
             boxes,
             rounds: data_key.len() / 4 + 6,
@@ -212,24 +212,24 @@ impl Bytewise {
 
     // Cipher (5.1).
     fn encrypted(&self, all: &Words, block: State) -> State {
-        let mut s = sum(block, round_key(all, 0));
+        let mut s = xored(block, round_key(all, 0));
         for round in 1..self.rounds {
-            let shifted = turned(&self.boxes.there, 1, s);
-            s = sum(multiplied([2, 3, 1, 1], shifted), round_key(all, round));
+            let shifted = shifted_rows(&self.boxes.s_box, 1, s);
+            s = xored(multiplied([2, 3, 1, 1], shifted), round_key(all, round));
         }
-        let shifted = turned(&self.boxes.there, 1, s);
-        sum(shifted, round_key(all, self.rounds))
+        let shifted = shifted_rows(&self.boxes.s_box, 1, s);
+        xored(shifted, round_key(all, self.rounds))
     }
 
     // InvCipher (5.3).
     fn decrypted(&self, all: &Words, block: State) -> State {
-        let mut s = sum(block, round_key(all, self.rounds));
+        let mut s = xored(block, round_key(all, self.rounds));
         for round in (1..self.rounds).rev() {
-            let shifted = turned(&self.boxes.back, 3, s);
-            s = multiplied([14, 11, 13, 9], sum(shifted, round_key(all, round)));
+            let shifted = shifted_rows(&self.boxes.inv_s_box, 3, s);
+            s = multiplied([14, 11, 13, 9], xored(shifted, round_key(all, round)));
         }
-        let shifted = turned(&self.boxes.back, 3, s);
-        sum(shifted, round_key(all, 0))
+        let shifted = shifted_rows(&self.boxes.inv_s_box, 3, s);
+        xored(shifted, round_key(all, 0))
     }
 
     /// Encrypts or decrypts the data unit with this number (IEEE 1619, 5.3.2 and 5.4.2).
@@ -238,13 +238,13 @@ impl Bytewise {
         for piece in unit.chunks_exact_mut(16) {
             let mut block = [0; 16];
             block.copy_from_slice(piece);
-            let masked = sum(block, tweak);
+            let masked = xored(block, tweak);
             let done = if encrypts {
                 self.encrypted(&self.data_words, masked)
             } else {
                 self.decrypted(&self.data_words, masked)
             };
-            piece.copy_from_slice(&sum(done, tweak));
+            piece.copy_from_slice(&xored(done, tweak));
             let next = doubled(tweak);
             tweak = next;
         }

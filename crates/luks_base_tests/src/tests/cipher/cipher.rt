@@ -15,13 +15,13 @@ pub enum Cipher {
 }
 
 impl Cipher {
-    /// The cipher with this name. `before` is the IV of a chain, as hexadecimal digits.
-    pub fn new(rt: &impl Abort, name: &str, key: &[u8], before: &str) -> Cipher {
+    /// The cipher with this name. `iv` is the IV of a chain, as hexadecimal digits.
+    pub fn new(rt: &impl Abort, name: &str, key: &[u8], iv: &str) -> Cipher {
         match name {
             "aes" => Cipher::Block(AesKey::new(key).expect(rt, "a key of AES")),
             "cbc" => {
                 let mut block = [0; 16];
-                hex::decode_to_slice(before, &mut block).expect(rt, "a block");
+                hex::decode_to_slice(iv, &mut block).expect(rt, "a block");
                 Cipher::Chain(BatchKey::new(key).expect(rt, "a key of AES"), block)
             }
             "xts" => Cipher::Unit(XtsKey::new(key).expect(rt, "a key of XTS")),
@@ -42,7 +42,7 @@ impl Cipher {
                 key.encrypt_block(&mut block);
                 unit[..16].copy_from_slice(&block);
             }
-            Cipher::Chain(key, before) => encrypt_chain(key.key(), *before, unit),
+            Cipher::Chain(key, iv) => encrypt_chain(key.key(), *iv, unit),
             Cipher::Unit(key) => key.encrypt_unit(number, unit),
             Cipher::Sector(key) => key.encrypt_unit(number, unit),
         }
@@ -58,7 +58,7 @@ impl Cipher {
                 key.decrypt_block(&mut block);
                 unit[..16].copy_from_slice(&block);
             }
-            Cipher::Chain(key, before) => decrypt_chain(key, *before, unit),
+            Cipher::Chain(key, iv) => decrypt_chain(key, *iv, unit),
             Cipher::Unit(key) => key.decrypt_unit(number, unit),
             Cipher::Sector(key) => key.decrypt_unit(number, unit),
         }

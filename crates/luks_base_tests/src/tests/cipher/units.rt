@@ -1,6 +1,6 @@
 //! Data units of 512 bytes that the standard publishes, and one of 4096 bytes block by block.
 
-use super::bytewise::{State, doubled, number_block, sum};
+use super::bytewise::{State, doubled, number_block, xored};
 use super::cipher::Cipher;
 use super::vectors::check_unit;
 use super::xts_vectors::{KEY_256, KEY_512, UNIT_00, UNIT_FD, UNIT_FF, WIDE_FF, WIDE_FFFFFFFFFF};
@@ -53,10 +53,10 @@ const NUMBER: u64 = 0xfedc_ba98_7654_3210;
 
 // A block of bytes.
 fn block_of(rt: &impl Abort, bytes: &[u8], j: usize) -> State {
-    let place = j.saturating_mul(16);
-    assert!(rt; place < bytes.len() && 16 <= bytes.len() - place);
+    let offset = j.saturating_mul(16);
+    assert!(rt; offset < bytes.len() && 16 <= bytes.len() - offset);
     let mut block = [0; 16];
-    block.copy_from_slice(&bytes[place..place + 16]);
+    block.copy_from_slice(&bytes[offset..offset + 16]);
     block
 }
 
@@ -75,9 +75,9 @@ fn check_block(
         let next = doubled(tweak);
         tweak = next;
     }
-    let mut block = sum(block_of(rt, plain, j), tweak);
+    let mut block = xored(block_of(rt, plain, j), tweak);
     data_key.encrypt_block(&mut block);
-    assert!(rt; block_of(rt, unit, j) == sum(block, tweak), "block {j}");
+    assert!(rt; block_of(rt, unit, j) == xored(block, tweak), "block {j}");
 }
 
 #[test]

@@ -1,7 +1,7 @@
 //! Tables of plain and encrypted bytes. A line is a cipher, a key, the number of a unit or the IV
 //! of a chain (`-` for a block), the plain bytes, and the encrypted bytes.
 
-use super::aes_vectors::{EXAMPLES, KNOWN_ANSWERS, SLICE_128, SLICE_192, SLICE_256};
+use super::aes_vectors::{BATCH_128, BATCH_192, BATCH_256, EXAMPLES, KNOWN_ANSWERS};
 use super::cipher::Cipher;
 use super::mode_vectors::{CHAINS, DIGESTS, SECTORS, WORKED};
 use super::xts_vectors::{LARGE_NUMBERS, NIST, SHORT};
@@ -88,30 +88,30 @@ fn check_digest(rt: &(impl Abort + AllocGlobal), line: &str) {
 }
 
 #[test]
-fn sectors_of_slices_and_blocks_have_their_digests(rt: HostRuntime) {
+fn sectors_of_batches_and_blocks_have_their_digests(rt: HostRuntime) {
     for line in DIGESTS.lines() {
         check_digest(&rt, line);
     }
 }
 
 // Checks the decryption of 32 blocks at once, and of the first of them alone.
-fn check_slice(rt: &(impl Abort + AllocGlobal), key: &[u8], encrypted: &str, plain: &[u8]) {
+fn check_batch(rt: &(impl Abort + AllocGlobal), key: &[u8], encrypted: &str, plain: &[u8]) {
     let key = BatchKey::new(key).expect(rt, "a key of AES");
-    let mut slice = [0; 512];
-    hex::decode_to_slice(encrypted, &mut slice).expect(rt, "a slice");
+    let mut batch = [0; 512];
+    hex::decode_to_slice(encrypted, &mut batch).expect(rt, "a slice");
     let mut block = [0; 16];
-    block.copy_from_slice(&slice[..16]);
-    key.decrypt_batch(&mut slice);
-    assert_in(rt, encrypted, slice.as_slice() == plain);
+    block.copy_from_slice(&batch[..16]);
+    key.decrypt_batch(&mut batch);
+    assert_in(rt, encrypted, batch.as_slice() == plain);
     key.key().decrypt_block(&mut block);
     assert_in(rt, encrypted, plain.starts_with(&block));
 }
 
 #[test]
-fn slices_are_decrypted_under_each_length_of_key(rt: HostRuntime) {
+fn batches_are_decrypted_under_each_length_of_key(rt: HostRuntime) {
     let key = bytes(&rt, KEY);
     let plain = counted(&rt, 512, 7, 1);
-    for (length, encrypted) in [(16, SLICE_128), (24, SLICE_192), (32, SLICE_256)] {
-        check_slice(&rt, &key[..key.len().min(length)], encrypted, &plain);
+    for (length, encrypted) in [(16, BATCH_128), (24, BATCH_192), (32, BATCH_256)] {
+        check_batch(&rt, &key[..key.len().min(length)], encrypted, &plain);
     }
 }

@@ -22,7 +22,7 @@ type Row = (&'static str, (usize, u64), &'static [Step], (u64, u64, u64));
 
 static ROWS: [Row; 7] = [
     (
-        "reads what is announced at once",
+        "reads what is allowed at once",
         (0, 99),
         &[
             (Some(6), 1, Ok(1), 6, 1),
@@ -35,7 +35,7 @@ static ROWS: [Row; 7] = [
         (0, 0, 0),
     ),
     (
-        "reads nothing ahead that is not announced",
+        "reads nothing ahead that is not allowed",
         (0, 99),
         &[
             (None, 1, Ok(1), 9, 1),
@@ -60,7 +60,7 @@ static ROWS: [Row; 7] = [
         (0, 1, 0),
     ),
     (
-        "buffered bytes count as announced",
+        "buffered bytes count as allowed",
         (0, 99),
         &[
             (Some(10), 1, Ok(1), 6, 1),
@@ -74,7 +74,7 @@ static ROWS: [Row; 7] = [
         (0, 0, 0),
     ),
     (
-        "gives more than a later announcement allows",
+        "gives more than a later call allows",
         (0, 99),
         &[
             (Some(10), 1, Ok(1), 6, 1),
@@ -111,15 +111,15 @@ static ROWS: [Row; 7] = [
 ];
 
 // Whether the step goes as its row says.
-fn goes_as_stated(
+fn goes_as_expected(
     source: &mut ReadAheadSource<FlakySource<'_>>,
-    (allowed, asked, answer, left, calls): &Step,
+    (allowed, requested, answer, left, calls): &Step,
 ) -> bool {
     if let Some(count) = allowed {
         source.allow_read_ahead(*count);
     }
     let mut buf = [b'-'; 16];
-    let got = source.read(&mut buf[..*asked.min(&16)]);
+    let got = source.read(&mut buf[..*requested.min(&16)]);
     let below = source.get_ref();
     got == *answer && below.left() == *left && below.calls() == *calls
 }
@@ -128,7 +128,7 @@ fn check_row(rt: &(impl Abort + AllocGlobal), (name, (piece, failing), steps, la
     let below = FlakySource::new(BYTES, *piece, *failing);
     let mut source = ReadAheadSource::new(rt.alloc(), 4, below).expect(rt, "memory");
     for (i, step) in steps.iter().enumerate() {
-        assert_at(rt, name, i, goes_as_stated(&mut source, step));
+        assert_at(rt, name, i, goes_as_expected(&mut source, step));
     }
     let counts = source.get_ref().counts;
     let counted = (counts.failures, counts.ends, counts.needless);
@@ -169,8 +169,8 @@ fn check_bytes(
 
 #[test]
 fn gives_the_same_whatever_is_allowed(rt: HostRuntime) {
-    let announcements = [0, 1, 2, 3, 4, 5, 6, 7, 8, 9, 10, 11, u64::MAX];
-    for allowed in announcements {
+    let counts = [0, 1, 2, 3, 4, 5, 6, 7, 8, 9, 10, 11, u64::MAX];
+    for allowed in counts {
         for capacity in 0..6 {
             check_bytes(&rt, allowed, capacity, (1, 2));
             check_bytes(&rt, allowed, capacity, (12, 1));

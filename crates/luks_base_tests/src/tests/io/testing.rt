@@ -50,7 +50,7 @@ fn a_flaky_source_fails_once_and_gives_pieces(rt: HostRuntime) {
 }
 
 #[test]
-fn a_broken_source_gives_so_many_bytes(rt: HostRuntime) {
+fn a_broken_source_gives_some_bytes_and_then_fails(rt: HostRuntime) {
     let mut source = BrokenSource::new(b"abcdefgh", 5);
     for (i, (answer, left)) in BROKEN.iter().enumerate() {
         let got = source.read(&mut [0; 4]);
@@ -68,7 +68,7 @@ static LEAKY: [(&[u8], Result<usize, DeviceFault>); 5] = [
 ];
 
 #[test]
-fn a_leaky_sink_fails_once_and_takes_pieces(rt: HostRuntime) -> Result<(), Fail> {
+fn a_leaky_sink_fails_once_and_accepts_pieces(rt: HostRuntime) -> Result<(), Fail> {
     let mut sink = FlakySink::new(rt.alloc(), 6, 3, 1)?;
     for (i, (bytes, answer)) in LEAKY.iter().enumerate() {
         assert_at(&rt, "leaky", i, sink.write(bytes) == *answer);

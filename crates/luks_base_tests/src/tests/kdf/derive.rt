@@ -353,7 +353,7 @@ fn check_count(rt: &impl Abort, iterations: u32, work: &mut Work, count: u128) -
 }
 
 #[test]
-fn work_goes_on_and_stops(rt: HostRuntime) {
+fn work_is_counted_and_saturates(rt: HostRuntime) {
     let mut work = Work::new(7);
     assert!(rt; work.count() == 7);
     check_count(&rt, 2, &mut work, 9);

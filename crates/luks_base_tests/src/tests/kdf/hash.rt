@@ -5,7 +5,7 @@ use std::process::Abort;
 static NAMES: [&str; 5] = ["sha1", "SHA224", "Sha256", "sHa384", "shA512"];
 
 #[test]
-fn names_in_either_case(rt: HostRuntime) {
+fn names_are_case_insensitive(rt: HostRuntime) {
     for i in 0..5 {
         let hash = HASHES[i];
         assert_in(&rt, i, Hash::from_name(hash.name()) == Some(hash));

@@ -149,7 +149,7 @@ fn three_stripes_of_one_byte(rt: HostRuntime) {
 }
 
 #[test]
-fn most_stripes(rt: HostRuntime) {
+fn stripes_at_the_maximum(rt: HostRuntime) {
     let mut stripes = [0xEE; 4000];
     split(&rt, Hash::Sha1, &[0x5A], &[0; 3999], &mut stripes);
 }

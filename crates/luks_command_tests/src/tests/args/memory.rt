@@ -1,6 +1,6 @@
 //! The results of `plan` if memory runs out.
 
-use super::{assert_of, words_of};
+use super::{args_of, assert_of};
 use luks_args::planning::{PlanFault, plan};
 use luks_request::command::Command;
 use luks_test_support::scarce::Scarcity;
@@ -14,16 +14,16 @@ const PIECE_SIZE: usize = 136;
 
 // Plans again with each further piece of memory, until memory suffices. Returns how often it ran
 // out before, or `None` if a result is neither that nor the specified one.
-fn refusals<'a>(
+fn failed_plans<'a>(
     alloc: Global,
-    words: &'a [&'a str],
-    stated: &Result<Command<'a>, PlanFault>,
+    args: &'a [&'a str],
+    expected: &Result<Command<'a>, PlanFault>,
     scarcity: &mut Scarcity,
 ) -> Option<usize> {
-    for refusals in 0..PIECES {
-        let planned = plan(alloc, words);
-        if planned == *stated {
-            return Some(refusals);
+    for failures in 0..PIECES {
+        let planned = plan(alloc, args);
+        if planned == *expected {
+            return Some(failures);
         }
         if planned != Err(PlanFault::Memory) {
             return None;
@@ -33,20 +33,20 @@ fn refusals<'a>(
     None
 }
 
-fn scarce_refusals<'a>(
+fn scarce_plans<'a>(
     rt: &(impl Abort + AllocGlobal),
-    words: &'a [&'a str],
-    stated: &Result<Command<'a>, PlanFault>,
+    args: &'a [&'a str],
+    expected: &Result<Command<'a>, PlanFault>,
 ) -> Option<usize> {
     let mut scarcity = Scarcity::new(rt.alloc(), PIECES, PIECE_SIZE).expect(rt, "memory");
-    refusals(rt.alloc(), words, stated, &mut scarcity)
+    failed_plans(rt.alloc(), args, expected, &mut scarcity)
 }
 
-fn check_scarce(rt: &(impl Abort + AllocGlobal), line: &str, words: &[&str]) {
-    let stated = plan(rt.alloc(), words);
-    assert_of(rt, line, stated.is_ok());
-    let refusals = scarce_refusals(rt, words, &stated);
-    assert_of(rt, line, 20 < refusals.unwrap_or(0));
+fn check_scarce(rt: &(impl Abort + AllocGlobal), line: &str, args: &[&str]) {
+    let expected = plan(rt.alloc(), args);
+    assert_of(rt, line, expected.is_ok());
+    let failures = scarce_plans(rt, args, &expected);
+    assert_of(rt, line, 20 < failures.unwrap_or(0));
 }
 
 static LINES: [&str; 14] = [
@@ -67,8 +67,8 @@ static LINES: [&str; 14] = [
 ];
 
 #[test]
-fn answers_memory_where_it_is_refused(rt: HostRuntime) {
+fn out_of_memory_is_reported_by_plan(rt: HostRuntime) {
     for line in &LINES {
-        check_scarce(&rt, line, &words_of(&rt, line));
+        check_scarce(&rt, line, &args_of(&rt, line));
     }
 }

@@ -1,13 +1,13 @@
 //! Lines that are not a luksrd command.
 
-use super::{assert_of, words_of};
+use super::{args_of, assert_of};
 use crate::tests::shared::joined;
 use luks_args::planning::{PlanFault, plan};
 use std::process::Abort;
 
 // The arguments are not a luksrd command.
-fn check_refused(rt: &(impl Abort + AllocGlobal), line: &str, words: &[&str]) {
-    assert_of(rt, line, plan(rt.alloc(), words) == Err(PlanFault::Usage));
+fn check_refused(rt: &(impl Abort + AllocGlobal), line: &str, args: &[&str]) {
+    assert_of(rt, line, plan(rt.alloc(), args) == Err(PlanFault::Usage));
 }
 
 // Lines that are not a luksrd command.
@@ -160,7 +160,7 @@ static FAULTS: [&str; 133] = [
 fn refuses_other_lines(rt: HostRuntime) {
     check_refused(&rt, "no words", &[]);
     for line in &FAULTS {
-        check_refused(&rt, line, &words_of(&rt, line));
+        check_refused(&rt, line, &args_of(&rt, line));
     }
 }
 
@@ -194,9 +194,9 @@ static AROUND: [(&str, &str); 3] = [
 ];
 
 fn check_number(rt: &(impl Abort + AllocGlobal), number: &str) {
-    for (before, behind) in &AROUND {
-        let line = joined(rt, &[before, number, behind]);
-        check_refused(rt, line.as_str(), &words_of(rt, line.as_str()));
+    for (before, after) in &AROUND {
+        let line = joined(rt, &[before, number, after]);
+        check_refused(rt, line.as_str(), &args_of(rt, line.as_str()));
     }
 }
 

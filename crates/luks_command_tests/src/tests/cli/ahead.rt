@@ -2,7 +2,7 @@
 //! so that what follows the payload remains for the next reader.
 
 use super::runs::{
-    CAT, CAT_DETACHED, DONE, WRITE_FAILED, check_reported, report_of, sink, words_of,
+    CAT, CAT_DETACHED, DONE, WRITE_FAILED, args_of, check_reported, report_of, sink,
 };
 use super::same::{assert_in, assert_same_in};
 use super::volume::{
@@ -34,10 +34,10 @@ fn report_ahead(
     image: &mut ReadAheadSource<FlakySource<'_>>,
     out: &mut MemSink,
 ) -> Report {
-    let words = words_of(rt, line);
+    let args = args_of(rt, line);
     let mut header = MemSource::new(header);
     let mut secret = MemSource::new(secret);
-    report_of(rt, &words, &mut header, image, &mut secret, out)
+    report_of(rt, &args, &mut header, image, &mut secret, out)
 }
 
 /// A run whose image is read ahead.
@@ -55,7 +55,7 @@ struct AheadRow {
 }
 
 /// Runs over the same image, with different capacities for read-ahead.
-struct Rooms {
+struct AheadRows {
     none: AheadRow,
     all: AheadRow,
     others: &'static [AheadRow],
@@ -77,9 +77,9 @@ macro_rules! row_of {
 
 // With every capacity for read-ahead, this many bytes of the plaintext are written, and this many
 // bytes of the image remain.
-macro_rules! rooms {
+macro_rules! rows {
     ($written:expr, $left:expr) => {
-        Rooms {
+        AheadRows {
             none: row_of!(0, $written, $left),
             all: row_of!(65_536, $written, $left),
             others: &[
@@ -116,36 +116,36 @@ fn check_ahead(
 
 // The capacity for read-ahead changes only the number of calls. Returns that number for no
 // read-ahead and for the largest capacity.
-fn check_rooms(rt: &(impl Abort + AllocGlobal), image: &[u8], rooms: &Rooms) -> (u64, u64) {
-    for row in rooms.others {
+fn check_rows(rt: &(impl Abort + AllocGlobal), image: &[u8], rows: &AheadRows) -> (u64, u64) {
+    for row in rows.others {
         check_ahead(rt, &[], image, row);
     }
-    let most = check_ahead(rt, &[], image, &rooms.none);
-    let least = check_ahead(rt, &[], image, &rooms.all);
+    let most = check_ahead(rt, &[], image, &rows.none);
+    let least = check_ahead(rt, &[], image, &rows.all);
     (most, least)
 }
 
 // The same for a volume with a payload of this size.
-fn check_size(rt: &(impl Abort + AllocGlobal), size: &str, rooms: &Rooms) -> (u64, u64) {
-    check_rooms(rt, &sealed2(rt, size), rooms)
+fn check_size(rt: &(impl Abort + AllocGlobal), size: &str, rows: &AheadRows) -> (u64, u64) {
+    check_rows(rt, &sealed2(rt, size), rows)
 }
 
 // The same for an image of 80,000 bytes. Its damaged primary header names 65,536 bytes, so as many
 // are read before the payload is.
-fn check_searched(rt: &(impl Abort + AllocGlobal), size: &str, rooms: &Rooms) {
+fn check_searched(rt: &(impl Abort + AllocGlobal), size: &str, rows: &AheadRows) {
     let image = changed(rt, &sealed2(rt, size), 80_000, NAMES_64_KIB);
-    check_rooms(rt, &image, rooms);
+    check_rows(rt, &image, rows);
 }
 
-static OF_ALL: Rooms = rooms!(PLAIN_LEN, 0);
+static OF_ALL: AheadRows = rows!(PLAIN_LEN, 0);
 
-static OF_ONE: Rooms = rooms!(512, 1024);
+static OF_ONE: AheadRows = rows!(512, 1024);
 
-static OF_TWO: Rooms = rooms!(1024, 512);
+static OF_TWO: AheadRows = rows!(1024, 512);
 
-static OF_SEARCHED: Rooms = rooms!(1024, 80_000 - 65_536);
+static OF_SEARCHED: AheadRows = rows!(1024, 80_000 - 65_536);
 
-static OF_BEHIND: Rooms = rooms!(PLAIN_LEN, 80_000 - 36_864 - 33_792);
+static OF_LONGER: AheadRows = rows!(PLAIN_LEN, 80_000 - 36_864 - 33_792);
 
 // The payload starts at byte 36,864 of an image of 38,400 bytes, and each sector is a call of its
 // own without read-ahead. One payload ends within the bytes that the search for a header has read,
@@ -158,11 +158,11 @@ fn no_more_is_consumed_than_the_payload(rt: HostRuntime) {
     assert_same_in(&rt, &"each by itself", two.0.saturating_sub(one.0), 1);
     assert_same_in(&rt, &"all at once", one.1, two.1);
     check_searched(&rt, "1024", &OF_SEARCHED);
-    check_searched(&rt, "33792", &OF_BEHIND);
+    check_searched(&rt, "33792", &OF_LONGER);
 }
 
 // A run with a detached header and this capacity for read-ahead.
-macro_rules! beside {
+macro_rules! detached {
     ($capacity:literal) => {
         AheadRow {
             line: CAT_DETACHED,
@@ -176,27 +176,27 @@ macro_rules! beside {
 }
 
 // The number of calls of the image.
-static ASKED: [(AheadRow, u64); 5] = [
-    (beside!(0), 2),
-    (beside!(1), 2),
-    (beside!(512), 2),
-    (beside!(1024), 1),
-    (beside!(65_536), 1),
+static CALLS: [(AheadRow, u64); 5] = [
+    (detached!(0), 2),
+    (detached!(1), 2),
+    (detached!(512), 2),
+    (detached!(1024), 1),
+    (detached!(65_536), 1),
 ];
 
-fn check_beside(rt: &(impl Abort + AllocGlobal), header: &[u8], image: &[u8]) {
-    for (row, calls) in &ASKED {
-        let asked = check_ahead(rt, header, image, row);
-        assert_same_in(rt, &row.capacity, asked, *calls);
+fn check_detached(rt: &(impl Abort + AllocGlobal), header: &[u8], image: &[u8]) {
+    for (row, calls) in &CALLS {
+        let found = check_ahead(rt, header, image, row);
+        assert_same_in(rt, &row.capacity, found, *calls);
     }
 }
 
 // With a detached header, the payload starts at the image's first byte, and is read in one call if
 // all of it is read ahead.
 #[test]
-fn no_more_is_consumed_beside_a_header(rt: HostRuntime) {
+fn no_more_is_consumed_with_a_detached_header(rt: HostRuntime) {
     let image = sealed2(&rt, "dynamic");
-    check_beside(&rt, &prefix2(&rt, "0", "1024"), payload_of(&image))
+    check_detached(&rt, &prefix2(&rt, "0", "1024"), payload_of(&image))
 }
 
 // A run whose output has no capacity.

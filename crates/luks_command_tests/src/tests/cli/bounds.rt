@@ -47,10 +47,10 @@ macro_rules! bytes_of {
 // and leaves of the key file: the key slot or the segment is refused right after the header was
 // read, or the key slot is tried.
 macro_rules! number {
-    ($place:ident, $number:literal, $reported:ident, $consumed:literal, $unread:literal) => {
+    ($offset:ident, $number:literal, $reported:ident, $consumed:literal, $unread:literal) => {
         Row {
             lines: &[TEST],
-            changes: &[($place, &bytes_of!($number))],
+            changes: &[($offset, &bytes_of!($number))],
             reported: $reported,
             consumed: $consumed,
             unread: $unread,

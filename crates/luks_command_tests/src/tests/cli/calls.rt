@@ -1,11 +1,11 @@
-//! The commands over devices that move a few bytes a call and of which one call fails, and with
+//! The commands over devices that move a few bytes a call, with one call that fails, and with
 //! failing allocations.
 
 use super::devices::{Pieces, Trial, check_failures, check_pieces, check_truncated};
 use super::headers::{self, FIELDS, PrintedText};
 use super::headers2::{self, image2};
-use super::runs::{CAT, CAT_DETACHED, OPENS, TEST, TEST_DETACHED, words_of};
-use super::scarce::check_refusals;
+use super::runs::{CAT, CAT_DETACHED, OPENS, TEST, TEST_DETACHED, args_of};
+use super::scarce::check_scarcity;
 use super::stripes::{self, FF, MERGE_2, SPLIT_2, ZEROS};
 use super::volume::{
     AT_START, PASSPHRASE, PLAIN, PLAIN_LEN, SMALL_LEN, changed, payload_of, prefix2, sealed2, small,
@@ -27,7 +27,7 @@ pub(super) enum Hardship {
     Failures,
     /// Allocations fail: the first number is how many bytes become free again after each run, the
     /// second one how many runs have to run out of memory at least.
-    Refusals(usize, usize),
+    Scarcity(usize, usize),
 }
 
 static WAYS: [Pieces; 15] = [
@@ -67,7 +67,7 @@ fn check_command(
         Hardship::Given => check_pieces(rt, command, trial, pieces),
         Hardship::Truncated => check_truncated(rt, command, trial, pieces),
         Hardship::Failures => check_failures(rt, command, trial, pieces),
-        Hardship::Refusals(piece, least) => check_refusals(rt, command, trial, (piece, least)),
+        Hardship::Scarcity(piece, least) => check_scarcity(rt, command, trial, (piece, least)),
     }
 }
 
@@ -78,8 +78,8 @@ pub(super) fn check_trial(
     trial: &Trial<'_>,
     pieces: Pieces,
 ) {
-    let words = words_of(rt, trial.line);
-    let command = plan(rt.alloc(), &words).expect(rt, "a command");
+    let args = args_of(rt, trial.line);
+    let command = plan(rt.alloc(), &args).expect(rt, "a command");
     check_command(rt, hardship, &command, trial, pieces)
 }
 
@@ -113,9 +113,9 @@ fn check_headers(rt: &(impl Abort + AllocGlobal), hardship: Hardship) {
 }
 
 // The pieces that the devices of a run move if a call fails.
-const ATTACHED: Pieces = (0, 384, 5, 3);
+const ATTACHED_PIECES: Pieces = (0, 384, 5, 3);
 
-const DETACHED: Pieces = (500, 100, 5, 300);
+const DETACHED_PIECES: Pieces = (500, 100, 5, 300);
 
 const STRIPES: Pieces = (0, 5, 5, 3);
 
@@ -124,11 +124,11 @@ const STRIPES: Pieces = (0, 5, 5, 3);
 type Moves = ([&'static str; 2], usize, usize, Pieces);
 
 // Both payloads start at byte 36,864; the key material ends at byte 4,608 and at byte 33,280.
-const FIRST: Moves = ([CAT, TEST], 36_864, SMALL_LEN - 4608, ATTACHED);
+const FIRST: Moves = ([CAT, TEST], 36_864, SMALL_LEN - 4608, ATTACHED_PIECES);
 
-const SECOND: Moves = ([CAT, TEST], 36_864, SMALL_LEN - 33_280, ATTACHED);
+const SECOND: Moves = ([CAT, TEST], 36_864, SMALL_LEN - 33_280, ATTACHED_PIECES);
 
-const BESIDE: Moves = ([CAT_DETACHED, TEST_DETACHED], 0, PLAIN_LEN, DETACHED);
+const DETACHED: Moves = ([CAT_DETACHED, TEST_DETACHED], 0, PLAIN_LEN, DETACHED_PIECES);
 
 // Both commands, over this image, and this detached header if the lines name one.
 fn check_both(
@@ -169,12 +169,12 @@ fn check_detached(rt: &(impl Abort + AllocGlobal), first: Hardship, second: Hard
     let volume = small(rt);
     let payload = payload_of(&volume);
     let header = changed(rt, &volume, 4608, AT_START);
-    check_both(rt, first, &header, payload, BESIDE);
-    check_both(rt, second, &prefix2(rt, "0", "dynamic"), payload, BESIDE)
+    check_both(rt, first, &header, payload, DETACHED);
+    check_both(rt, second, &prefix2(rt, "0", "dynamic"), payload, DETACHED)
 }
 
 #[test]
-fn all_pieces_come_to_the_same(rt: HostRuntime) {
+fn all_pieces_have_the_same_result(rt: HostRuntime) {
     check_headers(&rt, Hardship::Pieces);
     check_attached(&rt, Hardship::Pieces, Hardship::Pieces);
     check_detached(&rt, Hardship::Pieces, Hardship::Pieces)
@@ -188,9 +188,9 @@ fn each_failed_call_is_reported(rt: HostRuntime) {
 }
 
 #[test]
-fn refused_memory_is_reported(rt: HostRuntime) {
-    check_headers(&rt, Hardship::Refusals(1100, 1));
-    let (first, second) = (Hardship::Refusals(136, 11), Hardship::Refusals(1100, 11));
+fn out_of_memory_is_reported(rt: HostRuntime) {
+    check_headers(&rt, Hardship::Scarcity(1100, 1));
+    let (first, second) = (Hardship::Scarcity(136, 11), Hardship::Scarcity(1100, 11));
     check_attached(&rt, first, second);
     check_detached(&rt, first, second)
 }

@@ -239,7 +239,7 @@ const ONE_FINDING: Ends<'static> = (b"segment: offset\n", FINDINGS);
 /// The payload's offset and size as a LUKS2 header has them, how many bytes the image has before
 /// the payload, how many bytes of the plaintext are written, what is reported, how many bytes
 /// remain, and the findings of a check of the header.
-type Place = (
+type SegmentRow = (
     (&'static str, &'static str),
     usize,
     (usize, &'static str),
@@ -247,7 +247,7 @@ type Place = (
     Ends<'static>,
 );
 
-static PLACES: [Place; 6] = [
+static SEGMENTS: [SegmentRow; 6] = [
     (("0", "dynamic"), 0, (1536, DONE), (0, 0, 0), CLEAN),
     (("0", "1024"), 0, (1024, DONE), (0, 512, 0), CLEAN),
     (("0", "2048"), 0, (1536, SHORT), (0, 0, 0), CLEAN),
@@ -263,10 +263,10 @@ static PLACES: [Place; 6] = [
 ];
 
 // The image has the last `before` of the 1,024 bytes that precede the payload.
-fn check_place(
+fn check_segment(
     rt: &(impl Abort + AllocGlobal),
     image: &[u8],
-    ((offset, size), before, (written, reported), left, found): Place,
+    ((offset, size), before, (written, reported), left, found): SegmentRow,
 ) {
     let header = prefix2(rt, offset, size);
     let image = at(image, 1024usize.saturating_sub(before), 2560);
@@ -284,7 +284,7 @@ const FILLER: Changes = &[(2_096_128, &[0xee; 1024])];
 fn a_header_of_luks2_may_be_detached(rt: HostRuntime) {
     let volume = usual(&rt);
     let volume = changed(&rt, &volume, USUAL_LEN, FILLER);
-    for row in &PLACES {
-        check_place(&rt, at(&volume, 2_096_128, 2560), *row);
+    for row in &SEGMENTS {
+        check_segment(&rt, at(&volume, 2_096_128, 2560), *row);
     }
 }

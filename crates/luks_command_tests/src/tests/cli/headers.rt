@@ -171,7 +171,7 @@ static OF_10: [Row<'static>; 1] = [Row {
 }];
 
 #[test]
-fn a_dump_is_written_as_far_as_there_is_room(rt: HostRuntime) {
+fn a_dump_is_written_up_to_the_capacity(rt: HostRuntime) {
     check_rows(&rt, &changed(&rt, &[], 592, &FIELDS), &OF_10)
 }
 
@@ -196,6 +196,6 @@ static SOUGHT: [Row<'static>; 3] = [
 ];
 
 #[test]
-fn a_header_is_sought_so_far(rt: HostRuntime) {
+fn the_search_for_a_header_has_an_end(rt: HostRuntime) {
     check_rows(&rt, &changed(&rt, &[], 4_200_000, &[]), &SOUGHT)
 }

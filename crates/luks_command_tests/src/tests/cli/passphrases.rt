@@ -12,7 +12,7 @@ use std::process::Abort;
 const NEWLINE: &[u8] = b"correct horse\n";
 
 // How many bytes of a usual volume are consumed to open it: up to the end of its key material.
-const HELD: usize = 260_096;
+const LOADED: usize = 260_096;
 
 const NOT_8: &str = "1 luksrd: key slot 8 is not there\n";
 
@@ -30,12 +30,12 @@ const LIMITED_0: &str = "1 luksrd: key slot 0 is skipped: iterations\n";
 const WHOLE: Output = Output::Plain(PLAIN_LEN);
 
 static OF_USUAL: [Row<'static>; 14] = [
-    opened!("", PASSPHRASE, 0, HELD),
+    opened!("", PASSPHRASE, 0, LOADED),
     written!("", PASSPHRASE, WHOLE, DONE),
-    refused!("", NEWLINE, NO_KEY, HELD, 0),
-    opened!("--key-slot 0 ", PASSPHRASE, 0, HELD),
+    refused!("", NEWLINE, NO_KEY, LOADED, 0),
+    opened!("--key-slot 0 ", PASSPHRASE, 0, LOADED),
     written!("--key-slot 0 ", PASSPHRASE, WHOLE, DONE),
-    opened!("--max-iterations 1000 ", PASSPHRASE, 0, HELD),
+    opened!("--max-iterations 1000 ", PASSPHRASE, 0, LOADED),
     written!("--max-iterations 1000 ", PASSPHRASE, WHOLE, DONE),
     // Nothing is read after the header.
     refused!("--key-slot 8 ", PASSPHRASE, NOT_8, 592, 13),
@@ -59,7 +59,7 @@ static OF_USUAL: [Row<'static>; 14] = [
 ];
 
 #[test]
-fn a_usual_volume_opens_as_asked(rt: HostRuntime) {
+fn a_usual_volume_opens_as_requested(rt: HostRuntime) {
     let image = usual(&rt);
     assert_same_in(&rt, &"a usual volume", image.len(), USUAL_LEN);
     check_rows(&rt, &image, &OF_USUAL)
@@ -141,7 +141,7 @@ static OF_SMALL: [Row<'static>; 7] = [
 ];
 
 #[test]
-fn small_volumes_open_as_asked(rt: HostRuntime) {
+fn small_volumes_open_as_requested(rt: HostRuntime) {
     check_rows(&rt, &sealed(&rt, NEWEST, SMALL, NEWLINE), &OF_SMALL)
 }
 

@@ -65,7 +65,7 @@ pub(super) const ALL: usize = usize::MAX;
 pub(super) const NO_FAULT: Limits = (ALL, ALL, 8192);
 
 /// The arguments of a line, separated by single spaces.
-pub(super) fn words_of<'a>(rt: &(impl Abort + AllocGlobal), line: &'a str) -> Vec<&'a str> {
+pub(super) fn args_of<'a>(rt: &(impl Abort + AllocGlobal), line: &'a str) -> Vec<&'a str> {
     line.split(' ')
         .collect(rt.alloc())
         .expect(rt, "room for words")
@@ -95,13 +95,13 @@ pub(super) fn report_over<H: Source, I: Source, K: Source, O: Sink>(
 /// What a run with these arguments reports over these devices.
 pub(super) fn report_of<H: Source, I: Source, K: Source, O: Sink>(
     rt: &(impl Abort + AllocGlobal),
-    words: &[&str],
+    args: &[&str],
     header: &mut H,
     image: &mut I,
     secret: &mut K,
     out: &mut O,
 ) -> Report {
-    match plan(rt.alloc(), words) {
+    match plan(rt.alloc(), args) {
         Ok(command) => report_over(rt.alloc(), &command, header, image, secret, out),
         Err(fault) => report_of_fault(fault),
     }
@@ -130,11 +130,11 @@ pub(super) fn run_over(
     (of_image, of_secret): (usize, usize),
     out: &mut MemSink,
 ) -> (Report, Left) {
-    let words = words_of(rt, line);
+    let args = args_of(rt, line);
     let mut header = BrokenSource::new(header, ALL);
     let mut image = BrokenSource::new(image, of_image);
     let mut secret = BrokenSource::new(secret, of_secret);
-    let report = report_of(rt, &words, &mut header, &mut image, &mut secret, out);
+    let report = report_of(rt, &args, &mut header, &mut image, &mut secret, out);
     (report, (header.left(), image.left(), secret.left()))
 }
 

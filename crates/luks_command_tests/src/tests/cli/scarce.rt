@@ -12,7 +12,7 @@ use std::alloc::Global;
 use std::process::Abort;
 
 // How many runs there may be.
-const MOST: usize = 400;
+const MAX_RUNS: usize = 400;
 
 // What a run reports, and how many bytes of the image it leaves.
 fn run_once(
@@ -56,7 +56,7 @@ fn run_until_done(
     out: &mut MemSink,
 ) -> (Report, usize, bool) {
     let mut sound = true;
-    for refused in 0..MOST {
+    for refused in 0..MAX_RUNS {
         let (report, left) = run_once(alloc, command, trial, out);
         if report.message != Message::OutOfMemory {
             return (report, refused, sound);
@@ -65,7 +65,7 @@ fn run_until_done(
         sound = sound && untouched && report.status == 3 && out.as_slice().is_empty();
         scarcity.relent();
     }
-    (Report::of(Message::OutOfMemory, 0), MOST, sound)
+    (Report::of(Message::OutOfMemory, 0), MAX_RUNS, sound)
 }
 
 // The same with pieces of this many bytes.
@@ -76,14 +76,14 @@ fn run_scarce(
     piece: usize,
     out: &mut MemSink,
 ) -> (Report, usize, bool) {
-    let mut scarcity = Scarcity::new(rt.alloc(), MOST, piece).expect(rt, "pieces");
+    let mut scarcity = Scarcity::new(rt.alloc(), MAX_RUNS, piece).expect(rt, "pieces");
     run_until_done(rt.alloc(), command, trial, &mut scarcity, out)
 }
 
 /// Runs a command with more and more memory, until no allocation fails. Each run has one more piece
 /// of `piece` bytes, and at least `least` runs run out of memory. Each of those reports it, writes
 /// nothing and leaves the image of a detached header as it was; the last run ends as specified.
-pub(super) fn check_refusals(
+pub(super) fn check_scarcity(
     rt: &(impl Abort + AllocGlobal),
     command: &Command<'_>,
     trial: &Trial<'_>,

@@ -210,14 +210,14 @@ fn check_capacity(rt: &(impl Abort + AllocGlobal), capacity: usize) {
 }
 
 #[test]
-fn stripes_are_written_as_far_as_there_is_room(rt: HostRuntime) {
+fn stripes_are_written_up_to_the_capacity(rt: HostRuntime) {
     check_capacity(&rt, 10);
     check_capacity(&rt, 30)
 }
 
 // The report if memory runs out while the arguments are parsed.
 #[test]
-fn a_refused_plan_is_reported(rt: HostRuntime) {
+fn a_plan_out_of_memory_is_reported(rt: HostRuntime) {
     let report = report_of_fault(PlanFault::Memory);
     assert_same_in(&rt, &report, report.message, Message::OutOfMemory);
     check_reported(&rt, &report, &report, "3 luksrd: out of memory\n")

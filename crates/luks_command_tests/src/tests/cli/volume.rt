@@ -218,9 +218,9 @@ fn json_of(
 pub(super) fn prefix2_of(
     rt: &(impl Abort + AllocGlobal),
     slots: (&str, &str),
-    place: (&str, &str),
+    segment: (&str, &str),
 ) -> Vec<u8> {
-    let json = json_of(rt, slots, place);
+    let json = json_of(rt, slots, segment);
     let headers = image_of(rt.alloc(), 1, 1, json.as_str()).expect(rt, "room for headers");
     followed(rt, headers, 2 * header2::SIZE, at(&small(rt), 4096, 512))
 }

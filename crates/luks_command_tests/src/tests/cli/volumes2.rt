@@ -143,12 +143,12 @@ fn slots_by_argon2_are_skipped(rt: HostRuntime) {
 
 const SHORT: &str = "4 luksrd: image ends 2560 bytes before the segment does\n";
 
-static BEHIND: [u8; 808] = [0xee; 808];
+static AFTER: [u8; 808] = [0xee; 808];
 
 // A volume with this plaintext and a fixed size, with 808 bytes after it.
 fn fixed_size(rt: &(impl Abort + AllocGlobal), plain: &[u8]) -> Vec<u8> {
     let sealed = sealed_at(rt, &[slot!(0, 1, b"one", 192)], (65_536, true), plain);
-    followed(rt, sealed, 65_536 + 3584, &BEHIND)
+    followed(rt, sealed, 65_536 + 3584, &AFTER)
 }
 
 // The volume, whole and truncated.

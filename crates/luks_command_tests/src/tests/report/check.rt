@@ -24,10 +24,10 @@ static NUMBERS: [(usize, u32); 11] = [
 // Enables a key slot, with 1000 iterations, and 4000 stripes of 64 bytes from this sector on. The
 // stripes are 500 sectors.
 fn enable(bytes: &mut [u8], slot: u8, sector: u32) {
-    let place = 208 + 48 * usize::from(slot);
-    let state = [(place, 0x00ac_71f3), (place + 4, 1000)];
+    let offset = 208 + 48 * usize::from(slot);
+    let state = [(offset, 0x00ac_71f3), (offset + 4, 1000)];
     put_numbers(bytes, &state);
-    put_numbers(bytes, &[(place + 40, sector), (place + 44, 4000)]);
+    put_numbers(bytes, &[(offset + 40, sector), (offset + 44, 4000)]);
 }
 
 // A header with these key slots in use, each with the first sector of its area, and with these

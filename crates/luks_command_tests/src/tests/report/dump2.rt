@@ -60,7 +60,7 @@ const OTHER_LINES: &str = "Segment 0: offset=16777216 size=dynamic iv=0 \
 // The JSON text before a segment, and the text after it.
 const BEFORE: &str = r#"{"keyslots":{},"digests":{},"segments":{"#;
 
-const BEHIND: &str = "}}";
+const AFTER: &str = "}}";
 
 const FIXED: &str = "\"0\":{\"type\":\"crypt\",\"offset\":\"32768\",\"size\":\"8192\",\
     \"iv_tweak\":\"18446744073709551615\",\"encryption\":\"aes-cbc-essiv:sha256\",\
@@ -86,32 +86,32 @@ static DUMPS: [Dump; 5] = [
     ),
     (
         [0, 1],
-        [BEFORE, FIXED, BEHIND],
+        [BEFORE, FIXED, AFTER],
         "secondary\nSequence: 1\n",
         [FIXED_LINE, ""],
     ),
     (
         [0, 1],
-        [BEFORE, LINEAR, BEHIND],
+        [BEFORE, LINEAR, AFTER],
         "secondary\nSequence: 1\n",
         ["Segment: REFUSED type\n", ""],
     ),
     (
         [0, 1],
-        [BEFORE, "", BEHIND],
+        [BEFORE, "", AFTER],
         "secondary\nSequence: 1\n",
         [NO_SEGMENT, ""],
     ),
     (
         [1, u64::MAX],
-        [BEFORE, "", BEHIND],
+        [BEFORE, "", AFTER],
         "secondary\nSequence: 18446744073709551615\n",
         [NO_SEGMENT, ""],
     ),
 ];
 
-// An image with a header of this JSON text wherever a sequence number is given: as the primary
-// header, as the secondary one, or both.
+// An image with a header of this JSON text for each sequence number that is given: the primary
+// header, the secondary one, or both.
 fn image(rt: &(impl Abort + AllocGlobal), numbers: [Option<u64>; 2], json: &str) -> Vec<u8> {
     let mut image = empty_image(rt.alloc()).expect(rt, "memory");
     if let Some(number) = numbers[0] {
@@ -175,8 +175,8 @@ fn a_name_out_of_range_is_found(rt: HostRuntime) {
     let wanted = "segment: segments\nslot 31: type\n";
     check_findings(&rt, &image(&rt, [Some(5), Some(5)], json), wanted);
     for name in &NAMES {
-        let behind = r#"":{}},"segments":{},"digests":{}}"#;
-        let json = joined(&rt, &[r#"{"keyslots":{"0":{},""#, name, behind]);
+        let after = r#"":{}},"segments":{},"digests":{}}"#;
+        let json = joined(&rt, &[r#"{"keyslots":{"0":{},""#, name, after]);
         check_findings(&rt, &image(&rt, [Some(5), Some(6)], json.as_str()), NAMED);
     }
 }

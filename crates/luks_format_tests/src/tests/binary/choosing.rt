@@ -86,13 +86,13 @@ static LATER: [(u64, HeaderRole); 5] = [
 
 #[test]
 fn the_later_of_two_is_chosen(rt: HostRuntime) {
-    for (i, (sequence, place)) in LATER.iter().enumerate() {
+    for (i, (sequence, role)) in LATER.iter().enumerate() {
         let later = Sketch {
             sequence: *sequence,
             ..SECONDARY
         };
         let image = image_of(&rt, 32_768, &[PRIMARY, later]);
-        let want = Ok((*place, 16_384, Some(PairFinding::SequencesDiffer)));
+        let want = Ok((*role, 16_384, Some(PairFinding::SequencesDiffer)));
         check(&rt, i, &image, want, 32_768);
     }
 }
@@ -111,7 +111,7 @@ const NEWER: &[Sketch<'static>] = &[
 const ELSEWHERE: &[Sketch<'static>] = &[
     PRIMARY,
     Sketch {
-        place: 32_768,
+        offset: 32_768,
         size: 32_768,
         ..SECONDARY
     },
@@ -121,7 +121,7 @@ const ELSEWHERE: &[Sketch<'static>] = &[
 const TWO: &[Sketch<'static>] = &[
     SECONDARY,
     Sketch {
-        place: 32_768,
+        offset: 32_768,
         size: 32_768,
         sequence: 9,
         ..SECONDARY
@@ -175,8 +175,8 @@ fn image_with(
     changes: &[(usize, u8)],
 ) -> Vec<u8> {
     let mut image = image_of(rt, len, headers);
-    for (place, bits) in changes {
-        flip(image.as_mut_slice(), *place, *bits);
+    for (offset, bits) in changes {
+        flip(image.as_mut_slice(), *offset, *bits);
     }
     image
 }
@@ -190,13 +190,13 @@ fn damaged_and_missing_headers(rt: HostRuntime) {
 }
 
 #[test]
-fn a_damaged_primary_is_searched_for(rt: HostRuntime) {
+fn the_secondary_of_a_damaged_primary_is_chosen(rt: HostRuntime) {
     // Each of these bytes is hashed or checked.
-    for place in [
+    for offset in [
         0, 7, 8, 15, 16, 72, 104, 256, 263, 447, 448, 479, 512, 4095, 5_000, 16_383,
     ] {
-        let image = image_with(&rt, 32_768, BOTH, &[(place, 1)]);
-        check(&rt, place, &image, SECOND, 32_768);
+        let image = image_with(&rt, 32_768, BOTH, &[(offset, 1)]);
+        check(&rt, offset, &image, SECOND, 32_768);
     }
 }
 
@@ -218,7 +218,7 @@ fn check_length(rt: &(impl Abort + AllocGlobal), length: u32) {
     let size = length as usize;
     let end = size.saturating_mul(2);
     let secondary = Sketch {
-        place: size,
+        offset: size,
         size,
         ..SECONDARY
     };
@@ -243,7 +243,7 @@ fn check_length(rt: &(impl Abort + AllocGlobal), length: u32) {
 }
 
 #[test]
-fn each_length_is_found_at_its_place(rt: HostRuntime) {
+fn each_length_is_found_at_its_offset(rt: HostRuntime) {
     for length in LENGTHS {
         check_length(&rt, length);
     }

@@ -15,7 +15,7 @@ use std::process::Abort;
 
 // Computed by Python's hashlib over headers that were packed by its struct module: a primary header
 // of 16,384 bytes with the sequence number 7.
-static SUMS: [(Hash, &str, &str); 5] = [
+static CHECKSUMS: [(Hash, &str, &str); 5] = [
     (
         Hash::Sha1,
         "sha1",
@@ -60,11 +60,11 @@ fn check_is_read(rt: &(impl Abort + AllocGlobal), image: &[u8], name: &str, read
     assert_of(rt, name, fault.is_none() == read);
 }
 
-// Replaces a header's checksum by the one that the hexadecimal digits spell.
+// Replaces a header's checksum by the one that the hexadecimal digits represent.
 fn put_checksum(header: &mut [u8], hash: Hash, digits: &str) {
-    let mut sum = [0; 64];
-    let _ = hex::decode_to_slice(digits, &mut sum[..hash.size()]);
-    put(header, 448, &sum);
+    let mut checksum = [0; 64];
+    let _ = hex::decode_to_slice(digits, &mut checksum[..hash.size()]);
+    put(header, 448, &checksum);
 }
 
 // Checks that a whole header is read.
@@ -89,7 +89,7 @@ fn check_extent(rt: &(impl Abort + AllocGlobal), image: &mut [u8], name: &str, h
 
 #[test]
 fn checksums_of_another_program_agree(rt: HostRuntime) {
-    for (hash, name, digits) in &SUMS {
+    for (hash, name, digits) in &CHECKSUMS {
         let mut image = image_named(&rt, *hash, name);
         put_checksum(image.as_mut_slice(), *hash, digits);
         check_whole(&rt, &image, name, *hash);
@@ -105,7 +105,7 @@ static NAMES: [(&str, bool); 4] = [
 ];
 
 #[test]
-fn the_name_of_a_hash_is_folded(rt: HostRuntime) {
+fn names_of_hashes_are_case_insensitive(rt: HostRuntime) {
     for (name, known) in &NAMES {
         check_is_read(&rt, &image_named(&rt, Hash::Sha256, name), name, *known);
     }
@@ -187,8 +187,8 @@ fn each_failed_read_is_reported(rt: HostRuntime) {
 }
 
 // Reads the header until a run does not run out of memory, and returns how many runs did.
-fn refused_runs(alloc: Global, image: &[u8], scarcity: &mut Scarcity, most: u32) -> Option<u32> {
-    for refused in 0..most {
+fn failed_runs(alloc: Global, image: &[u8], scarcity: &mut Scarcity, max_runs: u32) -> Option<u32> {
+    for refused in 0..max_runs {
         match fault_of(alloc, &mut MemSource::new(image)) {
             None => return Some(refused),
             Some(HeaderFault::Memory) => scarcity.relent(),
@@ -200,11 +200,11 @@ fn refused_runs(alloc: Global, image: &[u8], scarcity: &mut Scarcity, most: u32)
 
 fn scarce_runs(rt: &(impl Abort + AllocGlobal), image: &[u8]) -> Option<u32> {
     let mut scarcity = Scarcity::new(rt.alloc(), 40, 4096).expect(rt, "memory");
-    refused_runs(rt.alloc(), image, &mut scarcity, 41)
+    failed_runs(rt.alloc(), image, &mut scarcity, 41)
 }
 
 #[test]
-fn lack_of_memory_is_reported(rt: HostRuntime) {
+fn out_of_memory_is_reported(rt: HostRuntime) {
     let runs = scarce_runs(&rt, &image_of(&rt, 32_768, &[SECONDARY]));
     // This fails if there was a fault other than running out of memory, too little memory was given
     // back, or no run ran out of memory.

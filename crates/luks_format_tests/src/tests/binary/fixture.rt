@@ -21,7 +21,7 @@ pub const JSON: &[u8] =
 #[derive(Clone, Copy)]
 pub struct Sketch<'a> {
     pub magic: &'a str,
-    pub place: usize,
+    pub offset: usize,
     pub size: usize,
     pub sequence: u64,
     pub hash: Hash,
@@ -31,7 +31,7 @@ pub struct Sketch<'a> {
 /// A header of 16,384 bytes with SHA-256 and the sequence number 7, at the image's start.
 pub const PRIMARY: Sketch<'static> = Sketch {
     magic: "LUKS",
-    place: 0,
+    offset: 0,
     size: 16_384,
     sequence: 7,
     hash: Hash::Sha256,
@@ -41,20 +41,20 @@ pub const PRIMARY: Sketch<'static> = Sketch {
 /// The secondary header after it.
 pub const SECONDARY: Sketch<'static> = Sketch {
     magic: "SKUL",
-    place: 16_384,
+    offset: 16_384,
     ..PRIMARY
 };
 
 /// Flips these bits of one byte.
-pub fn flip(bytes: &mut [u8], place: usize, bits: u8) {
-    if place < bytes.len() {
-        bytes[place] ^= bits;
+pub fn flip(bytes: &mut [u8], offset: usize, bits: u8) {
+    if offset < bytes.len() {
+        bytes[offset] ^= bits;
     }
 }
 
 // Writes a header into an image, its checksum last.
 fn write_header(image: &mut [u8], sketch: Sketch<'_>) {
-    let header = range_mut(image, sketch.place, sketch.size);
+    let header = range_mut(image, sketch.offset, sketch.size);
     put(header, 0, sketch.magic.as_bytes());
     put(header, 4, &[0xba, 0xbe, 0, 2]);
     put(header, 8, &(sketch.size as u64).to_be_bytes());
@@ -66,7 +66,7 @@ fn write_header(image: &mut [u8], sketch: Sketch<'_>) {
     }
     put(header, 168, b"11111111-2222-3333-4444-555555555555");
     put(header, 208, b"sub");
-    put(header, 256, &(sketch.place as u64).to_be_bytes());
+    put(header, 256, &(sketch.offset as u64).to_be_bytes());
     put(header, 4096, JSON);
     seal(header, sketch.hash);
 }
@@ -74,10 +74,10 @@ fn write_header(image: &mut [u8], sketch: Sketch<'_>) {
 /// Writes the checksum of a header.
 pub fn seal(header: &mut [u8], hash: Hash) {
     put(header, 448, &[0; 64]);
-    let mut sum = [0; 64];
-    let sum = &mut sum[..hash.size()];
-    digest(hash, header, b"", b"", sum);
-    put(header, 448, sum);
+    let mut checksum = [0; 64];
+    let checksum = &mut checksum[..hash.size()];
+    digest(hash, header, b"", b"", checksum);
+    put(header, 448, checksum);
 }
 
 /// An image of this length with these headers.

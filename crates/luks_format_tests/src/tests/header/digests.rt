@@ -80,7 +80,7 @@ fn check_digests(rt: &(impl Abort + AllocGlobal), rows: &[Numbered]) {
 // Digests are listed by ascending number, whatever their order. Names that are no number below 32
 // are ignored.
 #[test]
-fn digests_by_rising_number(rt: HostRuntime) {
+fn digests_by_ascending_number(rt: HostRuntime) {
     check_digests(&rt, &DIGESTS);
 }
 

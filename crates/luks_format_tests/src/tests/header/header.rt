@@ -13,9 +13,9 @@ use std::process::Abort;
 
 /// A key slot: its state, its iterations, offset and stripes, and the first byte of its salt and
 /// the last one.
-type Stated = (SlotState, [u32; 3], [u8; 2]);
+type ExpectedSlot = (SlotState, [u32; 3], [u8; 2]);
 
-static SLOTS: [Stated; 8] = [
+static SLOTS: [ExpectedSlot; 8] = [
     (SlotState::Enabled, [1_000_001, 8, 4000], [0x40, 0x5f]),
     (SlotState::Disabled, [0, 512, 4000], [0, 0]),
     (SlotState::Damaged(1), [2, 3, 4], [1, 1]),
@@ -124,8 +124,8 @@ static FAULTS: [Row; 8] = [
 // Checks that the whole image is read before its fault is reported.
 fn check_row(rt: &(impl Abort + AllocGlobal), (change, len, fault): &Row) {
     let mut image = header_bytes();
-    if let Some((place, byte)) = change {
-        put(&mut image, *place, &[*byte]);
+    if let Some((offset, byte)) = change {
+        put(&mut image, *offset, &[*byte]);
     }
     check_fault(rt, &image[..*len.min(&592)], *fault, 0);
 }
@@ -186,7 +186,7 @@ static LACKING: [Request; 8] = [
 ];
 
 // Whether the area has the first bytes afterwards, and the others remain in the source.
-fn takes(area: &mut HeaderArea, source: &mut MemSource<'_>, (end, there, len): &Request) -> bool {
+fn loads(area: &mut HeaderArea, source: &mut MemSource<'_>, (end, there, len): &Request) -> bool {
     let whole = area.extend_to(source, *end.min(&HeaderArea::MAX_LEN));
     let (prefix, rest) = DIGITS.split_at(*len.min(&10));
     (whole == Ok(*there)) & ([area.as_slice(), source.left()] == [prefix, rest])
@@ -197,12 +197,12 @@ fn check_lacking(rt: &(impl Abort + AllocGlobal), rows: &[Request]) {
     let mut area = HeaderArea::new(rt.alloc());
     assert_of(rt, "none", area.as_slice().is_empty());
     for (row, request) in rows.iter().enumerate() {
-        assert_in(rt, row, takes(&mut area, &mut source, request));
+        assert_in(rt, row, loads(&mut area, &mut source, request));
     }
 }
 
 #[test]
-fn an_area_takes_what_it_lacks(rt: HostRuntime) {
+fn an_area_loads_what_it_lacks(rt: HostRuntime) {
     check_lacking(&rt, &LACKING);
 }
 

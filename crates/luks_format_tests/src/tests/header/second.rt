@@ -68,7 +68,7 @@ fn a_text_that_cannot_be_read_is_reported(rt: HostRuntime) {
 }
 
 #[test]
-fn a_damaged_header_is_none(rt: HostRuntime) {
+fn a_damaged_header_is_not_luks(rt: HostRuntime) {
     let image = image_of(&rt, TEXT);
     assert!(rt; 5000 < image.len());
     image[5000] = b'x';

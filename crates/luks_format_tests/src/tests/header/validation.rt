@@ -63,9 +63,9 @@ const NO_ITERATIONS: (usize, u32) = (ITERATIONS, 0);
 const NO_STRIPES: (usize, u32) = (STRIPES, 0);
 
 /// Numbers, the limit of iterations, and the verdict on slot 0.
-type Judgement = (Numbers, Option<u32>, &'static str);
+type SlotVerdict = (Numbers, Option<u32>, &'static str);
 
-static SLOTS: [Judgement; 36] = [
+static SLOTS: [SlotVerdict; 36] = [
     (&[], None, "usable"),
     (&[(STATE, 1)], None, "state"),
     (&[(STATE, 0xdead)], None, "disabled"),
@@ -136,15 +136,15 @@ fn verdicts_on(
 // Whether slot 0 has this verdict, and the others are disabled.
 fn are_slots(verdicts: &[(u8, Verdict)], want: &str) -> bool {
     let mut are = verdicts.len() == 8;
-    let mut stated = want;
+    let mut expected = want;
     for (i, (number, verdict)) in verdicts.iter().enumerate() {
-        are &= (usize::from(*number) == i) & (word(verdict) == stated);
-        stated = "disabled";
+        are &= (usize::from(*number) == i) & (word(verdict) == expected);
+        expected = "disabled";
     }
     are
 }
 
-fn check_slots(rt: &(impl Abort + AllocGlobal), rows: &[Judgement]) {
+fn check_slots(rt: &(impl Abort + AllocGlobal), rows: &[SlotVerdict]) {
     for (row, (numbers, limit, want)) in rows.iter().enumerate() {
         let verdicts = verdicts_on(rt, numbers, &[], *limit);
         assert_in(rt, row, are_slots(verdicts, want));

@@ -13,7 +13,7 @@ use luks2_metadata::digest::{Digest, digest_for, digests};
 use luks2_metadata::slot::verdict_kind;
 use std::process::Abort;
 
-const UNDIGESTED: VerdictKind = VerdictKind::Skipped(SkipReason::Digest);
+const NO_USABLE_DIGEST: VerdictKind = VerdictKind::Skipped(SkipReason::Digest);
 
 // The iterations of the digest of a slot, if it has one.
 fn iterations(rt: &(impl Abort + AllocGlobal), metadata: &Metadata, slot: u8) -> Option<u32> {
@@ -46,7 +46,7 @@ pub(super) fn verdict(
     let kind = if found.is_some() {
         VerdictKind::Usable(1)
     } else {
-        UNDIGESTED
+        NO_USABLE_DIGEST
     };
     let agrees = verdict_kind(metadata, bounds, None, 2) == Some(kind);
     assert_of(rt, "the slot's verdict", agrees);
@@ -183,7 +183,7 @@ fn the_digests_as_they_are(rt: HostRuntime) {
 fn limits_on_digests(rt: HostRuntime) {
     let more = metadata(&rt, "'iterations':1000 -> 'iterations':2000");
     let below = verdict_kind(more, ATTACHED, Some(1999), 2);
-    assert_of(&rt, "1999", below == Some(UNDIGESTED));
+    assert_of(&rt, "1999", below == Some(NO_USABLE_DIGEST));
     let enough = verdict_kind(more, ATTACHED, Some(2000), 2);
     assert_of(&rt, "2000", enough == Some(VerdictKind::Usable(1)));
 }

@@ -89,8 +89,8 @@ pub fn changed(rt: &(impl Abort + AllocGlobal), text: &str, change: &str) -> Str
     let change = change.split_once(" -> ").ok_or(change);
     let (part, other) = change.expect(rt, "a change");
     let split = text.rsplit_once(part).ok_or(part);
-    let (before, behind) = split.expect(rt, "a part of the text");
-    [before, other, behind]
+    let (before, after) = split.expect(rt, "a part of the text");
+    [before, other, after]
         .concat(rt.alloc())
         .expect(rt, "memory")
 }

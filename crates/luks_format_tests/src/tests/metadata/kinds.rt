@@ -59,24 +59,24 @@ static NUMBERS: [(&str, Option<u64>, Option<u64>); 33] = [
 fn check_number(
     rt: &(impl Abort + AllocGlobal),
     value: &str,
-    whole: Option<u64>,
+    integer: Option<u64>,
     decimal: Option<u64>,
 ) {
     let tree = with_member(rt, value).tree();
-    let is_so = (integer_member(tree, "x") == whole) & (decimal_member(tree, "x") == decimal);
-    let is_text = string_member(tree, "x").is_some();
-    assert_of(rt, value, is_so & (whole.is_none() | !is_text));
+    let is_so = (integer_member(tree, "x") == integer) & (decimal_member(tree, "x") == decimal);
+    let is_string = string_member(tree, "x").is_some();
+    assert_of(rt, value, is_so & (integer.is_none() | !is_string));
 }
 
 #[test]
-fn whole_numbers_and_decimal_texts(rt: HostRuntime) {
-    for (value, whole, decimal) in &NUMBERS {
-        check_number(&rt, value, *whole, *decimal);
+fn integers_and_decimal_strings(rt: HostRuntime) {
+    for (value, integer, decimal) in &NUMBERS {
+        check_number(&rt, value, *integer, *decimal);
     }
 }
 
 #[test]
-fn a_text_is_what_it_spells(rt: HostRuntime) {
+fn strings_are_compared_exactly(rt: HostRuntime) {
     let tree = with_member(&rt, "'raw'").tree();
     assert_of(&rt, "x", string_member(tree, "x").unwrap_or("") == "raw");
     assert_of(&rt, "y", string_member(tree, "y").is_none());
@@ -91,7 +91,7 @@ fn a_text_is_what_it_spells(rt: HostRuntime) {
 
 // RFC 4648, section 10, and strings that Python's base64.b64decode(.., validate=True) refuses, or
 // that are not the encoding of what it gives.
-static BASE64_TEXTS: [(&str, Option<&str>); 25] = [
+static BASE64_STRINGS: [(&str, Option<&str>); 25] = [
     ("''", Some("")),
     ("'Zg=='", Some("f")),
     ("'Zm8='", Some("fo")),
@@ -138,13 +138,13 @@ fn check_base64(rt: &(impl Abort + AllocGlobal), value: &str, want: Option<&str>
 }
 
 #[test]
-fn base64_texts(rt: HostRuntime) {
-    for (value, want) in &BASE64_TEXTS {
+fn base64_strings(rt: HostRuntime) {
+    for (value, want) in &BASE64_STRINGS {
         check_base64(&rt, value, *want);
     }
 }
 
-static LISTS: [(&str, bool); 9] = [
+static ARRAYS: [(&str, bool); 9] = [
     ("[]", true),
     ("['0']", true),
     ("['0','0','x']", true),
@@ -157,8 +157,8 @@ static LISTS: [(&str, bool); 9] = [
 ];
 
 #[test]
-fn lists_that_are_texts_alone(rt: HostRuntime) {
-    for (value, want) in &LISTS {
+fn arrays_that_are_strings_alone(rt: HostRuntime) {
+    for (value, want) in &ARRAYS {
         let tree = with_member(&rt, value).tree();
         let is_so = (has_strings(tree, "x") == *want) & !has_strings(tree, "y");
         assert_of(&rt, value, is_so);

@@ -56,9 +56,9 @@ static TEXTS: [(&str, &str, &str); 27] = [
 
 #[test]
 fn texts_are_read_or_refused(rt: HostRuntime) {
-    for (before, behind, want) in &TEXTS {
-        let text = joined(&rt, &[before, behind]);
-        check_ending(&rt, behind, quoted(&rt, text).as_bytes(), want);
+    for (before, after, want) in &TEXTS {
+        let text = joined(&rt, &[before, after]);
+        check_ending(&rt, after, quoted(&rt, text).as_bytes(), want);
     }
 }
 
@@ -165,7 +165,7 @@ fn names_that_are_numbers(rt: HostRuntime) {
 }
 
 // Checks that the member is an array of these strings.
-fn check_texts(rt: &(impl Abort + AllocGlobal), metadata: &Metadata, name: &str, wants: &[&str]) {
+fn check_strings(rt: &(impl Abort + AllocGlobal), metadata: &Metadata, name: &str, wants: &[&str]) {
     let texts = strings_at(rt.alloc(), metadata.tree(), name).expect(rt, "memory");
     assert_of(rt, name, texts.as_slice().len() == wants.len());
     for (i, text) in texts.as_slice().iter().enumerate() {
@@ -175,10 +175,10 @@ fn check_texts(rt: &(impl Abort + AllocGlobal), metadata: &Metadata, name: &str,
 }
 
 #[test]
-fn lists_of_texts(rt: HostRuntime) {
+fn arrays_of_strings(rt: HostRuntime) {
     let metadata = with_member(&rt, "['0',7,'','1\\u0030','\\u00e9']");
-    check_texts(&rt, metadata, "x", &["0", "", "10", "é"]);
-    check_texts(&rt, metadata, "y", &[]);
+    check_strings(&rt, metadata, "x", &["0", "", "10", "é"]);
+    check_strings(&rt, metadata, "y", &[]);
     let tree = metadata.tree();
     let has_other = array_contains(tree, "x", "7") | array_contains(tree, "y", "0");
     assert_of(&rt, "7 and 0", !has_other);

@@ -34,7 +34,7 @@ static FIXED: [Ending; 6] = [
 ];
 
 // Whether an image of this length has a plaintext of this length and this ending.
-fn ends_so(volume: &Volume, (image_len, len, ending): &Ending) -> bool {
+fn has_ending(volume: &Volume, (image_len, len, ending): &Ending) -> bool {
     (volume.len(*image_len) == *len) & (volume.ending(*image_len) == *ending)
 }
 
@@ -46,7 +46,7 @@ fn check_ending(
     plain: &[u8],
     row: &Ending,
 ) {
-    assert_at(rt, row.0, ends_so(volume, row));
+    assert_at(rt, row.0, has_ending(volume, row));
     let cut = at(image, 0, row.0 as usize);
     let bytes = text(rt, row.1 as usize);
     assert_at(rt, row.0, is_range(volume, cut, plain, 0, bytes));

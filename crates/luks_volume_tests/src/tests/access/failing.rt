@@ -1,4 +1,4 @@
-//! Images of which a read fails, and images that have become shorter.
+//! Images with a read that fails, and images that have become shorter.
 
 use super::assert_at;
 use super::fixture::{BadImage, OPTIONS, PASS, image2, opened, refusal, text};

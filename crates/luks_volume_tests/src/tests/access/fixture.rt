@@ -76,12 +76,12 @@ pub fn is_range(
     volume: &Volume,
     image: &[u8],
     plain: &[u8],
-    place: usize,
+    offset: usize,
     bytes: &mut [u8],
 ) -> bool {
     bytes.fill(0xee);
-    let answer = volume.read_at(&MemImage::new(image), place as u64, bytes);
-    (answer == Ok(())) & (at(plain, place, bytes.len()) == &bytes[..])
+    let answer = volume.read_at(&MemImage::new(image), offset as u64, bytes);
+    (answer == Ok(())) & (at(plain, offset, bytes.len()) == &bytes[..])
 }
 
 /// The message of the refusal of a volume, or `Done` if it was opened.
@@ -92,7 +92,7 @@ pub fn refusal(alloc: Global, options: &Options, image: &impl ReadAt, pass: &[u8
     }
 }
 
-/// An image of which one call fails, or parts cannot be read.
+/// An image with one call that fails, or with parts that cannot be read.
 #[derive(Drop)]
 pub struct BadImage<'a> {
     /// The bytes that can be read.

@@ -147,7 +147,7 @@ fn open_until_done(alloc: Global, image: &[u8], scarcity: &mut Scarcity) -> (u32
 }
 
 #[test]
-fn refused_memory_is_reported(rt: HostRuntime) {
+fn out_of_memory_is_reported(rt: HostRuntime) {
     let image = image2(&rt, text(&rt, 1024), SectorSize::B512, 0, false);
     // The stack grows in this first run, since it cannot when all memory is allocated.
     let first = message(rt.alloc(), &OPTIONS, image, PASS);

@@ -1,4 +1,4 @@
-//! What passphrases open, and the work that it costs.
+//! Which slot each passphrase opens, and how much work that takes.
 
 use super::volumes::{LONG_KEY, Question, SHORT_KEY, Volume, answer};
 use luks_header::refusal::SkipReason;
@@ -36,60 +36,60 @@ const USUAL: Change = Change::Numbers(&[
 ]);
 
 /// Which slot opens, with the volume's key; or none, and these are skipped.
-enum Stated {
+enum Expected {
     Opens(u8),
     NoKey(&'static [(u8, SkipReason)]),
 }
 
 // The slots of the volume with the short key that are always skipped.
-const SKIPPED: Stated = Stated::NoKey(&[
+const SKIPPED: Expected = Expected::NoKey(&[
     (2, SkipReason::Stripes),
     (4, SkipReason::State),
     (6, SkipReason::Area),
 ]);
 
-const SKIPPED_BY_LIMIT: Stated = Stated::NoKey(&[
+const SKIPPED_BY_LIMIT: Expected = Expected::NoKey(&[
     (2, SkipReason::Stripes),
     (3, SkipReason::Iterations),
     (4, SkipReason::State),
     (6, SkipReason::Area),
 ]);
 
-const NONE: Stated = Stated::NoKey(&[]);
+const NONE: Expected = Expected::NoKey(&[]);
 
 /// The passphrase, the named slot, and the limit of iterations.
-type Asked = (&'static [u8], Option<u8>, Option<u32>);
+type Requested = (&'static [u8], Option<u8>, Option<u32>);
 
 /// A volume and a change of it, a request, the answer, and the count of work before and after it.
-type Row = (&'static Volume, Change, Asked, Stated, (u128, u128));
+type Row = (&'static Volume, Change, Requested, Expected, (u128, u128));
 
 static ROWS: [Row; 24] = [
     (
         &SHORT_KEY,
         Change::Nothing,
         (b"first", None, None),
-        Stated::Opens(0),
+        Expected::Opens(0),
         (0, 12),
     ),
     (
         &SHORT_KEY,
         Change::Nothing,
         (b"second", None, None),
-        Stated::Opens(3),
+        Expected::Opens(3),
         (0, 28),
     ),
     (
         &SHORT_KEY,
         Change::Nothing,
         (b"third", None, None),
-        Stated::Opens(5),
+        Expected::Opens(5),
         (0, 38),
     ),
     (
         &LONG_KEY,
         Change::Nothing,
         (b"sesame", None, None),
-        Stated::Opens(0),
+        Expected::Opens(0),
         (0, 19),
     ),
     (
@@ -131,7 +131,7 @@ static ROWS: [Row; 24] = [
         &SHORT_KEY,
         Change::Nothing,
         (b"third", Some(5), None),
-        Stated::Opens(5),
+        Expected::Opens(5),
         (0, 10),
     ),
     (
@@ -145,7 +145,7 @@ static ROWS: [Row; 24] = [
         &SHORT_KEY,
         Change::Nothing,
         (b"second", None, Some(9)),
-        Stated::Opens(3),
+        Expected::Opens(3),
         (0, 28),
     ),
     (
@@ -210,7 +210,7 @@ static ROWS: [Row; 24] = [
         &SHORT_KEY,
         Change::Flipped(2656),
         (b"third", None, None),
-        Stated::Opens(5),
+        Expected::Opens(5),
         (0, 38),
     ),
     (&SHORT_KEY, USUAL, (b"first", None, None), NONE, (0, 3000)),
@@ -219,7 +219,7 @@ static ROWS: [Row; 24] = [
         &SHORT_KEY,
         Change::Nothing,
         (b"third", None, None),
-        Stated::Opens(5),
+        Expected::Opens(5),
         (u128::MAX - 20, u128::MAX),
     ),
     (
@@ -236,15 +236,15 @@ fn changed(rt: &(impl Abort + AllocGlobal), volume: &Volume, change: &Change) ->
     let mut image = volume.image(rt);
     match change {
         Change::Nothing => {}
-        Change::Flipped(place) => {
-            assert!(rt; *place < image.len());
-            image[*place] ^= 1;
+        Change::Flipped(offset) => {
+            assert!(rt; *offset < image.len());
+            image[*offset] ^= 1;
         }
         Change::Numbers(numbers) => {
             image.resize(260_096, 0).expect(rt, "memory");
-            for (place, number) in *numbers {
-                assert!(rt; image.len() == 260_096 && *place <= 588);
-                image[*place..*place + 4].copy_from_slice(&number.to_be_bytes());
+            for (offset, number) in *numbers {
+                assert!(rt; image.len() == 260_096 && *offset <= 588);
+                image[*offset..*offset + 4].copy_from_slice(&number.to_be_bytes());
             }
         }
     }
@@ -252,13 +252,13 @@ fn changed(rt: &(impl Abort + AllocGlobal), volume: &Volume, change: &Change) ->
 }
 
 // Whether the answer is the specified one, with this key if a slot opens.
-fn is_stated(answer: &Result<Opened, OpenFault>, stated: &Stated, key: &[u8]) -> bool {
-    match stated {
-        Stated::Opens(slot) => match answer {
+fn is_expected(answer: &Result<Opened, OpenFault>, expected: &Expected, key: &[u8]) -> bool {
+    match expected {
+        Expected::Opens(slot) => match answer {
             Ok(opened) => opened.slot == *slot && opened.key.as_slice() == key,
             Err(_) => false,
         },
-        Stated::NoKey(skipped) => match answer {
+        Expected::NoKey(skipped) => match answer {
             Err(OpenFault::NoKey(slots)) => slots.as_slice() == *skipped,
             _ => false,
         },
@@ -268,17 +268,17 @@ fn is_stated(answer: &Result<Opened, OpenFault>, stated: &Stated, key: &[u8]) ->
 fn check_row(
     rt: &(impl Abort + AllocGlobal),
     row: usize,
-    (volume, change, asked, stated, work): &Row,
+    (volume, change, requested, expected, work): &Row,
 ) {
     let image = changed(rt, volume, change);
-    let (pass, named, limit) = *asked;
+    let (pass, named, limit) = *requested;
     let question = Question { pass, named, limit };
-    let (before, behind) = *work;
+    let (before, after) = *work;
     let mut work = Work::new(before);
     let key = hex::decode(rt.alloc(), volume.key).expect(rt, "hexadecimal digits");
     let answer = answer(rt, &image, question, &mut work);
-    let holds = is_stated(&answer, stated, key.as_slice());
-    assert!(rt; holds && work.count() == behind, "row {row}: {question:?}");
+    let holds = is_expected(&answer, expected, key.as_slice());
+    assert!(rt; holds && work.count() == after, "row {row}: {question:?}");
 }
 
 #[test]

@@ -20,7 +20,7 @@ fn header(rt: &(impl Abort + AllocGlobal)) -> Header {
 
 /// The slots that are tried and how many bytes are loaded for them, or why there are none. If none
 /// is named, these are skipped.
-enum Stated {
+enum Expected {
     Slots(&'static [u8], usize),
     NoSuchSlot,
     Disabled,
@@ -29,30 +29,30 @@ enum Stated {
 }
 
 // Which slot is named, and the limit of iterations.
-static ROWS: [(Option<u8>, Option<u32>, Stated); 16] = [
-    (None, None, Stated::Slots(&[0, 3, 5], 4608)),
-    (None, Some(9), Stated::Slots(&[0, 3, 5], 4608)),
-    (None, Some(8), Stated::Slots(&[0, 5], 3072)),
-    (Some(0), None, Stated::Slots(&[0], 1536)),
-    (Some(3), None, Stated::Slots(&[3], 4608)),
-    (Some(5), Some(7), Stated::Slots(&[5], 3072)),
-    (Some(8), None, Stated::NoSuchSlot),
-    (Some(255), None, Stated::NoSuchSlot),
-    (Some(1), None, Stated::Disabled),
-    (Some(7), Some(1), Stated::Disabled),
-    (Some(2), None, Stated::NamedSkipped(SkipReason::Stripes)),
-    (Some(4), None, Stated::NamedSkipped(SkipReason::State)),
-    (Some(6), None, Stated::NamedSkipped(SkipReason::Area)),
+static ROWS: [(Option<u8>, Option<u32>, Expected); 16] = [
+    (None, None, Expected::Slots(&[0, 3, 5], 4608)),
+    (None, Some(9), Expected::Slots(&[0, 3, 5], 4608)),
+    (None, Some(8), Expected::Slots(&[0, 5], 3072)),
+    (Some(0), None, Expected::Slots(&[0], 1536)),
+    (Some(3), None, Expected::Slots(&[3], 4608)),
+    (Some(5), Some(7), Expected::Slots(&[5], 3072)),
+    (Some(8), None, Expected::NoSuchSlot),
+    (Some(255), None, Expected::NoSuchSlot),
+    (Some(1), None, Expected::Disabled),
+    (Some(7), Some(1), Expected::Disabled),
+    (Some(2), None, Expected::NamedSkipped(SkipReason::Stripes)),
+    (Some(4), None, Expected::NamedSkipped(SkipReason::State)),
+    (Some(6), None, Expected::NamedSkipped(SkipReason::Area)),
     (
         Some(3),
         Some(8),
-        Stated::NamedSkipped(SkipReason::Iterations),
+        Expected::NamedSkipped(SkipReason::Iterations),
     ),
-    (Some(0), Some(6), Stated::NamedSkipped(SkipReason::Digest)),
+    (Some(0), Some(6), Expected::NamedSkipped(SkipReason::Digest)),
     (
         None,
         Some(6),
-        Stated::NothingTried(&[
+        Expected::NothingTried(&[
             (0, SkipReason::Digest),
             (2, SkipReason::Stripes),
             (3, SkipReason::Iterations),
@@ -77,27 +77,27 @@ fn has_slots(order: &Order, slots: &[u8]) -> bool {
     true
 }
 
-fn is_as_stated(answer: &Result<Order, OpenFault>, stated: &Stated) -> bool {
-    match (answer, stated) {
-        (Ok(order), Stated::Slots(slots, end)) => {
+fn is_expected(answer: &Result<Order, OpenFault>, expected: &Expected) -> bool {
+    match (answer, expected) {
+        (Ok(order), Expected::Slots(slots, end)) => {
             has_slots(order, slots) && held_end(order) == *end
         }
-        (Err(OpenFault::NothingTried(slots)), Stated::NothingTried(skipped)) => {
+        (Err(OpenFault::NothingTried(slots)), Expected::NothingTried(skipped)) => {
             slots.as_slice() == *skipped
         }
-        (Err(OpenFault::NoSuchSlot), Stated::NoSuchSlot) => true,
-        (Err(OpenFault::Disabled), Stated::Disabled) => true,
-        (Err(OpenFault::NamedSkipped(reason)), Stated::NamedSkipped(stated)) => *reason == *stated,
+        (Err(OpenFault::NoSuchSlot), Expected::NoSuchSlot) => true,
+        (Err(OpenFault::Disabled), Expected::Disabled) => true,
+        (Err(OpenFault::NamedSkipped(reason)), Expected::NamedSkipped(want)) => *reason == *want,
         _ => false,
     }
 }
 
 #[test]
-fn slots_come_by_rising_number_if_they_can_be_tried(rt: HostRuntime) {
+fn slots_come_by_ascending_number_if_they_can_be_tried(rt: HostRuntime) {
     let header = header(&rt);
-    for (named, limit, stated) in &ROWS {
+    for (named, limit, expected) in &ROWS {
         let answer = order(rt.alloc(), &header, *named, *limit);
-        assert!(rt; is_as_stated(&answer, stated), "{named:?}, {limit:?}");
+        assert!(rt; is_expected(&answer, expected), "{named:?}, {limit:?}");
     }
 }
 

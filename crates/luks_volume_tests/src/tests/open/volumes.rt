@@ -57,9 +57,9 @@ impl Volume {
     pub fn image(&self, rt: &(impl Abort + AllocGlobal)) -> Vec<u8> {
         let mut image = vec![in rt.alloc(); 0; self.len].expect(rt, "memory");
         for row in self.rows.lines() {
-            let (place, digits) = row.split_once(' ').expect(rt, "a row");
+            let (offset, digits) = row.split_once(' ').expect(rt, "a row");
             let mut at = [0; 2];
-            hex::decode_to_slice(place, &mut at).expect(rt, "a place");
+            hex::decode_to_slice(offset, &mut at).expect(rt, "a place");
             let start = usize::from(u16::from_be_bytes(at));
             assert!(rt; start + 32 <= image.len());
             hex::decode_to_slice(digits, &mut image[start..start + 32]).expect(rt, "a row");

@@ -125,12 +125,12 @@ pub struct Outcome {
 
 // A source that counts how often it forwards bytes.
 #[derive(Drop)]
-struct Passing<S> {
+struct ForwardCounter<S> {
     source: S,
     forwarded: u32,
 }
 
-impl<S: Source> Source for Passing<S> {
+impl<S: Source> Source for ForwardCounter<S> {
     ghost to_come = { λ p. S.to_come p.source };
 
     ghost counts = { λ p. S.counts p.source };
@@ -181,13 +181,13 @@ pub fn run_pieces(
     run_pump(pump, source, sink)
 }
 
-type Held<'a> = Passing<ReadAheadSource<FlakySource<'a>>>;
+type Buffered<'a> = ForwardCounter<ReadAheadSource<FlakySource<'a>>>;
 
 // A source of these bytes, which may all be read ahead.
-fn source_of<'a>(rt: &(impl Abort + AllocGlobal), bytes: &'a [u8], way: &Way) -> Held<'a> {
+fn source_of<'a>(rt: &(impl Abort + AllocGlobal), bytes: &'a [u8], way: &Way) -> Buffered<'a> {
     let below = FlakySource::new(bytes, way.piece, way.bad_read);
     let source = ReadAheadSource::new(rt.alloc(), way.capacity, below).expect(rt, "memory");
-    let mut source = Passing {
+    let mut source = ForwardCounter {
         source,
         forwarded: 0,
     };
@@ -195,7 +195,7 @@ fn source_of<'a>(rt: &(impl Abort + AllocGlobal), bytes: &'a [u8], way: &Way) ->
     source
 }
 
-// The pump of a payload, of which these bytes are loaded.
+// The pump of a payload with these bytes loaded.
 fn pump_of<'a>(rt: &impl Abort, segment: Segment, first: &'a [u8]) -> Pump<'a> {
     if first.is_empty() {
         Pump::new(segment, key(rt), 0)
@@ -206,7 +206,7 @@ fn pump_of<'a>(rt: &impl Abort, segment: Segment, first: &'a [u8]) -> Pump<'a> {
 
 fn run_loaded(
     pump: &mut Pump<'_>,
-    source: &mut Held<'_>,
+    source: &mut Buffered<'_>,
     sink: &mut FlakySink,
 ) -> (u32, Result<Step, VolumeFault>) {
     run_pump(pump, source, sink)
@@ -215,7 +215,7 @@ fn run_loaded(
 // Whether further steps and skips answer as the last step did, and call no device.
 fn is_over(
     pump: &mut Pump<'_>,
-    source: &mut Held<'_>,
+    source: &mut Buffered<'_>,
     sink: &mut FlakySink,
     last: Result<Step, VolumeFault>,
 ) -> bool {
@@ -228,7 +228,7 @@ fn is_over(
 }
 
 // How many bytes a source still gives. A read that fails only here gives nothing.
-fn left_in(source: &mut Held<'_>) -> usize {
+fn left_in(source: &mut Buffered<'_>) -> usize {
     match fill(source, &mut [0; 16_384]) {
         Ok(count) => count,
         Err(fault) => fault.got,

@@ -1,5 +1,5 @@
-//! Payloads with all endings, of which the source or the pump has buffered whole sectors, parts of
-//! them, or nothing.
+//! Payloads with all endings. The source or the pump has buffered whole sectors, parts of sectors,
+//! or nothing.
 
 use super::fixture::{
     End, NEVER, Volume, Way, assert_outcome, check_run, key, run, run_pump, segment_of, volume_of,
@@ -279,7 +279,7 @@ fn failed_writes_are_reported_from_then_on(rt: HostRuntime) {
 }
 
 // A sector is forwarded exactly if it is whole in what one call read.
-static PASSED: [(usize, usize, u32); 8] = [
+static FORWARDED: [(usize, usize, u32); 8] = [
     (0, 0, 0),
     (700, 0, 0),
     (1536, 0, 2),
@@ -294,7 +294,7 @@ static PASSED: [(usize, usize, u32); 8] = [
 fn buffered_sectors_are_forwarded(rt: HostRuntime) {
     let volume = volume_of(&rt, SectorSize::B512, &UNITS_512);
     let segment = segment_of(&rt, SectorSize::B512, 5, None);
-    for (capacity, piece, forwarded) in &PASSED {
+    for (capacity, piece, forwarded) in &FORWARDED {
         let way = way_of((*capacity, *piece, 200));
         let outcome = run(&rt, segment, (volume.image, volume.plain), way);
         let is_whole = outcome.end == (3, Ok(Step::End), 2536, 1536);

@@ -54,12 +54,12 @@ fn open_area(area_key: &[u8], area: &mut [u8], key: &mut [u8])
 }
 
 // Whether the stripes at this offset hold the key for a passphrase, after two iterations.
-fn opens(rt: &impl Abort, image: &[u8], place: usize, salt: &[u8], pass: &[u8]) -> bool {
+fn opens(rt: &impl Abort, image: &[u8], offset: usize, salt: &[u8], pass: &[u8]) -> bool {
     let mut area_key = [0; 32];
     let mut work = Work::new(0);
     pbkdf2(Hash::Sha256, pass, salt, 2, &mut area_key, &mut work);
     let mut area = [0; 512];
-    let found = at(image, place, 512);
+    let found = at(image, offset, 512);
     assert!(rt; found.len() == 512);
     area.copy_from_slice(found);
     let mut key = [0; 32];
@@ -138,10 +138,10 @@ fn sealed(rt: &(impl Abort + AllocGlobal), plain: &[u8]) -> &'static [u8] {
     image.expect(rt, "a volume").leak()
 }
 
-fn has_places(image: &[u8], rows: &[(usize, &[u8])]) -> bool {
+fn has_fields(image: &[u8], rows: &[(usize, &[u8])]) -> bool {
     let mut has = image.len() == 37_888;
-    for (place, bytes) in rows {
-        has &= at(image, *place, bytes.len()) == *bytes;
+    for (offset, bytes) in rows {
+        has &= at(image, *offset, bytes.len()) == *bytes;
     }
     has
 }
@@ -154,10 +154,10 @@ fn check_slots(rt: &impl Abort, image: &[u8]) {
 }
 
 #[test]
-fn a_sealed_volume_has_the_stated_places(rt: HostRuntime) {
+fn a_sealed_volume_has_its_fields_slots_and_payload(rt: HostRuntime) {
     let plain = counted(&rt, 1024);
     let image = sealed(&rt, plain);
-    assert_of(&rt, "places", has_places(image, &HEADER));
+    assert_of(&rt, "places", has_fields(image, &HEADER));
     check_slots(&rt, image);
     check_payload(&rt, image, plain);
 }

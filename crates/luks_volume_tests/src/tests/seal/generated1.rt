@@ -10,7 +10,7 @@ use luks1_seal::seal1;
 use std::process::Abort;
 
 /// How many volumes are generated.
-const DRAWN: u32 = 200;
+const GENERATED: u32 = 200;
 
 const HASHES: [Hash; 5] = [
     Hash::Sha1,
@@ -67,7 +67,7 @@ fn check_generated(rt: &(impl Abort + AllocGlobal), state: &mut u64, run: u32) {
 #[test]
 fn seals_whatever_is_in_range(rt: HostRuntime) {
     let mut state = 1;
-    for run in 0..DRAWN {
+    for run in 0..GENERATED {
         check_generated(&rt, &mut state, run);
     }
 }

@@ -36,8 +36,8 @@ fn first_answer(alloc: Global, volume: Volume<'_>, scarcity: &mut Scarcity) -> (
     for refused in 0..PIECES {
         let fault = fault_of(alloc, volume);
         if fault != Some(SealFault::Memory) {
-            let ends_well = fault.is_none() && fault_of(alloc, volume).is_none();
-            return (ends_well, refused);
+            let succeeds = fault.is_none() && fault_of(alloc, volume).is_none();
+            return (succeeds, refused);
         }
         scarcity.relent();
     }
@@ -47,22 +47,22 @@ fn first_answer(alloc: Global, volume: Volume<'_>, scarcity: &mut Scarcity) -> (
 fn check(rt: &(impl Abort + AllocGlobal), volume: Volume<'_>) {
     // The stack grows in a first call, since it cannot once all memory is used.
     assert!(rt; fault_of(rt.alloc(), volume).is_none());
-    let (is_well, refused) = {
+    let (succeeds, refused) = {
         let mut scarcity = Scarcity::new(rt.alloc(), PIECES, PIECE).expect(rt, "memory");
         first_answer(rt.alloc(), volume, &mut scarcity)
     };
-    assert!(rt; is_well && 10 < refused, "{refused}");
+    assert!(rt; succeeds && 10 < refused, "{refused}");
 }
 
 #[test]
-fn memory_is_answered_where_seal1_is_refused_it(rt: HostRuntime) {
+fn out_of_memory_is_reported_by_seal1(rt: HostRuntime) {
     let plain = counted(&rt, 1024);
     let slots = [slot1(0, [1; 32], b"one"), slot1(7, [2; 32], b"two")];
     check(&rt, Volume::First(&parameters1(&slots, plain)));
 }
 
 #[test]
-fn memory_is_answered_where_seal2_is_refused_it(rt: HostRuntime) {
+fn out_of_memory_is_reported_by_seal2(rt: HostRuntime) {
     let plain = counted(&rt, 1024);
     let slots = [slot2(0, [1; 32], b"one"), slot2(31, [2; 32], b"two")];
     check(&rt, Volume::Second(&parameters2(&slots, plain)));

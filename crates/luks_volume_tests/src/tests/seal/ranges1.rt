@@ -35,8 +35,8 @@ fn changed<'a>(change: &Change, bytes: &'a [u8]) -> Seal1<'a> {
             digest_iterations,
             ..base
         },
-        Change::Counted(place, len) => Seal1 {
-            uuid: at(bytes, place, len),
+        Change::Counted(offset, len) => Seal1 {
+            uuid: at(bytes, offset, len),
             ..base
         },
         Change::Uuid(uuid) => Seal1 { uuid, ..base },

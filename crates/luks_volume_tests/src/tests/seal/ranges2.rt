@@ -35,9 +35,9 @@ fn changed<'a>(change: &Change, bytes: &'a [u8]) -> Seal2<'a> {
             seal.offset = offset;
         }
         Change::DigestIterations(iterations) => seal.digest_iterations = iterations,
-        Change::Uuid(place, len) => seal.uuid = at(bytes, place, len),
-        Change::Label(place, len) => seal.label = at(bytes, place, len),
-        Change::Subsystem(place, len) => seal.subsystem = at(bytes, place, len),
+        Change::Uuid(offset, len) => seal.uuid = at(bytes, offset, len),
+        Change::Label(offset, len) => seal.label = at(bytes, offset, len),
+        Change::Subsystem(offset, len) => seal.subsystem = at(bytes, offset, len),
         Change::Written(label) => seal.label = label,
         Change::Key(mode, len) => {
             seal.mode = mode;

@@ -72,7 +72,7 @@ fn gives(source: &mut ReadAheadSource<FlakySource<'_>>, next: &[u8], calls: u64)
 // The source has given the first letter, and has five more buffered. It forwards only those.
 fn check_row(
     rt: &(impl Abort + AllocGlobal),
-    (name, capacity, passes, (written, calls, failures), buffered): &Row,
+    (name, capacity, steps, (written, calls, failures), buffered): &Row,
 ) {
     let below = FlakySource::new(b"abcdefghij", 0, 99);
     let mut source = ReadAheadSource::new(rt.alloc(), 6, below).expect(rt, "memory");
@@ -80,7 +80,7 @@ fn check_row(
     let is_first = gives(&mut source, b"a", 1);
     assert_at(rt, name, 0, is_first && source.get_ref().left() == 4);
     let mut sink = FlakySink::new(rt.alloc(), *capacity, 9, 99).expect(rt, "memory");
-    for (count, answer) in *passes {
+    for (count, answer) in *steps {
         let got = source.forward_buffered(*count, &Reversed, &mut sink);
         assert_at(rt, name, 1, got == *answer);
     }
@@ -103,7 +103,7 @@ fn forwards_what_is_buffered_and_nothing_else(rt: HostRuntime) {
 }
 
 #[test]
-fn sources_that_hold_nothing_pass_nothing_on(rt: HostRuntime) -> Result<(), Fail> {
+fn sources_that_buffer_nothing_forward_nothing(rt: HostRuntime) -> Result<(), Fail> {
     let mut sink = MemSink::new(rt.alloc(), 9)?;
     let mut flaky = FlakySource::new(b"abc", 0, 99);
     assert_at(

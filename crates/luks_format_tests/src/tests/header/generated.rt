@@ -13,7 +13,7 @@ use luks_test_support::numbers::next;
 use std::process::Abort;
 
 // One of four numbers that are usual for a field, or any number.
-fn draw(state: &mut u64, usual: [u32; 4]) -> u32 {
+fn choose(state: &mut u64, usual: [u32; 4]) -> u32 {
     match next(state) % 5 {
         0 => usual[0],
         1 => usual[1],
@@ -26,20 +26,20 @@ fn draw(state: &mut u64, usual: [u32; 4]) -> u32 {
 fn generated_header(state: &mut u64) -> [u8; 592] {
     let mut bytes = volume_header();
     let numbers = [
-        (KEY_BYTES, draw(state, [32, 64, 0, 1])),
-        (PAYLOAD_OFFSET, draw(state, [4096, 65536, 2, 0])),
-        (DIGEST_ITERATIONS, draw(state, [1000, 1, 0, 2000])),
+        (KEY_BYTES, choose(state, [32, 64, 0, 1])),
+        (PAYLOAD_OFFSET, choose(state, [4096, 65536, 2, 0])),
+        (DIGEST_ITERATIONS, choose(state, [1000, 1, 0, 2000])),
     ];
     put_numbers(&mut bytes, &numbers);
     for slot in 0..8 {
         let numbers = [
-            (STATE, draw(state, [0x00ac_71f3, 0x00ac_71f3, 0xdead, 1])),
-            (ITERATIONS, draw(state, [1000, 1, 0, 1001])),
-            (SLOT_OFFSET, draw(state, [8, 2, 1, 65036])),
-            (STRIPES, draw(state, [4000, 1, 0, 4001])),
+            (STATE, choose(state, [0x00ac_71f3, 0x00ac_71f3, 0xdead, 1])),
+            (ITERATIONS, choose(state, [1000, 1, 0, 1001])),
+            (SLOT_OFFSET, choose(state, [8, 2, 1, 65036])),
+            (STRIPES, choose(state, [4000, 1, 0, 4001])),
         ];
-        for (place, number) in numbers {
-            put(&mut bytes, place + 48 * slot, &number.to_be_bytes());
+        for (offset, number) in numbers {
+            put(&mut bytes, offset + 48 * slot, &number.to_be_bytes());
         }
     }
     bytes
