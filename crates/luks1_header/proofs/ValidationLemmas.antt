@@ -85,12 +85,12 @@ pub record IsOf (header : Header1) (usable : Slot) : Type 0 where
   pub before_payload : exceeds (payload1_start header) (material_end usable) ≡ false
   pub digest : digest1_of header ≡ Some usable.digest
 
--- key material that is in range ends at or before the payload's start, if that is known, and within the longest area
-placed : (header : Header1) (slot : StoredSlot) → area1_out_of_range header slot ≡ false
+-- key material that is in range ends at or before the payload's start, if that is known, and can be loaded
+area_in_range : (header : Header1) (slot : StoredSlot) → area1_out_of_range header slot ≡ false
     → (exceeds (payload1_start header) (512 * slot.offset + need_of header.key_bytes slot.stripes) ≡ false)
     × (512 * slot.offset + need_of header.key_bytes slot.stripes ≤ max_loaded_len)
 unfolding area1_out_of_range area_out_of_range
-placed header slot is = (grind (arith, nat_tests), grind (arith, nat_tests))
+area_in_range header slot is = (grind (arith, nat_tests), grind (arith, nat_tests))
 
 module _ (header : Header1) (limit : Option ℕ) (slot : StoredSlot) where
   -- if these reasons to skip the slot do not hold, its numbers are in range
@@ -98,7 +98,7 @@ module _ (header : Header1) (limit : Option ℕ) (slot : StoredSlot) where
       → area1_out_of_range header slot ≡ false → are_in_range (slot_parts1_of header slot) ≡ true
   unfolding is_in_range iterations_out_of_range stripes_out_of_range slot_parts1_of
   range_of stripes iterations area =
-      let place = placed header slot area in
+      let bounds = area_in_range header slot area in
       grind (arith, nat_tests)
 
   -- if there is no reason to skip the slot, there is what is needed to open it, with the digest
@@ -151,7 +151,7 @@ module _ (header : Header1) (limit : Option ℕ) (slot : StoredSlot) where
         volume_key = refl;
         area_key = refl;
         area_mode = refl;
-        before_payload = (placed header slot all.1.1.1.0).0;
+        before_payload = (area_in_range header slot all.1.1.1.0).0;
         digest = there.1;
       } in
       (subst (IsOf header) (sym same) known, verdict.1)

@@ -61,9 +61,9 @@ module _ (image : List ℕ) where
 
 module _ (loaded : List ℕ) (ended : Bool) (image : List ℕ) (prefix : IsPrefixOf loaded ended image)
     (valid : is_valid image 0 ≡ true) where
-  beside_whole : 2 * size_at image 0 ≤ length loaded → with_valid_primary loaded ≡ with_valid_primary image
+  choice_with_primary_whole : 2 * size_at image 0 ≤ length loaded → with_valid_primary loaded ≡ with_valid_primary image
   unfolding with_valid_primary
-  beside_whole whole =
+  choice_with_primary_whole whole =
       let range = valid_range image 0 valid in
       let size = size_at image 0 in
       let long : size + 4096 ≤ length loaded = omega (arith, range.1, whole) in
@@ -79,12 +79,12 @@ module _ (loaded : List ℕ) (ended : Bool) (image : List ℕ) (prefix : IsPrefi
       ) refl
 
   -- the loaded bytes of the two headers decide which one is chosen
-  pub beside_same : (ended ≡ false → 2 * size_at image 0 ≤ length loaded)
+  pub choice_with_primary_same : (ended ≡ false → 2 * size_at image 0 ≤ length loaded)
       → with_valid_primary loaded ≡ with_valid_primary image
-  beside_same whole = by ended refl where
+  choice_with_primary_same whole = by ended refl where
     by : (b : Bool) → ended ≡ b → with_valid_primary loaded ≡ with_valid_primary image
     by true e = ap with_valid_primary (sym (prefix.ends e))
-    by false e = beside_whole (whole e)
+    by false e = choice_with_primary_whole (whole e)
 
 -- if the primary header is not valid, the header that the search finds is the chosen one
 pub found_chosen : (loaded : List ℕ) (ended : Bool) (found : Result (Option Header2) HeaderFault)
@@ -163,7 +163,7 @@ module _ (loaded image : List ℕ) (prefix : IsPrefixOf loaded false image) wher
       let size : size_at loaded 0 ≡ size_at image 0 =
       ap size_in (at-prefix loaded false image prefix 0 4096 (omega (arith, probe_some image, whole))) in (
         chosen_primary loaded (first.0 ∙ e)
-            ∙ beside_same loaded false image prefix e (λ _. omega (arith, probe_primary image e, whole))
+            ∙ choice_with_primary_same loaded false image prefix e (λ _. omega (arith, probe_primary image e, whole))
             ∙ sym (chosen_primary image e),
         probe_primary loaded (first.0 ∙ e) ∙ ap (λ n. 2 * n) size ∙ sym (probe_primary image e),
       )

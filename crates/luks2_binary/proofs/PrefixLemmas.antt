@@ -307,7 +307,7 @@ module _ (image : List ℕ) (old new : HeaderAreaModel) (prefix : IsPrefixOf new
     by true e = omega (arith, probe_some image, few, loaded.within, ap length (prefix.ends e))
     by false e = omega (arith, probe_some image, few, loaded.within, loaded.complete e, prefix.within)
 
-  -- the answer that the code makes of the choice is right
+  -- the answer that the code derives from the choice is correct
   pub answered_for : (chosen : Option Header2) (answer : Result Header2 HeaderFault) → answer ≡ ok_or chosen NotLuks
       → chosen ≡ chosen2_of image → length old.bytes ≤ 4096 → LoadedFor (probe2_len image) (Ok tt) old new
       → AnsweredFor image new.bytes answer
@@ -319,7 +319,7 @@ module _ (image : List ℕ) (old new : HeaderAreaModel) (prefix : IsPrefixOf new
       by (Some header) e known = rw e (known ∙ e, loaded_read_len few loaded)
       by None e known = rw e (known ∙ e, loaded_read_len few loaded)
 
-  -- a search that was aborted claims nothing about the header, but how many bytes are loaded
+  -- the answer of an aborted search claims nothing about the header, only how many bytes are loaded
   pub aborted_for : (fault : HeaderFault) → length old.bytes ≤ 4096 → LoadedFor (probe2_len image) (Err fault) old new
       → AnsweredFor image new.bytes (Err fault)
   unfolding header2_read_len

@@ -22,8 +22,8 @@ beginning_at place =
     else 0x53 ∷ 0x4b ∷ 0x55 ∷ 0x4c ∷ 0xba ∷ 0xbe ∷ 0x00 ∷ 0x02 ∷ []
 
 -- these 4096 bytes are a binary header for this offset: they begin with the magic bytes and version for this offset,
--- and state one of the nine lengths, this offset and a known hash function; of a secondary header, length and offset
--- are equal
+-- and state one of the nine lengths, this offset and a known hash function; a secondary header's length and offset are
+-- equal
 unfoldable pub is_binary_of : ℕ → List ℕ → Bool
 is_binary_of place binary =
     bytes_eq (at 0 8 binary) (beginning_at place)

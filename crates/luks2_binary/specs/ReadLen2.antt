@@ -3,12 +3,12 @@ use Rattle.std.specs.Prelude.{ℕ, ◌+◌, ◌*◌, if◌then◌else◌, List, 
 use Rattle.luks2_binary.specs.Choice2.{fits, is_tried, is_valid, size_at}
 use Rattle.luks2_binary.specs.Header2.{binary_len, sizes}
 
--- where the bytes end that are read to check an offset: with the binary header, and, if that fits, with the whole
+-- the end of the bytes that are read to check an offset: the end of the binary header or, if that fits, of the whole
 -- header. At one of the nine offsets the latter end is twice the offset
 unfoldable pub probe_end : List ℕ → ℕ → ℕ
 probe_end image place = max (place + binary_len) (if fits image place then place + size_at image place else 0)
 
--- the greatest of some numbers
+-- the maximum of some numbers
 abbrev pub greatest : List ℕ → ℕ
 greatest [] = 0
 greatest (number ∷ numbers) = max number (greatest numbers)

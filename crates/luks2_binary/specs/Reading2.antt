@@ -25,7 +25,7 @@ pub record LoadedPrefixOf (image : List ℕ) (area : HeaderAreaModel) (left : Op
 abbrev pub valid_size : List ℕ → ℕ → Option ℕ
 valid_size image place = if is_valid image place then Some (size_at image place) else None
 
--- a fact of each image that starts with the loaded bytes
+-- `Holds` is true of each image that starts with the loaded bytes
 abbrev pub OfEach : List ℕ → Bool → (List ℕ → Type 0) → Type 0
 OfEach loaded ended Holds = (image : List ℕ) → IsPrefixOf loaded ended image → Holds image
 

@@ -105,7 +105,7 @@ pub fn read_header2<S: Source>(
 ) -> Result<Header2, HeaderFault>
     requires few { length area.old.bytes ≤ 4096 }
 
-    // Of each image that starts with the loaded bytes:
+    // For each image that starts with the loaded bytes:
     ensures answered { OfEach area.new.bytes area.new.ended (λ image.
         AnsweredFor image area.new.bytes result) }
     ensures loads { LoadsMore probe2_len (finished result) (is_read_fault result)

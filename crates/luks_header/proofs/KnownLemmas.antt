@@ -170,7 +170,7 @@ memory_below image left ends ends' (inl ((count, few, consumption), same, none))
     (count, omega (arith, few, consumption.within, (probe_is image).0), consumption)
 memory_below image left ends ends' (inr (second, consumption)) = (header_read_len image, omega arith, consumption.0)
 
--- an area starts as LUKS1 if the test of its bytes says so
+-- the test of an area's bytes decides whether it starts as LUKS1
 pub starts_as : {bytes area : List ℕ} {answer expected : Bool} → bytes ≡ area → answer ≡ is_luks1 bytes
     → answer ≡ expected → is_luks1 area ≡ expected
 starts_as same is holds = ap is_luks1 (sym same) ∙ sym is ∙ holds
@@ -207,13 +207,13 @@ module _ (area : HeaderAreaModel) (image : List ℕ) (left : Option (List ℕ))
       let few = short_from_not whole 592 (length area.bytes) iff is in
       let same : area.bytes ≡ image =
       consumption.1 ∙ take_all (min 592 (length image)) image (omega (arith, few, loaded_len)) in
-      let cost : min 592 (length image) ≡ header_read_len image =
+      let read_len : min 592 (length image) ≡ header_read_len image =
       omega (arith, few, loaded_len, (probe_is image).0, (probe_is image).1) in
       let falls : falls_short image ≡ true =
       lt-ltb (length image) (probe_len image) (omega (arith, few, loaded_len, (probe_is image).1)) in (
         ap header_of (sym same) ∙ none few,
         (
-          subst (ConsumedExactly image left) cost consumption.0,
+          subst (ConsumedExactly image left) read_len consumption.0,
           found ∙ ap (λ b. counted (not b) ends) is ∙ sym (ap (λ b. counted b ends) falls),
         ),
       )
@@ -313,30 +313,30 @@ module _ (image : List ℕ) (old new : HeaderAreaModel) (other : is_luks1 image 
 
 module _ (image : List ℕ) (old new : HeaderAreaModel) (left : Option (List ℕ)) (ends ends' : ℕ)
     (other : is_luks1 image ≡ false) (unended : old.ended ≡ false) (holds : LoadedPrefixOf image new left)
-    (found_end : ends' ≡ counted new.ended ends) where
+    (hit_end : ends' ≡ counted new.ended ends) where
   consumed : ConsumedExactly image left (length new.bytes)
   consumed = record { within = holds.prefix.within; left = holds.behind }
 
   -- as many bytes were consumed as are read for the header
-  costs : length new.bytes ≡ header2_read_len image → LoadedFor (probe2_len image) (Ok tt) old new
+  fully_read : length new.bytes ≡ header2_read_len image → LoadedFor (probe2_len image) (Ok tt) old new
       → ConsumedHeaderLen image left ends ends'
-  costs long loaded = (
+  fully_read long loaded = (
     subst (ConsumedExactly image left) (long ∙ sym (lengths_other image other).0) consumed,
-    found_end ∙ ap (λ b. counted b ends) (ended_short image old new other unended holds.prefix loaded),
+    hit_end ∙ ap (λ b. counted b ends) (ended_short image old new other unended holds.prefix loaded),
   )
 
   -- searching for the header was aborted
   pub search_aborted : (fault : HeaderFault) → AnsweredFor image new.bytes (Err fault)
       → LoadedFor (probe2_len image) (finished {T = Header2} (Err fault)) old new
       → ReadsNoHeader image left ends ends' fault
-  search_aborted NotLuks (none, long) loaded = (header_other image other (Err NotLuks) none, costs long loaded)
+  search_aborted NotLuks (none, long) loaded = (header_other image other (Err NotLuks) none, fully_read long loaded)
   search_aborted Read few loaded = (
     (length new.bytes, omega (arith, few, (lengths_other image other).0), consumed),
-    found_end ∙ ap (λ b. counted b ends) loaded.before_end,
+    hit_end ∙ ap (λ b. counted b ends) loaded.before_end,
   )
   search_aborted Memory few loaded = inl (
     (length new.bytes, omega (arith, few, (lengths_other image other).1), consumed),
-    found_end ∙ ap (λ b. counted b ends) loaded.before_end,
+    hit_end ∙ ap (λ b. counted b ends) loaded.before_end,
     λ is. absurd (cc),
   )
   search_aborted _ never loaded = absurd never
@@ -347,9 +347,9 @@ module _ (image : List ℕ) (old new : HeaderAreaModel) (left : Option (List ℕ
       → (fault ≡ Json → tree_of (json_text_of new.bytes header) ≡ None) → (fault ≡ Json) ⊎ (fault ≡ Memory)
       → ReadsNoHeader image left ends ends' fault
   json_reading_aborted header Json found loaded json refusals =
-      (header_loaded image old new other unended holds.prefix header None found (json refl), costs found.1 loaded)
+      (header_loaded image old new other unended holds.prefix header None found (json refl), fully_read found.1 loaded)
   json_reading_aborted header Memory (found, long) loaded json refusals = inr (
     (header, other, found),
-    costs long loaded,
+    fully_read long loaded,
   )
   json_reading_aborted header _ found loaded json refusals = absurd (elim refusals [ inl e ↦ cc | inr e ↦ cc ])

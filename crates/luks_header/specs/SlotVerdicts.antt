@@ -29,13 +29,13 @@ unfoldable pub slot_at : Header → ℕ → Option Slot
 slot_at (V1 header) number = slot1_at header number
 slot_at (V2 header tree) number = slot2_at tree (bounds2_of header) number
 
--- a verdict, if there is one, with the number of its key slot
-abbrev pub numbered : ℕ → Option Verdict → Option (ℕ × Verdict)
-numbered number verdict = option_map (λ v. (number, v)) verdict
+-- the verdict with the number of its key slot, if there is a verdict
+abbrev pub with_number : ℕ → Option Verdict → Option (ℕ × Verdict)
+with_number number verdict = option_map (λ v. (number, v)) verdict
 
 -- the verdict on the key slot of this number, with the number, if the header has the slot
 abbrev pub numbered_verdict : Header → Option ℕ → ℕ → Option (ℕ × Verdict)
-numbered_verdict header limit number = numbered number (verdict_at header limit number)
+numbered_verdict header limit number = with_number number (verdict_at header limit number)
 
 -- the key slots of a header with their verdicts, by ascending number
 unfoldable pub verdicts_of : Header → Option ℕ → List (ℕ × Verdict)

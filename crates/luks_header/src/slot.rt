@@ -5,7 +5,7 @@ ghost use Rattle.std.specs.Prelude.{vec_len};
 ghost use Rattle.std.specs.List.{cons_option};
 ghost use Rattle.luks_verdict.specs.Rule.{max_slots};
 ghost use Rattle.luks_verdict.specs.Slot.{verdict_kind_of};
-ghost use Rattle.luks_header.specs.SlotVerdicts.{can_be_tried, has_name_out_of_range, numbered};
+ghost use Rattle.luks_header.specs.SlotVerdicts.{can_be_tried, has_name_out_of_range, with_number};
 ghost use Rattle.luks_header.specs.SlotVerdicts.{slot_at, verdict_at, verdicts_of};
 
 use crate::header::{Header, bounds};
@@ -75,14 +75,14 @@ pub fn verdict(
     }
 }
 
-// Appends the verdict, with the number, if there is one.
+// Appends the verdict with its number, if there is a verdict.
 fn push_verdict(
     verdicts: &mut Vec<(u8, Verdict)>,
     number: u8,
     verdict: Option<Verdict>,
 ) -> Result<(), AllocError>
     ensures { OnOk result (verdicts.new.items
-        ≡ verdicts.old.items ++ cons_option (numbered number verdict) []) }
+        ≡ verdicts.old.items ++ cons_option (with_number number verdict) []) }
 {
     if let Some(verdict) = verdict {
         verdicts.push((number, verdict))?;

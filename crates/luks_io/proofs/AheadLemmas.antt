@@ -47,7 +47,7 @@ consumes_first : (piece rest : List ℕ) (behind : Option (List ℕ))
 consumes_first piece rest None = tt
 consumes_first piece rest (Some more) = append_assoc piece rest more
 
--- the first `count` buffered bytes were transformed in the buffer, which has the bytes of `buf` then
+-- the first `count` buffered bytes were transformed in the buffer, which then has the bytes of `buf`
 module _ (items buf : List ℕ) (len start end count : ℕ) (few : count ≤ end - start) (inside : end ≤ len)
     (long : length items ≡ len) (long' : length buf ≡ len)
     (behind : drop (start + count) buf ≡ drop (start + count) items) where

@@ -34,10 +34,10 @@ module _ (known : List ℕ) (r r' : Option (List ℕ)) where
   consumed_sum m n sum is before next = subst (ConsumedExactly known r') is (consumed_more m n before next)
 
   -- m bytes were consumed, and then fewer than were requested: these were all
-  pub consumed_all : (m asked n : ℕ) → ConsumedExactly known r m → IfKnown r (λ rest. ConsumedExactly rest r' n)
-      → IfKnown r (λ rest. n ≡ min asked (length rest)) → n < asked
+  pub consumed_all : (m requested n : ℕ) → ConsumedExactly known r m → IfKnown r (λ rest. ConsumedExactly rest r' n)
+      → IfKnown r (λ rest. n ≡ min requested (length rest)) → n < requested
       → (m + n ≡ length known) × ConsumedExactly known r' (length known)
-  consumed_all m asked n before next all few =
+  consumed_all m requested n before next all few =
       let whole : m + n
       ≡ length known = omega (arith, all (drop m known) before.left, length-drop m known, before.within) in
       (whole, consumed_sum m n (length known) whole before next)
@@ -137,11 +137,11 @@ module _ (a b c : Option (List ℕ)) (xs ys : List ℕ) (at : ℕ) where
       (subst (Consumes a c) (append-nil (take at xs)) (Consumes-trans a b c (take at xs) [] p nothing))
 
 -- all bytes of a list were written
-pub adds-all : (a b : Option (List ℕ)) (xs : List ℕ) (at : ℕ) → length xs ≤ at → Appends a b (take at xs)
+pub appended-all : (a b : Option (List ℕ)) (xs : List ℕ) (at : ℕ) → length xs ≤ at → Appends a b (take at xs)
     → Appended a b xs
-adds-all None b xs at all p known is = absurd cc
-adds-all (Some old) None xs at all p known is = absurd p
-adds-all (Some old) (Some new) xs at all p known is = let whole = take_all at xs all in cc
+appended-all None b xs at all p known is = absurd cc
+appended-all (Some old) None xs at all p known is = absurd p
+appended-all (Some old) (Some new) xs at all p known is = let whole = take_all at xs all in cc
 
 -- ---- counts
 

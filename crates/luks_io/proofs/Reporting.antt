@@ -18,7 +18,7 @@ module _ (result_for : ℕ → Result ℕ DeviceFault) (before now : Option (Lis
       of_all (a ∷ rest) (same, left) =
           subst (λ b. ReportsFirstOf result_for tries (b ∷ rest) reported after) same (reports rest left)
 
-  -- a call was interrupted, and is repeated
+  -- a call was interrupted, and is retried
   pub reports_again : (tries : ℕ) → 0 < tries → GivesNext before Interrupted now
       → ReportsFirst result_for now (tries - 1) reported after → ReportsFirst result_for before tries reported after
   reports_again zero some next reports = absurd (omega arith)

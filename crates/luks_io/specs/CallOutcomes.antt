@@ -1,4 +1,4 @@
--- The result of a device's answers: an interrupted call is repeated a limited number of times.
+-- The result of a device's answers: an interrupted call is retried a limited number of times.
 use Rattle.std.specs.Prelude.{◌≡◌, ◌==◌, ℕ, zero, suc, ◌≤◌, List, [], ◌∷◌, length, take, Option, Some, Result, Ok, Err}
 use Rattle.std.specs.Prelude.{if◌then◌else◌, ◌<◌}
 use Rattle.std.specs.Io.KnownBytes.{Appends, Consumes, IsAtEnd, Keeps}
@@ -15,7 +15,7 @@ IsNextOf (first ∷ rest) answer after = (answer ≡ first) × (after ≡ Some r
 abbrev pub GivesNext : Option (List CallOutcome) → CallOutcome → Option (List CallOutcome) → Type 0
 GivesNext before answer after = (known : List CallOutcome) → before ≡ Some known → IsNextOf known answer after
 
--- an interrupted call is repeated at most this many times, then it counts as a failure
+-- an interrupted call is retried at most this many times, then it counts as a failure
 abbrev pub max_retries : ℕ
 max_retries = 100
 

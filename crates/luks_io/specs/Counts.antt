@@ -63,7 +63,7 @@ after_write answer len counts = record {
   needless = counted (is_needless_write counts len) counts.needless;
 }
 
--- a sink of which no write failed before was written to only as needed
+-- if no write of a sink has failed before, it was written to only as needed
 abbrev pub WritesAsNeeded : WriteCounts → WriteCounts → Type 0
 WritesAsNeeded before after = before.failures ≡ 0 → after.needless ≡ before.needless
 
@@ -90,8 +90,7 @@ abbrev pub left_of : ℕ → Option (List ℕ) → Option (List ℕ)
 left_of zero remaining = remaining
 left_of (suc _) remaining = Some []
 
--- a source over memory, of which no read fails: the remaining bytes, how many reads hit the end, and how many were
--- needless
+-- a source over memory, whose reads never fail: the remaining bytes, and the counts of ends and of needless reads
 pub record MemSourceModel : Type 0 where
   pub left : List ℕ
   pub ends : ℕ
@@ -124,17 +123,18 @@ pub record ReadAheadModel (S : Type 0) : Type 0 where
 abbrev pub read_ahead_remaining : {S : Type 0} → ReadAheadModel S → ℕ
 read_ahead_remaining source = source.counts.ahead - length source.buffered
 
--- the largest number of bytes that a call which requests `asked` bytes consumes: those, or more if more are allowed to
--- be read ahead, as far as they fit into the buffer
+-- the largest number of bytes that a read of `requested` bytes consumes: those, or more if more are allowed to be read
+-- ahead, as far as they fit into the buffer
 abbrev pub max_read : ℕ → ℕ → ℕ → ℕ
-max_read asked allowed capacity = max asked (min allowed capacity)
+max_read requested allowed capacity = max requested (min allowed capacity)
 
--- the effect of a read of `asked` bytes on a source that reads ahead: the source below is read only if nothing is
--- buffered and `asked` is not 0, at most `max_read` bytes of it are consumed, and a failure leaves what is buffered
-pub record ReadsAhead {S E : Type 0} (asked : ℕ) (answer : Result ℕ E) (before after : ReadAheadModel S) : Type 0 where
-  pub alone : (before.buffered ≢ []) ⊎ (asked ≡ 0) → after.source ≡ before.source
-  pub buffered : before.buffered ≢ [] → IfOk answer (λ count. count ≡ min asked (length before.buffered))
+-- the effect of a read of `requested` bytes on a source that reads ahead: the source below is read only if nothing is
+-- buffered and `requested` is not 0, at most `max_read` bytes of it are consumed, and a failure leaves what is buffered
+pub record ReadsAhead {S E : Type 0} (requested : ℕ) (answer : Result ℕ E) (before after : ReadAheadModel S) : Type 0
+  where
+  pub alone : (before.buffered ≢ []) ⊎ (requested ≡ 0) → after.source ≡ before.source
+  pub buffered : before.buffered ≢ [] → IfOk answer (λ count. count ≡ min requested (length before.buffered))
   pub most : IfOk answer (λ count. count + length after.buffered
-      ≤ length before.buffered + max_read asked (read_ahead_remaining before) before.capacity)
+      ≤ length before.buffered + max_read requested (read_ahead_remaining before) before.capacity)
   pub kept : IsErr answer → after.buffered ≡ before.buffered
   pub capacity : after.capacity ≡ before.capacity

@@ -36,7 +36,7 @@ ConsumedInto known left buf count = ConsumedExactly known left count × (take co
 abbrev pub Appended : Option (List ℕ) → Option (List ℕ) → List ℕ → Type 0
 Appended before after bytes = (known : List ℕ) → before ≡ Some known → after ≡ Some (known ++ bytes)
 
--- the greatest count, at which a count stays
+-- the largest count, at which counts saturate
 abbrev pub max_count : ℕ
 max_count = 2 ^ 64 - 1
 
@@ -56,8 +56,8 @@ is_end (Err _) capacity = false
 
 -- fewer bytes were read than were requested, and no read failed: the end was hit
 abbrev pub is_short_read : {E : Type 0} → Result ℕ E → ℕ → Bool
-is_short_read (Ok count) asked = nat_lt count asked
-is_short_read (Err _) asked = false
+is_short_read (Ok count) requested = nat_lt count requested
+is_short_read (Err _) requested = false
 
 -- a sink accepted between one byte and all of a buffer that has any, and none of an empty one, unless the write failed
 abbrev pub AcceptsSome : {E : Type 0} → Result ℕ E → List ℕ → Type 0

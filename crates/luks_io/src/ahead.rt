@@ -20,7 +20,7 @@ use std::marker::Model;
 
 /// A source over another one whose calls are expensive: it reads as many bytes at once as are
 /// allowed to be read ahead and fit into its buffer, and copies them out as they are requested. It
-/// reads no others before they are requested, so what is not needed stays in the source below.
+/// reads no others before they are requested, so unneeded bytes stay in the source below.
 ///
 /// A clause sees the source below, which of its bytes are buffered, the buffer's capacity, and the
 /// counts. The buffered bytes are some of those that are allowed to be read ahead.
@@ -104,7 +104,7 @@ impl<S: Source> ReadAheadSource<S> {
     }
 
     /// Reads the requested bytes from the source below, without the buffer.
-    fn pass(&mut self, buf: &mut [u8]) -> Result<usize, DeviceFault>
+    fn read_unbuffered(&mut self, buf: &mut [u8]) -> Result<usize, DeviceFault>
         ensures bound { ReadsAtMost result buf.new }
         ensures bytes { ReadConsumes (S.to_come self.old.source) (S.to_come self.new.source)
             result buf.new }
@@ -174,7 +174,7 @@ impl<S> ReadAheadSource<S> {
 
 impl<S: Source> ReadAheadSource<S> {
     /// Copies out as many of the buffered bytes as fit, and counts that as a read.
-    fn hand_out(&mut self, buf: &mut [u8]) -> Result<usize, DeviceFault>
+    fn copy_out_counted(&mut self, buf: &mut [u8]) -> Result<usize, DeviceFault>
         ensures value { result ≡ Ok (min (length buf.old) (length self.old.buffered)) }
         ensures len { length buf.new ≡ length buf.old }
         ensures bytes { self.old.buffered
@@ -214,15 +214,15 @@ impl<S: Source> Source for ReadAheadSource<S> {
         if self.start == self.end && !buf.is_empty() {
             let ahead = self.counts.ahead.min(self.buffer.len() as u64) as usize;
             if ahead <= buf.len() {
-                let answer = self.pass(buf);
+                let answer = self.read_unbuffered(buf);
                 return self.counted(answer, buf.len());
             }
             if let Err(fault) = self.refill(ahead) {
                 return self.counted(Err(fault), buf.len());
             }
-            return self.hand_out(buf);
+            return self.copy_out_counted(buf);
         }
-        self.hand_out(buf)
+        self.copy_out_counted(buf)
     }
 
     /// Allows read-ahead for the next `count` bytes, including those that are buffered.

@@ -1,4 +1,4 @@
-//! The counts that devices keep of their calls. A count of calls stays at its greatest value.
+//! The counts that devices keep of their calls. A count of calls saturates.
 
 ghost use Rattle.std.specs.Prelude.{◌≡◌, ◌==◌, ◌&&◌};
 ghost use Rattle.luks_io.specs.Devices.{counted, is_end};

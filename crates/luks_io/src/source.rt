@@ -13,7 +13,7 @@ use crate::DeviceFault;
 use crate::sink::{Sink, WriteFault};
 use crate::transform::Transform;
 
-/// Gives bytes, the next ones at each call.
+/// Gives bytes: each call gives the next ones.
 pub trait Source {
     /// The remaining bytes, if the source knows them.
     ghost to_come: { Self → Option (List ℕ) };
@@ -68,7 +68,7 @@ pub struct ReadFault {
 }
 
 /// Fills the buffer with the next bytes of the source, and returns how many there were: fewer than
-/// the buffer holds only if the source has ended. One read, the last, hits that end.
+/// the buffer's length only if the source has ended. One read, the last, hits that end.
 ///
 /// # Errors
 ///

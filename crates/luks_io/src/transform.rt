@@ -9,7 +9,7 @@ use crate::sink::{Sink, WriteFault, put_all};
 
 /// Transforms bytes in place.
 pub trait Transform {
-    /// Which numbers of bytes it transforms at once.
+    /// The numbers of bytes that it transforms at once.
     ghost accepts: { Self → ℕ → Type 0 };
 
     /// The transformed bytes.

@@ -1,5 +1,6 @@
 -- Segments, made from the parts that were read.
-use Rattle.std.specs.Prelude.{◌≡◌, ◌≢◌, ℕ, ◌+◌, ◌*◌, ◌/◌, ◌%◌, ◌^◌, true, Option, Some, None, Result, Ok, Err, option_map, refl}
+use Rattle.std.specs.Prelude.{◌≡◌, ◌≢◌, ℕ, ◌+◌, ◌*◌, ◌/◌, ◌%◌, ◌^◌, true, Option, Some, None, Result, Ok, Err}
+use Rattle.std.specs.Prelude.{option_map, refl}
 use Rattle.luks_cipher.specs.declared.mode.Mode.{Mode}
 use Rattle.luks_verdict.specs.Rule.{evidence_if}
 use Rattle.luks_verdict.specs.SectorSize.{HasWholeSectors, bytes_of, has_whole_sectors, whole_by_test}

@@ -1,4 +1,4 @@
--- Why a segment is refused, in the words of dumps and messages.
+-- Why a segment is refused, as dumps and messages state it.
 use Rattle.std.specs.Prelude.{ℕ, List, codes}
 use Rattle.luks_verdict.specs.declared.refusal.SegmentFault.{SegmentFault}
 use Rattle.luks_verdict.specs.declared.refusal.SegmentFault.TheVariants.{Requirement, Segments, Member, Kind, Integrity}

@@ -1,4 +1,4 @@
--- Why a key slot is skipped, in the words of dumps and messages.
+-- Why a key slot is skipped, as dumps and messages state it.
 use Rattle.std.specs.Prelude.{ℕ, List, codes}
 use Rattle.luks_verdict.specs.declared.refusal.SkipReason.{SkipReason}
 use Rattle.luks_verdict.specs.declared.refusal.SkipReason.TheVariants.{State, Kind, Member, Argon2i, Argon2id, Kdf}

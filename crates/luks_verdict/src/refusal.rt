@@ -23,8 +23,8 @@ pub enum SkipReason {
     Hash,
     /// LUKS2: the encryption of the key material is not `aes-` and the name of a mode.
     Encryption,
-    /// LUKS2: the key material's key has no length of its mode, or the volume key has none of the
-    /// payload's mode. If the segment is refused, the volume key may have a length of any mode.
+    /// LUKS2: the length of the key material's key is not one of its mode, or the volume key's is
+    /// not one of the payload's mode (of any mode, if the segment is refused).
     KeySize,
     /// The number of stripes is not 1 to 4000.
     Stripes,
@@ -40,7 +40,7 @@ pub enum SkipReason {
 }
 
 impl SkipReason {
-    /// The reason in the words of dumps and messages.
+    /// The reason as dumps and messages state it.
     pub fn text(self) -> &'static str
         ensures { result.now ≡ reason_text self }
     {
@@ -92,7 +92,7 @@ pub enum SegmentFault {
 }
 
 impl SegmentFault {
-    /// The fault in the words of dumps and messages.
+    /// The fault as dumps and messages state it.
     pub fn text(self) -> &'static str
         ensures { result.now ≡ fault_text self }
     {

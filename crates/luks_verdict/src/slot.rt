@@ -56,8 +56,8 @@ impl Slot {
     ghost use Rattle.luks_verdict.specs.Rule.{need_of};
     ghost use Rattle.luks_verdict.specs.Slot.{slot_from};
 
-    /// The key slot with these parts and this digest, if their numbers are in range and there is
-    /// one.
+    /// The key slot with these parts and this digest, if their numbers are in range and there is a
+    /// digest.
     #[tactic(auto, unfolding(crate::specs::Slot::slot_from))]
     pub fn from_parts(parts: SlotParts, digest: Option<KeyDigest>) -> Option<Slot>
         ensures { result ≡ slot_from parts digest }

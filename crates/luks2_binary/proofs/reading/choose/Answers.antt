@@ -3,8 +3,8 @@ use Rattle.luks_io.proofs.ErrorLemmas.{given_error}
 use Rattle.luks2_binary.specs.Choice2.{is_valid, size_at, with_valid_primary}
 use Rattle.luks2_binary.specs.ReadLen2.{probe2_len}
 use Rattle.luks2_binary.proofs.ValidLemmas.{none_fails, some_holds}
-use Rattle.luks2_binary.proofs.ChoiceLemmas.{beside_same, chosen_primary, found_chosen, probe_first, probe_other}
-use Rattle.luks2_binary.proofs.ChoiceLemmas.{probe_primary}
+use Rattle.luks2_binary.proofs.ChoiceLemmas.{choice_with_primary_same, chosen_primary, found_chosen, probe_first}
+use Rattle.luks2_binary.proofs.ChoiceLemmas.{probe_other, probe_primary}
 use Rattle.luks2_binary.proofs.PrefixLemmas.{loads_aborted, loads_as, loads_then, prefix_of_itself}
 use Rattle.luks2_binary.proofs.reading.choose.Goals as goal
 
@@ -60,7 +60,7 @@ returns-clause-chosen g c = λ image prefix.
     ∙ c.in_ok-size.ensures.valid image (c.grow.ensures.loads.prefixes image prefix)) in
     c.with_valid_primary.ensures
     ∙ ap with_valid_primary c.as_slice.ensures.value
-    ∙ beside_same c.grow.new.area.bytes c.grow.new.area.ended image prefix is.0
+    ∙ choice_with_primary_same c.grow.new.area.bytes c.grow.new.area.ended image prefix is.0
     (λ unended. omega (arith, (c.in_ok-grow.ensures.loads.loaded image prefix).complete unended, is.1))
     ∙ sym (chosen_primary image is.0)
 

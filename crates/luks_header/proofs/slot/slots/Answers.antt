@@ -3,7 +3,7 @@ use Rattle.std.specs.List.{cons_option}
 use Rattle.luks_verdict.proofs.TableLemmas.{length-ascending, ascending_more, ascending_none}
 use Rattle.luks_verdict.specs.Table.{ascending}
 use Rattle.luks_verdict.specs.declared.slot.Verdict.{Verdict}
-use Rattle.luks_header.specs.SlotVerdicts.{numbered, numbered_verdict, verdicts_of}
+use Rattle.luks_header.specs.SlotVerdicts.{numbered_verdict, verdicts_of, with_number}
 use Rattle.luks_header.proofs.slot.slots.Goals as goal
 
 pub loop-number-init : goal.loop-number-init
@@ -15,8 +15,9 @@ loop-number-preserved c =
     let f = numbered_verdict c.args.header.now c.args.limit in
     let n = c.loop-number.number in
     c.in_ok-push_verdict.ensures
-    ∙ ap (λ (l : List (ℕ × Verdict)). l ++ cons_option (numbered n c.in_ok-verdict.verdict) []) c.loop-number.invariant
-    ∙ ap (λ verdict. ascending f n ++ cons_option (numbered n verdict) []) c.in_ok-verdict.ensures.value
+    ∙ ap (λ (l : List (ℕ × Verdict)). l ++ cons_option (with_number n c.in_ok-verdict.verdict) [])
+    c.loop-number.invariant
+    ∙ ap (λ verdict. ascending f n ++ cons_option (with_number n verdict) []) c.in_ok-verdict.ensures.value
     ∙ sym (ascending_more f n)
 
 pub returns-clause-value : goal.returns-clause-value
@@ -28,9 +29,5 @@ returns-clause-value c =
 pub returns-clause-few : goal.returns-clause-few
 returns-clause-few c =
     let end : c.loop-number.number ≡ 32 = omega arith in
-    omega (
-      arith,
-      ap length c.loop-number.invariant,
-      length-ascending (numbered_verdict c.args.header.now c.args.limit) c.loop-number.number,
-      c.loop-number.verdicts.ok.0,
-    )
+    let few = length-ascending (numbered_verdict c.args.header.now c.args.limit) c.loop-number.number in
+    omega (arith, ap length c.loop-number.invariant, few, c.loop-number.verdicts.ok.0)

@@ -1,5 +1,5 @@
 use Rattle.std.proofs.Common.{arith, rules, drop, length, length-take, length-drop, ◌-◌}
-use Rattle.luks_io.proofs.EffectLemmas.{Appends-next, adds-all}
+use Rattle.luks_io.proofs.EffectLemmas.{Appends-next, appended-all}
 use Rattle.luks_io.proofs.sink.put_all.Goals as goal
 
 pub loop-at-preserved : goal.loop-at-preserved
@@ -23,7 +23,7 @@ returns-in-Err-clause-err g c = search rules
 
 pub returns-clause-ok : goal.returns-clause-ok
 returns-clause-ok g c =
-    adds-all _ _ c.args.bytes.now c.loop-at.at c.loop-at-test.false c.loop-at.invariant.written
+    appended-all _ _ c.args.bytes.now c.loop-at.at c.loop-at-test.false c.loop-at.invariant.written
 
 pub returns-clause-err : goal.returns-clause-err
 returns-clause-err g c = search rules
