@@ -125,7 +125,7 @@ ends_whole s image = by (nat_lt (length image) s.offset)
     by false =
         by_ending WholeIfDone (λ _. refl) (λ n torn. cc) (λ n cut. cc) s.size (sector_len s) (bytes_from_start s image)
 
--- ---- what is said of a volume that is opened, and of a refusal
+-- ---- the statements about a volume that is opened, and about a refusal
 
 pub volume_opened : (options : Options) (image pass : List ℕ) (v : UnlockedVolume) → Opens options image pass v
     → OpensVolume options image pass v

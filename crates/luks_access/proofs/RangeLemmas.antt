@@ -1,4 +1,4 @@
--- Parts of a plaintext: sectors that are decrypted one after the other, and ranges, from those of their parts.
+-- Parts of a plaintext: sectors that are decrypted one after the other, and ranges that are joined from smaller ones.
 use Rattle.std.proofs.Common.{◌≡◌, ℕ, suc, ◌+◌, ◌-◌, ◌*◌, ◌/◌, ◌%◌, ◌<◌, ◌≤◌, List, [], ◌++◌, length, take, drop}
 use Rattle.std.proofs.Common.{length-drop, append-nil, append_assoc, add-one, arith, refl, sym, ap, ◌∙◌}
 use Rattle.std.proofs.Common.{length-append, Option, Some, Result, Ok, Err, Bool, true, subst}
@@ -84,13 +84,13 @@ module _ (s : Segment) (cipher : Cipher) (image : List ℕ) where
       → (j : ℕ) → j < length stored / sector_len s
       → sector_plaintext s cipher image (first + j) ≡ sector_in s cipher first stored j
   same_sector first stored is j low =
-      let place : sector_start s first + j * sector_len s ≡ sector_start s (first + j) = omega arith in
+      let same : sector_start s first + j * sector_len s ≡ sector_start s (first + j) = omega arith in
       ap (unit_plain cipher (unit_number s (first + j)))
       (sym (ap (λ l. take (sector_len s) (drop (j * sector_len s) l)) is
       ∙ at_beginning (j * sector_len s) (sector_len s) (length stored) (drop (sector_start s first) image)
       (one_more_fits j (length stored) (sector_len s) low)
       ∙ ap (take (sector_len s)) (drop-drop (j * sector_len s) (sector_start s first) image
-      ∙ ap (λ k. drop k image) place)))
+      ∙ ap (λ k. drop k image) same)))
 
   -- decrypting what is stored in the image gives that part of its plaintext
   pub part_of_plain : (first : ℕ) (stored : List ℕ) → length stored % sector_len s ≡ 0 → AreStored s image first stored
@@ -105,35 +105,35 @@ module _ (s : Segment) (cipher : Cipher) (image : List ℕ) where
       (sector_size s image cipher) are.within)
       ∙ ap (λ k. take k (drop (first * sector_len s) (plain_of s cipher image))) len)
 
--- ---- parts of a text
+-- ---- parts of a plaintext
 
 -- two adjacent ranges are one range
-pub range_joined : (text a b : List ℕ) (offset : ℕ) → IsRangeOf text offset a → IsRangeOf text (offset + length a) b
-    → IsRangeOf text offset (a ++ b)
-range_joined text a b offset first second =
-    let joined : take (length a + length b) (drop offset text) ≡ a ++ b =
-    take-add (length a) (length b) (drop offset text)
-    ∙ (ap (λ l. l ++ take (length b) (drop (length a) (drop offset text))) (sym first)
-    ∙ ap (λ l. a ++ l) (ap (take (length b)) (drop-drop (length a) offset text) ∙ sym second)) in
-    sym (ap (λ k. take k (drop offset text)) (length-append a b) ∙ joined)
+pub range_joined : (plain a b : List ℕ) (offset : ℕ) → IsRangeOf plain offset a → IsRangeOf plain (offset + length a) b
+    → IsRangeOf plain offset (a ++ b)
+range_joined plain a b offset first second =
+    let joined : take (length a + length b) (drop offset plain) ≡ a ++ b =
+    take-add (length a) (length b) (drop offset plain)
+    ∙ (ap (λ l. l ++ take (length b) (drop (length a) (drop offset plain))) (sym first)
+    ∙ ap (λ l. a ++ l) (ap (take (length b)) (drop-drop (length a) offset plain) ∙ sym second)) in
+    sym (ap (λ k. take k (drop offset plain)) (length-append a b) ∙ joined)
 
 -- ---- parts that were read
 
--- a part of a sector that was read whole is a range of the text
-pub part_read : (text unit bytes : List ℕ) (offset skip n : ℕ) → IsRangeOf text (offset - skip) unit → skip ≤ offset
+-- a part of a sector that was read whole is a range of the plaintext
+pub part_read : (plain unit bytes : List ℕ) (offset skip n : ℕ) → IsRangeOf plain (offset - skip) unit → skip ≤ offset
     → skip + n ≤ length unit → length bytes ≡ n → bytes ≡ take (skip + n - skip) (drop skip unit)
-    → IsRangeOf text offset bytes
-part_read text unit bytes offset skip n whole before inside long are =
+    → IsRangeOf plain offset bytes
+part_read plain unit bytes offset skip n whole before inside long are =
     let count : skip + n - skip ≡ length bytes = omega arith in
     are ∙ (ap (λ k. take k (drop skip unit)) count ∙ (ap (λ l. take (length bytes) (drop skip l)) whole
-    ∙ (at_beginning skip (length bytes) (length unit) (drop (offset - skip) text) (omega arith)
-    ∙ ap (take (length bytes)) (drop-drop skip (offset - skip) text ∙ ap (λ k. drop k text) (omega arith)))))
+    ∙ (at_beginning skip (length bytes) (length unit) (drop (offset - skip) plain) (omega arith)
+    ∙ ap (take (length bytes)) (drop-drop skip (offset - skip) plain ∙ ap (λ k. drop k plain) (omega arith)))))
 
 -- a plaintext is as long as all whole sectors of the payload
-pub text_is_long : (s : Segment) (cipher : Cipher) (image : List ℕ) (image_len len : ℕ) → length image ≡ image_len
+pub plaintext_length : (s : Segment) (cipher : Cipher) (image : List ℕ) (image_len len : ℕ) → length image ≡ image_len
     → len ≡ payload_bytes s.size (image_len - s.offset) / sector_len s * sector_len s
     → len ≡ length (plain_of s cipher image)
-text_is_long s cipher image image_len len long is =
+plaintext_length s cipher image image_len len long is =
     is ∙ (ap (λ n. payload_bytes s.size (n - s.offset) / sector_len s * sector_len s) (sym long)
     ∙ sym (plain_len s image cipher))
 

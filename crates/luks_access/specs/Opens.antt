@@ -19,7 +19,7 @@ use Rattle.luks_payload.specs.Plain.{ending_of, plain_of}
 use Rattle.luks_payload.specs.declared.state.Step.TheVariants.{End}
 use Rattle.luks_access.specs.declared.options.Options.{Options}
 
--- the cipher of a volume that is open
+-- the cipher of an open volume
 abbrev pub cipher_of : UnlockedVolume → Cipher
 cipher_of v = (v.segment.mode, v.key)
 

@@ -22,10 +22,10 @@ pub fn plaintext_len(offset: u64, size: Option<u64>, sector_size: SectorSize, im
     ensures counted { offset + result < 2 ^ 64 }
     ensures multiple { result % bytes_of sector_size ≡ 0 }
 {
-    let behind = image_len.saturating_sub(offset);
+    let available = image_len.saturating_sub(offset);
     let within = match size {
-        Some(size) => behind.min(size),
-        None => behind,
+        Some(size) => available.min(size),
+        None => available,
     };
     within - within % sector_size.bytes() as u64
 }

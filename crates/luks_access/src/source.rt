@@ -44,8 +44,8 @@ impl<'a, I: ReadAt> Source for ImageSource<'a, I> {
     /// Fills the buffer with the remaining bytes, as far as there are any. It fails if a read of
     /// the image fails or the image has become shorter.
     fn read(&mut self, buf: &mut [u8]) -> Result<usize, DeviceFault> {
-        let left = self.image.len().saturating_sub(self.at);
-        let count = left.min(buf.len() as u64) as usize;
+        let remaining = self.image.len().saturating_sub(self.at);
+        let count = remaining.min(buf.len() as u64) as usize;
         match self.image.read_at(self.at, &mut buf[..count]) {
             Ok(()) => {
                 self.at += count as u64;

@@ -1,4 +1,4 @@
-//! Volumes that are open.
+//! Open volumes.
 
 ghost use Rattle.std.specs.Prelude.{◌≡◌, ◌≢◌, ◌+◌, ◌-◌, ◌%◌, ◌^◌, ◌<◌, ◌≤◌, Bool, List, ℕ, Err};
 ghost use Rattle.std.specs.Prelude.{[], IfErr, IfOk, OnOk, length, nat_le, replicate, true};
@@ -55,7 +55,7 @@ impl Model for Volume {
 }
 
 /// Tries the key slots of a volume that was found, unless the passphrase is too long. The volume is
-/// moved in, so that it is not tried again.
+/// passed by value, so it cannot be tried again.
 fn unlock<S: Source>(
     slots: SlotChoice,
     found: FoundVolume,

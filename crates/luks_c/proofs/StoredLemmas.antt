@@ -2,7 +2,7 @@
 use Rattle.std.proofs.Common.{◌≡◌, ◌∙◌, ℕ, ◌-◌, ◌*◌, ◌/◌, true, List, length, Option, None, Some, sym, ap, subst, refl}
 use Rattle.std.proofs.lemmas.Option.{same_Some}
 use Rattle.std.specs.Prelude.{◌==◌, if◌then◌else◌, unwrap_or}
-use Rattle.luks_access.proofs.RangeLemmas.{text_is_long}
+use Rattle.luks_access.proofs.RangeLemmas.{plaintext_length}
 use Rattle.luks_access.specs.Opens.{cipher_of, plaintext_of}
 use Rattle.luks_unlock.specs.declared.unlocked.UnlockedVolume.{UnlockedVolume}
 use Rattle.luks_access.specs.Sectors.{AreStored, plain_at}
@@ -74,7 +74,7 @@ module _ (c : LuksrdVolume) (v : UnlockedVolume) (stored : Stores c v) where
   len_for z size image image_len len sector fixed long is =
       let z_is : z ≡ v.segment.sector_size = same_Some z v.segment.sector_size (sector ∙ stored_sector) in
       let size_is : size ≡ v.segment.size = fixed ∙ stored_size in
-      text_is_long v.segment (cipher_of v) image image_len len long (rw (z_is, size_is, stored.offset) at is)
+      plaintext_length v.segment (cipher_of v) image image_len len long (rw (z_is, size_is, stored.offset) at is)
 
   -- stored sectors are decrypted to that part of the plaintext
   pub decrypted_for : (s : Segment) (cipher : Cipher) (image : List ℕ) (first : ℕ) (old new : List ℕ)

@@ -7,8 +7,8 @@
 ghost use Rattle.std.specs.Prelude.{◌≡◌, ◌≢◌, ◌+◌, ◌*◌, ◌/◌, ◌%◌, ◌^◌, ◌<◌, List, ℕ, None};
 ghost use Rattle.std.specs.Prelude.{length, true};
 ghost use Rattle.luks_access.specs.Opens.{cipher_of, plaintext_of};
-ghost use Rattle.luks_unlock.specs.declared.unlocked.UnlockedVolume.{UnlockedVolume};
 ghost use Rattle.luks_access.specs.Sectors.{AreStored, plain_at};
+ghost use Rattle.luks_unlock.specs.declared.unlocked.UnlockedVolume.{UnlockedVolume};
 ghost use Rattle.luks_payload.specs.Plain.{ending_of, sector_len};
 ghost use Rattle.luks_verdict.specs.SectorSize.{bytes_of, sector_size_with};
 ghost use Rattle.luks_c.specs.Stored.{EndsAs, Opened, Refused, decrypt_code, fault_bytes};

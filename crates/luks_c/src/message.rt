@@ -20,15 +20,15 @@ pub struct LuksrdMessage {
 }
 
 // Writes as much of a text as fits, and zeros after it. Returns how many bytes of it were written.
-fn write_text(capacity: &mut [u8], text: &[u8]) -> u32
-    requires { length capacity.old ≡ CAPACITY }
+fn write_text(buf: &mut [u8], text: &[u8]) -> u32
+    requires { length buf.old ≡ CAPACITY }
     ensures count { result ≡ min CAPACITY (length text.now) }
-    ensures text { take result capacity.new ≡ take result text.now }
-    ensures rest { drop result capacity.new ≡ replicate (CAPACITY - result) 0 }
+    ensures text { take result buf.new ≡ take result text.now }
+    ensures rest { drop result buf.new ≡ replicate (CAPACITY - result) 0 }
 {
-    let len = text.len().min(capacity.len());
-    capacity.fill(0);
-    capacity[..len].copy_from_slice(&text[..len]);
+    let len = text.len().min(buf.len());
+    buf.fill(0);
+    buf[..len].copy_from_slice(&text[..len]);
     len as u32
 }
 

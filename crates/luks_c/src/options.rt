@@ -15,7 +15,7 @@ pub struct LuksrdOptions {
     pub has_key_slot: u32,
     /// The number of the key slot, 0 to 31.
     pub key_slot: u32,
-    /// The most iterations that a key slot or a digest may have, or 0 for no limit.
+    /// The maximum number of iterations of a key slot and of a digest, or 0 for no limit.
     pub max_iterations: u32,
 }
 

@@ -1,10 +1,10 @@
-//! A volume that is open, as C keeps it.
+//! An open volume, as C keeps it.
 
 ghost use Rattle.std.specs.Prelude.{◌≡◌, ◌-◌, ◌≤◌, MatchOption, drop, false, length};
 ghost use Rattle.std.specs.Prelude.{replicate, take, true};
 ghost use Rattle.luks_cipher.specs.Sector.{is_mode_key_length};
-ghost use Rattle.luks_c.specs.Stored.{Filled, IsCleared, cipher_in, mode_in, mode_number};
 ghost use Rattle.luks_verdict.specs.SectorSize.{sector_size_with};
+ghost use Rattle.luks_c.specs.Stored.{Filled, IsCleared, cipher_in, mode_in, mode_number};
 ghost use Rattle.luks_c.specs.Stored.{segment_in, size_stored_in};
 
 use luks_access::volume::Volume;
@@ -15,7 +15,7 @@ use luks_verdict::sector_size::SectorSize;
 /// The length of the longest volume key in bytes.
 const CAPACITY: usize = 64;
 
-/// A volume that is open. All of it is plain numbers.
+/// An open volume. All of it is plain numbers.
 #[repr(C)]
 pub struct LuksrdVolume {
     /// The offset of the payload in its image, in bytes.
@@ -116,21 +116,21 @@ pub(crate) fn cipher(volume: &LuksrdVolume, mode: Mode) -> Option<SectorCipher>
 }
 
 // Writes a key, and zeros after it. Returns its length.
-fn write_key(capacity: &mut [u8], key: &[u8]) -> u32
-    requires there { length capacity.old ≡ CAPACITY }
+fn write_key(buf: &mut [u8], key: &[u8]) -> u32
+    requires there { length buf.old ≡ CAPACITY }
     requires fits { length key.now ≤ CAPACITY }
     ensures count { result ≡ length key.now }
-    ensures key { take result capacity.new ≡ key.now }
-    ensures rest { drop result capacity.new ≡ replicate (CAPACITY - result) 0 }
+    ensures key { take result buf.new ≡ key.now }
+    ensures rest { drop result buf.new ≡ replicate (CAPACITY - result) 0 }
 {
     let len = key.len();
-    capacity.fill(0);
-    capacity[..len].copy_from_slice(key);
+    buf.fill(0);
+    buf[..len].copy_from_slice(key);
     len as u32
 }
 
 impl LuksrdVolume {
-    /// Stores a volume that is open.
+    /// Stores an open volume.
     pub(crate) fn store(&mut self, volume: &Volume)
         requires { length volume.now.key ≤ CAPACITY }
         ensures { Filled self.new volume.now }

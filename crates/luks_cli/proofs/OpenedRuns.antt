@@ -100,7 +100,7 @@ positioned_within segment image count written few less =
 
 module _ (slots : SlotChoice) (image pass : List ℕ) (segment : Segment) (opened : Opened) (loaded : List ℕ)
     (i s : Option (List ℕ)) (u : Unlocks Attached slots image pass segment opened loaded i s) where
-  -- the payload was forwarded, to its end or not; of the image was consumed what its source says
+  -- the payload was forwarded, to its end or not; the image was consumed as far as its source says
   pub runs_forwarded : (left i' w w' : Option (List ℕ)) (message : Message) → PayloadMessage message
       → ForwardsPayload segment (segment.mode, opened.key) image (length loaded) left w w' message
       → ((n : ℕ) → (is_run_read_failure message ≡ false → length loaded ≤ n) → ConsumedExactly image left n
@@ -108,12 +108,12 @@ module _ (slots : SlotChoice) (image pass : List ℕ) (segment : Segment) (opene
       → RunMatches (PromptCat Attached image) (volume_outcome (payload_outcome image pass) slots image pass) message
       (ConsumedExactly image i') (ConsumedExactly pass s) (Appended w w')
   runs_forwarded left i' w w' OutOfMemory only forwarded as_source = absurd only
-  runs_forwarded left i' w w' ReadFailed only (place, count, position, whole, inside, consumption, output) as_source =
-      rw (u.outcome (payload_outcome image pass)) (aborted_at place 0 (length pass) (count * sector_len segment)
+  runs_forwarded left i' w w' ReadFailed only (end, count, position, whole, inside, consumption, output) as_source =
+      rw (u.outcome (payload_outcome image pass)) (aborted_at end 0 (length pass) (count * sector_len segment)
       (omega (arith, plain_len segment image (segment.mode, opened.key), mul-le-mul_right (sector_len segment) whole))
-      (λ other is passes. rw (same_segment_by header_of image segment other u.has is)
+      (λ other is is_past_header. rw (same_segment_by header_of image segment other u.has is)
       (ap (λ n. n * sector_len segment) position)) (omega (arith, inside)) (omega arith) (omega arith)
-      (as_source place (λ other. absurd (cc other)) consumption) refl u.secret_consumed output)
+      (as_source end (λ other. absurd (cc other)) consumption) refl u.secret_consumed output)
   runs_forwarded left i' w w' WriteFailed only (count, written, few, less, inside, consumption, output) as_source =
       let end = max (length loaded) (sector_start segment (count + 1)) in
       let within = positioned_within segment image count written few less in
@@ -137,7 +137,7 @@ module _ (slots : SlotChoice) (image pass : List ℕ) (segment : Segment) (opene
     pub loaded_from_none : ConsumedExactly image (Some []) (length loaded)
     loaded_from_none = rw none at u.input_consumed
 
-    -- whatever else is said to be consumed of the image is all of it, too
+    -- if no fewer bytes of the image were consumed, all of it was consumed, too
     pub loaded_whole : (n : ℕ) → length loaded ≤ n → n ≤ length image → ConsumedExactly image i n
     loaded_whole n most within =
         let rest : Some [] ≡ Some (drop (length loaded) image) = loaded_from_none.left in
@@ -165,11 +165,11 @@ module _ (slots : SlotChoice) (file image pass : List ℕ) (segment : Segment) (
       (volume_outcome_by detached_header_of (detached_payload_outcome image pass) slots file pass) message
       (ConsumedExactly file h) (ConsumedExactly image i') (ConsumedExactly pass s) (Appended w w')
   detached_runs_forwarded OutOfMemory only forwarded = absurd only
-  detached_runs_forwarded ReadFailed only (place, count, position, whole, inside, consumption, output) =
+  detached_runs_forwarded ReadFailed only (end, count, position, whole, inside, consumption, output) =
       rw (u.outcome (detached_payload_outcome image pass))
-      (aborted_at (length loaded) place (length pass) (count * sector_len segment)
+      (aborted_at (length loaded) end (length pass) (count * sector_len segment)
       (omega (arith, plain_len segment image (segment.mode, opened.key), mul-le-mul_right (sector_len segment) whole))
-      (λ other is passes. rw (same_segment_by detached_header_of file segment other u.has is)
+      (λ other is is_past_header. rw (same_segment_by detached_header_of file segment other u.has is)
       (ap (λ n. n * sector_len segment) position))
       (omega arith) (omega (arith, inside)) (omega arith) u.input_consumed consumption u.secret_consumed output)
   detached_runs_forwarded WriteFailed only (count, written, few, less, inside, consumption, output) =

@@ -54,7 +54,7 @@ no_sectors_before segment a few =
 -- nothing was consumed past the header's end or the payload's start, whichever comes later
 prompt_early : (segment : Segment) (header_len : ℕ) (message : Message) (consumed : ℕ)
     → consumed ≤ max header_len segment.offset → PromptForwarding segment header_len message consumed 0
-prompt_early segment header_len ReadFailed consumed few = λ passes. elim passes [
+prompt_early segment header_len ReadFailed consumed few = λ is_past_header. elim is_past_header [
   | inl before ↦ no_sectors_before segment consumed (omega arith)
   | inr past ↦ no_sectors_before segment consumed (omega arith)
 ]
@@ -82,16 +82,16 @@ prompt_before_payload Detached image message a b segment has early =
 -- ---- how much is consumed of a volume that was found
 
 module _ (on_opened : OnOpened) (named : Option ℕ) (v : Volume) (image secret : List ℕ)
-    (takes : ConsumesLoaded secret on_opened) where
+    (consumes : ConsumesLoaded secret on_opened) where
   opened_within : (r : Result Opened OpenFault)
       → (unlock_read_len image v ≤ (opened_outcome on_opened named v image secret r).input_consumed)
       × (length secret ≤ (opened_outcome on_opened named v image secret r).secret_consumed)
   opened_within (Ok opened) =
       let n = unlock_read_len image v in
-      (takes.loaded v.segment opened n, omega (arith, takes.whole v.segment opened n))
+      (consumes.loaded v.segment opened n, omega (arith, consumes.whole v.segment opened n))
   opened_within (Err fault) = (omega arith, omega arith)
 
-  -- a key file that is not too long is consumed whole, and of the image at least the bytes that were loaded
+  -- a key file that is not too long is consumed whole, and at least the loaded bytes of the image are consumed
   area_within : length secret ≤ max_key_file_len
       → (min (length image) (unlock_read_len image v) ≤ (found_outcome on_opened named v image secret).input_consumed)
       × (length secret ≤ (found_outcome on_opened named v image secret).secret_consumed)
@@ -112,7 +112,7 @@ module _ (on_opened : OnOpened) (named : Option ℕ) (v : Volume) (image secret 
         (omega (arith, all.0, header_read_len_within image), omega (arith, all.1))
   ]
 
--- ---- how many evaluations of HMAC a run takes
+-- ---- how many evaluations of HMAC a run needs
 
 -- no volume was found, so no key slot was tried
 pub counts_without_volume : (location : HeaderLocation) (slots : SlotChoice) (image pass : List ℕ)
@@ -131,7 +131,7 @@ untried_without_key_file secret left OutOfMemory stop = refl
 untried_without_key_file secret left ReadFailed stop = refl
 untried_without_key_file secret left _ stop = absurd stop
 
--- a command that goes on with an open volume takes no more
+-- a command that continues with an open volume needs no more
 pub counts_on : (location : HeaderLocation) (slots : SlotChoice) (image pass : List ℕ) (message : Message)
     (work work' : ℕ) → CountsOpening location slots image pass Done work work'
     → CountsOpening location slots image pass message work work'
@@ -170,7 +170,7 @@ module _ (location : HeaderLocation) (slots : SlotChoice) (image pass : List ℕ
       RunMatches (PromptCat location image) (volume_outcome_by (reader_for location) on_opened slots image pass) message
       (ConsumedExactly image i) (ConsumedExactly pass s) (Appended w w)
 
-  module _ (on_opened : OnOpened) (takes : ConsumesLoaded pass on_opened) where
+  module _ (on_opened : OnOpened) (consumes : ConsumesLoaded pass on_opened) where
     header_read_len_consumed : header_read_len image
         ≤ (volume_outcome_by (reader_for location) on_opened slots image pass).input_consumed
     unfolding volume_outcome_by
@@ -178,7 +178,7 @@ module _ (location : HeaderLocation) (slots : SlotChoice) (image pass : List ℕ
       where
         after : (r : Result Volume Message)
             → header_read_len image ≤ (outcome_after on_opened slots.named image pass r).input_consumed
-        after (Ok v) = (found_within on_opened slots.named v image pass takes).0
+        after (Ok v) = (found_within on_opened slots.named v image pass consumes).0
         after (Err message) = omega arith
 
     -- no volume was found, or reading the header failed
@@ -218,20 +218,20 @@ module _ (location : HeaderLocation) (slots : SlotChoice) (image pass : List ℕ
     -- the key file was not read
     runs_without_secret : (on_opened : OnOpened) → ConsumesLoaded pass on_opened → (message : Message)
         → NoKeyFileRead pass s message → ConsumedExactly image i (header_read_len image) → Matches on_opened message
-    runs_without_secret on_opened takes KeyFileLength stop rest =
+    runs_without_secret on_opened consumes KeyFileLength stop rest =
         rw (outcome_found on_opened, found_long on_opened slots.named volume image pass stop.0) (record
         { as_specified = refl; input = rest; payload = refl; secret = stop.1; output = adds-none w })
-    runs_without_secret on_opened takes OutOfMemory stop rest =
-        let within = found_within on_opened slots.named volume image pass takes in
+    runs_without_secret on_opened consumes OutOfMemory stop rest =
+        let within = found_within on_opened slots.named volume image pass consumes in
         rw (outcome_found on_opened) (aborted_unwritten (header_read_len image) stop.0 refl
         (prompt_in_header location image OutOfMemory (header_read_len image) stop.0 (omega arith)) within.0
         (omega (arith, stop.1, within.1)) rest stop.2)
-    runs_without_secret on_opened takes ReadFailed stop rest =
-        let within = found_within on_opened slots.named volume image pass takes in
+    runs_without_secret on_opened consumes ReadFailed stop rest =
+        let within = found_within on_opened slots.named volume image pass consumes in
         rw (outcome_found on_opened) (aborted_unwritten (header_read_len image) stop.0 (omega arith)
         (prompt_in_header location image ReadFailed (header_read_len image) stop.0 (omega arith)) within.0
         (omega (arith, stop.1, within.1)) rest stop.2)
-    runs_without_secret on_opened takes _ stop rest = absurd stop
+    runs_without_secret on_opened consumes _ stop rest = absurd stop
 
     -- the key file was read
     module _ (short : length pass ≤ max_key_file_len) (read : ConsumedExactly pass s (length pass))
@@ -240,22 +240,22 @@ module _ (location : HeaderLocation) (slots : SlotChoice) (image pass : List ℕ
       runs_without_area : (on_opened : OnOpened) → ConsumesLoaded pass on_opened → (fault : HeaderFault)
           → AbortsConsuming (key_material_end order.entries - length area) area area' (drop
           (header_read_len image) image) i fault → Matches on_opened (message_for_header fault)
-      runs_without_area on_opened takes HeaderRead stop =
+      runs_without_area on_opened consumes HeaderRead stop =
           let more = area_more image area area' i (key_material_end order.entries) prefix stop.0 stop.2 in
           let few : header_read_len image + stop.0 ≤ unlock_read_len image volume =
           omega (arith, stop.1, prefix_length image area area' i (key_material_end order.entries) prefix) in
-          let within = area_within on_opened slots.named volume image pass takes short in
+          let within = area_within on_opened slots.named volume image pass consumes short in
           rw (outcome_found on_opened) (aborted_unwritten (header_read_len image + stop.0) (length pass) (omega arith)
           (prompt_before_payload location image ReadFailed (header_read_len image + stop.0) (length pass) segment
           (header, found, is_segment) (λ attached. omega (arith, few, loaded_before_payload attached)))
           (omega (arith, within.0, more.1.within, few)) within.1 more.1 read)
-      runs_without_area on_opened takes HeaderMemory stop =
-          let within = area_within on_opened slots.named volume image pass takes short in
+      runs_without_area on_opened consumes HeaderMemory stop =
+          let within = area_within on_opened slots.named volume image pass consumes short in
           rw (outcome_found on_opened) (aborted_unwritten (header_read_len image) (length pass) refl
           (prompt_in_header location image OutOfMemory (header_read_len image) (length pass) (omega arith))
           (omega (arith, within.0, header_read_len_within image)) within.1
           (record { within = header_read_len_within image; left = stop.0.left }) read)
-      runs_without_area on_opened takes _ stop = absurd stop
+      runs_without_area on_opened consumes _ stop = absurd stop
 
       -- the key slots were tried
       module _ (grows : ConsumedMaterial order area area' (drop (header_read_len image) image) i)
@@ -286,21 +286,21 @@ module _ (location : HeaderLocation) (slots : SlotChoice) (image pass : List ℕ
         → ConsumesLoaded pass on_opened → (message : Message)
         → UnlockEffect slots.named segment order pass area area' (drop (header_read_len image) image) i s (Err message)
         → Matches on_opened message
-    runs_without_key area area' prefix on_opened takes message (inl (short, read, inl lost)) =
-        rw lost.1 (runs_without_area short read area area' prefix on_opened takes lost.0 lost.2)
+    runs_without_key area area' prefix on_opened consumes message (inl (short, read, inl lost)) =
+        rw lost.1 (runs_without_area short read area area' prefix on_opened consumes lost.0 lost.2)
     -- the image ended within the key areas
-    runs_without_key area area' prefix on_opened takes message (inl (short, read, inr (grows, inl cut))) =
+    runs_without_key area area' prefix on_opened consumes message (inl (short, read, inr (grows, inl cut))) =
         let ends = area_cut image area area' i (key_material_end order.entries) prefix grows cut.1 in
         rw cut.0 (rw (outcome_found on_opened, found_cut on_opened slots.named volume image pass short ends.0) (record
         { as_specified = refl; input = ends.1; payload = refl; secret = read; output = adds-none w }))
-    runs_without_key area area' prefix on_opened takes message (inl (short, read, inr (grows, inr none))) =
+    runs_without_key area area' prefix on_opened consumes message (inl (short, read, inr (grows, inr none))) =
         rw none.1 (runs_unopened short read area area' prefix grows none.2 none.0 none.3 on_opened)
-    runs_without_key area area' prefix on_opened takes message (inr none) =
+    runs_without_key area area' prefix on_opened consumes message (inr none) =
         let same : message ≡ none.0 = cc in
-        rw same (runs_without_secret on_opened takes none.0 none.2
+        rw same (runs_without_secret on_opened consumes none.0 none.2
         (record { within = header_read_len_within image; left = none.4 }))
 
-    -- what trying its key slots took does not depend on which bytes were loaded
+    -- the work of trying its key slots does not depend on which bytes were loaded
     pub counts_opening : (area area' : List ℕ) → area ≡ take (header_read_len image) image
         → (result : Result UnlockedVolume Message)
         → UnlockEffect slots.named segment order pass area area' (drop (header_read_len image) image) i s result

@@ -104,7 +104,7 @@ PromptForwarding s header_len ReadFailed consumed output = IsPastHeader s header
 PromptForwarding s header_len _ consumed output = Unit {0}
 
 -- opening a volume or `luksCat` was aborted, and forwarding the payload was prompt. With a detached header, the payload
--- is in an image of its own, of which nothing is consumed for a header
+-- is in an image of its own, and no byte of that image is consumed for a header
 abbrev pub PromptCat : HeaderLocation → List ℕ → Promptness
 PromptCat Attached image message input_consumed payload_consumed secret_consumed output =
     (segment : Segment) → HasSegment image segment
@@ -192,8 +192,8 @@ RunsAsStated request message image secret written =
     (ConsumedExactly known image.after) (ConsumedOfSecret request known_secret secret.after)
     (Appended written.before written.after))
 
--- the evaluations of HMAC that a run of a command takes, if its inputs know their bytes: a command that opens no volume
--- takes none
+-- the evaluations of HMAC that a run of a command needs, if its inputs know their bytes: a command that opens no volume
+-- needs none
 abbrev pub CountsWork : HeaderLocation → Request → Message → ℕ → Option (List ℕ) → Option (List ℕ) → Type 0
 CountsWork location (test_passphrase o) message work image secret = IfKnown image (λ known.
     IfKnown secret (λ passphrase. CountsOpening location o.slots known passphrase message 0 work))

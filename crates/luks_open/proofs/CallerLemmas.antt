@@ -353,10 +353,10 @@ pub record NoneOpenedBefore (entries : List Entry) (image pass : List ℕ) (i st
 
 module _ (entries : List Entry) (image pass : List ℕ) (i start now : ℕ)
     (before : NoneOpenedBefore entries image pass i start now) where
-  pub go_out : length entries ≤ i
+  pub none_opens : length entries ≤ i
       → (first_opening entries image pass ≡ None) × (now ≡ capped (start + work_on entries image pass))
   unfolding first_opening tried_of
-  go_out all =
+  none_opens all =
       let none = drop_all i entries all in
       let left : work_on (drop i entries) image pass ≡ 0 = ap (λ (s : List Entry). work_on s image pass) none in (
         sym before.value ∙ ap (λ (s : List Entry). first_opening s image pass) none,
@@ -387,15 +387,15 @@ module _ (entries : List Entry) (image pass : List ℕ) (i start now : ℕ)
           omega (arith, is_new, left, before.work),
         )
 
-    pub go_on : slot_key entry image pass ≡ None → NoneOpenedBefore entries image pass (i + 1) start new
-    go_on none =
+    pub one_unopened : slot_key entry image pass ≡ None → NoneOpenedBefore entries image pass (i + 1) start new
+    one_unopened none =
         let past = after_entry None none in
         record { value = sym past.0; work = past.1; count = omega (arith, is_new) }
 
-    pub go_last : (key : List ℕ) → slot_key entry image pass ≡ Some key
+    pub one_opens : (key : List ℕ) → slot_key entry image pass ≡ Some key
         → (first_opening entries image pass ≡ Some record { slot = entry.number; key = key })
         × (new ≡ capped (start + work_on entries image pass))
-    go_last key some =
+    one_opens key some =
         let last = after_entry (Some key) some in
         let all : capped (new + sum_by evaluations_of []) ≡ capped (start + work_on entries image pass) = last.1 in
         (last.0, omega (arith, is_new, all))

@@ -56,12 +56,12 @@ in_sectors len stripes whole rest is some =
     (λ w r. record { fits = refl; there = omega arith; within = omega arith; before = omega arith; all = omega arith })
     len is
 
--- the chain after one more stripe
-pub chain_more_stripes : (h : Hash) (len : ℕ) (before stripes stripe : List ℕ) (number i : ℕ) (chain : AfSplitterModel)
+-- the splitter after one more stripe
+pub stripe_absorbed : (h : Hash) (len : ℕ) (before stripes stripe : List ℕ) (number i : ℕ) (splitter : AfSplitterModel)
     → (i + 1) * len ≤ length stripes → length before ≡ number * len → stripe ≡ take len (drop (i * len) stripes)
-    → chain ≡ splitter_after h len (before ++ take (i * len) stripes) (number + i)
-    → splitter_with chain stripe ≡ splitter_after h len (before ++ take ((i + 1) * len) stripes) (number + (i + 1))
-chain_more_stripes h len before stripes stripe number i chain there whole is_stripe is =
+    → splitter ≡ splitter_after h len (before ++ take (i * len) stripes) (number + i)
+    → splitter_with splitter stripe ≡ splitter_after h len (before ++ take ((i + 1) * len) stripes) (number + (i + 1))
+stripe_absorbed h len before stripes stripe number i splitter there whole is_stripe is =
     let prefix = take (i * len) stripes in
     let one : length stripe ≡ len = ap length is_stripe
     ∙ length-take-le len (drop (i * len) stripes) (omega (arith, length-drop (i * len) stripes)) in
@@ -71,7 +71,7 @@ chain_more_stripes h len before stripes stripe number i chain there whole is_str
     append_assoc before prefix stripe ∙ ap (λ s. before ++ s) (ap (λ s. prefix ++ s) is_stripe
     ∙ (sym (take-add (i * len) len stripes) ∙ ap (λ n. take n stripes) (next i len))) in
     let count : number + i + 1 ≡ number + (i + 1) = omega arith in
-    chain_push h len (before ++ prefix) stripe (number + i) chain all one is
+    chain_push h len (before ++ prefix) stripe (number + i) splitter all one is
     ∙ (ap (λ s. splitter_after h len s (number + i + 1)) further
     ∙ ap (λ n. splitter_after h len (before ++ take ((i + 1) * len) stripes) n) count)
   where
@@ -132,56 +132,56 @@ length-recovered af key image offset len stripes is some there =
 pub whole_sectors : (number in_sector len : ℕ) → in_sector * len ≡ 512 → number * 512 ≡ number * in_sector * len
 whole_sectors number in_sector len fits = ap (λ n. number * n) (sym fits) ∙ sym (mul_assoc number in_sector len)
 
--- the chain before any sector
-pub sectors_none : (h : Hash) (len in_sector : ℕ) (f : ℕ → List ℕ) (chain : AfSplitterModel)
-    → chain ≡ record { hash = h; block = replicate len 0 } → chain ≡ splitter_after h len (joined f 0) (0 * in_sector)
-sectors_none h len in_sector f chain start =
+-- the splitter before any sector
+pub sectors_none : (h : Hash) (len in_sector : ℕ) (f : ℕ → List ℕ) (new : AfSplitterModel)
+    → new ≡ record { hash = h; block = replicate len 0 } → new ≡ splitter_after h len (joined f 0) (0 * in_sector)
+sectors_none h len in_sector f new start =
     let nothing : 0 * in_sector ≡ 0 = omega arith in
-    rw nothing (chain_start h len (joined f 0) chain start)
+    rw nothing (chain_start h len (joined f 0) new start)
 
--- the chain after one more sector
-pub sector_more : (h : Hash) (len in_sector : ℕ) (f : ℕ → List ℕ) (i : ℕ) (sector : List ℕ) (chain : AfSplitterModel)
+-- the splitter after one more sector
+pub sector_more : (h : Hash) (len in_sector : ℕ) (f : ℕ → List ℕ) (i : ℕ) (sector : List ℕ) (splitter : AfSplitterModel)
     → in_sector * len ≡ 512 → sector ≡ f i → length sector ≡ 512
-    → chain ≡ splitter_after h len (joined f i ++ take (in_sector * len) sector) (i * in_sector + in_sector)
-    → chain ≡ splitter_after h len (joined f (i + 1)) ((i + 1) * in_sector)
+    → splitter ≡ splitter_after h len (joined f i ++ take (in_sector * len) sector) (i * in_sector + in_sector)
+    → splitter ≡ splitter_after h len (joined f (i + 1)) ((i + 1) * in_sector)
 unfolding joined
-sector_more h len in_sector f i sector chain fits is whole h_is =
+sector_more h len in_sector f i sector splitter fits is whole h_is =
     let all : take (in_sector * len) sector ≡ f i = ap (λ n. take n sector) fits
     ∙ (take_all 512 sector (omega arith) ∙ is) in
     let count : i * in_sector + in_sector ≡ suc i * in_sector = omega arith in
     rw add-one (h_is ∙ (ap (λ s. splitter_after h len (joined f i ++ s) (i * in_sector + in_sector)) all
     ∙ ap (λ n. splitter_after h len (joined f i ++ f i) n) count))
 
--- the key that key material holds, computed from the chain before the last stripe
+-- the key that key material holds, computed from the splitter before the last stripe
 pub recovered_by_last : (h : Hash) (key : Cipher) (image : List ℕ) (offset len stripes whole rest : ℕ) (sector last :
-    List ℕ) (chain : AfSplitterModel) → AreInSectors len stripes whole rest → 1 ≤ len
+    List ℕ) (splitter : AfSplitterModel) → AreInSectors len stripes whole rest → 1 ≤ len
     → length (joined (material_sector key image offset) whole) ≡ whole * 512
     → sector ≡ material_sector key image offset whole → length sector ≡ 512 → last ≡ take len (drop (rest * len) sector)
-    → chain ≡ splitter_after h len (joined (material_sector key image offset) whole ++ take (rest * len) sector)
-    (whole * (512 / len) + rest) → xor chain.block last ≡ recovered h key image offset len stripes
+    → splitter ≡ splitter_after h len (joined (material_sector key image offset) whole ++ take (rest * len) sector)
+    (whole * (512 / len) + rest) → xor splitter.block last ≡ recovered h key image offset len stripes
 unfolding recovered decrypted_material
-recovered_by_last h key image offset len stripes whole rest sector last chain place some before is_sector full is_last
-    is_chain =
+recovered_by_last h key image offset len stripes whole rest sector last splitter layout some before is_sector full
+    is_last is_splitter =
     let f = material_sector key image offset in
     let prefix = joined f whole ++ take (rest * len) sector in
     let count = need_of len stripes / 512 in
-    let long : rest * len + len ≤ length (f whole) = omega (arith, ap length is_sector, place.within) in
-    let below : whole < count = omega (arith, place.there) in
+    let long : rest * len + len ≤ length (f whole) = omega (arith, ap length is_sector, layout.within) in
+    let below : whole < count = omega (arith, layout.there) in
     let stripes_are : take (len * stripes) (joined f count) ≡ prefix ++ last =
-    ap (λ n. take n (joined f count)) place.all ∙ (prefix_of_joined f whole count (rest * len + len) below before long
+    ap (λ n. take n (joined f count)) layout.all ∙ (prefix_of_joined f whole count (rest * len + len) below before long
     ∙ (ap (λ s. joined f whole ++ take (rest * len + len) s) (sym is_sector) ∙ (ap (λ s. joined f whole ++ s)
     (take-add (rest * len) len sector ∙ ap (λ s. take (rest * len) sector ++ s) (sym is_last))
     ∙ sym (append_assoc (joined f whole) (take (rest * len) sector) last)))) in
     let one : length last ≡ len =
     ap length is_last ∙ length-take-le len (drop (rest * len) sector)
-    (omega (arith, length-drop (rest * len) sector, place.within)) in
+    (omega (arith, length-drop (rest * len) sector, layout.within)) in
     let number : length prefix ≡ (whole * (512 / len) + rest) * len =
     omega (
       arith,
       length-append (joined f whole) (take (rest * len) sector),
-      length-take-le (rest * len) sector (omega (arith, place.within)),
-      place.before,
+      length-take-le (rest * len) sector (omega (arith, layout.within)),
+      layout.before,
     ) in
-    ap (λ (c : AfSplitterModel). xor c.block last) is_chain
+    ap (λ (c : AfSplitterModel). xor c.block last) is_splitter
     ∙ (sym (merged_push h len prefix last (whole * (512 / len) + rest) some number one)
     ∙ ap (merged h len) (sym stripes_are))

@@ -74,8 +74,8 @@ order_of header (Some named) limit = order_of_named named (verdict_at header lim
 
 -- an answer is the specified one, or memory ran out
 abbrev pub IsOrMemory : {T : Type 0} → Result T OpenFault → Result T OpenFault → Type 0
-IsOrMemory stated answer =
-    MatchResult answer (λ value. stated ≡ Ok value) (λ fault. (fault ≡ Memory) ⊎ (stated ≡ Err fault))
+IsOrMemory specified answer =
+    MatchResult answer (λ value. specified ≡ Ok value) (λ fault. (fault ≡ Memory) ⊎ (specified ≡ Err fault))
 
 -- the end of the last key material of these key slots
 unfoldable pub key_material_end : List Entry → ℕ

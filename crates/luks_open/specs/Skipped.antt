@@ -22,6 +22,6 @@ pub record IsPadded (elements : List (ℕ × SkipReason)) (used : ℕ) : Type 0 
 pub padded_again : {T : Type 0} (make : List (ℕ × SkipReason) → ℕ → T) (elements : List (ℕ × SkipReason)) (used : ℕ)
     → IsPadded elements used
     → make (padded_to_32 (take used elements)) (length (take used elements)) ≡ make elements used
-padded_again make elements used filled =
-    ap (λ n. make (take used elements ++ replicate (32 - n) nothing) n) filled.there
-    ∙ ap (λ all. make all used) (sym filled.others)
+padded_again make elements used is_padded =
+    ap (λ n. make (take used elements ++ replicate (32 - n) nothing) n) is_padded.there
+    ∙ ap (λ all. make all used) (sym is_padded.others)

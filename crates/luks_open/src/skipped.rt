@@ -5,7 +5,7 @@ ghost use Rattle.std.specs.Prelude.{◌≡◌, ◌+◌, ◌<◌, ◌≤◌, List
 use luks_header::refusal::SkipReason;
 use std::marker::Model;
 
-/// The most key slots that can be skipped: a header has no more.
+/// The maximum number of skipped key slots: a header has no more.
 const MAX_SKIPPED: usize = 32;
 
 /// The value of the unused elements.
@@ -32,9 +32,9 @@ impl Model for SkippedSlots {
 
     ghost inverse = { λ slots. record { elements = padded_to_32 slots; used = length slots } };
 
-    ghost inverse_ok = { λ s filled.
+    ghost inverse_ok = { λ s is_padded.
         padded_again (λ elements used. record { elements = elements; used = used })
-        s.elements s.used filled };
+        s.elements s.used is_padded };
 }
 
 impl SkippedSlots {

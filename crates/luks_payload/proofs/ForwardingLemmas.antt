@@ -16,16 +16,16 @@ use Rattle.luks_payload.specs.declared.fault.VolumeFault.TheVariants.{Write}
 use borrow.Rule.Slice.PartMut.{put_mid}
 
 -- if all requested bytes were read, no end was hit
-pub whole_reads : (got asked : ℕ) (a b : ReadCounts) → asked ≤ got → Reads false (nat_lt got asked) a b
+pub whole_reads : (got requested : ℕ) (a b : ReadCounts) → requested ≤ got → Reads false (nat_lt got requested) a b
     → Reads false false a b
-whole_reads got asked a b all reads = rw (le-ltb got asked all) at reads
+whole_reads got requested a b all reads = rw (le-ltb got requested all) at reads
 
 -- if fewer bytes were read, the end was hit
-pub short_reads : (got asked : ℕ) (a b : ReadCounts) → got < asked → Reads false (nat_lt got asked) a b
+pub short_reads : (got requested : ℕ) (a b : ReadCounts) → got < requested → Reads false (nat_lt got requested) a b
     → Reads false true a b
-short_reads got asked a b few reads = rw (lt-ltb got asked few) at reads
+short_reads got requested a b few reads = rw (lt-ltb got requested few) at reads
 
--- a buffer decrypts to the plaintext of a unit, as the payload defines it
+-- a buffer decrypts to the plaintext of a data unit, as the payload defines it
 pub unit_is : (cipher : Cipher) (number : ℕ) (buf unit : List ℕ) → unit ≡ sector_decrypted cipher.0 cipher.1 number buf
     → unit ≡ unit_plain cipher number buf
 unfolding unit_plain
@@ -121,10 +121,10 @@ module _ (cipher : Cipher) (number len : ℕ) (known : List ℕ) (left left' bef
   pub write_aborted_forwarded : (prefix : List ℕ) (written : ℕ) → length prefix ≡ 0 → written < len
       → Forwarded len (λ bytes. take written (unit_plain cipher number bytes)) left left' before after
       → left ≡ Some known → AbortsInSector cipher number len prefix known left' before after Write
-  write_aborted_forwarded [] written none few (bytes, sized, consumed, adds) is =
+  write_aborted_forwarded [] written none few (bytes, sized, consumed, appends) is =
       let whole : take len bytes ≡ bytes = take_all len bytes (omega arith) in
       let consumption = consumed-prefix left left' bytes len (omega arith) (rw whole consumed) known is in
       let all : len - 0 ≡ len = omega arith in
       let next : take len known ≡ bytes = sym consumption.1 ∙ whole in
-      (rw all consumption.0, (written, few, rw next adds))
+      (rw all consumption.0, (written, few, rw next appends))
   write_aborted_forwarded (x ∷ prefix) written none few forwarded is = absurd (omega arith)

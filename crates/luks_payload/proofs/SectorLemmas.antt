@@ -35,10 +35,10 @@ module _ (z : ℕ) (some : 0 < z) where
       omega (arith, fit (n + 1) (min size len) z some (omega arith))
 
   -- an offset before the end of sector n is not past the payload's end
-  pub is_within : (size : Option ℕ) (n offset len place : ℕ) → n < max_sectors_of size z → place < offset + (n * z + z)
-      → place ≤ len → place ≤ payload_end_in size offset len
-  is_within None n offset len place below before there = there
-  is_within (Some size) n offset len place below before there =
+  pub is_within : (size : Option ℕ) (n start len offset : ℕ) → n < max_sectors_of size z → offset < start + (n * z + z)
+      → offset ≤ len → offset ≤ payload_end_in size start len
+  is_within None n start len offset below before there = there
+  is_within (Some size) n start len offset below before there =
       let whole = one_more_fits n size z below in
       omega arith
 
@@ -69,7 +69,7 @@ module _ (z : ℕ) (some : 0 < z) where
       let enough : nat_lt (total - offset) size ≡ false = le-ltb (total - offset) size (omega arith) in
       (rw smaller is, rw enough refl, omega arith)
 
--- a payload of which the image has no bytes has no sectors
+-- if the image has no bytes of a payload, the payload has no sectors
 pub none_whole : (size : Option ℕ) (z : ℕ) → payload_bytes size 0 / z ≡ 0
 none_whole None z = zero-div z
 none_whole (Some size) z =

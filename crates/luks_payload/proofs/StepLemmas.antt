@@ -12,7 +12,7 @@ use Rattle.luks_io.specs.Counts.{Reads, Writes}
 use Rattle.luks_io.specs.declared.counts.ReadCounts.{ReadCounts}
 use Rattle.luks_io.specs.declared.counts.WriteCounts.{WriteCounts}
 use Rattle.luks_io.proofs.EffectLemmas.{consumed_behind, consumed_sum, no_writes}
-use Rattle.luks_payload.specs.PumpEffects.{PositionedAt, StopsDiscarding, AbortsInSector, is_pump_read_failure}
+use Rattle.luks_payload.specs.PumpEffects.{PositionedAt, AbortsDiscarding, AbortsInSector, is_pump_read_failure}
 use Rattle.luks_payload.specs.PumpEffects.{is_cut_before_payload, is_pump_write_failure, max_sectors}
 use Rattle.luks_payload.specs.Plain.{payload_end_in, ending_of_len, payload_end_of, bytes_from_start, sector_len}
 use Rattle.luks_payload.specs.Plain.{sector_plaintext, sector_start, unit_number, unit_plain}
@@ -92,7 +92,7 @@ module _ (s : Segment) (image : List ℕ) (count : ℕ) where
     pub sector_appended : (cipher : Cipher) (before after : Option (List ℕ))
         → IfKnown left (λ rest. Appended before after (unit_plain cipher (unit_number s count)
         (take (sector_len s) (prefix ++ rest)))) → Appended before after (sector_plaintext s cipher image count)
-    sector_appended cipher b a adds = rw joined at (adds (drop next_byte image) positioned.consumption.left)
+    sector_appended cipher b a appends = rw joined at (appends (drop next_byte image) positioned.consumption.left)
 
     -- the image ended before the sector did
     pub steps_torn : (cipher : Cipher) (left' before after : Option (List ℕ)) (answer : Result Step VolumeFault)
@@ -166,16 +166,16 @@ module _ (s : Segment) (count more : ℕ) (answer : Result Step VolumeFault) (be
 
 -- a read or a write failed in a sector
 module _ (s : Segment) (count : ℕ) (fault : VolumeFault) (only : (fault ≡ Read) ⊎ (fault ≡ Write)) where
-  pub may_break : MayAnswer InPayload s count (Err fault)
-  may_break = elim only [ inl is ↦ rw is tt | inr is ↦ rw is tt ]
+  pub may_abort : MayAnswer InPayload s count (Err fault)
+  may_abort = elim only [ inl is ↦ rw is tt | inr is ↦ rw is tt ]
 
-  pub broken_reads : (a b : ReadCounts) → Reads (is_pump_read_failure {T = ℕ} (Err fault)) false a b
+  pub aborted_reads : (a b : ReadCounts) → Reads (is_pump_read_failure {T = ℕ} (Err fault)) false a b
       → Reads (is_pump_read_failure {T = Step} (Err fault)) (hits_eof_at s count (Err fault)) a b
-  broken_reads a b reads = elim only [ inl is ↦ rw is (rw is at reads) | inr is ↦ rw is (rw is at reads) ]
+  aborted_reads a b reads = elim only [ inl is ↦ rw is (rw is at reads) | inr is ↦ rw is (rw is at reads) ]
 
-  pub broken_writes : (a b : WriteCounts) → Writes (is_pump_write_failure {T = ℕ} (Err fault)) a b
+  pub aborted_writes : (a b : WriteCounts) → Writes (is_pump_write_failure {T = ℕ} (Err fault)) a b
       → Writes (is_pump_write_failure {T = Step} (Err fault)) a b
-  broken_writes a b writes = elim only [ inl is ↦ rw is (rw is at writes) | inr is ↦ rw is (rw is at writes) ]
+  aborted_writes a b writes = elim only [ inl is ↦ rw is (rw is at writes) | inr is ↦ rw is (rw is at writes) ]
 
   pub writes_no_sector : (written unwritten : Type 0) → (fault ≡ Read → unwritten)
       → WritesSectors (Err fault) written unwritten
@@ -193,7 +193,7 @@ module _ (p : PumpModel) (image : List ℕ) (r r' : Option (List ℕ)) (early : 
 
   pub skips : (answer : Result (Unit {0}) VolumeFault)
       → OnOk answer (IfKnown r (λ rest. ConsumedExactly rest r' (p.segment.offset - p.consumed_before)))
-      → IfErr answer (λ fault. IfKnown r (λ rest. StopsDiscarding (p.segment.offset - p.consumed_before) rest r' fault))
+      → IfErr answer (λ fault. IfKnown r (λ l. AbortsDiscarding (p.segment.offset - p.consumed_before) l r' fault))
       → SkipEffect p image answer r'
   skips (Ok _) ok err =
       consumed_sum image r r' p.consumed_before (p.segment.offset - p.consumed_before) p.segment.offset (omega arith)
@@ -241,9 +241,9 @@ module _ (p : PumpModel) (image : List ℕ) (r r' before after : Option (List �
         as_specified = rw behind refl;
         consumption = rw end left;
       }
-  steps_unskipped Read (place, least, most, left) =
-      let from : consumed_by p ≤ place = omega (arith, at_first p first fresh.1) in
-      (place, from, omega (arith, left.within, payload_ends p.segment.size p.segment.offset (length image)), left)
+  steps_unskipped Read (offset, least, most, left) =
+      let from : consumed_by p ≤ offset = omega (arith, at_first p first fresh.1) in
+      (offset, from, omega (arith, left.within, payload_ends p.segment.size p.segment.offset (length image)), left)
   steps_unskipped _ stops = absurd stops
 
 -- the reads of a failed skip are those of its step, which makes no write
@@ -266,17 +266,17 @@ module _ (s : Segment) (cipher : Cipher) (count already : ℕ) (image : List ℕ
       omega (arith, payload_ends s.size s.offset (length image)) in
       record { all = ends.all; as_specified = ends.as_specified; consumption = rw same at ends.consumption }
 
-  takes_earlier : ConsumesSector image s count s.offset l → ConsumesSector image s count already l
-  takes_earlier takes =
+  consumes_earlier : ConsumesSector image s count s.offset l → ConsumesSector image s count already l
+  consumes_earlier consumes =
       let same : max s.offset (sector_start s (count + 1)) ≡ max already (sector_start s (count + 1)) =
       omega arith in
-      record { is_one = takes.is_one; consumption = rw same at takes.consumption }
+      record { is_one = consumes.is_one; consumption = rw same at consumes.consumption }
 
   steps_earlier : (answer : Result Step VolumeFault) → StepEffect s cipher count s.offset image answer l b a
       → StepEffect s cipher count already image answer l b a
-  steps_earlier (Ok Sector) (takes, adds) = (takes_earlier takes, adds)
+  steps_earlier (Ok Sector) (consumes, appends) = (consumes_earlier consumes, appends)
   steps_earlier (Err Read) (n, first, last, consumption) = (n, omega arith, last, consumption)
-  steps_earlier (Err Write) (takes, adds) = (takes_earlier takes, adds)
+  steps_earlier (Err Write) (consumes, appends) = (consumes_earlier consumes, appends)
   steps_earlier ending ends = ends_earlier ending ends
 
 -- a step continues where its skip left the source

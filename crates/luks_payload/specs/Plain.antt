@@ -19,7 +19,7 @@ sector_len s = bytes_of s.sector_size
 abbrev pub sector_start : Segment → ℕ → ℕ
 sector_start s i = s.offset + i * sector_len s
 
--- the plaintext of a stored unit. No other definition here applies the cipher
+-- the plaintext of a stored data unit. No other definition here applies the cipher
 unfoldable pub unit_plain : Cipher → ℕ → List ℕ → List ℕ
 unit_plain cipher number unit = sector_decrypted cipher.0 cipher.1 number unit
 

@@ -29,21 +29,21 @@ is_cut_before_payload (Err CutBeforePayload) = true
 is_cut_before_payload _ = false
 
 -- the next `count` bytes of a source were not all discarded, for this reason: it has fewer, or a read failed
-abbrev pub StopsDiscarding : ℕ → List ℕ → Option (List ℕ) → VolumeFault → Type 0
-StopsDiscarding count known left CutBeforePayload = (length known < count) × ConsumedExactly known left (length known)
-StopsDiscarding count known left Read = ConsumedFewer known left count
-StopsDiscarding count known left _ = ⊥
+abbrev pub AbortsDiscarding : ℕ → List ℕ → Option (List ℕ) → VolumeFault → Type 0
+AbortsDiscarding count known left CutBeforePayload = (length known < count) × ConsumedExactly known left (length known)
+AbortsDiscarding count known left Read = ConsumedFewer known left count
+AbortsDiscarding count known left _ = ⊥
 
 -- the bytes of an image at this offset are `prefix`, and those after them remain in the source
-pub record PositionedAt (image prefix : List ℕ) (place : ℕ) (left' : Option (List ℕ)) : Type 0 where
-  pub next : prefix ≡ take (length prefix) (drop place image)
-  pub consumption : ConsumedExactly image left' (place + length prefix)
+pub record PositionedAt (image prefix : List ℕ) (offset : ℕ) (left' : Option (List ℕ)) : Type 0 where
+  pub next : prefix ≡ take (length prefix) (drop offset image)
+  pub consumption : ConsumedExactly image left' (offset + length prefix)
 
--- a unit starts with the bytes of `prefix`, as far as both have bytes
+-- a data unit starts with the bytes of `prefix`, as far as both have bytes
 abbrev pub BeginsWith : List ℕ → List ℕ → Type 0
 BeginsWith prefix unit = take (length prefix) unit ≡ take (length unit) prefix
 
--- the plaintext was written of some unit of `len` bytes that starts with the bytes of `prefix`
+-- the plaintext of some data unit of `len` bytes was written, and the unit starts with the bytes of `prefix`
 abbrev pub AppendsUnit : Cipher → ℕ → ℕ → List ℕ → Option (List ℕ) → Option (List ℕ) → Type 0
 AppendsUnit cipher number len prefix before after = (unit : List ℕ) × (length unit ≡ len) × BeginsWith prefix unit
     × Appended before after (unit_plain cipher number unit)
@@ -64,8 +64,8 @@ AbortsInSector cipher number len prefix known left' before after Write =
     × Appended before after (take count (unit_plain cipher number (take len (prefix ++ known)))))
 AbortsInSector cipher number len prefix known left' before after _ = ⊥
 
--- the sector with this unit number, which starts with the bytes of `prefix`, was consumed, and was written if it is
--- whole: it has `got` bytes
+-- the sector with this data unit number, which starts with the bytes of `prefix`, was consumed, and was written if it
+-- is whole: it has `got` bytes
 pub record SectorForwarded (cipher : Cipher) (number len : ℕ) (prefix : List ℕ) (got : ℕ)
     (left left' before after : Option (List ℕ)) (unwritten : Type 0) : Type 0 where
   pub most : got ≤ len
@@ -198,21 +198,21 @@ hits_eof_at s count (Err (Tail _)) = true
 hits_eof_at s count (Err (Short _)) = true
 hits_eof_at s count _ = false
 
--- sector `count` was consumed from the image, of which `already` bytes had been consumed before, and nothing past it
+-- sector `count` was consumed from an image whose first `already` bytes had been consumed before, and nothing past it
 pub record ConsumesSector (image : List ℕ) (segment : Segment) (count already : ℕ) (left : Option (List ℕ))
     : Type 0 where
   pub is_one : count < sectors_of segment image
   pub consumption : ConsumedExactly image left (max already (sector_start segment (count + 1)))
 
--- the payload came to its specified end after `count` sectors, and all of it was consumed from an image of which
--- `already` bytes had been consumed before
+-- the payload came to its specified end after `count` sectors, and all of it was consumed from an image whose
+-- first `already` bytes had been consumed before
 pub record EndEffect (image : List ℕ) (segment : Segment) (count already : ℕ) (answer : Result Step VolumeFault)
     (left : Option (List ℕ)) : Type 0 where
   pub all : count ≡ sectors_of segment image
   pub as_specified : answer ≡ ending_of segment image
   pub consumption : ConsumedExactly image left (max already (payload_end_of segment image))
 
--- the effect of a step after `count` sectors, in an image of which `already` bytes had been consumed before
+-- the effect of a step after `count` sectors, in an image whose first `already` bytes had been consumed before
 abbrev pub StepEffect : Segment → Cipher → ℕ → ℕ → List ℕ → Result Step VolumeFault → Option (List ℕ) → Option (List ℕ)
     → Option (List ℕ) → Type 0
 StepEffect s cipher count already image (Ok Sector) left before after =

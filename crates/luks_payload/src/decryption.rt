@@ -3,7 +3,7 @@
 use luks_cipher::SectorCipher;
 use luks_io::transform::Transform;
 
-/// The decryption of the sector with this unit number.
+/// The decryption of the sector with this data unit number.
 #[derive(Drop)]
 pub(crate) struct Decryption<'a> {
     pub(crate) cipher: &'a SectorCipher,

@@ -8,7 +8,7 @@ use luks_io::source::ReadFault;
 pub enum VolumeFault {
     /// The image ends before its payload begins.
     CutBeforePayload,
-    /// The image ends inside a sector, of which it has this many bytes.
+    /// The image ends inside a sector, and has this many bytes of it.
     Tail(u64),
     /// The image ends this many bytes before the end of a payload of fixed size.
     Short(u64),

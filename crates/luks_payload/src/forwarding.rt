@@ -3,7 +3,7 @@
 ghost use Rattle.std.specs.Prelude.{◌≡◌, ◌-◌, ◌%◌, ◌<◌, ◌≤◌, ◌⊎◌, IfOk, IfErr, OnOk, length};
 ghost use Rattle.luks_io.specs.Devices.{ConsumedExactly, ConsumedFewer, IfKnown, is_short_read};
 ghost use Rattle.luks_io.specs.Counts.{Reads, Writes};
-ghost use Rattle.luks_payload.specs.PumpEffects.{StopsDiscarding, BeginsWith, FilledSector};
+ghost use Rattle.luks_payload.specs.PumpEffects.{AbortsDiscarding, BeginsWith, FilledSector};
 ghost use Rattle.luks_payload.specs.PumpEffects.{SectorEffect, is_cut_before_payload};
 ghost use Rattle.luks_payload.specs.PumpEffects.{is_pump_read_failure, is_pump_write_failure};
 
@@ -13,7 +13,7 @@ use luks_cipher::SectorCipher;
 use luks_io::sink::{Sink, put_all};
 use luks_io::source::{Source, fill};
 
-/// Reads `count` bytes and discards them. `piece` is the buffer for some of them at a time.
+/// Reads `count` bytes and discards them. `piece` buffers some of them at a time.
 pub(crate) fn discard<S: Source>(
     source: &mut S,
     count: u64,
@@ -23,19 +23,19 @@ pub(crate) fn discard<S: Source>(
     ensures ok { OnOk result (IfKnown (S.to_come source.old)
         (λ known. ConsumedExactly known (S.to_come source.new) count)) }
     ensures err { IfErr result (λ fault. IfKnown (S.to_come source.old)
-        (λ known. StopsDiscarding count known (S.to_come source.new) fault)) }
+        (λ known. AbortsDiscarding count known (S.to_come source.new) fault)) }
     ensures only { IfErr result
         (λ fault. (fault ≡ VolumeFault.CutBeforePayload) ⊎ (fault ≡ VolumeFault.Read)) }
     ensures reads { Reads (is_pump_read_failure result) (is_cut_before_payload result)
         (S.counts source.old) (S.counts source.new) }
 {
-    let mut left = count;
-    'pieces: while left > 0 {
-        let size = left.min(piece.len() as u64);
+    let mut remaining = count;
+    'pieces: while remaining > 0 {
+        let size = remaining.min(piece.len() as u64);
         if fill(source, &mut piece[..size as usize])? < size as usize {
             return Err(VolumeFault::CutBeforePayload);
         }
-        left -= size;
+        remaining -= size;
     }
     Ok(())
 }
@@ -95,7 +95,7 @@ fn forward_filled<S: Source, O: Sink>(
     Ok(got)
 }
 
-/// Consumes the sector with this unit number, which starts with the bytes of `prefix`, and writes
+/// Consumes the sector with this data unit number, which starts with the bytes of `prefix`. Writes
 /// its plaintext if it is whole. The sector is decrypted in the source if `prefix` is empty and the
 /// source has all of it buffered, and otherwise in `sector`. Returns the number of bytes.
 pub(crate) fn forward_sector<S: Source, O: Sink>(

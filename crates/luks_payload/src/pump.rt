@@ -62,8 +62,8 @@ impl<'a> Model for Pump<'a> {
         × (p.state ≡ BeforePayload → (p.count ≡ 0) × (p.prefix.now ≡ [])) };
 }
 
-/// Forwards the sector after `count` others, which starts with the bytes of `prefix`, or reports
-/// how the payload ends before it. The buffer is long enough for the sector.
+/// Forwards the sector after the first `count` ones. It starts with the bytes of `prefix`. If the
+/// payload ends before that sector, the answer says how. The buffer fits the longest sector.
 fn next_sector<S: Source, O: Sink>(
     segment: &Segment,
     cipher: &SectorCipher,
@@ -109,8 +109,8 @@ fn next_sector<S: Source, O: Sink>(
 }
 
 impl<'a> Pump<'a> {
-    /// A pump for this payload and this cipher, and for an image of which `consumed` bytes are
-    /// consumed already, none of them the payload's.
+    /// A pump for this payload and this cipher, and for an image whose first `consumed` bytes are
+    /// consumed already. None of them is in the payload.
     pub fn new(segment: Segment, cipher: SectorCipher, consumed: u64) -> Pump<'a>
         requires { consumed ≤ segment.offset }
         ensures { result ≡ record {
@@ -133,8 +133,8 @@ impl<'a> Pump<'a> {
         }
     }
 
-    /// A pump for this payload and this cipher, and for an image of which the payload's first
-    /// bytes, `prefix`, are consumed already. They come before those that remain in the source.
+    /// A pump for this payload and this cipher, and for an image that was consumed up to the end of
+    /// `prefix`, the payload's first bytes. They come before those that remain in the source.
     pub fn with_loaded(segment: Segment, cipher: SectorCipher, prefix: &'a [u8]) -> Pump<'a>
         ensures { result ≡ record {
           segment = segment;
@@ -193,7 +193,7 @@ impl<'a> Pump<'a> {
         }
     }
 
-    /// Updates the pump by the answer of a step in the payload.
+    /// Updates the pump with the answer of a step in the payload.
     fn remember(&mut self, answer: Result<Step, VolumeFault>)
         requires running { self.old.state ≡ State.InPayload }
         requires below { answer ≡ Ok Step.Sector → self.old.count < max_sectors self.old.segment }

@@ -1,4 +1,4 @@
-//! The sectors of a payload: their number, their unit numbers, and how the payload ends.
+//! The sectors of a payload: their number, their data unit numbers, and how the payload ends.
 
 ghost use Rattle.std.specs.Prelude.{◌≡◌, ◌+◌, ◌*◌, ◌<◌};
 ghost use Rattle.luks_payload.specs.PumpEffects.{max_sectors};

@@ -74,7 +74,7 @@ module _ (s : Segment) (image : List ℕ) where
       let some : 1 * sector_len s ≤ (i + 1) * sector_len s = mul-le-mul_right (sector_len s) (omega arith) in
       omega (arith, z.long, payload_ends s.size s.offset (length image), within_len s.size (length image - s.offset))
 
-  -- and so it is in the image
+  -- so it also ends at the image's end or before it
   sector_there : (i : ℕ) → i < sectors_of s image → sector_start s (i + 1) ≤ length image
   sector_there i below = omega (arith, sector_before_end i below, payload_ends s.size s.offset (length image))
 
@@ -120,7 +120,7 @@ prefix_after_sector prefix image start z next = elim (cases_lt z (length prefix)
   | inr few ↦ let none : drop z prefix ≡ [] = drop_all z prefix (omega arith) in rw none refl
 ]
 
--- a pump on an image of which `loaded` bytes were consumed before; the sectors that it forwarded are written. The next
+-- a pump on an image whose first `loaded` bytes were consumed before; its forwarded sectors are written. The next
 -- byte is not before their end, nor past the start of the next sector, and the prefix is the start of that sector
 pub record Forwarding (p : PumpModel) (image : List ℕ) (loaded : ℕ) (left before after : Option (List ℕ)) : Type 0 where
   pub positioned : PositionedIn image p left

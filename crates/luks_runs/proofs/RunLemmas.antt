@@ -22,7 +22,7 @@ use Rattle.luks_runs.specs.declared.headers.Printout.TheVariants.{Uuid, Dump, Ch
 use Rattle.luks_report.specs.Texts.{findings_of, message_for_check}
 use Rattle.luks_runs.specs.declared.location.HeaderLocation.TheVariants.{Attached, Detached}
 
--- after these numbers of bytes were consumed and written
+-- a run was aborted after these numbers of bytes were consumed and written
 pub aborted_at : {is_prompt : Promptness} {o : Outcome} {message : Message}
     {ConsumedInput ConsumedPayload ConsumedSecret : ℕ → Type 0} {Wrote : List ℕ → Type 0}
     (input payload secret written : ℕ) → IsPrefixLen message written (length o.output)
@@ -46,7 +46,7 @@ aborted_at input payload secret written begins prompt input_within payload_withi
       output = wrote;
     }
 
--- before anything was written
+-- a run was aborted before anything was written
 pub aborted_unwritten : {is_prompt : Promptness} {o : Outcome} {message : Message}
     {ConsumedInput ConsumedSecret : ℕ → Type 0} {w : Option (List ℕ)} (input secret : ℕ)
     → IsPrefixLen message 0 (length o.output) → is_prompt message input 0 secret 0
@@ -70,7 +70,7 @@ runs_printed o ConsumedInput ConsumedSecret w w' ReadFailed input none secret lo
 runs_printed o ConsumedInput ConsumedSecret w w' _ input none secret all =
     record { as_specified = all.0; input = input; payload = none; secret = secret; output = all.1 }
 
--- ---- how much of an image its header takes, and how the commands on headers end
+-- ---- how many bytes are consumed to read a header, and how the commands on headers end
 
 pub header_read_len_within : (image : List ℕ) → header_read_len image ≤ length image
 header_read_len_within image = omega (arith, (probe_is image).0)
@@ -81,7 +81,7 @@ pub reading_fault : (location : HeaderLocation) (image : List ℕ) (fault : Head
 reading_fault Attached image fault none = none
 reading_fault Detached image fault none = rw none refl
 
--- what holds of `Done`, and for a check of `Findings`, holds of the message after a text was printed
+-- what holds for `Done`, and in a check also for `Findings`, holds for the message after a text was printed
 pub by_printout : (P : Printout → Message → Type 0) → P Uuid Done → P Dump Done → P Check Done → P Check Findings
     → (printout : Printout) (header : Header) → P printout (printout_message printout header)
 unfolding message_for_check

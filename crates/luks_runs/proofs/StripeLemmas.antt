@@ -37,7 +37,7 @@ stripe_torn random r stripe t w w' n few a =
     let next : stripe ≡ take (length stripe) random = sym (take_all (length stripe) stripe (omega arith)) ∙ t.1 in
     record {
       consumption = t.0;
-      added = subst (Appended w w') (ap (take n) next ∙ take-take n (length stripe) random (omega arith)) a;
+      appended = subst (Appended w w') (ap (take n) next ∙ take-take n (length stripe) random (omega arith)) a;
     }
 
 module _ (random : List ℕ) (i len : ℕ) (r b w : Option (List ℕ))
@@ -47,20 +47,20 @@ module _ (random : List ℕ) (i len : ℕ) (r b w : Option (List ℕ))
       → ForwardedBytes random r' b w' (i * len + n) (i * len + k)
   forwarded_bytes_more n k r' w' next = record {
     consumption = consumed_behind random r r' (i * len) n p.consumption next.consumption;
-    added = subst (Appended b w') (sym (take-add (i * len) k random))
-        (adds-more b w w' (take (i * len) random) (take k (drop (i * len) random)) p.added next.added);
+    appended = subst (Appended b w') (sym (take-add (i * len) k random))
+        (adds-more b w w' (take (i * len) random) (take k (drop (i * len) random)) p.appended next.appended);
   }
 
-  -- one whole stripe more
+  -- one more whole stripe was forwarded
   pub forwarded_one_more : (r' w' : Option (List ℕ)) → ForwardedBytes (drop (i * len) random) r' w w' len len
       → ForwardedBytes random r' b w' ((i + 1) * len) ((i + 1) * len)
   forwarded_one_more r' w' next =
       let more : (i + 1) * len ≡ i * len + len = omega arith in rw more (forwarded_bytes_more len len r' w' next)
 
   -- forwarding the next stripe was aborted
-  pub stops_at : (count : ℕ) (message : Message) (r' w' : Option (List ℕ)) → (i + 1) * len ≤ count * len
+  pub aborts_at : (count : ℕ) (message : Message) (r' w' : Option (List ℕ)) → (i + 1) * len ≤ count * len
       → IfKnown r (λ rest. AbortsInStripe len rest r' w w' message) → AbortsAtStripe count len random r' b w' message
-  stops_at count FewRandomBytes r' w' below stop =
+  aborts_at count FewRandomBytes r' w' below stop =
       let rest = drop (i * len) random in
       let here = stop rest p.consumption.left in
       let there = p.consumption.within in
@@ -68,20 +68,20 @@ module _ (random : List ℕ) (i len : ℕ) (r b w : Option (List ℕ))
       let none : i * len + 0 ≡ i * len = omega arith in
       let next = forwarded_bytes_more (length rest) 0 r' w' here.1 in
       (i, below, there, omega (arith, here.0), rw (all, none) at next)
-  stops_at count ReadFailed r' w' below stop =
+  aborts_at count ReadFailed r' w' below stop =
       let here = stop (drop (i * len) random) p.consumption.left in
       let none : i * len + 0 ≡ i * len = omega arith in
       let next = forwarded_bytes_more here.0 0 r' w' here.2 in
       (i, i * len + here.0, below, omega arith, omega (arith, here.1), rw none at next)
-  stops_at count WriteFailed r' w' below stop =
+  aborts_at count WriteFailed r' w' below stop =
       let here = stop (drop (i * len) random) p.consumption.left in
       let more : i * len + len ≡ (i + 1) * len = omega arith in
       let next = forwarded_bytes_more len here.0 r' w' here.2 in
       (i, i * len + here.0, below, omega arith, omega (arith, here.1), rw more at next)
-  stops_at count _ r' w' below stop = absurd (stop (drop (i * len) random) p.consumption.left)
+  aborts_at count _ r' w' below stop = absurd (stop (drop (i * len) random) p.consumption.left)
 
 module _ (h : Hash) (count : ℕ) (key random : List ℕ) where
-  -- a key of a length that is not allowed
+  -- a key whose length is not allowed
   key_refused : (min (length key) 513 ≡ 0) ⊎ (512 < length key) → split_outcome h count key random
       ≡ no_output KeyLength (min (length key) 513) 0
   unfolding split_outcome
@@ -158,7 +158,7 @@ module _ (h : Hash) (count : ℕ) (key random : List ℕ) (some : 1 ≤ length k
       ]
 
   module _ (k r b w : Option (List ℕ)) (consumption : ConsumedExactly key k (length key)) where
-    -- the run ended with this message, and left the output so
+    -- the run ended with this message and this output
     abbrev Matches : Message → Option (List ℕ) → Type 0
     Matches message after =
         RunMatches (PromptSplit (length key)) (split_outcome h count key random) message (ConsumedExactly key k)
@@ -174,28 +174,28 @@ module _ (h : Hash) (count : ℕ) (key random : List ℕ) (some : 1 ≤ length k
         let few : length random < (count - 1) * length key = omega (arith, stop.1, stop.3) in
         let whole : length random / length key ≡ stop.0 = div-eq_of_lt-le (length key) stop.2 stop.3 in
         let p = stop.4 in
-        rw (random_few few, whole)
-        (record { as_specified = refl; input = consumption; payload = refl; secret = p.consumption; output = p.added })
+        rw (random_few few, whole) (record
+        { as_specified = refl; input = consumption; payload = refl; secret = p.consumption; output = p.appended })
     runs_without_stripes ReadFailed stop =
         let there = stop.5.consumption.within in
         let may = may_forward stop.0 stop.1 (omega (arith, stop.2, stop.4)) there (omega (arith, stop.2))
         (omega (arith, stop.3)) in
         aborted_at (length key) 0 stop.1 (stop.0 * length key) may.fits
         (ap (λ q. q * length key) (sym (div-eq_of_lt-le (length key) stop.3 stop.4))) key_whole (omega arith) may.within
-        consumption refl stop.5.consumption (rw (may.begins (stop.0 * length key) (omega arith)) stop.5.added)
+        consumption refl stop.5.consumption (rw (may.begins (stop.0 * length key) (omega arith)) stop.5.appended)
     runs_without_stripes WriteFailed stop =
         let there = stop.5.consumption.within in
         let may = may_forward (stop.0 + 1) ((stop.0 + 1) * length key) stop.2 there stop.2 there in
         aborted_at (length key) 0 ((stop.0 + 1) * length key) stop.1 (omega (arith, may.fits, stop.4))
         (rw (div-eq_of_lt-le (length key) stop.3 stop.4) (omega arith)) key_whole (omega arith) may.within consumption
-        refl stop.5.consumption (rw (may.begins stop.1 (omega (arith, stop.4))) stop.5.added)
+        refl stop.5.consumption (rw (may.begins stop.1 (omega (arith, stop.4))) stop.5.appended)
     runs_without_stripes _ stop = absurd stop
 
     -- all random stripes were forwarded, and the last stripe was made with this splitter
     module _ (splitter : AfSplitterModel) (is : splitter ≡ splitter_after h (length key) random (count - 1))
         (p : ForwardedBytes random r b w ((count - 1) * length key) ((count - 1) * length key)) (last : List ℕ)
         (made : last ≡ xor splitter.block key) (w' : Option (List ℕ)) where
-      -- of the random bytes, the last stripe depends only on those of the random stripes
+      -- the last stripe depends on no random bytes but those of the random stripes
       last_is : last ≡ xor (splitter_block h (length key) (take ((count - 1) * length key) random) (count - 1)) key
       last_is =
           let n = count - 1 in
@@ -208,7 +208,7 @@ module _ (h : Hash) (count : ℕ) (key random : List ℕ) (some : 1 ≤ length k
       -- the last stripe was written
       pub runs_to_end : Appended w w' last → Matches Done w'
       runs_to_end a =
-          let all = adds-more b w w' (take ((count - 1) * length key) random) last p.added a in
+          let all = adds-more b w w' (take ((count - 1) * length key) random) last p.appended a in
           rw (random_enough p.consumption.within, ← last_is)
           (record { as_specified = refl; input = consumption; payload = refl; secret = p.consumption; output = all })
 
@@ -226,10 +226,10 @@ module _ (h : Hash) (count : ℕ) (key random : List ℕ) (some : 1 ≤ length k
           rw (random_enough p.consumption.within)
           (aborted_at (length key) 0 needed (needed + n) (rw (← last_is) (omega arith)) (rw row (omega arith))
           (omega arith) (omega arith) (omega arith) consumption refl p.consumption
-          (rw (← last_is, begin) (adds-more b w w' prefix (take n last) p.added a)))
+          (rw (← last_is, begin) (adds-more b w w' prefix (take n last) p.appended a)))
 
 module _ (bytes : List ℕ) (i len : ℕ) (s : Option (List ℕ)) (p : ConsumedExactly bytes s (i * len)) where
-  -- one whole stripe more
+  -- one more whole stripe was read
   pub stripe_more : (s' : Option (List ℕ)) (stripe : List ℕ)
       → IfKnown s (λ rest. (stripe ≡ take len rest) × ConsumedExactly rest s' len)
       → ConsumedExactly bytes s' ((i + 1) * len) × (stripe ≡ stripe_at len bytes i)
@@ -239,17 +239,17 @@ module _ (bytes : List ℕ) (i len : ℕ) (s : Option (List ℕ)) (p : ConsumedE
       (rw more at (consumed_behind bytes s s' (i * len) len p here.1), is_stripe bytes i len stripe here.0)
 
   -- the next stripe could not be read
-  pub reading_stops_at : (count : ℕ) (message : Message) (s' : Option (List ℕ)) → (i + 1) * len ≤ count * len
+  pub reading_aborts_at : (count : ℕ) (message : Message) (s' : Option (List ℕ)) → (i + 1) * len ≤ count * len
       → IfKnown s (λ rest. AbortsReadingStripes 1 len rest s' message) → AbortsReadingStripes count len bytes s' message
-  reading_stops_at count FewStripes s' below stop =
+  reading_aborts_at count FewStripes s' below stop =
       let rest = drop (i * len) bytes in
       let here = stop rest p.left in
       let all : i * len + length rest ≡ length bytes = omega (arith, length-drop (i * len) bytes, p.within) in
       (omega (arith, here.0), rw all at (consumed_behind bytes s s' (i * len) (length rest) p here.1))
-  reading_stops_at count ReadFailed s' below stop =
+  reading_aborts_at count ReadFailed s' below stop =
       let here = stop (drop (i * len) bytes) p.left in
       (i * len + here.0, omega (arith, here.1), consumed_behind bytes s s' (i * len) here.0 p here.2)
-  reading_stops_at count _ s' below stop = absurd (stop (drop (i * len) bytes) p.left)
+  reading_aborts_at count _ s' below stop = absurd (stop (drop (i * len) bytes) p.left)
 
 module _ (h : Hash) (count len : ℕ) (bytes : List ℕ) where
   stripes_enough : count * len ≤ length bytes → merge_outcome h count len bytes
@@ -261,7 +261,7 @@ module _ (h : Hash) (count len : ℕ) (bytes : List ℕ) where
   unfolding merge_outcome
   stripes_few few = rw (lt-leb (count * len) (length bytes) few) refl
 
-  -- merging consumes at least as many bytes as are both needed and there
+  -- merging consumes at least as many bytes as are both needed and available
   merge_consumes_within : (consumed : ℕ) → consumed ≤ count * len → consumed ≤ length bytes
       → consumed ≤ (merge_outcome h count len bytes).input_consumed
   unfolding merge_outcome
@@ -294,7 +294,7 @@ pub key_merged : (h : Hash) (count len : ℕ) (bytes : List ℕ) (splitter : AfS
     → 1 ≤ len → 1 ≤ count → count * len ≤ length bytes
     → splitter ≡ splitter_after h len bytes (count - 1) → stripe ≡ stripe_at len bytes (count - 1)
     → key ≡ xor splitter.block stripe → key ≡ merged h len (take (count * len) bytes)
-key_merged h count len bytes splitter stripe key some one there chained next made =
+key_merged h count len bytes splitter stripe key some one there absorbed next made =
     let prefix = take (count * len) bytes in
     let before = count - 1 in
     let whole : length prefix ≡ count * len = length-take-le (count * len) bytes there in
@@ -302,10 +302,10 @@ key_merged h count len bytes splitter stripe key some one there chained next mad
     let all : suc before ≡ count = omega arith in
     let up : suc before * len ≡ count * len = ap (λ n. n * len) all in
     let joined : prefix ++ drop (count * len) bytes ≡ bytes = take-append-drop (count * len) bytes in
-    let same_chain = ap (λ l. splitter_block h len l before) (sym joined)
+    let same_block = ap (λ l. splitter_block h len l before) (sym joined)
     ∙ splitter_block-append h len prefix (drop (count * len) bytes) before (omega arith) in
     let same_stripe = ap (λ l. stripe_at len l before) (sym joined)
     ∙ stripe_at-append len prefix (drop (count * len) bytes) before (omega arith) in
-    made ∙ ap (λ (s : AfSplitterModel). xor s.block stripe) chained ∙ ap (λ d. xor d stripe) same_chain
+    made ∙ ap (λ (s : AfSplitterModel). xor s.block stripe) absorbed ∙ ap (λ d. xor d stripe) same_block
     ∙ ap (xor (splitter_block h len prefix before)) (next ∙ same_stripe)
     ∙ sym (merged_by_number h len prefix count some whole)

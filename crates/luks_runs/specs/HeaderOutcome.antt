@@ -32,12 +32,12 @@ printout_message Uuid header = Done
 printout_message Dump header = Done
 printout_message Check header = message_for_check header
 
--- what is printed of the header, if there is one
+-- what is printed about the header, if there is one
 abbrev pub printed : (Header → List ℕ) → Result Header HeaderFault → List ℕ
 printed text (Ok header) = text header
 printed text (Err _) = []
 
--- the message of a command that prints a text of the header, if `message_for` gives the message for a header
+-- the message of a command that prints a text about the header, if `message_for` gives the message for a header
 abbrev pub message_printing : (Header → Message) → Result Header HeaderFault → Message
 message_printing message_for (Ok header) = message_for header
 message_printing message_for (Err fault) = message_for_header fault
@@ -46,7 +46,7 @@ message_printing message_for (Err fault) = message_for_header fault
 abbrev pub is_luks_outcome : List ℕ → Outcome
 is_luks_outcome image = no_output (message_for_is_luks (header_of image)) (header_read_len image) 0
 
--- the outcome of a command that prints this text of a header read by `read`
+-- the outcome of a command that prints this text about a header read by `read`
 abbrev pub print_outcome_by : HeaderReader → Printout → List ℕ → Outcome
 print_outcome_by read printout image =
     record (no_output (message_printing (printout_message printout) (read image)) (header_read_len image) 0)

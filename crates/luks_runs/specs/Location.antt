@@ -14,7 +14,7 @@ use Rattle.luks_area.specs.declared.fault.HeaderFault.{HeaderFault}
 abbrev pub HeaderReader : Type 0
 HeaderReader = List ℕ → Result Header HeaderFault
 
--- a header that was read, made a detached one
+-- the header that was read, as a detached one
 abbrev pub as_detached : Result Header HeaderFault → Result Header HeaderFault
 as_detached (Ok header) = Ok (detached_of header)
 as_detached (Err fault) = Err fault

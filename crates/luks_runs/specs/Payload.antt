@@ -12,8 +12,8 @@ use Rattle.luks_report.specs.Faults.{message_at_end}
 use Rattle.luks_report.specs.declared.message.Message.{Message}
 use Rattle.luks_report.specs.declared.message.Message.TheVariants.{Done, ReadFailed, WriteFailed}
 
--- the most bytes that are requested of any image to forward a payload of this size from this offset on, if its first
--- `loaded_len` bytes are loaded: those after them, up to the payload's end
+-- the maximum number of bytes that are requested from any image to forward a payload of this size from this offset on,
+-- if its first `loaded_len` bytes are loaded: those after them, up to the payload's end
 abbrev pub max_needed : Option ℕ → ℕ → ℕ → ℕ
 max_needed size offset loaded_len = payload_end_in size offset max_count - loaded_len
 
@@ -22,15 +22,15 @@ max_needed size offset loaded_len = payload_end_in size offset max_count - loade
 abbrev pub with_payload_ahead : Segment → ℕ → ReadCounts → ReadCounts
 with_payload_ahead s loaded_len counts = with_ahead (max (max_needed s.size s.offset loaded_len) counts.ahead) counts
 
--- forwarding the payload of an image, of which `loaded_len` bytes were consumed before, ended with this message: the
+-- forwarding the payload of an image, whose first `loaded_len` bytes were consumed before, ended with this message: the
 -- image was consumed up to the payload's end, and the plaintext was written; a read failed, and the whole sectors that
 -- were consumed are written; or a write failed within a sector
 abbrev pub ForwardsPayload : Segment → Cipher → List ℕ → ℕ → Option (List ℕ) → Option (List ℕ) → Option (List ℕ)
     → Message → Type 0
 ForwardsPayload s cipher image loaded_len left before after ReadFailed =
-    (place : ℕ) × (count : ℕ) × (count ≡ (place - s.offset) / sector_len s) × (count ≤ sectors_of s image)
-    × (place ≤ payload_end_of s image)
-    × ConsumedExactly image left place × Appended before after (take (count * sector_len s) (plain_of s cipher image))
+    (end : ℕ) × (count : ℕ) × (count ≡ (end - s.offset) / sector_len s) × (count ≤ sectors_of s image)
+    × (end ≤ payload_end_of s image)
+    × ConsumedExactly image left end × Appended before after (take (count * sector_len s) (plain_of s cipher image))
 ForwardsPayload s cipher image loaded_len left before after WriteFailed =
     (count : ℕ) × (written : ℕ) × (count < sectors_of s image) × (written < sector_len s)
     × (sector_start s (count + 1) ≤ payload_end_of s image)

@@ -46,9 +46,9 @@ AnyPromptness _ _ _ _ _ = Unit {0}
 -- the output has a valid length: at most that of the specified output, less if a write failed, and none if memory ran
 -- out
 abbrev pub IsPrefixLen : Message → ℕ → ℕ → Type 0
-IsPrefixLen OutOfMemory output stated = output ≡ 0
-IsPrefixLen WriteFailed output stated = output < stated
-IsPrefixLen _ output stated = output ≤ stated
+IsPrefixLen OutOfMemory output specified = output ≡ 0
+IsPrefixLen WriteFailed output specified = output < specified
+IsPrefixLen _ output specified = output ≤ specified
 
 -- an aborted run: its output is a prefix of the specified one, and no input was consumed further than specified
 pub record Aborted (pace : Promptness) (outcome : Outcome) (message : Message)

@@ -16,7 +16,7 @@ IsLuksMessage OutOfMemory = Unit {0}
 IsLuksMessage ReadFailed = Unit {0}
 IsLuksMessage _ = ⊥
 
--- the messages of a command that prints a text of the header
+-- the messages of a command that prints a text about the header
 abbrev pub PrintMessage : Message → Type 0
 PrintMessage No = ⊥
 PrintMessage NotLuks = Unit {0}

@@ -49,7 +49,7 @@ NoKeyRead key left _ = ⊥
 -- `consumed` random bytes were consumed, and the first `written` of them were written
 pub record ForwardedBytes (random : List ℕ) (left before after : Option (List ℕ)) (consumed written : ℕ) : Type 0 where
   pub consumption : ConsumedExactly random left consumed
-  pub added : Appended before after (take written random)
+  pub appended : Appended before after (take written random)
 
 -- forwarding one random stripe of `len` bytes was aborted: by the end of the random bytes, or by a failed read, before
 -- any byte was written, or by a failed write

@@ -47,7 +47,7 @@ fn refusal_of(fault: HeaderFault) -> Message
     }
 }
 
-/// A text that is printed of a header.
+/// A text that is printed about a header.
 #[derive(Clone, Copy)]
 pub enum Printout {
     /// `luksUUID`: the header's UUID.
@@ -101,7 +101,7 @@ pub fn print<S: Source, O: Sink>(
     print_text(alloc, printout, &header, out)
 }
 
-/// Prints a text of a header: it is complete before its first byte is written.
+/// Prints a text about a header: it is complete before its first byte is written.
 fn print_text<O: Sink>(
     alloc: Global,
     printout: Printout,

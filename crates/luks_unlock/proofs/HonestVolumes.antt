@@ -72,12 +72,12 @@ sector_decrypted-sector_encrypted CbcPlain64 key number sector keys all whole =
 
 -- ---- bytes that are stored encrypted are what the data units decrypt to
 
-module _ (cipher : Cipher) (number : ℕ → ℕ) (size place : ℕ) (plain image : List ℕ)
-    (is_stored : IsStoredEncrypted cipher number size place plain image) (keys : IsBytes cipher.1)
+module _ (cipher : Cipher) (number : ℕ → ℕ) (size offset : ℕ) (plain image : List ℕ)
+    (is_stored : IsStoredEncrypted cipher number size offset plain image) (keys : IsBytes cipher.1)
     (blocks : size % 16 ≡ 0) where
-  -- each unit of the image decrypts to that unit of the plain bytes, and so all together
+  -- each data unit of the image decrypts to that part of the plaintext, and all together to the whole plaintext
   units_undone : (unit : ℕ → List ℕ)
-      → ((i : ℕ) → unit i ≡ sector_decrypted cipher.0 cipher.1 (number i) (at (place + i * size) size image))
+      → ((i : ℕ) → unit i ≡ sector_decrypted cipher.0 cipher.1 (number i) (at (offset + i * size) size image))
       → joined unit (length plain / size) ≡ plain
   units_undone unit is =
       let all : length plain / size * size ≡ length plain =
@@ -102,13 +102,13 @@ module _ (offset : ℕ) (plain image : List ℕ) (there : offset + length plain 
   all_plain (Some size) ends = omega arith
 
   -- the payload ends without a fault if the plaintext is whole sectors
-  ends_well : (size : Option ℕ) (sector : ℕ) → EndsWith size plain (offset + length plain) image
+  ends_without_fault : (size : Option ℕ) (sector : ℕ) → EndsWith size plain (offset + length plain) image
       → length plain % sector ≡ 0 → ending_of_len size sector (length image - offset) ≡ Ok End
-  ends_well None sector ends whole =
+  ends_without_fault None sector ends whole =
       let all : length image - offset ≡ length plain = omega arith in
       let none : (length image - offset) % sector ≡ 0 = ap (λ n. n % sector) all ∙ whole in
       rw none refl
-  ends_well (Some size) sector ends whole =
+  ends_without_fault (Some size) sector ends whole =
       rw (le-ltb (length image - offset) size (omega arith)) refl
 
 module _ (segment : Segment) (image key plain : List ℕ) (seals : SealsPlain segment image key plain) where
@@ -124,7 +124,7 @@ module _ (segment : Segment) (image key plain : List ℕ) (seals : SealsPlain se
   ending_again : ending_of segment image ≡ Ok End
   ending_again =
       rw (le-ltb (length image) segment.offset (omega (arith, seals.is_stored.there)))
-      (ends_well segment.offset plain image seals.is_stored.there segment.size (sector_len segment) seals.ends
+      (ends_without_fault segment.offset plain image seals.is_stored.there segment.size (sector_len segment) seals.ends
       seals.is_stored.whole)
 
 -- ---- one key slot
@@ -147,7 +147,7 @@ module _ (passphrase key image : List ℕ) where
       let sector = material_sector cipher image parts.area_offset in
       let sectors = units_undone cipher (λ i. i) 512 parts.area_offset gives.material image gives.is_stored keys refl
       sector (λ i. let same : parts.area_offset + 512 * i ≡ parts.area_offset + i * 512 = omega arith in
-      ap (λ place. sector_decrypted cipher.0 cipher.1 i (at place 512 image)) same) in
+      ap (λ offset. sector_decrypted cipher.0 cipher.1 i (at offset 512 image)) same) in
       let all = ap (λ n. joined sector (n / 512)) (sym made.len) ∙ sectors in
       let key_is : recovered gives.af cipher image parts.area_offset (length key) parts.stripes ≡ key =
       ap (λ (bytes : List ℕ). merged gives.af (length key) (take (length key * parts.stripes) bytes)) all

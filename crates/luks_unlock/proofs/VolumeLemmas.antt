@@ -48,27 +48,27 @@ use Rattle.luks2_binary.specs.declared.header.Header2.{Header2}
 use Rattle.luks2_json.specs.Tree.{tree_of}
 use Rattle.luks_runs.specs.declared.location.HeaderLocation.TheVariants.{Attached, Detached}
 
--- nothing is consumed from an image of which no bytes remain
-pub none_behind : (area rest : List ℕ) (left : Option (List ℕ)) (most : ℕ) → left ≡ Some rest → rest ≡ []
+-- if no bytes of an image remain, nothing is consumed from it
+pub none_after_end : (area rest : List ℕ) (left : Option (List ℕ)) (most : ℕ) → left ≡ Some rest → rest ≡ []
     → ConsumedOnto area area rest left (min most (length rest))
-none_behind area [] left most there none =
+none_after_end area [] left most there none =
     let zero : min most 0 ≡ 0 = omega arith in
     rw zero (record { within = omega arith; left = there }, sym (append-nil area))
-none_behind area (b ∷ bytes) left most there none = absurd (cc)
+none_after_end area (b ∷ bytes) left most there none = absurd (cc)
 
 -- no bytes remain of an image whose end was hit
-pub nothing_left : (area : HeaderAreaModel) (left left' : Option (List ℕ)) (counts counts' : ReadCounts)
+pub none_remain : (area : HeaderAreaModel) (left left' : Option (List ℕ)) (counts counts' : ReadCounts)
     (known rest : List ℕ) → LoadedFrom area left left' counts counts' → left ≡ Some known → left' ≡ Some rest
     → area.ended ≡ true → rest ≡ []
-nothing_left area left left' counts counts' known rest loaded knows there ended =
+none_remain area left left' counts counts' known rest loaded knows there ended =
     let same : Some rest ≡ Some [] = sym there ∙ loaded.emptied ended known knows in cc
 
 -- ---- counts of reads
 
 -- if the first reads hit the end and the others changed no count, all of them together hit the end
-ends_for_good : (failed ended : Bool) (a b c : ReadCounts) → Reads false true a b → c ≡ b → Reads failed ended b c
+reads_after_end : (failed ended : Bool) (a b c : ReadCounts) → Reads false true a b → c ≡ b → Reads failed ended b c
     → Reads failed true a c
-ends_for_good failed ended a b c first kept next = record {
+reads_after_end failed ended a b c first kept next = record {
   failures = next.failures ∙ ap (counted failed) first.failures;
   ends = ap (λ (counts : ReadCounts). counts.ends) kept ∙ first.ends;
   needed = λ live. ap (λ (counts : ReadCounts). counts.needless) kept ∙ first.needed live;
@@ -78,13 +78,13 @@ ends_for_good failed ended a b c first kept next = record {
 -- reads without a failure and further reads count as one run of reads, if none was made after the end
 pub reads_on : (failed ended ended' : Bool) (a b c : ReadCounts) → Reads false ended a b → (ended ≡ true → c ≡ b)
     → Reads failed ended' b c → (last : Bool) × Reads failed last a c
-reads_on failed true ended' a b c first kept next = (true, ends_for_good failed ended' a b c first (kept refl) next)
+reads_on failed true ended' a b c first kept next = (true, reads_after_end failed ended' a b c first (kept refl) next)
 reads_on failed false ended' a b c first kept next = (ended', reads_more failed ended' a b c first next)
 
 -- if the further reads did not hit the end, the run hit it if and only if the first reads did
 pub reads_within : (failed ended : Bool) (a b c : ReadCounts) → Reads false ended a b → (ended ≡ true → c ≡ b)
     → Reads failed false b c → Reads failed ended a c
-reads_within failed true a b c first kept next = ends_for_good failed false a b c first (kept refl) next
+reads_within failed true a b c first kept next = reads_after_end failed false a b c first (kept refl) next
 reads_within failed false a b c first kept next = reads_more failed false a b c first next
 
 -- no fault of opening is reported as a failed read, or as an image that ended
@@ -259,23 +259,23 @@ furthest_by true here rest most near far = omega arith
 furthest_by false here rest most near far = omega arith
 
 module _ (image : List ℕ) where
-  probe_by : (place : ℕ) (b : Bool) → fits image place ≡ b → place ≤ 4194304 → probe_end image place ≤ 8388608
-  probe_by place true is near =
-      let size = size_range place (binary_at image place) (fits_parts image place is).1 in
-      omega (arith, probe_fit image place is, size.1)
-  probe_by place false is near = omega (arith, probe_unfit image place is)
+  probe_by : (offset : ℕ) (b : Bool) → fits image offset ≡ b → offset ≤ 4194304 → probe_end image offset ≤ 8388608
+  probe_by offset true is near =
+      let size = size_range offset (binary_at image offset) (fits_parts image offset is).1 in
+      omega (arith, probe_fit image offset is, size.1)
+  probe_by offset false is near = omega (arith, probe_unfit image offset is)
 
-  probe_near : (place : ℕ) → place ≤ 4194304 → probe_end image place ≤ 8388608
-  probe_near place = probe_by place (fits image place) refl
+  probe_near : (offset : ℕ) → offset ≤ 4194304 → probe_end image offset ≤ 8388608
+  probe_near offset = probe_by offset (fits image offset) refl
 
   -- the search at offsets within the first 4 MiB stays within the first 8 MiB
-  furthest_within : (places : List ℕ) → greatest places ≤ 4194304
-      → furthest (is_valid image) (probe_end image) places ≤ 8388608
+  furthest_within : (offsets : List ℕ) → greatest offsets ≤ 4194304
+      → furthest (is_valid image) (probe_end image) offsets ≤ 8388608
   unfolding furthest
   furthest_within [] near = omega arith
-  furthest_within (place ∷ places) near =
-      furthest_by (is_valid image place) (probe_end image place) (furthest (is_valid image) (probe_end image) places)
-      8388608 (probe_near place (omega arith)) (furthest_within places (omega arith))
+  furthest_within (offset ∷ offsets) near =
+      furthest_by (is_valid image offset) (probe_end image offset) (furthest (is_valid image) (probe_end image) offsets)
+      8388608 (probe_near offset (omega arith)) (furthest_within offsets (omega arith))
 
   search_within : furthest (is_valid image) (probe_end image) sizes ≤ 8388608
   unfolding sizes
@@ -346,7 +346,7 @@ module _ (location : HeaderLocation) (slots : SlotChoice) (image pass : List ℕ
       → opened_outcome on_opened slots.named v (take n image) pass r
       ≡ opened_outcome on_opened slots.named v image pass r
   opened_prefix v (Ok opened) =
-      ap (λ cost. on_opened v.segment opened (max cost (key_material_end v.order.entries))) same_header.1
+      ap (λ len. on_opened v.segment opened (max len (key_material_end v.order.entries))) same_header.1
   opened_prefix v (Err fault) = rw same_header.1 refl
 
   after_prefix : (r : Result Volume Message)
@@ -376,7 +376,7 @@ module _ (location : HeaderLocation) (slots : SlotChoice) (image pass : List ℕ
       (volume_in_header slots.named slots.max_iterations r)) reading_prefix
       ∙ after_prefix (volume_in_header slots.named slots.max_iterations (reader_for location image))
 
--- and so it has on the first bytes of any image
+-- the same for the first bytes of any image
 outcome_prefix : (location : HeaderLocation) (slots : SlotChoice) (image pass : List ℕ) (n : ℕ) → max_loaded_len ≤ n
     → (on_opened : OnOpened) → volume_outcome_by (reader_for location) on_opened slots (take n image) pass
     ≡ volume_outcome_by (reader_for location) on_opened slots image pass

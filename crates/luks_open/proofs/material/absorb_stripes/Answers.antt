@@ -1,6 +1,6 @@
 use Rattle.std.proofs.Common.{◌≡◌, ◌∙◌, ◌+◌, ◌-◌, ◌*◌, ◌≤◌, ap, arith, drop, length, take}
 use Rattle.std.proofs.Math.Nat.{mul-le-mul_right}
-use Rattle.luks_open.proofs.MaterialLemmas.{chain_more_stripes}
+use Rattle.luks_open.proofs.MaterialLemmas.{stripe_absorbed}
 use Rattle.luks_open.proofs.material.absorb_stripes.Goals as goal
 
 pub stripes-preserved : goal.stripes-preserved
@@ -16,6 +16,6 @@ stripes-preserved c =
       len = c.stripe.ensures.len ∙ c.stripes.invariant.len;
       absorbed = λ hash before number whole start.
           c.stripe.ensures.next
-          ∙ chain_more_stripes hash len before stripes _ number i c.stripes.splitter there whole is_stripe
+          ∙ stripe_absorbed hash len before stripes _ number i c.stripes.splitter there whole is_stripe
           (c.stripes.invariant.absorbed hash before number whole start);
     }

@@ -18,30 +18,30 @@ sectors-init c =
 
 pub decrypt_sector-requires-clause-there : goal.decrypt_sector-requires-clause-there
 decrypt_sector-requires-clause-there c =
-    let place = in_sectors (length c.args.out.now) c.args.stripes _ _ c.requires.key_bytes c.requires.some refl refl in
-    omega (arith, place.there, c.requires.there)
+    let layout = in_sectors (length c.args.out.now) c.args.stripes _ _ c.requires.key_bytes c.requires.some refl refl in
+    omega (arith, layout.there, c.requires.there)
 
 pub decrypt_sector-requires-2-clause-there : goal.decrypt_sector-requires-2-clause-there
 decrypt_sector-requires-2-clause-there c =
-    let place = in_sectors (length c.args.out.now) c.args.stripes _ _ c.requires.key_bytes c.requires.some refl refl in
-    omega (arith, place.there, c.requires.there)
+    let layout = in_sectors (length c.args.out.now) c.args.stripes _ _ c.requires.key_bytes c.requires.some refl refl in
+    omega (arith, layout.there, c.requires.there)
 
 pub sectors-preserved : goal.sectors-preserved
 sectors-preserved c =
     let f = material_sector c.args.key.now c.args.image.now c.args.offset in
     let len = length c.args.out.now in
-    let place = in_sectors len c.args.stripes _ _ c.requires.key_bytes c.requires.some refl refl in
+    let layout = in_sectors len c.args.stripes _ _ c.requires.key_bytes c.requires.some refl refl in
     let full : length c.decrypt_sector.new.sector ≡ 512 = omega arith in
     let number = c.sectors.number in
     let before : length (joined f number) ≡ number * (512 / len) * len =
-    c.sectors.invariant.before ∙ whole_sectors number (512 / len) len place.fits in
+    c.sectors.invariant.before ∙ whole_sectors number (512 / len) len layout.fits in
     record {
       len = c.absorb_stripes.ensures.len;
       before = length-joined_more f number c.decrypt_sector.new.sector c.sectors.invariant.before
           c.decrypt_sector.ensures full;
       absorbed = sector_more c.args.af len (512 / len) f number c.decrypt_sector.new.sector
           c.absorb_stripes.new.splitter
-          place.fits c.decrypt_sector.ensures full
+          layout.fits c.decrypt_sector.ensures full
           (c.absorb_stripes.ensures.absorbed c.args.af (joined f number) (number * (512 / len)) before
           c.sectors.invariant.absorbed);
     }
@@ -52,7 +52,7 @@ returns c =
     let len = length c.args.out.now in
     let whole = (c.args.stripes - 1) / (512 / len) in
     let rest = (c.args.stripes - 1) % (512 / len) in
-    let place = in_sectors len c.args.stripes whole rest c.requires.key_bytes c.requires.some refl refl in
+    let layout = in_sectors len c.args.stripes whole rest c.requires.key_bytes c.requires.some refl refl in
     let sector = c.decrypt_sector-2.new.sector in
     let full : length sector ≡ 512 = omega arith in
     let at_end : c.sectors.number ≡ whole = omega arith in
@@ -63,7 +63,7 @@ returns c =
     ap (λ n. take n (drop (rest * len) sector)) (omega arith) in
     c.last.ensures
     ∙ recovered_by_last c.args.af c.args.key.now c.args.image.now c.args.offset len c.args.stripes whole rest sector _
-    c.absorb_stripes-2.new.splitter place (some_bytes len c.requires.key_bytes)
+    c.absorb_stripes-2.new.splitter layout (some_bytes len c.requires.key_bytes)
     before c.decrypt_sector-2.ensures full is_last
     (c.absorb_stripes-2.ensures.absorbed c.args.af (joined f whole) (whole * (512 / len))
-    (before ∙ whole_sectors whole (512 / len) len place.fits) absorbed)
+    (before ∙ whole_sectors whole (512 / len) len layout.fits) absorbed)

@@ -9,10 +9,10 @@ returns-in_err-fill-clause-err g c =
     let few = c.pieces.invariant.few in
     let sized : length c.fill.new.buf ≡ c.min-size.result = c.fill.auto.buf
     ∙ length-take-le c.min-size.result c.pieces.piece (omega arith) in
-    let below : c.args.count - c.pieces.left + c.in_err-fill.field-0.0.got
+    let below : c.args.count - c.pieces.remaining + c.in_err-fill.field-0.0.got
     < c.args.count = omega (arith, c.in_err-fill.ensures.bound) in
     rw (given_error _ _ c.from_residual.ensures.1) (λ known is. (
-      c.args.count - c.pieces.left + c.in_err-fill.field-0.0.got,
+      c.args.count - c.pieces.remaining + c.in_err-fill.field-0.0.got,
       below,
       consumed_more known _ _ _ _ (c.pieces.invariant.consumed known is)
           (λ rest left. (c.in_err-fill.ensures.bytes rest left).0),
@@ -34,8 +34,8 @@ pieces-preserved g c =
     let sized : length c.fill.new.buf ≡ c.min-size.result = c.fill.auto.buf
     ∙ length-take-le c.min-size.result c.pieces.piece (omega arith) in
     let full : c.in_ok-fill.field-0 ≡ c.min-size.result = omega (arith, c.in_ok-fill.ensures.bound) in
-    let more : c.args.count - c.pieces.left + c.in_ok-fill.field-0
-    ≡ c.args.count - (c.pieces.left - c.min-size.result) = omega arith in
+    let more : c.args.count - c.pieces.remaining + c.in_ok-fill.field-0
+    ≡ c.args.count - (c.pieces.remaining - c.min-size.result) = omega arith in
     record {
       reads = reads_more _ _ _ _ (g.S.Source.counts c.fill.new.source) c.pieces.invariant.reads
           (whole_reads _ _ _ _ (omega arith) c.in_ok-fill.ensures.reads);

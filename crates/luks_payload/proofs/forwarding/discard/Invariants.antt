@@ -7,11 +7,11 @@ use Rattle.luks_payload.proofs.forwarding.discard.Given as goal
 abbrev pub invariant-pieces : goal.invariant-pieces
 invariant-pieces g l = record {
   reads : Reads false false (g.S.Source.counts l.initial.source) (g.S.Source.counts l.source);
-  few : l.left ≤ l.count;
+  few : l.remaining ≤ l.count;
   consumed : IfKnown (g.S.Source.to_come l.initial.source)
-      (λ known. ConsumedExactly known (g.S.Source.to_come l.source) (l.count - l.left));
+      (λ known. ConsumedExactly known (g.S.Source.to_come l.source) (l.count - l.remaining));
 }
 
 -- the number of bytes still to be discarded
 abbrev pub decreases-pieces : goal.decreases-pieces
-decreases-pieces g l = l.left
+decreases-pieces g l = l.remaining

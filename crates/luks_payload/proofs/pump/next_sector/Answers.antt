@@ -4,7 +4,7 @@ use Rattle.luks_verdict.proofs.SectorLemmas.{sector_blocks}
 use Rattle.luks_payload.specs.PumpEffects.{max_sectors}
 use Rattle.luks_payload.specs.Plain.{sector_len}
 use Rattle.luks_payload.proofs.ForwardingLemmas.{short_reads, whole_reads}
-use Rattle.luks_payload.proofs.StepLemmas.{sector_appended, broken_reads, broken_writes, may_be_torn, may_break}
+use Rattle.luks_payload.proofs.StepLemmas.{aborted_reads, aborted_writes, may_abort, may_be_torn, sector_appended}
 use Rattle.luks_payload.proofs.StepLemmas.{steps_at_limit, step_aborted, steps_torn, sector_consumed, torn_reads}
 use Rattle.luks_payload.proofs.StepLemmas.{torn_writes, torn_writes_nothing, writes_no_sector}
 use Rattle.luks_payload.proofs.pump.next_sector.Goals as goal
@@ -25,13 +25,13 @@ returns-in_err-got g c =
     let only = aborted.forwards.only in
     rw (given_error _ _ c.from_residual.ensures.1) (record {
       limit = λ full. absurd (omega arith);
-      only = may_break c.args.segment.now c.args.count _ only;
+      only = may_abort c.args.segment.now c.args.count _ only;
       run = λ image few positioned.
           step_aborted c.args.segment.now image c.args.count c.args.prefix.now _ positioned c.args.cipher.now _ _ _ _
           below ((rw (sized, c.unit_number.ensures) at aborted.forwards.known) _ positioned.consumption.left);
       writes_sectors = writes_no_sector c.args.segment.now c.args.count _ only _ _ aborted.forwards.unread;
-      reads = broken_reads c.args.segment.now c.args.count _ only _ _ aborted.reads;
-      writes = broken_writes c.args.segment.now c.args.count _ only _ _ aborted.writes;
+      reads = aborted_reads c.args.segment.now c.args.count _ only _ _ aborted.reads;
+      writes = aborted_writes c.args.segment.now c.args.count _ only _ _ aborted.writes;
     })
 
 pub returns-then-got-size : goal.returns-then-got-size

@@ -2,7 +2,7 @@ use Rattle.std.proofs.Common.{◌≡◌, ◌+◌, ◌≤◌, ◌∙◌, sym, ari
 use Rattle.std.proofs.Math.Nat.{mul-le-mul_right}
 use Rattle.luks_io.proofs.ErrorLemmas.{given_error}
 use Rattle.luks_kdf.proofs.StripesLemmas.{chain_more, chain_start}
-use Rattle.luks_runs.proofs.StripeLemmas.{is_stripe, forwarded_one_more, stops_at}
+use Rattle.luks_runs.proofs.StripeLemmas.{is_stripe, forwarded_one_more, aborts_at}
 use Rattle.luks_io.proofs.EffectLemmas.{adds-none, consumed-none, no_reads, no_writes}
 use Rattle.luks_runs.proofs.stripes.forward_stripes.Goals as goal
 
@@ -13,7 +13,7 @@ stripes-init g c = record {
   len = c.new-splitter.ensures.len;
   forwarded = λ bytes is. (
     chain_start _ _ bytes _ c.new-splitter.ensures.start,
-    rw zero-mul (record { consumption = consumed-none bytes _ is; added = adds-none _ }),
+    rw zero-mul (record { consumption = consumed-none bytes _ is; appended = adds-none _ }),
   );
 }
 
@@ -21,7 +21,7 @@ pub returns-in_err-forward_stripe-clause-err : goal.returns-in_err-forward_strip
 returns-in_err-forward_stripe-clause-err g c =
     let below : c.stripes.counter + 1 ≤ c.args.count = omega arith in
     rw (given_error _ _ c.from_residual.ensures.1) (λ bytes is. rw c.forward_stripe.auto.stripe
-    (stops_at bytes _ _ _ _ _ (c.stripes.invariant.forwarded bytes is).1 _ _ _ _ (mul-le-mul_right _ below)
+    (aborts_at bytes _ _ _ _ _ (c.stripes.invariant.forwarded bytes is).1 _ _ _ _ (mul-le-mul_right _ below)
     (rw c.forward_stripe.auto.stripe at c.in_err-forward_stripe.ensures.err)))
 
 pub stripes-preserved : goal.stripes-preserved

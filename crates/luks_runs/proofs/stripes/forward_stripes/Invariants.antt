@@ -5,7 +5,7 @@ use Rattle.luks_kdf.specs.Stripes.{splitter_after}
 use Rattle.luks_runs.specs.Stripe.{ForwardedBytes}
 use Rattle.luks_runs.proofs.stripes.forward_stripes.Given as goal
 
--- the stripes so far were consumed, written and chained, and no call was needless
+-- the stripes so far were consumed, written and absorbed, and no call was needless
 abbrev pub invariant-stripes : goal.invariant-stripes
 invariant-stripes g l = record {
   reads : Reads false false (g.R.Source.counts l.initial.random) (g.R.Source.counts l.random);

@@ -1,7 +1,7 @@
 use Rattle.std.proofs.Common.{◌≡◌, ◌≤◌, ◌+◌, ◌-◌, ◌∙◌, length, length-take-le, arith}
 use Rattle.std.proofs.Math.Nat.{mul-le-mul_right}
 use Rattle.luks_io.proofs.ErrorLemmas.{given_error}
-use Rattle.luks_runs.proofs.StripeLemmas.{key_merged, reading_stops_at, stripe_more}
+use Rattle.luks_runs.proofs.StripeLemmas.{key_merged, reading_aborts_at, stripe_more}
 use Rattle.luks_runs.proofs.stripes.read_merged_key.Goals as goal
 
 pub returns-in_err-read_stripe-clause-err : goal.returns-in_err-read_stripe-clause-err
@@ -15,7 +15,7 @@ returns-in_err-read_stripe-clause-err g c =
     let below : m.stripes.count - 1 + 1 ≤ m.stripes.count = omega arith in
     rw (given_error _ _ c.from_residual-in_err-read_stripe.ensures.1) (λ bytes is.
     let consumed = rw (stripe, c.get.ensures) at (c.in_ok-splitter.ensures.ok bytes is) in
-    reading_stops_at bytes _ _ _ consumed.1 _ _ _ (mul-le-mul_right _ below) next)
+    reading_aborts_at bytes _ _ _ consumed.1 _ _ _ (mul-le-mul_right _ below) next)
 
 pub returns-clause-ok : goal.returns-clause-ok
 returns-clause-ok g c bytes is =

@@ -2,7 +2,7 @@ use Rattle.std.proofs.Common.{◌+◌, ◌≤◌, ◌∙◌, sym, arith, rules, 
 use Rattle.std.proofs.Math.Nat.{mul-le-mul_right}
 use Rattle.luks_io.proofs.ErrorLemmas.{given_error}
 use Rattle.luks_kdf.proofs.StripesLemmas.{chain_more, chain_start}
-use Rattle.luks_runs.proofs.StripeLemmas.{reading_stops_at, stripe_more}
+use Rattle.luks_runs.proofs.StripeLemmas.{reading_aborts_at, stripe_more}
 use Rattle.luks_io.proofs.EffectLemmas.{consumed-none, no_reads}
 use Rattle.luks_runs.proofs.stripes.read_stripes.Goals as goal
 
@@ -17,7 +17,7 @@ pub returns-in_err-read_stripe-clause-err : goal.returns-in_err-read_stripe-clau
 returns-in_err-read_stripe-clause-err g c =
     let below : c.stripes.counter + 1 ≤ c.args.count = omega arith in
     rw (given_error _ _ c.from_residual.ensures.1) (λ bytes is. rw c.read_stripe.auto.stripe
-    (reading_stops_at bytes _ _ _ (c.stripes.invariant.consumed bytes is).1 _ _ _ (mul-le-mul_right _ below)
+    (reading_aborts_at bytes _ _ _ (c.stripes.invariant.consumed bytes is).1 _ _ _ (mul-le-mul_right _ below)
     (rw c.read_stripe.auto.stripe at c.in_err-read_stripe.ensures.err)))
 
 pub stripes-preserved : goal.stripes-preserved

@@ -4,7 +4,7 @@ use Rattle.luks_io.specs.Counts.{Reads}
 use Rattle.luks_kdf.specs.Stripes.{splitter_after}
 use Rattle.luks_runs.proofs.stripes.read_stripes.Given as goal
 
--- the stripes so far were consumed and chained, and no read was needless
+-- the stripes so far were consumed and absorbed, and no read was needless
 abbrev pub invariant-stripes : goal.invariant-stripes
 invariant-stripes g l = record {
   reads : Reads false false (g.S.Source.counts l.initial.stripes) (g.S.Source.counts l.stripes);

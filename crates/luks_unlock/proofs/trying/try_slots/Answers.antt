@@ -1,7 +1,7 @@
 use Rattle.luks_io.proofs.ErrorLemmas.{given_error}
 use Rattle.std.proofs.Common.{inl, inr, refl, sym}
 use Rattle.luks_header.proofs.KnownLemmas.{short_from_not_whole}
-use Rattle.luks_unlock.proofs.VolumeLemmas.{none_behind, opening_reads}
+use Rattle.luks_unlock.proofs.VolumeLemmas.{none_after_end, opening_reads}
 use Rattle.luks_unlock.proofs.trying.try_slots.Goals as goal
 
 pub returns-in_err-extend_to-clause-run : goal.returns-in_err-extend_to-clause-run
@@ -70,7 +70,7 @@ pub returns-then-is_cut-clause-run : goal.returns-then-is_cut-clause-run
 returns-then-is_cut-clause-run g c rest there nothing =
     let cut = c.is_cut.ensures.cut c.if-is_cut.true in
     inr (
-      none_behind c.args.volume.now.area.bytes rest _ _ there (nothing cut.0),
+      none_after_end c.args.volume.now.area.bytes rest _ _ there (nothing cut.0),
       inl (refl, rw c.held_end-end.ensures.value at cut.1),
     )
 

@@ -2,7 +2,7 @@ use Rattle.std.proofs.Common.{ap}
 use Rattle.luks_io.proofs.ErrorLemmas.{given_error}
 use Rattle.luks_access.proofs.OpeningLemmas.{opened_by, refused_unfound, refused_unopened, volume_opened}
 use Rattle.luks_access.proofs.OpeningLemmas.{volume_refused}
-use Rattle.luks_unlock.proofs.VolumeLemmas.{nothing_left, reads_on}
+use Rattle.luks_unlock.proofs.VolumeLemmas.{none_remain, reads_on}
 use Rattle.luks_access.proofs.volume.Volume.open_from.Goals as goal
 
 pub returns-clause-opens : goal.returns-clause-opens
@@ -11,7 +11,7 @@ returns-clause-opens g c known is =
     let read = found.header known is in
     volume_opened c.args.options.now known c.args.pass.now _
     (opened_by c.args.options.now known c.args.pass.now _ _ found.slots read.0 _ read.1 _
-    (c.in_ok-unlocked.ensures.run _ read.2.left (nothing_left _ _ _ _ _ known _ found.loaded is read.2.left)).1)
+    (c.in_ok-unlocked.ensures.run _ read.2.left (none_remain _ _ _ _ _ known _ found.loaded is read.2.left)).1)
 
 pub returns-in_err-found-clause-refuses : goal.returns-in_err-found-clause-refuses
 returns-in_err-found-clause-refuses g c =
@@ -26,7 +26,7 @@ returns-in_err-unlocked-clause-refuses g c =
     let found = c.in_ok-found.ensures.found in
     let read = found.header known is in
     refused_unopened c.args.options.now known c.args.pass.now _ _ found.slots read.0 _ read.1 _ never
-    (c.in_err-unlocked.ensures.run _ read.2.left (nothing_left _ _ _ _ _ known _ found.loaded is read.2.left)).1))
+    (c.in_err-unlocked.ensures.run _ read.2.left (none_remain _ _ _ _ _ known _ found.loaded is read.2.left)).1))
 
 -- the key slots were tried after the volume was found
 pub returns-in_err-unlocked-clause-reads : goal.returns-in_err-unlocked-clause-reads

@@ -1,6 +1,6 @@
 use Rattle.std.proofs.Common.{◌∙◌, [], Some, ap, false}
 use Rattle.luks_io.proofs.ErrorLemmas.{given_error}
-use Rattle.luks_unlock.proofs.VolumeLemmas.{nothing_left, reads_within, there_is_volume}
+use Rattle.luks_unlock.proofs.VolumeLemmas.{none_remain, reads_within, there_is_volume}
 use Rattle.luks_cli.proofs.OpenedRuns.{reads_before, reads_of_image}
 use Rattle.luks_cli.proofs.VolumeRuns.{counts_opening, counts_without_volume, runs_without_key, runs_without_volume}
 use Rattle.luks_cli.proofs.VolumeRuns.{unlocks_volume}
@@ -8,8 +8,8 @@ use Rattle.luks_cli.proofs.execute.volumes.unlock.Goals as goal
 
 pub returns-in_err-volume-clause-err : goal.returns-in_err-volume-clause-err
 returns-in_err-volume-clause-err g c =
-    rw (given_error _ _ c.from_residual.ensures.1) (λ known is pass has on_opened takes written.
-    runs_without_volume c.args.location _ known pass _ _ _ on_opened takes _ c.in_err-volume.ensures.only
+    rw (given_error _ _ c.from_residual.ensures.1) (λ known is pass has on_opened consumes written.
+    runs_without_volume c.args.location _ known pass _ _ _ on_opened consumes _ c.in_err-volume.ensures.only
     (c.in_err-volume.ensures.err known is) has)
 
 pub returns-in_err-volume-clause-work : goal.returns-in_err-volume-clause-work
@@ -23,12 +23,12 @@ returns-in_err-volume-clause-counts g c =
 
 pub returns-in_err-opened-clause-err : goal.returns-in_err-opened-clause-err
 returns-in_err-opened-clause-err g c =
-    rw (given_error _ _ c.from_residual-in_err-opened.ensures.1) (λ known is pass has on_opened takes written.
+    rw (given_error _ _ c.from_residual-in_err-opened.ensures.1) (λ known is pass has on_opened consumes written.
     let found = c.in_ok-volume.ensures.found in
     let read = found.header known is in
     runs_without_key c.args.location c.args.slots known pass _ _ _ _ _ _ read.0
-    found.slots.segment found.slots.order _ _ read.1 on_opened takes _
-    (c.in_err-opened.ensures.run _ read.2.left pass has (nothing_left _ _ _ _ _ known _ found.loaded is read.2.left)))
+    found.slots.segment found.slots.order _ _ read.1 on_opened consumes _
+    (c.in_err-opened.ensures.run _ read.2.left pass has (none_remain _ _ _ _ _ known _ found.loaded is read.2.left)))
 
 pub returns-in_err-opened-clause-work : goal.returns-in_err-opened-clause-work
 returns-in_err-opened-clause-work g c =
@@ -37,7 +37,7 @@ returns-in_err-opened-clause-work g c =
     let read = found.header known is in
     counts_opening c.args.location c.args.slots known pass _ _ (Some []) _ _ _ read.0
     found.slots.segment found.slots.order _ _ read.1 _
-    (c.in_err-opened.ensures.run _ read.2.left pass has (nothing_left _ _ _ _ _ known _ found.loaded is read.2.left))
+    (c.in_err-opened.ensures.run _ read.2.left pass has (none_remain _ _ _ _ _ known _ found.loaded is read.2.left))
     _ _ (c.in_err-opened.ensures.work pass has))
 
 pub returns-in_err-opened-clause-unneeded : goal.returns-in_err-opened-clause-unneeded
@@ -58,7 +58,7 @@ returns-clause-ok g c known is pass has =
     let read = found.header known is in
     rw c.area_of-area.ensures (unlocks_volume c.args.location c.args.slots known pass
     _ _ (Some []) _ _ _ read.0 found.slots.segment found.slots.order _ _ read.1 _
-    (c.in_ok-opened.ensures.run _ read.2.left pass has (nothing_left _ _ _ _ _ known _ found.loaded is read.2.left)))
+    (c.in_ok-opened.ensures.run _ read.2.left pass has (none_remain _ _ _ _ _ known _ found.loaded is read.2.left)))
 
 pub returns-clause-work : goal.returns-clause-work
 returns-clause-work g c known is pass has =
@@ -66,7 +66,7 @@ returns-clause-work g c known is pass has =
     let read = found.header known is in
     counts_opening c.args.location c.args.slots known pass _ _ (Some []) _ _ _ read.0
     found.slots.segment found.slots.order _ _ read.1 _
-    (c.in_ok-opened.ensures.run _ read.2.left pass has (nothing_left _ _ _ _ _ known _ found.loaded is read.2.left))
+    (c.in_ok-opened.ensures.run _ read.2.left pass has (none_remain _ _ _ _ _ known _ found.loaded is read.2.left))
     _ _ (c.in_ok-opened.ensures.work pass has)
 
 pub returns-clause-unneeded : goal.returns-clause-unneeded

@@ -6,19 +6,19 @@ use Rattle.luks_open.specs.Skipped.{IsPadded, nothing}
 use Rattle.luks_open.proofs.skipped.SkippedSlots.push.Goals as goal
 
 -- one more element of the array is used
-filled_more : (elements : List (ℕ × SkipReason)) (used : ℕ) (entry : ℕ × SkipReason) → IsPadded elements used
+padded_more : (elements : List (ℕ × SkipReason)) (used : ℕ) (entry : ℕ × SkipReason) → IsPadded elements used
     → used < 32 → IsPadded (set elements used entry) (used + 1)
-filled_more elements used entry filled capacity =
+padded_more elements used entry is_padded capacity =
     let prefix = take used elements in
     let rest = replicate (32 - (used + 1)) nothing in
     let more = prefix ++ entry ∷ [] in
     let one_less : 32 - used ≡ suc (32 - (used + 1)) = omega arith in
-    let split : elements ≡ prefix ++ nothing ∷ rest = filled.others ∙ ap (λ n. prefix ++ replicate n nothing)
+    let split : elements ≡ prefix ++ nothing ∷ rest = is_padded.others ∙ ap (λ n. prefix ++ replicate n nothing)
     one_less in
-    let size : length more ≡ used + 1 = omega (arith, length_push prefix entry, filled.there) in
+    let size : length more ≡ used + 1 = omega (arith, length_push prefix entry, is_padded.there) in
     let all : set elements used entry ≡ more ++ rest =
     ap (λ l. set l used entry) split
-    ∙ (set_at prefix nothing rest entry used filled.there ∙ sym (append_assoc prefix (entry ∷ []) rest)) in
+    ∙ (set_at prefix nothing rest entry used is_padded.there ∙ sym (append_assoc prefix (entry ∷ []) rest)) in
     let start : take (used + 1) (set elements used entry) ≡ more =
     ap (take (used + 1)) all ∙ take_at more rest (used + 1) size in
     record {
@@ -35,4 +35,4 @@ invariant_of-self c =
       ap length c.self.view_is,
       c.requires,
     ) in
-    filled_more c.self.inside.elements c.self.inside.used (c.args.number, c.args.reason) c.self.invariant capacity
+    padded_more c.self.inside.elements c.self.inside.used (c.args.number, c.args.reason) c.self.invariant capacity
