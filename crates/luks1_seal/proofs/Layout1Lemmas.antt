@@ -109,9 +109,9 @@ module _ (slot : Slot1) (place count : ℕ) (salt : length slot.salt ≡ 32) whe
   key_slot_read : slot.iterations < 2 ^ 32 → place < 2 ^ 32 → count < 2 ^ 32
       → key_slot_of used_slot ≡ stored_slot place count slot
   unfolding key_slot_of
-  key_slot_read turns low few =
+  key_slot_read small low few =
       let state = number_read (at 0 4 used_slot) 0x00ac71f3 (omega arith) (slot_are.part_at 0) in
-      let iterations = number_read (at 4 4 used_slot) slot.iterations turns (slot_are.part_at 1) in
+      let iterations = number_read (at 4 4 used_slot) slot.iterations small (slot_are.part_at 1) in
       let salt_there : at 8 32 used_slot ≡ slot.salt = slot_are.part_at 2 in
       let offset = number_read (at 40 4 used_slot) place low (slot_are.part_at 3) in
       let stripes = number_read (at 44 4 used_slot) count few (slot_are.part_at 4) in
@@ -188,7 +188,7 @@ module _ (p : Seal1) (fits : AreParameters1 p) (typed : AreTyped1 p) where
   random_stripes1 slot of_slot = record {
     some = fits.counts.0;
     few = fits.counts.1;
-    key_most = longest_mode_key p.mode (length p.key.now) fits.key;
+    max_key = longest_mode_key p.mode (length p.key.now) fits.key;
     len = of_slot.2;
   }
 
@@ -242,8 +242,8 @@ module _ (p : Seal1) (fits : AreParameters1 p) (typed : AreTyped1 p) where
       let key = number_read (at 108 4 bytes) (length p.key.now) (omega (arith, key_fits)) (header1_are.part_at 5) in
       let digest = header1_are.part_at 6 in
       let salt = header1_are.part_at 7 in
-      let turns = number_read (at 164 4 bytes) p.digest_iterations typed.iterations (header1_are.part_at 8) in
-      rw (cipher, mode, hash, payload, key, digest, salt, turns) refl
+      let iterations = number_read (at 164 4 bytes) p.digest_iterations typed.iterations (header1_are.part_at 8) in
+      rw (cipher, mode, hash, payload, key, digest, salt, iterations) refl
 
   -- ---- a key slot in use
 

@@ -51,8 +51,8 @@ module _ (p : Seal1) (fits : AreParameters1 p) (typed : AreTyped1 p) where
   unfolding header_of
   header_is =
       let long = (image1 p fits typed).len in
-      let capacity = le-ltb (length (image1_of p)) 592 (omega (arith, long, fits.counts.3)) in
-      rw (begins, capacity, whole_header p fits typed, header1_read p fits typed) refl
+      let enough = le-ltb (length (image1_of p)) 592 (omega (arith, long, fits.counts.3)) in
+      rw (begins, enough, whole_header p fits typed, header1_read p fits typed) refl
 
   mode1_is : mode1_of (found_header p) ≡ Some p.mode
   unfolding mode1_of
@@ -90,18 +90,18 @@ module _ (p : Seal1) (fits : AreParameters1 p) (typed : AreTyped1 p) where
         (sym (length-derived_key p.hash p.key.now p.digest_salt p.digest_iterations 20));
   }
 
-  digested : has_no_usable_digest None (digest1_of (found_header p)) ≡ false
+  digest_ok : has_no_usable_digest None (digest1_of (found_header p)) ≡ false
   unfolding digest1_of digest_parts1_of
-  digested =
+  digest_ok =
       no_usable_digest-yes None (digest_parts1_of (found_header p)) digest_usable
       ∙ iterations_fit p.digest_iterations fits.counts.2 typed.iterations
 
   -- ---- a key slot
 
   module _ (slot : Slot1) (used : IsUsed p slot) where
-    placed : area1_out_of_range (found_header p) (found_slot p slot) ≡ false
+    area_ok : area1_out_of_range (found_header p) (found_slot p slot) ≡ false
     unfolding area1_out_of_range payload1_start
-    placed =
+    area_ok =
         let need = need_of (length p.key.now) p.stripes in
         area_fits 592 (512 * p.payload_sectors) (512 * (8 + slot.number * area_sectors_of p)) need need (omega arith)
         (omega arith) (ends_before p fits typed slot used) (omega (arith, fits.counts.4))
@@ -109,26 +109,26 @@ module _ (p : Seal1) (fits : AreParameters1 p) (typed : AreTyped1 p) where
     no_reason : reason1_of (found_header p) None (found_slot p slot) ≡ None
     unfolding reason1_of
     no_reason =
-        let striped = stripes_fit p.stripes fits.counts.0 fits.counts.1 in
-        let counted = iterations_fit slot.iterations used.fits.1 used.typed.iterations in
-        rw (striped, counted, placed, digested) refl
+        let stripes_ok = stripes_fit p.stripes fits.counts.0 fits.counts.1 in
+        let iterations_ok = iterations_fit slot.iterations used.fits.1 used.typed.iterations in
+        rw (stripes_ok, iterations_ok, area_ok, digest_ok) refl
 
-    ranged : are_in_range (slot_parts1_of (found_header p) (found_slot p slot)) ≡ true
-    ranged = (slot_there (found_header p) None (found_slot p slot) no_reason).2
+    parts_ok : are_in_range (slot_parts1_of (found_header p) (found_slot p slot)) ≡ true
+    parts_ok = (slot_there (found_header p) None (found_slot p slot) no_reason).2
 
     slot1_is : slot1_of (found_header p) (found_slot p slot)
         ≡ Some (slot_of (slot_parts1_of (found_header p) (found_slot p slot))
-        (digest_of (digest_parts1_of (found_header p)) digest_usable) ranged)
+        (digest_of (digest_parts1_of (found_header p)) digest_usable) parts_ok)
     unfolding slot1_of digest1_of
     slot1_is =
         let parts = slot_parts1_of (found_header p) (found_slot p slot) in
         let digest_parts = digest_parts1_of (found_header p) in
         ap (slot_from parts) (digest_from-yes digest_parts digest_usable)
-        ∙ slot_from-yes parts (digest_of digest_parts digest_usable) ranged
+        ∙ slot_from-yes parts (digest_of digest_parts digest_usable) parts_ok
 
     verdict1_is : verdict1_of (found_header p) None (found_slot p slot)
         ≡ Usable (slot_of (slot_parts1_of (found_header p) (found_slot p slot))
-        (digest_of (digest_parts1_of (found_header p)) digest_usable) ranged)
+        (digest_of (digest_parts1_of (found_header p)) digest_usable) parts_ok)
     unfolding verdict1_of
     verdict1_is = rw (no_reason, slot1_is) refl
 
@@ -136,7 +136,7 @@ module _ (p : Seal1) (fits : AreParameters1 p) (typed : AreTyped1 p) where
     gives1 : GivesKey (slot_parts1_of (found_header p) (found_slot p slot)) slot.passphrase.now p.key.now (image1_of p)
     unfolding slot_parts1_of material1_of area_key1_of
     gives1 =
-        let drawn = random_stripes1 p fits typed slot used.fits in
+        let random = random_stripes1 p fits typed slot used.fits in
         record {
           kdf = p.hash;
           af = p.hash;
@@ -147,8 +147,8 @@ module _ (p : Seal1) (fits : AreParameters1 p) (typed : AreTyped1 p) where
           key_bytes = refl;
           material = sector_padded (stripes_of p.hash p.key.now p.stripes slot.random.now);
           is_material = made_material p.hash (slot_parts1_of (found_header p) (found_slot p slot)) p.key.now
-              slot.random.now drawn;
-          is_stored = material_is_stored p.hash p.key.now p.stripes slot.random.now drawn (p.mode, area_key1_of p slot)
+              slot.random.now random;
+          is_stored = material_is_stored p.hash p.key.now p.stripes slot.random.now random (p.mode, area_key1_of p slot)
               (512 * (8 + slot.number * area_sectors_of p)) (image1_of p) typed.key used.typed.random
               (material_there p fits typed slot used);
         }
@@ -157,7 +157,7 @@ module _ (p : Seal1) (fits : AreParameters1 p) (typed : AreTyped1 p) where
     unfolding verdict_at verdict1_at slot_of
     seals_key1 = record {
       slot = slot_of (slot_parts1_of (found_header p) (found_slot p slot))
-          (digest_of (digest_parts1_of (found_header p)) digest_usable) ranged;
+          (digest_of (digest_parts1_of (found_header p)) digest_usable) parts_ok;
       usable = ap (option_map (verdict1_of (found_header p) None)) (slot_read p fits typed slot used)
           ∙ ap Some verdict1_is;
       gives = gives1;

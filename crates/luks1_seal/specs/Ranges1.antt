@@ -18,7 +18,7 @@ FitsCounts1 p = (1 ≤ p.stripes) × (p.stripes ≤ 4000) × (1 ≤ p.digest_ite
 abbrev pub FitsPlain1 : ℕ → Type 0
 FitsPlain1 len = (len % 512 ≡ 0) × (len ≤ max_plain_len)
 
--- one slot of a volume whose slots have this many random bytes each
+-- the slot fits a volume whose slots have this many random bytes each
 abbrev pub FitsSlot1 : ℕ → Slot1 → Type 0
 FitsSlot1 random slot = (slot.number ≤ 7) × (1 ≤ slot.iterations) × (length slot.random.now ≡ random)
 

@@ -33,7 +33,7 @@ pub(crate) fn slot1_numbered<'a>(seal: &Seal1<'a>, number: u32) -> Option<&'a Sl
     None
 }
 
-/// Adds `magic`, `version`, `cipher-name` and `cipher-mode`.
+/// Appends `magic`, `version`, `cipher-name` and `cipher-mode`.
 #[tactic(auto, unfolding(crate::specs::Layout1::start1_of))]
 fn push_start(alloc: Global, header: &mut Vec<u8>, seal: &Seal1<'_>) -> Result<(), AllocError>
     ensures { OnOk result (header.new.items ≡ header.old.items ++ start1_of seal.now) }
@@ -43,7 +43,7 @@ fn push_start(alloc: Global, header: &mut Vec<u8>, seal: &Seal1<'_>) -> Result<(
     push_padded(alloc, header, seal.mode.name().as_bytes(), 32)
 }
 
-/// Adds `hash-spec`, `payload-offset` and `key-bytes`.
+/// Appends `hash-spec`, `payload-offset` and `key-bytes`.
 #[tactic(auto, unfolding(crate::specs::Layout1::middle1_of))]
 fn push_middle(alloc: Global, header: &mut Vec<u8>, seal: &Seal1<'_>) -> Result<(), AllocError>
     requires { AreParameters1 seal.now }
@@ -54,7 +54,7 @@ fn push_middle(alloc: Global, header: &mut Vec<u8>, seal: &Seal1<'_>) -> Result<
     header.extend_from_slice(&(seal.key.len() as u32).to_be_bytes())
 }
 
-/// Adds `mk-digest`, `mk-digest-salt` and `mk-digest-iter`.
+/// Appends `mk-digest`, `mk-digest-salt` and `mk-digest-iter`.
 #[tactic(auto, unfolding(crate::specs::Layout1::digest1_fields))]
 fn push_digest(alloc: Global, header: &mut Vec<u8>, seal: &Seal1<'_>) -> Result<(), AllocError>
     requires { AreParameters1 seal.now }
@@ -73,7 +73,7 @@ fn push_digest(alloc: Global, header: &mut Vec<u8>, seal: &Seal1<'_>) -> Result<
     header.extend_from_slice(&seal.digest_iterations.to_be_bytes())
 }
 
-/// Adds the header up to the key slots.
+/// Appends the header up to the key slots.
 #[tactic(auto, unfolding(crate::specs::Layout1::fields1_of))]
 fn push_fields(alloc: Global, header: &mut Vec<u8>, seal: &Seal1<'_>) -> Result<(), AllocError>
     requires { AreParameters1 seal.now }
@@ -85,7 +85,7 @@ fn push_fields(alloc: Global, header: &mut Vec<u8>, seal: &Seal1<'_>) -> Result<
     push_padded(alloc, header, seal.uuid, 40)
 }
 
-/// Adds the start of a key slot in use: its state, iterations and salt.
+/// Appends the start of a key slot in use: its state, iterations and salt.
 #[tactic(auto, unfolding(crate::specs::Layout1::state1_of))]
 fn push_enabled(header: &mut Vec<u8>, slot: &Slot1<'_>) -> Result<(), AllocError>
     ensures { OnOk result (header.new.items ≡ header.old.items ++ state1_of (Some slot.now)) }
@@ -95,7 +95,7 @@ fn push_enabled(header: &mut Vec<u8>, slot: &Slot1<'_>) -> Result<(), AllocError
     header.extend_from_slice(&slot.salt)
 }
 
-/// Adds the start of a key slot that is not in use: its state and zeros.
+/// Appends the start of a key slot that is not in use: its state and zeros.
 #[tactic(auto, unfolding(crate::specs::Layout1::state1_of))]
 fn push_disabled(alloc: Global, header: &mut Vec<u8>) -> Result<(), AllocError>
     ensures { OnOk result (header.new.items ≡ header.old.items ++ state1_of None) }
@@ -104,7 +104,7 @@ fn push_disabled(alloc: Global, header: &mut Vec<u8>) -> Result<(), AllocError>
     push_padded(alloc, header, b"", 36)
 }
 
-/// Adds `active`, `iterations` and `salt` of the key slot of this number.
+/// Appends `active`, `iterations` and `salt` of the key slot of this number.
 fn push_state(
     alloc: Global,
     header: &mut Vec<u8>,
@@ -121,7 +121,7 @@ fn push_state(
     }
 }
 
-/// Adds the key slot of this number.
+/// Appends the key slot of this number.
 #[tactic(auto, unfolding(crate::specs::Layout1::key_slot1_of))]
 fn push_key_slot(
     alloc: Global,
@@ -139,7 +139,7 @@ fn push_key_slot(
     header.extend_from_slice(&seal.stripes.to_be_bytes())
 }
 
-/// Adds the eight key slots.
+/// Appends the eight key slots.
 #[tactic(auto, unfolding(luks_kdf::specs::Bytes::joined))]
 fn push_key_slots(alloc: Global, header: &mut Vec<u8>, seal: &Seal1<'_>) -> Result<(), AllocError>
     requires { AreParameters1 seal.now }

@@ -60,7 +60,7 @@ fn material_at(alloc: Global, seal: &Seal1<'_>, number: u32) -> Result<Vec<u8>, 
     }
 }
 
-/// Adds the area of the slot of this number.
+/// Appends the area of the slot of this number.
 #[tactic(auto, unfolding(crate::specs::Layout1::area1_of))]
 fn push_area(
     alloc: Global,
@@ -76,7 +76,7 @@ fn push_area(
     push_padded(alloc, image, &material, sectors as usize * 512)
 }
 
-/// Adds the areas of all eight slots.
+/// Appends the areas of all eight slots.
 #[tactic(auto, unfolding(luks_kdf::specs::Bytes::joined))]
 fn push_areas(alloc: Global, image: &mut Vec<u8>, seal: &Seal1<'_>) -> Result<(), AllocError>
     requires { AreParameters1 seal.now }
@@ -115,8 +115,8 @@ fn image_of(alloc: Global, seal: &Seal1<'_>) -> Result<Vec<u8>, AllocError>
 /// Makes the image of a volume with the cipher `aes`.
 ///
 /// The area of slot i starts at sector `8 + i * a`, where `a` is the length of an area in sectors
-/// of 512 bytes, rounded up to a multiple of 8. The payload ends the image. Bytes that are not
-/// named are zero.
+/// of 512 bytes, rounded up to a multiple of 8. The payload ends the image. All other bytes are
+/// zero.
 ///
 /// # Errors
 ///

@@ -37,7 +37,7 @@ pub(super) fn fits_plain(len: usize) -> bool
     len % 512 == 0 && len <= 8_388_608
 }
 
-/// One slot of a volume whose slots have this many random bytes each.
+/// The slot fits a volume whose slots have this many random bytes each.
 pub(super) fn fits_slot(random: usize, slot: &Slot1<'_>) -> bool
     ensures { IsTrue result ↔ FitsSlot1 random slot.now }
 {

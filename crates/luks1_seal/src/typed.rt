@@ -1,5 +1,5 @@
-//! What the types of the parameters of LUKS1 guarantee for their values: nothing is done here, the
-//! clauses are for proofs.
+//! What the types of the parameters of LUKS1 guarantee for their values. The functions do nothing;
+//! their clauses are for proofs.
 
 ghost use Rattle.luks1_seal.specs.Ranges1.{AreTyped1, IsTypedSlot1};
 ghost use Rattle.std.specs.Prelude.{All};
@@ -11,7 +11,7 @@ use luks_seal::typed::bytes;
 fn slot1(slot: &Slot1<'_>)
     ensures { IsTypedSlot1 slot.now }
 {
-    // Read, so that its range is known.
+    // Reading it makes its range known.
     let _iterations = slot.iterations;
     bytes(slot.random);
 }
@@ -29,7 +29,7 @@ fn slots1(slots: &[Slot1<'_>])
 pub(crate) fn typed1(seal: &Seal1<'_>)
     ensures { AreTyped1 seal.now }
 {
-    // Read, so that its range is known.
+    // Reading it makes its range known.
     let _iterations = seal.digest_iterations;
     bytes(seal.key);
     bytes(seal.plain);

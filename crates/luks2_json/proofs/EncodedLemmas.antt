@@ -1,4 +1,4 @@
--- What strings write: bytes in base64, which are decoded group by group, and numbers in decimal digits.
+-- What strings encode: bytes in base64, which are decoded group by group, and numbers in decimal digits.
 use Rattle.std.proofs.Common.{◌≡◌, ◌∙◌, ℕ, ◌+◌, ◌*◌, ◌<◌, ◌≤◌, ◌-◌, ◌^◌, Bool, true, false, List, [], ◌++◌, length}
 use Rattle.std.proofs.Common.{take_all, drop, Option, Some, None, Result, Ok, Err, ◌⊎◌, inl, inr, refl, sym, ap, arith}
 use Rattle.std.proofs.Common.{rules, take}

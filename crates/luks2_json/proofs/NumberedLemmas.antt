@@ -42,10 +42,10 @@ strings_among-append [] value = refl
 strings_among-append (first ∷ rest) value = cons_append (as_str (view first)) _ _ _ (strings_among-append rest value)
 
 -- one more value adds its string, if it is one
-pub texts_more : (values : List Value) (i : ℕ) (value : Value) → i < length values → value ≡ get_or values i value
+pub strings_more : (values : List Value) (i : ℕ) (value : Value) → i < length values → value ≡ get_or values i value
     → strings_among (items_view (take (i + 1) values))
     ≡ strings_among (items_view (take i values)) ++ cons_option (as_str (view value)) []
-texts_more values i value within is =
+strings_more values i value within is =
     let next : take (i + 1) values ≡ take i values ++ value ∷ [] =
     take_more values i value within ∙ ap (λ v. take i values ++ v ∷ []) (sym is) in
     rw next (strings_among-append (take i values) value)
@@ -56,7 +56,7 @@ pub none_below : (name : List ℕ) → is_number_below 0 name ≡ false
 unfolding is_number_below
 none_below name = refl
 
--- a name that is no number below n is one below n + 1 exactly if it is n
+-- a name that is not a number below n is one below n + 1 exactly if it is n
 pub number_next : (n : ℕ) (name : List ℕ) (is : Bool) → is_number_below n name ≡ false → bytes_eq name (decimal n) ≡ is
     → is_number_below (n + 1) name ≡ is
 unfolding is_number_below

@@ -16,8 +16,8 @@ any_item test no_items = false
 any_item test (item value rest) = test value || any_item test rest
 
 -- the value is a string
-abbrev pub is_text : Data → Bool
-is_text value = is_some (as_str value)
+abbrev pub is_string : Data → Bool
+is_string value = is_some (as_str value)
 
 -- the value is this string
 abbrev pub is_the_string : List ℕ → Data → Bool
@@ -30,7 +30,7 @@ strings_among (item value rest) = cons_option (as_str value) (strings_among rest
 
 -- there is an array under this name, and all its items are strings
 unfoldable pub has_strings : List ℕ → Data → Bool
-has_strings name owner = unwrap_or (option_map (all_items is_text) (in_member name as_array owner)) false
+has_strings name owner = unwrap_or (option_map (all_items is_string) (in_member name as_array owner)) false
 
 -- there is an array under this name, and it contains the string
 unfoldable pub array_contains : List ℕ → List ℕ → Data → Bool

@@ -29,7 +29,7 @@ abbrev pub is_decimal : List ℕ → Bool
 is_decimal digits = nat_lt 0 (length digits) && nat_le (length digits) 20 && list_all is_ascii_digit digits
     && nat_lt (digits_value 10 digits) (2 ^ 64)
 
--- the number that such a string writes
+-- the number that such a string represents
 unfoldable pub decimal_of : List ℕ → Option ℕ
 decimal_of digits = if is_decimal digits then Some (digits_value 10 digits) else None
 
@@ -57,11 +57,11 @@ has name owner = is_some (get name owner)
 abbrev pub in_member : {T : Type 0} → List ℕ → (Data → Option T) → Data → Option T
 in_member name find owner = option_and_then find (get name owner)
 
--- the member of this name is there and passes the test
+-- the member with this name is present and passes the test
 abbrev pub passes : List ℕ → (Data → Bool) → Data → Bool
 passes name test owner = unwrap_or (option_map test (get name owner)) false
 
--- ---- the parameters of PBKDF2, which key slots and digests state alike
+-- ---- the parameters of PBKDF2, which key slots and digests state in the same way
 
 -- the hash function that the object's member `hash` names, if it is known
 unfoldable pub hash_member : Data → Option Hash
@@ -102,6 +102,6 @@ begins_with_group text =
     is_symbol (slice_index text 0)
     && (is_symbol (slice_index text 1) && (is_symbol (slice_index text 2) && is_symbol (slice_index text 3)))
 
--- the number of bytes that the text encodes, if it encodes any
+-- the number of bytes that the text encodes, if it is valid base64
 abbrev pub encoded_len : List ℕ → Option ℕ
 encoded_len text = option_map (λ (bytes : List ℕ). length bytes) (decoded_of standard text)

@@ -13,7 +13,7 @@ unfoldable pub object_numbered : List ℕ → Data → ℕ → Option Data
 object_numbered names tree number =
     if nat_lt number max_slots then in_member names (get (decimal number)) tree else None
 
--- the name is that of a number below n
+-- the name is a number below n in decimal digits
 unfoldable pub is_number_below : ℕ → List ℕ → Bool
 is_number_below zero name = false
 is_number_below (suc n) name = is_number_below n name || bytes_eq name (decimal n)
@@ -23,7 +23,7 @@ abbrev pub any_name : (List ℕ → Bool) → Members → Bool
 any_name test no_members = false
 any_name test (member name value rest) = test name || any_name test rest
 
--- a member of `keyslots` is ignored, since its name is no number below 32
+-- a member of `keyslots` is ignored, since its name is not a number below 32
 unfoldable pub has_key_out_of_range : Data → Bool
 has_key_out_of_range tree =
     unwrap_or (option_map (any_name (λ name. not (is_number_below max_slots name)))

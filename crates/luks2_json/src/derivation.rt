@@ -1,4 +1,4 @@
-//! The parameters of PBKDF2. Key slots and digests state them alike.
+//! The parameters of PBKDF2, which key slots and digests state in the same way.
 
 ghost use Rattle.std.specs.Prelude.{◌≡◌, [], IfOk, unwrap_or};
 ghost use Rattle.luks2_json.specs.Member.{base64_member, hash_member, iterations_in, salt_in};

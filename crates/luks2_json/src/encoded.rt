@@ -1,4 +1,4 @@
-//! Bytes in base64: whether a text encodes bytes, and which.
+//! Bytes in base64: whether a text encodes bytes, and which bytes.
 
 ghost use Rattle.std.specs.Prelude.{◌≡◌, ◌≤◌, IfOk, IfSome, length, option_map};
 ghost use Rattle.luks2_json.specs.Member.{begins_with_group, encoded_len, is_in_alphabet};
@@ -33,8 +33,8 @@ fn begins_with_group(text: &[u8]) -> bool
     is_symbol(text[0]) && is_symbol(text[1]) && is_symbol(text[2]) && is_symbol(text[3])
 }
 
-// The number of bytes that a last group encodes, if it encodes any. The group may have padding, or
-// be empty.
+// The number of bytes that a last group encodes, if it is valid base64. The group may have padding,
+// or be empty.
 fn last_len(text: &[u8]) -> Option<usize>
     requires { length text.now ≤ 4 }
     ensures value { result ≡ encoded_len text.now }
@@ -47,7 +47,7 @@ fn last_len(text: &[u8]) -> Option<usize>
     }
 }
 
-/// The number of bytes that the text encodes, if it encodes any. This allocates nothing.
+/// The number of bytes that the text encodes, if it is valid base64. This allocates nothing.
 pub(crate) fn encoded_len(text: &str) -> Option<usize>
     ensures { result ≡ encoded_len text.now }
 {
@@ -63,7 +63,7 @@ pub(crate) fn encoded_len(text: &str) -> Option<usize>
     Some(before + last_len(rest)?)
 }
 
-/// The bytes that the text encodes.
+/// The bytes that the text encodes, if it is valid base64.
 pub(crate) fn decoded(alloc: Global, text: &str) -> Result<Option<Vec<u8>>, AllocError>
     ensures { IfOk result (λ bytes.
         option_map (λ b. b.items) bytes ≡ decoded_of standard text.now) }

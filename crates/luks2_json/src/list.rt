@@ -2,7 +2,7 @@
 
 ghost use Rattle.std.specs.Prelude.{◌≡◌, ◌++◌, [], IfOk, OnOk, List, ℕ, map, string_bytes};
 ghost use Rattle.std.specs.List.{cons_option};
-ghost use Rattle.luks2_json.specs.List.{all_items, any_item, has_strings, is_text, is_the_string};
+ghost use Rattle.luks2_json.specs.List.{all_items, any_item, has_strings, is_string, is_the_string};
 ghost use Rattle.luks2_json.specs.List.{array_contains, strings_among, strings_at};
 ghost use Rattle.serde_json.specs.Find.{as_str};
 ghost use Rattle.serde_json.specs.View.{items_view, view as data_of};
@@ -22,14 +22,14 @@ fn is_the_string(value: &Value, text: &str) -> bool
 }
 
 // All items of the array are strings.
-fn all_texts(values: &[Value]) -> bool
-    ensures { result ≡ all_items is_text (items_view values.now) }
+fn all_strings(values: &[Value]) -> bool
+    ensures { result ≡ all_items is_string (items_view values.now) }
 {
     values.iter().all(|value| value.is_string())
 }
 
 // Some item of the array is this string.
-fn any_text(values: &[Value], text: &str) -> bool
+fn any_string(values: &[Value], text: &str) -> bool
     ensures { result ≡ any_item (is_the_string text.now) (items_view values.now) }
 {
     values.iter().any(|value| is_the_string(value, text))
@@ -40,11 +40,11 @@ fn any_text(values: &[Value], text: &str) -> bool
 pub fn has_strings(object: &Value, name: &str) -> bool
     ensures { result ≡ has_strings name.now (data_of object.now) }
 {
-    let Some(list) = object.get(name) else {
+    let Some(member) = object.get(name) else {
         return false;
     };
-    match list.as_array() {
-        Some(values) => all_texts(values.as_slice()),
+    match member.as_array() {
+        Some(values) => all_strings(values.as_slice()),
         None => false,
     }
 }
@@ -54,11 +54,11 @@ pub fn has_strings(object: &Value, name: &str) -> bool
 pub fn array_contains(object: &Value, name: &str, text: &str) -> bool
     ensures { result ≡ array_contains name.now text.now (data_of object.now) }
 {
-    let Some(list) = object.get(name) else {
+    let Some(member) = object.get(name) else {
         return false;
     };
-    match list.as_array() {
-        Some(values) => any_text(values.as_slice(), text),
+    match member.as_array() {
+        Some(values) => any_string(values.as_slice(), text),
         None => false,
     }
 }
@@ -85,7 +85,7 @@ impl Names {
 }
 
 // Appends the value to the names, if it is a string.
-fn push_text(alloc: Global, names: &mut Vec<String>, value: &Value) -> Result<(), AllocError>
+fn push_string(alloc: Global, names: &mut Vec<String>, value: &Value) -> Result<(), AllocError>
     ensures { OnOk result (map string_bytes names.new.items
         ≡ map string_bytes names.old.items ++ cons_option (as_str (data_of value.now)) []) }
 {
@@ -101,7 +101,7 @@ fn strings_among(alloc: Global, values: &[Value]) -> Result<Names, AllocError>
 {
     let mut names = Vec::new(alloc);
     for value in values {
-        push_text(alloc, &mut names, value)?;
+        push_string(alloc, &mut names, value)?;
     }
     Ok(Names { names })
 }
@@ -111,10 +111,10 @@ fn strings_among(alloc: Global, values: &[Value]) -> Result<Names, AllocError>
 pub fn strings_at(alloc: Global, object: &Value, name: &str) -> Result<Names, AllocError>
     ensures { IfOk result (λ names. names ≡ strings_at name.now (data_of object.now)) }
 {
-    let Some(list) = object.get(name) else {
+    let Some(member) = object.get(name) else {
         return strings_among(alloc, &[]);
     };
-    match list.as_array() {
+    match member.as_array() {
         Some(values) => strings_among(alloc, values.as_slice()),
         None => strings_among(alloc, &[]),
     }

@@ -53,7 +53,7 @@ fn all_digits(text: &str) -> bool
     text.bytes().all(|byte| byte.is_ascii_digit())
 }
 
-// The number below 2^64 that the string writes in 1 to 20 decimal digits.
+// The number below 2^64 that the string represents in 1 to 20 decimal digits.
 #[tactic(auto, unfolding(crate::specs::Member::decimal_of))]
 fn number_of(text: &str) -> Option<u64>
     ensures { result ≡ decimal_of text.now }
@@ -64,7 +64,7 @@ fn number_of(text: &str) -> Option<u64>
     text.parse().ok()
 }
 
-/// The number below 2^64 that the string under this name writes in 1 to 20 decimal digits.
+/// The number below 2^64 that the string under this name represents in 1 to 20 decimal digits.
 #[tactic(auto, unfolding(crate::specs::Member::decimal_member))]
 pub fn decimal_member(object: &Value, name: &str) -> Option<u64>
     ensures { result ≡ decimal_member name.now (view object.now) }

@@ -32,7 +32,7 @@ fn is_name(name: &str, number: u8) -> bool
     name == expected.format(number)
 }
 
-// The name is that of a number below 32.
+// The name is a number below 32 in decimal digits.
 fn is_number(name: &str) -> bool
     ensures { result ≡ is_number_below max_slots name.now }
 {

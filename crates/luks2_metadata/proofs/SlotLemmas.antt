@@ -71,7 +71,7 @@ pub digest_in_range : (digest : Data) → is_digest2 digest ≡ true
 unfolding digest2_of digest_of
 digest_in_range digest is held = rw (is, digest_from-yes (digest_parts2_of digest) held) refl
 
--- the iterations of a digest are there if it is
+-- the iterations of a digest are present exactly if the digest is
 pub same_some : (o : Option KeyDigest) → is_some (option_map iterations_of_digest o) ≡ is_some o
 same_some None = refl
 same_some (Some key) = refl
@@ -188,7 +188,7 @@ module _ (tree : Data) (bounds : Bounds) (limit : Option ℕ) (number : ℕ) (sl
         usable_digest_without_limit limit (digest2_for tree number) no.digest,
       ) refl
 
-  -- there is what is needed to open it, with the digest
+  -- what is needed to open it is present, with the digest
   pub slot_there : reason2_of tree bounds limit number slot ≡ None
       → (digest : KeyDigest) × (digest2_for tree number ≡ Some digest)
       × (is : are_in_range (slot_parts2_of slot) ≡ true)
@@ -233,13 +233,13 @@ module _ (tree : Data) (bounds : Bounds) (limit : Option ℕ) (number : ℕ) (sl
       let sizes = and_parts _ _ (not-false _ no.key_size) in
       let past = or_parts _ _ no.area in
       let before = or_parts _ _ past.0 in
-      let capacity = or_parts _ _ before.0 in
+      let fits = or_parts _ _ before.0 in
       let known : IsOf2 tree bounds number (slot_of (slot_parts2_of slot) there.0 there.2) = record {
         kdf = some_from_not_none (kdf_hash_of slot) hashes.0;
         af = some_from_not_none (af_hash_of slot) hashes.1;
         area = known_area (area_mode_of slot) (area_key_size_of slot) no.encryption sizes.0;
         volume_key = sizes.1;
-        after_header = ltb-false (area_offset_of slot) bounds.end capacity.0;
+        after_header = ltb-false (area_offset_of slot) bounds.end fits.0;
         before_payload = before.1;
         digest = there.1;
       } in
@@ -331,8 +331,8 @@ unfolding segment2_of
 segment2-none tree bounds segment none made = refused_or-none _ _ (made2 tree bounds) segment none made
 
 -- if there is a segment, `segment_value` is its value
-pub said-there : (tree segment : Data) → the_segment tree ≡ Some segment → segment_value tree ≡ segment
-said-there tree segment there = rw there refl
+pub segment_value-there : (tree segment : Data) → the_segment tree ≡ Some segment → segment_value tree ≡ segment
+segment_value-there tree segment there = rw there refl
 
 -- ---- a segment that is not refused
 

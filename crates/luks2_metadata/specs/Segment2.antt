@@ -68,7 +68,7 @@ segment_value tree = unwrap_or (the_segment tree) null
 abbrev pub offset_of : Data → Option ℕ
 offset_of segment = decimal_member (codes "offset") segment
 
--- the segment's length in bytes, or `Some None` if it goes to the image's end
+-- the segment's length in bytes, or `Some None` if it extends to the image's end
 unfoldable pub size_member : Data → Option (Option ℕ)
 size_member segment = if string_is (codes "size") (codes "dynamic") segment then Some None
     else option_map (λ bytes. Some bytes) (decimal_member (codes "size") segment)
@@ -77,6 +77,7 @@ size_member segment = if string_is (codes "size") (codes "dynamic") segment then
 abbrev pub iv_tweak_of : Data → Option ℕ
 iv_tweak_of segment = decimal_member (codes "iv_tweak") segment
 
+-- the segment's sector size, if it is one of the four that the format allows
 unfoldable pub sector_size_of : Data → Option Sector
 sector_size_of segment = option_and_then sector_size_with (integer_member (codes "sector_size") segment)
 
@@ -191,8 +192,7 @@ segment2_of tree bounds =
 
 -- ---- values that key slots are checked against
 
--- where the payload starts, if the header is attached and the segment is not refused. Key material ends there at the
--- latest
+-- where the payload starts, if the header is attached and the segment is not refused: the limit of key material
 unfoldable pub payload2_start : Data → Bounds → Option ℕ
 payload2_start tree bounds =
     if bounds.detached then None else option_map (λ segment. segment.offset) (result_ok (segment2_of tree bounds))

@@ -22,7 +22,7 @@ use Rattle.luks2_metadata.specs.Segment2.{payload2_start, payload_mode2_of}
 use Rattle.serde_json.specs.Data.{Data}
 use Rattle.serde_json.specs.Find.{get}
 
--- ---- members and their kinds
+-- ---- members and their types
 
 -- the priority of a slot: 0, 1 or 2, and 1 if it has none; `None` for any other value
 abbrev pub priority_if_present : Option Data → Data → Option ℕ

@@ -153,7 +153,7 @@ pub fn digest_for(
     Ok(None)
 }
 
-/// The iterations of that digest. This allocates nothing.
+/// The iterations of the digest that [`digest_for`] finds. This allocates nothing.
 pub(crate) fn digest_iterations_for(tree: &Value, number: u8) -> Option<u32>
     ensures { result ≡ option_map iterations_of_digest (digest2_for (data_of tree.now) number) }
 {

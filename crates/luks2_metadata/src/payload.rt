@@ -79,7 +79,7 @@ fn the_segment(tree: &Value) -> Option<&Value>
     }
 }
 
-// The segment's length in bytes, or `Some(None)` if it goes to the image's end.
+// The segment's length in bytes, or `Some(None)` if it extends to the image's end.
 #[tactic(auto, unfolding(crate::specs::Segment2::size_member))]
 fn size(segment: &Value) -> Option<Option<u64>>
     ensures { result ≡ size_member (data_of segment.now) }

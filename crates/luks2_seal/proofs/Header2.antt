@@ -58,11 +58,11 @@ pub record IsReadAt (p : Seal2) (place : ℕ) (image : List ℕ) : Type 0 where
   pub json : at (place + 4096) (p.hdr_size - 4096) image ≡ padded (p.hdr_size - 4096) (json_of p)
 
 -- the checksum's field is replaced by other bytes
-zeroed_of : (prefix sum rest zeros : List ℕ) → length prefix ≡ 448 → length sum ≡ 64
-    → take 448 (prefix ++ sum ++ rest) ++ zeros ++ drop 512 (prefix ++ sum ++ rest) ≡ prefix ++ zeros ++ rest
-zeroed_of prefix sum rest zeros long filled =
-    let first = ap (take 448) (append_assoc prefix sum rest) ∙ take_at prefix (sum ++ rest) 448 long in
-    let last = drop_at (prefix ++ sum) rest 512 (omega (arith, length-append prefix sum, long, filled)) in
+zeroed_of : (prefix checksum rest zeros : List ℕ) → length prefix ≡ 448 → length checksum ≡ 64
+    → take 448 (prefix ++ checksum ++ rest) ++ zeros ++ drop 512 (prefix ++ checksum ++ rest) ≡ prefix ++ zeros ++ rest
+zeroed_of prefix checksum rest zeros long filled =
+    let first = ap (take 448) (append_assoc prefix checksum rest) ∙ take_at prefix (checksum ++ rest) 448 long in
+    let last = drop_at (prefix ++ checksum) rest 512 (omega (arith, length-append prefix checksum, long, filled)) in
     rw (first, last) refl
 
 module _ (p : Seal2) (fits : AreParameters2 p) (json : FitsJson p) (magic salt : List ℕ) (place : ℕ)
@@ -91,17 +91,17 @@ module _ (p : Seal2) (fits : AreParameters2 p) (json : FitsJson p) (magic salt :
   unfolding middle_of fields_end_bytes
   length-fields = (are_parts (fields_of p magic salt place) field_parts (simp (append_assoc, append-nil))).len
 
-  sum_long : length checksum ≡ 32
-  sum_long = length-hash_of Sha256 (fields_of p magic salt place ++ padded 64 [] ++ body_bytes p)
+  checksum_long : length checksum ≡ 32
+  checksum_long = length-hash_of Sha256 (fields_of p magic salt place ++ padded 64 [] ++ body_bytes p)
 
-  length-sum : length (padded 64 checksum) ≡ 64
-  length-sum = length-padded 64 checksum (omega (arith, sum_long))
+  length-csum : length (padded 64 checksum) ≡ 64
+  length-csum = length-padded 64 checksum (omega (arith, checksum_long))
 
   -- the parts of the header with its JSON area
   abbrev header_parts : List Part
   header_parts =
       field_parts
-      ++ part 64 (padded 64 checksum) length-sum
+      ++ part 64 (padded 64 checksum) length-csum
       ∷ part 3584 (padded 3584 []) (length-padded 3584 [] (omega arith))
       ∷ part (p.hdr_size - 4096) (padded (p.hdr_size - 4096) (json_of p))
       (length-padded (p.hdr_size - 4096) (json_of p) (omega (arith, json.0)))
@@ -131,18 +131,18 @@ module _ (p : Seal2) (fits : AreParameters2 p) (json : FitsJson p) (magic salt :
   checksum_there : at 448 32 made_header ≡ checksum
   checksum_there =
       at_inside 448 0 32 448 64 made_header (padded 64 checksum) (omega arith) (omega arith) (header_are.part_at 7)
-      ∙ padded_begins 32 64 checksum (sym sum_long)
+      ∙ padded_begins 32 64 checksum (sym checksum_long)
 
   -- the bytes that the checksum is computed over
   zeroed : without_checksum made_header ≡ fields_of p magic salt place ++ padded 64 [] ++ body_bytes p
   unfolding without_checksum no_checksum header2_bytes padded
   zeroed =
-      zeroed_of (fields_of p magic salt place) (padded 64 checksum) (body_bytes p) no_checksum length-fields length-sum
+      zeroed_of (fields_of p magic salt place) (padded 64 checksum) (body_bytes p) no_checksum length-fields length-csum
 
   -- the checksum matches
-  intact : checksum_matches made_header ≡ true
+  checksum_holds : checksum_matches made_header ≡ true
   unfolding checksum_matches
-  intact = rw (hash_known, zeroed, checksum_there) ((bytes_eq-Decides checksum checksum).1 refl)
+  checksum_holds = rw (hash_known, zeroed, checksum_there) ((bytes_eq-Decides checksum checksum).1 refl)
 
   -- ---- the header in an image
 
@@ -195,7 +195,7 @@ module _ (p : Seal2) (fits : AreParameters2 p) (json : FitsJson p) (magic salt :
           is_binary,
           le-leb (place + p.hdr_size) (length image) long,
           there,
-          intact,
+          checksum_holds,
         ) refl
 
     pub read_there : IsReadAt p place image

@@ -11,7 +11,7 @@ use Rattle.serde_json.proofs.Views.{get_member-put, get_member-put_other}
 use Rattle.serde_json.specs.Data.{Data, put, string, Members, depth, items_depth, member, no_members, object}
 use Rattle.serde_json.specs.Find.{get_member}
 use Rattle.serde_json.specs.View.{items_of}
-use Rattle.luks2_json.specs.List.{any_item, is_the_string, all_items, is_text}
+use Rattle.luks2_json.specs.List.{any_item, is_the_string, all_items, is_string}
 use Rattle.luks2_seal.specs.Layout2.{decimal_value, keyslot_object, keyslots_below, names_below, ReadsBack, af_object}
 use Rattle.luks2_seal.specs.Layout2.{area_object, config_object, digest_object, json_of, kdf_object, metadata_of}
 use Rattle.luks2_seal.specs.Layout2.{segment_object, size_value}
@@ -24,7 +24,7 @@ use Rattle.luks_seal.proofs.SlotLemmas.{map_or_has}
 
 -- ---- names
 
--- an array passes a test for some item if item k passes it
+-- some item of an array passes a test if item k does
 any_passes : (test : Data → Bool) (ds : List Data) (d : Data) (k : ℕ) → k < length ds → slice_index_or ds k d ≡ d
     → test d ≡ true → any_item test (items_of ds) ≡ true
 any_passes test [] d k low is passes = absurd (omega arith)
@@ -43,12 +43,12 @@ module _ (p : Seal2) where
   keyslot_found n (suc m) slot is below few = elim (cases_lt n m) [
     | inl earlier ↦
         let before = keyslot_found n m slot is earlier (omega arith) in
-        let apart : decimal n ≢ decimal m =
+        let differ : decimal n ≢ decimal m =
         λ same. (let equal = decimal_injective n m (omega arith) (omega arith) same in omega (arith, equal, earlier)) in
         map_or_has (λ (ms : Members). get_member (decimal n) ms ≡ Some (keyslot_object p slot))
         (λ (other : Slot2). put (decimal m) (keyslot_object p other) (keyslots_below p m)) (keyslots_below p m)
         (slot_numbered m p.slots.now) before
-        (λ other. get_member-put_other (decimal n) (decimal m) (keyslot_object p other) (keyslots_below p m) apart
+        (λ other. get_member-put_other (decimal n) (decimal m) (keyslot_object p other) (keyslots_below p m) differ
         ∙ before)
     | inr last ↦
         let same : n ≡ m = omega arith in
@@ -75,8 +75,8 @@ module _ (p : Seal2) where
   pub slot_listed : (n m : ℕ) (slot : Slot2) → slot_numbered n p.slots.now ≡ Some slot → n < m
       → any_item (is_the_string (decimal n)) (items_of (names_below p m)) ≡ true
   slot_listed n m slot is below =
-      let place = listed n m slot is below in
-      any_passes (is_the_string (decimal n)) (names_below p m) (decimal_value n) place.0 place.1 place.2
+      let found = listed n m slot is below in
+      any_passes (is_the_string (decimal n)) (names_below p m) (decimal_value n) found.0 found.1 found.2
       ((bytes_eq-Decides (decimal n) (decimal n)).1 refl)
 
   -- ---- where a slot's area is
@@ -106,32 +106,32 @@ pub record IsFlat (n : ℕ) (d : Data) : Type 0 where
   pub flat : depth d ≤ n
 
 -- what is known of an array's items if all of them are strings
-pub record AreTexts (ds : List Data) : Type 0 where
-  pub texts : all_items is_text (items_of ds) ≡ true
+pub record AreStrings (ds : List Data) : Type 0 where
+  pub strings : all_items is_string (items_of ds) ≡ true
   pub whole : items_have_float (items_of ds) ≡ false
   pub flat : items_depth (items_of ds) ≤ 0
 
-texts_push : (ds : List Data) (text : List ℕ) → AreTexts ds → AreTexts (ds ++ string text ∷ [])
-texts_push [] text are = record { texts = refl; whole = refl; flat = omega arith }
-texts_push (d ∷ ds) text are =
-    let texts = and_parts (is_text d) (all_items is_text (items_of ds)) are.texts in
+strings_push : (ds : List Data) (text : List ℕ) → AreStrings ds → AreStrings (ds ++ string text ∷ [])
+strings_push [] text are = record { strings = refl; whole = refl; flat = omega arith }
+strings_push (d ∷ ds) text are =
+    let strings = and_parts (is_string d) (all_items is_string (items_of ds)) are.strings in
     let whole = or_parts (has_float d) (items_have_float (items_of ds)) are.whole in
-    let before : AreTexts ds = record { texts = texts.1; whole = whole.1; flat = omega (arith, are.flat) } in
-    let later = texts_push ds text before in
+    let before : AreStrings ds = record { strings = strings.1; whole = whole.1; flat = omega (arith, are.flat) } in
+    let later = strings_push ds text before in
     record {
-      texts = rw (texts.0) (later.texts);
+      strings = rw (strings.0) (later.strings);
       whole = rw (whole.0) (later.whole);
       flat = omega (arith, are.flat, later.flat);
     }
 
 -- the numbers of the key slots are listed as strings
-pub names_are : (p : Seal2) (n : ℕ) → AreTexts (names_below p n)
+pub names_are : (p : Seal2) (n : ℕ) → AreStrings (names_below p n)
 unfolding names_below
-names_are p zero = record { texts = refl; whole = refl; flat = omega arith }
+names_are p zero = record { strings = refl; whole = refl; flat = omega arith }
 names_are p (suc n) =
     let before = names_are p n in
-    map_or_has AreTexts (λ (slot : Slot2). names_below p n ++ decimal_value n ∷ []) (names_below p n)
-    (slot_numbered n p.slots.now) before (λ slot. texts_push (names_below p n) (decimal n) before)
+    map_or_has AreStrings (λ (slot : Slot2). names_below p n ++ decimal_value n ∷ []) (names_below p n)
+    (slot_numbered n p.slots.now) before (λ slot. strings_push (names_below p n) (decimal n) before)
 
 -- one more member
 put_flat : (k : List ℕ) (d : Data) (ms : Members) (n : ℕ) → IsFlat n d → IsFlat (suc n) (object ms)
@@ -175,7 +175,7 @@ metadata_flat p =
       flat = omega (arith, names.flat, keyslots.flat, size.flat);
     }
 
--- the text that is written of the metadata is read back
+-- the text that is written from the metadata is read back
 pub text_read : {E : Type 0} (p : Seal2) (text : Result (Vec ℕ Global) E) → IfOk text (λ t. t.items ≡ json_of p)
     → IfOk text (λ t. IsUtf8 t.items) → IfOk text (λ t. read t.items ≡ Some (metadata_of p))
     → IfOk text (λ t. ReadsBack p)

@@ -69,16 +69,16 @@ ends_there false plain image end is = is
 module _ (p : Seal2) (fits : AreParameters2 p) (json : FitsJson p) (back : ReadsBack p) (typed : AreTyped2 p) where
   -- ---- lengths
 
-  pub drawn : (slot : Slot2) → FitsSlot2 (length p.key.now) slot
+  pub random_stripes2 : (slot : Slot2) → FitsSlot2 (length p.key.now) slot
       → AreRandomStripes p.key.now slot.stripes slot.random.now
-  drawn slot of_slot =
-      record { some = of_slot.3; few = of_slot.4; key_most = short_key p fits; len = of_slot.5 }
+  random_stripes2 slot of_slot =
+      record { some = of_slot.3; few = of_slot.4; max_key = short_key p fits; len = of_slot.5 }
 
   -- an area is large enough for its key material
   material2_fits : (slot : Slot2) → FitsSlot2 (length p.key.now) slot
       → length (material2_of p slot) ≤ area_size (length p.key.now) slot.stripes
   material2_fits slot of_slot =
-      let len = length-material slot.af_hash p.key.now slot.stripes slot.random.now (drawn slot of_slot)
+      let len = length-material slot.af_hash p.key.now slot.stripes slot.random.now (random_stripes2 slot of_slot)
       (p.area_mode, area_key_of p slot) in
       omega (arith, len, need_fits (length p.key.now) slot.stripes)
 
@@ -210,7 +210,7 @@ module _ (p : Seal2) (fits : AreParameters2 p) (json : FitsJson p) (back : Reads
     gives2 : GivesKey (parts_of p slot) slot.passphrase.now p.key.now (image2_of p)
     unfolding area_key_of
     gives2 =
-        let random = drawn slot used.fits in
+        let random = random_stripes2 slot used.fits in
         record {
           kdf = slot.hash;
           af = slot.af_hash;

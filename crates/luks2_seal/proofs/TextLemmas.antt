@@ -47,7 +47,7 @@ abbrev pub fixed_size : Bool → ℕ → Option ℕ
 fixed_size true len = Some len
 fixed_size false len = None
 
--- no number is written as the word `dynamic`
+-- no number is written as the string `dynamic`
 not_dynamic : (n : ℕ) → n < 2 ^ 64 → bytes_eq (codes "dynamic") (decimal n) ≡ false
 not_dynamic n small =
     false_from_ne_true (bytes_eq (codes "dynamic") (decimal n)) (λ yes.

@@ -1,5 +1,5 @@
--- What is read of the metadata of a sealed volume of LUKS2: a segment that is not refused, the digest of each key slot,
--- and each key slot with its parts, which there is no reason to skip.
+-- What a reader finds in the metadata of a sealed LUKS2 volume: a segment that is not refused, the digest of each key
+-- slot, and each key slot with its parts, without a reason to skip it.
 use Rattle.std.proofs.Common.{◌≡◌, ◌∙◌, ◌*◌, ◌%◌, ◌<◌, ◌≤◌, ℕ, true, false, Some, None, Ok, length}
 use Rattle.std.proofs.Common.{ap, arith, refl, sym, codes, ◌+◌, le-leb, lt-ltb}
 use Rattle.std.proofs.lemmas.Bool.{eq-eqb, le-ltb}
@@ -97,25 +97,25 @@ need_fits key stripes = omega arith
 module _ (p : Seal2) (fits : AreParameters2 p) (typed : AreTyped2 p) where
   -- ---- the segment: its members
 
-  offset_said : offset_of (segment_object p) ≡ Some p.offset
+  offset_is : offset_of (segment_object p) ≡ Some p.offset
   unfolding segment_object decimal_member string_member
-  offset_said = decimal_read p.offset (omega (arith, fits.offset.1))
+  offset_is = decimal_read p.offset (omega (arith, fits.offset.1))
 
-  size_said : size_member (segment_object p) ≡ Some (fixed_size p.fixed (length p.plain.now))
+  size_is : size_member (segment_object p) ≡ Some (fixed_size p.fixed (length p.plain.now))
   unfolding size_member string_is segment_object decimal_member string_member
-  size_said = size_read p.fixed (length p.plain.now) (omega (arith, fits.plain.1))
+  size_is = size_read p.fixed (length p.plain.now) (omega (arith, fits.plain.1))
 
-  iv_tweak_said : iv_tweak_of (segment_object p) ≡ Some p.iv_tweak
+  iv_tweak_is : iv_tweak_of (segment_object p) ≡ Some p.iv_tweak
   unfolding segment_object decimal_member string_member
-  iv_tweak_said = decimal_read p.iv_tweak typed.iv_tweak
+  iv_tweak_is = decimal_read p.iv_tweak typed.iv_tweak
 
-  sectors_said : sector_size_of (segment_object p) ≡ Some p.sector_size
+  sector_size_is : sector_size_of (segment_object p) ≡ Some p.sector_size
   unfolding sector_size_of segment_object integer_member
-  sectors_said = sector_size_read p.sector_size
+  sector_size_is = sector_size_read p.sector_size
 
-  mode_said : mode2_of (segment_object p) ≡ Some p.mode
+  mode_is : mode2_of (segment_object p) ≡ Some p.mode
   unfolding mode2_of segment_object string_member
-  mode_said = mode_read p.mode
+  mode_is = mode_read p.mode
 
   pub whole : has_whole_sectors (fixed_size p.fixed (length p.plain.now)) p.sector_size ≡ true
   whole = whole_size p.fixed (length p.plain.now) p.sector_size fits.plain.0
@@ -143,36 +143,35 @@ module _ (p : Seal2) (fits : AreParameters2 p) (typed : AreTyped2 p) where
   no_fault : fault2_of (metadata_of p) (bounds_of p) ≡ None
   unfolding fault2_of size_is_wrong is_segment has_segment_members segment_object string_is string_member integer_member
   no_fault =
-      rw (requires_none, is_there, offset_said, size_said, iv_tweak_said, mode_said, sectors_said, starts_right, whole)
-      refl
+      rw (requires_none, is_there, offset_is, size_is, iv_tweak_is, mode_is, sector_size_is, starts_right, whole) refl
 
   -- the segment that is read back is this one, which is not refused
   pub segment_read : segment2_of (metadata_of p) (bounds_of p) ≡ Ok segment_is
   unfolding segment_from segment_parts2_of segment_is
   segment_read =
       segment2-none (metadata_of p) (bounds_of p) segment_is no_fault
-      (rw (is_there, offset_said, size_said, iv_tweak_said, sectors_said, mode_said)
+      (rw (is_there, offset_is, size_is, iv_tweak_is, sector_size_is, mode_is)
       (segment_of_all-yes p.offset (fixed_size p.fixed (length p.plain.now)) p.iv_tweak p.sector_size p.mode whole))
 
   -- ---- the digest: its members
 
-  hash_said : hash_member (digest_object p) ≡ Some p.digest_hash
+  hash_is : hash_member (digest_object p) ≡ Some p.digest_hash
   unfolding hash_member digest_object string_member
-  hash_said = (hash_is_named p.digest_hash).by_name
+  hash_is = (hash_is_named p.digest_hash).by_name
 
-  digest_salt_said : base64_member (codes "salt") (digest_object p) ≡ Some p.digest_salt
+  digest_salt_is : base64_member (codes "salt") (digest_object p) ≡ Some p.digest_salt
   unfolding base64_member digest_object string_member
-  digest_salt_said = base64_read p.digest_salt typed.digest_salt
+  digest_salt_is = base64_read p.digest_salt typed.digest_salt
 
-  value_said : base64_member (codes "digest") (digest_object p) ≡ Some (digest_parts p).value
+  value_is : base64_member (codes "digest") (digest_object p) ≡ Some (digest_parts p).value
   unfolding base64_member digest_object string_member
-  value_said =
+  value_is =
       base64_read _
       (derived_bytes p.digest_hash p.key.now p.digest_salt p.digest_iterations (digest_len p.digest_hash))
 
-  digest_is_said : is_digest2 (digest_object p) ≡ true
+  digest_object_is : is_digest2 (digest_object p) ≡ true
   unfolding is_digest2 has_strings digest_object string_is string_member integer_member
-  digest_is_said = rw ((names_are p 32).texts, hash_said, digest_salt_said, value_said) refl
+  digest_object_is = rw ((names_are p 32).strings, hash_is, digest_salt_is, value_is) refl
 
   -- ---- the digest of the key
 
@@ -190,7 +189,7 @@ module _ (p : Seal2) (fits : AreParameters2 p) (typed : AreTyped2 p) where
   digest_found : digest2_of (digest_object p) ≡ Some digest_is
   unfolding digest2_of digest_is iterations_in salt_in value_in digest_object integer_member
   digest_found =
-      rw (digest_is_said, hash_said, digest_salt_said, value_said) (digest_from-yes (digest_parts p) usable)
+      rw (digest_object_is, hash_is, digest_salt_is, value_is) (digest_from-yes (digest_parts p) usable)
 
   -- the digest is that of the key
   pub of_key : IsDigestOf digest_is p.key.now
@@ -229,59 +228,59 @@ module _ (p : Seal2) (fits : AreParameters2 p) (typed : AreTyped2 p) where
 
     -- ---- a key slot: its members
 
-    start_said : decimal_member (codes "offset") (area_object p slot) ≡ Some (area_start p slot.number)
+    area_offset_is : decimal_member (codes "offset") (area_object p slot) ≡ Some (area_start p slot.number)
     unfolding area_object decimal_member string_member
-    start_said = decimal_read (area_start p slot.number) (omega (arith, ends_before, fits.offset.1))
+    area_offset_is = decimal_read (area_start p slot.number) (omega (arith, ends_before, fits.offset.1))
 
-    length_said : decimal_member (codes "size") (area_object p slot) ≡ Some (area_size (length p.key.now) slot.stripes)
+    area_size_is : decimal_member (codes "size") (area_object p slot) ≡ Some (area_size (length p.key.now) slot.stripes)
     unfolding area_object decimal_member string_member
-    length_said =
+    area_size_is =
         decimal_read (area_size (length p.key.now) slot.stripes) (omega (arith, ends_before, fits.offset.1))
 
-    area_mode_said : area_mode_of (keyslot_object p slot) ≡ Some p.area_mode
+    area_mode_is : area_mode_of (keyslot_object p slot) ≡ Some p.area_mode
     unfolding keyslot_object area_object string_member
-    area_mode_said = mode_read p.area_mode
+    area_mode_is = mode_read p.area_mode
 
-    slot_salt_said : base64_member (codes "salt") (kdf_object slot) ≡ Some slot.salt
+    slot_salt_is : base64_member (codes "salt") (kdf_object slot) ≡ Some slot.salt
     unfolding kdf_object base64_member string_member
-    slot_salt_said = base64_read slot.salt used.typed.salt
+    slot_salt_is = base64_read slot.salt used.typed.salt
 
-    kdf_hash_said : kdf_hash_of (keyslot_object p slot) ≡ Some slot.hash
+    kdf_hash_is : kdf_hash_of (keyslot_object p slot) ≡ Some slot.hash
     unfolding keyslot_object kdf_object hash_member string_member
-    kdf_hash_said = (hash_is_named slot.hash).by_name
+    kdf_hash_is = (hash_is_named slot.hash).by_name
 
-    af_hash_said : af_hash_of (keyslot_object p slot) ≡ Some slot.af_hash
+    af_hash_is : af_hash_of (keyslot_object p slot) ≡ Some slot.af_hash
     unfolding keyslot_object af_object hash_member string_member
-    af_hash_said = (hash_is_named slot.af_hash).by_name
+    af_hash_is = (hash_is_named slot.af_hash).by_name
 
-    priority_said : priority_of (keyslot_object p slot) ≡ Some slot.priority
+    priority_is : priority_of (keyslot_object p slot) ≡ Some slot.priority
     unfolding keyslot_object priority_of integer_member
-    priority_said = rw (le-leb slot.priority 2 used.fits.1) refl
+    priority_is = rw (le-leb slot.priority 2 used.fits.1) refl
 
-    slot_parts_said : slot_parts2_of (keyslot_object p slot) ≡ parts_of p slot
+    slot_parts_are : slot_parts2_of (keyslot_object p slot) ≡ parts_of p slot
     unfolding slot_parts2_of keyslot_object kdf_object area_object af_object integer_member iterations_in salt_in
-    slot_parts_said =
-        rw (priority_said, kdf_hash_said, slot_salt_said, af_hash_said, start_said, length_said, area_mode_said) refl
+    slot_parts_are =
+        rw (priority_is, kdf_hash_is, slot_salt_is, af_hash_is, area_offset_is, area_size_is, area_mode_is) refl
 
-    -- ---- a key slot: its kinds
+    -- ---- a key slot: its types
 
     area_is : is_area (area_object p slot) ≡ true
     unfolding is_area area_object string_is string_member integer_member
-    area_is = rw (start_said, length_said) refl
+    area_is = rw (area_offset_is, area_size_is) refl
 
     kdf_is : is_kdf (kdf_object slot) ≡ true
     unfolding is_kdf is_pbkdf2 kdf_object string_is string_member integer_member
-    kdf_is = rw slot_salt_said refl
+    kdf_is = rw slot_salt_is refl
 
-    members_said : has_members (keyslot_object p slot) ≡ true
+    members_ok : has_members (keyslot_object p slot) ≡ true
     unfolding has_members keyslot_object is_af af_object string_is string_member integer_member
-    members_said = rw (priority_said, area_is, kdf_is) refl
+    members_ok = rw (priority_is, area_is, kdf_is) refl
 
     -- ---- the values that the slot is checked against
 
-    digested : has_no_usable_digest None (digest2_for (metadata_of p) slot.number) ≡ false
+    digest_ok : has_no_usable_digest None (digest2_for (metadata_of p) slot.number) ≡ false
     unfolding has_no_usable_digest digest_is digest_of
-    digested =
+    digest_ok =
         rw digest_read (iterations_fit p.digest_iterations fits.min_digest_iterations typed.digest_iterations)
 
     -- ---- the reasons, one after the other
@@ -290,23 +289,23 @@ module _ (p : Seal2) (fits : AreParameters2 p) (typed : AreTyped2 p) where
     unfolding are_key_sizes is_length_for keyslot_object area_object integer_member segment_is segment_by
     keys_fit =
         let payload = segment2-ok (metadata_of p) (bounds_of p) segment_is segment_read in
-        rw (payload.mode, area_mode_said, fits.keys.0, fits.keys.1) refl
+        rw (payload.mode, area_mode_is, fits.keys.0, fits.keys.1) refl
 
-    striped : stripes_out_of_range (stripe_count_of (keyslot_object p slot)) ≡ false
+    stripes_ok : stripes_out_of_range (stripe_count_of (keyslot_object p slot)) ≡ false
     unfolding keyslot_object af_object integer_member
-    striped = stripes_fit slot.stripes used.fits.3 used.fits.4
+    stripes_ok = stripes_fit slot.stripes used.fits.3 used.fits.4
 
-    counted : iterations_out_of_range None (iterations_of_slot (keyslot_object p slot)) ≡ false
+    iterations_ok : iterations_out_of_range None (iterations_of_slot (keyslot_object p slot)) ≡ false
     unfolding keyslot_object kdf_object iterations_in integer_member
-    counted = iterations_fit slot.iterations used.fits.2 used.typed.iterations
+    iterations_ok = iterations_fit slot.iterations used.fits.2 used.typed.iterations
 
-    area_right : area2_out_of_range (2 * p.hdr_size) (payload2_start (metadata_of p) (bounds_of p))
+    area_ok : area2_out_of_range (2 * p.hdr_size) (payload2_start (metadata_of p) (bounds_of p))
         (keyslot_object p slot) ≡ false
     unfolding area2_out_of_range keyslot_object area_object af_object integer_member segment_is segment_by
-    area_right =
+    area_ok =
         let payload = segment2-ok (metadata_of p) (bounds_of p) segment_is segment_read in
         let need = need_fits (length p.key.now) slot.stripes in
-        rw (payload.start refl, start_said, length_said)
+        rw (payload.start refl, area_offset_is, area_size_is)
         (area_fits (2 * p.hdr_size) p.offset (area_start p slot.number) (area_size (length p.key.now) slot.stripes)
         (need_of (length p.key.now) slot.stripes) (area_after_headers p slot.number) need
         (omega (arith, ends_before, need)) fits.offset.1)
@@ -315,19 +314,19 @@ module _ (p : Seal2) (fits : AreParameters2 p) (typed : AreTyped2 p) where
     no_reasons : reason2_of (metadata_of p) (bounds_of p) None slot.number (keyslot_object p slot) ≡ None
     unfolding reason2_of has_unknown_hash keyslot_object kdf_object string_is string_member
     no_reasons =
-        rw (members_said, kdf_hash_said, af_hash_said, area_mode_said, keys_fit, striped, counted, area_right, digested)
+        rw (members_ok, kdf_hash_is, af_hash_is, area_mode_is, keys_fit, stripes_ok, iterations_ok, area_ok, digest_ok)
         refl
 
-    in_range : are_in_range (slot_parts2_of (keyslot_object p slot)) ≡ true
-    in_range = (slot_there (metadata_of p) (bounds_of p) None slot.number (keyslot_object p slot) no_reasons).2
+    parts_ok : are_in_range (slot_parts2_of (keyslot_object p slot)) ≡ true
+    parts_ok = (slot_there (metadata_of p) (bounds_of p) None slot.number (keyslot_object p slot) no_reasons).2
 
     -- the slot, which has the stated parts and the digest of the key
     pub slot_is : Slot
-    slot_is = slot_of (slot_parts2_of (keyslot_object p slot)) digest_is in_range
+    slot_is = slot_of (slot_parts2_of (keyslot_object p slot)) digest_is parts_ok
 
     pub slot_parts : slot_is.parts ≡ parts_of p slot
     unfolding slot_is slot_of
-    slot_parts = slot_parts_said
+    slot_parts = slot_parts_are
 
     pub slot_digest : slot_is.digest ≡ digest_is
     unfolding slot_is slot_of
@@ -341,5 +340,5 @@ module _ (p : Seal2) (fits : AreParameters2 p) (typed : AreTyped2 p) where
     pub slot_usable : verdict2_at (metadata_of p) (bounds_of p) None slot.number ≡ Some (Usable slot_is)
     unfolding verdict2_at verdict2_of slot2_of slot_is
     slot_usable =
-        rw (there, no_reasons, digest_read, slot_from-yes (slot_parts2_of (keyslot_object p slot)) digest_is in_range)
+        rw (there, no_reasons, digest_read, slot_from-yes (slot_parts2_of (keyslot_object p slot)) digest_is parts_ok)
         refl

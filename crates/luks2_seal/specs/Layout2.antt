@@ -90,7 +90,7 @@ names_below p zero = []
 names_below p (suc n) =
     option_map_or (λ slot. names_below p n ++ decimal_value n ∷ []) (slot_numbered n p.slots.now) (names_below p n)
 
--- the digest of the volume key, which is in all key slots
+-- the digest of the volume key, which all key slots hold
 unfoldable pub digest_object : Seal2 → Data
 digest_object p = object (members ((
   codes "digest",
@@ -137,7 +137,7 @@ metadata_of p = object (members (
     ∷ (codes "tokens", object no_members)
     ∷ []))
 
--- the text, with no space in it
+-- the text, without whitespace
 unfoldable pub json_of : Seal2 → List ℕ
 json_of p = compact_text (metadata_of p)
 

@@ -37,7 +37,7 @@ area_start p (suc number) = area_start p number + area_size_at p number
 unfoldable pub is_header_size : ℕ → Bool
 is_header_size n = list_any (λ size. size == n) sizes
 
--- the payload's key has a length that its mode has, and so have the keys of the areas
+-- the keys of the payload and of the areas have lengths that their modes allow
 abbrev pub FitKeys : Seal2 → Type 0
 FitKeys p = FitsKey p.mode (length p.key.now) × FitsKey p.area_mode p.area_key_size
 
@@ -49,7 +49,7 @@ FitTexts p = FitsText 40 p.uuid.now × FitsText 48 p.label.now × FitsText 48 p.
 abbrev pub FitsPlain2 : ℕ → ℕ → Type 0
 FitsPlain2 sector len = (len % sector ≡ 0) × (len ≤ max_plain_len)
 
--- one slot of a volume whose key has this many bytes
+-- the slot fits a volume whose key has this many bytes
 abbrev pub FitsSlot2 : ℕ → Slot2 → Type 0
 FitsSlot2 key slot = (slot.number ≤ 31) × (slot.priority ≤ 2) × (1 ≤ slot.iterations) × (1 ≤ slot.stripes)
     × (slot.stripes ≤ 4000) × (length slot.random.now ≡ (slot.stripes - 1) * key)

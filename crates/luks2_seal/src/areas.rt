@@ -82,7 +82,7 @@ fn area_key_of(alloc: Global, seal: &Seal2<'_>, slot: &Slot2<'_>) -> Result<Vec<
     )
 }
 
-/// Adds a slot's area.
+/// Appends a slot's area.
 #[tactic(auto, using(crate::proofs::Bounds::bounds), unfolding(crate::specs::Layout2::area_of))]
 fn push_area(
     alloc: Global,
@@ -101,7 +101,7 @@ fn push_area(
     push_padded(alloc, image, &material, size as usize)
 }
 
-/// Adds the area of the slot of this number, if there is one.
+/// Appends the area of the slot of this number, if there is one.
 #[tactic(auto, unfolding(crate::specs::Layout2::area_at))]
 fn push_area_at(
     alloc: Global,
@@ -118,7 +118,7 @@ fn push_area_at(
     }
 }
 
-/// Adds the areas of all slots, by ascending number.
+/// Appends the areas of all slots, by ascending number.
 #[tactic(auto, unfolding(luks_kdf::specs::Bytes::joined))]
 pub(crate) fn push_areas(
     alloc: Global,

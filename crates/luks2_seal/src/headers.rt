@@ -16,7 +16,7 @@ use std::alloc::{AllocError, Global};
 /// The length of the checksum's field in bytes.
 const CHECKSUM: usize = 64;
 
-/// Adds `magic`, `version`, `hdr_size` and `seqid`.
+/// Appends `magic`, `version`, `hdr_size` and `seqid`.
 #[tactic(auto, unfolding(crate::specs::Layout2::start_of))]
 fn push_start(header: &mut Vec<u8>, seal: &Seal2<'_>, magic: &[u8]) -> Result<(), AllocError>
     ensures { OnOk result (header.new.items ≡ header.old.items ++ start_of seal.now magic.now) }
@@ -27,7 +27,7 @@ fn push_start(header: &mut Vec<u8>, seal: &Seal2<'_>, magic: &[u8]) -> Result<()
     header.extend_from_slice(&seal.seqid.to_be_bytes())
 }
 
-/// Adds `label`, `csum_alg` and `salt`.
+/// Appends `label`, `csum_alg` and `salt`.
 #[tactic(auto, unfolding(crate::specs::Layout2::middle_of))]
 fn push_middle(
     alloc: Global,
@@ -42,7 +42,7 @@ fn push_middle(
     header.extend_from_slice(salt)
 }
 
-/// Adds `uuid`, `subsystem` and `hdr_offset`, and the zeros before the checksum.
+/// Appends `uuid`, `subsystem` and `hdr_offset`, and the zeros before the checksum.
 #[tactic(auto, unfolding(crate::specs::Layout2::fields_end_bytes))]
 fn push_end(
     alloc: Global,
@@ -89,16 +89,16 @@ fn body_bytes(alloc: Global, seal: &Seal2<'_>, json: &[u8]) -> Result<Vec<u8>, A
 
 /// The checksum of a header: the hash of all its bytes, with zeros in the checksum's field.
 fn checksum_of(alloc: Global, fields: &[u8], rest: &[u8]) -> Result<Vec<u8>, AllocError>
-    ensures { IfOk result (λ sum. sum.items
+    ensures { IfOk result (λ checksum. checksum.items
         ≡ hash_of Sha256 (fields.now ++ padded 64 [] ++ rest.now)) }
 {
     let zeros = padded(alloc, b"", CHECKSUM)?;
-    let mut sum = vec![in alloc; 0; 32]?;
-    digest(Hash::Sha256, fields, &zeros, rest, &mut sum);
-    Ok(sum)
+    let mut checksum = vec![in alloc; 0; 32]?;
+    digest(Hash::Sha256, fields, &zeros, rest, &mut checksum);
+    Ok(checksum)
 }
 
-/// Adds a header with its JSON area; `rest` is the bytes after the checksum.
+/// Appends a header with its JSON area; `rest` holds the bytes after the checksum.
 #[tactic(auto, unfolding(crate::specs::Layout2::header2_bytes))]
 fn push_header(
     alloc: Global,

@@ -52,7 +52,7 @@ fn image_of(alloc: Global, seal: &Seal2<'_>, json: &[u8]) -> Result<Vec<u8>, All
 /// Makes the image of a volume with the cipher `aes` and PBKDF2 in all its key slots.
 ///
 /// The areas follow one another by ascending slot number, right after both headers. The payload
-/// ends the image. Bytes that are not named are zero.
+/// ends the image. All other bytes are zero.
 ///
 /// # Errors
 ///

@@ -157,8 +157,8 @@ fn keyslot_names(alloc: Global, seal: &Seal2<'_>) -> Result<Vec<Value>, AllocErr
     Ok(names)
 }
 
-/// Puts the digest of the volume key into the object.
-fn put_digest_text(
+/// Puts the value of the volume key's digest into the object.
+fn put_digest_value(
     alloc: Global,
     map: &mut Map<String, Value>,
     seal: &Seal2<'_>,
@@ -189,7 +189,7 @@ fn put_segment_names(alloc: Global, map: &mut Map<String, Value>) -> Result<(), 
     put(map, alloc, "segments", names)
 }
 
-/// The digest of the volume key, which is in all key slots.
+/// The digest of the volume key, which all key slots hold.
 fn digest_object(alloc: Global, seal: &Seal2<'_>) -> Result<Value, AllocError>
     requires { AreParameters2 seal.now }
     ensures { IfOk result (λ value. view value ≡ digest_object seal.now) }
@@ -210,7 +210,7 @@ fn put_digest(
     requires empty { members_view map.old.entries ≡ no_members }
     ensures { OnOk result (object (members_view map.new.entries) ≡ digest_object seal.now) }
 {
-    put_digest_text(alloc, map, seal)?;
+    put_digest_value(alloc, map, seal)?;
     put(
         map,
         alloc,

@@ -16,7 +16,7 @@ static SIZES: [u64; 9] = [
     16_384, 32_768, 65_536, 131_072, 262_144, 524_288, 1_048_576, 2_097_152, 4_194_304,
 ];
 
-/// One of the nine lengths of a header and its JSON area.
+/// The size is one of the nine lengths that a header and its JSON area can have together.
 #[tactic(auto, unfolding(crate::specs::Ranges2::is_header_size, luks2_binary::specs::Header2::sizes))]
 fn is_header_size(size: u64) -> bool
     ensures { result ≡ is_header_size size }
@@ -24,7 +24,7 @@ fn is_header_size(size: u64) -> bool
     SIZES.contains(&size)
 }
 
-/// The keys have lengths that their modes have.
+/// The keys have lengths that their modes allow.
 fn fit_keys(seal: &Seal2<'_>) -> bool
     ensures { IsTrue result ↔ FitKeys seal.now }
 {
@@ -45,7 +45,7 @@ fn fits_plain(sector: SectorSize, len: usize) -> bool
     len % sector.bytes() == 0 && len <= 8_388_608
 }
 
-/// One slot of a volume whose key has this many bytes.
+/// The slot fits a volume whose key has this many bytes.
 fn fits_slot(key: usize, slot: &Slot2<'_>) -> bool
     requires { key ≤ 64 }
     ensures { IsTrue result ↔ FitsSlot2 key slot.now }

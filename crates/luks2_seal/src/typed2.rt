@@ -1,5 +1,5 @@
-//! What the types of the parameters of LUKS2 guarantee for their values: nothing is done here, the
-//! clauses are for proofs.
+//! What the types of the parameters of LUKS2 guarantee for their values. The functions do nothing;
+//! their clauses are for proofs.
 
 ghost use Rattle.luks2_seal.specs.Ranges2.{AreTyped2, IsTypedSlot2};
 ghost use Rattle.std.specs.Prelude.{All};
@@ -11,7 +11,7 @@ use luks_seal::typed::bytes;
 fn slot2(slot: &Slot2<'_>)
     ensures { IsTypedSlot2 slot.now }
 {
-    // Read, so that its range is known.
+    // Reading it makes its range known.
     let _iterations = slot.iterations;
     bytes(&slot.salt);
     bytes(slot.random);
@@ -30,7 +30,7 @@ fn slots2(slots: &[Slot2<'_>])
 pub(crate) fn typed2(seal: &Seal2<'_>)
     ensures { AreTyped2 seal.now }
 {
-    // Read, so that their ranges are known.
+    // Reading them makes their ranges known.
     let _iv_tweak = seal.iv_tweak;
     let _iterations = seal.digest_iterations;
     bytes(seal.key);

@@ -1,5 +1,5 @@
--- What consists of bytes: digests, derived keys, stripes and padded fields. Key material: the stripes of a key in whole
--- sectors, encrypted. And the parameters of volumes.
+-- Values that consist of bytes: digests, derived keys, stripes and padded fields. Key material: the stripes of a key in
+-- whole sectors, encrypted. And the parameters of volumes.
 use Rattle.std.proofs.Common.{ℕ, zero, suc, ◌-◌, List, [], ◌∷◌, ◌++◌, length, replicate, slice_index, arith, ◌≡◌, ◌∙◌}
 use Rattle.std.proofs.Common.{◌+◌, ◌*◌, ◌/◌, ◌<◌, ◌≤◌, refl, sym, ap, length-append, mul-le-mul_right, ◌≢◌, ◌^◌, true}
 use Rattle.std.proofs.Common.{false, Some, None, le-ltb, ne_eqb, codes, Option}
@@ -98,8 +98,8 @@ xor_bytes (x ∷ xs) (y ∷ ys) first second =
 pub stripes_bytes : (hash : Hash) (key : List ℕ) (count : ℕ) (random : List ℕ) → IsBytes key → IsBytes random
     → IsBytes (stripes_of hash key count random)
 unfolding stripes_of
-stripes_bytes hash key count random keys drawn =
-    bytes_append random _ drawn
+stripes_bytes hash key count random keys random_bytes =
+    bytes_append random _ random_bytes
     (xor_bytes (splitter_block hash (length key) random (count - 1)) key
     (chain_bytes hash (length key) random (count - 1)) keys)
 
@@ -142,20 +142,20 @@ whole_sectors_bytes bytes all = padded_bytes (div_ceil (length bytes) 512 * 512)
 pub record AreRandomStripes (key : List ℕ) (count : ℕ) (random : List ℕ) : Type 0 where
   pub some : 1 ≤ count
   pub few : count ≤ 4000
-  pub key_most : length key ≤ 64
+  pub max_key : length key ≤ 64
   pub len : length random ≡ (count - 1) * length key
 
-module _ (af : Hash) (key : List ℕ) (count : ℕ) (random : List ℕ) (drawn : AreRandomStripes key count random) where
+module _ (af : Hash) (key : List ℕ) (count : ℕ) (random : List ℕ) (are_random : AreRandomStripes key count random) where
   -- the stripes of a key have the length of the key times their number
   length-stripes_of : length (stripes_of af key count random) ≡ length key * count
   unfolding stripes_of
   length-stripes_of =
       let chain = splitter_block af (length key) random (count - 1) in
-      let last = length-splitter_block af (length key) random (count - 1) (omega (arith, drawn.len)) in
-      let one_more : count ≡ count - 1 + 1 = omega (arith, drawn.some) in
+      let last = length-splitter_block af (length key) random (count - 1) (omega (arith, are_random.len)) in
+      let one_more : count ≡ count - 1 + 1 = omega (arith, are_random.some) in
       let all : length key * count ≡ (count - 1) * length key + length key =
       ap (λ n. length key * n) one_more ∙ omega arith in
-      omega (arith, all, drawn.len, last, length-append random (xor chain key), length-xor chain key last)
+      omega (arith, all, are_random.len, last, length-append random (xor chain key), length-xor chain key last)
 
   -- encrypted, they are as long as the key material of a slot
   pub length-material : (cipher : Cipher)
@@ -176,8 +176,8 @@ module _ (af : Hash) (key : List ℕ) (count : ℕ) (random : List ℕ) (drawn :
   material_is_stored cipher place image bytes random_bytes found =
       let stripes = stripes_of af key count random in
       let len = length-whole_sectors stripes in
-      let most = mul-le-mul_right {m = length key} {n = 64} count drawn.key_most in
-      let few : length stripes ≤ 256000 = omega (arith, length-stripes_of, most, drawn.few) in
+      let most = mul-le-mul_right {m = length key} {n = 64} count are_random.max_key in
+      let few : length stripes ≤ 256000 = omega (arith, length-stripes_of, most, are_random.few) in
       let same : (i : ℕ) → i < length (sector_padded stripes) / 512 → wrapping_number 0 1 i ≡ i =
       λ i low. omega (arith, len, few) in
       sectors_are_stored cipher 0 1 512 (sector_padded stripes) refl (omega (arith, len)) (λ i. i) same place image
@@ -187,14 +187,14 @@ module _ (af : Hash) (key : List ℕ) (count : ℕ) (random : List ℕ) (drawn :
 pub made_material : (af : Hash) (parts : SlotParts) (key random : List ℕ) → AreRandomStripes key parts.stripes random
     → IsMaterial af parts key (sector_padded (stripes_of af key parts.stripes random))
 unfolding stripes_of need_of sector_padded
-made_material af parts key random drawn =
+made_material af parts key random are_random =
     let stripes = stripes_of af key parts.stripes random in
-    let long = length-stripes_of af key parts.stripes random drawn in
+    let long = length-stripes_of af key parts.stripes random are_random in
     record {
       random = random;
       split = (
         parts.stripes - 1,
-        drawn.len,
+        are_random.len,
         padded_begins (length key * parts.stripes) (div_ceil (length stripes) 512 * 512) stripes (sym long),
       );
       len = length-whole_sectors stripes ∙ ap (λ n. (n + 511) / 512 * 512) long;
@@ -220,7 +220,7 @@ unfolding is_digest
 digest_fits iterations len some few least most =
     rw (iterations_fit iterations some few, le-ltb len min_digest_len least, le-ltb max_digest_len len most) refl
 
--- an area that is after the headers, large enough, before the payload and within what is loaded
+-- an area is in range if it is after the headers, large enough, before the payload and within what is loaded
 pub area_fits : (start payload offset size need : ℕ) → start ≤ offset → need ≤ size → offset + need ≤ payload
     → payload ≤ max_loaded_len → area_out_of_range start (Some payload) offset size need ≡ false
 unfolding area_out_of_range
@@ -232,7 +232,7 @@ area_fits start payload offset size need behind enough before loadable =
       le-ltb max_loaded_len (offset + need) (omega arith),
     ) refl
 
--- a name fills a field of 32 bytes, is read back from it, and is the name of this
+-- the name fits a field of 32 bytes, is read back from it, and names `x`
 pub record IsName {X : Type 0} (named : List ℕ → Option X) (x : X) (name : List ℕ) : Type 0 where
   pub len : length (padded 32 name) ≡ 32
   pub read : text_of (padded 32 name) ≡ name

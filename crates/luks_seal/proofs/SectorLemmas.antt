@@ -139,8 +139,8 @@ module _ (cipher : Cipher) (first step size : ℕ) (plain : List ℕ) (blocks : 
 
 -- ---- an image
 
--- where an image has its parts: the headers are followed by the areas, of which each begins with its key material, and
--- the plaintext is stored from `start` on
+-- where an image has its parts: the areas follow the headers, each area begins with its key material, and the plaintext
+-- is stored from `start` on
 pub record IsImage (image headers : List ℕ) (area : ℕ → List ℕ) (count start : ℕ) (cipher : Cipher) (number : ℕ → ℕ)
     (size : ℕ) (plain : List ℕ) : Type 0 where
   pub len : length image ≡ start + length plain

@@ -1,11 +1,11 @@
--- Key slots, of which no two have the same number, are found by their numbers; and what is made of an optional one.
+-- Key slots with distinct numbers are found by their numbers; and properties of what is found or mapped.
 use Rattle.std.proofs.Common.{◌≡◌, ◌≢◌, ◌==◌, ℕ, zero, suc, Bool, true, false, cond, List, [], ◌∷◌, All, find, Some}
 use Rattle.std.proofs.Common.{slice_index_or, sym, refl, arith, eq-eqb, ne_eqb, Option, None}
 use Rattle.std.proofs.lemmas.List.Elements.{All-head, All-tail}
 use Rattle.luks_seal.specs.Ranges.{AreDistinct}
 use Rattle.std.specs.Option.{option_map_or}
 
--- what holds of no slot, and of each slot that fits, holds of what is found among slots that fit
+-- if `P` holds of `None` and of each slot that fits, it holds of what is found among slots that fit
 pub found_has : {S : Type 0} (Fits : S → Type 0) (P : Option S → Type 0) (test : S → Bool) (slots : List S)
     → All Fits slots → P None → ((slot : S) → Fits slot → P (Some slot)) → P (find test slots)
 found_has Fits P test [] all of_none each = of_none
@@ -24,10 +24,10 @@ found_by_number number (slot ∷ slots) distinct zero d below =
     rw (eq-eqb (number slot) (number slot) refl) refl
 found_by_number number (slot ∷ slots) distinct (suc k) d below =
     let other = slice_index_or slots k d in
-    let apart : number slot ≢ number other = λ same. distinct.0 k d (omega arith) (sym same) in
-    rw (ne_eqb (number slot) (number other) apart) (found_by_number number slots distinct.1 k d (omega arith))
+    let differ : number slot ≢ number other = λ same. distinct.0 k d (omega arith) (sym same) in
+    rw (ne_eqb (number slot) (number other) differ) (found_by_number number slots distinct.1 k d (omega arith))
 
--- what holds of the default, and of each value that is made, holds of what is made from an optional value
+-- if `P` holds of `other` and of each value of `f`, it holds of `option_map_or f o other`
 pub map_or_has : {A B : Type 0} (P : B → Type 0) (f : A → B) (other : B) (o : Option A) → P other
     → ((x : A) → P (f x)) → P (option_map_or f o other)
 map_or_has P f other None of_other each = of_other

@@ -11,9 +11,9 @@ FitsKey mode len = is_mode_key_length mode len ≡ true
 
 -- a text of at most this many bytes, none of them zero
 abbrev pub FitsText : ℕ → List ℕ → Type 0
-FitsText most text = (length text ≤ most) × ((i : ℕ) → i < length text → slice_index text i ≢ 0)
+FitsText max_len text = (length text ≤ max_len) × ((i : ℕ) → i < length text → slice_index text i ≢ 0)
 
--- no two key slots have the same number, where `number` is that of a slot
+-- no two key slots have the same number; `number` gives that of a slot
 abbrev pub AreDistinct : {S : Type 0} → (S → ℕ) → List S → Type 0
 AreDistinct number [] = Unit {0}
 AreDistinct number (slot ∷ slots) = All (λ other. number other ≢ number slot) slots × AreDistinct number slots

@@ -23,8 +23,8 @@ use Rattle.luks_header.specs.HeaderSegment.{segment_of}
 use Rattle.luks_header.specs.SlotVerdicts.{verdict_at}
 use Rattle.luks_header.specs.declared.header.Header.{Header}
 
--- these bytes of plaintext, whole units of `size` bytes, are stored in the image from `place` on: unit i as its
--- encryption under the number `number i`
+-- this plaintext, whole data units of `size` bytes, is stored in the image from `place` on: unit i as its encryption
+-- under the number `number i`
 pub record IsStoredEncrypted (cipher : Cipher) (number : ℕ → ℕ) (size place : ℕ) (plain image : List ℕ) : Type 0 where
   pub bytes : IsBytes plain
   pub whole : length plain % size ≡ 0

@@ -98,7 +98,7 @@ pub struct Seal2<'a> {
 pub struct Slot2<'a> {
     /// Its number, from 0 to 31.
     pub number: u32,
-    /// Its priority: 2 is tried first, then 1, and 0 only by its number.
+    /// Its priority: 2 is tried first, then 1, and 0 only if the slot is chosen by its number.
     pub priority: u32,
     /// The hash function of PBKDF2, which derives its key from the passphrase.
     pub hash: Hash,

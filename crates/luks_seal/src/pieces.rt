@@ -24,7 +24,7 @@ pub fn padded(alloc: Global, bytes: &[u8], capacity: usize) -> Result<Vec<u8>, A
     Ok(all)
 }
 
-/// Adds bytes padded with zeros to this length.
+/// Appends bytes padded with zeros to this length.
 pub fn push_padded(
     alloc: Global,
     image: &mut Vec<u8>,
@@ -46,7 +46,7 @@ pub fn derived_key(
     iterations: u32,
     len: usize,
 ) -> Result<Vec<u8>, AllocError>
-    requires turns { 1 ≤ iterations }
+    requires iterations { 1 ≤ iterations }
     requires some { 1 ≤ len }
     requires capacity { len ≤ 512 }
     ensures { IfOk result (λ key. key.items
@@ -79,7 +79,7 @@ fn wrapping_number(first: u64, step: u64, sector: u64) -> u64
     first.wrapping_add(sector.wrapping_mul(step))
 }
 
-/// Adds a sector, encrypted under this number.
+/// Appends a sector, encrypted under this unit number.
 fn push_sector(
     alloc: Global,
     image: &mut Vec<u8>,

@@ -1,5 +1,5 @@
-//! What the types of parameters guarantee for their values: nothing is done here, the clauses are
-//! for proofs.
+//! What the types of parameters guarantee for their values. The functions do nothing; their clauses
+//! are for proofs.
 
 ghost use Rattle.luks_aes.specs.Bytes.{IsBytes};
 

@@ -1,7 +1,7 @@
 //! The payload of a volume as plain sectors, and whole volumes made for tests.
 //!
-//! This crate has no code of its own. [`Pump`] comes from `luks_payload`, [`seal1`] and [`seal2`]
-//! from the crates of the same names.
+//! This crate has no code of its own. [`Pump`] comes from `luks_payload`, [`seal1`] from
+//! `luks1_seal`, and [`seal2`] from `luks2_seal`.
 #![tactic(auto)]
 
 pub use luks_payload::fault::VolumeFault;

@@ -2,7 +2,7 @@ use Rattle.std.proofs.Common.{◌∙◌, ap, sym}
 use Rattle.luks_verdict.specs.Segment.{segment_from}
 use Rattle.luks_verdict.specs.declared.refusal.SegmentFault.TheVariants.{Requirement, Segments}
 use Rattle.luks2_metadata.specs.Segment2.{made2, segment_parts2_of}
-use Rattle.luks2_metadata.proofs.SlotLemmas.{fault2-requirement, fault2-segments, fault2-there, said-there}
+use Rattle.luks2_metadata.proofs.SlotLemmas.{fault2-requirement, fault2-segments, fault2-there, segment_value-there}
 use Rattle.luks2_metadata.proofs.SlotLemmas.{segment2-fault, segment2-none}
 use Rattle.luks2_metadata.proofs.payload.segment_in.Goals as goal
 use Rattle.serde_json.specs.View.{view}
@@ -29,17 +29,17 @@ pub unreachable-requires : goal.unreachable-requires
 unreachable-requires c =
     let there = fault2-there (view c.args.tree.now) c.args.bounds (view c.in-Some.segment.now)
     (cc) (sym c.in-Some.ensures) in
-    let said = said-there (view c.args.tree.now) (view c.in-Some.segment.now) (sym c.in-Some.ensures) in
+    let value = segment_value-there (view c.args.tree.now) (view c.in-Some.segment.now) (sym c.in-Some.ensures) in
     made2 (view c.args.tree.now) c.args.bounds (there ∙ (sym c.fault.ensures ∙ c.in_default-fault.is))
-    (ap (λ segment. segment_from (segment_parts2_of segment)) said
+    (ap (λ segment. segment_from (segment_parts2_of segment)) value
     ∙ (ap segment_from (sym c.parts.ensures) ∙ (sym c.from_parts.ensures ∙ c.in-None.is)))
 
 pub returns : goal.returns
 returns c =
     let there = fault2-there (view c.args.tree.now) c.args.bounds (view c.in-Some.segment.now)
     (cc) (sym c.in-Some.ensures) in
-    let said = said-there (view c.args.tree.now) (view c.in-Some.segment.now) (sym c.in-Some.ensures) in
+    let value = segment_value-there (view c.args.tree.now) (view c.in-Some.segment.now) (sym c.in-Some.ensures) in
     sym (segment2-none (view c.args.tree.now) c.args.bounds c.in-Some-from_parts.segment
     (there ∙ (sym c.fault.ensures ∙ c.in_default-fault.is))
-    (ap (λ segment. segment_from (segment_parts2_of segment)) said
+    (ap (λ segment. segment_from (segment_parts2_of segment)) value
     ∙ (ap segment_from (sym c.parts.ensures) ∙ (sym c.from_parts.ensures ∙ c.in-Some-from_parts.is))))

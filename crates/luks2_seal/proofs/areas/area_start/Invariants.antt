@@ -2,7 +2,7 @@ use Rattle.std.proofs.Common.{◌≡◌, ◌+◌, ◌*◌, ◌≤◌}
 use Rattle.luks2_seal.specs.Ranges2.{area_start}
 use Rattle.luks2_seal.proofs.areas.area_start.Given as goal
 
--- the areas so far are added
+-- the lengths of the areas so far are added
 abbrev pub invariant-slots : goal.invariant-slots
 invariant-slots l = record {
   value : l.start ≡ area_start l.seal l.lower;

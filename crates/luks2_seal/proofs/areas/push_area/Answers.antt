@@ -5,7 +5,7 @@ use Rattle.luks_seal.specs.Pieces.{padded}
 use Rattle.luks2_seal.specs.Layout2.{area_key_of, area_of}
 use Rattle.luks2_seal.proofs.areas.push_area.Goals as goal
 
--- the key of an area has the length that is set
+-- the key of an area has the length `area_key_size`
 pub encrypted_material-requires : goal.encrypted_material-requires
 unfolding area_key_of
 encrypted_material-requires c =
@@ -20,5 +20,5 @@ unfolding area_of
 returns c =
     let is : padded c.area_size-size.result c.deref-3.result.now ≡ area_of c.args.seal.now c.args.slot.now =
     cc (c.in_ok-area_key.ensures, c.in_ok-stripes.ensures, c.in_ok-material.ensures) in
-    on_ok_weaker c.push_padded.result (λ adds. adds ∙ ap (λ a. c.args.image.now.items ++ a) is)
+    on_ok_weaker c.push_padded.result (λ appended. appended ∙ ap (λ a. c.args.image.now.items ++ a) is)
     c.push_padded.ensures

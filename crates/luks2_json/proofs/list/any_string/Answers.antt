@@ -3,7 +3,7 @@ use Rattle.std.proofs.lemmas.Iterator.{YieldsList-from_slice}
 use Rattle.std.proofs.lemmas.Iterator.Search.{any_from_yields_List}
 use Rattle.luks2_json.specs.List.{is_the_string}
 use Rattle.luks2_json.proofs.NumberedLemmas.{list_any-items}
-use Rattle.luks2_json.proofs.list.any_text.Goals as goal
+use Rattle.luks2_json.proofs.list.any_string.Goals as goal
 use Rattle.serde_json.specs.View.{view}
 
 pub returns : goal.returns
