@@ -33,7 +33,7 @@ ZSH_WORDS = $(DESTDIR)$(ZSH_FUNCTIONS)
 LIBRARIES = $(DESTDIR)$(PREFIX)/lib
 HEADERS = $(DESTDIR)$(PREFIX)/include
 CFLAGS ?= -O2
-# of the library: its file, and the two names that lead to it
+# the library's file, and the two names that lead to it
 SHARED_NAMES = libluksrd.so.$(VERSION) libluksrd.so.$(INTERFACE) libluksrd.so
 
 .PHONY: all demo check scripts program-scripts c-scripts tool-scripts test bench library nbdkit toolchain built

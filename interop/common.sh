@@ -7,7 +7,7 @@
 no_key='luksrd: no key opens the volume
 2'
 
-# sums WORD..: the checksum of the output of a run, its status and its message
+# sums ARGUMENT..: the checksum of the output of a run, its status and its message
 sums() {
     "$program" "$@" 2>message | sha256sum
     echo "${PIPESTATUS[0]} $(cat message)"
@@ -19,7 +19,7 @@ sum_of() {
     echo "$2 ${3-}"
 }
 
-# theirs1 WORD..: cryptsetup's dump of a LUKS1 header, by its luksDump with these arguments, in the lines of luksrd's dump
+# theirs1 ARGUMENT..: cryptsetup's dump of a LUKS1 header, by its luksDump with these arguments, in the lines of luksrd's dump
 theirs1() {
     cryptsetup luksDump "$@" | tr '\t' ' ' | awk '
         function rest(n,   s, i) { s = ""; for (i = n; i <= NF; i++) s = s $i; return s }
@@ -49,7 +49,7 @@ theirs1() {
         END { flush() }'
 }
 
-# theirs2 PLACE SIZE WORD..: the dump of a LUKS2 header as luksrd words it, made from what cryptsetup's luksDump prints with these arguments
+# theirs2 ROLE SIZE ARGUMENT..: the dump of a LUKS2 header as luksrd words it, made from what cryptsetup's luksDump prints with these arguments
 theirs2() {
     local place=$1 size=$2
     shift 2

@@ -13,7 +13,7 @@ in_area='luksrd: image ends inside the header or a key area'
 of_luks1=(--type luks1 --pbkdf-force-iterations 1000 --key-file pass)
 of_luks2=(--type luks2 --luks2-metadata-size 16k --luks2-keyslots-size 1m --pbkdf pbkdf2 --pbkdf-force-iterations 1000 --key-file pass)
 
-# quietly WORD..: cryptsetup with these arguments; its messages are shown if it fails
+# quietly ARGUMENT..: cryptsetup with these arguments; its messages are shown if it fails
 quietly() {
     cryptsetup -q "$@" >err 2>&1 || { cat err >&2; exit 1; }
 }
@@ -296,7 +296,7 @@ same 'a header that stands apart, without being said to' "$(told luksCat --key-f
 cp "$image2" image
 cp "$image2.header" header
 : >in
-# refused INPUT WORD..: these arguments are refused, since this input is missing
+# refused INPUT ARGUMENT..: these arguments are refused, since this input is missing
 refused() {
     local missing=$1
     shift

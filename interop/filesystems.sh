@@ -24,7 +24,7 @@ checked() {
     echo $?
 }
 
-# grub IMAGE WORD..: GRUB's reader over an image, which asks for the passphrase if the image is a volume; it has no terminal, so it reads standard input
+# grub IMAGE ARGUMENT..: GRUB's reader over an image, which asks for the passphrase if the image is a volume; it has no terminal, so it reads standard input
 grub() {
     setsid -w grub-fstest -C "$work/$1" "${@:2}" <line >err 2>&1
     echo $?

@@ -11,7 +11,7 @@ format() {
     cryptsetup -q luksFormat --type luks2 --key-file pass "$@" "$image" 2>err || { cat err; exit 1; }
 }
 
-# agree IMAGE PLACE SIZE: luksrd reports the same about the image as cryptsetup
+# agree IMAGE ROLE SIZE: luksrd reports the same about the image as cryptsetup
 agree() {
     same "$1: isLuks" "$(told isLuks "$1")" 0
     same "$1: luksUUID" "$(told luksUUID "$1")" "$(cryptsetup luksUUID "$1")

@@ -19,7 +19,7 @@ served() {
     timeout 60 nbdkit -U - "$plugin" "${@:2}" --run "$1" >said 2>&1
 }
 
-# compared WAY NAME WORD PARAMETER..: the problems that the clients of this way find, compared with the text; nbdkit's own messages are in the file said
+# compared WAY NAME ARGUMENT PARAMETER..: the problems that the clients of this way find, compared with the text; nbdkit's own messages are in the file said
 compared() {
     served "/usr/bin/python3 '$here/clients.py' $1 \"\$uri\" text '$3' >answer" "${@:4}"
     same "$2: status" $? 0
@@ -59,7 +59,7 @@ opens() {
     same "$1: what is served" "$(sha256sum <copy)" "$(sha256sum <text)"
 }
 
-# quietly WORD..: cryptsetup with these arguments; its messages are shown if it fails
+# quietly ARGUMENT..: cryptsetup with these arguments; its messages are shown if it fails
 quietly() {
     cryptsetup -q "$@" >err 2>&1 || { cat err >&2; exit 1; }
 }
@@ -283,7 +283,7 @@ else
 fi
 
 # out of memory: it ends with a message, not by a signal. With too little memory for nbdkit alone, nbdkit ends by one.
-# within MIB WORD..: runs nbdkit with these arguments in MIB MiB of address space
+# within MIB ARGUMENT..: runs nbdkit with these arguments in MIB MiB of address space
 within() {
     (ulimit -v $(($1 * 1024)); exec timeout 60 nbdkit -U - "${@:2}" --run true) >said 2>&1
 }
@@ -301,7 +301,7 @@ same 'with more memory' $((mib < 300)) 1
 same 'memory that is refused' $((refusals > 0)) 1
 
 # The plugin's C under valgrind, and under AddressSanitizer with undefined behaviour: whole reads, ranges, an image that ends and refusals.
-# instrumented NAME PLUGIN WORD..: nbdkit with these arguments, with the plugin of this build
+# instrumented NAME PLUGIN ARGUMENT..: nbdkit with these arguments, with the plugin of this build
 instrumented() {
     local name=$1 plugin=$2 key
     shift 2

@@ -1,5 +1,5 @@
 #!/usr/bin/env bash
-# Shows volumes that the library seals to cryptsetup and qemu-img, which open and read them as luksrd does. The second argument is the program
+# Checks that cryptsetup and qemu-img open and read volumes that the library seals, as luksrd does. The second argument is the program
 # that seals them, `luksrd_tools`.
 tools=$(realpath "${2:?the program that seals volumes}")
 # shellcheck source=interop/common.sh
@@ -14,7 +14,7 @@ decrypted() {
     tail -c +$((start + 1)) "$1" >copy
     python3 - header <<'PYTHON'
 import hashlib, json, sys
-# The same header for a payload that begins with its file: the segment's offset is 0, and the checksums are recomputed.
+# The same header for a payload at the start of its file: the segment's offset is 0, and the checksums are recomputed.
 bytes_ = bytearray(open(sys.argv[1], 'rb').read())
 size = int.from_bytes(bytes_[8:16], 'big')
 for place in (0, size):

@@ -28,7 +28,7 @@ opens() {
     same "$1: a wrong passphrase" "$(told luksCat --key-file wrong "$1")" "$no_key"
 }
 
-# damage IMAGE PLACE: changes the byte of the image at this offset
+# damage IMAGE OFFSET: changes the byte of the image at this offset
 damage() {
     printf 'X' | dd of="$1" bs=1 seek="$2" conv=notrunc status=none
 }

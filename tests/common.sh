@@ -40,7 +40,7 @@ same() {
     fi
 }
 
-# told WORD..: the message of a run without output and its status; any output is shown
+# told ARGUMENT..: the message of a run without output and its status; any output is shown
 told() {
     "$program" "$@" 2>&1
     echo $?
@@ -61,7 +61,7 @@ sealed_by_qemu() {
     exit 1
 }
 
-# run WORD..: the program with these arguments, with standard input from the file in
+# run ARGUMENT..: the program with these arguments, with standard input from the file in
 run() {
     "$program" "$@" <in >out 2>err
     echo $? >status
@@ -79,7 +79,7 @@ usage: luksrd isLuks [--header FILE] IMAGE
 TEXT
 )
 
-# scarce HEX WORD..: with less memory than a run with these arguments needs, it reports that and writes nothing; otherwise it writes these bytes
+# scarce HEX ARGUMENT..: with less memory than a run with these arguments needs, it reports that and writes nothing; otherwise it writes these bytes
 scarce() {
     local output=$1 refused=0 kib
     shift

@@ -15,7 +15,7 @@ head -c $held volume >header
 printf 'another one' >wrong
 : >in
 
-# into NAME MESSAGE FILE WORD..: a run that writes into a file or a device ends with this message and leaves it unchanged
+# into NAME MESSAGE FILE ARGUMENT..: a run that writes into a file or a device ends with this message and leaves it unchanged
 into() {
     local name=$1 message=$2 file=$3 before
     shift 3
@@ -27,7 +27,7 @@ into() {
     same "$name: what it writes into" "$(sha256sum <"$file")" "$before"
 }
 
-# onto NAME MESSAGE FILE WORD..: the same for a file, and for a run that appends to it
+# onto NAME MESSAGE FILE ARGUMENT..: the same for a file, and for a run that appends to it
 onto() {
     local name=$1 message=$2 file=$3 before
     into "$@"
@@ -131,7 +131,7 @@ expect 'no standard input, and none needed' 0 "$plain" ''
 "$program" luksCat --key-file pass --header header volume <&- >out 2>err
 echo $? >status
 expect 'no standard input, and none needed beside a header' 0 "$plain" ''
-# closed WORD..: a run with a closed standard output
+# closed ARGUMENT..: a run with a closed standard output
 closed() {
     : >out
     "$program" "$@" <in >&- 2>err
@@ -160,7 +160,7 @@ same 'none at all, and none needed' "$("$program" isLuks volume <&- >&- 2>&-; ec
 
 # bytes of a pipe that are not needed stay in it
 mkfifo pipe
-# taken BYTES WORD..: a run over a named pipe, into which an image and more are written, consumes this number of its bytes
+# taken BYTES ARGUMENT..: a run over a named pipe, into which an image and more are written, consumes this number of its bytes
 piped=volume
 taken() {
     local count=$1 writer
@@ -265,7 +265,7 @@ done
 make -s -C "$sources" uninstall DESTDIR="$work/a folder" PREFIX=/usr PROGRAM="$program"
 same 'what is left of it' "$(find 'a folder' -type f)" ''
 
-# traced CALL FILE HOW WORD..: a run in which the calls on a file are tampered with
+# traced CALL FILE HOW ARGUMENT..: a run in which the calls on a file are tampered with
 traced() {
     local call=$1 file=$2 how=$3
     shift 3

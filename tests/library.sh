@@ -7,7 +7,7 @@ shared=$(realpath "${3:?the same as a shared one}")
 # shellcheck source=tests/common.sh
 . "$(dirname "$0")/common.sh"
 
-# compiled NAME WORD..: the program in C, with these arguments for the compiler
+# compiled NAME ARGUMENT..: the program in C, with these arguments for the compiler
 compiled() {
     gcc -std=c11 -D_GNU_SOURCE -Wall -Wextra -Werror -O1 -g -o "$1" "$sources/tests/library.c" "${@:2}" -lpthread || exit 1
 }
@@ -19,7 +19,7 @@ export PKG_CONFIG_PATH=$work/installed/lib/pkgconfig LD_LIBRARY_PATH=$work/insta
 read -ra words <<<"$(pkg-config --cflags --libs luksrd)"
 compiled shared "${words[@]}"
 
-# reads NAME IMAGE HEADER KEY WORD..: the program with these arguments has the output and the messages of luksCat
+# reads NAME IMAGE HEADER KEY ARGUMENT..: the program with these arguments has the output and the messages of luksCat
 reads() {
     local name=$1 status
     "${@:5}" "$2" "$3" "$4" >given 2>said

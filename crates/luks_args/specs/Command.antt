@@ -31,8 +31,8 @@ abbrev pub header_file_in : List Row → Option Text
 header_file_in rows = text_in (codes "header") rows
 
 -- the hash function that `--hash` names
-unfoldable pub hash_in : List Row → Option Hash
-hash_in rows = text_in (codes "hash") rows >>= hash_named
+unfoldable pub hash_option : List Row → Option Hash
+hash_option rows = text_in (codes "hash") rows >>= hash_named
 
 -- the number of `--stripes`
 unfoldable pub stripes_in : List Row → Option ℕ
@@ -70,7 +70,7 @@ volume_args_in rows = do
 
 abbrev pub split_args_in : List Row → Option SplitRequest
 split_args_in rows = do
-  hash ← hash_in rows
+  hash ← hash_option rows
   stripes ← stripes_in rows
   random ← text_in (codes "random") rows
   key ← input_in rows
@@ -78,7 +78,7 @@ split_args_in rows = do
 
 abbrev pub merge_args_in : List Row → Option MergeRequest
 merge_args_in rows = do
-  hash ← hash_in rows
+  hash ← hash_option rows
   stripes ← stripes_in rows
   key_bytes ← key_bytes_in rows
   stripes_file ← input_in rows
@@ -112,8 +112,8 @@ unfoldable pub subcommand_in : List Text → Option (Text × List Row)
 subcommand_in words = unless_faulty (fault_of luksrd words) (subcommand_of luksrd words)
 
 -- the request of the arguments after the program's name, if they are a luksrd command and do not reuse standard input
-abbrev pub request_of_words : List Text → Option Request
-request_of_words words = do
+abbrev pub request_of_args : List Text → Option Request
+request_of_args words = do
   found ← subcommand_in words
   request ← request_in found
   (if reuses_stdin request then None else Some request)

@@ -10,15 +10,15 @@ use Rattle.clap.specs.declared.builder.Command.TheViews.{out-Command}
 abbrev pub option : Text → Bool → Rule
 option name is_required = record (new_rule name) { long = Some name; required = is_required }
 
--- the option may not be left out
+-- a required option
 abbrev pub required : Text → Rule
 required name = option name true
 
--- the option may be left out
+-- an option that may be left out
 abbrev pub optional : Text → Rule
 optional name = option name false
 
--- the input, which belongs to no option and may not be left out
+-- the input, which belongs to no option and is required
 abbrev pub input : Rule
 input = record (new_rule (codes "input")) { required = true }
 

@@ -152,7 +152,7 @@ fn option<'a>(alloc: Global, name: &'a str, is_required: bool) -> Arg<'a>
     Arg::new(alloc, name).long(name).required(is_required)
 }
 
-// The input, which belongs to no option and may not be left out.
+// The input, which belongs to no option and is required.
 fn input<'a>(alloc: Global) -> Arg<'a>
     ensures rule { rule_of result ≡ input }
     ensures local { result.global ≡ false }

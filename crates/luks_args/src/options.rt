@@ -2,7 +2,7 @@
 
 ghost use Rattle.std.specs.Prelude.{◌≡◌, option_map};
 ghost use Rattle.clap.specs.Words.{found_of, rows_of};
-ghost use Rattle.luks_args.specs.Command.{hash_in, key_bytes_in, key_slot_in};
+ghost use Rattle.luks_args.specs.Command.{hash_option, key_bytes_in, key_slot_in};
 ghost use Rattle.luks_args.specs.Command.{max_iterations_in};
 ghost use Rattle.luks_args.specs.Command.{stripes_in, text_in};
 
@@ -19,9 +19,9 @@ pub(super) fn text<'a>(options: &ArgMatches<'a>, name: &str) -> Option<&'a str>
 }
 
 // The hash function that `--hash` names.
-#[tactic(auto, unfolding(crate::specs::Command::hash_in))]
+#[tactic(auto, unfolding(crate::specs::Command::hash_option))]
 pub(super) fn hash(options: &ArgMatches<'_>) -> Option<Hash>
-    ensures { result ≡ hash_in (rows_of (found_of options.now)) }
+    ensures { result ≡ hash_option (rows_of (found_of options.now)) }
 {
     Hash::from_name(text(options, "hash")?)
 }

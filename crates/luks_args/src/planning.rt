@@ -2,7 +2,7 @@
 
 ghost use Rattle.std.specs.Prelude.{◌≡◌, IfOk, None, Some, map, option_map, option_and_then};
 ghost use Rattle.clap.specs.Words.{found_of, kind_of, rows_of, subcommand_rows_of};
-ghost use Rattle.luks_args.specs.Command.{request_of_words, fault_for, header_request_in};
+ghost use Rattle.luks_args.specs.Command.{request_of_args, fault_for, header_request_in};
 ghost use Rattle.luks_args.specs.Command.{merge_args_in};
 ghost use Rattle.luks_args.specs.Command.{volume_args_in, header_args_in, request_in};
 ghost use Rattle.luks_args.specs.Command.{split_args_in, subcommand_in};
@@ -47,16 +47,16 @@ impl From<clap::Error> for PlanFault {
     }
 }
 
-/// The command that the arguments after the program's name ask for.
+/// The command that the arguments after the program's name request.
 ///
 /// # Errors
 ///
 /// `Usage` if they are not a luksrd command, also if there are none; `Memory` if memory ran out.
 pub fn plan<'a, S: AsStr>(alloc: Global, words: &'a [S]) -> Result<Command<'a>, PlanFault>
     ensures ok { IfOk result (λ command.
-        request_of_words (map S.text words.entry.now) ≡ Some (request_of command)) }
+        request_of_args (map S.text words.entry.now) ≡ Some (request_of command)) }
     ensures usage { result ≡ Err PlanFault.Usage
-        → request_of_words (map S.text words.entry.now) ≡ None }
+        → request_of_args (map S.text words.entry.now) ≡ None }
 {
     let matches = matches_of(alloc, words)?;
     match read(&matches) {

@@ -1,4 +1,4 @@
--- Texts of a header as they are printed, and the lines of them. All bytes but visible ASCII and spaces are escaped, and
+-- Texts of a header as they are printed, and their lines. All bytes but visible ASCII and spaces are escaped, and
 -- so is the backslash.
 use Rattle.std.specs.Prelude.{ℕ, ◌&&◌, ◌∷◌, ◌++◌, [], List, codes, flat_map, if◌then◌else◌, nat_le, not, Bool, ◌==◌}
 use Rattle.hex.specs.Hex.{encode_lower}

@@ -109,7 +109,7 @@ status_of FewStripes = 4
 status_of ReadFailed = 6
 status_of WriteFailed = 6
 
--- what `luksCheck` prints of a header: its findings, or that there are none
+-- what `luksCheck` prints for a header: its findings, or that there are none
 unfoldable pub check_of : Header → List ℕ
 check_of header = if length (findings_of header) == 0 then codes "clean" ++ 10 ∷ [] else findings_of header
 

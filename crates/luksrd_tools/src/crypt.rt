@@ -29,8 +29,8 @@ enum Way {
     Decrypt,
 }
 
-fn way_of(word: &str) -> Option<Way> {
-    match word {
+fn way_of(name: &str) -> Option<Way> {
+    match name {
         "encrypt" => Some(Way::Encrypt),
         "decrypt" => Some(Way::Decrypt),
         _ => None,
@@ -66,15 +66,15 @@ fn time<R: Runtime>(rt: &R, mode: Mode, way: Way, length: usize, count: u64) -> 
     eprintln!(rt; "{total} {elapsed} {left}")
 }
 
-/// Encrypts or decrypts as these words request.
-pub fn run(rt: &HostRuntime, mut words: Args) -> io::Result<()> {
-    let Some(mode) = words.next() else {
+/// Encrypts or decrypts as these arguments request.
+pub fn run(rt: &HostRuntime, mut args: Args) -> io::Result<()> {
+    let Some(mode) = args.next() else {
         return Ok(());
     };
     let mode = Mode::from_name(&mode);
-    let way = words.next();
-    let length = words.next();
-    let count = words.next();
+    let way = args.next();
+    let length = args.next();
+    let count = args.next();
     match (mode, way, length, count) {
         (Some(mode), Some(way), Some(length), Some(count)) => {
             match (way_of(&way), length.parse(), count.parse()) {

@@ -35,17 +35,17 @@ impl<'a> fmt::Display for Hex<'a> {
     }
 }
 
-/// Derives and measures as these words request.
-pub fn run(rt: &HostRuntime, mut words: Args) -> io::Result<()> {
-    let (Some(way), Some(name), Some(number)) = (words.next(), words.next(), words.next()) else {
+/// Derives and measures as these arguments request.
+pub fn run(rt: &HostRuntime, mut args: Args) -> io::Result<()> {
+    let (Some(way), Some(name), Some(number)) = (args.next(), args.next(), args.next()) else {
         return Ok(());
     };
     let Some(hash) = Hash::from_name(name.as_str()) else {
         return Ok(());
     };
     let iterations = number.as_str().parse::<u32>().unwrap_or(0);
-    for word in words {
-        let length = word.as_str().parse::<usize>().unwrap_or(0);
+    for arg in args {
+        let length = arg.as_str().parse::<usize>().unwrap_or(0);
         if iterations > 0 && length > 0 && length <= MAX_KEY {
             measure(rt, way.as_str(), hash, iterations, length)?;
         }

@@ -14,15 +14,15 @@ use std::{env, io};
 use usage::print_usage;
 
 fn main(rt: HostRuntime) -> io::Result<ExitCode> {
-    let mut words = env::args(&rt)?;
-    let _program = words.next();
-    let Some(tool) = words.next() else {
+    let mut args = env::args(&rt)?;
+    let _program = args.next();
+    let Some(tool) = args.next() else {
         return Ok(ExitCode::SUCCESS);
     };
     match tool.as_str() {
-        "derive" => derive::run(&rt, words)?,
-        "crypt" => crypt::run(&rt, words)?,
-        "seal" => seal::run(&rt, words)?,
+        "derive" => derive::run(&rt, args)?,
+        "crypt" => crypt::run(&rt, args)?,
+        "seal" => seal::run(&rt, args)?,
         _ => {
             print_usage(&rt, "derive|crypt|seal ..")?;
             return Ok(ExitCode::FAILURE);

@@ -37,8 +37,8 @@ fn counting(alloc: Global, first: usize, len: usize) -> Result<Vec<u8>, AllocErr
     Ok(bytes)
 }
 
-fn sector_size_of(word: &str) -> Option<SectorSize> {
-    match word {
+fn sector_size_of(text: &str) -> Option<SectorSize> {
+    match text {
         "512" => Some(SectorSize::B512),
         "1024" => Some(SectorSize::B1024),
         "2048" => Some(SectorSize::B2048),
@@ -140,13 +140,13 @@ fn volume(alloc: Global, format: &str, mode: &str, sector: &str) -> Result<Vec<u
     }
 }
 
-/// Writes the volume that these words request.
-pub fn run(rt: &HostRuntime, mut words: Args) -> io::Result<()> {
-    let Some(format) = words.next() else {
+/// Writes the volume that these arguments request.
+pub fn run(rt: &HostRuntime, mut args: Args) -> io::Result<()> {
+    let Some(format) = args.next() else {
         return Ok(());
     };
-    let mode = words.next();
-    let sector = words.next();
+    let mode = args.next();
+    let sector = args.next();
     match (mode, sector) {
         (Some(mode), Some(sector)) => match volume(rt.alloc(), &format, &mode, &sector) {
             Ok(image) => rt.stdout().write_all(&image),

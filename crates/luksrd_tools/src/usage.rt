@@ -2,7 +2,7 @@
 
 use std::io;
 
-/// Prints the arguments that a tool takes to standard error.
+/// Prints to standard error which arguments a tool takes.
 pub fn print_usage(rt: &HostRuntime, arguments: &str) -> io::Result<()> {
     eprintln!(rt; "usage: luksrd_tools {arguments}")
 }
