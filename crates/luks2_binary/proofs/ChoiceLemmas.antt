@@ -7,7 +7,7 @@ use Rattle.std.proofs.lemmas.Option.{option_and_then_some}
 use Rattle.luks_kdf.specs.declared.hash.Hash.{Hash}
 use Rattle.luks_area.specs.declared.fault.HeaderFault.{HeaderFault}
 use Rattle.luks_area.specs.declared.fault.HeaderFault.TheVariants.{NotLuks}
-use Rattle.luks_area.proofs.FieldLemmas.{at_beginning}
+use Rattle.luks_area.proofs.FieldLemmas.{at_prefix}
 use Rattle.luks_area.specs.Fields.{text_of}
 use Rattle.luks2_binary.specs.Choice2.{with_valid_primary, binary_at, chosen2_of, found_at, header2_of, is_valid}
 use Rattle.luks2_binary.specs.Choice2.{least_valid, size_at}
@@ -286,13 +286,13 @@ pub read_attached : (image : List ℕ) (header : Header2) → header2_of image �
 read_attached image header is = (located image header is).1.attached
 
 -- the bytes that were read to choose a header have its JSON text: its JSON area ends within them
-pub json_beginning : (image : List ℕ) (header : Header2) → header2_of image ≡ Ok header
+pub json_prefix : (image : List ℕ) (header : Header2) → header2_of image ≡ Ok header
     → json_text_of (take (header2_read_len image) image) header ≡ json_text_of image header
 unfolding header2_read_len json_text_of json_area_of
-json_beginning image header is =
+json_prefix image header is =
     let it = located image header is in
     let range = valid_range image it.0 it.1.valid in
     let whole = valid_parts image it.0 it.1.valid in
     let place = header_offset header.role header.size + binary_len in
-    ap text_of (at_beginning place (header.size - binary_len) (header2_read_len image) image
+    ap text_of (at_prefix place (header.size - binary_len) (header2_read_len image) image
     (omega (arith, range.1, it.1.here, it.1.size, it.1.probed, whole.1)))

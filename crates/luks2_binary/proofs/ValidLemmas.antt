@@ -8,10 +8,10 @@ use Rattle.std.proofs.lemmas.Bool.{and_parts, leb-true, eqb-true, le-leb, lt-leb
 use Rattle.std.proofs.lemmas.Bool.Decides.{nat_tests}
 use Rattle.luks_area.specs.Area.{HeaderAreaModel}
 use Rattle.luks_area.specs.Fields.{at}
-use Rattle.luks_area.proofs.FieldLemmas.{at_beginning}
+use Rattle.luks_area.proofs.FieldLemmas.{at_prefix}
 use Rattle.luks2_binary.specs.Choice2.{binary_at, fits, is_binary_of, is_valid, size_at, found_at, is_tried}
 use Rattle.luks2_binary.specs.Choice2.{least_valid}
-use Rattle.luks2_binary.specs.ReadLen2.{probe_end, greatest, search_len}
+use Rattle.luks2_binary.specs.ReadLen2.{probe_end, max_of, search_len}
 use Rattle.luks2_binary.specs.Header2.{size_in, sizes, header2_from}
 use Rattle.luks2_binary.specs.Reading2.{IsPrefixOf, valid_size}
 use Rattle.std.proofs.Math.Seq.{drop-cons}
@@ -106,7 +106,7 @@ module _ (loaded : List ℕ) (ended : Bool) (image : List ℕ) (prefix : IsPrefi
   -- loaded bytes are the image's
   pub at-prefix : (place n : ℕ) → place + n ≤ length loaded → at place n loaded ≡ at place n image
   at-prefix place n within =
-      ap (λ l. at place n l) (sym prefix.begins) ∙ at_beginning place n (length loaded) image within
+      ap (λ l. at place n l) (sym prefix.begins) ∙ at_prefix place n (length loaded) image within
 
   -- if a binary header's length is loaded, a header fits the loaded bytes if and only if it fits the image
   pub fits-prefix : (place : ℕ) → place + 4096 ≤ length loaded → fits loaded place ≡ fits image place
@@ -219,7 +219,7 @@ module _ (valid : ℕ → Bool) (probe : ℕ → ℕ) where
 
   -- the walk reads as far as the definition states
   abbrev pub IsOne : Type 0
-  IsOne = furthest valid probe sizes ≡ greatest (map probe (filter tried sizes))
+  IsOne = furthest valid probe sizes ≡ max_of (map probe (filter tried sizes))
 
   -- for each offset that is the first valid one, and for none
   one_by : (a b c d e f g h i : Bool) → valid 16384 ≡ a → valid 32768 ≡ b → valid 65536 ≡ c → valid 131072 ≡ d

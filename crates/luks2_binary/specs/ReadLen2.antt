@@ -9,13 +9,13 @@ unfoldable pub probe_end : List ℕ → ℕ → ℕ
 probe_end image place = max (place + binary_len) (if fits image place then place + size_at image place else 0)
 
 -- the maximum of some numbers
-abbrev pub greatest : List ℕ → ℕ
-greatest [] = 0
-greatest (number ∷ numbers) = max number (greatest numbers)
+abbrev pub max_of : List ℕ → ℕ
+max_of [] = 0
+max_of (number ∷ numbers) = max number (max_of numbers)
 
 -- the end of the bytes that are read to check the offsets that the search tries
 unfoldable pub search_len : List ℕ → ℕ
-search_len image = greatest (map (probe_end image) (filter (is_tried image) sizes))
+search_len image = max_of (map (probe_end image) (filter (is_tried image) sizes))
 
 -- the end of the bytes that are read of an image that is long enough: both headers if the primary one is valid, and
 -- otherwise the image's start and each offset that the search tries

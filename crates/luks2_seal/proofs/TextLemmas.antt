@@ -14,9 +14,8 @@ use Rattle.serde_json.specs.Data.{member, no_members, object}
 use Rattle.luks_aes.specs.Bytes.{IsBytes}
 use Rattle.luks_cipher.specs.Sector.{mode_name}
 use Rattle.luks_cipher.specs.declared.mode.Mode.{Mode}
-use Rattle.luks_verdict.specs.SectorSize.{has_whole_sectors, bytes_of, sector_size_with}
+use Rattle.luks_verdict.specs.SectorSize.{has_whole_sectors, bytes_of}
 use Rattle.luks_verdict.specs.declared.sector_size.SectorSize.{SectorSize}
-use Rattle.luks_verdict.specs.declared.sector_size.SectorSize.TheVariants.{B512}
 use Rattle.luks2_json.specs.Member.{decimal_of, decimal_member, encryption_mode, string_is, string_member}
 use Rattle.luks2_json.proofs.EncodedLemmas.{numerals}
 use Rattle.luks2_metadata.specs.Segment2.{size_member}
@@ -59,10 +58,6 @@ pub size_read : (fixed : Bool) (len : ℕ) → len < 2 ^ 64
 unfolding size_member string_is decimal_member string_member
 size_read true len small = rw (not_dynamic len small, decimal_read len small) refl
 size_read false len small = refl
-
-pub sector_size_read : (size : SectorSize) → sector_size_with (bytes_of size) ≡ Some size
-sector_size_read B512 = refl
-sector_size_read _ = refl
 
 pub whole_size : (fixed : Bool) (len : ℕ) (size : SectorSize) → len % bytes_of size ≡ 0
     → has_whole_sectors (fixed_size fixed len) size ≡ true

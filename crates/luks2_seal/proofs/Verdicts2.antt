@@ -7,6 +7,7 @@ use Rattle.luks_verdict.specs.SectorSize.{has_whole_sectors}
 use Rattle.luks_verdict.specs.Segment.{segment_by, segment_from}
 use Rattle.luks_verdict.specs.declared.segment.Segment.{Segment}
 use Rattle.luks_verdict.proofs.MadeLemmas.{segment_of_all-yes, digest_from-yes, slot_from-yes}
+use Rattle.luks_verdict.proofs.SectorLemmas.{sector_size_again}
 use Rattle.luks2_json.specs.Member.{decimal_member, string_is, string_member, integer_member, base64_member}
 use Rattle.luks2_json.specs.Member.{hash_member, iterations_in, salt_in, is_length_for}
 use Rattle.luks2_metadata.specs.Segment2.{fault2_of, has_requirement, has_segment_members, is_segment, size_is_wrong}
@@ -20,8 +21,7 @@ use Rattle.luks2_seal.specs.Layout2.{area_object, kdf_object, keyslot_object}
 use Rattle.luks2_seal.specs.Ranges2.{AreParameters2, FitsSlot2, AreTyped2, IsTypedSlot2, slot_numbered, area_size}
 use Rattle.luks2_seal.specs.Ranges2.{area_start, area_size_at, Seal2, Slot2}
 use Rattle.luks2_seal.proofs.MetadataLemmas.{area_after_headers, names_are, slot_listed, keyslot_found, area_before}
-use Rattle.luks2_seal.proofs.TextLemmas.{fixed_size, decimal_read, mode_read, base64_read, sector_size_read, size_read}
-use Rattle.luks2_seal.proofs.TextLemmas.{whole_size}
+use Rattle.luks2_seal.proofs.TextLemmas.{fixed_size, decimal_read, mode_read, base64_read, size_read, whole_size}
 use Rattle.std.proofs.lemmas.Fmt.{decimal_digit}
 use Rattle.luks_kdf.specs.Hash.{digest_len}
 use Rattle.luks_kdf.specs.Pbkdf2.{derived_key}
@@ -111,7 +111,7 @@ module _ (p : Seal2) (fits : AreParameters2 p) (typed : AreTyped2 p) where
 
   sector_size_is : sector_size_of (segment_object p) ≡ Some p.sector_size
   unfolding sector_size_of segment_object integer_member
-  sector_size_is = sector_size_read p.sector_size
+  sector_size_is = sector_size_again p.sector_size
 
   mode_is : mode2_of (segment_object p) ≡ Some p.mode
   unfolding mode2_of segment_object string_member
@@ -181,7 +181,7 @@ module _ (p : Seal2) (fits : AreParameters2 p) (typed : AreTyped2 p) where
       (digest_len p.digest_hash) in
       let size = digest_sizes p.digest_hash in
       digest_fits p.digest_iterations _ fits.min_digest_iterations typed.digest_iterations
-      (omega (arith, len, size.least)) (omega (arith, len, size.greatest))
+      (omega (arith, len, size.min_len)) (omega (arith, len, size.max_len))
 
   unfoldable pub digest_is : KeyDigest
   digest_is = digest_of (digest_parts p) usable

@@ -20,7 +20,7 @@ use Rattle.luks_runs.proofs.PayloadLemmas.{joined_length, plain_len, sector_size
 use Rattle.luks_access.specs.Sectors.{AreStored, IsRangeOf, ReadsRange, plain_at, plain_in, plaintext_len, sector_in}
 use Rattle.luks_access.specs.declared.fault.RangeFault.{RangeFault}
 use Rattle.luks_access.specs.declared.fault.RangeFault.TheVariants.{PastEnd, Read, Shorter}
-use Rattle.luks_area.proofs.FieldLemmas.{at_beginning}
+use Rattle.luks_area.proofs.FieldLemmas.{at_prefix}
 
 -- ---- joined pieces
 
@@ -87,7 +87,7 @@ module _ (s : Segment) (cipher : Cipher) (image : List ℕ) where
       let same : sector_start s first + j * sector_len s ≡ sector_start s (first + j) = omega arith in
       ap (unit_plain cipher (unit_number s (first + j)))
       (sym (ap (λ l. take (sector_len s) (drop (j * sector_len s) l)) is
-      ∙ at_beginning (j * sector_len s) (sector_len s) (length stored) (drop (sector_start s first) image)
+      ∙ at_prefix (j * sector_len s) (sector_len s) (length stored) (drop (sector_start s first) image)
       (one_more_fits j (length stored) (sector_len s) low)
       ∙ ap (take (sector_len s)) (drop-drop (j * sector_len s) (sector_start s first) image
       ∙ ap (λ k. drop k image) same)))
@@ -126,7 +126,7 @@ pub part_read : (plain unit bytes : List ℕ) (offset skip n : ℕ) → IsRangeO
 part_read plain unit bytes offset skip n whole before inside long are =
     let count : skip + n - skip ≡ length bytes = omega arith in
     are ∙ (ap (λ k. take k (drop skip unit)) count ∙ (ap (λ l. take (length bytes) (drop skip l)) whole
-    ∙ (at_beginning skip (length bytes) (length unit) (drop (offset - skip) plain) (omega arith)
+    ∙ (at_prefix skip (length bytes) (length unit) (drop (offset - skip) plain) (omega arith)
     ∙ ap (take (length bytes)) (drop-drop skip (offset - skip) plain ∙ ap (λ k. drop k plain) (omega arith)))))
 
 -- a plaintext is as long as all whole sectors of the payload

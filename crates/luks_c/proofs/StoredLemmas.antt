@@ -10,21 +10,15 @@ use Rattle.luks_cipher.specs.Sector.{Cipher, is_mode_key_length}
 use Rattle.luks_cipher.specs.declared.mode.Mode.{Mode}
 use Rattle.luks_cipher.specs.declared.mode.Mode.TheVariants.{XtsPlain64, XtsPlain, CbcEssivSha256, CbcPlain64}
 use Rattle.luks_verdict.proofs.MadeLemmas.{segment_made}
+use Rattle.luks_verdict.proofs.SectorLemmas.{sector_size_again}
 use Rattle.luks_verdict.specs.Segment.{segment_from}
 use Rattle.luks_verdict.specs.SectorSize.{HasWholeSectors, has_whole_sectors, bytes_of, sector_size_with}
 use Rattle.luks_verdict.specs.declared.sector_size.SectorSize.{SectorSize}
-use Rattle.luks_verdict.specs.declared.sector_size.SectorSize.TheVariants.{B512, B1024, B2048, B4096}
 use Rattle.luks_verdict.specs.declared.segment.Segment.{Segment}
 use Rattle.luks_payload.specs.Plain.{sector_len, payload_bytes}
 use Rattle.luks_c.specs.Stored.{decrypt_code, range_code, segment_code, Stores, cipher_in, has_size_of, mode_in}
 use Rattle.luks_c.specs.Stored.{mode_number, segment_in, size_stored_in}
 use Rattle.luks_c.specs.declared.volume.LuksrdVolume.{LuksrdVolume}
-
-pub size_again : (size : SectorSize) → sector_size_with (bytes_of size) ≡ Some size
-size_again B512 = refl
-size_again B1024 = refl
-size_again B2048 = refl
-size_again B4096 = refl
 
 pub mode_again : (mode : Mode) → mode_in (mode_number mode) ≡ Some mode
 mode_again XtsPlain64 = refl
@@ -39,7 +33,7 @@ whole_are (Some bytes) z whole = ap (λ n. n == 0) (whole bytes refl)
 
 module _ (c : LuksrdVolume) (v : UnlockedVolume) (stored : Stores c v) where
   pub stored_sector : sector_size_with c.sector_size ≡ Some v.segment.sector_size
-  stored_sector = ap sector_size_with stored.sector_size ∙ size_again v.segment.sector_size
+  stored_sector = ap sector_size_with stored.sector_size ∙ sector_size_again v.segment.sector_size
 
   stored_mode : mode_in c.mode ≡ Some v.segment.mode
   stored_mode = ap mode_in stored.mode ∙ mode_again v.segment.mode

@@ -22,7 +22,7 @@ use Rattle.luks_unlock.specs.Volume.{unlock_read_len, volume_by, ConsumedMateria
 use Rattle.luks_request.specs.declared.command.SlotChoice.{SlotChoice}
 use Rattle.luks_runs.specs.Run.{RunMatches, result_message}
 use Rattle.luks_runs.proofs.RunLemmas.{aborted_unwritten, header_read_len_within}
-use Rattle.luks_io.proofs.EffectLemmas.{adds-none, consumed-none}
+use Rattle.luks_io.proofs.EffectLemmas.{appended-none, consumed-none}
 use Rattle.luks_io.specs.Devices.{Appended, ConsumedExactly}
 use Rattle.luks_runs.specs.KeyFile.{NoKeyFileRead, max_key_file_len}
 use Rattle.luks_cli.specs.CommandRun.{ConsumesLoaded, CountsOpening, PromptForwarding, UnlockEffect, Unlocks, PromptCat}
@@ -36,7 +36,7 @@ use Rattle.luks_report.specs.declared.message.Message.TheVariants.{KeyFileLength
 use Rattle.luks_report.specs.declared.message.Message.TheVariants.{Done}
 use Rattle.std.proofs.Math.Nat.{zero-div}
 use Rattle.luks_header.proofs.KnownLemmas.{is_attached}
-use Rattle.luks_open.proofs.CallerLemmas.{key_areas_before_payload, work_beginning}
+use Rattle.luks_open.proofs.CallerLemmas.{key_areas_before_payload, work_prefix}
 use Rattle.luks_payload.specs.Plain.{sector_len}
 
 -- ---- promptness: how much of the image a run on a volume consumed before it was aborted
@@ -194,7 +194,7 @@ module _ (location : HeaderLocation) (slots : SlotChoice) (image pass : List ℕ
     runs_without_volume message only stop whole =
         let unread = consumed-none pass s whole in
         rw (outcome_is location slots image pass on_opened (Err message) stop.0) (record
-        { as_specified = refl; input = stop.1; payload = refl; secret = unread; output = adds-none w })
+        { as_specified = refl; input = stop.1; payload = refl; secret = unread; output = appended-none w })
 
   -- the header names this segment and these key slots to be tried
   module _ (header : Header) (segment : Segment) (order : OrderModel) (found : reader_for location image ≡ Ok header)
@@ -220,7 +220,7 @@ module _ (location : HeaderLocation) (slots : SlotChoice) (image pass : List ℕ
         → NoKeyFileRead pass s message → ConsumedExactly image i (header_read_len image) → Matches on_opened message
     runs_without_secret on_opened consumes KeyFileLength stop rest =
         rw (outcome_found on_opened, found_long on_opened slots.named volume image pass stop.0) (record
-        { as_specified = refl; input = rest; payload = refl; secret = stop.1; output = adds-none w })
+        { as_specified = refl; input = rest; payload = refl; secret = stop.1; output = appended-none w })
     runs_without_secret on_opened consumes OutOfMemory stop rest =
         let within = found_within on_opened slots.named volume image pass consumes in
         rw (outcome_found on_opened) (aborted_unwritten (header_read_len image) stop.0 refl
@@ -279,7 +279,7 @@ module _ (location : HeaderLocation) (slots : SlotChoice) (image pass : List ℕ
         runs_unopened fault tried on_opened =
             let loaded = area_loaded image area area' i (key_material_end order.entries) prefix grows enough in
             rw (outcome_tried (Err fault) tried on_opened)
-            (record { as_specified = refl; input = loaded.3; payload = refl; secret = read; output = adds-none w })
+            (record { as_specified = refl; input = loaded.3; payload = refl; secret = read; output = appended-none w })
 
     -- the volume was not opened
     pub runs_without_key : (area area' : List ℕ) → area ≡ take (header_read_len image) image → (on_opened : OnOpened)
@@ -292,7 +292,7 @@ module _ (location : HeaderLocation) (slots : SlotChoice) (image pass : List ℕ
     runs_without_key area area' prefix on_opened consumes message (inl (short, read, inr (grows, inl cut))) =
         let ends = area_cut image area area' i (key_material_end order.entries) prefix grows cut.1 in
         rw cut.0 (rw (outcome_found on_opened, found_cut on_opened slots.named volume image pass short ends.0) (record
-        { as_specified = refl; input = ends.1; payload = refl; secret = read; output = adds-none w }))
+        { as_specified = refl; input = ends.1; payload = refl; secret = read; output = appended-none w }))
     runs_without_key area area' prefix on_opened consumes message (inl (short, read, inr (grows, inr none))) =
         rw none.1 (runs_unopened short read area area' prefix grows none.2 none.0 none.3 on_opened)
     runs_without_key area area' prefix on_opened consumes message (inr none) =
@@ -315,7 +315,7 @@ module _ (location : HeaderLocation) (slots : SlotChoice) (image pass : List ℕ
           volume_is location slots image header segment order found is_segment ordered,
           counted ∙ ap (λ (cost : ℕ). capped (work + cost))
               (ap (λ (bytes : List ℕ). work_of order bytes pass) begins.1
-              ∙ work_beginning order begins.0 image pass loaded),
+              ∙ work_prefix order begins.0 image pass loaded),
         )
     counts_opening area area' prefix result effect work work' (inr (untried, same)) = inr (inr untried, same)
 

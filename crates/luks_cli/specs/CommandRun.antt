@@ -183,9 +183,9 @@ pub record Change (T : Type 0) : Type 0 where
 
 -- if the inputs of a command know their bytes, and the image is not too long to be counted, the run has the outcome
 -- that is specified for those bytes, or was aborted on the way to it
-abbrev pub RunsAsStated : Request → Message → Change (Option (List ℕ)) → Change (Option (List ℕ))
+abbrev pub RunsAsSpecified : Request → Message → Change (Option (List ℕ)) → Change (Option (List ℕ))
     → Change (Option (List ℕ)) → Type 0
-RunsAsStated request message image secret written =
+RunsAsSpecified request message image secret written =
     IfKnown image.before
     (λ known. (known_secret : List ℕ) → KnowsSecret request secret.before known_secret → IsCounted request known
     → RunMatches (promptness_of Attached request known) (outcome_of request known known_secret) message

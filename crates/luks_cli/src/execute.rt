@@ -5,7 +5,7 @@ ghost use Rattle.luks_header.specs.Header.{header_of};
 ghost use Rattle.luks_request.specs.Request.{has_header_file, request_of};
 ghost use Rattle.luks_runs.specs.Run.{result_message};
 ghost use Rattle.luks_cli.specs.CommandRun.{CountsCalls, CountsWork, NeedsNoSecret};
-ghost use Rattle.luks_cli.specs.CommandRun.{ReadsFirst, ReadsImage, RunsAsStated, WritesPlain};
+ghost use Rattle.luks_cli.specs.CommandRun.{ReadsFirst, ReadsImage, RunsAsSpecified, WritesPlain};
 ghost use Rattle.luks_cli.specs.CommandRun.{MayReport};
 
 pub use detached::execute_detached;
@@ -60,7 +60,7 @@ pub fn execute<I: Source, K: Source, O: Sink>(
     out: &mut O,
 ) -> Report
     requires attached { has_header_file (request_of command.now) ≡ false }
-    ensures run { RunsAsStated (request_of command.now) result.message
+    ensures run { RunsAsSpecified (request_of command.now) result.message
         (record { before = I.to_come image.old; after = I.to_come image.new })
         (record { before = K.to_come secret.old; after = K.to_come secret.new })
         (record { before = O.written out.old; after = O.written out.new })

@@ -21,7 +21,7 @@ use Rattle.luks1_header.specs.Slot1.{payload1_start}
 use Rattle.luks2_binary.specs.Choice2.{header2_of}
 use Rattle.luks2_binary.specs.Text2.{json_text_of}
 use Rattle.luks2_binary.specs.declared.header.Header2.{Header2}
-use Rattle.luks2_binary.proofs.ChoiceLemmas.{read_attached, json_beginning, probe_some}
+use Rattle.luks2_binary.proofs.ChoiceLemmas.{read_attached, json_prefix, probe_some}
 use Rattle.luks2_json.specs.Member.{is_length_for}
 use Rattle.luks2_json.specs.Tree.{tree_of}
 use Rattle.serde_json.specs.Data.{Data}
@@ -298,7 +298,7 @@ module _ (image : List ℕ) (old new : HeaderAreaModel) (other : is_luks1 image 
   header_loaded header tree (found, long) read =
       let text : json_text_of new.bytes header ≡ json_text_of image header =
       ap (λ bytes. json_text_of bytes header) (sym prefix.begins ∙ ap (λ n. take n image) long)
-      ∙ json_beginning image header found in
+      ∙ json_prefix image header found in
       header_other image other (Ok header) found ∙ ap (with_metadata header) (ap tree_of (sym text) ∙ read)
 
   -- a header and its JSON text were read

@@ -57,13 +57,13 @@ consumed-all known left count all is =
     }
 
 -- if nothing is written, the sink does not change
-pub adds-none : (before : Option (List ℕ)) → Appended before before []
-adds-none before known is = is ∙ ap Some (sym (append-nil known))
+pub appended-none : (before : Option (List ℕ)) → Appended before before []
+appended-none before known is = is ∙ ap Some (sym (append-nil known))
 
 -- some bytes were written, and then others
-pub adds-more : (before now after : Option (List ℕ)) (xs ys : List ℕ) → Appended before now xs → Appended now after ys
-    → Appended before after (xs ++ ys)
-adds-more before now after xs ys first second known is = second (known ++ xs) (first known is)
+pub appended-more : (before now after : Option (List ℕ)) (xs ys : List ℕ)
+    → Appended before now xs → Appended now after ys → Appended before after (xs ++ ys)
+appended-more before now after xs ys first second known is = second (known ++ xs) (first known is)
     ∙ ap Some (append_assoc known xs ys)
 
 -- ---- the steps of loops

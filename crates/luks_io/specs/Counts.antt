@@ -132,9 +132,9 @@ max_read requested allowed capacity = max requested (min allowed capacity)
 -- buffered and `requested` is not 0, at most `max_read` bytes of it are consumed, and a failure leaves what is buffered
 pub record ReadsAhead {S E : Type 0} (requested : ℕ) (answer : Result ℕ E) (before after : ReadAheadModel S) : Type 0
   where
-  pub alone : (before.buffered ≢ []) ⊎ (requested ≡ 0) → after.source ≡ before.source
-  pub buffered : before.buffered ≢ [] → IfOk answer (λ count. count ≡ min requested (length before.buffered))
-  pub most : IfOk answer (λ count. count + length after.buffered
-      ≤ length before.buffered + max_read requested (read_ahead_remaining before) before.capacity)
-  pub kept : IsErr answer → after.buffered ≡ before.buffered
-  pub capacity : after.capacity ≡ before.capacity
+    pub alone : (before.buffered ≢ []) ⊎ (requested ≡ 0) → after.source ≡ before.source
+    pub buffered : before.buffered ≢ [] → IfOk answer (λ count. count ≡ min requested (length before.buffered))
+    pub most : IfOk answer (λ count. count + length after.buffered
+        ≤ length before.buffered + max_read requested (read_ahead_remaining before) before.capacity)
+    pub kept : IsErr answer → after.buffered ≡ before.buffered
+    pub capacity : after.capacity ≡ before.capacity

@@ -42,7 +42,7 @@ pub length-diffused : (h : Hash) (block : List ℕ) → length (diffused h block
 length-diffused h block =
     let size = digest_len h in
     ap length (diffused_is h block) ∙ length-filled (hashed_piece h block) size (length-hashed_piece h block size refl)
-    (length block) (omega (arith, (digest_sizes h).least))
+    (length block) (omega (arith, (digest_sizes h).min_len))
 
 -- what a piece of the block is diffused to
 pub diffused_part : (h : Hash) (block part new : List ℕ) (size j : ℕ) → size ≡ digest_len h
@@ -138,27 +138,27 @@ merged_split h random key stripes some split =
     ∙ (merged_push h len random (xor d key) split.0 some split.1 length_last ∙ xor-undone d key length_d)
 
 -- the value of a splitter after one more stripe
-pub chain_more : (h : Hash) (len : ℕ) (stripes : List ℕ) (i : ℕ) (chain : AfSplitterModel) (stripe : List ℕ)
-    → chain ≡ splitter_after h len stripes i → stripe ≡ stripe_at len stripes i
-    → splitter_with chain stripe ≡ splitter_after h len stripes (i + 1)
+pub splitter_more : (h : Hash) (len : ℕ) (stripes : List ℕ) (i : ℕ) (splitter : AfSplitterModel) (stripe : List ℕ)
+    → splitter ≡ splitter_after h len stripes i → stripe ≡ stripe_at len stripes i
+    → splitter_with splitter stripe ≡ splitter_after h len stripes (i + 1)
 unfolding splitter_block
-chain_more h len stripes i chain stripe is_chain is_stripe =
-    rw add-one (ap₂ (λ (c : AfSplitterModel) (s : List ℕ). splitter_with c s) is_chain is_stripe)
+splitter_more h len stripes i splitter stripe is_splitter is_stripe =
+    rw add-one (ap₂ (λ (c : AfSplitterModel) (s : List ℕ). splitter_with c s) is_splitter is_stripe)
 
 -- the value of a splitter before any stripe
-pub chain_start : (h : Hash) (len : ℕ) (stripes : List ℕ) (chain : AfSplitterModel)
-    → chain ≡ record { hash = h; block = replicate len 0 } → chain ≡ splitter_after h len stripes 0
+pub splitter_start : (h : Hash) (len : ℕ) (stripes : List ℕ) (splitter : AfSplitterModel)
+    → splitter ≡ record { hash = h; block = replicate len 0 } → splitter ≡ splitter_after h len stripes 0
 unfolding splitter_block
-chain_start h len stripes chain start = start
+splitter_start h len stripes splitter start = start
 
 -- the value of a splitter after a stripe that is appended to those before it
-pub chain_push : (h : Hash) (len : ℕ) (before stripe : List ℕ) (i : ℕ) (chain : AfSplitterModel)
-    → length before ≡ i * len → length stripe ≡ len → chain ≡ splitter_after h len before i
-    → splitter_with chain stripe ≡ splitter_after h len (before ++ stripe) (i + 1)
-chain_push h len before stripe i chain whole one is_chain =
+pub splitter_push : (h : Hash) (len : ℕ) (before stripe : List ℕ) (i : ℕ) (splitter : AfSplitterModel)
+    → length before ≡ i * len → length stripe ≡ len → splitter ≡ splitter_after h len before i
+    → splitter_with splitter stripe ≡ splitter_after h len (before ++ stripe) (i + 1)
+splitter_push h len before stripe i splitter whole one is_splitter =
     let with_block : List ℕ → AfSplitterModel = λ block. record { hash = h; block = block } in
     let longer = ap with_block (sym (splitter_block-append h len before stripe i (omega arith))) in
-    chain_more h len (before ++ stripe) i chain stripe (is_chain ∙ longer)
+    splitter_more h len (before ++ stripe) i splitter stripe (is_splitter ∙ longer)
     (sym (stripe_at-last len before stripe i whole one))
 
 -- if some bytes and one more stripe are n stripes, those bytes are a whole number of stripes

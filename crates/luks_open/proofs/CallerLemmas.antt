@@ -13,7 +13,7 @@ use Rattle.luks_kdf.specs.Pbkdf2.{derived_key, capped}
 use Rattle.luks_kdf.specs.Stripes.{merged}
 use Rattle.luks_kdf.specs.declared.hash.Hash.{Hash}
 use Rattle.luks_area.specs.Area.{max_loaded_len}
-use Rattle.luks_area.proofs.FieldLemmas.{at_beginning}
+use Rattle.luks_area.proofs.FieldLemmas.{at_prefix}
 use Rattle.luks_cipher.specs.Sector.{Cipher, is_mode_key_length, sector_decrypted}
 use Rattle.luks_cipher.specs.declared.mode.Mode.{Mode}
 use Rattle.luks_cipher.proofs.ModeLemmas.{key_length_of_mode}
@@ -27,7 +27,7 @@ use Rattle.luks_verdict.specs.declared.slot.Slot.{Slot}
 use Rattle.luks_verdict.specs.declared.slot.Verdict.{Verdict}
 use Rattle.luks_verdict.specs.declared.slot.Verdict.TheVariants.{Usable}
 use Rattle.luks_verdict.specs.declared.slot.VerdictKind.TheVariants.{Usable as KindUsable}
-use Rattle.luks_verdict.proofs.MadeLemmas.{usable_from_open}
+use Rattle.luks_verdict.proofs.MadeLemmas.{usable_from_kind}
 use Rattle.luks_verdict.proofs.TableLemmas.{AllByRecursion-append, All-ascending}
 use Rattle.luks_header.specs.Header.{is_detached}
 use Rattle.luks_header.specs.HeaderSegment.{segment_of}
@@ -114,7 +114,7 @@ pub usable_there : (header : Header) (limit : Option ℕ) (priority number : ℕ
     → option_map verdict_kind_of (verdict_at header limit number) ≡ Some (KindUsable priority)
     → IsSome (tried_with header limit priority number)
 usable_there header limit priority number is =
-    let usable = usable_from_open (verdict_at header limit number) priority is in
+    let usable = usable_from_kind (verdict_at header limit number) priority is in
     rw (usable.1, eq-eqb usable.0.parts.priority priority usable.2) refl
 
 -- an entry that is there if a test holds is this entry
@@ -223,22 +223,22 @@ key_areas_before_payload header segment named limit order attached is_segment is
     before_payload header segment limit entry.number entry.slot attached is_segment is.usable))
 
 -- key material that ends at or before offset n gives the same key from the first n bytes alone
-recovered_beginning : (af : Hash) (cipher : Cipher) (image : List ℕ) (offset key_bytes stripes n : ℕ)
+recovered_prefix : (af : Hash) (cipher : Cipher) (image : List ℕ) (offset key_bytes stripes n : ℕ)
     → offset + need_of key_bytes stripes ≤ n → recovered af cipher (take n image) offset key_bytes stripes
     ≡ recovered af cipher image offset key_bytes stripes
 unfolding recovered decrypted_material
-recovered_beginning af cipher image offset key_bytes stripes n before =
+recovered_prefix af cipher image offset key_bytes stripes n before =
     let sectors : (i : ℕ) → i < need_of key_bytes stripes / 512
     → material_sector cipher (take n image) offset i ≡ material_sector cipher image offset i =
-    λ i below. ap (sector_decrypted cipher.0 cipher.1 i) (at_beginning (offset + 512 * i) 512 n image (omega arith)) in
+    λ i below. ap (sector_decrypted cipher.0 cipher.1 i) (at_prefix (offset + 512 * i) 512 n image (omega arith)) in
     ap (λ material. merged af key_bytes (take (key_bytes * stripes) material))
     (joined_same _ _ (need_of key_bytes stripes / 512) sectors)
 
 -- a key slot whose key material ends at or before offset n gives the same volume key from the first n bytes alone
-key_beginning : (entry : Entry) (n : ℕ) (image pass : List ℕ) → material_end entry.slot ≤ n
+key_prefix : (entry : Entry) (n : ℕ) (image pass : List ℕ) → material_end entry.slot ≤ n
     → slot_key entry (take n image) pass ≡ slot_key entry image pass
 unfolding slot_key candidate_of
-key_beginning entry n image pass before =
+key_prefix entry n image pass before =
     let parts = entry.slot.parts in
     ap (if_matches_digest entry.slot.digest) (of_read parts.kdf_hash parts.af_hash parts.area_mode)
   where
@@ -247,16 +247,16 @@ key_beginning entry n image pass before =
         ≡ candidate_by kdf af mode entry.slot.parts image pass
     of_read (Some kdf) (Some af) (Some mode) =
         let parts = entry.slot.parts in
-        ap Some (recovered_beginning af
+        ap Some (recovered_prefix af
         (mode, derived_key kdf pass parts.salt parts.iterations parts.area_key_bytes) image
         parts.area_offset parts.key_bytes parts.stripes n before)
     of_read _ _ _ = refl
 
 -- the bytes of the image after the key material do not change what a passphrase opens
-pub opening_beginning : (order : OrderModel) (n : ℕ) (image pass : List ℕ) → key_material_end order.entries ≤ n
+pub opening_prefix : (order : OrderModel) (n : ℕ) (image pass : List ℕ) → key_material_end order.entries ≤ n
     → opening_of order (take n image) pass ≡ opening_of order image pass
 unfolding opening_of first_opening
-opening_beginning order n image pass loaded =
+opening_prefix order n image pass loaded =
     ap (λ (first : Option Opened). answer_of first order.skipped)
     (of_entries order.entries (All-key_material_end n order.entries loaded))
   where
@@ -265,14 +265,14 @@ opening_beginning order n image pass loaded =
     of_entries [] ends = refl
     of_entries (entry ∷ entries) ends =
         ap (λ (key : Option (List ℕ)). opened_or entry.number key (first_opening entries (take n image) pass))
-        (key_beginning entry n image pass ends.0)
+        (key_prefix entry n image pass ends.0)
         ∙ ap (opened_or entry.number (slot_key entry image pass)) (of_entries entries ends.1)
 
 -- nor what trying the key slots costs
-pub work_beginning : (order : OrderModel) (n : ℕ) (image pass : List ℕ) → key_material_end order.entries ≤ n
+pub work_prefix : (order : OrderModel) (n : ℕ) (image pass : List ℕ) → key_material_end order.entries ≤ n
     → work_of order (take n image) pass ≡ work_of order image pass
 unfolding work_of tried_of
-work_beginning order n image pass loaded =
+work_prefix order n image pass loaded =
     ap (sum_by evaluations_of) (of_entries order.entries (All-key_material_end n order.entries loaded))
   where
     of_entries : (entries : List Entry) → AllByRecursion (λ (entry : Entry). material_end entry.slot ≤ n) entries
@@ -280,7 +280,7 @@ work_beginning order n image pass loaded =
     of_entries [] ends = refl
     of_entries (entry ∷ entries) ends =
         ap (λ (key : Option (List ℕ)). entry
-        ∷ (if is_some key then [] else tried_of entries (take n image) pass)) (key_beginning entry n image pass ends.0)
+        ∷ (if is_some key then [] else tried_of entries (take n image) pass)) (key_prefix entry n image pass ends.0)
         ∙ ap (λ (further : List Entry). entry ∷ (if is_some (slot_key entry image pass) then [] else further))
         (of_entries entries ends.1)
 

@@ -13,7 +13,7 @@ use Rattle.luks_cipher.proofs.UnitLemmas.{joined_more}
 use Rattle.luks_kdf.specs.declared.hash.Hash.{Hash}
 use Rattle.luks_kdf.specs.Bytes.{xor}
 use Rattle.luks_kdf.specs.Stripes.{AfSplitterModel, splitter_after, splitter_with, merged}
-use Rattle.luks_kdf.proofs.StripesLemmas.{chain_push, chain_start, length-merged, merged_push}
+use Rattle.luks_kdf.proofs.StripesLemmas.{splitter_push, splitter_start, length-merged, merged_push}
 use Rattle.luks_verdict.specs.Rule.{need_of}
 use Rattle.luks_open.specs.Candidate.{decrypted_material, material_sector, recovered}
 
@@ -71,7 +71,7 @@ stripe_absorbed h len before stripes stripe number i splitter there whole is_str
     append_assoc before prefix stripe ∙ ap (λ s. before ++ s) (ap (λ s. prefix ++ s) is_stripe
     ∙ (sym (take-add (i * len) len stripes) ∙ ap (λ n. take n stripes) (next i len))) in
     let count : number + i + 1 ≡ number + (i + 1) = omega arith in
-    chain_push h len (before ++ prefix) stripe (number + i) splitter all one is
+    splitter_push h len (before ++ prefix) stripe (number + i) splitter all one is
     ∙ (ap (λ s. splitter_after h len s (number + i + 1)) further
     ∙ ap (λ n. splitter_after h len (before ++ take ((i + 1) * len) stripes) n) count)
   where
@@ -137,7 +137,7 @@ pub sectors_none : (h : Hash) (len in_sector : ℕ) (f : ℕ → List ℕ) (new 
     → new ≡ record { hash = h; block = replicate len 0 } → new ≡ splitter_after h len (joined f 0) (0 * in_sector)
 sectors_none h len in_sector f new start =
     let nothing : 0 * in_sector ≡ 0 = omega arith in
-    rw nothing (chain_start h len (joined f 0) new start)
+    rw nothing (splitter_start h len (joined f 0) new start)
 
 -- the splitter after one more sector
 pub sector_more : (h : Hash) (len in_sector : ℕ) (f : ℕ → List ℕ) (i : ℕ) (sector : List ℕ) (splitter : AfSplitterModel)

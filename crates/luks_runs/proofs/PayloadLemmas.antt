@@ -12,7 +12,7 @@ use Rattle.luks_cipher.specs.Sector.{Cipher}
 use Rattle.luks_cipher.specs.Xts.{joined}
 use Rattle.luks_verdict.specs.declared.segment.Segment.{Segment}
 use Rattle.luks_verdict.proofs.SectorLemmas.{sector_blocks}
-use Rattle.luks_io.proofs.EffectLemmas.{adds-more, adds-none}
+use Rattle.luks_io.proofs.EffectLemmas.{appended-more, appended-none}
 use Rattle.luks_io.specs.Counts.{Reads, with_ahead}
 use Rattle.luks_io.specs.Devices.{Appended, ConsumedExactly}
 use Rattle.luks_io.specs.declared.counts.ReadCounts.{ReadCounts}
@@ -152,7 +152,7 @@ forwarding_start p image loaded left w none early bare consumed_to positioned = 
   least = rw none (omega arith);
   most = elim bare [ inl (first, empty) ↦ rw first (omega arith) | inr is ↦ rw is (omega arith) ];
   few = omega arith;
-  wrote = rw none (adds-none w);
+  wrote = rw none (appended-none w);
 }
 
 module _ (p : PumpModel) (image : List ℕ) (loaded : ℕ) (l b w l' w' : Option (List ℕ))
@@ -195,7 +195,7 @@ module _ (p : PumpModel) (image : List ℕ) (loaded : ℕ) (l b w l' w' : Option
           least = omega arith;
           most = omega arith;
           few = omega (arith, sector.is_one);
-          wrote = rw add-one (adds-more b w w' (joined (sector_plaintext p.segment p.cipher image) p.count)
+          wrote = rw add-one (appended-more b w w' (joined (sector_plaintext p.segment p.cipher image) p.count)
               (sector_plaintext p.segment p.cipher image p.count) so_far.wrote step.1);
         }
 
@@ -255,7 +255,7 @@ module _ (p : PumpModel) (image : List ℕ) (loaded : ℕ) (l b w l' w' : Option
           few,
           sector_before_end p.segment image p.count sector.is_one,
           rw consumed_after at sector.consumption,
-          rw part (adds-more b w w' (joined (sector_plaintext p.segment p.cipher image) p.count)
+          rw part (appended-more b w w' (joined (sector_plaintext p.segment p.cipher image) p.count)
               (take written.0 (sector_plaintext p.segment p.cipher image p.count)) so_far.wrote written.2),
         )
 

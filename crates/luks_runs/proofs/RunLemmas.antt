@@ -1,6 +1,6 @@
 -- Runs that are aborted, runs that print a text, and runs of the commands on headers.
 use Rattle.std.proofs.Common.{◌≡◌, ℕ, ◌≤◌, List, Option, refl, length, take, arith, Bool, true, false, Ok, Err}
-use Rattle.luks_io.proofs.EffectLemmas.{adds-none}
+use Rattle.luks_io.proofs.EffectLemmas.{appended-none}
 use Rattle.luks_io.specs.Devices.{Appended, ConsumedExactly}
 use Rattle.luks_report.specs.declared.message.Message.{Message}
 use Rattle.luks_report.specs.declared.message.Message.TheVariants.{OutOfMemory, ReadFailed, WriteFailed, Done, Findings}
@@ -54,7 +54,7 @@ pub aborted_unwritten : {is_prompt : Promptness} {o : Outcome} {message : Messag
     → Aborted is_prompt o message ConsumedInput ConsumedNothing ConsumedSecret (Appended w w)
 aborted_unwritten {w} input secret begins prompt input_within secret_within of_input of_secret =
     aborted_at input 0 secret 0 begins prompt input_within (omega arith) secret_within of_input refl of_secret
-    (adds-none w)
+    (appended-none w)
 
 -- the output was printed, whole or in part, or memory for it ran out
 pub runs_printed : (o : Outcome) (ConsumedInput ConsumedSecret : ℕ → Type 0) (w w' : Option (List ℕ))
@@ -125,7 +125,7 @@ module _ (location : HeaderLocation) (printout : Printout) (image : List ℕ) (i
       let some = memory_below image i ends ends' stop in
       aborted_unwritten some.0 0 refl tt some.1 (omega arith) some.2 refl
   runs_without_header ends ends' fault stop = rw (reading_fault location image fault stop.0) (record
-      { as_specified = refl; input = stop.1.0; payload = refl; secret = refl; output = adds-none w })
+      { as_specified = refl; input = stop.1.0; payload = refl; secret = refl; output = appended-none w })
 
 -- `isLuks` of an image without a readable header, or if reading the header failed
 pub is_luks_refused : (image : List ℕ) (i w : Option (List ℕ)) (ends ends' : ℕ) (fault : HeaderFault)
@@ -138,4 +138,5 @@ is_luks_refused image i w ends ends' Memory stop =
     let some = memory_below image i ends ends' stop in
     aborted_unwritten some.0 0 refl tt some.1 (omega arith) some.2 refl
 is_luks_refused image i w ends ends' _ stop =
-    rw stop.0 (record { as_specified = refl; input = stop.1.0; payload = refl; secret = refl; output = adds-none w })
+    let output = appended-none w in
+    rw stop.0 (record { as_specified = refl; input = stop.1.0; payload = refl; secret = refl; output = output })

@@ -13,7 +13,7 @@ use Rattle.luks_kdf.specs.declared.hash.Hash.{Hash}
 use Rattle.luks_kdf.specs.Bytes.{xor}
 use Rattle.luks_kdf.specs.Stripes.{AfSplitterModel, splitter_after, splitter_block, split_stripes, stripe_at, merged}
 use Rattle.luks_kdf.proofs.StripesLemmas.{splitter_block-append, merged_by_number, stripe_at-append}
-use Rattle.luks_io.proofs.EffectLemmas.{adds-more, adds-none, consumed-none, consumed_behind}
+use Rattle.luks_io.proofs.EffectLemmas.{appended-more, appended-none, consumed-none, consumed_behind}
 use Rattle.luks_io.specs.Devices.{Appended, ConsumedExactly, ConsumedInto, IfKnown}
 use Rattle.luks_report.specs.declared.message.Message.{Message}
 use Rattle.luks_report.specs.declared.message.Message.TheVariants.{Done, KeyLength, FewRandomBytes, ReadFailed}
@@ -48,7 +48,7 @@ module _ (random : List ℕ) (i len : ℕ) (r b w : Option (List ℕ))
   forwarded_bytes_more n k r' w' next = record {
     consumption = consumed_behind random r r' (i * len) n p.consumption next.consumption;
     appended = subst (Appended b w') (sym (take-add (i * len) k random))
-        (adds-more b w w' (take (i * len) random) (take k (drop (i * len) random)) p.appended next.appended);
+        (appended-more b w w' (take (i * len) random) (take k (drop (i * len) random)) p.appended next.appended);
   }
 
   -- one more whole stripe was forwarded
@@ -100,7 +100,7 @@ module _ (h : Hash) (count : ℕ) (key random : List ℕ) where
   runs_without_key KeyLength k r w refused is =
       let unread = consumed-none random r is in
       rw (key_refused refused.0) (record
-      { as_specified = refl; input = refused.1; payload = refl; secret = unread; output = adds-none w })
+      { as_specified = refl; input = refused.1; payload = refl; secret = unread; output = appended-none w })
   runs_without_key ReadFailed k r w failed is =
       aborted_unwritten failed.0 0 (omega arith) (simp (zero-div, zero-mul)) (split_consumes_key failed.0 failed.1)
       (omega arith) failed.2 (consumed-none random r is)
@@ -208,7 +208,7 @@ module _ (h : Hash) (count : ℕ) (key random : List ℕ) (some : 1 ≤ length k
       -- the last stripe was written
       pub runs_to_end : Appended w w' last → Matches Done w'
       runs_to_end a =
-          let all = adds-more b w w' (take ((count - 1) * length key) random) last p.appended a in
+          let all = appended-more b w w' (take ((count - 1) * length key) random) last p.appended a in
           rw (random_enough p.consumption.within, ← last_is)
           (record { as_specified = refl; input = consumption; payload = refl; secret = p.consumption; output = all })
 
@@ -226,7 +226,7 @@ module _ (h : Hash) (count : ℕ) (key random : List ℕ) (some : 1 ≤ length k
           rw (random_enough p.consumption.within)
           (aborted_at (length key) 0 needed (needed + n) (rw (← last_is) (omega arith)) (rw row (omega arith))
           (omega arith) (omega arith) (omega arith) consumption refl p.consumption
-          (rw (← last_is, begin) (adds-more b w w' prefix (take n last) p.appended a)))
+          (rw (← last_is, begin) (appended-more b w w' prefix (take n last) p.appended a)))
 
 module _ (bytes : List ℕ) (i len : ℕ) (s : Option (List ℕ)) (p : ConsumedExactly bytes s (i * len)) where
   -- one more whole stripe was read
@@ -274,7 +274,7 @@ module _ (h : Hash) (count len : ℕ) (bytes : List ℕ) where
       (Appended w w)
   merges_without_stripes FewStripes s w stop =
       rw (stripes_few stop.0) (record
-      { as_specified = refl; input = stop.1; payload = refl; secret = refl; output = adds-none w })
+      { as_specified = refl; input = stop.1; payload = refl; secret = refl; output = appended-none w })
   merges_without_stripes ReadFailed s w stop =
       aborted_unwritten stop.0 0 (omega arith) tt (merge_consumes_within stop.0 stop.1 stop.2.within) (omega arith)
       stop.2 refl

@@ -21,7 +21,7 @@ use Rattle.luks_header.specs.declared.header.Header.{Header}
 use Rattle.luks_open.specs.Opening.{OrderModel, order_of, key_material_end, opening_of}
 use Rattle.luks_open.specs.declared.fault.OpenFault.{OpenFault}
 use Rattle.luks_open.specs.declared.fault.OpenFault.TheVariants.{Memory}
-use Rattle.luks_open.proofs.CallerLemmas.{opening_beginning, key_material_end-within}
+use Rattle.luks_open.proofs.CallerLemmas.{opening_prefix, key_material_end-within}
 use Rattle.luks_open.specs.declared.opening.Opened.{Opened}
 use Rattle.luks_report.specs.Faults.{message_for_header, message_for_opening}
 use Rattle.luks_report.specs.declared.message.Message.{Message}
@@ -36,11 +36,11 @@ use Rattle.luks_unlock.specs.Volume.{FindsNoVolume, FindsVolume, HitsMaterialEof
 use Rattle.luks_unlock.specs.Volume.{Volume, found_outcome, opened_outcome, outcome_after, volume_outcome_by}
 use Rattle.luks_unlock.specs.declared.found.FoundVolume.{FoundVolume}
 use Rattle.luks1_header.specs.Header1.{is_luks1}
-use Rattle.luks2_binary.proofs.ChoiceLemmas.{json_beginning, probe_other, probe_primary, stable_by}
+use Rattle.luks2_binary.proofs.ChoiceLemmas.{json_prefix, probe_other, probe_primary, stable_by}
 use Rattle.luks2_binary.proofs.ValidLemmas.{furthest, search_len_is}
 use Rattle.luks2_binary.proofs.ValidLemmas.{fits_parts, probe_fit, probe_unfit, size_range, valid_range}
 use Rattle.luks2_binary.specs.Choice2.{binary_at, fits, header2_of, is_valid}
-use Rattle.luks2_binary.specs.ReadLen2.{header2_read_len, probe2_len, probe_end, greatest}
+use Rattle.luks2_binary.specs.ReadLen2.{header2_read_len, probe2_len, probe_end, max_of}
 use Rattle.luks2_binary.specs.Reading2.{IsPrefixOf}
 use Rattle.luks2_binary.specs.Header2.{sizes}
 use Rattle.luks2_binary.specs.Text2.{json_text_of}
@@ -247,7 +247,7 @@ module _ (location : HeaderLocation) (slots : SlotChoice) (image pass : List ℕ
     tried_is short area area' i prefix grows enough r tried on_opened =
         let v = volume_with header segment order in
         let loaded = area_loaded image area area' i (key_material_end order.entries) prefix grows enough in
-        let whole = sym (opening_beginning order (max (header_read_len image) (key_material_end order.entries)) image
+        let whole = sym (opening_prefix order (max (header_read_len image) (key_material_end order.entries)) image
         pass (omega arith)) ∙ ap (λ l. opening_of order l pass) (sym loaded.2) ∙ tried in
         found_is on_opened ∙ found_whole on_opened slots.named v image pass short loaded.0
         ∙ ap (opened_outcome on_opened slots.named v image pass) whole
@@ -269,7 +269,7 @@ module _ (image : List ℕ) where
   probe_near offset = probe_by offset (fits image offset) refl
 
   -- the search at offsets within the first 4 MiB stays within the first 8 MiB
-  furthest_within : (offsets : List ℕ) → greatest offsets ≤ 4194304
+  furthest_within : (offsets : List ℕ) → max_of offsets ≤ 4194304
       → furthest (is_valid image) (probe_end image) offsets ≤ 8388608
   unfolding furthest
   furthest_within [] near = omega arith
@@ -313,8 +313,8 @@ module _ (image : List ℕ) (n : ℕ) (far : 8388608 ≤ n) (more : n ≤ length
       let within = probe2_within image in
       let cut = ap (λ k. take k (take n image)) prefix2.1 ∙ take-take (header2_read_len image) n image (omega arith) in
       ap (λ text. with_metadata header (tree_of text))
-      (sym (json_beginning (take n image) header (prefix2.0 ∙ found))
-      ∙ ap (λ bytes. json_text_of bytes header) cut ∙ json_beginning image header found)
+      (sym (json_prefix (take n image) header (prefix2.0 ∙ found))
+      ∙ ap (λ bytes. json_text_of bytes header) cut ∙ json_prefix image header found)
   with_text_prefix (Err fault) found = refl
 
   begins_alike : is_luks1 (take n image) ≡ is_luks1 image
@@ -357,7 +357,7 @@ module _ (location : HeaderLocation) (slots : SlotChoice) (image pass : List ℕ
       let long = length-take-le n image more in
       let all = le-ltb (length (take n image)) (key_material_end v.order.entries) (omega (arith, long)) in
       let whole = le-ltb (length image) (key_material_end v.order.entries) (omega arith) in
-      let opening = opening_beginning v.order n image pass (omega arith) in
+      let opening = opening_prefix v.order n image pass (omega arith) in
       rw (all, whole, same_header.1, opening, opened_prefix v (opening_of v.order image pass)) refl
   after_prefix (Err message) = rw same_header.1 refl
 

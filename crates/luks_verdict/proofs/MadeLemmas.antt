@@ -136,11 +136,11 @@ unfolding has_no_usable_digest
 no_usable_digest-no limit parts is = ap (has_no_usable_digest limit) (digest_from-no parts is)
 
 -- if the kind of a verdict is that the slot can be tried, the verdict has what is needed to open it
-pub usable_from_open : (verdict : Option Verdict) (priority : ℕ)
+pub usable_from_kind : (verdict : Option Verdict) (priority : ℕ)
     → option_map verdict_kind_of verdict ≡ Some (KindUsable priority)
     → (slot : Slot) × (verdict ≡ Some (Usable slot)) × (slot.parts.priority ≡ priority)
-usable_from_open (Some (Usable slot)) priority is = (slot, refl, cc)
-usable_from_open _ priority is = absurd cc
+usable_from_kind (Some (Usable slot)) priority is = (slot, refl, cc)
+usable_from_kind _ priority is = absurd cc
 
 -- if the verdict is that a slot is usable, there is no reason to skip it, and the verdict has what is needed to open it
 pub of_usable : (reason : Option SkipReason) (made : Option Slot) (usable : Slot)

@@ -1,6 +1,6 @@
 -- The lengths of sectors.
-use Rattle.std.proofs.Common.{◌≡◌, ℕ, ◌%◌, ◌≤◌, refl, arith}
-use Rattle.luks_verdict.specs.SectorSize.{bytes_of}
+use Rattle.std.proofs.Common.{◌≡◌, ℕ, ◌%◌, ◌≤◌, Some, refl, arith}
+use Rattle.luks_verdict.specs.SectorSize.{bytes_of, sector_size_with}
 use Rattle.luks_verdict.specs.declared.sector_size.SectorSize.{SectorSize}
 use Rattle.luks_verdict.specs.declared.sector_size.SectorSize.TheVariants.{B512}
 
@@ -13,3 +13,8 @@ pub record IsSectorLen (n : ℕ) : Type 0 where
 pub sector_blocks : (size : SectorSize) → IsSectorLen (bytes_of size)
 sector_blocks B512 = record { long = omega arith; short = omega arith; blocks = refl }
 sector_blocks _ = record { long = omega arith; short = omega arith; blocks = refl }
+
+-- a sector size is the one with its number of bytes
+pub sector_size_again : (size : SectorSize) → sector_size_with (bytes_of size) ≡ Some size
+sector_size_again B512 = refl
+sector_size_again _ = refl

@@ -65,10 +65,10 @@ All-ascending {X = X} P f (suc n) each =
     of_one (Some x) is = (each n x is, tt)
 
 -- the list is not empty if one of the numbers has a value
-pub some_rising : {X : Type 0} (f : ℕ → Option X) (i n : ℕ) → IsSome (f i) → i < n → 1 ≤ length (ascending f n)
+pub some_ascending : {X : Type 0} (f : ℕ → Option X) (i n : ℕ) → IsSome (f i) → i < n → 1 ≤ length (ascending f n)
 unfolding ascending
-some_rising f i zero some below = absurd (omega arith)
-some_rising {X = X} f i (suc n) some below = of_place (cases_lt i n) (some_rising f i n some)
+some_ascending f i zero some below = absurd (omega arith)
+some_ascending {X = X} f i (suc n) some below = of_place (cases_lt i n) (some_ascending f i n some)
   where
     of_last : (o : Option X) → IsSome o → 1 ≤ length (ascending f n ++ cons_option o [])
     of_last None is = absurd cc

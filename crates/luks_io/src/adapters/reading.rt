@@ -23,7 +23,7 @@ trait RawReader {
     /// The answers of the calls from here on, if they are known.
     ghost answers: { Self → Option (List CallOutcome) };
 
-    fn ask(&mut self, buf: &mut [u8]) -> CallOutcome
+    fn call(&mut self, buf: &mut [u8]) -> CallOutcome
         ensures next { GivesNext (answers self.old) result (answers self.new) }
         ensures moved { OutcomeConsumes (bytes self.old) (bytes self.new) result buf.new };
 }
@@ -33,7 +33,7 @@ impl<R: Read> RawReader for R {
 
     ghost answers = { λ _. None };
 
-    fn ask(&mut self, buf: &mut [u8]) -> CallOutcome {
+    fn call(&mut self, buf: &mut [u8]) -> CallOutcome {
         call_outcome(self.read(buf))
     }
 }
@@ -47,7 +47,7 @@ fn read_patiently<D: RawReader>(device: &mut D, buf: &mut [u8]) -> Result<usize,
 {
     let mut tries = MAX_RETRIES;
     'tries: loop {
-        match device.ask(buf) {
+        match device.call(buf) {
             CallOutcome::Moved(count) => return Ok(count),
             CallOutcome::Interrupted if tries > 0 => tries -= 1,
             CallOutcome::Interrupted => return Err(DeviceFault),

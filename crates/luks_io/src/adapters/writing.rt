@@ -24,7 +24,7 @@ trait RawWriter {
     /// The answers of the calls from here on, if they are known.
     ghost answers: { Self → Option (List CallOutcome) };
 
-    fn ask(&mut self, buf: &[u8]) -> CallOutcome
+    fn call(&mut self, buf: &[u8]) -> CallOutcome
         ensures next { GivesNext (answers self.old) result (answers self.new) }
         ensures moved { OutcomeAppends (bytes self.old) (bytes self.new) result buf.now };
 }
@@ -34,7 +34,7 @@ impl<W: Write> RawWriter for W {
 
     ghost answers = { λ _. None };
 
-    fn ask(&mut self, buf: &[u8]) -> CallOutcome {
+    fn call(&mut self, buf: &[u8]) -> CallOutcome {
         call_outcome(self.write(buf))
     }
 }
@@ -54,7 +54,7 @@ fn write_patiently<D: RawWriter>(device: &mut D, buf: &[u8]) -> Result<usize, De
     }
     let mut tries = MAX_RETRIES;
     'tries: loop {
-        match device.ask(buf) {
+        match device.call(buf) {
             CallOutcome::Moved(0) => return Err(DeviceFault),
             CallOutcome::Moved(count) => return Ok(count),
             CallOutcome::Interrupted if tries > 0 => tries -= 1,

@@ -6,11 +6,11 @@ use Rattle.luks_cli.proofs.execute.execute.Goals as goal
 use Rattle.luks_io.specs.Devices.{Appended}
 use Rattle.luks_report.specs.declared.message.Message.{Message}
 use Rattle.luks_unlock.proofs.HonestVolumes.{unsealed}
-use Rattle.luks_cli.specs.CommandRun.{RunsAsStated, WritesPlain}
+use Rattle.luks_cli.specs.CommandRun.{RunsAsSpecified, WritesPlain}
 
 -- a run of `luksCat` that matches its outcome and is not aborted writes the plaintext of an honestly sealed volume
 writes_plain : (o : VolumeRequest) (message : Message) (image image' secret secret' written written' : Option (List ℕ))
-    → RunsAsStated (luks_cat o) message (record { before = image; after = image' })
+    → RunsAsSpecified (luks_cat o) message (record { before = image; after = image' })
     (record { before = secret; after = secret' }) (record { before = written; after = written' })
     → WritesPlain (luks_cat o) message image secret written written'
 writes_plain o message image image' secret secret' written written' runs =

@@ -1,5 +1,5 @@
 use Rattle.std.proofs.Common.{◌≡◌, ◌∙◌, Some, None, ap, sym}
-use Rattle.luks_verdict.proofs.MadeLemmas.{usable_from_open}
+use Rattle.luks_verdict.proofs.MadeLemmas.{usable_from_kind}
 use Rattle.luks_header.specs.SlotVerdicts.{slot_at, verdict_at}
 use Rattle.luks_header.proofs.KnownLemmas.{slot_of_usable}
 use Rattle.luks_header.proofs.slot.verdict.Goals as goal
@@ -7,7 +7,7 @@ use Rattle.luks_header.proofs.slot.verdict.Goals as goal
 pub unreachable-requires : goal.unreachable-requires
 unreachable-requires c =
     let verdict_is = sym c.verdict_kind.ensures ∙ (c.in-Some-Usable.is ∙ ap Some c.in-Some-Usable.field-0-is) in
-    let usable = usable_from_open (verdict_at c.args.header.now c.args.limit c.args.number) _ verdict_is in
+    let usable = usable_from_kind (verdict_at c.args.header.now c.args.limit c.args.number) _ verdict_is in
     let there = slot_of_usable c.args.header.now c.args.limit c.args.number usable.0 usable.1 in
     let made : c.in_ok-slot-in-Some-Usable.field-0
     ≡ slot_at c.args.header.now c.args.number = c.in_ok-slot-in-Some-Usable.ensures in
@@ -17,7 +17,7 @@ unreachable-requires c =
 pub returns-in-Some-clause-value : goal.returns-in-Some-clause-value
 returns-in-Some-clause-value c =
     let verdict_is = sym c.verdict_kind.ensures ∙ (c.in-Some-Usable.is ∙ ap Some c.in-Some-Usable.field-0-is) in
-    let usable = usable_from_open (verdict_at c.args.header.now c.args.limit c.args.number) _ verdict_is in
+    let usable = usable_from_kind (verdict_at c.args.header.now c.args.limit c.args.number) _ verdict_is in
     let there = slot_of_usable c.args.header.now c.args.limit c.args.number usable.0 usable.1 in
     let made : c.in_ok-slot-in-Some-Usable.field-0
     ≡ slot_at c.args.header.now c.args.number = c.in_ok-slot-in-Some-Usable.ensures in

@@ -62,7 +62,7 @@ returns g c =
     record {
       key = groups_end (block_t h c.args.pass.now c.args.salt.now c.args.iterations) size
           (length-block_t h c.args.pass.now c.args.salt.now c.args.iterations size refl) c.args.out.now c.fill.out w
-          group count c.fill.i (omega (arith, (digest_sizes h).least)) (some_in_group h w known) is_group
+          group count c.fill.i (omega (arith, (digest_sizes h).min_len)) (some_in_group h w known) is_group
           c.div_ceil-count.ensures last c.fill.invariant.0;
       work = count_end h w group c.args.work.now c.fill.work c.args.iterations (length c.args.out.now) count c.fill.i
           known is_group c.requires.some c.div_ceil-count.ensures last c.fill.invariant.1;

@@ -11,7 +11,7 @@ returns c =
     let stripes = c.args.stripes.now in
     let before = length stripes / len - 1 in
     let d = splitter_block c.args.hash len stripes before in
-    c.last.ensures ∙ (ap (λ (chain : AfSplitterModel). xor chain.block (take (length stripes - before * len) (drop
+    c.last.ensures ∙ (ap (λ (splitter : AfSplitterModel). xor splitter.block (take (length stripes - before * len) (drop
     (before * len) stripes))) c.splitter_after-splitter.ensures.start
     ∙ ap (λ n. xor d (take n (drop (before * len) stripes)))
     (one_left len (length stripes) c.requires.stripes.0 (omega arith) c.requires.stripes.1 c.requires.stripes.3))

@@ -10,7 +10,7 @@ returns-clause-split c =
     let random = c.args.random.now in
     let number = c.requires.out in
     let last : c.last.new.out ≡ xor (splitter_block c.args.hash len random (length random / len)) c.args.key.now =
-    c.last.ensures ∙ ap (λ (chain : AfSplitterModel). xor chain.block c.args.key.now)
+    c.last.ensures ∙ ap (λ (splitter : AfSplitterModel). xor splitter.block c.args.key.now)
     c.splitter_after-splitter.ensures.start in (
       length random / len,
       whole_stripes len (length random) number.0 (omega arith) number.1 (c.requires.random ∙ number.3),

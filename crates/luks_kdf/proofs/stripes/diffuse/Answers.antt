@@ -15,7 +15,7 @@ pieces-preserved c =
     let h = c.args.hash in
     let before = c.args.block.now in
     let is_size : c.size-size.result ≡ digest_len h = c.size-size.ensures in
-    let some = (digest_sizes h).least in
+    let some = (digest_sizes h).min_len in
     cut_step (hashed_piece h before) c.size-size.result (length-hashed_piece h before c.size-size.result is_size) before
     c.pieces.block c.diffuse_piece.new.piece c.pieces.j c.min-end.result
     (piece_begins (length before) c.size-size.result c.div_ceil-count.result c.pieces.j (omega arith)
@@ -28,7 +28,7 @@ returns c =
     let h = c.args.hash in
     let before = c.args.block.now in
     let is_size : c.size-size.result ≡ digest_len h = c.size-size.ensures in
-    let some = (digest_sizes h).least in
+    let some = (digest_sizes h).min_len in
     cut_end (hashed_piece h before) c.size-size.result (length-hashed_piece h before c.size-size.result is_size) before
     c.pieces.block c.div_ceil-count.result c.pieces.j (omega arith) c.div_ceil-count.ensures (omega arith)
     c.pieces.invariant ∙ rw is_size (sym (diffused_is h before))

@@ -2,7 +2,7 @@ use Rattle.std.proofs.Common.{rules, ◌∙◌, ◌≤◌, ◌++◌, [], List, a
 use Rattle.std.specs.List.{cons_option}
 use Rattle.std.proofs.lemmas.List.{append-nil}
 use Rattle.luks_verdict.specs.Table.{ascending}
-use Rattle.luks_verdict.proofs.TableLemmas.{ascending_more, ascending_none, some_rising}
+use Rattle.luks_verdict.proofs.TableLemmas.{ascending_more, ascending_none, some_ascending}
 use Rattle.luks_open.specs.Opening.{tried_with}
 use Rattle.luks_open.specs.declared.entry.Entry.{Entry}
 use Rattle.luks_open.proofs.order.push_usable.Goals as goal
@@ -17,7 +17,7 @@ pub returns-in_err-push_tried-clause-err : goal.returns-in_err-push_tried-clause
 returns-in_err-push_tried-clause-err c =
     let f = tried_with c.args.header.now c.args.limit c.args.priority in
     let many : 1 ≤ length (ascending f 32) =
-    some_rising f c.loop-number.number 32 c.in_err-push_tried.ensures.err (omega arith) in
+    some_ascending f c.loop-number.number 32 c.in_err-push_tried.ensures.err (omega arith) in
     search (rules, many)
 
 pub loop-number-preserved : goal.loop-number-preserved

@@ -1,9 +1,9 @@
 use Rattle.std.proofs.Common.{◌≡◌, ◌+◌, ◌≤◌, ◌∙◌, sym, arith, rules, zero-mul}
 use Rattle.std.proofs.Math.Nat.{mul-le-mul_right}
 use Rattle.luks_io.proofs.ErrorLemmas.{given_error}
-use Rattle.luks_kdf.proofs.StripesLemmas.{chain_more, chain_start}
+use Rattle.luks_kdf.proofs.StripesLemmas.{splitter_more, splitter_start}
 use Rattle.luks_runs.proofs.StripeLemmas.{is_stripe, forwarded_one_more, aborts_at}
-use Rattle.luks_io.proofs.EffectLemmas.{adds-none, consumed-none, no_reads, no_writes}
+use Rattle.luks_io.proofs.EffectLemmas.{appended-none, consumed-none, no_reads, no_writes}
 use Rattle.luks_runs.proofs.stripes.forward_stripes.Goals as goal
 
 pub stripes-init : goal.stripes-init
@@ -12,8 +12,8 @@ stripes-init g c = record {
   writes = no_writes _;
   len = c.new-splitter.ensures.len;
   forwarded = λ bytes is. (
-    chain_start _ _ bytes _ c.new-splitter.ensures.start,
-    rw zero-mul (record { consumption = consumed-none bytes _ is; appended = adds-none _ }),
+    splitter_start _ _ bytes _ c.new-splitter.ensures.start,
+    rw zero-mul (record { consumption = consumed-none bytes _ is; appended = appended-none _ }),
   );
 }
 
@@ -36,7 +36,7 @@ stripes-preserved g c =
           let here = next _ forwarded.1.consumption.left in
           rw c.forward_stripe.auto.stripe (
             c.stripe.ensures.next
-                ∙ chain_more _ _ bytes _ _ c.forward_stripe.new.stripe forwarded.0 (is_stripe bytes _ _ _ here.0),
+                ∙ splitter_more _ _ bytes _ _ c.forward_stripe.new.stripe forwarded.0 (is_stripe bytes _ _ _ here.0),
             forwarded_one_more bytes _ _ _ _ _ forwarded.1 _ _ here.1,
           );
     }
