@@ -28,8 +28,8 @@ ZSH_FUNCTIONS ?= $(PREFIX)/share/zsh/site-functions
 PLUGINS ?= $(shell pkg-config nbdkit --variable=plugindir 2>/dev/null)
 BINARIES = $(DESTDIR)$(PREFIX)/bin
 PAGES = $(DESTDIR)$(PREFIX)/share/man/man1
-BASH_WORDS = $(DESTDIR)$(PREFIX)/share/bash-completion/completions
-ZSH_WORDS = $(DESTDIR)$(ZSH_FUNCTIONS)
+BASH_COMPLETIONS = $(DESTDIR)$(PREFIX)/share/bash-completion/completions
+ZSH_COMPLETIONS = $(DESTDIR)$(ZSH_FUNCTIONS)
 LIBRARIES = $(DESTDIR)$(PREFIX)/lib
 HEADERS = $(DESTDIR)$(PREFIX)/include
 CFLAGS ?= -O2
@@ -106,13 +106,13 @@ ALL_SCRIPTS := $(PROGRAM_SCRIPTS) $(C_SCRIPTS) $(TOOL_SCRIPTS)
 
 .PHONY: $(ALL_SCRIPTS)
 
-scripts: ASKED = $(ALL_SCRIPTS)
-program-scripts: ASKED = $(PROGRAM_SCRIPTS)
-c-scripts: ASKED = $(C_SCRIPTS)
-tool-scripts: ASKED = $(TOOL_SCRIPTS)
+scripts: REQUESTED = $(ALL_SCRIPTS)
+program-scripts: REQUESTED = $(PROGRAM_SCRIPTS)
+c-scripts: REQUESTED = $(C_SCRIPTS)
+tool-scripts: REQUESTED = $(TOOL_SCRIPTS)
 scripts program-scripts c-scripts tool-scripts:
 	tests/packages
-	+$(MAKE) -k -j 4 --output-sync=target --no-print-directory $(ASKED)
+	+$(MAKE) -k -j 4 --output-sync=target --no-print-directory $(REQUESTED)
 
 test-names test-counts: test-%:
 	tests/$*
@@ -155,11 +155,11 @@ built:
 install: install-program $(if $(wildcard $(LIBRARY)),install-library) $(if $(wildcard $(PLUGIN)),install-plugin)
 
 install-program: built
-	install -d "$(BINARIES)" "$(PAGES)" "$(BASH_WORDS)" "$(ZSH_WORDS)"
+	install -d "$(BINARIES)" "$(PAGES)" "$(BASH_COMPLETIONS)" "$(ZSH_COMPLETIONS)"
 	install -m 755 "$(PROGRAM)" "$(BINARIES)/luksrd"
 	install -m 644 docs/luksrd.1 "$(PAGES)/luksrd.1"
-	install -m 644 completions/luksrd.bash "$(BASH_WORDS)/luksrd"
-	install -m 644 completions/_luksrd "$(ZSH_WORDS)/_luksrd"
+	install -m 644 completions/luksrd.bash "$(BASH_COMPLETIONS)/luksrd"
+	install -m 644 completions/_luksrd "$(ZSH_COMPLETIONS)/_luksrd"
 
 install-library:
 	@test -f "$(LIBRARY)" -a -f "$(SHARED)" || { echo "the library is not built: run make library first" >&2; exit 1; }
@@ -179,7 +179,7 @@ install-plugin:
 	install -m 644 docs/nbdkit-luksrd-plugin.1 "$(PAGES)/nbdkit-luksrd-plugin.1"
 
 uninstall:
-	rm -f "$(BINARIES)/luksrd" "$(PAGES)/luksrd.1" "$(BASH_WORDS)/luksrd" "$(ZSH_WORDS)/_luksrd"
+	rm -f "$(BINARIES)/luksrd" "$(PAGES)/luksrd.1" "$(BASH_COMPLETIONS)/luksrd" "$(ZSH_COMPLETIONS)/_luksrd"
 	rm -f "$(HEADERS)/luksrd.h" "$(LIBRARIES)/libluksrd.a" $(SHARED_NAMES:%="$(LIBRARIES)/%") "$(LIBRARIES)/pkgconfig/luksrd.pc"
 	rm -f "$(PAGES)/nbdkit-luksrd-plugin.1" $(if $(PLUGINS),"$(DESTDIR)$(PLUGINS)/nbdkit-luksrd-plugin.so")
 

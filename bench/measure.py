@@ -23,8 +23,8 @@ def build_tools():
 def measured(folder, command, environment=None):
     """Processor time in seconds and peak memory in KiB of a command and what it starts, as GNU time reports them."""
     usage = folder / "usage"
-    words = ["/usr/bin/time", "-f", "%U %S %M", "-o", usage, *command]
-    done = subprocess.run([str(word) for word in words], stdout=subprocess.DEVNULL, env={**os.environ, **(environment or {})})
+    arguments = ["/usr/bin/time", "-f", "%U %S %M", "-o", usage, *command]
+    done = subprocess.run([str(argument) for argument in arguments], stdout=subprocess.DEVNULL, env={**os.environ, **(environment or {})})
     if done.returncode:
         sys.exit(f"{command[0]} ended with {done.returncode}")
     user, system, peak = usage.read_text().split()
@@ -55,8 +55,8 @@ def format_volume(folder, name, *options):
     return image
 
 
-def run_cryptsetup(folder, command, *words):
-    subprocess.run(["cryptsetup", "-q", command, "--key-file", folder / "pass", *words], check=True, stdout=subprocess.DEVNULL)
+def run_cryptsetup(folder, command, *arguments):
+    subprocess.run(["cryptsetup", "-q", command, "--key-file", folder / "pass", *arguments], check=True, stdout=subprocess.DEVNULL)
 
 
 def volume(folder, name, iterations, payload, hash_name="sha256"):

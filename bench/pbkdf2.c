@@ -22,7 +22,7 @@ static const u32 H1[5] = {0x67452301, 0xEFCDAB89, 0x98BADCFE, 0x10325476, 0xC3D2
 static u32 H256[8];
 static u64 H512[8];
 
-#define TURNS1(T, from, to, f, k)                           \
+#define STEPS1(T, from, to, f, k)                           \
     for (int t = from; t < to; t++) {                       \
         T x = ROL32(a, 5) + (f) + e + (k) + w[t];           \
         e = d, d = c, c = ROL32(b, 30), b = a, a = x;       \
@@ -32,10 +32,10 @@ static u64 H512[8];
     T w[80], a = h[0], b = h[1], c = h[2], d = h[3], e = h[4];                                  \
     for (int t = 0; t < 16; t++) w[t] = block[t];                                               \
     for (int t = 16; t < 80; t++) w[t] = ROL32(w[t - 3] ^ w[t - 8] ^ w[t - 14] ^ w[t - 16], 1); \
-    TURNS1(T, 0, 20, (b & c) | (~b & d), 0x5A827999)                                            \
-    TURNS1(T, 20, 40, b ^ c ^ d, 0x6ED9EBA1)                                                    \
-    TURNS1(T, 40, 60, (b & c) | (b & d) | (c & d), 0x8F1BBCDC)                                  \
-    TURNS1(T, 60, 80, b ^ c ^ d, 0xCA62C1D6)                                                    \
+    STEPS1(T, 0, 20, (b & c) | (~b & d), 0x5A827999)                                            \
+    STEPS1(T, 20, 40, b ^ c ^ d, 0x6ED9EBA1)                                                    \
+    STEPS1(T, 40, 60, (b & c) | (b & d) | (c & d), 0x8F1BBCDC)                                  \
+    STEPS1(T, 60, 80, b ^ c ^ d, 0xCA62C1D6)                                                    \
     h[0] += a, h[1] += b, h[2] += c, h[3] += d, h[4] += e;
 
 static void compress1(u32 h[5], const u32 block[16]) { ROUNDS1(u32) }
@@ -112,7 +112,7 @@ typedef const unsigned char *bytes;
 
 /* The words of the one block that the message has after the key block: at most eight words, then the padding. */
 #define DERIVE(T, WORDS, H, compress)                                                          \
-    T inner[8], outer[8], key[16] = {0}, pad[16], u[8], sum[8], block[16];                     \
+    T inner[8], outer[8], key[16] = {0}, pad[16], u[8], xor[8], block[16];                     \
     unsigned size = sizeof(T), evaluations = 0;                                                \
     for (unsigned i = 0; i < pass_len; i++) key[i / size] |= (T)pass[i] << 8 * (size - 1 - i % size); \
     for (int i = 0; i < 16; i++) pad[i] = key[i] ^ (T)0x3636363636363636;                      \
@@ -128,8 +128,8 @@ typedef const unsigned char *bytes;
         first[salt_len + 3] = start / (WORDS * size) + 1, first[salt_len + 4] = 0x80;          \
         for (unsigned i = 0; i < salt_len + 5; i++) block[i / size] |= (T)first[i] << 8 * (size - 1 - i % size); \
         block[15] = 8 * (16 * size + salt_len + 4);                                            \
-        memset(sum, 0, sizeof sum);                                                            \
-        for (u32 turn = 0; turn < turns; turn++) {                                             \
+        memset(xor, 0, sizeof xor);                                                            \
+        for (u32 iteration = 0; iteration < iterations; iteration++) {                         \
             memcpy(u, inner, sizeof(T) * WORDS);                                               \
             compress(u, block);                                                                \
             memset(block, 0, sizeof block);                                                    \
@@ -139,15 +139,15 @@ typedef const unsigned char *bytes;
             memcpy(u, outer, sizeof(T) * WORDS);                                               \
             compress(u, block);                                                                \
             memcpy(block, u, sizeof(T) * WORDS);                                               \
-            for (int i = 0; i < WORDS; i++) sum[i] ^= u[i];                                    \
+            for (int i = 0; i < WORDS; i++) xor[i] ^= u[i];                                    \
         }                                                                                      \
-        evaluations += turns;                                                                  \
+        evaluations += iterations;                                                             \
         for (unsigned i = 0; i < WORDS * size && start + i < length; i++)                      \
-            out[start + i] = (unsigned char)(sum[i / size] >> 8 * (size - 1 - i % size));      \
+            out[start + i] = (unsigned char)(xor[i / size] >> 8 * (size - 1 - i % size));      \
     }                                                                                          \
     return evaluations;
 
-#define FUNCTION(name) static unsigned name(bytes pass, unsigned pass_len, bytes salt, unsigned salt_len, u32 turns, unsigned char *out, unsigned length)
+#define FUNCTION(name) static unsigned name(bytes pass, unsigned pass_len, bytes salt, unsigned salt_len, u32 iterations, unsigned char *out, unsigned length)
 
 FUNCTION(derive1) { DERIVE(u32, 5, H1, compress1) }
 FUNCTION(derive256) { DERIVE(u32, 8, H256, compress256) }
@@ -156,16 +156,16 @@ FUNCTION(derive512) { DERIVE(u64, 8, H512, compress512) }
 int main(int argc, char **argv) {
     if (argc != 4) return 1;
     fill_constants();
-    u32 turns = (u32)strtoul(argv[2], 0, 10);
+    u32 iterations = (u32)strtoul(argv[2], 0, 10);
     unsigned length = (unsigned)strtoul(argv[3], 0, 10), evaluations;
     bytes pass = (bytes) "passphrase", salt = (bytes) "0123456789abcdef";
     unsigned char key[512];
     struct timespec start, end;
     if (length > sizeof key) return 1;
     clock_gettime(CLOCK_PROCESS_CPUTIME_ID, &start);
-    if (!strcmp(argv[1], "sha1")) evaluations = derive1(pass, 10, salt, 16, turns, key, length);
-    else if (!strcmp(argv[1], "sha256")) evaluations = derive256(pass, 10, salt, 16, turns, key, length);
-    else if (!strcmp(argv[1], "sha512")) evaluations = derive512(pass, 10, salt, 16, turns, key, length);
+    if (!strcmp(argv[1], "sha1")) evaluations = derive1(pass, 10, salt, 16, iterations, key, length);
+    else if (!strcmp(argv[1], "sha256")) evaluations = derive256(pass, 10, salt, 16, iterations, key, length);
+    else if (!strcmp(argv[1], "sha512")) evaluations = derive512(pass, 10, salt, 16, iterations, key, length);
     else return 1;
     clock_gettime(CLOCK_PROCESS_CPUTIME_ID, &end);
     long long nanos = (end.tv_sec - start.tv_sec) * 1000000000LL + (end.tv_nsec - start.tv_nsec);

@@ -19,14 +19,14 @@ static uint32_t enc[4][256], dec[4][256];
 static uint8_t times_x(uint8_t b) { return (uint8_t)(b << 1 ^ (b >> 7) * 0x1b); }
 
 static uint8_t product(uint8_t a, uint8_t b) {
-    uint8_t sum = 0;
+    uint8_t result = 0;
     for (; a; a >>= 1, b = times_x(b))
-        if (a & 1) sum ^= b;
-    return sum;
+        if (a & 1) result ^= b;
+    return result;
 }
 
 static uint8_t rotated(uint8_t b, int by) { return (uint8_t)(b << by | b >> (8 - by)); }
-static uint32_t turned(uint32_t w, int by) { return w << by | w >> (32 - by) % 32; }
+static uint32_t rotated_word(uint32_t w, int by) { return w << by | w >> (32 - by) % 32; }
 
 static void make_tables(void) {
     for (int b = 0; b < 256; b++) {
@@ -43,8 +43,8 @@ static void make_tables(void) {
         dec[0][b] = (uint32_t)product(14, d) | (uint32_t)product(9, d) << 8 | (uint32_t)product(13, d) << 16
             | (uint32_t)product(11, d) << 24;
         for (int t = 1; t < 4; t++) {
-            enc[t][b] = turned(enc[0][b], 8 * t);
-            dec[t][b] = turned(dec[0][b], 8 * t);
+            enc[t][b] = rotated_word(enc[0][b], 8 * t);
+            dec[t][b] = rotated_word(dec[0][b], 8 * t);
         }
     }
 }
@@ -68,7 +68,7 @@ static void expand(const uint8_t key[32], uint32_t w[WORDS]) {
         if (i < 8) { w[i] = load(key + 4 * i); continue; }
         uint32_t t = w[i - 1];
         if (i % 8 == 0) {
-            t = substituted(sbox, turned(t, 24)) ^ constant;
+            t = substituted(sbox, rotated_word(t, 24)) ^ constant;
             constant = times_x(constant);
         } else if (i % 8 == 4) {
             t = substituted(sbox, t);
@@ -116,7 +116,7 @@ static inline const uint32_t *backwards(const uint32_t *w, int round) { return w
     }
 
 /* T(table, n, b): entry b of table n, which is table 0 rotated by n bytes. */
-#define ONE(table, n, b) ((n) ? turned(table[0][b], 8 * (n)) : table[0][b])
+#define ONE(table, n, b) ((n) ? rotated_word(table[0][b], 8 * (n)) : table[0][b])
 #define FOUR(table, n, b) table[n][b]
 
 CIPHER(encrypt_one, enc, sbox, ONE, forwards, 1, 3)

@@ -19,7 +19,7 @@ import time
 import nbd
 
 CONNECTIONS = 8
-LONGEST = 70000
+MAX_COUNT = 70000
 
 
 def connected(uri):
@@ -40,7 +40,7 @@ def read(handle, count, offset):
 
 def some_range(chance, size):
     """A range: at either end, past the end, within a sector or over several, at a sector's edge or anywhere."""
-    count = chance.choice((1, 2, 511, 512, 513, 4095, 4096, 4097, chance.randrange(1, 600), chance.randrange(1, LONGEST)))
+    count = chance.choice((1, 2, 511, 512, 513, 4095, 4096, 4097, chance.randrange(1, 600), chance.randrange(1, MAX_COUNT)))
     offset = chance.choice((0, chance.randrange(0, 600), size - min(count, size), size - chance.randrange(0, 600), size, size + 1,
                             size + 2 ** 40, chance.randrange(0, size), chance.randrange(0, size) // 512 * 512))
     return count, max(0, offset)
@@ -69,33 +69,33 @@ def read_ranges(uri, text, count):
 def read_shrinking(uri, text, image):
     """The bytes read are the text's, or the read failed with EIO, as every read of the missing part does; the payload ends with the image."""
     start = os.stat(image).st_size - len(text)
-    left = [len(text)]
+    remaining = [len(text)]
 
     def work(number):
         chance, handle = random.Random(number), connected(uri)
-        while left[0] > 0:
+        while remaining[0] > 0:
             count = chance.randrange(1, 20000)
             offset = chance.randrange(0, len(text) - count)
-            gone = left[0] < offset + 1
+            gone = remaining[0] < offset + 1
             got = read(handle, count, offset)
             if got != errno.EIO and (gone or got != text[offset:offset + count]):
-                yield f"{count} bytes at {offset} of {left[0]}: {got if isinstance(got, int) else 'others'}"
+                yield f"{count} bytes at {offset} of {remaining[0]}: {got if isinstance(got, int) else 'others'}"
         if read(handle, 1, 0) != errno.EIO:
             yield "a byte of a payload that is gone"
 
     def shrink():
         for size in range(len(text), -1, -(len(text) // 241 + 1)):
             os.truncate(image, start + size)
-            left[0] = size
+            remaining[0] = size
             time.sleep(0.005)
         os.truncate(image, start)
-        left[0] = 0
+        remaining[0] = 0
 
     shrinking = threading.Timer(0.2, shrink)
     shrinking.start()
-    amiss = in_threads(work)
+    problems = in_threads(work)
     shrinking.join()
-    return amiss
+    return problems
 
 
 def ask(answer, command):
@@ -122,27 +122,27 @@ def find(text, process):
     count = 0
     with open(f"/proc/{process}/maps") as maps, open(f"/proc/{process}/mem", "rb", 0) as memory:
         for line in maps:
-            place, rights, *_ = line.split()
+            addresses, rights, *_ = line.split()
             if rights.startswith("rw"):
-                start, end = (int(digits, 16) for digits in place.split("-"))
+                start, end = (int(digits, 16) for digits in addresses.split("-"))
                 memory.seek(start)
                 count += memory.read(end - start).count(text)
     return count
 
 
 def main():
-    what, *words = sys.argv[1:]
+    what, *arguments = sys.argv[1:]
     if what == "asks":
-        sys.exit(ask(words[0], words[1:]))
+        sys.exit(ask(arguments[0], arguments[1:]))
     if what == "finds":
-        with open(words[0], "rb") as file:
+        with open(arguments[0], "rb") as file:
             text = file.read()
-        print(*(find(text, process) for process in words[1:]))
+        print(*(find(text, process) for process in arguments[1:]))
         return
-    with open(words[1], "rb") as file:
+    with open(arguments[1], "rb") as file:
         text = file.read()
-    amiss = read_ranges(words[0], text, int(words[2])) if what == "ranges" else read_shrinking(words[0], text, words[2])
-    print("\n".join(amiss[:5]) or "all the same")
+    problems = read_ranges(arguments[0], text, int(arguments[2])) if what == "ranges" else read_shrinking(arguments[0], text, arguments[2])
+    print("\n".join(problems[:5]) or "all the same")
 
 
 if __name__ == "__main__":

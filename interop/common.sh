@@ -51,16 +51,16 @@ theirs1() {
 
 # theirs2 ROLE SIZE ARGUMENT..: the dump of a LUKS2 header as luksrd words it, made from what cryptsetup's luksDump prints with these arguments
 theirs2() {
-    local place=$1 size=$2
+    local role=$1 size=$2
     shift 2
     cryptsetup luksDump "$@" >fields || exit 1
     cryptsetup luksDump --dump-json-metadata "$@" >metadata || exit 1
-    python3 - "$place" "$size" <<'PYTHON'
+    python3 - "$role" "$size" <<'PYTHON'
 import base64, json, re, sys
-place, size = sys.argv[1:]
+role, size = sys.argv[1:]
 fields = dict(re.findall(r'^([A-Z][a-z A-Z]*):\s+(.*)$', open('fields').read(), re.M))
 tree = json.load(open('metadata'))
-print('Version: 2'); print('Header:', place); print('Sequence:', fields['Epoch']); print('Header size:', size)
+print('Version: 2'); print('Header:', role); print('Sequence:', fields['Epoch']); print('Header size:', size)
 print('UUID:', fields['UUID'])
 print('Label: ' + fields['Label'].replace('(no label)', ''))
 print('Subsystem: ' + fields['Subsystem'].replace('(no subsystem)', ''))
@@ -98,8 +98,8 @@ start_of1() {
     echo $(($(cryptsetup luksDump "$1" | awk '/Payload offset:/ { print $3 }') * 512))
 }
 
-# held_of1 IMAGE: where the key area of slot 5 of a LUKS1 volume ends, in whole sectors
-held_of1() {
+# area_end1 IMAGE: where the key area of slot 5 of a LUKS1 volume ends, in whole sectors
+area_end1() {
     local area
     area=$("$program" luksDump "$1" | sed -n 's/^Slot 5: ENABLED .* offset=\([0-9]*\) stripes=\([0-9]*\)$/\1 \2/p')
     area=$((${area% *} * 512 + ${area#* } * $("$program" luksDump "$1" | sed -n 's/^Key bytes: //p')))

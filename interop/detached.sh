@@ -27,7 +27,7 @@ reads() {
     same "$name, image from a pipe" "$(dd if="$image" bs=777 status=none | sums luksCat --key-file "$key" "--header=$header" -)" "$wanted"
     same "$name, passphrase from a pipe" "$(sums luksCat --key-file - --header "$header" "$image" <"$key")" "$wanted"
     same "$name: all from pipes" "$(sums luksCat --key-file <(cat "$key") --header <(cat "$header") <(cat "$image"))" "$wanted"
-    same "$name: testPassphrase" "$(told testPassphrase --key-file "$key" --header "$header" "$image")" \
+    same "$name: testPassphrase" "$(reported testPassphrase --key-file "$key" --header "$header" "$image")" \
         "$(slot_of "$image" "$key" --header "$header")
 0"
 }
@@ -35,28 +35,28 @@ reads() {
 # agree HEADER IMAGE PLAIN DUMP: luksrd reports the same about the header as cryptsetup, and gives the plain bytes for either passphrase, and for no other
 agree() {
     local header=$1 image=$2 key
-    same "$header: isLuks" "$(told isLuks --header "$header" "$image")" 0
-    same "$header: luksUUID" "$(told luksUUID --header "$header" "$image")" "$(cryptsetup luksUUID --header "$header" "$image")
+    same "$header: isLuks" "$(reported isLuks --header "$header" "$image")" 0
+    same "$header: luksUUID" "$(reported luksUUID --header "$header" "$image")" "$(cryptsetup luksUUID --header "$header" "$image")
 0"
-    same "$header: luksDump" "$(told luksDump --header "$header" "$image")" "$4
+    same "$header: luksDump" "$(reported luksDump --header "$header" "$image")" "$4
 0"
-    same "$header: luksDump of a pipe" "$(dd if="$header" bs=777 status=none | told luksDump --header - "$image")" "$4
+    same "$header: luksDump of a pipe" "$(dd if="$header" bs=777 status=none | reported luksDump --header - "$image")" "$4
 0"
-    same "$header: luksCheck" "$(told luksCheck --header "$header" "$image")" 'clean
+    same "$header: luksCheck" "$(reported luksCheck --header "$header" "$image")" 'clean
 0'
     for key in pass pass2; do
         reads "$3" "$header" "$image" "$key"
     done
-    same "$header: a wrong passphrase" "$(told luksCat --key-file wrong --header "$header" "$image")" "$no_key"
-    same "$header: testPassphrase of a wrong one" "$(told testPassphrase --key-file wrong --header "$header" "$image")" "$no_key"
+    same "$header: a wrong passphrase" "$(reported luksCat --key-file wrong --header "$header" "$image")" "$no_key"
+    same "$header: testPassphrase of a wrong one" "$(reported testPassphrase --key-file wrong --header "$header" "$image")" "$no_key"
 }
 
 # agree1 and agree2 HEADER IMAGE PLAIN: the same for LUKS1, and for LUKS2
 agree1() { agree "$@" "$(theirs1 --header "$1" "$2")"; }
 agree2() { agree "$@" "$(theirs2 primary 16384 --header "$1" "$2")"; }
 
-# front FILE IMAGE START: the image with as many bytes of the file as it has before its payload, in place of those
-front() {
+# replace_start FILE IMAGE START: the image with as many bytes of the file as it has before its payload, in place of those
+replace_start() {
     head -c "$3" "$1"
     tail -c +$(($3 + 1)) "$2"
 }
@@ -66,10 +66,10 @@ rescued() {
     local version=$1 image=$2 lost
     quietly luksHeaderBackup --header-backup-file "backup of $image" "$image"
     same "$image by its backup" "$(sums luksCat --key-file pass --header "backup of $image" "$image")" "$(sum_of "$4" 0)"
-    front /dev/zero "$image" "$3" >"$image, zeros"
-    front /dev/urandom "$image" "$3" >"$image, noise"
+    replace_start /dev/zero "$image" "$3" >"$image, zeros"
+    replace_start /dev/urandom "$image" "$3" >"$image, noise"
     for lost in zeros noise; do
-        same "$image, $lost: no header is left" "$(told luksCat --key-file pass "$image, $lost")" "$no_luks
+        same "$image, $lost: no header is left" "$(reported luksCat --key-file pass "$image, $lost")" "$no_luks
 4"
         "agree$version" "backup of $image" "$image, $lost" "$4"
     done
@@ -88,16 +88,16 @@ decrypted() {
     cat copy
 }
 
-# apart1 NAME CIPHER KEY_BITS OPTION..: a detached LUKS1 header for existing bytes, in NAME.header and NAME; slot 5 is that of the passphrase in pass2
-apart1() {
+# detached1 NAME CIPHER KEY_BITS OPTION..: a detached LUKS1 header for existing bytes, in NAME.header and NAME; slot 5 is that of the passphrase in pass2
+detached1() {
     local name=$1
     cp noise "$name"
     quietly luksFormat "${of_luks1[@]}" --cipher "$2" --key-size "$3" --header "$name.header" "${@:4}" "$name"
     add_key "$name.header" --key-slot 5
 }
 
-# apart2 NAME CIPHER KEY_BITS OPTION..: the same for LUKS2, and slot 1
-apart2() {
+# detached2 NAME CIPHER KEY_BITS OPTION..: the same for LUKS2, and slot 1
+detached2() {
     local name=$1
     cp noise "$name"
     quietly luksFormat "${of_luks2[@]}" --cipher "$2" --key-size "$3" --header "$name.header" "${@:4}" "$name"
@@ -130,13 +130,13 @@ cut_header() {
     same "$1.header cut to $2 bytes, from a pipe" "$(sums luksCat --key-file pass2 --header - "$1" <shorter)" "$(sum_of "$4" "$status" "$3")"
 }
 
-# cut_page NAME BYTES ISLUKS OTHERS: the header truncated to BYTES bytes: what isLuks reports, and what luksUUID, luksDump and luksCheck do; if OTHERS is empty, they do as with the whole
-cut_page() {
+# cut_text NAME BYTES ISLUKS OTHERS: the header truncated to BYTES bytes: what isLuks reports, and what luksUUID, luksDump and luksCheck do; if OTHERS is empty, they do as with the whole
+cut_text() {
     local command
     head -c "$2" "$1.header" >shorter
-    same "$1.header cut to $2 bytes: isLuks" "$(told isLuks --header shorter "$1")" "$3"
+    same "$1.header cut to $2 bytes: isLuks" "$(reported isLuks --header shorter "$1")" "$3"
     for command in luksUUID luksDump luksCheck; do
-        same "$1.header cut to $2 bytes: $command" "$(told "$command" --header shorter "$1")" "${4:-$(told "$command" --header "$1.header" "$1")}"
+        same "$1.header cut to $2 bytes: $command" "$(reported "$command" --header shorter "$1")" "${4:-$(reported "$command" --header "$1.header" "$1")}"
     done
 }
 
@@ -148,7 +148,7 @@ cut_image() {
     head -c "$5" "$4" >expected
     same "$2 cut to $3 bytes" "$(sums luksCat --key-file pass2 --header "$1" shorter)" "$(sum_of expected "$status" "$6")"
     same "$2 cut to $3 bytes, from a pipe" "$(sums luksCat --key-file pass2 --header "$1" - <shorter)" "$(sum_of expected "$status" "$6")"
-    same "$2 cut to $3 bytes: testPassphrase" "$(told testPassphrase --key-file pass --header "$1" shorter)" 'Key slot 0 opens the volume.
+    same "$2 cut to $3 bytes: testPassphrase" "$(reported testPassphrase --key-file pass --header "$1" shorter)" 'Key slot 0 opens the volume.
 0'
 }
 
@@ -181,8 +181,8 @@ done
 
 # LUKS1, a detached header
 for sealed in 'xts-plain64 256' 'xts-plain64 512' 'xts-plain 256' 'xts-plain 512' 'cbc-essiv:sha256 128' 'cbc-essiv:sha256 256' 'cbc-plain64 128' 'cbc-plain64 256'; do
-    name="apart1 $sealed"
-    apart1 "$name" "aes-${sealed% *}" "${sealed#* }"
+    name="detached1 $sealed"
+    detached1 "$name" "aes-${sealed% *}" "${sealed#* }"
     cp "$name.header" "$name.converted"
     quietly convert --type luks2 "$name.converted"
     decrypted "$name.converted" "$name" >theirs
@@ -193,8 +193,8 @@ done
 # LUKS2, likewise: for existing bytes, and for plain ones that are encrypted
 for sealed in 'xts-plain64 256' 'xts-plain64 512' 'xts-plain 512' 'cbc-essiv:sha256 128' 'cbc-essiv:sha256 256' 'cbc-plain64 256'; do
     for sector in 512 4096; do
-        name="apart2 $sealed $sector"
-        apart2 "$name" "aes-${sealed% *}" "${sealed#* }" --sector-size "$sector"
+        name="detached2 $sealed $sector"
+        detached2 "$name" "aes-${sealed% *}" "${sealed#* }" --sector-size "$sector"
         decrypted "$name.header" "$name" >theirs
         agree2 "$name.header" "$name" theirs
         name="sealed2 $sealed $sector"
@@ -209,7 +209,7 @@ done
 
 # a payload that starts at a later offset
 for sealed in 256 512; do
-    apart1 "further1 $sealed" aes-xts-plain64 "$sealed"
+    detached1 "further1 $sealed" aes-xts-plain64 "$sealed"
     cp "further1 $sealed.header" converted
     quietly convert --type luks2 converted
     decrypted converted "further1 $sealed" >theirs
@@ -226,37 +226,37 @@ for sealed in 256 512; do
 done
 
 # truncated headers: nothing is written
-name='apart1 xts-plain64 512'
+name='detached1 xts-plain64 512'
 decrypted "$name.converted" "$name" >theirs
-held=$(held_of1 "$name.header")
+area_end=$(area_end1 "$name.header")
 for bytes in 0 7; do
     cut_header "$name" $bytes "$no_luks" none
-    cut_page "$name" $bytes 1 "$no_luks
+    cut_text "$name" $bytes 1 "$no_luks
 4"
 done
 cut_header "$name" 591 "$in_area" none
-cut_page "$name" 591 "$in_area
+cut_text "$name" 591 "$in_area
 4" "$in_area
 4"
 cut_header "$name" 592 "$in_area" none
-cut_page "$name" 592 0 ''
-cut_header "$name" $((held - 1)) "$in_area" none
-cut_header "$name" "$held" '' theirs
+cut_text "$name" 592 0 ''
+cut_header "$name" $((area_end - 1)) "$in_area" none
+cut_header "$name" "$area_end" '' theirs
 image1=$name
 
 name='sealed2 xts-plain64 512 4096'
-held=$("$program" luksDump "$name.header" | sed -n 's/^Slot 1: USABLE .* offset=\([0-9]*\) size=[0-9]*$/\1/p')
-held=$((held + 4000 * 64))
+area_end=$("$program" luksDump "$name.header" | sed -n 's/^Slot 1: USABLE .* offset=\([0-9]*\) size=[0-9]*$/\1/p')
+area_end=$((area_end + 4000 * 64))
 for bytes in 0 7 16383; do
     cut_header "$name" $bytes "$no_luks" none
-    cut_page "$name" $bytes 1 "$no_luks
+    cut_text "$name" $bytes 1 "$no_luks
 4"
 done
 cut_header "$name" 16384 "$in_area" none
 cut_header "$name" 32768 "$in_area" none
-cut_page "$name" 32768 0 ''
-cut_header "$name" $((held - 1)) "$in_area" none
-cut_header "$name" "$held" '' plain
+cut_text "$name" 32768 0 ''
+cut_header "$name" $((area_end - 1)) "$in_area" none
+cut_header "$name" "$area_end" '' plain
 image2=$name
 
 # truncated images: all their whole sectors are written
@@ -287,9 +287,9 @@ cut_image "backup of $name" none 0 plain 0 "$before"
 
 # one file as both, and both swapped
 same 'an image as its own header' "$(sums luksCat --key-file pass --header "$name" "$name")" "$(sums luksCat --key-file pass "$name")"
-same 'header and payload the wrong way round' "$(told luksCat --key-file pass --header "$image2" "$image2.header")" "$no_luks
+same 'header and payload the wrong way round' "$(reported luksCat --key-file pass --header "$image2" "$image2.header")" "$no_luks
 4"
-same 'a header that stands apart, without being said to' "$(told luksCat --key-file pass "$image2.header")" 'luksrd: segment refused: offset
+same 'a detached header as the image, without --header' "$(reported luksCat --key-file pass "$image2.header")" 'luksrd: segment refused: offset
 1'
 
 # The inputs are opened in this order: the image, the header, the key file. The first that cannot be opened is reported.
@@ -300,7 +300,7 @@ cp "$image2.header" header
 refused() {
     local missing=$1
     shift
-    same "$*" "$(told "$@")" "luksrd: cannot open $missing
+    same "$*" "$(reported "$@")" "luksrd: cannot open $missing
 4"
 }
 for command in isLuks luksUUID luksDump luksCheck; do

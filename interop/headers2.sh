@@ -13,17 +13,17 @@ format() {
 
 # agree IMAGE ROLE SIZE: luksrd reports the same about the image as cryptsetup
 agree() {
-    same "$1: isLuks" "$(told isLuks "$1")" 0
-    same "$1: luksUUID" "$(told luksUUID "$1")" "$(cryptsetup luksUUID "$1")
+    same "$1: isLuks" "$(reported isLuks "$1")" 0
+    same "$1: luksUUID" "$(reported luksUUID "$1")" "$(cryptsetup luksUUID "$1")
 0"
-    same "$1: luksDump" "$(told luksDump "$1")" "$(theirs2 "$2" "$3" "$1")
+    same "$1: luksDump" "$(reported luksDump "$1")" "$(theirs2 "$2" "$3" "$1")
 0"
     same "$1: luksDump of a pipe" "$(dd if="$1" bs=777 status=none | "$program" luksDump -)" "$(theirs2 "$2" "$3" "$1")"
 }
 
 # clean IMAGE: there are no findings
 clean() {
-    same "$1: luksCheck" "$(told luksCheck "$1")" 'clean
+    same "$1: luksCheck" "$(reported luksCheck "$1")" 'clean
 0'
 }
 
@@ -68,34 +68,34 @@ agree several primary 16384
 
 # a header backup is a header too
 cryptsetup -q luksHeaderBackup --header-backup-file backup several || exit 1
-same 'a header backup: luksDump' "$(told luksDump backup)" "$(theirs2 primary 16384 several)
+same 'a header backup: luksDump' "$(reported luksDump backup)" "$(theirs2 primary 16384 several)
 0"
 
 # Damaged headers. cryptsetup repairs what it reads, so it gets copies; the expected text is what it reports about the undamaged one.
 cp several damaged
 dd if=/dev/zero of=damaged bs=512 count=1 conv=notrunc status=none
-same 'a damaged primary header: luksDump' "$(told luksDump damaged)" "$(theirs2 secondary 16384 several)
+same 'a damaged primary header: luksDump' "$(reported luksDump damaged)" "$(theirs2 secondary 16384 several)
 0"
-same 'a damaged primary header: luksCheck' "$(told luksCheck damaged)" 'primary header: not valid
+same 'a damaged primary header: luksCheck' "$(reported luksCheck damaged)" 'primary header: not valid
 luksrd: the header has findings
 1'
 cp several damaged
 printf x | dd of=damaged bs=1 seek=20000 conv=notrunc status=none
-same 'a damaged secondary header: luksDump' "$(told luksDump damaged)" "$(theirs2 primary 16384 several)
+same 'a damaged secondary header: luksDump' "$(reported luksDump damaged)" "$(theirs2 primary 16384 several)
 0"
-same 'a damaged secondary header: luksCheck' "$(told luksCheck damaged)" 'secondary header: not valid
+same 'a damaged secondary header: luksCheck' "$(reported luksCheck damaged)" 'secondary header: not valid
 luksrd: the header has findings
 1'
 # The brace that the primary header's metadata start with: most bytes after it are random, and would sometimes be the one written here.
 printf x | dd of=damaged bs=1 seek=4096 conv=notrunc status=none
 for command in luksUUID luksDump luksCheck; do
-    same "both headers damaged: $command" "$(told "$command" damaged)" 'luksrd: not a LUKS image
+    same "both headers damaged: $command" "$(reported "$command" damaged)" 'luksrd: not a LUKS image
 4'
 done
-same 'both headers damaged: isLuks' "$(told isLuks damaged)" 1
+same 'both headers damaged: isLuks' "$(reported isLuks damaged)" 1
 
 # such a header opens its volume
-same 'several: testPassphrase' "$(told testPassphrase --key-file pass several)" "$(slot_of several pass)
+same 'several: testPassphrase' "$(reported testPassphrase --key-file pass several)" "$(slot_of several pass)
 0"
 
 finish

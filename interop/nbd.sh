@@ -71,8 +71,8 @@ import hashlib, json, sys
 image, *members = sys.argv[1:]
 with open(image, 'r+b') as file:
     size = int.from_bytes(file.read(16)[8:], 'big')
-    for place in (0, size):
-        file.seek(place)
+    for offset in (0, size):
+        file.seek(offset)
         header = bytearray(file.read(size))
         tree = json.loads(header[4096:header.index(0, 4096)])
         tree['segments']['0'].update(member.split('=') for member in members)
@@ -80,7 +80,7 @@ with open(image, 'r+b') as file:
         header[4096:] = area + bytes(size - 4096 - len(area))
         header[448:512] = bytes(64)
         header[448:480] = hashlib.sha256(header).digest()
-        file.seek(place)
+        file.seek(offset)
         file.write(header)
 PYTHON
 }
@@ -156,7 +156,7 @@ same 'a passphrase from a terminal' "$(sha256sum <copy)" "$(sha256sum <text)"
 timeout 60 /usr/bin/python3 "$here/clients.py" asks 'a wrong one' nbdkit -U - "$plugin" "$volume1" passphrase=- --run 'echo it is served' >said 2>&1
 same 'a wrong passphrase from a terminal' $? 1
 printf 'a passphrase\n' >newline
-refused 'a newline behind the passphrase' 'luksrd: no key opens the volume' "$volume1" key-file=newline
+refused 'a newline after the passphrase' 'luksrd: no key opens the volume' "$volume1" key-file=newline
 
 # key slots
 opens 'slot 5 by its number' "$volume1" key-file=pass2 key-slot=5
@@ -289,16 +289,16 @@ within() {
 }
 mib=8
 until within $mib null; do mib=$((mib + 4)); done 2>err
-refusals=0
+starved=0
 until within $mib "$plugin" "$volume1" key-file=pass; do
     status=$?
-    ! grep -q 'luksrd: out of memory' said || refusals=$((refusals + 1))
+    ! grep -q 'luksrd: out of memory' said || starved=$((starved + 1))
     same "$mib MiB of memory: a status and a message" "$((status < 126)) $([ -s said ]; echo $?)" '1 0'
     mib=$((mib + 2))
     [ $mib -lt 300 ] || break
 done 2>err
 same 'with more memory' $((mib < 300)) 1
-same 'memory that is refused' $((refusals > 0)) 1
+same 'out of memory' $((starved > 0)) 1
 
 # The plugin's C under valgrind, and under AddressSanitizer with undefined behaviour: whole reads, ranges, an image that ends and refusals.
 # instrumented NAME PLUGIN ARGUMENT..: nbdkit with these arguments, with the plugin of this build

@@ -10,11 +10,11 @@ ln -s "$program" luksrd
 theirs=$(command -v nbdkit)
 cat >nbdkit <<TEXT
 #!/usr/bin/env bash
-for word; do
-    [ "\$word" != luksrd ] || word=$plugin
-    words+=("\$word")
+for argument; do
+    [ "\$argument" != luksrd ] || argument=$plugin
+    arguments+=("\$argument")
 done
-exec $theirs "\${words[@]}"
+exec $theirs "\${arguments[@]}"
 TEXT
 chmod +x nbdkit
 PATH=$work:$PATH
@@ -148,7 +148,7 @@ truncate -s 16M partition/whole.img
 echo 'start=2048, size=24576' | sfdisk -q partition/whole.img
 dd if=partition/disk.img of=partition/whole.img bs=512 seek=2048 conv=notrunc status=none
 same 'the partition' "$(stat -c %s partition/disk.img)" $((24576 * 512))
-same 'isLuks of a whole disk' "$(told isLuks partition/whole.img)" 1
+same 'isLuks of a whole disk' "$(reported isLuks partition/whole.img)" 1
 cooks partition whole.img 'A partition of a whole disk'
 gives partition plain.img plain
 says partition 'start=        2048, size=       24576'
@@ -179,7 +179,7 @@ truncate -s +4M argon2/disk.img
 cryptsetup -q reencrypt --encrypt --type luks2 --reduce-device-size 4M --force-offline-reencrypt --luks2-metadata-size 16k \
     --luks2-keyslots-size 1m "${by_argon2[@]}" --key-file pass argon2/disk.img >err 2>&1 || { cat err; exit 1; }
 damaged argon2/disk.img
-same 'a volume of Argon2' "$(told testPassphrase --key-file pass argon2/disk.img)" 'luksrd: no key slot can be tried; skipped: 0 (argon2id)
+same 'a volume of Argon2' "$(reported testPassphrase --key-file pass argon2/disk.img)" 'luksrd: no key slot can be tried; skipped: 0 (argon2id)
 1'
 cooks argon2 '' 'Argon2 key slots only'
 gives argon2 plain.img plain

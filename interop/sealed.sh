@@ -17,14 +17,14 @@ import hashlib, json, sys
 # The same header for a payload at the start of its file: the segment's offset is 0, and the checksums are recomputed.
 bytes_ = bytearray(open(sys.argv[1], 'rb').read())
 size = int.from_bytes(bytes_[8:16], 'big')
-for place in (0, size):
-    area = bytes_[place + 4096:place + size]
+for offset in (0, size):
+    area = bytes_[offset + 4096:offset + size]
     tree = json.loads(area[:area.index(0)])
     tree['segments']['0']['offset'] = '0'
     text = json.dumps(tree, separators=(',', ':')).encode()
-    bytes_[place + 4096:place + size] = text + bytes(size - 4096 - len(text))
-    bytes_[place + 448:place + 512] = bytes(64)
-    bytes_[place + 448:place + 480] = hashlib.sha256(bytes_[place:place + size]).digest()
+    bytes_[offset + 4096:offset + size] = text + bytes(size - 4096 - len(text))
+    bytes_[offset + 448:offset + 512] = bytes(64)
+    bytes_[offset + 448:offset + 480] = hashlib.sha256(bytes_[offset:offset + size]).digest()
 open(sys.argv[1], 'wb').write(bytes_)
 PYTHON
     cryptsetup -q reencrypt --decrypt --force-offline-reencrypt --header header --key-file one copy >err 2>&1 || { cat err >&2; exit 1; }
@@ -35,12 +35,12 @@ PYTHON
 opens() {
     local key
     for key in one two; do
-        same "$1, $key: testPassphrase" "$(told testPassphrase --key-file "$key" "$1")" "$(slot_of "$1" "$key")
+        same "$1, $key: testPassphrase" "$(reported testPassphrase --key-file "$key" "$1")" "$(slot_of "$1" "$key")
 0"
         same "$1, $key: luksCat" "$(sums luksCat --key-file "$key" "$1")" "$(sum_of plain 0)"
     done
-    same "$1: a wrong passphrase" "$(told luksCat --key-file wrong "$1")" "$no_key"
-    same "$1: luksCheck" "$(told luksCheck "$1")" 'clean
+    same "$1: a wrong passphrase" "$(reported luksCat --key-file wrong "$1")" "$no_key"
+    same "$1: luksCheck" "$(reported luksCheck "$1")" 'clean
 0'
 }
 

@@ -20,12 +20,12 @@ gives() {
 opens() {
     local key
     for key in pass pass2; do
-        same "$1, $key: testPassphrase" "$(told testPassphrase --key-file "$key" "$1")" "$(slot_of "$1" "$key")
+        same "$1, $key: testPassphrase" "$(reported testPassphrase --key-file "$key" "$1")" "$(slot_of "$1" "$key")
 0"
         gives "$1" file "$key"
     done
     gives "$1" - pass
-    same "$1: a wrong passphrase" "$(told luksCat --key-file wrong "$1")" "$no_key"
+    same "$1: a wrong passphrase" "$(reported luksCat --key-file wrong "$1")" "$no_key"
 }
 
 # damage IMAGE OFFSET: changes the byte of the image at this offset
@@ -36,7 +36,7 @@ damage() {
 # cut IMAGE BYTES MESSAGE: the image truncated to BYTES bytes gives this message
 cut() {
     head -c "$2" "$1" >shorter
-    same "$1 cut to $2 bytes" "$(told luksCat --key-file pass2 shorter)" "$3
+    same "$1 cut to $2 bytes" "$(reported luksCat --key-file pass2 shorter)" "$3
 4"
 }
 
@@ -63,22 +63,22 @@ done
 
 # key slots by number, by priority, and with a limit
 seal slots aes-xts-plain64 512
-same 'slot 1 by its number' "$(told testPassphrase --key-slot 1 --key-file pass2 slots)" 'Key slot 1 opens the volume.
+same 'slot 1 by its number' "$(reported testPassphrase --key-slot 1 --key-file pass2 slots)" 'Key slot 1 opens the volume.
 0'
-same 'slot 1 with the passphrase of slot 0' "$(told testPassphrase --key-slot 1 --key-file pass slots)" "$no_key"
-same 'a slot that is not there' "$(told testPassphrase --key-slot 7 --key-file pass slots)" 'luksrd: key slot 7 is not there
+same 'slot 1 with the passphrase of slot 0' "$(reported testPassphrase --key-slot 1 --key-file pass slots)" "$no_key"
+same 'a slot that is not there' "$(reported testPassphrase --key-slot 7 --key-file pass slots)" 'luksrd: key slot 7 is not there
 1'
-same 'a limit that slot 0 meets' "$(told testPassphrase --max-iterations 1000 --key-file pass slots)" 'Key slot 0 opens the volume.
+same 'a limit that slot 0 meets' "$(reported testPassphrase --max-iterations 1000 --key-file pass slots)" 'Key slot 0 opens the volume.
 0'
-same 'a limit that no slot meets' "$(told testPassphrase --max-iterations 999 --key-file pass slots)" \
+same 'a limit that no slot meets' "$(reported testPassphrase --max-iterations 999 --key-file pass slots)" \
     'luksrd: no key slot can be tried; skipped: 0 (iterations), 1 (iterations)
 1'
 cryptsetup -q config --priority ignore --key-slot 0 slots
-same 'a slot that is to be ignored' "$(told testPassphrase --key-file pass slots)" "$no_key"
-same 'unless it is named' "$(told testPassphrase --key-slot 0 --key-file pass slots)" 'Key slot 0 opens the volume.
+same 'a slot that is to be ignored' "$(reported testPassphrase --key-file pass slots)" "$no_key"
+same 'unless it is named' "$(reported testPassphrase --key-slot 0 --key-file pass slots)" 'Key slot 0 opens the volume.
 0'
 cryptsetup -q luksConvertKey --key-slot 1 --pbkdf argon2id --pbkdf-memory 32 --pbkdf-parallel 1 --pbkdf-force-iterations 4 --key-file pass2 slots
-same 'Argon2 alone' "$(told testPassphrase --key-file pass2 slots)" 'luksrd: no key slot can be tried; skipped: 1 (argon2id)
+same 'Argon2 alone' "$(reported testPassphrase --key-file pass2 slots)" 'luksrd: no key slot can be tried; skipped: 1 (argon2id)
 1'
 
 # one header is damaged

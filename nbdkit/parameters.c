@@ -8,22 +8,22 @@
 #include <nbdkit-plugin.h>
 
 /* The longest number is as long as 4294967295. */
-#define MOST_DIGITS 10
+#define MAX_DIGITS 10
 
 /* Reads a number as luksrd's command line does: 1 to 10 decimal digits and nothing else. */
-static int take_number(const char *key, const char *value, uint64_t least, uint64_t most,
+static int take_number(const char *key, const char *value, uint64_t min, uint64_t max,
                        uint32_t *number)
 {
   const size_t digits = strspn(value, "0123456789");
-  if (digits >= 1 && digits <= MOST_DIGITS && value[digits] == '\0') {
+  if (digits >= 1 && digits <= MAX_DIGITS && value[digits] == '\0') {
     const unsigned long long read = strtoull(value, NULL, 10);
-    if (read >= least && read <= most) {
+    if (read >= min && read <= max) {
       *number = (uint32_t)read;
       return 0;
     }
   }
-  nbdkit_error("%s=%s: not a number from %llu to %llu", key, value, (unsigned long long)least,
-               (unsigned long long)most);
+  nbdkit_error("%s=%s: not a number from %llu to %llu", key, value, (unsigned long long)min,
+               (unsigned long long)max);
   return -1;
 }
 

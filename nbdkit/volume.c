@@ -11,7 +11,7 @@
 #include <nbdkit-plugin.h>
 
 /* The longest sector. */
-#define MOST_SECTOR 4096
+#define MAX_SECTOR 4096
 
 /* The number of bytes that are read and decrypted at once, whole sectors of any size: more would leave
  * the processor's cache before they are decrypted. */
@@ -32,19 +32,19 @@ static void wipe(struct bytes *bytes)
   *bytes = (struct bytes){ 0 };
 }
 
-/* Reads all of a file, or its first `most` bytes. Returns 0, or -1 and reports why not. */
-static int read_first(const char *name, int fd, size_t most, struct bytes *bytes)
+/* Reads all of a file, or its first `max` bytes. Returns 0, or -1 and reports why not. */
+static int read_first(const char *name, int fd, size_t max, struct bytes *bytes)
 {
-  bytes->at = malloc(most);
+  bytes->at = malloc(max);
   if (!bytes->at) {
     nbdkit_error("luksrd: out of memory");
     return -1;
   }
-  const ssize_t got = read_next(fd, bytes->at, most);
+  const ssize_t got = read_next(fd, bytes->at, max);
   if (got < 0) {
     nbdkit_error("%s: luksrd: read failed: %s", name, strerror(errno));
     /* it is unknown what was read before that; it may be a part of the key file */
-    bytes->len = most;
+    bytes->len = max;
     return -1;
   }
   bytes->len = (size_t)got;
@@ -116,7 +116,7 @@ static void close_inputs(const struct volume *volume, const struct inputs *input
 
 /* Moves the passphrase out of the parameters, or reads the key file: up to one byte more than the
  * longest passphrase, so that luksrd_open refuses a longer one. */
-static int take_secret(struct parameters *parameters, int key_file, struct bytes *passphrase)
+static int get_passphrase(struct parameters *parameters, int key_file, struct bytes *passphrase)
 {
   if (parameters->key_file)
     return read_first(parameters->key_file, key_file, LUKSRD_PASSPHRASE_BYTES + 1, passphrase);
@@ -137,7 +137,7 @@ int open_volume(struct volume *volume, struct parameters *parameters)
   if (open_inputs(volume, parameters, &image_len, &inputs) == 0 &&
       read_first(parameters->header ? parameters->header : volume->name, inputs.header,
                  LUKSRD_HEADER_BYTES, &header) == 0 &&
-      take_secret(parameters, inputs.key_file, &passphrase) == 0)
+      get_passphrase(parameters, inputs.key_file, &passphrase) == 0)
     status = unlock(volume, &header, &passphrase, &parameters->options);
   wipe(&passphrase);
   forget_passphrase(parameters);
@@ -169,7 +169,7 @@ static int read_sectors(const struct volume *volume, uint64_t first, uint8_t *to
 static int read_part(const struct volume *volume, uint64_t sector, uint32_t skip, uint8_t *to,
                      uint32_t len)
 {
-  uint8_t whole[MOST_SECTOR];
+  uint8_t whole[MAX_SECTOR];
   if (read_sectors(volume, sector, whole, volume->opened.sector_size) < 0)
     return -1;
   memcpy(to, whole + skip, len);
@@ -182,14 +182,14 @@ int read_plain(const struct volume *volume, uint8_t *to, uint32_t count, uint64_
   uint32_t done = 0;
   while (done < count) {
     const uint64_t sector = (offset + done) / size;
-    const uint32_t skip = (uint32_t)((offset + done) % size), left = count - done;
+    const uint32_t skip = (uint32_t)((offset + done) % size), remaining = count - done;
     uint32_t len;
     int status;
-    if (skip > 0 || left < size) {
-      len = left < size - skip ? left : size - skip;
+    if (skip > 0 || remaining < size) {
+      len = remaining < size - skip ? remaining : size - skip;
       status = read_part(volume, sector, skip, to + done, len);
     } else {
-      len = left < PIECE ? left - left % size : PIECE;
+      len = remaining < PIECE ? remaining - remaining % size : PIECE;
       status = read_sectors(volume, sector, to + done, len);
     }
     if (status < 0) {

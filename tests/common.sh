@@ -40,8 +40,8 @@ same() {
     fi
 }
 
-# told ARGUMENT..: the message of a run without output and its status; any output is shown
-told() {
+# reported ARGUMENT..: the message of a run without output and its status; any output is shown
+reported() {
     "$program" "$@" 2>&1
     echo $?
 }
@@ -81,7 +81,7 @@ TEXT
 
 # scarce HEX ARGUMENT..: with less memory than a run with these arguments needs, it reports that and writes nothing; otherwise it writes these bytes
 scarce() {
-    local output=$1 refused=0 kib
+    local output=$1 starved=0 kib
     shift
     for kib in $(seq 2000 20 20000); do
         (ulimit -v "$kib"; exec "$program" "$@") >out 2>err
@@ -89,7 +89,7 @@ scarce() {
         case $(cat status) in
         127) ;; # the loader found no memory for the program itself
         3)
-            refused=$((refused + 1))
+            starved=$((starved + 1))
             expect "$1 in $kib KiB of memory" 3 '' 'luksrd: out of memory'
             ;;
         *)
@@ -98,7 +98,7 @@ scarce() {
             ;;
         esac
     done
-    [ "$refused" -gt 0 ] || { failed=$((failed + 1)); echo "FAILED: no run of $1 was refused memory"; }
+    [ "$starved" -gt 0 ] || { failed=$((failed + 1)); echo "FAILED: no run of $1 was out of memory"; }
 }
 
 # finish: the count, and whether all was as expected

@@ -17,8 +17,8 @@ options_of() {
     awk -v name="$1" '$2 == name' forms | grep -o -e '--[a-z-]*'
 }
 
-# behind COMMAND OPTION: what should be offered after this option
-behind() {
+# after COMMAND OPTION: what should be offered after this option
+after() {
     case $(awk -v name="$1" '$2 == name' forms | grep -o -e "$2 [A-Z]*") in
     *' FILE') echo files ;;
     *' HASH') echo "$hashes" ;;
@@ -33,7 +33,7 @@ joined() {
 }
 
 for hash in $hashes; do
-    same "hash $hash" "$(printf a | told afMerge --hash "$hash" --stripes 1 --key-bytes 1 -)" 'a0'
+    same "hash $hash" "$(printf a | reported afMerge --hash "$hash" --stripes 1 --key-bytes 1 -)" 'a0'
 done
 
 # wanted_lines: lines to be completed at their ends, each with a bar and what should be offered there
@@ -51,7 +51,7 @@ wanted_lines() {
         echo "luksrd $command --|$(options_of "$command" | joined)"
         echo "luksrd $command first --|$(options_of "$command" | joined)"
         for option in $(options_of "$command"); do
-            offers=$(behind "$command" "$option")
+            offers=$(after "$command" "$option")
             echo "luksrd $command $option |$offers"
             echo "luksrd $command $option=|$offers"
             echo "luksrd $command first $option |$offers"
@@ -91,7 +91,7 @@ bash --norc --noprofile ../bash.answers "$completions/luksrd.bash" <../wanted >.
 same 'what bash offers' "$(diff ../wanted ../offered)" ''
 
 # typed LINE: bash reads this line and a tab, and calls a function instead of the program with the
-# completed words
+# completed arguments
 typed() {
     # shellcheck disable=SC2016
     printf '%s\n' ". '$completions/luksrd.bash'" 'luksrd() { printf "<%s>" "$@" >../called; }' \

@@ -10,8 +10,8 @@ gzip -dc "$sample/volume.img.gz" >volume
 cp "$sample/passphrase" pass
 plain=$(hex "$sample/plain.txt")
 opens=$(printf 'Key slot 0 opens the volume.\n' >line; hex line)
-held=$((8 * 512 + 64 * 4000))
-head -c $held volume >header
+area_end=$((8 * 512 + 64 * 4000))
+head -c $area_end volume >header
 printf 'another one' >wrong
 : >in
 
@@ -160,9 +160,9 @@ same 'none at all, and none needed' "$("$program" isLuks volume <&- >&- 2>&-; ec
 
 # bytes of a pipe that are not needed stay in it
 mkfifo pipe
-# taken BYTES ARGUMENT..: a run over a named pipe, into which an image and more are written, consumes this number of its bytes
+# consumes BYTES ARGUMENT..: a run over a named pipe, into which an image and more are written, consumes this number of its bytes
 piped=volume
-taken() {
+consumes() {
     local count=$1 writer
     shift
     exec 3<>pipe
@@ -172,29 +172,29 @@ taken() {
     timeout 60 head -c $(($(stat -c %s "$piped") + 8 - count)) <&3 >rest
     wait $writer
     exec 3>&-
-    same "$*: the rest of the pipe behind $count bytes" "$(sha256sum <rest)" "$( (tail -c +$((count + 1)) "$piped"; printf 'the rest') | sha256sum)"
+    same "$*: the rest of the pipe after $count bytes" "$(sha256sum <rest)" "$( (tail -c +$((count + 1)) "$piped"; printf 'the rest') | sha256sum)"
 }
-taken $held testPassphrase --key-file pass pipe
+consumes $area_end testPassphrase --key-file pass pipe
 expect 'a named pipe' 0 "$opens" ''
-taken $held testPassphrase --key-file pass --header pipe volume
+consumes $area_end testPassphrase --key-file pass --header pipe volume
 expect 'a header in a named pipe' 0 "$opens" ''
-taken $held luksCat --key-file pass --header pipe volume
+consumes $area_end luksCat --key-file pass --header pipe volume
 expect 'a header in a named pipe, and the payload in a file' 0 "$plain" ''
-taken 592 isLuks --header pipe volume
+consumes 592 isLuks --header pipe volume
 expect 'a header in a named pipe, which is looked for' 0 '' ''
 
 # the image is not read before a key was found, nor by a command that needs only the header
-taken 0 luksCat --key-file wrong --header header pipe
+consumes 0 luksCat --key-file wrong --header header pipe
 expect 'a wrong passphrase beside a header' 2 '' 'luksrd: no key opens the volume'
-taken 0 luksCat --key-file pass --header pass pipe
+consumes 0 luksCat --key-file pass --header pass pipe
 expect 'no header' 4 '' 'luksrd: not a LUKS image'
-taken 0 testPassphrase --key-file pass --header header pipe
+consumes 0 testPassphrase --key-file pass --header header pipe
 expect 'a passphrase beside a header' 0 "$opens" ''
-taken 0 isLuks --header header pipe
+consumes 0 isLuks --header header pipe
 expect 'a header that is looked for' 0 '' ''
 for command in luksUUID luksDump luksCheck; do
     "$program" $command header >wanted
-    taken 0 $command --header header pipe
+    consumes 0 $command --header header pipe
     expect "$command beside a header" 0 "$(hex wanted)" ''
 done
 
@@ -208,29 +208,29 @@ sized() {
 import hashlib, sys
 image = bytearray(open("dynamic", "rb").read())
 size = b'"size":"%s"' % sys.argv[1].encode()
-for place in 0, 16384:
-    header = image[place : place + 16384].replace(b'"size":"dynamic"', size)
+for offset in 0, 16384:
+    header = image[offset : offset + 16384].replace(b'"size":"dynamic"', size)
     header += bytes(16384 - len(header))
     header[448:512] = bytes(64)
     header[448:480] = hashlib.sha256(header).digest()
-    image[place : place + 16384] = header
+    image[offset : offset + 16384] = header
 sys.stdout.buffer.write(image)
 PYTHON
 }
 piped=sized
 for sectors in 1 2 3 127 128 129 400; do
     sized $((sectors * 512)) >sized
-    taken $((1048576 + sectors * 512)) luksCat --key-file pass pipe
+    consumes $((1048576 + sectors * 512)) luksCat --key-file pass pipe
     head -c $((sectors * 512)) whole >wanted
     expect "a payload of $sectors sectors in a named pipe" 0 "$(hex wanted)" ''
-    taken $((1048576 + sectors * 512)) luksCat --key-file pass --header sized pipe
+    consumes $((1048576 + sectors * 512)) luksCat --key-file pass --header sized pipe
     expect "a payload of $sectors sectors in a named pipe beside a header" 0 "$(hex wanted)" ''
 done
 run luksCat --key-file pass <(cat dynamic)
 expect 'a payload without an end from a pipe' 0 "$(hex whole)" ''
 rm in
 ln -s pipe in
-taken $((1048576 + sectors * 512)) luksCat --key-file pass -
+consumes $((1048576 + sectors * 512)) luksCat --key-file pass -
 expect 'a payload of a fixed size from standard input' 0 "$(hex wanted)" ''
 rm in
 : >in
@@ -284,7 +284,7 @@ write_failed='luksrd: write failed'
 : >out
 traced write "$work/out" error=EINTR luksCat --key-file pass volume
 expect 'every write interrupted' 6 '' "$write_failed"
-same 'as often as it was asked' "$(grep -c '^write' trace)" 101
+same 'the number of write calls' "$(grep -c '^write' trace)" 101
 traced write "$work/out" error=EINTR:when=1..100 luksCat --key-file pass volume
 expect 'a hundred writes interrupted' 0 "$plain" ''
 traced write "$work/out" error=ENOSPC:when=1 luksCat --key-file pass volume
@@ -292,7 +292,7 @@ expect 'a write that fails once' 6 '' "$write_failed"
 for file in volume pass; do
     traced read "$work/$file" error=EINTR luksCat --key-file pass volume
     expect "every read of $file interrupted" 6 '' "$read_failed"
-    same "as often as $file was asked" "$(grep -c '^read' trace)" 101
+    same "the number of read calls on $file" "$(grep -c '^read' trace)" 101
     traced read "$work/$file" error=EINTR:when=1..100 luksCat --key-file pass volume
     expect "a hundred reads of $file interrupted" 0 "$plain" ''
     traced read "$work/$file" error=EIO:when=1 luksCat --key-file pass volume
@@ -318,7 +318,7 @@ for call in $(seq 2 40); do
 $read_failed"
     case $plain in
     "$(hex out)"*) passed=$((passed + 1)) ;;
-    *) failed=$((failed + 1)); echo "FAILED: what read $call that fails leaves is no beginning" ;;
+    *) failed=$((failed + 1)); echo "FAILED: what read $call that fails leaves is no prefix of the plain text" ;;
     esac
 done
 expect 'no read that fails' 0 "$plain" ''

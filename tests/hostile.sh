@@ -15,7 +15,7 @@ EXTREMES = [0, 1, 2, 7, 8, 31, 32, 63, 64, 127, 128, 255, 256, 511, 512, 591, 59
 TEXTS = [b'aes', b'xts-plain64', b'cbc-essiv:sha256', b'sha256', b'SHA1', b'sha512', b'', b'\xff' * 9, b'\x1b[31m', b'a\\b', b'serpent', b'\xc3\xa9']
 
 def number(): return draw.choice(EXTREMES + [draw.getrandbits(64), draw.getrandbits(32), draw.getrandbits(10)])
-def text(room): return (draw.choice(TEXTS + [bytes(draw.getrandbits(8) for _ in range(draw.randrange(room + 1)))]) + bytes(room))[:room]
+def text(capacity): return (draw.choice(TEXTS + [bytes(draw.getrandbits(8) for _ in range(draw.randrange(capacity + 1)))]) + bytes(capacity))[:capacity]
 
 def first():
     """A header of LUKS1."""
@@ -45,17 +45,17 @@ def usual(n):
             'digests': {'0': {'type': 'pbkdf2', 'keyslots': list(slots), 'segments': ['0'], 'hash': 'sha256', 'iterations': 1000, 'salt': 'AAAA',
                               'digest': 'A' * 43 + '='}}}
 
-def places(tree, found):
+def members(tree, found):
     """The objects of a tree, each with one of its names."""
     if isinstance(tree, dict):
-        for name in tree: found.append((tree, name)); places(tree[name], found)
+        for name in tree: found.append((tree, name)); members(tree[name], found)
     return found
 
 def metadata():
     if draw.random() < 0.1: return bytes(draw.getrandbits(8) for _ in range(draw.randrange(200)))
     tree = usual(draw.randrange(4))
     for _ in range(draw.randrange(4)):
-        owner, name = draw.choice(places(tree, []))
+        owner, name = draw.choice(members(tree, []))
         if draw.random() < 0.3: del owner[name]
         else: owner[name] = value()
     out = json.dumps(tree, ensure_ascii=draw.random() < 0.5, separators=(',', ':')).encode('utf-8', 'surrogatepass')
@@ -65,12 +65,12 @@ def metadata():
 def second():
     """An image with headers of LUKS2, each with a checksum that mostly agrees."""
     size, text_of = 16384, metadata()
-    def header(place, magic):
+    def header(offset, magic):
         named = draw.choice([size] * 12 + [32768, number()])
         h = bytearray(size)
         h[:4096] = (struct.pack('>6sHQQ48s32s64s40s48sQ', magic, 2, named, draw.choice([1, 2, number()]), text(48),
                                 draw.choice([b'sha256'] * 9 + [b'sha1', b'sha512', b'md5']).ljust(32, b'\0'), text(64), text(40), text(48),
-                                draw.choice([place] * 12 + [number()])) + bytes(4096))[:4096]
+                                draw.choice([offset] * 12 + [number()])) + bytes(4096))[:4096]
         h[4096:4096 + len(text_of)] = text_of[:size - 4096]
         if draw.random() < 0.2: h[draw.randrange(size)] = draw.getrandbits(8)
         algorithm = bytes(h[72:104]).split(b'\0')[0].decode('latin-1').lower()
@@ -82,14 +82,14 @@ def second():
     image = header(0, b'LUKS\xba\xbe') + header(size, b'SKUL\xba\xbe')
     return image[:draw.choice([len(image)] * 9 + [draw.randrange(len(image))])]
 
-def run_on(image, words):
+def run_on(image, arguments):
     """The output, the message and the status of a run with this image on a pipe, which holds 64 KiB. After a minute the run is killed."""
     reader, writer = os.pipe()
     assert os.write(writer, image) == len(image)
     os.close(writer)
     printed = [os.open(name, os.O_RDWR | os.O_CREAT | os.O_TRUNC, 0o600) for name in ('out', 'err')]
     streams = [reader] + printed
-    child = os.posix_spawn(program, words, {}, file_actions=[(os.POSIX_SPAWN_DUP2, stream, to) for to, stream in enumerate(streams)])
+    child = os.posix_spawn(program, arguments, {}, file_actions=[(os.POSIX_SPAWN_DUP2, stream, to) for to, stream in enumerate(streams)])
     signal.signal(signal.SIGALRM, lambda *_: os.kill(child, signal.SIGKILL))
     signal.alarm(60)
     status = os.waitstatus_to_exitcode(os.waitpid(child, 0)[1])
@@ -106,14 +106,14 @@ for run in range(count):
         image = bytearray(image)
         for _ in range(draw.randrange(1, 4)): image[draw.randrange(len(image))] = draw.getrandbits(8)
     command = draw.choice(COMMANDS)
-    words = [program, command] + (['--key-file', '/dev/null', '--max-iterations', '100'] if command in COMMANDS[4:] else [])
-    words += ['--header', '-', '/dev/null'] if draw.random() < 0.3 else ['-']
-    output, message, status = run_on(bytes(image), words)
+    arguments = [program, command] + (['--key-file', '/dev/null', '--max-iterations', '100'] if command in COMMANDS[4:] else [])
+    arguments += ['--header', '-', '/dev/null'] if draw.random() < 0.3 else ['-']
+    output, message, status = run_on(bytes(image), arguments)
     printed = output + message
     statuses[command, status] = statuses.get((command, status), 0) + 1
     clean = all(byte == 10 or 32 <= byte <= 126 for byte in printed) or command == 'luksCat'
-    told = message == b'' or (message.startswith(b'luksrd: ') and message.count(b'\n') == 1)
-    if status not in (0, 1, 2, 4) or not clean or not told:
+    is_message = message == b'' or (message.startswith(b'luksrd: ') and message.count(b'\n') == 1)
+    if status not in (0, 1, 2, 4) or not clean or not is_message:
         wrong += 1
         print('FAILED header', run, command, 'status', status, message[:200])
 for (command, status), number_of in sorted(statuses.items()): print(f'{command} ended with {status}: {number_of}')

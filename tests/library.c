@@ -103,7 +103,7 @@ static void make_bad_calls(const struct job *job)
   const struct luksrd_volume none = { 0 }, *volume = job->volume;
   const uint32_t size = volume->sector_size;
   struct luksrd_message message;
-  uint64_t left;
+  uint64_t bytes;
   struct bytes two = copy_of(job->image.at, 2 * (size_t)size);
   must(luksrd_decrypt(volume, 0, two.at, size + 1) == LUKSRD_BAD_RANGE, "a part of a sector");
   must(luksrd_decrypt(volume, UINT64_MAX, two.at, two.len) == LUKSRD_BAD_RANGE, "the last sector");
@@ -111,7 +111,7 @@ static void make_bad_calls(const struct job *job)
   must(memcmp(two.at, job->image.at, two.len) == 0, "the bytes of refused calls");
   must(luksrd_decrypt(volume, 7, two.at, 0) == LUKSRD_OK, "no sector");
   must(luksrd_len(&none, UINT64_MAX) == 0, "the length of no volume");
-  must(luksrd_ending(&none, 0, &left, &message) == LUKSRD_BAD_VOLUME, "the ending of no volume");
+  must(luksrd_ending(&none, 0, &bytes, &message) == LUKSRD_BAD_VOLUME, "the ending of no volume");
   free(two.at);
 }
 
@@ -120,9 +120,9 @@ static void check_message(const struct luksrd_message *message)
 {
   must(message->status >= 1 && message->status <= 4, "a message's status");
   must(message->len > 8 && message->len <= sizeof message->text, "a message's length");
-  must(memcmp(message->text, "luksrd: ", 8) == 0, "a message's beginning");
+  must(memcmp(message->text, "luksrd: ", 8) == 0, "a message's prefix");
   must(all_zero(message->text + message->len, sizeof message->text - message->len),
-       "the bytes behind a message");
+       "the bytes after a message");
 }
 
 /* The sentences of all codes, and of others. */
@@ -162,7 +162,7 @@ static void open_volume(struct bytes header, struct bytes passphrase,
   }
   must(all_zero(&message, sizeof message), "the message of a volume that is open");
   must(all_zero(volume->key + volume->key_size, sizeof volume->key - volume->key_size),
-       "the bytes behind the key");
+       "the bytes after the key");
 }
 
 /* Reads the volume in all ways, and writes it. */
@@ -194,8 +194,8 @@ int main(int argc, char **argv)
   read_volume(&job);
 
   struct luksrd_message message;
-  uint64_t left;
-  luksrd_ending(&volume, job.image.len, &left, &message);
+  uint64_t bytes;
+  luksrd_ending(&volume, job.image.len, &bytes, &message);
   free(job.plain.at);
   free(job.image.at);
   free(header.at);

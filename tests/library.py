@@ -49,11 +49,11 @@ def end_with(message):
 
 def main():
     library = load(sys.argv[1])
-    image, secret = contents(sys.argv[2]), contents(sys.argv[4])
+    image, passphrase = contents(sys.argv[2]), contents(sys.argv[4])
     is_detached = sys.argv[3] != "-"
     header = (contents(sys.argv[3]) if is_detached else image)[:HEADER_BYTES]
-    volume, message, left = Volume(), Message(), ctypes.c_uint64()
-    if library.luksrd_open(header, len(header), secret, len(secret), Options(detached=is_detached), volume, message):
+    volume, message, ending = Volume(), Message(), ctypes.c_uint64()
+    if library.luksrd_open(header, len(header), passphrase, len(passphrase), Options(detached=is_detached), volume, message):
         end_with(message)
     for first in range(0, library.luksrd_len(volume, len(image)) // volume.sector_size, PIECE):
         start = volume.offset + first * volume.sector_size
@@ -63,7 +63,7 @@ def main():
             sys.exit("not decrypted")
         sys.stdout.buffer.write(piece.raw)
     sys.stdout.flush()
-    library.luksrd_ending(volume, len(image), left, message)
+    library.luksrd_ending(volume, len(image), ending, message)
     end_with(message)
 
 

@@ -16,8 +16,8 @@ compiled sanitized -I"$sources/c" "$library" -fsanitize=address,undefined -fno-s
 # as it is installed, with the shared library and the flags of pkg-config
 make -s -C "$sources" install-library LIBRARY="$library" SHARED="$shared" PREFIX="$work/installed" >log 2>&1 || { cat log; exit 1; }
 export PKG_CONFIG_PATH=$work/installed/lib/pkgconfig LD_LIBRARY_PATH=$work/installed/lib
-read -ra words <<<"$(pkg-config --cflags --libs luksrd)"
-compiled shared "${words[@]}"
+read -ra flags <<<"$(pkg-config --cflags --libs luksrd)"
+compiled shared "${flags[@]}"
 
 # reads NAME IMAGE HEADER KEY ARGUMENT..: the program with these arguments has the output and the messages of luksCat
 reads() {
@@ -57,8 +57,8 @@ for sample in volume volume2; do
     done
     head -c $((start - 1)) $sample >shorter
     agree "$sample without its payload" shorter - pass
-    agree "$sample, its header detached" $sample $sample pass
-    agree "$sample, an image detached that is empty" empty $sample pass
+    agree "$sample with a detached header" $sample $sample pass
+    agree "$sample, an empty image with a detached header" empty $sample pass
     agree "$sample, a wrong passphrase" $sample - wrong
     agree "$sample, no passphrase" $sample - empty
 done
@@ -75,7 +75,7 @@ block() {
 example=$sources/crates/example_read
 same 'the example in Rattle' "$(sed -n '/^\/\/\/ The 512 bytes of the first sector/,/^}/p' "$example/src/main.rt")" "$(block rust)"
 block c >first.c
-gcc -std=c11 -D_GNU_SOURCE -Wall -Wextra -Werror -o first first.c "${words[@]}" || exit 1
+gcc -std=c11 -D_GNU_SOURCE -Wall -Wextra -Werror -o first first.c "${flags[@]}" || exit 1
 cp "$example/data/disk.img" .
 ./first >given 2>said
 same 'the example in C' "$? $(cat said)" '0 '

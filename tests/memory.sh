@@ -10,35 +10,35 @@ cp "$sample/passphrase" passphrase
 python3 - "$program" <<'PYTHON'
 import resource, subprocess, sys
 program = sys.argv[1]
-PAGE, REFUSED = 4096, (3, b'', b'luksrd: out of memory\n')
+PAGE, OUT_OF_MEMORY = 4096, (3, b'', b'luksrd: out of memory\n')
 key = ['--key-file', 'passphrase']
 commands = [['isLuks', 'volume'], ['luksUUID', 'volume'], ['luksDump', 'volume'], ['luksCheck', 'volume'], ['testPassphrase', *key, 'volume'],
             ['luksCat', *key, 'volume'], ['luksCat', *key, '--header', 'volume', 'volume']]
 
-def run(words, space):
+def run(arguments, space):
     """How a run ends in so much address space, or without a limit."""
     limit = (lambda: resource.setrlimit(resource.RLIMIT_AS, (space, space))) if space is not None else None
-    ran = subprocess.run([program, *words], stdin=subprocess.DEVNULL, capture_output=True, preexec_fn=limit, timeout=60)
+    ran = subprocess.run([program, *arguments], stdin=subprocess.DEVNULL, capture_output=True, preexec_fn=limit, timeout=60)
     return ran.returncode, ran.stdout, ran.stderr
 
-wanted = [run(words, None) for words in commands]
+wanted = [run(arguments, None) for arguments in commands]
 # (below that the loader ends the run, or the kernel does)
-least = next(n for n in range(0, 100_000_000, PAGE) if run(['isLuks', 'volume'], n)[0] not in (127, -11))
-runs = refused = bad = 0
-for words, whole in zip(commands, wanted):
-    well = False
-    for space in range(least, least + 160 * PAGE * 2, PAGE * 2):
-        ended, runs = run(words, space), runs + 1
-        if ended == REFUSED and not well:
-            refused += 1
+min_space = next(n for n in range(0, 100_000_000, PAGE) if run(['isLuks', 'volume'], n)[0] not in (127, -11))
+runs = starved = bad = 0
+for arguments, whole in zip(commands, wanted):
+    succeeded = False
+    for space in range(min_space, min_space + 160 * PAGE * 2, PAGE * 2):
+        ended, runs = run(arguments, space), runs + 1
+        if ended == OUT_OF_MEMORY and not succeeded:
+            starved += 1
         elif ended == whole:
-            well = True
+            succeeded = True
         else:
             bad += 1
-            print('FAILED', words, 'in', space, 'bytes:', ended[0], ended[1][:40], ended[2][:80])
-    if not well:
+            print('FAILED', arguments, 'in', space, 'bytes:', ended[0], ended[1][:40], ended[2][:80])
+    if not succeeded:
         bad += 1
-        print('FAILED', words, 'never ended well')
-print(runs, 'runs,', refused, 'of them refused memory,', bad, 'failed')
-sys.exit(bad > 0 or refused == 0)
+        print('FAILED', arguments, 'never succeeded')
+print(runs, 'runs,', starved, 'of them out of memory,', bad, 'failed')
+sys.exit(bad > 0 or starved == 0)
 PYTHON

@@ -81,7 +81,7 @@ holds nbdkit-plugin-luksrd "$plugin_package" nbdkit-luksrd-plugin.1 "-rw-r--r-- 
 -rw-r--r-- root/root ./usr/share/doc/nbdkit-plugin-luksrd/changelog.gz
 -rw-r--r-- root/root ./usr/share/doc/nbdkit-plugin-luksrd/copyright
 -rw-r--r-- root/root ./usr/share/man/man1/nbdkit-luksrd-plugin.1.gz"
-same 'the plugin asks for nbdkit' "$(dpkg -f "$plugin_package" Depends | grep -c ', nbdkit (>= ')" 1
+same 'the plugin depends on nbdkit' "$(dpkg -f "$plugin_package" Depends | grep -c ', nbdkit (>= ')" 1
 
 # works PROGRAM COMPLETION: both behave like those that they were made from
 works() {

@@ -89,7 +89,7 @@ for line in '' 'afSplit' 'luksrd' '--help' '-h' 'help' '--version' 'afMerge --ha
     expect "usage: $line" 1 '' "$usage"
 done
 run afMerge --hash sha256 --stripes 1 --key-bytes 32 "$(printf 'no\xfftext')"
-expect 'words that are no text' 1 '' "$usage"
+expect 'an argument that is not text' 1 '' "$usage"
 
 # devices
 run afMerge --hash sha256 --stripes 1 --key-bytes 32 missing
