@@ -55,11 +55,11 @@ number_read field n small is = ap be32 is ∙ from_be_bytes-to_be_bytes_4 n smal
 
 -- the key slot that is read for a slot in use
 abbrev pub stored_slot : ℕ → ℕ → Slot1 → StoredSlot
-stored_slot place count slot = record {
+stored_slot offset count slot = record {
   state = Enabled;
   iterations = slot.iterations;
   salt = slot.salt;
-  offset = place;
+  offset = offset;
   stripes = count;
 }
 
@@ -85,17 +85,17 @@ found_header p = record {
 regrouped_slot : (a b c d e : List ℕ) → (a ++ b ++ c) ++ d ++ e ≡ a ++ (b ++ (c ++ (d ++ (e ++ []))))
 regrouped_slot a b c d e = simp (append_assoc, append-nil)
 
-module _ (slot : Slot1) (place count : ℕ) (salt : length slot.salt ≡ 32) where
+module _ (slot : Slot1) (offset count : ℕ) (salt : length slot.salt ≡ 32) where
   -- the bytes of a key slot in use, and its fields with their lengths
   abbrev used_slot : List ℕ
-  used_slot = state1_of (Some slot) ++ to_be_bytes w32 place ++ to_be_bytes w32 count
+  used_slot = state1_of (Some slot) ++ to_be_bytes w32 offset ++ to_be_bytes w32 count
 
   abbrev slot_parts : List Part
   slot_parts =
       part 4 (to_be_bytes w32 0x00ac71f3) refl
       ∷ part 4 (to_be_bytes w32 slot.iterations) refl
       ∷ part 32 slot.salt salt
-      ∷ part 4 (to_be_bytes w32 place) refl
+      ∷ part 4 (to_be_bytes w32 offset) refl
       ∷ part 4 (to_be_bytes w32 count) refl
       ∷ []
 
@@ -103,19 +103,19 @@ module _ (slot : Slot1) (place count : ℕ) (salt : length slot.salt ≡ 32) whe
   unfolding state1_of
   slot_are =
       are_parts used_slot slot_parts
-      (regrouped_slot (to_be_bytes w32 0x00ac71f3) (to_be_bytes w32 slot.iterations) slot.salt (to_be_bytes w32 place)
+      (regrouped_slot (to_be_bytes w32 0x00ac71f3) (to_be_bytes w32 slot.iterations) slot.salt (to_be_bytes w32 offset)
       (to_be_bytes w32 count))
 
-  key_slot_read : slot.iterations < 2 ^ 32 → place < 2 ^ 32 → count < 2 ^ 32
-      → key_slot_of used_slot ≡ stored_slot place count slot
+  key_slot_read : slot.iterations < 2 ^ 32 → offset < 2 ^ 32 → count < 2 ^ 32
+      → key_slot_of used_slot ≡ stored_slot offset count slot
   unfolding key_slot_of
   key_slot_read small low few =
       let state = number_read (at 0 4 used_slot) 0x00ac71f3 (omega arith) (slot_are.part_at 0) in
       let iterations = number_read (at 4 4 used_slot) slot.iterations small (slot_are.part_at 1) in
       let salt_there : at 8 32 used_slot ≡ slot.salt = slot_are.part_at 2 in
-      let offset = number_read (at 40 4 used_slot) place low (slot_are.part_at 3) in
+      let offset_there = number_read (at 40 4 used_slot) offset low (slot_are.part_at 3) in
       let stripes = number_read (at 44 4 used_slot) count few (slot_are.part_at 4) in
-      rw (state, iterations, salt_there, offset, stripes) refl
+      rw (state, iterations, salt_there, offset_there, stripes) refl
 
 -- each key slot of a header is read from its own 48 bytes
 key_slots_read : (bytes : List ℕ) (number : ℕ) → number < 8
@@ -144,9 +144,9 @@ module _ (p : Seal1) (fits : AreParameters1 p) (typed : AreTyped1 p) where
   unfolding key_slot1_of
   length-key_slot1 number =
       let state = state1_of (slot1_numbered number p.slots.now) in
-      let place = to_be_bytes w32 (8 + number * area_sectors_of p) in
+      let offset = to_be_bytes w32 (8 + number * area_sectors_of p) in
       let stripes = to_be_bytes w32 p.stripes in
-      omega (arith, length-append (state ++ place) stripes, length-append state place, length-state1 number)
+      omega (arith, length-append (state ++ offset) stripes, length-append state offset, length-state1 number)
 
   -- ---- the header
 

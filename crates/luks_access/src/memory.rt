@@ -34,7 +34,7 @@ impl<'a> MemImage<'a> {
 // The bounds of `count` bytes from this offset on, or `None` if there are fewer.
 fn bounds(len: usize, offset: u64, count: usize) -> Option<(usize, usize)>
     ensures { MatchOption result (len < offset + count)
-        (λ place. (place.0 ≡ offset) × (place.1 ≡ offset + count) × (offset + count ≤ len)) }
+        (λ bounds. (bounds.0 ≡ offset) × (bounds.1 ≡ offset + count) × (offset + count ≤ len)) }
 {
     let end = offset.checked_add(count as u64)?;
     if end > len as u64 {

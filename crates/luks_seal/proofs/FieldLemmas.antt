@@ -8,48 +8,49 @@ use Rattle.luks_area.specs.Fields.{at}
 use Rattle.luks_seal.specs.Pieces.{padded}
 
 -- the bytes are in the image at this offset
-pub record IsThere (place : ℕ) (bytes image : List ℕ) : Type 0 where
-  pub within : place + length bytes ≤ length image
-  pub is : at place (length bytes) image ≡ bytes
+pub record IsThere (offset : ℕ) (bytes image : List ℕ) : Type 0 where
+  pub within : offset + length bytes ≤ length image
+  pub is : at offset (length bytes) image ≡ bytes
 
 -- a part that is within the first of two lists
-pub at_first : (place len : ℕ) (xs ys : List ℕ) → place + len ≤ length xs → at place len (xs ++ ys) ≡ at place len xs
-at_first place len xs ys there =
-    ap (take len) (drop-append-le place xs ys (omega arith))
-    ∙ take-append-le len (drop place xs) ys (omega (arith, length-drop place xs))
+pub at_first : (offset len : ℕ) (xs ys : List ℕ) → offset + len ≤ length xs
+    → at offset len (xs ++ ys) ≡ at offset len xs
+at_first offset len xs ys there =
+    ap (take len) (drop-append-le offset xs ys (omega arith))
+    ∙ take-append-le len (drop offset xs) ys (omega (arith, length-drop offset xs))
 
 -- a part that starts within the second of two lists
-pub at_within_second : (place k len : ℕ) (xs ys : List ℕ) → place ≡ length xs + k → at place len (xs ++ ys) ≡ at k len
-    ys
-at_within_second place k len xs ys is =
+pub at_within_second : (offset k len : ℕ) (xs ys : List ℕ) → offset ≡ length xs + k
+    → at offset len (xs ++ ys) ≡ at k len ys
+at_within_second offset k len xs ys is =
     ap (take len)
     (ap (λ n. drop n (xs ++ ys)) is ∙ sym (drop-drop k (length xs) (xs ++ ys))
     ∙ ap (drop k) (drop_at xs ys (length xs) refl))
 
 -- a part that is the second of two lists
-pub at_second : (place len : ℕ) (xs ys : List ℕ) → place ≡ length xs → length ys ≡ len → at place len (xs ++ ys) ≡ ys
-at_second place len xs ys is all =
-    at_within_second place 0 len xs ys (omega arith) ∙ take_all len ys (omega arith)
+pub at_second : (offset len : ℕ) (xs ys : List ℕ) → offset ≡ length xs → length ys ≡ len → at offset len (xs ++ ys) ≡ ys
+at_second offset len xs ys is all =
+    at_within_second offset 0 len xs ys (omega arith) ∙ take_all len ys (omega arith)
 
 -- a part of a part
-pub at_at : (place len start size : ℕ) (xs : List ℕ) → place + len ≤ size
-    → at place len (at start size xs) ≡ at (start + place) len xs
-at_at place len start size xs inside =
-    let whole : place + (size - place) ≡ size = omega arith in
-    ap (λ n. take len (drop place (take n (drop start xs)))) (sym whole)
-    ∙ ap (take len) (drop-take place (size - place) (drop start xs))
-    ∙ take-take len (size - place) (drop place (drop start xs)) (omega arith)
-    ∙ ap (take len) (drop-drop place start xs)
+pub at_at : (offset len start size : ℕ) (xs : List ℕ) → offset + len ≤ size
+    → at offset len (at start size xs) ≡ at (start + offset) len xs
+at_at offset len start size xs inside =
+    let whole : offset + (size - offset) ≡ size = omega arith in
+    ap (λ n. take len (drop offset (take n (drop start xs)))) (sym whole)
+    ∙ ap (take len) (drop-take offset (size - offset) (drop start xs))
+    ∙ take-take len (size - offset) (drop offset (drop start xs)) (omega arith)
+    ∙ ap (take len) (drop-drop offset start xs)
 
 -- bytes within a part are bytes of that part
-pub at_inside : (start k len place size : ℕ) (xs part : List ℕ) → start ≡ place + k → k + len ≤ size
-    → at place size xs ≡ part → at start len xs ≡ at k len part
-at_inside start k len place size xs part starts inside is =
-    ap (λ n. at n len xs) starts ∙ sym (at_at k len place size xs inside) ∙ ap (at k len) is
+pub at_inside : (start k len offset size : ℕ) (xs part : List ℕ) → start ≡ offset + k → k + len ≤ size
+    → at offset size xs ≡ part → at start len xs ≡ at k len part
+at_inside start k len offset size xs part starts inside is =
+    ap (λ n. at n len xs) starts ∙ sym (at_at k len offset size xs inside) ∙ ap (at k len) is
 
 -- a part that ends within a list has its full length
-pub length-at : (place len : ℕ) (xs : List ℕ) → place + len ≤ length xs → length (at place len xs) ≡ len
-length-at place len xs there = length-take-le len (drop place xs) (omega (arith, length-drop place xs))
+pub length-at : (offset len : ℕ) (xs : List ℕ) → offset + len ≤ length xs → length (at offset len xs) ≡ len
+length-at offset len xs there = length-take-le len (drop offset xs) (omega (arith, length-drop offset xs))
 
 -- padded bytes have the stated length, if that is not too short
 pub length-padded : (capacity : ℕ) (xs : List ℕ) → length xs ≤ capacity → length (padded capacity xs) ≡ capacity
@@ -62,10 +63,10 @@ length-padded capacity xs fits =
     )
 
 -- bytes of padded bytes are bytes of the bytes themselves
-pub at_padded : (place len capacity : ℕ) (xs : List ℕ) → place + len ≤ length xs
-    → at place len (padded capacity xs) ≡ at place len xs
+pub at_padded : (offset len capacity : ℕ) (xs : List ℕ) → offset + len ≤ length xs
+    → at offset len (padded capacity xs) ≡ at offset len xs
 unfolding padded
-at_padded place len capacity xs there = at_first place len xs (replicate (capacity - length xs) 0) there
+at_padded offset len capacity xs there = at_first offset len xs (replicate (capacity - length xs) 0) there
 
 -- padded bytes begin with the bytes themselves
 pub padded_begins : (len capacity : ℕ) (xs : List ℕ) → len ≡ length xs → at 0 len (padded capacity xs) ≡ xs

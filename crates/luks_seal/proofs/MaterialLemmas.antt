@@ -169,18 +169,18 @@ module _ (af : Hash) (key : List ℕ) (count : ℕ) (random : List ℕ) (are_ran
       ∙ ap (λ n. (n + 511) / 512 * 512) length-stripes_of
 
   -- if an image has them encrypted at this offset, they are stored encrypted there, in whole sectors
-  pub material_is_stored : (cipher : Cipher) (place : ℕ) (image : List ℕ) → IsBytes key → IsBytes random
-      → IsThere place (encrypted_material cipher (stripes_of af key count random)) image
-      → IsStoredEncrypted cipher (λ i. i) 512 place (sector_padded (stripes_of af key count random)) image
+  pub material_is_stored : (cipher : Cipher) (offset : ℕ) (image : List ℕ) → IsBytes key → IsBytes random
+      → IsThere offset (encrypted_material cipher (stripes_of af key count random)) image
+      → IsStoredEncrypted cipher (λ i. i) 512 offset (sector_padded (stripes_of af key count random)) image
   unfolding encrypted_material
-  material_is_stored cipher place image bytes random_bytes found =
+  material_is_stored cipher offset image bytes random_bytes found =
       let stripes = stripes_of af key count random in
       let len = length-whole_sectors stripes in
       let most = mul-le-mul_right {m = length key} {n = 64} count are_random.max_key in
       let few : length stripes ≤ 256000 = omega (arith, length-stripes_of, most, are_random.few) in
       let same : (i : ℕ) → i < length (sector_padded stripes) / 512 → wrapping_number 0 1 i ≡ i =
       λ i low. omega (arith, len, few) in
-      sectors_are_stored cipher 0 1 512 (sector_padded stripes) refl (omega (arith, len)) (λ i. i) same place image
+      sectors_are_stored cipher 0 1 512 (sector_padded stripes) refl (omega (arith, len)) (λ i. i) same offset image
       (whole_sectors_bytes stripes (stripes_bytes af key count random bytes random_bytes)) found
 
 -- the stripes in whole sectors are key material of the key

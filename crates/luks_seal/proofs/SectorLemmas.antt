@@ -121,17 +121,17 @@ module _ (cipher : Cipher) (first step size : ℕ) (plain : List ℕ) (blocks : 
 
   -- if an image has the encrypted sectors at this offset, the sectors are stored encrypted there, under their numbers
   pub sectors_are_stored : (number : ℕ → ℕ)
-      → ((i : ℕ) → i < length plain / size → wrapping_number first step i ≡ number i) → (place : ℕ) (image : List ℕ)
-      → IsBytes plain → IsThere place (sectors_encrypted cipher first step size plain) image
-      → IsStoredEncrypted cipher number size place plain image
+      → ((i : ℕ) → i < length plain / size → wrapping_number first step i ≡ number i) → (offset : ℕ) (image : List ℕ)
+      → IsBytes plain → IsThere offset (sectors_encrypted cipher first step size plain) image
+      → IsStoredEncrypted cipher number size offset plain image
   unfolding sectors_encrypted encrypted_sector
-  sectors_are_stored number same place image bytes found = record {
+  sectors_are_stored number same offset image bytes found = record {
     bytes = bytes;
     whole = whole;
     there = omega (arith, found.within, length-sectors_encrypted);
     units = λ i low.
-        sym (at_at (i * size) size place (length plain) image (sector_within (length plain) size i whole low))
-        ∙ (ap (λ n. at (i * size) size (at place n image)) (sym length-sectors_encrypted)
+        sym (at_at (i * size) size offset (length plain) image (sector_within (length plain) size i whole low))
+        ∙ (ap (λ n. at (i * size) size (at offset n image)) (sym length-sectors_encrypted)
         ∙ (ap (at (i * size) size) found.is
         ∙ (piece_at (encrypted_sector cipher first step size plain) size (length plain / size) i sector_length low
         ∙ ap (λ n. sector_encrypted cipher.0 cipher.1 n (at (i * size) size plain)) (same i low))));
@@ -144,11 +144,11 @@ module _ (cipher : Cipher) (first step size : ℕ) (plain : List ℕ) (blocks : 
 pub record IsImage (image headers : List ℕ) (area : ℕ → List ℕ) (count start : ℕ) (cipher : Cipher) (number : ℕ → ℕ)
     (size : ℕ) (plain : List ℕ) : Type 0 where
   pub len : length image ≡ start + length plain
-  pub in_headers : (place n : ℕ) → place + n ≤ length headers → at place n image ≡ at place n headers
-  pub in_area : (k place capacity : ℕ) (material : List ℕ) → k < count
-      → place ≡ length headers + length (joined area k) → area k ≡ padded capacity material
-      → length material ≤ capacity → IsThere place material image
-  pub stored : (place : ℕ) → place ≡ start → IsStoredEncrypted cipher number size place plain image
+  pub in_headers : (offset n : ℕ) → offset + n ≤ length headers → at offset n image ≡ at offset n headers
+  pub in_area : (k offset capacity : ℕ) (material : List ℕ) → k < count
+      → offset ≡ length headers + length (joined area k) → area k ≡ padded capacity material
+      → length material ≤ capacity → IsThere offset material image
+  pub stored : (offset : ℕ) → offset ≡ start → IsStoredEncrypted cipher number size offset plain image
 
 module _ (headers : List ℕ) (area : ℕ → List ℕ) (count start : ℕ) (payload : List ℕ)
     (fits : length headers + length (joined area count) ≤ start) where
@@ -156,27 +156,28 @@ module _ (headers : List ℕ) (area : ℕ → List ℕ) (count start : ℕ) (pay
   length-prefix =
       length-padded start (headers ++ joined area count) (omega (arith, length-append headers (joined area count)))
 
-  before_there : (place n : ℕ) → place + n ≤ length headers + length (joined area count)
-      → at place n (padded start (headers ++ joined area count) ++ payload) ≡ at place n (headers ++ joined area count)
-  before_there place n inside =
+  before_there : (offset n : ℕ) → offset + n ≤ length headers + length (joined area count)
+      → at offset n (padded start (headers ++ joined area count) ++ payload)
+      ≡ at offset n (headers ++ joined area count)
+  before_there offset n inside =
       let before = headers ++ joined area count in
-      at_first place n (padded start before) payload (omega (arith, length-prefix))
-      ∙ at_padded place n start before (omega (arith, length-append headers (joined area count)))
+      at_first offset n (padded start before) payload (omega (arith, length-prefix))
+      ∙ at_padded offset n start before (omega (arith, length-append headers (joined area count)))
 
-  area_there : (k place capacity : ℕ) (material : List ℕ) → k < count
-      → place ≡ length headers + length (joined area k) → area k ≡ padded capacity material
+  area_there : (k offset capacity : ℕ) (material : List ℕ) → k < count
+      → offset ≡ length headers + length (joined area k) → area k ≡ padded capacity material
       → length material ≤ capacity
-      → IsThere place material (padded start (headers ++ joined area count) ++ payload)
-  area_there k place capacity material low starts is enough =
+      → IsThere offset material (padded start (headers ++ joined area count) ++ payload)
+  area_there k offset capacity material low starts is enough =
       let prefix = padded start (headers ++ joined area count) in
-      let offset = length (joined area k) in
+      let before = length (joined area k) in
       let within = piece_within area count k low in
       let long : length (area k) ≡ capacity = ap length is ∙ length-padded capacity material enough in
       record {
         within = omega (arith, starts, within, long, fits, length-prefix, length-append prefix payload);
-        is = before_there place (length material) (omega (arith, starts, within, long))
-            ∙ at_within_second place offset (length material) headers (joined area count) starts
-            ∙ at_inside offset 0 (length material) offset (length (area k)) (joined area count) (area k) (omega arith)
+        is = before_there offset (length material) (omega (arith, starts, within, long))
+            ∙ at_within_second offset before (length material) headers (joined area count) starts
+            ∙ at_inside before 0 (length material) before (length (area k)) (joined area count) (area k) (omega arith)
             (omega (arith, long)) (piece_there area count k low)
             ∙ ap (at 0 (length material)) is
             ∙ padded_begins (length material) capacity material refl;
@@ -195,14 +196,14 @@ image_made headers area count start cipher first step size plain fits blocks who
     let long = length-sectors_encrypted cipher first step size plain blocks whole in
     record {
       len = omega (arith, length-append prefix payload, begins, long);
-      in_headers = λ place n inside.
-          before_there headers area count start payload fits place n (omega (arith, inside))
-          ∙ at_first place n headers (joined area count) inside;
+      in_headers = λ offset n inside.
+          before_there headers area count start payload fits offset n (omega (arith, inside))
+          ∙ at_first offset n headers (joined area count) inside;
       in_area = area_there headers area count start payload fits;
-      stored = λ place is.
+      stored = λ offset is.
           sectors_are_stored cipher first step size plain blocks whole (wrapping_number first step) (λ i low. refl)
-          place (prefix ++ payload) bytes (record {
+          offset (prefix ++ payload) bytes (record {
             within = omega (arith, is, begins, length-append prefix payload);
-            is = at_second place (length payload) prefix payload (is ∙ sym begins) refl;
+            is = at_second offset (length payload) prefix payload (is ∙ sym begins) refl;
           });
     }

@@ -23,14 +23,14 @@ use Rattle.luks_header.specs.HeaderSegment.{segment_of}
 use Rattle.luks_header.specs.SlotVerdicts.{verdict_at}
 use Rattle.luks_header.specs.declared.header.Header.{Header}
 
--- this plaintext, whole data units of `size` bytes, is stored in the image from `place` on: unit i as its encryption
+-- this plaintext, whole data units of `size` bytes, is stored in the image from `offset` on: unit i as its encryption
 -- under the number `number i`
-pub record IsStoredEncrypted (cipher : Cipher) (number : ℕ → ℕ) (size place : ℕ) (plain image : List ℕ) : Type 0 where
+pub record IsStoredEncrypted (cipher : Cipher) (number : ℕ → ℕ) (size offset : ℕ) (plain image : List ℕ) : Type 0 where
   pub bytes : IsBytes plain
   pub whole : length plain % size ≡ 0
-  pub there : place + length plain ≤ length image
+  pub there : offset + length plain ≤ length image
   pub units : (i : ℕ) → i < length plain / size
-      → at (place + i * size) size image
+      → at (offset + i * size) size image
       ≡ sector_encrypted cipher.0 cipher.1 (number i) (at (i * size) size plain)
 
 -- these bytes are the key material of a key slot that has these parts: the stripes of the key, which are made with some
