@@ -155,17 +155,17 @@ fn derive_block<H: Hasher>(
     let mut first = keyed.inner.copy();
     first.absorb(salt);
     first.absorb(&number.to_be_bytes());
-    add_next(keyed, first, u, t, count);
+    xor_next(keyed, first, u, t, count);
     for _ in 1..iterations {
         let mut next = keyed.inner.copy();
         next.absorb(u);
-        add_next(keyed, next, u, t, count);
+        xor_next(keyed, next, u, t, count);
     }
     let length = out.len().min(size);
     out[..length].copy_from_slice(&t[..length]);
 }
 
-fn add_next<H: Hasher>(keyed: &Keyed<H>, inner: H, u: &mut [u8], t: &mut [u8], count: &mut u128)
+fn xor_next<H: Hasher>(keyed: &Keyed<H>, inner: H, u: &mut [u8], t: &mut [u8], count: &mut u128)
     requires size { length u.old ≤ H.SIZE }
     requires same { length t.old ≤ length u.old }
 {
