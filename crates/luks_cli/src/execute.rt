@@ -101,19 +101,22 @@ pub fn execute<I: Source, K: Source, O: Sink>(
                 &work,
             )
         }
-        Command::TestPassphrase(opening) => {
-            let slots = opening.slots;
+        Command::TestPassphrase(volume_args) => {
+            let slots = volume_args.slots;
             report(
                 volumes::test_passphrase(alloc, location, slots, image, secret, out, &mut work),
                 &work,
             )
         }
-        Command::LuksCat(opening) => report(
-            volumes::cat(alloc, opening.slots, image, secret, out, &mut work),
+        Command::LuksCat(volume_args) => report(
+            volumes::cat(alloc, volume_args.slots, image, secret, out, &mut work),
             &work,
         ),
-        Command::AfSplit(splitting) => report(stripes::split(splitting, image, secret, out), &work),
-        Command::AfMerge(merging) => report(stripes::merge(merging, image, out), &work),
+        Command::AfSplit(split_args) => report(
+            stripes::split(split_args, image, secret, out),
+            &work,
+        ),
+        Command::AfMerge(merge_args) => report(stripes::merge(merge_args, image, out), &work),
     }
 }
 

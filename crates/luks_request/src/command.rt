@@ -92,14 +92,14 @@ impl<'a> Command<'a> {
         ensures { result.now ≡ image_of (request_of self.now) }
     {
         match self {
-            Command::IsLuks(reading) => reading.image,
-            Command::LuksUuid(reading) => reading.image,
-            Command::LuksDump(reading) => reading.image,
-            Command::LuksCheck(reading) => reading.image,
-            Command::TestPassphrase(opening) => opening.image,
-            Command::LuksCat(opening) => opening.image,
-            Command::AfSplit(splitting) => splitting.key,
-            Command::AfMerge(merging) => merging.stripes_file,
+            Command::IsLuks(header_args) => header_args.image,
+            Command::LuksUuid(header_args) => header_args.image,
+            Command::LuksDump(header_args) => header_args.image,
+            Command::LuksCheck(header_args) => header_args.image,
+            Command::TestPassphrase(volume_args) => volume_args.image,
+            Command::LuksCat(volume_args) => volume_args.image,
+            Command::AfSplit(split_args) => split_args.key,
+            Command::AfMerge(merge_args) => merge_args.stripes_file,
         }
     }
 
@@ -108,12 +108,12 @@ impl<'a> Command<'a> {
         ensures { option_map (λ input. input.now) result ≡ header_file_of (request_of self.now) }
     {
         match self {
-            Command::IsLuks(reading) => reading.header,
-            Command::LuksUuid(reading) => reading.header,
-            Command::LuksDump(reading) => reading.header,
-            Command::LuksCheck(reading) => reading.header,
-            Command::TestPassphrase(opening) => opening.header,
-            Command::LuksCat(opening) => opening.header,
+            Command::IsLuks(header_args) => header_args.header,
+            Command::LuksUuid(header_args) => header_args.header,
+            Command::LuksDump(header_args) => header_args.header,
+            Command::LuksCheck(header_args) => header_args.header,
+            Command::TestPassphrase(volume_args) => volume_args.header,
+            Command::LuksCat(volume_args) => volume_args.header,
             Command::AfSplit(_) => None,
             Command::AfMerge(_) => None,
         }
@@ -131,9 +131,9 @@ impl<'a> Command<'a> {
         ensures { option_map (λ input. input.now) result ≡ secret_of (request_of self.now) }
     {
         match self {
-            Command::TestPassphrase(opening) => Some(opening.key_file),
-            Command::LuksCat(opening) => Some(opening.key_file),
-            Command::AfSplit(splitting) => Some(splitting.random),
+            Command::TestPassphrase(volume_args) => Some(volume_args.key_file),
+            Command::LuksCat(volume_args) => Some(volume_args.key_file),
+            Command::AfSplit(split_args) => Some(split_args.random),
             _ => None,
         }
     }

@@ -106,7 +106,7 @@ fn forward_stripe<R: Source, O: Sink>(
 
 /// `afSplit`: writes the stripes of the key in the first source, the random ones first.
 pub fn split<K: Source, R: Source, O: Sink>(
-    splitting: &SplitArgs<'_>,
+    split_args: &SplitArgs<'_>,
     key: &mut K,
     random: &mut R,
     out: &mut O,
@@ -114,7 +114,7 @@ pub fn split<K: Source, R: Source, O: Sink>(
     ensures run { IfKnown (K.to_come key.old)
         (λ known. IfKnown (R.to_come random.old) (λ bytes.
         RunMatches (PromptSplit (length known))
-        (split_outcome splitting.now.hash splitting.now.stripes.count known bytes)
+        (split_outcome split_args.now.hash split_args.now.stripes.count known bytes)
         (result_message result)
         (ConsumedExactly known (K.to_come key.new)) (ConsumedExactly bytes (R.to_come random.new))
         (Appended (O.written out.old) (O.written out.new)))) }
@@ -128,12 +128,12 @@ pub fn split<K: Source, R: Source, O: Sink>(
 {
     let mut key_buf = [0; MAX_KEY_LEN + 1];
     let len = read_key(key, &mut key_buf)?;
-    split_key(splitting, &key_buf[..len], random, out)
+    split_key(split_args, &key_buf[..len], random, out)
 }
 
 /// Writes the stripes of a key, the random ones first.
 fn split_key<R: Source, O: Sink>(
-    splitting: &SplitArgs<'_>,
+    split_args: &SplitArgs<'_>,
     key: &[u8],
     random: &mut R,
     out: &mut O,
@@ -142,7 +142,7 @@ fn split_key<R: Source, O: Sink>(
     ensures run { (left : Option (List ℕ)) → ConsumedExactly key.now left (length key.now)
         → IfKnown (R.to_come random.old) (λ bytes.
         RunMatches (PromptSplit (length key.now))
-        (split_outcome splitting.now.hash splitting.now.stripes.count key.now bytes)
+        (split_outcome split_args.now.hash split_args.now.stripes.count key.now bytes)
         (result_message result) (ConsumedExactly key.now left) (ConsumedExactly bytes
         (R.to_come random.new))
         (Appended (O.written out.old) (O.written out.new))) }
@@ -155,8 +155,8 @@ fn split_key<R: Source, O: Sink>(
     let mut block_buf = [0; MAX_KEY_LEN];
     let block = &mut block_buf[..key.len()];
     let splitter = forward_stripes(
-        splitting.hash,
-        splitting.stripes.get() - 1,
+        split_args.hash,
+        split_args.stripes.get() - 1,
         block,
         random,
         out,
@@ -216,17 +216,17 @@ fn read_stripe<S: Source>(stripe: &mut [u8], stripes: &mut S) -> Result<(), Mess
 /// Fills the buffer with the key of the first stripes of the source. The buffer is as long as the
 /// key.
 fn read_merged_key<S: Source>(
-    merging: &MergeArgs<'_>,
+    merge_args: &MergeArgs<'_>,
     key: &mut [u8],
     stripes: &mut S,
 ) -> Result<(), Message>
-    requires { length key.old ≡ merging.now.key_bytes.bytes }
-    ensures ok { OnOk result (IfKnown (S.to_come stripes.old) (λ known. let m = merging.now in
+    requires { length key.old ≡ merge_args.now.key_bytes.bytes }
+    ensures ok { OnOk result (IfKnown (S.to_come stripes.old) (λ known. let m = merge_args.now in
         let needed = m.stripes.count * m.key_bytes.bytes in
         (key.new ≡ merged m.hash m.key_bytes.bytes (take needed known))
         × ConsumedExactly known (S.to_come stripes.new) needed)) }
     ensures err { IfErr result (λ message. IfKnown (S.to_come stripes.old)
-        (λ known. AbortsReadingStripes merging.now.stripes.count merging.now.key_bytes.bytes known
+        (λ known. AbortsReadingStripes merge_args.now.stripes.count merge_args.now.key_bytes.bytes known
         (S.to_come stripes.new) message)) }
     ensures only { IfErr result (λ message.
         (message ≡ Message.FewStripes) ⊎ (message ≡ Message.ReadFailed)) }
@@ -235,7 +235,12 @@ fn read_merged_key<S: Source>(
 {
     let mut stripe_buf = [0; MAX_KEY_LEN];
     let stripe = &mut stripe_buf[..key.len()];
-    let splitter = read_stripes(merging.hash, merging.stripes.get() - 1, stripe, stripes)?;
+    let splitter = read_stripes(
+        merge_args.hash,
+        merge_args.stripes.get() - 1,
+        stripe,
+        stripes,
+    )?;
     read_stripe(stripe, stripes)?;
     splitter.last(stripe, key);
     Ok(())
@@ -243,11 +248,11 @@ fn read_merged_key<S: Source>(
 
 /// `afMerge`: writes the key of the first stripes of the source.
 pub fn merge<S: Source, O: Sink>(
-    merging: &MergeArgs<'_>,
+    merge_args: &MergeArgs<'_>,
     stripes: &mut S,
     out: &mut O,
 ) -> Result<(), Message>
-    ensures run { IfKnown (S.to_come stripes.old) (λ known. let m = merging.now in
+    ensures run { IfKnown (S.to_come stripes.old) (λ known. let m = merge_args.now in
         RunMatches AnyPromptness (merge_outcome m.hash m.stripes.count m.key_bytes.bytes known)
         (result_message result) (ConsumedExactly known (S.to_come stripes.new)) ConsumedNothing
         (Appended (O.written out.old) (O.written out.new))) }
@@ -259,8 +264,8 @@ pub fn merge<S: Source, O: Sink>(
         (O.counts out.old) (O.counts out.new) }
 {
     let mut key_buf = [0; MAX_KEY_LEN];
-    let key = &mut key_buf[..merging.key_bytes.get()];
-    read_merged_key(merging, key, stripes)?;
+    let key = &mut key_buf[..merge_args.key_bytes.get()];
+    read_merged_key(merge_args, key, stripes)?;
     put_all(out, key)?;
     Ok(())
 }

@@ -78,15 +78,15 @@ pub fn execute_detached<H: Source, I: Source, K: Source, O: Sink>(
                 &work,
             )
         }
-        Command::TestPassphrase(opening) => {
-            let slots = opening.slots;
+        Command::TestPassphrase(volume_args) => {
+            let slots = volume_args.slots;
             report(
                 volumes::test_passphrase(alloc, location, slots, header, secret, out, &mut work),
                 &work,
             )
         }
-        Command::LuksCat(opening) => {
-            let slots = opening.slots;
+        Command::LuksCat(volume_args) => {
+            let slots = volume_args.slots;
             report(
                 volumes::cat_detached(alloc, slots, header, image, secret, out, &mut work),
                 &work,

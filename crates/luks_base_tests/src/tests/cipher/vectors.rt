@@ -98,7 +98,7 @@ fn sectors_of_batches_and_blocks_have_their_digests(rt: HostRuntime) {
 fn check_batch(rt: &(impl Abort + AllocGlobal), key: &[u8], encrypted: &str, plain: &[u8]) {
     let key = BatchKey::new(key).expect(rt, "a key of AES");
     let mut batch = [0; 512];
-    hex::decode_to_slice(encrypted, &mut batch).expect(rt, "a slice");
+    hex::decode_to_slice(encrypted, &mut batch).expect(rt, "a batch");
     let mut block = [0; 16];
     block.copy_from_slice(&batch[..16]);
     key.decrypt_batch(&mut batch);

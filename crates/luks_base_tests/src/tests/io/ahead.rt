@@ -49,7 +49,7 @@ static ROWS: [Row; 7] = [
     ),
     // At the third read, one more byte may still be read ahead.
     (
-        "passes large reads on",
+        "forwards large reads",
         (0, 99),
         &[
             (Some(10), 4, Ok(4), 6, 1),

@@ -118,7 +118,7 @@ static READS: [(&str, Script, &[Call], usize); 8] = [
         8,
     ),
     (
-        "tells how far it came",
+        "reports how far it came",
         &[(2, Answer::Moves(3))],
         &[(WHOLE, Err(6))],
         6,
@@ -184,7 +184,7 @@ static WRITES: [(&str, Script, &[u8], &[Call]); 8] = [
         &[(WHOLE, Ok(8))],
     ),
     (
-        "tells how far it came",
+        "reports how far it came",
         &[(2, Answer::Moves(3))],
         b"abcdefgh",
         &[(WHOLE, Err(6))],

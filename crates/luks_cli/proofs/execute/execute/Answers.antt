@@ -81,7 +81,7 @@ returns-in-LuksCat g c = let said = c.report-in-LuksCat.ensures in rw (said.0, s
     (λ known is pass secret counted. c.cat.ensures.run known is pass secret counted),
     rw c.new-work.ensures at c.cat.ensures.work,
   );
-  honest = writes_plain (volume_request c.in-LuksCat.opening) (result_message c.cat.result) _ _ _ _ _ _
+  honest = writes_plain (volume_request c.in-LuksCat.volume_args) (result_message c.cat.result) _ _ _ _ _ _
       c.cat.ensures.run;
   only = c.cat.ensures.only;
   unneeded = λ needs. c.cat.ensures.unneeded needs.0 needs.1 needs.2;

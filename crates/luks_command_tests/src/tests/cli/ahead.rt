@@ -23,7 +23,7 @@ fn ahead<'a>(
     capacity: usize,
 ) -> ReadAheadSource<FlakySource<'a>> {
     let below = FlakySource::new(image, 0, u64::MAX);
-    ReadAheadSource::new(rt.alloc(), capacity, below).expect(rt, "room for what is read ahead")
+    ReadAheadSource::new(rt.alloc(), capacity, below).expect(rt, "memory for what is read ahead")
 }
 
 // What a run over this image reports.
@@ -228,7 +228,7 @@ fn no_more_is_consumed_if_a_write_fails(rt: HostRuntime) {
 // consumed are written, and the image is not called after that.
 fn check_failed_read(rt: &(impl Abort + AllocGlobal), image: &[u8], call: u64) -> Report {
     let below = FlakySource::new(image, 700, call);
-    let mut source = ReadAheadSource::new(rt.alloc(), 1024, below).expect(rt, "room");
+    let mut source = ReadAheadSource::new(rt.alloc(), 1024, below).expect(rt, "memory");
     let mut out = sink(rt, 4096);
     let report = report_ahead(rt, CAT, (&[], PASSPHRASE), &mut source, &mut out);
     check_consumed(rt, call, image.len(), source.get_ref(), &out);

@@ -106,11 +106,11 @@ fn a_truncated_fixed_size_is_reported(rt: HostRuntime) {
 // What is reported of an image that ends this many bytes after a sector's start.
 fn torn_line(rt: &(impl Abort + AllocGlobal), torn: usize) -> String {
     if torn == 0 {
-        return String::from_str(rt.alloc(), DONE).expect(rt, "room for a line");
+        return String::from_str(rt.alloc(), DONE).expect(rt, "memory for a line");
     }
     format!(in rt.alloc(); "4 luksrd: image ends inside a sector: {torn} bytes left over\n").expect(
         rt,
-        "room for a line",
+        "memory for a line",
     )
 }
 

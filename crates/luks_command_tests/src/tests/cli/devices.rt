@@ -78,7 +78,7 @@ fn run<'a>(
     way: Way,
 ) -> Ended<'a> {
     let (of_header, of_image, of_secret, of_out) = way.pieces;
-    let mut out = FlakySink::new(rt.alloc(), 4096, of_out, way.call_of(2)).expect(rt, "room");
+    let mut out = FlakySink::new(rt.alloc(), 4096, of_out, way.call_of(2)).expect(rt, "memory");
     let mut header = FlakySource::new(trial.header, of_header, way.call_of(3));
     let mut image = FlakySource::new(trial.image, of_image, way.call_of(0));
     let mut secret = FlakySource::new(trial.secret, of_secret, way.call_of(1));

@@ -39,10 +39,10 @@ pub(super) static PRINTED_TEXTS: [PrintedText; 4] = [
 
 /// An image with both headers and ten bytes after them.
 pub(super) fn image2(rt: &(impl Abort + AllocGlobal)) -> Vec<u8> {
-    let mut image = image_of(rt.alloc(), 258, 258, JSON).expect(rt, "room for headers");
+    let mut image = image_of(rt.alloc(), 258, 258, JSON).expect(rt, "memory for headers");
     image
         .resize(2 * SIZE + 10, 0)
-        .expect(rt, "room for an image");
+        .expect(rt, "memory for an image");
     image
 }
 

@@ -68,12 +68,12 @@ pub(super) const NO_FAULT: Limits = (ALL, ALL, 8192);
 pub(super) fn args_of<'a>(rt: &(impl Abort + AllocGlobal), line: &'a str) -> Vec<&'a str> {
     line.split(' ')
         .collect(rt.alloc())
-        .expect(rt, "room for words")
+        .expect(rt, "memory for arguments")
 }
 
 /// A sink with this capacity.
 pub(super) fn sink(rt: &(impl Abort + AllocGlobal), capacity: usize) -> MemSink {
-    MemSink::new(rt.alloc(), capacity).expect(rt, "room for an output")
+    MemSink::new(rt.alloc(), capacity).expect(rt, "memory for an output")
 }
 
 /// What a command reports over these devices.

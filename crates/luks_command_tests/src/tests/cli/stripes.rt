@@ -159,7 +159,7 @@ static ROWS: [Row; 17] = [
 fn joined(rt: &(impl Abort + AllocGlobal), parts: &[&[u8]]) -> Vec<u8> {
     let mut all = Vec::new(rt.alloc());
     for part in parts {
-        all.extend_from_slice(part).expect(rt, "room for all");
+        all.extend_from_slice(part).expect(rt, "memory for all");
     }
     all
 }

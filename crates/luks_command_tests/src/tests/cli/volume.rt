@@ -82,12 +82,12 @@ pub(super) const SMALL_LEN: usize = 38_400;
 
 /// These parts of a text, joined.
 pub(super) fn text_of(rt: &(impl Abort + AllocGlobal), parts: &[&str]) -> String {
-    parts.concat(rt.alloc()).expect(rt, "room for a text")
+    parts.concat(rt.alloc()).expect(rt, "memory for a text")
 }
 
 /// A plaintext of this length. Of any 251 successive sectors of it, no two are alike.
 pub(super) fn plain_of(rt: &(impl Abort + AllocGlobal), len: usize) -> Vec<u8> {
-    counted(rt.alloc(), len).expect(rt, "room for plain bytes")
+    counted(rt.alloc(), len).expect(rt, "memory for plain bytes")
 }
 
 /// A volume in this mode with this key. Only its key slot 0 is in use.
@@ -150,8 +150,8 @@ pub(super) fn changed(
 ) -> Vec<u8> {
     let mut other = at(image, 0, len)
         .to_vec(rt.alloc())
-        .expect(rt, "room for an image");
-    other.resize(len, 0).expect(rt, "room for an image");
+        .expect(rt, "memory for an image");
+    other.resize(len, 0).expect(rt, "memory for an image");
     put_each(&mut other, changes);
     other
 }
@@ -163,10 +163,10 @@ pub(super) fn followed(
     len: usize,
     bytes: &[u8],
 ) -> Vec<u8> {
-    image.resize(len, 0).expect(rt, "room for an image");
+    image.resize(len, 0).expect(rt, "memory for an image");
     image
         .extend_from_slice(bytes)
-        .expect(rt, "room for an image");
+        .expect(rt, "memory for an image");
     image
 }
 
@@ -221,7 +221,7 @@ pub(super) fn prefix2_of(
     segment: (&str, &str),
 ) -> Vec<u8> {
     let json = json_of(rt, slots, segment);
-    let headers = image_of(rt.alloc(), 1, 1, json.as_str()).expect(rt, "room for headers");
+    let headers = image_of(rt.alloc(), 1, 1, json.as_str()).expect(rt, "memory for headers");
     followed(rt, headers, 2 * header2::SIZE, at(&small(rt), 4096, 512))
 }
 

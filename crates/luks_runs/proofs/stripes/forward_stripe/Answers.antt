@@ -7,9 +7,11 @@ use Rattle.luks_runs.proofs.stripes.forward_stripe.Goals as goal
 pub returns-in_err-fill-clause-err : goal.returns-in_err-fill-clause-err
 returns-in_err-fill-clause-err g c =
     rw (given_error _ _ c.from_residual.ensures.1) (λ known is.
-    let bytes = (c.in_err-fill.ensures.bytes known is).0 in
-    (c.in_err-fill.field-0.0.got, c.in_err-fill.ensures.bound,
-      record { consumption = bytes; appended = appended-none _ }))
+    let bytes = (c.in_err-fill.ensures.bytes known is).0 in (
+      c.in_err-fill.field-0.0.got,
+      c.in_err-fill.ensures.bound,
+      record { consumption = bytes; appended = appended-none _ },
+    ))
 
 pub returns-in_err-put_all-clause-err : goal.returns-in_err-put_all-clause-err
 returns-in_err-put_all-clause-err g c =

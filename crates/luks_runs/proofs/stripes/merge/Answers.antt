@@ -11,7 +11,7 @@ returns-in_err-read_merged_key-clause-run g c =
 
 pub returns-in_err-put_all-clause-run : goal.returns-in_err-put_all-clause-run
 returns-in_err-put_all-clause-run g c =
-    let m = c.args.merging.now in
+    let m = c.args.merge_args.now in
     let failed = c.in_err-put_all.ensures.err in
     rw (given_error _ _ c.from_residual-in_err-put_all.ensures.1) (λ bytes is.
     let consumed = c.in_ok-read_merged_key.ensures.ok bytes is in
@@ -20,7 +20,7 @@ returns-in_err-put_all-clause-run g c =
 
 pub returns-clause-run : goal.returns-clause-run
 returns-clause-run g c bytes is =
-    let m = c.args.merging.now in
+    let m = c.args.merge_args.now in
     let consumed = c.in_ok-read_merged_key.ensures.ok bytes is in
     runs_with_key m.hash m.stripes.count m.key_bytes.bytes bytes _ _ _ c.read_merged_key.new.key consumed.1 consumed.0
     Done (refl, c.in_ok-put_all.ensures.ok)

@@ -6,7 +6,7 @@ use Rattle.luks_runs.proofs.stripes.read_merged_key.Goals as goal
 
 pub returns-in_err-read_stripe-clause-err : goal.returns-in_err-read_stripe-clause-err
 returns-in_err-read_stripe-clause-err g c =
-    let m = c.args.merging.now in
+    let m = c.args.merge_args.now in
     let size = m.key_bytes.in_range in
     let count = m.stripes.in_range in
     let stripe : length c.read_stripes.new.stripe ≡ m.key_bytes.bytes =
@@ -19,7 +19,7 @@ returns-in_err-read_stripe-clause-err g c =
 
 pub returns-clause-ok : goal.returns-clause-ok
 returns-clause-ok g c bytes is =
-    let m = c.args.merging.now in
+    let m = c.args.merge_args.now in
     let size = m.key_bytes.in_range in
     let count = m.stripes.in_range in
     let stripe : length c.read_stripes.new.stripe ≡ m.key_bytes.bytes =

@@ -11,7 +11,7 @@ stripes-init g c = record {
   reads = no_reads _;
   len = c.new-splitter.ensures.len;
   consumed = λ bytes is.
-    (splitter_start _ _ bytes _ c.new-splitter.ensures.start, rw zero-mul (consumed-none bytes _ is));
+      (splitter_start _ _ bytes _ c.new-splitter.ensures.start, rw zero-mul (consumed-none bytes _ is));
 }
 
 pub returns-in_err-read_stripe-clause-err : goal.returns-in_err-read_stripe-clause-err

@@ -59,7 +59,7 @@ impl Volume {
         for row in self.rows.lines() {
             let (offset, digits) = row.split_once(' ').expect(rt, "a row");
             let mut at = [0; 2];
-            hex::decode_to_slice(offset, &mut at).expect(rt, "a place");
+            hex::decode_to_slice(offset, &mut at).expect(rt, "an offset");
             let start = usize::from(u16::from_be_bytes(at));
             assert!(rt; start + 32 <= image.len());
             hex::decode_to_slice(digits, &mut image[start..start + 32]).expect(rt, "a row");

@@ -157,7 +157,7 @@ fn check_slots(rt: &impl Abort, image: &[u8]) {
 fn a_sealed_volume_has_its_fields_slots_and_payload(rt: HostRuntime) {
     let plain = counted(&rt, 1024);
     let image = sealed(&rt, plain);
-    assert_of(&rt, "places", has_fields(image, &HEADER));
+    assert_of(&rt, "fields", has_fields(image, &HEADER));
     check_slots(&rt, image);
     check_payload(&rt, image, plain);
 }
