@@ -319,8 +319,8 @@ pub key_column : (s w : List ℕ) (round k at p q : ℕ) → at ≡ 4 * (4 * rou
     → to_le_bytes w32 p
     ≡ word_of (λ r. slice_index (to_le_bytes w32 (slice_index s k)) r ⊕ slice_index w (r + 4 * (4 * round + k)))
 unfolding word_xor
-key_column s w round k at p q place read xored =
-    let there = rw place at read in
+key_column s w round k at p q index read xored =
+    let there = rw index at read in
     xored ∙ ap (word_xor (to_le_bytes w32 (slice_index s k))) there
 
 -- the bytes of columns are a state

@@ -130,11 +130,11 @@ row_undone k m inverse a b c d p q r s =
 word_put : (xs ys : List ℕ) (at k j : ℕ) → at ≤ length xs → length ys ≡ 4 → j < 4
     → slice_index (put_mid at k xs ys) (at + j) ≡ slice_index ys j
 word_put xs ys at k j inside four low =
-    let place : at + j - at ≡ j = omega arith in
+    let index : at + j - at ≡ j = omega arith in
     sym (get_or-take (at + 4) (put_mid at k xs ys) (at + j) 0 (omega arith))
     ∙ ap (λ l. slice_index l (at + j)) (take-put_mid at k xs ys (at + 4) (omega arith) inside)
     ∙ get_or-append_right (take at xs) ys at (at + j) 0 (length-take-le at xs inside) (omega arith)
-    ∙ ap (slice_index ys) place
+    ∙ ap (slice_index ys) index
 
 word_kept : (xs ys : List ℕ) (at k j : ℕ) → at ≤ length xs → j < at
     → slice_index (put_mid at k xs ys) j ≡ slice_index xs j

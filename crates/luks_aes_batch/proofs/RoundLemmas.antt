@@ -108,8 +108,8 @@ at_bit_index n c low small =
     let q = 8 * (4 * (n % 4) + column_order c) + n / 4 in
     let ordered = ordered_below c in
     let block : block_index q ≡ n = omega (arith, ordered) in
-    let place : q / 8 % 4 ≡ column_order c = omega (arith, ordered) in
-    (block, ap column_order place ∙ twice_ordered c small)
+    let index : q / 8 % 4 ≡ column_order c = omega (arith, ordered) in
+    (block, ap column_order index ∙ twice_ordered c small)
 
 -- ---- from blocks to rows
 
@@ -141,9 +141,9 @@ pub packed_row : (s : List ℕ) (r q : ℕ) → r < 4 → q < 128
     → slice_index s (16 * (4 * (q % 8) + q / 8 / 4) + (r + 4 * column_order (q / 8 % 4)))
     ≡ state_byte (block_in s) 0 r q
 packed_row s r q low inside =
-    let place : 4 * (q % 8) + q / 8 / 4 ≡ block_index q = omega arith in
+    let index : 4 * (q % 8) + q / 8 / 4 ≡ block_index q = omega arith in
     let small : r + 4 * column_index q < 16 = omega (arith, ordered_below (q / 8 % 4)) in
-    ap (λ n. slice_index s (16 * n + (r + 4 * column_index q))) place
+    ap (λ n. slice_index s (16 * n + (r + 4 * column_index q))) index
     ∙ sym (in_block s (block_index q) (r + 4 * column_index q) small)
     ∙ sym (xor_zero_r (slice_index (block_in s (block_index q)) (r + 4 * column_index q)))
 
@@ -326,10 +326,10 @@ keys_more w all n key before capacity here = record {
             let kept = get_or-set_other all n m key found (λ e. omega (arith, e, below)) in
             before.at m (omega arith) found (slice_get-get_or all m found (omega arith) ∙ ap Some (sym kept ∙ got))
         | inr above ↦
-            let place : m ≡ n = omega arith in
-            let is : key ≡ found = sym (get_or-set_at all n m key found place capacity) ∙ got in
+            let index : m ≡ n = omega arith in
+            let is : key ≡ found = sym (get_or-set_at all n m key found index capacity) ∙ got in
             subst (λ (x : BitslicedState). HasInvMixedKey w (m + 1) 0x63 (rows_of x)) is
-            (subst (λ (x : ℕ). HasInvMixedKey w (x + 1) 0x63 (rows_of key)) (sym place) here)
+            (subst (λ (x : ℕ). HasInvMixedKey w (x + 1) 0x63 (rows_of key)) (sym index) here)
       ];
 }
 

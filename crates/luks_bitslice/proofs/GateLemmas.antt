@@ -70,13 +70,13 @@ computed_plane : (a ks : List ℕ) (y t : ℕ → ℕ) (j : ℕ) → IsBitPlane 
     → agree_below (λ q. eqb (t q / 8) (slice_index ks (q / 8))) (λ q. true) 128 ≡ true
     → agree_below (λ q. eqb (t q % 8) (q % 8)) (λ q. true) 128 ≡ true
     → IsBitPlane (λ q. y (t q)) j (pick_l 0 (a ++ a) ks)
-computed_plane a ks y t j is long inside place bit = record {
+computed_plane a ks y t j is long inside index bit = record {
   len = length-map ks (λ k. slice_index (a ++ a) k) ∙ long;
   at = λ q low.
       let here = ltb-true (t q) 128 (agree_below_at (λ q. ltb (t q) 128) (λ q. true) 128 q inside low) in
       ap (λ b. bit_at b (q % 8))
       (get_or-map (λ k. slice_index (a ++ a) k) ks (q / 8) 0 0 (omega (arith, long))
-      ∙ ap (slice_index (a ++ a)) (sym (same_below (λ q. t q / 8) (λ q. slice_index ks (q / 8)) 128 place q low))
+      ∙ ap (slice_index (a ++ a)) (sym (same_below (λ q. t q / 8) (λ q. slice_index ks (q / 8)) 128 index q low))
       ∙ get_or_append_left a a 0 (t q / 8) (omega (arith, is.len)))
       ∙ ap (bit_at (slice_index a (t q / 8))) (sym (same_below (λ q. t q % 8) (λ q. q % 8) 128 bit q low))
       ∙ is.at (t q) here;

@@ -160,15 +160,15 @@ halves_joined a b v h all also low long same =
     same_number_lists lanes v (sym long)
     (λ n inside. elim (cases_lt n 8) [
       | inl below ↦
-          let place : 8 * 0 + n ≡ n = omega arith in
-          sym (ap (slice_index lanes) place) ∙ (byte_in a b h n all also low below).0 ∙ sym (same n below).0
-          ∙ ap (slice_index v) place
+          let index : 8 * 0 + n ≡ n = omega arith in
+          sym (ap (slice_index lanes) index) ∙ (byte_in a b h n all also low below).0 ∙ sym (same n below).0
+          ∙ ap (slice_index v) index
       | inr above ↦
           let fits : n < 16 = inside in
-          let place : 8 * 1 + (n - 8) ≡ n = omega arith in
+          let index : 8 * 1 + (n - 8) ≡ n = omega arith in
           let rest : n - 8 < 8 = omega arith in
-          sym (ap (slice_index lanes) place) ∙ (byte_in a b h (n - 8) all also low rest).1 ∙ sym (same (n - 8) rest).1
-          ∙ ap (slice_index v) place
+          sym (ap (slice_index lanes) index) ∙ (byte_in a b h (n - 8) all also low rest).1 ∙ sym (same (n - 8) rest).1
+          ∙ ap (slice_index v) index
     ])
 
 halves_at : (a b : List ℕ) → length a ≡ 16 → length b ≡ 16 → (i : ℕ) → i < 8

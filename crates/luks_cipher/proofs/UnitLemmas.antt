@@ -81,12 +81,12 @@ joined_more f a (suc b) =
 done_many : (f : ℕ → List ℕ) (old new piece : List ℕ) (at k j n : ℕ) → at ≡ 16 * j → k ≡ 16 * n
     → IsDoneBefore f old new j → 16 * j + 16 * n ≤ length new → length piece ≡ 16 * n
     → piece ≡ joined (λ m. f (j + m)) n → IsDoneBefore f old (put_mid at k new piece) (j + n)
-done_many f old new piece at k j n place size before capacity long is =
+done_many f old new piece at k j n index size before capacity long is =
     let next = 16 * (j + n) in
     let split : next ≡ 16 * j + 16 * n = omega arith in
     let rest : drop next new ≡ drop next old =
     rw (split, ← drop-drop (16 * n) (16 * j) new, ← drop-drop (16 * n) (16 * j) old) (ap (drop (16 * n)) before.left) in
-    let start : take at new ≡ joined f j = ap (λ i. take i new) place ∙ before.done in
+    let start : take at new ≡ joined f j = ap (λ i. take i new) index ∙ before.done in
     record {
       done = take-put_mid at k new piece next (omega arith) (omega arith)
           ∙ (λ i. start i ++ is i) ∙ sym (joined_more f j n);
@@ -147,10 +147,10 @@ pub batch_block : (old new : List ℕ) (i : ℕ) → drop (16 * (32 * i)) new �
     → (m : ℕ) → m < 32 → block_at (take (512 * i + 512 - 512 * i) (drop (512 * i) new)) m ≡ block_at old (32 * i + m)
 batch_block old new i left m low =
     let j = 32 * i in
-    let place : 512 * i ≡ 16 * j = omega arith in
+    let index : 512 * i ≡ 16 * j = omega arith in
     let size : 512 * i + 512 - 512 * i ≡ 16 * m + (512 - 16 * m) = omega arith in
     let there : 16 * j + 16 * m ≡ 16 * (j + m) = omega arith in
-    (λ t. take 16 (drop (16 * m) (take (size t) (drop (place t) new))))
+    (λ t. take 16 (drop (16 * m) (take (size t) (drop (index t) new))))
     ∙ ap (λ l. take 16 (drop (16 * m) (take (16 * m + (512 - 16 * m)) l))) left
     ∙ ap (take 16) (drop-take (16 * m) (512 - 16 * m) (drop (16 * j) old))
     ∙ take-take 16 (512 - 16 * m) (drop (16 * m) (drop (16 * j) old)) (omega arith)

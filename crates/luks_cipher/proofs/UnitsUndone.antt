@@ -104,10 +104,10 @@ unit_again : (f g : ℕ → List ℕ) (unit : List ℕ) → length unit % 16 ≡
 unit_again f g unit whole sizes same =
     let n = length unit / 16 in
     let count : length (joined f n) / 16 ≡ n = rw (joined_length f n sizes) (omega arith) in
-    let place : (j : ℕ) → 16 * j ≡ j * 16 = λ j. omega arith in
+    let index : (j : ℕ) → 16 * j ≡ j * 16 = λ j. omega arith in
     rw count
     (joined_same g (λ j. take 16 (drop (j * 16) unit)) n
-    (λ j low. same j low ∙ ap (λ k. take 16 (drop k unit)) (place j))
+    (λ j low. same j low ∙ ap (λ k. take 16 (drop k unit)) (index j))
     ∙ joined_units unit 16 n ∙ take_all (n * 16) unit (omega arith))
 
 -- ---- data units

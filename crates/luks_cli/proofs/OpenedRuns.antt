@@ -137,7 +137,7 @@ module _ (slots : SlotChoice) (image pass : List ℕ) (segment : Segment) (opene
     pub loaded_from_none : ConsumedExactly image (Some []) (length loaded)
     loaded_from_none = rw none at u.input_consumed
 
-    -- if no fewer bytes of the image were consumed, all of it was consumed, too
+    -- a count from that of the loaded bytes up to the image's length is that of the whole image, which was consumed
     pub loaded_whole : (n : ℕ) → length loaded ≤ n → n ≤ length image → ConsumedExactly image i n
     loaded_whole n most within =
         let rest : Some [] ≡ Some (drop (length loaded) image) = loaded_from_none.left in

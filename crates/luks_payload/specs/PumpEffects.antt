@@ -28,7 +28,7 @@ abbrev pub is_cut_before_payload : {T : Type 0} → Result T VolumeFault → Boo
 is_cut_before_payload (Err CutBeforePayload) = true
 is_cut_before_payload _ = false
 
--- the next `count` bytes of a source were not all discarded, for this reason: it has fewer, or a read failed
+-- discarding the next `count` bytes of a source was aborted: the source has fewer, or a read failed
 abbrev pub AbortsDiscarding : ℕ → List ℕ → Option (List ℕ) → VolumeFault → Type 0
 AbortsDiscarding count known left CutBeforePayload = (length known < count) × ConsumedExactly known left (length known)
 AbortsDiscarding count known left Read = ConsumedFewer known left count

@@ -62,8 +62,8 @@ impl<'a> Model for Pump<'a> {
         × (p.state ≡ BeforePayload → (p.count ≡ 0) × (p.prefix.now ≡ [])) };
 }
 
-/// Forwards the sector after the first `count` ones. It starts with the bytes of `prefix`. If the
-/// payload ends before that sector, the answer says how. The buffer fits the longest sector.
+/// Forwards the sector after the first `count` sectors. It starts with the bytes of `prefix`. If
+/// the payload ends before it, the answer says how. The longest sector fits into the buffer.
 fn next_sector<S: Source, O: Sink>(
     segment: &Segment,
     cipher: &SectorCipher,

@@ -15,8 +15,8 @@ pub struct Report {
     pub status: u8,
     /// What is printed on standard error.
     pub message: Message,
-    /// The evaluations of HMAC that deriving and checking keys took. The count
-    /// saturates at 2^128 - 1.
+    /// The evaluations of HMAC that deriving and checking keys took. The count saturates at
+    /// 2^128 - 1.
     pub work: u128,
     /// The status is that of the message.
     pub ghost of_message: { status ≡ status_of message },

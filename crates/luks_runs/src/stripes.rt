@@ -226,8 +226,8 @@ fn read_merged_key<S: Source>(
         (key.new ≡ merged m.hash m.key_bytes.bytes (take needed known))
         × ConsumedExactly known (S.to_come stripes.new) needed)) }
     ensures err { IfErr result (λ message. IfKnown (S.to_come stripes.old)
-        (λ known. AbortsReadingStripes merge_args.now.stripes.count merge_args.now.key_bytes.bytes known
-        (S.to_come stripes.new) message)) }
+        (λ known. AbortsReadingStripes merge_args.now.stripes.count
+        merge_args.now.key_bytes.bytes known (S.to_come stripes.new) message)) }
     ensures only { IfErr result (λ message.
         (message ≡ Message.FewStripes) ⊎ (message ≡ Message.ReadFailed)) }
     ensures reads { Reads (is_run_read_failure (result_message result))

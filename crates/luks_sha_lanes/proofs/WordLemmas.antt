@@ -135,11 +135,11 @@ written_before : (size k j : ℕ) (now rest : List ℕ) → size * k ≤ length 
 written_before size k j now rest inside before =
     let start = size * j in
     let prefix = take (size * k) now in
-    let place : start + size ≤ size * k =
+    let index : start + size ≤ size * k =
     omega (arith, mul-le-mul_left {m = j + 1} {n = k} size (omega arith)) in
     sym (drop-take start size (prefix ++ rest)) ∙ (ap (drop start)
     (take-append-le (start + size) prefix rest (omega (arith, length-take (size * k) now))
-    ∙ take-take (start + size) (size * k) now place) ∙ drop-take start size now)
+    ∙ take-take (start + size) (size * k) now index) ∙ drop-take start size now)
 
 -- if the digests before number k are those of f and digest k is written, those before number k + 1 are
 pub written_next : (size k j : ℕ) (now digest rest : List ℕ) (f : ℕ → List ℕ)

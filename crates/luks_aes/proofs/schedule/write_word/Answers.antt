@@ -18,6 +18,6 @@ returns c =
       length-take (at + 4 - at) (drop at old),
       length-drop at old,
     ) in
-    let place : length (take at old) / 4 ≡ c.args.i = rw (length-take-le at old (omega arith)) (omega arith) in
+    let index : length (take at old) / 4 ≡ c.args.i = rw (length-take-le at old (omega arith)) (omega arith) in
     take-put_mid at (at + 4 - at) old word (at + 4) (omega arith) (omega arith)
-    ∙ rw place (ap (λ w. take at old ++ w) (c.copy_from_slice.ensures.after ∙ c.next_word-word.ensures))
+    ∙ rw index (ap (λ w. take at old ++ w) (c.copy_from_slice.ensures.after ∙ c.next_word-word.ensures))

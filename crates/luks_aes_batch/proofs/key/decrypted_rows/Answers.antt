@@ -35,11 +35,11 @@ loop-round-preserved c =
           let w = key_expansion key in
           let words = expansion_bytes key bytes in
           let before = l.invariant.hold key s is rounds bytes all hold in
-          let place : round - 1 - 1 + 1 ≡ round - 1 = omega arith in
+          let index : round - 1 - 1 + 1 ≡ round - 1 = omega arith in
           let between = c.key_between.ensures w (rounds_of key) is.between_keys (omega (arith, rounds)) in
           let after = c.inv_round_batch.ensures _ w (round - 1) (λ m. (inv_after_state (s m) w nr (nr - round) (all m)
           words).bytes) words before
-          (subst (λ (n : ℕ). HasInvMixedKey w n 0x63 (rows_of c.key_between.result.now)) place between).represented in
+          (subst (λ (n : ℕ). HasInvMixedKey w n 0x63 (rows_of c.key_between.result.now)) index between).represented in
           rotated_same _ _ _
           (λ m. inv_round_after (s m) w _ nr (nr - round) (nr - (round - 1)) (round - 1) refl (omega arith)
           (omega arith)) after;

@@ -226,7 +226,7 @@ fn check_ten(rt: &impl Abort, name: &str, source: &mut impl Source) {
 
 // The sink with capacity for eight bytes accepts six, two of them again, and no more.
 #[test]
-fn memory_and_readers_of_std_move_all_bytes(rt: HostRuntime) -> Result<(), Fail> {
+fn readers_of_std_and_memory_move_bytes_up_to_the_capacity(rt: HostRuntime) -> Result<(), Fail> {
     let bytes: &[u8] = b"0123456789";
     check_ten(&rt, "a reader of std", &mut ReadSource::new(bytes));
     let mut source = MemSource::new(bytes);

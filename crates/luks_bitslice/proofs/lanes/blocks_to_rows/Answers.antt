@@ -25,7 +25,7 @@ returns c =
     (λ r. HasBits (λ p k. bit_at (byte_in_row a b third d r p) k)
     (slice_index_or (c.low_halves.result ∷ c.high_halves.result ∷ c.low_halves-2.result ∷ c.high_halves-2.result ∷ []) r
     []))
-    (of_bytes _ (byte_in_row a b third d 0) (ap length row0) (λ p fits. ap (λ l. slice_index l p) row0 ∙ (at p fits).0))
-    (of_bytes _ (byte_in_row a b third d 1) (ap length row1) (λ p fits. ap (λ l. slice_index l p) row1 ∙ (at p fits).1))
-    (of_bytes _ (byte_in_row a b third d 2) (ap length row2) (λ p fits. ap (λ l. slice_index l p) row2 ∙ (at p fits).2))
-    (of_bytes _ (byte_in_row a b third d 3) (ap length row3) (λ p fits. ap (λ l. slice_index l p) row3 ∙ (at p fits).3))
+    (of_bytes _ (byte_in_row a b third d 0) (ap length row0) (λ p low. ap (λ l. slice_index l p) row0 ∙ (at p low).0))
+    (of_bytes _ (byte_in_row a b third d 1) (ap length row1) (λ p low. ap (λ l. slice_index l p) row1 ∙ (at p low).1))
+    (of_bytes _ (byte_in_row a b third d 2) (ap length row2) (λ p low. ap (λ l. slice_index l p) row2 ∙ (at p low).2))
+    (of_bytes _ (byte_in_row a b third d 3) (ap length row3) (λ p low. ap (λ l. slice_index l p) row3 ∙ (at p low).3))
