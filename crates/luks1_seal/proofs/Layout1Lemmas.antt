@@ -6,7 +6,7 @@ use Rattle.std.specs.Int.{to_be_bytes, w32}
 use Rattle.std.specs.Option.{option_map_or}
 use Rattle.luks_area.specs.Fields.{at, be32, text_of}
 use Rattle.luks_cipher.specs.Sector.{mode_name}
-use Rattle.luks_cipher.proofs.ModeLemmas.{longest_mode_key}
+use Rattle.luks_cipher.proofs.ModeLemmas.{max_mode_key}
 use Rattle.luks_kdf.specs.Bytes.{joined}
 use Rattle.luks_kdf.specs.Hash.{hash_name}
 use Rattle.luks_kdf.specs.Pbkdf2.{derived_key}
@@ -188,7 +188,7 @@ module _ (p : Seal1) (fits : AreParameters1 p) (typed : AreTyped1 p) where
   random_stripes1 slot of_slot = record {
     some = fits.counts.0;
     few = fits.counts.1;
-    max_key = longest_mode_key p.mode (length p.key.now) fits.key;
+    max_key = max_mode_key p.mode (length p.key.now) fits.key;
     len = of_slot.2;
   }
 
@@ -234,7 +234,7 @@ module _ (p : Seal1) (fits : AreParameters1 p) (typed : AreTyped1 p) where
   unfolding read_header1
   header1_read =
       let bytes = header1_start_bytes p in
-      let key_fits = longest_mode_key p.mode (length p.key.now) fits.key in
+      let key_fits = max_mode_key p.mode (length p.key.now) fits.key in
       let cipher = ap text_of (header1_are.part_at 1) ∙ cipher_is_named.read in
       let mode = ap text_of (header1_are.part_at 2) ∙ (mode_is_named p.mode).read in
       let hash = ap text_of (header1_are.part_at 3) ∙ (hash_is_named p.hash).read in

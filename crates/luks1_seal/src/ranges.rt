@@ -52,7 +52,7 @@ fn fit_slots(random: usize, slots: &[Slot1<'_>]) -> bool
 }
 
 /// All parameters are in their ranges.
-#[tactic(auto, using(luks_cipher::proofs::ModeLemmas::longest_mode_key))]
+#[tactic(auto, using(luks_cipher::proofs::ModeLemmas::max_mode_key))]
 pub(super) fn are_parameters(seal: &Seal1<'_>) -> bool
     ensures { IsTrue result ↔ AreParameters1 seal.now }
 {

@@ -10,7 +10,7 @@ use Rattle.luks_area.specs.declared.fault.HeaderFault.TheVariants.{NotLuks}
 use Rattle.luks_area.proofs.FieldLemmas.{at_prefix}
 use Rattle.luks_area.specs.Fields.{text_of}
 use Rattle.luks2_binary.specs.Choice2.{with_valid_primary, binary_at, chosen2_of, found_at, header2_of, is_valid}
-use Rattle.luks2_binary.specs.Choice2.{least_valid, size_at}
+use Rattle.luks2_binary.specs.Choice2.{first_valid, size_at}
 use Rattle.luks2_binary.specs.Header2.{binary_len, checksum_hash_in, header2_from, sequence_in, size_in, sizes}
 use Rattle.luks2_binary.specs.ReadLen2.{header2_read_len, probe2_len, probe_end, search_len}
 use Rattle.luks2_binary.specs.Reading2.{IsPrefixOf, OfEach}
@@ -37,7 +37,7 @@ module _ (image : List ℕ) where
 
   -- the choice for an image without a valid primary header
   pub chosen_other : is_valid image 0 ≡ false
-      → chosen2_of image ≡ option_and_then (found_at image) (least_valid image)
+      → chosen2_of image ≡ option_and_then (found_at image) (first_valid image)
   unfolding chosen2_of
   chosen_other is = rw is refl
 
@@ -90,7 +90,7 @@ module _ (loaded : List ℕ) (ended : Bool) (image : List ℕ) (prefix : IsPrefi
 pub found_chosen : (loaded : List ℕ) (ended : Bool) (found : Result (Option Header2) HeaderFault)
     → OfEach loaded ended (λ image. is_valid image 0 ≡ false)
     → IfOk found (λ header. OfEach loaded ended (λ image.
-    header ≡ option_and_then (found_at image) (least_valid image)))
+    header ≡ option_and_then (found_at image) (first_valid image)))
     → IfOk found (λ header. OfEach loaded ended (λ image. header ≡ chosen2_of image))
 found_chosen loaded ended (Ok header) none is = λ image prefix.
     is image prefix ∙ sym (chosen_other image (none image prefix))
@@ -174,7 +174,7 @@ module _ (loaded image : List ℕ) (prefix : IsPrefixOf loaded false image) wher
       let walk = walk_same sizes within in (
         chosen_other loaded (first.0 ∙ e)
             ∙ ap (option_and_then (found_at loaded)) walk.0
-            ∙ found_same (least_valid image) refl within
+            ∙ found_same (first_valid image) refl within
             ∙ sym (chosen_other image e),
         probe_other loaded (first.0 ∙ e)
             ∙ ap (max (probe_end loaded 0))
@@ -253,7 +253,7 @@ module _ (image : List ℕ) (header : Header2) where
       by true false false b l e = primary None (rw (b, l, e) at is)
 
   -- the header that the search finds is at the offset where it was found
-  search_result_at : is_valid image 0 ≡ false → (place : ℕ) → least_valid image ≡ Some place
+  search_result_at : is_valid image 0 ≡ false → (place : ℕ) → first_valid image ≡ Some place
       → found_at image place ≡ Some header → HasHeaderAt image header place
   search_result_at none place least is =
       let one = first_is (is_valid image) (probe_end image) sizes place least in
@@ -269,7 +269,7 @@ module _ (image : List ℕ) (header : Header2) where
     by : (b : Bool) → is_valid image 0 ≡ b → (place : ℕ) × HasHeaderAt image header place
     by true e = choice_with_primary_at e (sym (chosen_primary image e) ∙ is)
     by false e =
-        option_and_then_some (found_at image) (least_valid image) header (sym (chosen_other image e) ∙ is)
+        option_and_then_some (found_at image) (first_valid image) header (sym (chosen_other image e) ∙ is)
         (λ place least made. (place, search_result_at e place least made))
 
   -- the header of an image is at an offset of it

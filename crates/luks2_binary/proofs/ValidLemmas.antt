@@ -10,7 +10,7 @@ use Rattle.luks_area.specs.Area.{HeaderAreaModel}
 use Rattle.luks_area.specs.Fields.{at}
 use Rattle.luks_area.proofs.FieldLemmas.{at_prefix}
 use Rattle.luks2_binary.specs.Choice2.{binary_at, fits, is_binary_of, is_valid, size_at, found_at, is_tried}
-use Rattle.luks2_binary.specs.Choice2.{least_valid}
+use Rattle.luks2_binary.specs.Choice2.{first_valid}
 use Rattle.luks2_binary.specs.ReadLen2.{probe_end, max_of, search_len}
 use Rattle.luks2_binary.specs.Header2.{size_in, sizes, header2_from}
 use Rattle.luks2_binary.specs.Reading2.{IsPrefixOf, valid_size}
@@ -252,7 +252,7 @@ so_far image (suc k) = max (so_far image k) (probe_end image (get_or sizes k 0))
 
 -- none of the first k offsets has a valid header
 pub record Searched (image : List ℕ) (k : ℕ) : Type 0 where
-  pub place : least_valid image ≡ find (is_valid image) (drop k sizes)
+  pub place : first_valid image ≡ find (is_valid image) (drop k sizes)
   pub probed : search_len image ≡ max (so_far image k) (ahead image k)
 
 -- the search reads as far as its definition states
@@ -302,7 +302,7 @@ module _ (image : List ℕ) (k : ℕ) (items : List ℕ) (are : items ≡ sizes)
       rw add-one record { place = searched.place ∙ rw (here, fails) refl; probed = next }
 
   -- a valid header is here: the search ends
-  pub searched_place : is_valid image place ≡ true → (least_valid image ≡ Some place)
+  pub searched_place : is_valid image place ≡ true → (first_valid image ≡ Some place)
       × (max (so_far image k) (probe_end image place) ≡ search_len image)
   searched_place holds =
       (searched.place ∙ rw (here, holds) refl, omega (arith, ahead_holds holds, searched.probed))
@@ -334,8 +334,8 @@ place_range items k are inside =
 pub found_least : (loaded : List ℕ) (ended : Bool) (image bytes : List ℕ) (place : ℕ) (header : Option Header2)
     → IsPrefixOf loaded ended image → bytes ≡ loaded → is_valid loaded place ≡ true
     → header ≡ header2_from Secondary (Some PrimaryNotValid) (binary_at bytes place)
-    → least_valid image ≡ Some place
-    → header ≡ option_and_then (found_at image) (least_valid image)
+    → first_valid image ≡ Some place
+    → header ≡ option_and_then (found_at image) (first_valid image)
 found_least loaded ended image bytes place header prefix is valid made first =
     let range = valid_range loaded place valid in
     let same : binary_at bytes place ≡ binary_at image place = ap (λ l. at place 4096 l) is
@@ -345,7 +345,7 @@ found_least loaded ended image bytes place header prefix is valid made first =
 
 -- if no offset remains, none has a valid header, and all bytes that the search reads were read
 pub searched_all : (image : List ℕ) (k : ℕ) → Searched image k → length sizes ≤ k
-    → (least_valid image ≡ None) × (so_far image k ≡ search_len image)
+    → (first_valid image ≡ None) × (so_far image k ≡ search_len image)
 unfolding furthest
 searched_all image k searched end =
     let none = drop_all k sizes end in

@@ -56,8 +56,8 @@ unfoldable pub is_tried : List ℕ → ℕ → Bool
 is_tried image place = not (list_any (λ other. nat_lt other place && is_valid image other) sizes)
 
 -- the lowest of the nine offsets with a valid header
-abbrev pub least_valid : List ℕ → Option ℕ
-least_valid image = find (is_valid image) sizes
+abbrev pub first_valid : List ℕ → Option ℕ
+first_valid image = find (is_valid image) sizes
 
 -- the header of an image whose primary one is valid: the secondary one right after it, if that is valid with a higher
 -- sequence number, and otherwise the primary
@@ -79,7 +79,7 @@ found_at image place = header2_from Secondary (Some PrimaryNotValid) (binary_at 
 -- the header of an image, if it has one
 unfoldable pub chosen2_of : List ℕ → Option Header2
 chosen2_of image =
-    if is_valid image 0 then with_valid_primary image else option_and_then (found_at image) (least_valid image)
+    if is_valid image 0 then with_valid_primary image else option_and_then (found_at image) (first_valid image)
 
 -- the LUKS2 header of an image that does not start as LUKS1, or the fault if it has none
 unfoldable pub header2_of : List ℕ → Result Header2 HeaderFault

@@ -7,7 +7,7 @@ use Rattle.std.proofs.lemmas.Bool.Decides.{nat_tests}
 use Rattle.std.proofs.lemmas.Bool.{and_parts, ltb-false, not-false, or_parts, ne_eqb}
 use Rattle.std.proofs.lemmas.Option.{same_Some}
 use Rattle.luks_cipher.specs.declared.mode.Mode.{Mode}
-use Rattle.luks_cipher.proofs.ModeLemmas.{longest_mode_key}
+use Rattle.luks_cipher.proofs.ModeLemmas.{max_mode_key}
 use Rattle.luks_verdict.specs.Rule.{exceeds, in_range, iterations_out_of_range, is_in_range, area_out_of_range}
 use Rattle.luks_verdict.specs.Rule.{is_digest, stripes_out_of_range, max_iteration_count}
 use Rattle.luks_verdict.specs.Slot.{are_in_range, digest_of, has_no_usable_digest, material_end, parts_end, slot_of}
@@ -81,7 +81,7 @@ same_some (Some key) = refl
 key_length_few : (mode : Option Mode) (bytes : ℕ) → is_length_for mode bytes ≡ true → bytes ≤ 64
 unfolding is_length_for
 key_length_few None bytes is = grind (arith, nat_tests)
-key_length_few (Some mode) bytes is = longest_mode_key mode bytes is
+key_length_few (Some mode) bytes is = max_mode_key mode bytes is
 
 pub key_sizes_few : (mode : Option Mode) (slot : Data) → are_key_sizes mode slot ≡ true
     → (area_key_size_of slot ≤ 64) × (key_size_of slot ≤ 64)

@@ -192,15 +192,15 @@ moved f j k law bytes is = record { len = is.len; at = λ q low. is.at q low ∙
 
 -- ---- the shared values as bytes
 
-pub column_xor_byte : (y : ℕ → ℕ → ℕ) → AreBytes y → (q : ℕ) → column_bytes_xor (y 0 q) (y 1 q) (y 2 q) (y 3 q) < 256
-column_xor_byte y all q =
+pub xored_bytes : (y : ℕ → ℕ → ℕ) → AreBytes y → (q : ℕ) → column_bytes_xor (y 0 q) (y 1 q) (y 2 q) (y 3 q) < 256
+xored_bytes y all q =
     xor_byte _ (y 3 q)
     (xor_byte _ (y 1 q) (xor_byte (y 0 q) (y 2 q) (all.at 0 q (omega arith)) (all.at 2 q (omega arith)))
     (all.at 1 q (omega arith))) (all.at 3 q (omega arith))
 
 pub even_bytes : (y : ℕ → ℕ → ℕ) → AreBytes y → (q : ℕ) → even_of (y 0 q) (y 1 q) (y 2 q) (y 3 q) < 256
 even_bytes y all q =
-    xor_byte _ _ (times_x_byte _ (column_xor_byte y all q))
+    xor_byte _ _ (times_x_byte _ (xored_bytes y all q))
     (xor_byte (y 0 q) (y 2 q) (all.at 0 q (omega arith)) (all.at 2 q (omega arith)))
 
 step_bytes : (y : ℕ → ℕ → ℕ) → AreBytes y → (q : ℕ) → step_of (y 0 q) (y 1 q) (y 2 q) (y 3 q) < 256
@@ -213,7 +213,7 @@ step_bytes y all q =
 pub doubled_from : (y : ℕ → ℕ → ℕ) (j k : ℕ) (x : SharedValues) → IsMoved j k
     → AreBytes y → HasSharedValues y j x → HasDoubledValues y k x
 doubled_from y j k x law all has = record {
-  all = moved _ j k law (column_xor_byte y all) has.all;
+  all = moved _ j k law (xored_bytes y all) has.all;
   even = moved _ j k law (even_bytes y all) has.even;
   step = moved _ j k law (step_bytes y all) has.step;
 }
@@ -224,7 +224,7 @@ pub doubled_with : (y : ℕ → ℕ → ℕ) (j k : ℕ) (x top r : SharedValues
     → AreBytes y → HasSharedValues y j x → HasSharedValues y 7 top → r.all ≡ zip2 bit_xor x.all top.all
     → r.even ≡ zip2 bit_xor x.even top.even → r.step ≡ zip2 bit_xor x.step top.step → HasDoubledValues y k r
 doubled_with y j k x top r law all has last a e s = record {
-  all = plane_of_xors _ k has.all last.all a (λ q. law _ (column_xor_byte y all q));
+  all = plane_of_xors _ k has.all last.all a (λ q. law _ (xored_bytes y all q));
   even = plane_of_xors _ k has.even last.even e (λ q. law _ (even_bytes y all q));
   step = plane_of_xors _ k has.step last.step s (λ q. law _ (step_bytes y all q));
 }

@@ -16,8 +16,8 @@ key_length_of_mode CbcEssivSha256 n is = grind (arith, nat_tests)
 key_length_of_mode CbcPlain64 n is = grind (arith, nat_tests)
 
 -- no key of a mode is longer than 64 bytes
-pub longest_mode_key : (mode : Mode) (n : ℕ) → is_mode_key_length mode n ≡ true → n ≤ 64
-longest_mode_key mode n is =
+pub max_mode_key : (mode : Mode) (n : ℕ) → is_mode_key_length mode n ≡ true → n ≤ 64
+max_mode_key mode n is =
     let known = key_length_of_mode mode n is in
     grind (arith, nat_tests)
 

@@ -1,6 +1,6 @@
 use Rattle.std.proofs.Common.{◌∙◌, Some, ap, sym, ◌≡◌, ◌≢◌, arith}
 use Rattle.luks_io.specs.Counts.{MemSourceModel}
-use Rattle.luks_cipher.proofs.ModeLemmas.{longest_mode_key}
+use Rattle.luks_cipher.proofs.ModeLemmas.{max_mode_key}
 use Rattle.luks_io.specs.Devices.{counted}
 use Rattle.luks_report.specs.declared.message.Message.{Message}
 use Rattle.luks_report.specs.declared.message.Message.TheVariants.{Done, ReadFailed}
@@ -21,7 +21,7 @@ some_code Done only = absurd only
 some_code _ only = λ is. absurd (omega arith)
 
 pub store-requires : goal.store-requires
-store-requires c = longest_mode_key _ _ c.in-Ok.opened.key_length
+store-requires c = max_mode_key _ _ c.in-Ok.opened.key_length
 
 pub returns-in-Ok-clause-opens : goal.returns-in-Ok-clause-opens
 returns-in-Ok-clause-opens c done =

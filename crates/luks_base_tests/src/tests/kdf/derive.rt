@@ -144,7 +144,7 @@ fn check_longest(rt: &impl Abort, hash: Hash, want: &[u8], work: u128) {
 }
 
 // The SHA-256 of keys of 512 bytes.
-static LONGEST: [(&[u8], u128); 5] = [
+static KEYS_OF_512_BYTES: [(&[u8], u128); 5] = [
     (
         b"5a5925da41f7326096589f1a1b5490b77cccf68f1927603d8333909b743de5a4",
         52,
@@ -168,9 +168,9 @@ static LONGEST: [(&[u8], u128); 5] = [
 ];
 
 #[test]
-fn longest_keys(rt: HostRuntime) {
+fn keys_of_512_bytes(rt: HostRuntime) {
     for i in 0..5 {
-        let (want, work) = LONGEST[i];
+        let (want, work) = KEYS_OF_512_BYTES[i];
         check_longest(&rt, HASHES[i], want, work);
     }
 }

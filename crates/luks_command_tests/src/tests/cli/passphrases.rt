@@ -146,24 +146,24 @@ fn small_volumes_open_as_requested(rt: HostRuntime) {
 }
 
 // The length of the longest key file.
-const LONGEST: usize = 8_388_608;
+const MAX_KEY_FILE_LEN: usize = 8_388_608;
 
 const TOO_LONG: Ends<'static> = (b"", "1 luksrd: key file is longer than 8388608 bytes\n");
 
 /// How long a key file of zeros is, how the run ends, and how many bytes it consumes of the image
 /// and leaves of the key file.
 static LENGTHS: [(usize, Ends<'static>, (usize, usize)); 11] = [
-    (LONGEST, (OPENS, DONE), (4608, 0)),
+    (MAX_KEY_FILE_LEN, (OPENS, DONE), (4608, 0)),
     (0, (b"", NO_KEY), (4608, 0)),
     (1, (b"", NO_KEY), (4608, 0)),
     (4095, (b"", NO_KEY), (4608, 0)),
     (4096, (b"", NO_KEY), (4608, 0)),
     (4097, (b"", NO_KEY), (4608, 0)),
     (8192, (b"", NO_KEY), (4608, 0)),
-    (LONGEST - 1, (b"", NO_KEY), (4608, 0)),
-    (LONGEST + 1, TOO_LONG, (592, 0)),
-    (LONGEST + 2, TOO_LONG, (592, 1)),
-    (LONGEST + 4, TOO_LONG, (592, 3)),
+    (MAX_KEY_FILE_LEN - 1, (b"", NO_KEY), (4608, 0)),
+    (MAX_KEY_FILE_LEN + 1, TOO_LONG, (592, 0)),
+    (MAX_KEY_FILE_LEN + 2, TOO_LONG, (592, 1)),
+    (MAX_KEY_FILE_LEN + 4, TOO_LONG, (592, 3)),
 ];
 
 // Key files of zeros, with each of these lengths.
@@ -177,7 +177,7 @@ fn check_lengths(rt: &(impl Abort + AllocGlobal), image: &[u8], zeros: &[u8]) {
 
 #[test]
 fn long_key_files_are_read_up_to_the_limit(rt: HostRuntime) {
-    let zeros = changed(&rt, &[], LONGEST + 4, &[]);
-    let image = sealed(&rt, NEWEST, SMALL, at(&zeros, 0, LONGEST));
+    let zeros = changed(&rt, &[], MAX_KEY_FILE_LEN + 4, &[]);
+    let image = sealed(&rt, NEWEST, SMALL, at(&zeros, 0, MAX_KEY_FILE_LEN));
     check_lengths(&rt, &image, &zeros)
 }

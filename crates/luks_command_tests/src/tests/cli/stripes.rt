@@ -187,7 +187,7 @@ fn keys_are_split_and_merged(rt: HostRuntime) {
     }
 }
 
-static LONGEST: [u8; 512] = [7; 512];
+static MAX_KEY: [u8; 512] = [7; 512];
 
 static ENOUGH: [u8; 600] = [0; 600];
 
@@ -195,7 +195,7 @@ static ENOUGH: [u8; 600] = [0; 600];
 #[test]
 fn the_longest_key_is_split(rt: HostRuntime) {
     let mut out = sink(&rt, 4096);
-    let inputs: Inputs<'_> = [&[], &LONGEST, &ENOUGH];
+    let inputs: Inputs<'_> = [&[], &MAX_KEY, &ENOUGH];
     let (report, left) = run_over(&rt, SPLIT_2, inputs, (ALL, ALL), &mut out);
     check_reported(&rt, &"512", &report, DONE);
     assert_same_in(&rt, &"512", out.as_slice().len(), 1024);
