@@ -97,69 +97,70 @@ found_chosen loaded ended (Ok header) none is = λ image prefix.
 found_chosen loaded ended (Err fault) none is = tt
 
 -- if no offset is valid, there is no first valid one
-none_first : (valid : ℕ → Bool) (places : List ℕ) → ((place : ℕ) → valid place ≡ false) → find valid places ≡ None
+none_first : (valid : ℕ → Bool) (offsets : List ℕ) → ((offset : ℕ) → valid offset ≡ false) → find valid offsets ≡ None
 none_first valid [] none = refl
-none_first valid (place ∷ places) none = rw (none place) (none_first valid places none)
+none_first valid (offset ∷ offsets) none = rw (none offset) (none_first valid offsets none)
 
 -- an image of fewer than 4,096 bytes has no header
 pub none_short : (image : List ℕ) → length image < 4096 → header2_of image ≡ Err NotLuks
 unfolding header2_of
 none_short image short =
-    let none : (place : ℕ) → is_valid image place ≡ false =
-    λ place. unfit-is_valid image place (short-fits image place (omega arith)) in
+    let none : (offset : ℕ) → is_valid image offset ≡ false =
+    λ offset. unfit-is_valid image offset (short-fits image offset (omega arith)) in
     ap (λ chosen. ok_or chosen NotLuks)
     (chosen_other image (none 0) ∙ ap (option_and_then (found_at image)) (none_first (is_valid image) sizes none))
 
 -- ---- loaded bytes that reach as far as an image is read
 
 module _ (loaded image : List ℕ) (prefix : IsPrefixOf loaded false image) where
-  probe_same : (place : ℕ) → place + 4096 ≤ length loaded → probe_end loaded place ≡ probe_end image place
+  probe_same : (offset : ℕ) → offset + 4096 ≤ length loaded → probe_end loaded offset ≡ probe_end image offset
   unfolding probe_end
-  probe_same place there =
-      rw (fits-prefix loaded false image prefix place there, at-prefix loaded false image prefix place 4096 there) refl
+  probe_same offset there =
+      let fits_same = fits-prefix loaded false image prefix offset there in
+      rw (fits_same, at-prefix loaded false image prefix offset 4096 there) refl
 
   -- an offset for which all bytes to be read are loaded
-  place_same : (place : ℕ) → probe_end image place ≤ length loaded
-      → (is_valid loaded place ≡ is_valid image place) × (probe_end loaded place ≡ probe_end image place)
-  place_same place within =
-      let there : place + 4096 ≤ length loaded = omega (arith, within, probe_least image place) in (
-        valid-prefix loaded false image prefix place there (λ fit. omega (arith, within, probe_fit image place fit)),
-        probe_same place there,
+  offset_same : (offset : ℕ) → probe_end image offset ≤ length loaded
+      → (is_valid loaded offset ≡ is_valid image offset) × (probe_end loaded offset ≡ probe_end image offset)
+  offset_same offset within =
+      let there : offset + 4096 ≤ length loaded = omega (arith, within, probe_least image offset) in (
+        valid-prefix loaded false image prefix offset there (λ fit. omega (arith, within, probe_fit image offset fit)),
+        probe_same offset there,
       )
 
   abbrev AreSame : List ℕ → Type 0
-  AreSame places = (find (is_valid loaded) places ≡ find (is_valid image) places)
-      × (furthest (is_valid loaded) (probe_end loaded) places ≡ furthest (is_valid image) (probe_end image) places)
+  AreSame offsets = (find (is_valid loaded) offsets ≡ find (is_valid image) offsets)
+      × (furthest (is_valid loaded) (probe_end loaded) offsets ≡ furthest (is_valid image) (probe_end image) offsets)
 
-  walk_same : (places : List ℕ) → furthest (is_valid image) (probe_end image) places ≤ length loaded → AreSame places
+  walk_same : (offsets : List ℕ) → furthest (is_valid image) (probe_end image) offsets ≤ length loaded → AreSame offsets
   unfolding furthest
   walk_same [] within = (refl, refl)
-  walk_same (place ∷ places) within = by (is_valid image place) refl (walk_same places) where
-    by : (b : Bool) → is_valid image place ≡ b
-        → (furthest (is_valid image) (probe_end image) places ≤ length loaded → AreSame places)
-        → AreSame (place ∷ places)
+  walk_same (offset ∷ offsets) within = by (is_valid image offset) refl (walk_same offsets) where
+    by : (b : Bool) → is_valid image offset ≡ b
+        → (furthest (is_valid image) (probe_end image) offsets ≤ length loaded → AreSame offsets)
+        → AreSame (offset ∷ offsets)
     by true e next =
-        let same = place_same place (omega (arith, within)) in
+        let same = offset_same offset (omega (arith, within)) in
         (rw (same.0, e) refl, rw (same.0, same.1, e) refl)
     by false e next =
-        let same = place_same place (omega (arith, within)) in
+        let same = offset_same offset (omega (arith, within)) in
         let rest = next (let inside = (rw e at within) in omega (arith, inside)) in
-        (rw (same.0, e) rest.0, rw (same.0, same.1, e) (ap (max (probe_end image place)) rest.1))
+        (rw (same.0, e) rest.0, rw (same.0, same.1, e) (ap (max (probe_end image offset)) rest.1))
 
   found_same : (first : Option ℕ) → find (is_valid image) sizes ≡ first
       → furthest (is_valid image) (probe_end image) sizes ≤ length loaded
       → option_and_then (found_at loaded) first ≡ option_and_then (found_at image) first
   found_same None is within = refl
-  found_same (Some place) is within =
-      let below = first_is (is_valid image) (probe_end image) sizes place is in
+  found_same (Some offset) is within =
+      let below = first_is (is_valid image) (probe_end image) sizes offset is in
       ap (header2_from Secondary (Some PrimaryNotValid))
-      (at-prefix loaded false image prefix place 4096 (omega (arith, below.1, within, probe_least image place)))
+      (at-prefix loaded false image prefix offset 4096 (omega (arith, below.1, within, probe_least image offset)))
 
   -- if all bytes to be read of an image are loaded, these have the same header, and as many of them are to be read
   pub stable_by : (b : Bool) → is_valid image 0 ≡ b → probe2_len image ≤ length loaded
       → (chosen2_of loaded ≡ chosen2_of image) × (probe2_len loaded ≡ probe2_len image)
   stable_by true e whole =
-      let first = place_same 0 (omega (arith, probe_first image, whole)) in
+      let first = offset_same 0 (omega (arith, probe_first image, whole)) in
       let size : size_at loaded 0 ≡ size_at image 0 =
       ap size_in (at-prefix loaded false image prefix 0 4096 (omega (arith, probe_some image, whole))) in (
         chosen_primary loaded (first.0 ∙ e)
@@ -168,7 +169,7 @@ module _ (loaded image : List ℕ) (prefix : IsPrefixOf loaded false image) wher
         probe_primary loaded (first.0 ∙ e) ∙ ap (λ n. 2 * n) size ∙ sym (probe_primary image e),
       )
   stable_by false e whole =
-      let first = place_same 0 (omega (arith, probe_first image, whole)) in
+      let first = offset_same 0 (omega (arith, probe_first image, whole)) in
       let within : furthest (is_valid image) (probe_end image) sizes ≤ length loaded =
       omega (arith, probe_other image e, search_len_is image, whole) in
       let walk = walk_same sizes within in (
@@ -197,24 +198,24 @@ made_of role finding binary header is = by (checksum_hash_in binary) refl where
   by None e = absurd (let made = rw e at is in cc)
 
 -- a header is at this offset of the image, is valid there, is within the bytes that are to be read, and is attached
-record HasHeaderAt (image : List ℕ) (header : Header2) (place : ℕ) : Type 0 where
-  pub valid : is_valid image place ≡ true
-  pub here : header_offset header.role header.size ≡ place
-  pub size : header.size ≡ size_at image place
-  pub probed : place + header.size ≤ probe2_len image
+record HasHeaderAt (image : List ℕ) (header : Header2) (offset : ℕ) : Type 0 where
+  pub valid : is_valid image offset ≡ true
+  pub here : header_offset header.role header.size ≡ offset
+  pub size : header.size ≡ size_at image offset
+  pub probed : offset + header.size ≤ probe2_len image
   pub attached : header.detached ≡ false
 
 -- the sequence number of the header at an offset
 abbrev sequence_at : List ℕ → ℕ → ℕ
-sequence_at image place = sequence_in (binary_at image place)
+sequence_at image offset = sequence_in (binary_at image offset)
 
 module _ (image : List ℕ) (header : Header2) where
   -- a header that was made of the bytes at an offset is there, if its role and length give this offset
-  header_at : (role : HeaderRole) (finding : Option PairFinding) (place : ℕ) → is_valid image place ≡ true
-      → header_offset role (size_at image place) ≡ place → place + size_at image place ≤ probe2_len image
-      → header2_from role finding (binary_at image place) ≡ Some header → HasHeaderAt image header place
-  header_at role finding place valid own probe is =
-      let made = made_of role finding (binary_at image place) header is in
+  header_at : (role : HeaderRole) (finding : Option PairFinding) (offset : ℕ) → is_valid image offset ≡ true
+      → header_offset role (size_at image offset) ≡ offset → offset + size_at image offset ≤ probe2_len image
+      → header2_from role finding (binary_at image offset) ≡ Some header → HasHeaderAt image header offset
+  header_at role finding offset valid own probe is =
+      let made = made_of role finding (binary_at image offset) header is in
       record {
         valid = valid;
         here = ap (λ p. header_offset p header.size) made.0 ∙ ap (λ n. header_offset role n) made.1 ∙ own;
@@ -225,21 +226,21 @@ module _ (image : List ℕ) (header : Header2) where
 
   -- the header of an image with a valid primary one is at an offset of the image
   choice_with_primary_at : is_valid image 0 ≡ true → with_valid_primary image ≡ Some header
-      → (place : ℕ) × HasHeaderAt image header place
+      → (offset : ℕ) × HasHeaderAt image header offset
   unfolding with_valid_primary
   choice_with_primary_at valid is =
       by (is_valid image (size_at image 0)) (nat_lt (sequence_at image 0) (sequence_at image (size_at image 0)))
       (nat_lt (sequence_at image (size_at image 0)) (sequence_at image 0)) refl refl refl
     where
       primary : (finding : Option PairFinding) → header2_from Primary finding (binary_at image 0) ≡ Some header
-          → (place : ℕ) × HasHeaderAt image header place
+          → (offset : ℕ) × HasHeaderAt image header offset
       primary finding made =
           (0, header_at Primary finding 0 valid refl (omega (arith, probe_primary image valid)) made)
 
       by : (both later earlier : Bool) → is_valid image (size_at image 0) ≡ both
           → nat_lt (sequence_at image 0) (sequence_at image (size_at image 0)) ≡ later
           → nat_lt (sequence_at image (size_at image 0)) (sequence_at image 0) ≡ earlier
-          → (place : ℕ) × HasHeaderAt image header place
+          → (offset : ℕ) × HasHeaderAt image header offset
       by false _ _ b _ _ = primary (Some SecondaryNotValid) (rw b at is)
       by true true _ b l _ =
           let range = valid_range image 0 valid in
@@ -253,30 +254,30 @@ module _ (image : List ℕ) (header : Header2) where
       by true false false b l e = primary None (rw (b, l, e) at is)
 
   -- the header that the search finds is at the offset where it was found
-  search_result_at : is_valid image 0 ≡ false → (place : ℕ) → first_valid image ≡ Some place
-      → found_at image place ≡ Some header → HasHeaderAt image header place
-  search_result_at none place least is =
-      let one = first_is (is_valid image) (probe_end image) sizes place least in
-      let some : place ≡ 0 → ⊥ =
+  search_result_at : is_valid image 0 ≡ false → (offset : ℕ) → first_valid image ≡ Some offset
+      → found_at image offset ≡ Some header → HasHeaderAt image header offset
+  search_result_at none offset least is =
+      let one = first_is (is_valid image) (probe_end image) sizes offset least in
+      let some : offset ≡ 0 → ⊥ =
       λ start. (let wrong : true ≡ false = sym one.0 ∙ ap (is_valid image) start ∙ none in cc) in
-      let fit = valid_parts image place one.0 in
-      header_at Secondary (Some PrimaryNotValid) place one.0 (own_size image place fit.0 some)
-      (omega (arith, one.1, probe_fit image place fit.0, search_len_is image, probe_other image none)) is
+      let fit = valid_parts image offset one.0 in
+      header_at Secondary (Some PrimaryNotValid) offset one.0 (own_size image offset fit.0 some)
+      (omega (arith, one.1, probe_fit image offset fit.0, search_len_is image, probe_other image none)) is
 
   -- the header that is chosen is at an offset of the image
-  chosen_header_at : chosen2_of image ≡ Some header → (place : ℕ) × HasHeaderAt image header place
+  chosen_header_at : chosen2_of image ≡ Some header → (offset : ℕ) × HasHeaderAt image header offset
   chosen_header_at is = by (is_valid image 0) refl where
-    by : (b : Bool) → is_valid image 0 ≡ b → (place : ℕ) × HasHeaderAt image header place
+    by : (b : Bool) → is_valid image 0 ≡ b → (offset : ℕ) × HasHeaderAt image header offset
     by true e = choice_with_primary_at e (sym (chosen_primary image e) ∙ is)
     by false e =
         option_and_then_some (found_at image) (first_valid image) header (sym (chosen_other image e) ∙ is)
-        (λ place least made. (place, search_result_at e place least made))
+        (λ offset least made. (offset, search_result_at e offset least made))
 
   -- the header of an image is at an offset of it
-  located : header2_of image ≡ Ok header → (place : ℕ) × HasHeaderAt image header place
+  located : header2_of image ≡ Ok header → (offset : ℕ) × HasHeaderAt image header offset
   unfolding header2_of
   located is = by (chosen2_of image) refl where
-    by : (chosen : Option Header2) → chosen2_of image ≡ chosen → (place : ℕ) × HasHeaderAt image header place
+    by : (chosen : Option Header2) → chosen2_of image ≡ chosen → (offset : ℕ) × HasHeaderAt image header offset
     by (Some found) e =
         chosen_header_at (e ∙ (let answer = sym (ap (λ o. ok_or o NotLuks) e) ∙ is in ap Some cc))
     by None e = absurd (let answer = sym (ap (λ o. ok_or o NotLuks) e) ∙ is in cc)
@@ -293,6 +294,6 @@ json_prefix image header is =
     let it = located image header is in
     let range = valid_range image it.0 it.1.valid in
     let whole = valid_parts image it.0 it.1.valid in
-    let place = header_offset header.role header.size + binary_len in
-    ap text_of (at_prefix place (header.size - binary_len) (header2_read_len image) image
+    let offset = header_offset header.role header.size + binary_len in
+    ap text_of (at_prefix offset (header.size - binary_len) (header2_read_len image) image
     (omega (arith, range.1, it.1.here, it.1.size, it.1.probed, whole.1)))

@@ -26,9 +26,9 @@ known_size : (n : ℕ) → list_any (λ size. size == n) sizes ≡ true → (163
 unfolding sizes
 known_size n h = (grind (arith, nat_tests), grind (arith, nat_tests))
 
-module _ (place : ℕ) (binary : List ℕ) (is : is_binary_of place binary ≡ true) where
+module _ (offset : ℕ) (binary : List ℕ) (is : is_binary_of offset binary ≡ true) where
   -- two tests of a binary header: its length is one of the nine, and that of a secondary header is its offset
-  tests : (list_any (λ size. size == size_in binary) sizes ≡ true) × ((place == 0 || size_in binary == place) ≡ true)
+  tests : (list_any (λ size. size == size_in binary) sizes ≡ true) × ((offset == 0 || size_in binary == offset) ≡ true)
   unfolding is_binary_of
   tests =
       let four = and_parts _ _ is in
@@ -42,61 +42,62 @@ module _ (place : ℕ) (binary : List ℕ) (is : is_binary_of place binary ≡ t
   size_range = known_size (size_in binary) tests.0
 
   -- the length of a header that is not primary is its offset
-  size_is_place : (place ≡ 0 → ⊥) → size_in binary ≡ place
-  size_is_place some = eqb-true (size_in binary) place (rw (ne_eqb place 0 some) at tests.1)
+  size_is_offset : (offset ≡ 0 → ⊥) → size_in binary ≡ offset
+  size_is_offset some = eqb-true (size_in binary) offset (rw (ne_eqb offset 0 some) at tests.1)
 
-module _ (image : List ℕ) (place : ℕ) where
+module _ (image : List ℕ) (offset : ℕ) where
   -- if a header fits, its binary header is in the image
-  pub fits_parts : fits image place ≡ true
-      → (place + 4096 ≤ length image) × (is_binary_of place (binary_at image place) ≡ true)
+  pub fits_parts : fits image offset ≡ true
+      → (offset + 4096 ≤ length image) × (is_binary_of offset (binary_at image offset) ≡ true)
   unfolding fits
   fits_parts h =
       let both = and_parts _ _ h in
-      (leb-true (place + 4096) (length image) both.0, both.1)
+      (leb-true (offset + 4096) (length image) both.0, both.1)
 
   -- the length of a header that fits and is not primary is its offset
-  pub own_size : fits image place ≡ true → (place ≡ 0 → ⊥) → size_at image place ≡ place
-  own_size h some = size_is_place place (binary_at image place) (fits_parts h).1 some
+  pub own_size : fits image offset ≡ true → (offset ≡ 0 → ⊥) → size_at image offset ≡ offset
+  own_size h some = size_is_offset offset (binary_at image offset) (fits_parts h).1 some
 
   -- no header fits if the image ends before a binary header does
-  pub short-fits : length image < place + 4096 → fits image place ≡ false
+  pub short-fits : length image < offset + 4096 → fits image offset ≡ false
   unfolding fits
-  short-fits h = rw (lt-leb (place + 4096) (length image) h) refl
+  short-fits h = rw (lt-leb (offset + 4096) (length image) h) refl
 
   -- a header that does not fit is not valid
-  pub unfit-is_valid : fits image place ≡ false → is_valid image place ≡ false
+  pub unfit-is_valid : fits image offset ≡ false → is_valid image offset ≡ false
   unfolding is_valid
   unfit-is_valid h = rw h refl
 
   -- a valid header fits, and all of it is in the image
-  pub valid_parts : is_valid image place ≡ true
-      → (fits image place ≡ true) × (place + size_at image place ≤ length image)
+  pub valid_parts : is_valid image offset ≡ true
+      → (fits image offset ≡ true) × (offset + size_at image offset ≤ length image)
   unfolding is_valid
   valid_parts h =
       let two = and_parts _ _ h in
       let one = and_parts _ _ two.0 in
-      (one.0, leb-true (place + size_at image place) (length image) one.1)
+      (one.0, leb-true (offset + size_at image offset) (length image) one.1)
 
   -- the binary header of a valid header is in the image, and its length is in the range of the nine
-  pub valid_range : is_valid image place ≡ true
-      → (place + 4096 ≤ length image) × (16384 ≤ size_at image place) × (size_at image place ≤ 4194304)
+  pub valid_range : is_valid image offset ≡ true
+      → (offset + 4096 ≤ length image) × (16384 ≤ size_at image offset) × (size_at image offset ≤ 4194304)
   valid_range h =
       let fit = fits_parts (valid_parts h).0 in
-      let range = size_range place (binary_at image place) fit.1 in
+      let range = size_range offset (binary_at image offset) fit.1 in
       (fit.0, range.0, range.1)
 
   -- at least a binary header's length is read to check an offset
-  pub probe_least : place + 4096 ≤ probe_end image place
+  pub probe_least : offset + 4096 ≤ probe_end image offset
   unfolding probe_end
   probe_least = omega arith
 
   -- no more is read to check an offset if no header fits
-  pub probe_unfit : fits image place ≡ false → probe_end image place ≡ place + 4096
+  pub probe_unfit : fits image offset ≡ false → probe_end image offset ≡ offset + 4096
   unfolding probe_end
   probe_unfit is = rw is (omega arith)
 
   -- the whole header is read to check an offset if one fits
-  pub probe_fit : fits image place ≡ true → probe_end image place ≡ max (place + 4096) (place + size_at image place)
+  pub probe_fit : fits image offset ≡ true
+      → probe_end image offset ≡ max (offset + 4096) (offset + size_at image offset)
   unfolding probe_end
   probe_fit is = rw is refl
 
@@ -104,37 +105,37 @@ module _ (image : List ℕ) (place : ℕ) where
 
 module _ (loaded : List ℕ) (ended : Bool) (image : List ℕ) (prefix : IsPrefixOf loaded ended image) where
   -- loaded bytes are the image's
-  pub at-prefix : (place n : ℕ) → place + n ≤ length loaded → at place n loaded ≡ at place n image
-  at-prefix place n within =
-      ap (λ l. at place n l) (sym prefix.begins) ∙ at_prefix place n (length loaded) image within
+  pub at-prefix : (offset n : ℕ) → offset + n ≤ length loaded → at offset n loaded ≡ at offset n image
+  at-prefix offset n within =
+      ap (λ l. at offset n l) (sym prefix.begins) ∙ at_prefix offset n (length loaded) image within
 
   -- if a binary header's length is loaded, a header fits the loaded bytes if and only if it fits the image
-  pub fits-prefix : (place : ℕ) → place + 4096 ≤ length loaded → fits loaded place ≡ fits image place
+  pub fits-prefix : (offset : ℕ) → offset + 4096 ≤ length loaded → fits loaded offset ≡ fits image offset
   unfolding fits
-  fits-prefix place within =
+  fits-prefix offset within =
       rw (
-        le-leb (place + 4096) (length loaded) within,
-        le-leb (place + 4096) (length image) (omega (arith, prefix.within)),
-        at-prefix place 4096 within,
+        le-leb (offset + 4096) (length loaded) within,
+        le-leb (offset + 4096) (length image) (omega (arith, prefix.within)),
+        at-prefix offset 4096 within,
       ) refl
 
   -- a header that is loaded whole, or does not fit, is valid in the loaded bytes if and only if it is in the image
-  pub valid-prefix : (place : ℕ) → place + 4096 ≤ length loaded
-      → (fits image place ≡ true → place + size_at image place ≤ length loaded)
-      → is_valid loaded place ≡ is_valid image place
+  pub valid-prefix : (offset : ℕ) → offset + 4096 ≤ length loaded
+      → (fits image offset ≡ true → offset + size_at image offset ≤ length loaded)
+      → is_valid loaded offset ≡ is_valid image offset
   unfolding is_valid
-  valid-prefix place within whole = by (fits image place) refl where
-    by : (fit : Bool) → fits image place ≡ fit → is_valid loaded place ≡ is_valid image place
+  valid-prefix offset within whole = by (fits image offset) refl where
+    by : (fit : Bool) → fits image offset ≡ fit → is_valid loaded offset ≡ is_valid image offset
     by true is =
         rw (
-          fits-prefix place within,
+          fits-prefix offset within,
           is,
-          at-prefix place 4096 within,
-          le-leb (place + size_at image place) (length loaded) (whole is),
-          le-leb (place + size_at image place) (length image) (omega (arith, whole is, prefix.within)),
-          at-prefix place (size_at image place) (whole is),
+          at-prefix offset 4096 within,
+          le-leb (offset + size_at image offset) (length loaded) (whole is),
+          le-leb (offset + size_at image offset) (length image) (omega (arith, whole is, prefix.within)),
+          at-prefix offset (size_at image offset) (whole is),
         ) refl
-    by false is = rw (fits-prefix place within, is) refl
+    by false is = rw (fits-prefix offset within, is) refl
 
 -- a test whose answer is `None` does not hold
 pub none_fails : (b : Bool) (n : ℕ) → None ≡ (if b then Some n else None) → b ≡ false
@@ -150,72 +151,72 @@ then_some_is : (b : Bool) (n : ℕ) → then_some b n ≡ (if b then Some n else
 then_some_is true n = refl
 then_some_is false n = refl
 
-module _ (area : HeaderAreaModel) (image bytes : List ℕ) (place : ℕ) (prefix : IsPrefixOf area.bytes area.ended image)
+module _ (area : HeaderAreaModel) (image bytes : List ℕ) (offset : ℕ) (prefix : IsPrefixOf area.bytes area.ended image)
     (is : bytes ≡ area.bytes) where
   -- if a binary header's length is loaded or the image has ended, a header fits the image if it fits the loaded bytes
-  fits-bytes : (area.ended ≡ false → place + 4096 ≤ length area.bytes) → fits bytes place ≡ fits image place
-  fits-bytes there = ap (λ l. fits l place) is ∙ by area.ended refl where
-    by : (b : Bool) → area.ended ≡ b → fits area.bytes place ≡ fits image place
-    by true e = ap (λ l. fits l place) (sym (prefix.ends e))
-    by false e = fits-prefix area.bytes area.ended image prefix place (there e)
+  fits-bytes : (area.ended ≡ false → offset + 4096 ≤ length area.bytes) → fits bytes offset ≡ fits image offset
+  fits-bytes there = ap (λ l. fits l offset) is ∙ by area.ended refl where
+    by : (b : Bool) → area.ended ≡ b → fits area.bytes offset ≡ fits image offset
+    by true e = ap (λ l. fits l offset) (sym (prefix.ends e))
+    by false e = fits-prefix area.bytes area.ended image prefix offset (there e)
 
   -- if no header fits the loaded bytes, none fits the image
-  pub unfit_here : (area.ended ≡ false → place + 4096 ≤ length area.bytes)
-      → None ≡ (if fits bytes place then Some (size_at bytes place) else None) → fits image place ≡ false
-  unfit_here there none = sym (fits-bytes there) ∙ none_fails (fits bytes place) (size_at bytes place) none
+  pub unfit_here : (area.ended ≡ false → offset + 4096 ≤ length area.bytes)
+      → None ≡ (if fits bytes offset then Some (size_at bytes offset) else None) → fits image offset ≡ false
+  unfit_here there none = sym (fits-bytes there) ∙ none_fails (fits bytes offset) (size_at bytes offset) none
 
   -- if a header of this length fits the loaded bytes, it fits the image, and its binary header is loaded
-  pub fit_here : (size : ℕ) → Some size ≡ (if fits bytes place then Some (size_at bytes place) else None)
-      → (fits image place ≡ true) × (size ≡ size_at image place) × (place + 4096 ≤ length area.bytes)
+  pub fit_here : (size : ℕ) → Some size ≡ (if fits bytes offset then Some (size_at bytes offset) else None)
+      → (fits image offset ≡ true) × (size ≡ size_at image offset) × (offset + 4096 ≤ length area.bytes)
   fit_here size some =
-      let one = some_holds (fits bytes place) size (size_at bytes place) some in
-      let parts = fits_parts bytes place one.0 in
-      let there : place + 4096 ≤ length area.bytes = omega (arith, parts.0, ap length is) in (
+      let one = some_holds (fits bytes offset) size (size_at bytes offset) some in
+      let parts = fits_parts bytes offset one.0 in
+      let there : offset + 4096 ≤ length area.bytes = omega (arith, parts.0, ap length is) in (
         sym (fits-bytes (λ _. there)) ∙ one.0,
-        one.1 ∙ ap (λ l. size_at l place) is
-            ∙ ap size_in (at-prefix area.bytes area.ended image prefix place 4096 there),
+        one.1 ∙ ap (λ l. size_at l offset) is
+            ∙ ap size_in (at-prefix area.bytes area.ended image prefix offset 4096 there),
         there,
       )
 
   -- if the header is loaded whole or the image has ended, the loaded bytes give the same length as the image, or none
   -- if it is not valid
-  pub valid_here : (size : ℕ) → size ≡ size_at image place → place + 4096 ≤ length area.bytes
-      → (area.ended ≡ false → place + size ≤ length area.bytes)
-      → then_some (is_valid bytes place) size ≡ valid_size image place
+  pub valid_here : (size : ℕ) → size ≡ size_at image offset → offset + 4096 ≤ length area.bytes
+      → (area.ended ≡ false → offset + size ≤ length area.bytes)
+      → then_some (is_valid bytes offset) size ≡ valid_size image offset
   valid_here size long there whole =
-      let valid : is_valid bytes place ≡ is_valid image place = ap (λ l. is_valid l place) is ∙ by area.ended refl in
-      rw (valid, long) (then_some_is (is_valid image place) (size_at image place))
+      let valid : is_valid bytes offset ≡ is_valid image offset = ap (λ l. is_valid l offset) is ∙ by area.ended refl in
+      rw (valid, long) (then_some_is (is_valid image offset) (size_at image offset))
     where
-      by : (b : Bool) → area.ended ≡ b → is_valid area.bytes place ≡ is_valid image place
-      by true e = ap (λ l. is_valid l place) (sym (prefix.ends e))
+      by : (b : Bool) → area.ended ≡ b → is_valid area.bytes offset ≡ is_valid image offset
+      by true e = ap (λ l. is_valid l offset) (sym (prefix.ends e))
       by false e =
-          valid-prefix area.bytes area.ended image prefix place there (λ fit. omega (arith, long, whole e))
+          valid-prefix area.bytes area.ended image prefix offset there (λ fit. omega (arith, long, whole e))
 
 -- ---- the search for a secondary header, offset by offset: it gives what its definition states
 
 -- the end of the bytes that are read to check these offsets, up to the first with a valid header
 unfoldable pub furthest : (ℕ → Bool) → (ℕ → ℕ) → List ℕ → ℕ
 furthest valid probe [] = 0
-furthest valid probe (place ∷ places) = max (probe place) (if valid place then 0 else furthest valid probe places)
+furthest valid probe (offset ∷ offsets) = max (probe offset) (if valid offset then 0 else furthest valid probe offsets)
 
 -- the first valid offset is valid, and the search reads at least as far as it does for this offset
-pub first_is : (valid : ℕ → Bool) (probe : ℕ → ℕ) (places : List ℕ) (place : ℕ) → find valid places ≡ Some place
-    → (valid place ≡ true) × (probe place ≤ furthest valid probe places)
+pub first_is : (valid : ℕ → Bool) (probe : ℕ → ℕ) (offsets : List ℕ) (offset : ℕ) → find valid offsets ≡ Some offset
+    → (valid offset ≡ true) × (probe offset ≤ furthest valid probe offsets)
 unfolding furthest
-first_is valid probe [] place is = absurd (cc)
-first_is valid probe (here ∷ places) place is = by (valid here) refl (first_is valid probe places place) where
+first_is valid probe [] offset is = absurd (cc)
+first_is valid probe (here ∷ offsets) offset is = by (valid here) refl (first_is valid probe offsets offset) where
   by : (b : Bool) → valid here ≡ b
-      → (find valid places ≡ Some place → (valid place ≡ true) × (probe place ≤ furthest valid probe places))
-      → (valid place ≡ true) × (probe place ≤ furthest valid probe (here ∷ places))
+      → (find valid offsets ≡ Some offset → (valid offset ≡ true) × (probe offset ≤ furthest valid probe offsets))
+      → (valid offset ≡ true) × (probe offset ≤ furthest valid probe (here ∷ offsets))
   by true e behind =
-      let same : here ≡ place = (let first : Some here ≡ Some place = rw e at is in cc) in
+      let same : here ≡ offset = (let first : Some here ≡ Some offset = rw e at is in cc) in
       (ap valid (sym same) ∙ e, omega (arith, ap probe same))
   by false e behind = (let rest = behind (rw e at is) in (rest.0, rw e (omega (arith, rest.1))))
 
 module _ (valid : ℕ → Bool) (probe : ℕ → ℕ) where
   -- no lower one of the nine offsets has a valid header
   abbrev pub tried : ℕ → Bool
-  tried place = not (list_any (λ other. nat_lt other place && valid other) sizes)
+  tried offset = not (list_any (λ other. nat_lt other offset && valid other) sizes)
 
   -- the walk reads as far as the definition states
   abbrev pub IsOne : Type 0
@@ -252,7 +253,7 @@ so_far image (suc k) = max (so_far image k) (probe_end image (get_or sizes k 0))
 
 -- none of the first k offsets has a valid header
 pub record Searched (image : List ℕ) (k : ℕ) : Type 0 where
-  pub place : first_valid image ≡ find (is_valid image) (drop k sizes)
+  pub offset : first_valid image ≡ find (is_valid image) (drop k sizes)
   pub probed : search_len image ≡ max (so_far image k) (ahead image k)
 
 -- the search reads as far as its definition states
@@ -262,50 +263,50 @@ search_len_is image = sym (are_one (is_valid image) (probe_end image))
 
 -- before the first offset
 pub searched_none : (image : List ℕ) → Searched image 0
-searched_none image = record { place = refl; probed = omega (arith, search_len_is image) }
+searched_none image = record { offset = refl; probed = omega (arith, search_len_is image) }
 
 -- at offset number k of the list of offsets
 module _ (image : List ℕ) (k : ℕ) (items : List ℕ) (are : items ≡ sizes) (inside : k < length items)
     (searched : Searched image k) where
-  abbrev pub place : ℕ
-  place = get_or items k 0
+  abbrev pub offset : ℕ
+  offset = get_or items k 0
 
-  here : drop k sizes ≡ place ∷ drop (suc k) sizes
+  here : drop k sizes ≡ offset ∷ drop (suc k) sizes
   here =
       drop-cons sizes k 0 (omega (arith, inside, ap length are))
       ∙ ap (λ p. p ∷ drop (suc k) sizes) (sym (ap (λ l. get_or l k 0) are))
 
   -- the end of the bytes that are read to check the offsets from this one on
-  ahead_fails : is_valid image place ≡ false → ahead image k ≡ max (probe_end image place) (ahead image (suc k))
+  ahead_fails : is_valid image offset ≡ false → ahead image k ≡ max (probe_end image offset) (ahead image (suc k))
   unfolding furthest
   ahead_fails fails = rw (here, fails) refl
 
-  ahead_holds : is_valid image place ≡ true → ahead image k ≡ probe_end image place
+  ahead_holds : is_valid image offset ≡ true → ahead image k ≡ probe_end image offset
   unfolding furthest
   ahead_holds holds = rw (here, holds) (omega arith)
 
   -- the bytes that are read to check this offset are among those that the search reads
-  pub probe_below : max (so_far image k) (probe_end image place) ≤ search_len image
-  probe_below = by (is_valid image place) refl where
-    by : (b : Bool) → is_valid image place ≡ b → max (so_far image k) (probe_end image place) ≤ search_len image
+  pub probe_below : max (so_far image k) (probe_end image offset) ≤ search_len image
+  probe_below = by (is_valid image offset) refl where
+    by : (b : Bool) → is_valid image offset ≡ b → max (so_far image k) (probe_end image offset) ≤ search_len image
     by true e = omega (arith, ahead_holds e, searched.probed)
     by false e = omega (arith, ahead_fails e, searched.probed)
 
   -- no valid header is here: the search continues
-  pub searched_on : is_valid image place ≡ false → Searched image (k + 1)
+  pub searched_on : is_valid image offset ≡ false → Searched image (k + 1)
   searched_on fails =
-      let same : probe_end image place ≡ probe_end image (get_or sizes k 0) =
+      let same : probe_end image offset ≡ probe_end image (get_or sizes k 0) =
       ap (λ l. probe_end image (get_or l k 0)) are in
       let next : search_len image
       ≡ max (max (so_far image k) (probe_end image (get_or sizes k 0))) (ahead image (suc k)) =
       omega (arith, ahead_fails fails, searched.probed, same) in
-      rw add-one record { place = searched.place ∙ rw (here, fails) refl; probed = next }
+      rw add-one record { offset = searched.offset ∙ rw (here, fails) refl; probed = next }
 
   -- a valid header is here: the search ends
-  pub searched_place : is_valid image place ≡ true → (first_valid image ≡ Some place)
-      × (max (so_far image k) (probe_end image place) ≡ search_len image)
-  searched_place holds =
-      (searched.place ∙ rw (here, holds) refl, omega (arith, ahead_holds holds, searched.probed))
+  pub searched_offset : is_valid image offset ≡ true → (first_valid image ≡ Some offset)
+      × (max (so_far image k) (probe_end image offset) ≡ search_len image)
+  searched_offset holds =
+      (searched.offset ∙ rw (here, holds) refl, omega (arith, ahead_holds holds, searched.probed))
 
 -- the end of the bytes that are read to check one more offset
 pub so_far_next : (image items : List ℕ) (k : ℕ) → items ≡ sizes
@@ -318,28 +319,28 @@ some_if true n = refl
 some_if false n = refl
 
 -- a header is valid exactly if it has a length
-pub found_valid : (image : List ℕ) (place : ℕ) (found : Option ℕ) → found ≡ valid_size image place
-    → is_valid image place ≡ is_some found
-found_valid image place found is = sym (ap is_some is ∙ some_if (is_valid image place) (size_at image place))
+pub found_valid : (image : List ℕ) (offset : ℕ) (found : Option ℕ) → found ≡ valid_size image offset
+    → is_valid image offset ≡ is_some found
+found_valid image offset found is = sym (ap is_some is ∙ some_if (is_valid image offset) (size_at image offset))
 
 -- the offsets are in range
-pub place_range : (items : List ℕ) (k : ℕ) → items ≡ sizes → k < length items → get_or items k 0 ≤ 4194304
+pub offset_range : (items : List ℕ) (k : ℕ) → items ≡ sizes → k < length items → get_or items k 0 ≤ 4194304
 unfolding sizes
-place_range items k are inside =
+offset_range items k are inside =
     let few : k < length sizes = omega (arith, inside, ap length are) in
     rw are (leb-true (get_or sizes k 0) 4194304
     (AllPass-from_list_all (λ size. nat_le size 4194304) sizes refl k 0 few))
 
 -- the header that was found is that of the lowest valid offset
-pub found_least : (loaded : List ℕ) (ended : Bool) (image bytes : List ℕ) (place : ℕ) (header : Option Header2)
-    → IsPrefixOf loaded ended image → bytes ≡ loaded → is_valid loaded place ≡ true
-    → header ≡ header2_from Secondary (Some PrimaryNotValid) (binary_at bytes place)
-    → first_valid image ≡ Some place
+pub found_least : (loaded : List ℕ) (ended : Bool) (image bytes : List ℕ) (offset : ℕ) (header : Option Header2)
+    → IsPrefixOf loaded ended image → bytes ≡ loaded → is_valid loaded offset ≡ true
+    → header ≡ header2_from Secondary (Some PrimaryNotValid) (binary_at bytes offset)
+    → first_valid image ≡ Some offset
     → header ≡ option_and_then (found_at image) (first_valid image)
-found_least loaded ended image bytes place header prefix is valid made first =
-    let range = valid_range loaded place valid in
-    let same : binary_at bytes place ≡ binary_at image place = ap (λ l. at place 4096 l) is
-    ∙ at-prefix loaded ended image prefix place 4096 range.0 in
+found_least loaded ended image bytes offset header prefix is valid made first =
+    let range = valid_range loaded offset valid in
+    let same : binary_at bytes offset ≡ binary_at image offset = ap (λ l. at offset 4096 l) is
+    ∙ at-prefix loaded ended image prefix offset 4096 range.0 in
     made ∙ ap (header2_from Secondary (Some PrimaryNotValid)) same
     ∙ sym (ap (option_and_then (found_at image)) first)
 
@@ -350,4 +351,4 @@ unfolding furthest
 searched_all image k searched end =
     let none = drop_all k sizes end in
     let rest : ahead image k ≡ 0 = rw none refl in
-    (searched.place ∙ rw none refl, omega (arith, searched.probed, rest))
+    (searched.offset ∙ rw none refl, omega (arith, searched.probed, rest))

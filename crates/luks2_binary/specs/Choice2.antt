@@ -17,43 +17,43 @@ use Rattle.luks2_binary.specs.declared.header.HeaderRole.TheVariants.{Primary, S
 -- the first bytes of a header at this offset: LUKS at the image's start and SKUL elsewhere, BA BE, and the version 2 in
 -- two bytes
 unfoldable pub beginning_at : ℕ → List ℕ
-beginning_at place =
-    if place == 0 then 0x4c ∷ 0x55 ∷ 0x4b ∷ 0x53 ∷ 0xba ∷ 0xbe ∷ 0x00 ∷ 0x02 ∷ []
+beginning_at offset =
+    if offset == 0 then 0x4c ∷ 0x55 ∷ 0x4b ∷ 0x53 ∷ 0xba ∷ 0xbe ∷ 0x00 ∷ 0x02 ∷ []
     else 0x53 ∷ 0x4b ∷ 0x55 ∷ 0x4c ∷ 0xba ∷ 0xbe ∷ 0x00 ∷ 0x02 ∷ []
 
 -- these 4096 bytes are a binary header for this offset: they begin with the magic bytes and version for this offset,
 -- and state one of the nine lengths, this offset and a known hash function; a secondary header's length and offset are
 -- equal
 unfoldable pub is_binary_of : ℕ → List ℕ → Bool
-is_binary_of place binary =
-    bytes_eq (at 0 8 binary) (beginning_at place)
+is_binary_of offset binary =
+    bytes_eq (at 0 8 binary) (beginning_at offset)
     && list_any (λ size. size == size_in binary) sizes
-    && (place == 0 || size_in binary == place)
-    && hdr_offset_in binary == place
+    && (offset == 0 || size_in binary == offset)
+    && hdr_offset_in binary == offset
     && is_some (checksum_hash_in binary)
 
 -- the 4096 bytes at an offset
 abbrev pub binary_at : List ℕ → ℕ → List ℕ
-binary_at image place = at place binary_len image
+binary_at image offset = at offset binary_len image
 
 -- the length of the header at an offset, with its JSON area
 abbrev pub size_at : List ℕ → ℕ → ℕ
-size_at image place = size_in (binary_at image place)
+size_at image offset = size_in (binary_at image offset)
 
 -- a binary header for this offset is in the image at this offset
 unfoldable pub fits : List ℕ → ℕ → Bool
-fits image place = nat_le (place + binary_len) (length image) && is_binary_of place (binary_at image place)
+fits image offset = nat_le (offset + binary_len) (length image) && is_binary_of offset (binary_at image offset)
 
 -- a valid header is in the image at this offset: it fits, all of it is there, and its checksum matches
 unfoldable pub is_valid : List ℕ → ℕ → Bool
-is_valid image place =
-    fits image place
-    && nat_le (place + size_at image place) (length image)
-    && checksum_matches (at place (size_at image place) image)
+is_valid image offset =
+    fits image offset
+    && nat_le (offset + size_at image offset) (length image)
+    && checksum_matches (at offset (size_at image offset) image)
 
 -- the search tries an offset, if the primary header is not valid: no lower one of the nine offsets has a valid header
 unfoldable pub is_tried : List ℕ → ℕ → Bool
-is_tried image place = not (list_any (λ other. nat_lt other place && is_valid image other) sizes)
+is_tried image offset = not (list_any (λ other. nat_lt other offset && is_valid image other) sizes)
 
 -- the lowest of the nine offsets with a valid header
 abbrev pub first_valid : List ℕ → Option ℕ
@@ -74,7 +74,7 @@ with_valid_primary image =
 
 -- the header that the search finds at an offset
 abbrev pub found_at : List ℕ → ℕ → Option Header2
-found_at image place = header2_from Secondary (Some PrimaryNotValid) (binary_at image place)
+found_at image offset = header2_from Secondary (Some PrimaryNotValid) (binary_at image offset)
 
 -- the header of an image, if it has one
 unfoldable pub chosen2_of : List ℕ → Option Header2

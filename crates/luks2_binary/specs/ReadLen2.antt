@@ -6,7 +6,7 @@ use Rattle.luks2_binary.specs.Header2.{binary_len, sizes}
 -- the end of the bytes that are read to check an offset: the end of the binary header or, if that fits, of the whole
 -- header. At one of the nine offsets the latter end is twice the offset
 unfoldable pub probe_end : List ℕ → ℕ → ℕ
-probe_end image place = max (place + binary_len) (if fits image place then place + size_at image place else 0)
+probe_end image offset = max (offset + binary_len) (if fits image offset then offset + size_at image offset else 0)
 
 -- the maximum of some numbers
 abbrev pub max_of : List ℕ → ℕ

@@ -23,7 +23,7 @@ pub record LoadedPrefixOf (image : List ℕ) (area : HeaderAreaModel) (left : Op
 
 -- the length of the header at an offset, if a valid one is there
 abbrev pub valid_size : List ℕ → ℕ → Option ℕ
-valid_size image place = if is_valid image place then Some (size_at image place) else None
+valid_size image offset = if is_valid image offset then Some (size_at image offset) else None
 
 -- `Holds` is true of each image that starts with the loaded bytes
 abbrev pub OfEach : List ℕ → Bool → (List ℕ → Type 0) → Type 0

@@ -9,7 +9,7 @@ ghost use Rattle.luks2_binary.specs.Reading2.{without_value};
 
 use crate::choice::{valid_header, with_valid_primary};
 use crate::header::{BINARY_LEN, Header2, HeaderRole, PairFinding};
-use crate::validity::{fitting_size, is_valid, places};
+use crate::validity::{fitting_size, is_valid, offsets};
 use luks_area::area::HeaderArea;
 use luks_area::fault::HeaderFault;
 use luks_io::source::Source;
@@ -34,23 +34,23 @@ fn grow<S: Source>(area: &mut HeaderArea, source: &mut S, end: usize) -> Result<
 fn valid_size<S: Source>(
     area: &mut HeaderArea,
     source: &mut S,
-    place: usize,
+    offset: usize,
 ) -> Result<Option<usize>, HeaderFault>
-    requires { place ≤ 4194304 }
+    requires { offset ≤ 4194304 }
     ensures valid { IfOk result (λ size.
-        OfEach area.new.bytes area.new.ended (λ image. size ≡ valid_size image place)) }
+        OfEach area.new.bytes area.new.ended (λ image. size ≡ valid_size image offset)) }
     ensures range { IfOk result (λ found. IfSome found (λ size.
         (16384 ≤ size) × (size ≤ 4194304))) }
-    ensures loads { LoadsMore (λ image. probe_end image place) (without_value result)
+    ensures loads { LoadsMore (λ image. probe_end image offset) (without_value result)
         (is_read_fault result) area.old area.new (S.to_come source.old) (S.to_come source.new)
         (S.counts source.old) (S.counts source.new) }
 {
-    grow(area, source, place + BINARY_LEN)?;
-    let Some(size) = fitting_size(area.as_slice(), place) else {
+    grow(area, source, offset + BINARY_LEN)?;
+    let Some(size) = fitting_size(area.as_slice(), offset) else {
         return Ok(None);
     };
-    grow(area, source, place + size)?;
-    Ok(is_valid(area.as_slice(), place).then_some(size))
+    grow(area, source, offset + size)?;
+    Ok(is_valid(area.as_slice(), offset).then_some(size))
 }
 
 // The header at the lowest of the nine offsets with a valid one, if there is one.
@@ -61,12 +61,12 @@ fn search<S: Source>(area: &mut HeaderArea, source: &mut S) -> Result<Option<Hea
         area.old area.new (S.to_come source.old) (S.to_come source.new)
         (S.counts source.old) (S.counts source.new) }
 {
-    for place in places() {
-        let place = *place as usize;
-        if valid_size(area, source, place)?.is_some() {
+    for offset in offsets() {
+        let offset = *offset as usize;
+        if valid_size(area, source, offset)?.is_some() {
             let bytes = area.as_slice();
             let finding = Some(PairFinding::PrimaryNotValid);
-            return Ok(valid_header(bytes, place, HeaderRole::Secondary, finding));
+            return Ok(valid_header(bytes, offset, HeaderRole::Secondary, finding));
         }
     }
     Ok(None)

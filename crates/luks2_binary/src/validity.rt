@@ -27,10 +27,10 @@ const SECONDARY_BEGINNING: [u8; 8] = [0x53, 0x4b, 0x55, 0x4c, 0xba, 0xbe, 0x00, 
 
 // Whether a binary header starts with the magic bytes and the version that belong at this offset.
 #[tactic(auto, unfolding(crate::specs::Choice2::beginning_at))]
-fn begins(place: u64, binary: &[u8]) -> bool
-    ensures { result ≡ bytes_eq (at 0 8 binary.now) (beginning_at place) }
+fn begins(offset: u64, binary: &[u8]) -> bool
+    ensures { result ≡ bytes_eq (at 0 8 binary.now) (beginning_at offset) }
 {
-    if place == 0 {
+    if offset == 0 {
         binary.starts_with(&PRIMARY_BEGINNING)
     } else {
         binary.starts_with(&SECONDARY_BEGINNING)
@@ -47,34 +47,34 @@ fn is_size(number: u64) -> bool
 
 // Whether these bytes are a binary header for this offset.
 #[tactic(auto, unfolding(crate::specs::Choice2::is_binary_of))]
-fn is_binary_of(place: u64, binary: &[u8]) -> bool
+fn is_binary_of(offset: u64, binary: &[u8]) -> bool
     requires { length binary.now ≡ 4096 }
-    ensures { result ≡ is_binary_of place binary.now }
+    ensures { result ≡ is_binary_of offset binary.now }
 {
     let size = size_in(binary);
-    begins(place, binary)
+    begins(offset, binary)
         && is_size(size)
-        && (place == 0 || size == place)
-        && hdr_offset_in(binary) == place
+        && (offset == 0 || size == offset)
+        && hdr_offset_in(binary) == offset
         && checksum_hash_in(binary).is_some()
 }
 
 /// The 4,096 bytes at an offset.
-pub(crate) fn binary_at(bytes: &[u8], place: usize) -> &[u8]
-    requires { place + 4096 ≤ length bytes.now }
-    ensures value { result.now ≡ binary_at bytes.now place }
+pub(crate) fn binary_at(bytes: &[u8], offset: usize) -> &[u8]
+    requires { offset + 4096 ≤ length bytes.now }
+    ensures value { result.now ≡ binary_at bytes.now offset }
     ensures whole { length result.now ≡ 4096 }
 {
-    &bytes[place..place + BINARY_LEN]
+    &bytes[offset..offset + BINARY_LEN]
 }
 
 /// Whether a binary header for this offset is at the offset.
 #[tactic(auto, unfolding(crate::specs::Choice2::fits))]
-pub(crate) fn fits(bytes: &[u8], place: usize) -> bool
-    requires { place ≤ 4194304 }
-    ensures { result ≡ fits bytes.now place }
+pub(crate) fn fits(bytes: &[u8], offset: usize) -> bool
+    requires { offset ≤ 4194304 }
+    ensures { result ≡ fits bytes.now offset }
 {
-    place + BINARY_LEN <= bytes.len() && is_binary_of(place as u64, binary_at(bytes, place))
+    offset + BINARY_LEN <= bytes.len() && is_binary_of(offset as u64, binary_at(bytes, offset))
 }
 
 static NO_CHECKSUM: [u8; 64] = [0; 64];
@@ -115,26 +115,26 @@ fn checksum_matches(header: &[u8]) -> bool
 
 /// Whether a valid header is at the offset: it fits, all of it is there, and its checksum matches.
 #[tactic(auto, unfolding(crate::specs::Choice2::is_valid))]
-pub(crate) fn is_valid(bytes: &[u8], place: usize) -> bool
-    requires { place ≤ 4194304 }
-    ensures { result ≡ is_valid bytes.now place }
+pub(crate) fn is_valid(bytes: &[u8], offset: usize) -> bool
+    requires { offset ≤ 4194304 }
+    ensures { result ≡ is_valid bytes.now offset }
 {
-    let Some(size) = fitting_size(bytes, place) else {
+    let Some(size) = fitting_size(bytes, offset) else {
         return false;
     };
-    place + size <= bytes.len() && checksum_matches(&bytes[place..place + size])
+    offset + size <= bytes.len() && checksum_matches(&bytes[offset..offset + size])
 }
 
 /// The length of the header at the offset, if one fits.
-pub(crate) fn fitting_size(bytes: &[u8], place: usize) -> Option<usize>
-    requires { place ≤ 4194304 }
+pub(crate) fn fitting_size(bytes: &[u8], offset: usize) -> Option<usize>
+    requires { offset ≤ 4194304 }
     ensures value { result
-        ≡ (if fits bytes.now place then Some (size_at bytes.now place) else None) }
+        ≡ (if fits bytes.now offset then Some (size_at bytes.now offset) else None) }
     ensures range { IfSome result (λ size. (16384 ≤ size) × (size ≤ 4194304)) }
-    ensures within { IfSome result (λ size. place + 4096 ≤ length bytes.now) }
+    ensures within { IfSome result (λ size. offset + 4096 ≤ length bytes.now) }
 {
-    if fits(bytes, place) {
-        Some(size_in(binary_at(bytes, place)) as usize)
+    if fits(bytes, offset) {
+        Some(size_in(binary_at(bytes, offset)) as usize)
     } else {
         None
     }
@@ -142,7 +142,7 @@ pub(crate) fn fitting_size(bytes: &[u8], place: usize) -> Option<usize>
 
 /// The offsets at which a secondary header may be, ascending.
 #[tactic(auto, unfolding(crate::specs::Header2::sizes))]
-pub(crate) fn places() -> &'static [u64]
+pub(crate) fn offsets() -> &'static [u64]
     ensures { result.now ≡ sizes }
 {
     &SIZES

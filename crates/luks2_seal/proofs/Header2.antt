@@ -22,13 +22,13 @@ use Rattle.luks2_seal.specs.Ranges2.{AreParameters2, is_header_size, Seal2}
 use Rattle.luks2_seal.proofs.Bounds.{long_header, short_header}
 
 -- the first 24 bytes of a header have its offset's magic, its size and its sequence number; the offset is 0 or the size
-pub record IsStart (p : Seal2) (magic : List ℕ) (place : ℕ) : Type 0 where
+pub record IsStart (p : Seal2) (magic : List ℕ) (offset : ℕ) : Type 0 where
   pub len : length (start_of p magic) ≡ 24
-  pub begins : at 0 8 (start_of p magic) ≡ beginning_at place
+  pub begins : at 0 8 (start_of p magic) ≡ beginning_at offset
   pub size : at 8 8 (start_of p magic) ≡ to_be_bytes w64 p.hdr_size
   pub sequence : at 16 8 (start_of p magic) ≡ to_be_bytes w64 p.seqid
-  pub own : (place == 0 || p.hdr_size == place) ≡ true
-  pub within : place ≤ p.hdr_size
+  pub own : (offset == 0 || p.hdr_size == offset) ≡ true
+  pub within : offset ≤ p.hdr_size
 
 -- both headers start with such bytes
 pub primary_start : (p : Seal2) → IsStart p primary_magic 0
@@ -49,13 +49,13 @@ secondary_start p fits =
     }
 
 -- what a reader finds of a header at this offset of an image
-pub record IsReadAt (p : Seal2) (place : ℕ) (image : List ℕ) : Type 0 where
-  pub begins : at 0 8 (binary_at image place) ≡ beginning_at place
-  pub size : size_at image place ≡ p.hdr_size
-  pub sequence : sequence_in (binary_at image place) ≡ be64 (to_be_bytes w64 p.seqid)
-  pub hash : checksum_hash_in (binary_at image place) ≡ Some Sha256
-  pub valid : is_valid image place ≡ true
-  pub json : at (place + 4096) (p.hdr_size - 4096) image ≡ padded (p.hdr_size - 4096) (json_of p)
+pub record IsReadAt (p : Seal2) (offset : ℕ) (image : List ℕ) : Type 0 where
+  pub begins : at 0 8 (binary_at image offset) ≡ beginning_at offset
+  pub size : size_at image offset ≡ p.hdr_size
+  pub sequence : sequence_in (binary_at image offset) ≡ be64 (to_be_bytes w64 p.seqid)
+  pub hash : checksum_hash_in (binary_at image offset) ≡ Some Sha256
+  pub valid : is_valid image offset ≡ true
+  pub json : at (offset + 4096) (p.hdr_size - 4096) image ≡ padded (p.hdr_size - 4096) (json_of p)
 
 -- the checksum's field is replaced by other bytes
 zeroed_of : (prefix checksum rest zeros : List ℕ) → length prefix ≡ 448 → length checksum ≡ 64
@@ -65,15 +65,15 @@ zeroed_of prefix checksum rest zeros long filled =
     let last = drop_at (prefix ++ checksum) rest 512 (omega (arith, length-append prefix checksum, long, filled)) in
     rw (first, last) refl
 
-module _ (p : Seal2) (fits : AreParameters2 p) (json : FitsJson p) (magic salt : List ℕ) (place : ℕ)
-    (start : IsStart p magic place) (salted : length salt ≡ 64) where
+module _ (p : Seal2) (fits : AreParameters2 p) (json : FitsJson p) (magic salt : List ℕ) (offset : ℕ)
+    (start : IsStart p magic offset) (salted : length salt ≡ 64) where
   -- ---- parts and lengths
 
   abbrev made_header : List ℕ
-  made_header = header2_bytes p magic salt place
+  made_header = header2_bytes p magic salt offset
 
   abbrev checksum : List ℕ
-  checksum = hash_of Sha256 (fields_of p magic salt place ++ padded 64 [] ++ body_bytes p)
+  checksum = hash_of Sha256 (fields_of p magic salt offset ++ padded 64 [] ++ body_bytes p)
 
   -- the parts of the bytes before the checksum
   abbrev field_parts : List Part
@@ -84,15 +84,15 @@ module _ (p : Seal2) (fits : AreParameters2 p) (json : FitsJson p) (magic salt :
       ∷ part 64 salt salted
       ∷ part 40 (padded 40 p.uuid.now) (length-padded 40 p.uuid.now fits.texts.0.0)
       ∷ part 48 (padded 48 p.subsystem.now) (length-padded 48 p.subsystem.now fits.texts.2.0)
-      ∷ part 192 (padded 192 (to_be_bytes w64 place)) (length-padded 192 (to_be_bytes w64 place) (omega arith))
+      ∷ part 192 (padded 192 (to_be_bytes w64 offset)) (length-padded 192 (to_be_bytes w64 offset) (omega arith))
       ∷ []
 
-  length-fields : length (fields_of p magic salt place) ≡ 448
+  length-fields : length (fields_of p magic salt offset) ≡ 448
   unfolding middle_of fields_end_bytes
-  length-fields = (are_parts (fields_of p magic salt place) field_parts (simp (append_assoc, append-nil))).len
+  length-fields = (are_parts (fields_of p magic salt offset) field_parts (simp (append_assoc, append-nil))).len
 
   checksum_long : length checksum ≡ 32
-  checksum_long = length-hash_of Sha256 (fields_of p magic salt place ++ padded 64 [] ++ body_bytes p)
+  checksum_long = length-hash_of Sha256 (fields_of p magic salt offset ++ padded 64 [] ++ body_bytes p)
 
   length-csum : length (padded 64 checksum) ≡ 64
   length-csum = length-padded 64 checksum (omega (arith, checksum_long))
@@ -111,7 +111,7 @@ module _ (p : Seal2) (fits : AreParameters2 p) (json : FitsJson p) (magic salt :
   unfolding header2_bytes body_bytes middle_of fields_end_bytes
   header_are = are_parts made_header header_parts (simp (append_assoc, append-nil))
 
-  pub length-header : length (header2_bytes p magic salt place) ≡ p.hdr_size
+  pub length-header : length (header2_bytes p magic salt offset) ≡ p.hdr_size
   length-header = header_are.len ∙ omega (arith, long_header p fits)
 
   -- ---- fields
@@ -134,10 +134,11 @@ module _ (p : Seal2) (fits : AreParameters2 p) (json : FitsJson p) (magic salt :
       ∙ padded_begins 32 64 checksum (sym checksum_long)
 
   -- the bytes that the checksum is computed over
-  zeroed : without_checksum made_header ≡ fields_of p magic salt place ++ padded 64 [] ++ body_bytes p
+  zeroed : without_checksum made_header ≡ fields_of p magic salt offset ++ padded 64 [] ++ body_bytes p
   unfolding without_checksum no_checksum header2_bytes padded
   zeroed =
-      zeroed_of (fields_of p magic salt place) (padded 64 checksum) (body_bytes p) no_checksum length-fields length-csum
+      zeroed_of (fields_of p magic salt offset) (padded 64 checksum) (body_bytes p) no_checksum length-fields
+      length-csum
 
   -- the checksum matches
   checksum_holds : checksum_matches made_header ≡ true
@@ -146,59 +147,60 @@ module _ (p : Seal2) (fits : AreParameters2 p) (json : FitsJson p) (magic salt :
 
   -- ---- the header in an image
 
-  module _ (image : List ℕ) (there : at place p.hdr_size image ≡ header2_bytes p magic salt place)
-      (long : place + p.hdr_size ≤ length image) where
+  module _ (image : List ℕ) (there : at offset p.hdr_size image ≡ header2_bytes p magic salt offset)
+      (long : offset + p.hdr_size ≤ length image) where
     -- bytes within the first 4096 bytes are bytes of the header
-    in_binary : (k len : ℕ) → k + len ≤ 4096 → at k len (binary_at image place) ≡ at k len made_header
+    in_binary : (k len : ℕ) → k + len ≤ 4096 → at k len (binary_at image offset) ≡ at k len made_header
     in_binary k len below =
-        at_at k len place 4096 image below
-        ∙ at_inside (place + k) k len place p.hdr_size image made_header refl (omega (arith, long_header p fits)) there
+        at_at k len offset 4096 image below
+        ∙ at_inside (offset + k) k len offset p.hdr_size image made_header refl (omega (arith, long_header p fits))
+        there
 
-    begins_there : at 0 8 (binary_at image place) ≡ beginning_at place
+    begins_there : at 0 8 (binary_at image offset) ≡ beginning_at offset
     begins_there = in_binary 0 8 (omega arith) ∙ (in_start 0 8 (omega arith) ∙ start.begins)
 
-    size_there : size_at image place ≡ p.hdr_size
+    size_there : size_at image offset ≡ p.hdr_size
     unfolding size_in be64
     size_there =
         ap be64 (in_binary 8 8 (omega arith) ∙ (in_start 8 8 (omega arith) ∙ start.size))
         ∙ from_be_bytes-to_be_bytes_8 p.hdr_size (omega (arith, short_header p fits))
 
     -- the header's own offset is in its field
-    place_there : hdr_offset_in (binary_at image place) ≡ place
+    offset_there : hdr_offset_in (binary_at image offset) ≡ offset
     unfolding hdr_offset_in be64
-    place_there =
-        let own = to_be_bytes w64 place in
+    offset_there =
+        let own = to_be_bytes w64 offset in
         ap be64
         (in_binary 256 8 (omega arith)
         ∙ (at_inside 256 0 8 256 192 made_header (padded 192 own) (omega arith) (omega arith) (header_are.part_at 6)
         ∙ padded_begins 8 192 own refl))
-        ∙ from_be_bytes-to_be_bytes_8 place (omega (arith, start.within, short_header p fits))
+        ∙ from_be_bytes-to_be_bytes_8 offset (omega (arith, start.within, short_header p fits))
 
-    hash_there : checksum_hash_in (binary_at image place) ≡ Some Sha256
+    hash_there : checksum_hash_in (binary_at image offset) ≡ Some Sha256
     unfolding checksum_hash_in
     hash_there = ap (λ field. hash_named (text_of field)) (in_binary 72 32 (omega arith)) ∙ hash_known
 
     -- the first 4096 bytes are a binary header for its offset
-    is_binary : is_binary_of place (binary_at image place) ≡ true
+    is_binary : is_binary_of offset (binary_at image offset) ≡ true
     unfolding is_binary_of is_header_size
     is_binary =
-        let begins = (bytes_eq-Decides (beginning_at place) (beginning_at place)).1 refl in
-        let same = eq-eqb place place refl in
-        rw (begins_there, begins, size_there, fits.size, start.own, place_there, same, hash_there) refl
+        let begins = (bytes_eq-Decides (beginning_at offset) (beginning_at offset)).1 refl in
+        let same = eq-eqb offset offset refl in
+        rw (begins_there, begins, size_there, fits.size, start.own, offset_there, same, hash_there) refl
 
-    valid_there : is_valid image place ≡ true
+    valid_there : is_valid image offset ≡ true
     unfolding is_valid has_binary
     valid_there =
         rw (
           size_there,
-          le-leb (place + 4096) (length image) (omega (arith, long_header p fits)),
+          le-leb (offset + 4096) (length image) (omega (arith, long_header p fits)),
           is_binary,
-          le-leb (place + p.hdr_size) (length image) long,
+          le-leb (offset + p.hdr_size) (length image) long,
           there,
           checksum_holds,
         ) refl
 
-    pub read_there : IsReadAt p place image
+    pub read_there : IsReadAt p offset image
     unfolding sequence_in
     read_there = record {
       begins = begins_there;
@@ -206,7 +208,7 @@ module _ (p : Seal2) (fits : AreParameters2 p) (json : FitsJson p) (magic salt :
       sequence = ap be64 (in_binary 16 8 (omega arith) ∙ (in_start 16 8 (omega arith) ∙ start.sequence));
       hash = hash_there;
       valid = valid_there;
-      json = at_inside (place + 4096) 4096 (p.hdr_size - 4096) place p.hdr_size image made_header refl
+      json = at_inside (offset + 4096) 4096 (p.hdr_size - 4096) offset p.hdr_size image made_header refl
           (omega (arith, long_header p fits)) there
           ∙ header_are.part_at 9;
     }

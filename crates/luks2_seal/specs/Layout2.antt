@@ -168,11 +168,11 @@ middle_of p salt = padded 48 p.label.now ++ padded 32 (codes "sha256") ++ salt
 
 -- `uuid`, `subsystem` and `hdr_offset`, which is the header's own offset in bytes, and the zeros before the checksum
 unfoldable pub fields_end_bytes : Seal2 → ℕ → List ℕ
-fields_end_bytes p place = padded 40 p.uuid.now ++ padded 48 p.subsystem.now ++ padded 192 (to_be_bytes w64 place)
+fields_end_bytes p offset = padded 40 p.uuid.now ++ padded 48 p.subsystem.now ++ padded 192 (to_be_bytes w64 offset)
 
 -- the bytes before the checksum
 abbrev pub fields_of : Seal2 → List ℕ → List ℕ → ℕ → List ℕ
-fields_of p magic salt place = start_of p magic ++ middle_of p salt ++ fields_end_bytes p place
+fields_of p magic salt offset = start_of p magic ++ middle_of p salt ++ fields_end_bytes p offset
 
 -- the bytes after the checksum: zeros to byte 4096, and the JSON area
 unfoldable pub body_bytes : Seal2 → List ℕ
@@ -180,8 +180,8 @@ body_bytes p = padded 3584 [] ++ padded (p.hdr_size - 4096) (json_of p)
 
 -- a header with its JSON area. The checksum is the hash of both, with zeros in the checksum's field
 unfoldable pub header2_bytes : Seal2 → List ℕ → List ℕ → ℕ → List ℕ
-header2_bytes p magic salt place =
-    let fields = fields_of p magic salt place in
+header2_bytes p magic salt offset =
+    let fields = fields_of p magic salt offset in
     fields ++ padded 64 (hash_of Sha256 (fields ++ padded 64 [] ++ body_bytes p)) ++ body_bytes p
 
 -- both headers

@@ -48,13 +48,14 @@ fn push_end(
     alloc: Global,
     header: &mut Vec<u8>,
     seal: &Seal2<'_>,
-    place: u64,
+    offset: u64,
 ) -> Result<(), AllocError>
-    ensures { OnOk result (header.new.items ≡ header.old.items ++ fields_end_bytes seal.now place) }
+    ensures { OnOk result (header.new.items
+        ≡ header.old.items ++ fields_end_bytes seal.now offset) }
 {
     push_padded(alloc, header, seal.uuid, 40)?;
     push_padded(alloc, header, seal.subsystem, 48)?;
-    push_padded(alloc, header, &place.to_be_bytes(), 192)
+    push_padded(alloc, header, &offset.to_be_bytes(), 192)
 }
 
 /// The bytes before the checksum.
@@ -63,15 +64,15 @@ fn fields_of(
     seal: &Seal2<'_>,
     magic: &[u8],
     salt: &[u8],
-    place: u64,
+    offset: u64,
 ) -> Result<Vec<u8>, AllocError>
     ensures { IfOk result (λ fields. fields.items
-        ≡ fields_of seal.now magic.now salt.now place) }
+        ≡ fields_of seal.now magic.now salt.now offset) }
 {
     let mut fields = Vec::new(alloc);
     push_start(&mut fields, seal, magic)?;
     push_middle(alloc, &mut fields, seal, salt)?;
-    push_end(alloc, &mut fields, seal, place)?;
+    push_end(alloc, &mut fields, seal, offset)?;
     Ok(fields)
 }
 
@@ -107,13 +108,13 @@ fn push_header(
     rest: &[u8],
     magic: &[u8],
     salt: &[u8],
-    place: u64,
+    offset: u64,
 ) -> Result<(), AllocError>
     requires { rest.now ≡ body_bytes seal.now }
     ensures { OnOk result (image.new.items
-        ≡ image.old.items ++ header2_bytes seal.now magic.now salt.now place) }
+        ≡ image.old.items ++ header2_bytes seal.now magic.now salt.now offset) }
 {
-    let fields = fields_of(alloc, seal, magic, salt, place)?;
+    let fields = fields_of(alloc, seal, magic, salt, offset)?;
     let checksum = checksum_of(alloc, &fields, rest)?;
     image.extend_from_slice(&fields)?;
     push_padded(alloc, image, &checksum, CHECKSUM)?;
@@ -142,7 +143,7 @@ pub(crate) fn headers_of(
         &seal.primary_salt,
         0,
     )?;
-    let place = seal.hdr_size;
+    let offset = seal.hdr_size;
     push_header(
         alloc,
         &mut headers,
@@ -150,7 +151,7 @@ pub(crate) fn headers_of(
         &rest,
         b"SKUL\xba\xbe",
         &seal.secondary_salt,
-        place,
+        offset,
     )?;
     Ok(headers)
 }

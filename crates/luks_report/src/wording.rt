@@ -2,8 +2,8 @@
 
 ghost use Rattle.std.specs.Prelude.{◌≡◌, ◌+◌, ◌<◌, ◌≤◌, ◌++◌, OnOk, IfErr, codes, decimal, is_err};
 ghost use Rattle.std.specs.Prelude.{length, take};
-ghost use Rattle.luks_io.specs.Counts.{WritesAsNeeded};
-ghost use Rattle.luks_io.specs.Devices.{Appended, counted};
+ghost use Rattle.luks_io.specs.Counts.{Writes};
+ghost use Rattle.luks_io.specs.Devices.{Appended};
 ghost use Rattle.luks_report.specs.Texts.{message_line, line_of, more_skips_text, skip_text};
 ghost use Rattle.luks_report.specs.Texts.{skips_text};
 
@@ -27,9 +27,7 @@ impl Message {
         ensures err { IfErr result (λ fault. (fault.written < length (line_of self.now))
             × Appended (O.written out.old) (O.written out.new)
             (take fault.written (line_of self.now))) }
-        ensures counts { (O.counts out.new).failures
-            ≡ counted (is_err result) (O.counts out.old).failures }
-        ensures needed { WritesAsNeeded (O.counts out.old) (O.counts out.new) }
+        ensures writes { Writes (is_err result) (O.counts out.old) (O.counts out.new) }
     {
         put_all(out, self.line().as_slice())
     }

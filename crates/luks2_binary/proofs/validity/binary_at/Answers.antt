@@ -3,5 +3,5 @@ use Rattle.luks2_binary.proofs.validity.binary_at.Goals as goal
 
 pub returns-clause-value : goal.returns-clause-value
 returns-clause-value c =
-    let long : c.args.place + 4096 - c.args.place ≡ 4096 = omega arith in
-    ap (λ n. take n (drop c.args.place c.args.bytes.now)) long
+    let long : c.args.offset + 4096 - c.args.offset ≡ 4096 = omega arith in
+    ap (λ n. take n (drop c.args.offset c.args.bytes.now)) long

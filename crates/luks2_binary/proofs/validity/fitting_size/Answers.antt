@@ -5,14 +5,14 @@ use Rattle.luks2_binary.proofs.validity.fitting_size.Goals as goal
 
 pub binary_at-requires : goal.binary_at-requires
 binary_at-requires c =
-    (let is = fits_parts c.args.bytes.now c.args.place (sym c.fits.ensures ∙ c.if-fits.true) in is.0)
+    (let is = fits_parts c.args.bytes.now c.args.offset (sym c.fits.ensures ∙ c.if-fits.true) in is.0)
 
 pub returns-then-fits-clause-range : goal.returns-then-fits-clause-range
 returns-then-fits-clause-range c =
-    let is = fits_parts c.args.bytes.now c.args.place (sym c.fits.ensures ∙ c.if-fits.true) in
-    let range = size_range c.args.place (binary_at c.args.bytes.now c.args.place) is.1 in
+    let is = fits_parts c.args.bytes.now c.args.offset (sym c.fits.ensures ∙ c.if-fits.true) in
+    let range = size_range c.args.offset (binary_at c.args.bytes.now c.args.offset) is.1 in
     rw (c.size_in.ensures, c.binary_at.ensures.value) range
 
 pub returns-then-fits-clause-within : goal.returns-then-fits-clause-within
 returns-then-fits-clause-within c =
-    (let is = fits_parts c.args.bytes.now c.args.place (sym c.fits.ensures ∙ c.if-fits.true) in is.0)
+    (let is = fits_parts c.args.bytes.now c.args.offset (sym c.fits.ensures ∙ c.if-fits.true) in is.0)
