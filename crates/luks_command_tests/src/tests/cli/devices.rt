@@ -50,6 +50,15 @@ struct Way {
 }
 
 impl Way {
+    // The devices move these pieces, and no call fails.
+    fn without_failure(pieces: Pieces) -> Way {
+        Way {
+            pieces,
+            device: 4,
+            call: 0,
+        }
+    }
+
     // The number of the call of this device that fails.
     fn call_of(self, device: u32) -> u64 {
         if device == self.device {
@@ -215,11 +224,7 @@ pub(super) fn check_pieces(
     trial: &Trial<'_>,
     pieces: Pieces,
 ) {
-    let way = Way {
-        pieces,
-        device: 4,
-        call: 0,
-    };
+    let way = Way::without_failure(pieces);
     check_whole(rt, way, trial, &run(rt, command, trial, way))
 }
 
@@ -230,11 +235,7 @@ pub(super) fn check_truncated(
     trial: &Trial<'_>,
     pieces: Pieces,
 ) {
-    let way = Way {
-        pieces,
-        device: 4,
-        call: 0,
-    };
+    let way = Way::without_failure(pieces);
     let ended = run(rt, command, trial, way);
     let counts = &ended.image.counts;
     assert_same_in(rt, &way, ended.report.message, Message::Cut);
