@@ -181,7 +181,7 @@ reads_join failed' false true true n n1 n2 s s1 first rests then = record {
   failures = then.failures ∙ ap (counted failed') first.failures;
   ends = then.ends ∙ first.ends;
   needed = λ live. ap (λ (n : ReadCounts). n.needless) (rests refl) ∙ first.needed live;
-  ahead = omega (arith, first.ahead, then.ahead);
+  reached = then.reached ∙ first.reached;
 }
 reads_join failed' false true false n n1 n2 s s1 first rests then = absurd (let wrong = s1 refl in cc)
 reads_join failed' false false e2 n n1 n2 s s1 first rests then = reads_more failed' e2 n n1 n2 first then

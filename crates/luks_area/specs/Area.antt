@@ -32,9 +32,11 @@ ConsumesUpTo most loaded loaded' known left (Ok whole) =
     ConsumedOnto loaded loaded' known left (min most (length known))
 ConsumesUpTo most loaded loaded' known left (Err fault) = AbortsConsuming most loaded loaded' known left fault
 
--- bytes were appended to those already loaded, up to `end` in all, and the answer says whether that many are loaded
+-- bytes were appended to those already loaded, up to `end` in all, and the answer says whether that many are loaded:
+-- after a fault, they are not
 pub record Loads (end : ℕ) (loaded loaded' : List ℕ) (answer : Result Bool HeaderFault) : Type 0 where
   pub whole : IfOk answer (λ whole. IsTrue whole ↔ (end ≤ length loaded'))
+  pub fewer : IfErr answer (λ _. length loaded' < end)
   pub within : length loaded' ≤ max (length loaded) end
   pub kept : take (length loaded) loaded' ≡ loaded
   pub only : IfErr answer (λ fault. (fault ≡ Read) ⊎ (fault ≡ Memory))

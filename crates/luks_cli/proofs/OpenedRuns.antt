@@ -1,11 +1,13 @@
 -- How the commands on volumes end after their volume was opened, and the counts of a run from those of its parts.
 use Rattle.std.proofs.Common.{◌≡◌, ℕ, ◌+◌, ◌*◌, ◌/◌, ◌<◌, ◌≤◌, List, Option, Some, ◌⊎◌, inl, inr, Bool, true, false}
 use Rattle.std.proofs.Common.{ap, refl, subst, sym, length, max, [], drop, length-drop, arith, ◌&&◌, Result, Ok, Err}
+use Rattle.std.proofs.Common.{◌∙◌, ◌^◌}
+use Rattle.luks_cipher.specs.Sector.{Cipher}
 use Rattle.std.proofs.Math.Nat.{div-eq_of_lt-le, mul-le-mul_right}
 use Rattle.std.specs.Prelude.{MatchBool, IfOk}
 use Rattle.luks_header.specs.Header.{header_of}
 use Rattle.luks_verdict.specs.declared.segment.Segment.{Segment}
-use Rattle.luks_io.specs.Devices.{Appended, ConsumedExactly, counted}
+use Rattle.luks_io.specs.Devices.{Appended, ConsumedExactly, IfKnown, counted}
 use Rattle.luks_open.specs.declared.opening.Opened.{Opened}
 use Rattle.luks_payload.specs.Plain.{payload_end_of, sector_len, sector_start, sectors_of}
 use Rattle.luks_runs.proofs.PayloadLemmas.{plain_len}
@@ -19,7 +21,7 @@ use Rattle.luks_unlock.specs.Volume.{detached_payload_outcome, HitsMaterialEof, 
 use Rattle.luks_runs.specs.Location.{reader_for, detached_header_of}
 use Rattle.luks_runs.specs.declared.location.HeaderLocation.{HeaderLocation}
 use Rattle.luks_runs.specs.declared.location.HeaderLocation.TheVariants.{Attached, Detached}
-use Rattle.luks_runs.specs.Payload.{ForwardsPayload, with_payload_ahead}
+use Rattle.luks_runs.specs.Payload.{ForwardsPayload, max_payload_end, with_payload_allowed}
 use Rattle.luks_cli.specs.CommandRun.{PromptCat, ConsumesLoaded, Unlocks, EndsWithoutKey, CatAllows, CountsCalls}
 use Rattle.luks_runs.specs.RunMessages.{PayloadMessage, IsLuksMessage}
 use Rattle.luks_request.specs.declared.command.SlotChoice.{SlotChoice}
@@ -27,9 +29,10 @@ use Rattle.luks_report.specs.Texts.{opened_line}
 use Rattle.luks_report.specs.declared.message.Message.{Message}
 use Rattle.luks_report.specs.declared.message.Message.TheVariants.{Done, OutOfMemory, ReadFailed, WriteFailed}
 use Rattle.luks_report.specs.declared.message.Message.TheVariants.{CutBeforePayload, Tail, Short}
-use Rattle.luks_cli.specs.CommandRun.{CountsReads, ReadsOnce, ReadsPayload, CountsCallsDetached}
+use Rattle.luks_cli.specs.CommandRun.{CountsReads, CountsTried, ConsumedAtLeast, ReadsOnce, ReadsPayload}
+use Rattle.luks_cli.specs.CommandRun.{CountsCallsDetached}
 use Rattle.luks_io.proofs.EffectLemmas.{no_reads, no_writes, reads_more}
-use Rattle.luks_io.specs.Counts.{Reads, Writes}
+use Rattle.luks_io.specs.Counts.{Reads, Writes, allowed_to}
 use Rattle.luks_io.specs.declared.counts.ReadCounts.{ReadCounts}
 use Rattle.luks_io.specs.declared.counts.WriteCounts.{WriteCounts}
 use Rattle.luks_unlock.proofs.VolumeLemmas.{reads_on}
@@ -103,17 +106,17 @@ module _ (slots : SlotChoice) (image pass : List ℕ) (segment : Segment) (opene
   -- the payload was forwarded, to its end or not; the image was consumed as far as its source says
   pub runs_forwarded : (left i' w w' : Option (List ℕ)) (message : Message) → PayloadMessage message
       → ForwardsPayload segment (segment.mode, opened.key) image (length loaded) left w w' message
-      → ((n : ℕ) → (is_run_read_failure message ≡ false → length loaded ≤ n) → ConsumedExactly image left n
-      → ConsumedExactly image i' n)
+      → ((n : ℕ) → length loaded ≤ n → ConsumedExactly image left n → ConsumedExactly image i' n)
       → RunMatches (PromptCat Attached image) (volume_outcome (payload_outcome image pass) slots image pass) message
       (ConsumedExactly image i') (ConsumedExactly pass s) (Appended w w')
   runs_forwarded left i' w w' OutOfMemory only forwarded as_source = absurd only
-  runs_forwarded left i' w w' ReadFailed only (end, count, position, whole, inside, consumption, output) as_source =
+  runs_forwarded left i' w w' ReadFailed only (end, later, count, position, whole, inside, consumption, output)
+      as_source =
       rw (u.outcome (payload_outcome image pass)) (aborted_at end 0 (length pass) (count * sector_len segment)
       (omega (arith, plain_len segment image (segment.mode, opened.key), mul-le-mul_right (sector_len segment) whole))
       (λ other is is_past_header. rw (same_segment_by header_of image segment other u.has is)
       (ap (λ n. n * sector_len segment) position)) (omega (arith, inside)) (omega arith) (omega arith)
-      (as_source end (λ other. absurd (cc other)) consumption) refl u.secret_consumed output)
+      (as_source end later consumption) refl u.secret_consumed output)
   runs_forwarded left i' w w' WriteFailed only (count, written, few, less, inside, consumption, output) as_source =
       let end = max (length loaded) (sector_start segment (count + 1)) in
       let within = positioned_within segment image count written few less in
@@ -121,12 +124,12 @@ module _ (slots : SlotChoice) (image pass : List ℕ) (segment : Segment) (opene
       (omega (arith, plain_len segment image (segment.mode, opened.key), within.0))
       (λ other is. rw (same_segment_by header_of image segment other u.has is, within.1)
       (omega (arith, u.no_further refl)))
-      (omega (arith, inside)) (omega arith) (omega arith) (as_source end (λ other. omega arith) consumption) refl
+      (omega (arith, inside)) (omega arith) (omega arith) (as_source end (omega arith) consumption) refl
       u.secret_consumed output)
   runs_forwarded left i' w w' message only forwarded as_source =
       rw (u.outcome (payload_outcome image pass)) (record {
         as_specified = forwarded.0;
-        input = as_source (max (length loaded) (payload_end_of segment image)) (λ other. omega arith) forwarded.1;
+        input = as_source (max (length loaded) (payload_end_of segment image)) (omega arith) forwarded.1;
         payload = refl;
         secret = u.secret_consumed;
         output = forwarded.2;
@@ -144,6 +147,49 @@ module _ (slots : SlotChoice) (image pass : List ℕ) (segment : Segment) (opene
         let same : [] ≡ drop (length loaded) image = cc in
         let all : length loaded ≡ n = omega (arith, ap length same, length-drop (length loaded) image) in
         subst (ConsumedExactly image i) all u.input_consumed
+
+-- ---- what trying the key slots had consumed
+
+-- the same bytes remain, so as many were consumed
+consumed_same : (known : List ℕ) (left : Option (List ℕ)) (m n : ℕ) → ConsumedExactly known left m
+    → ConsumedExactly known left n → m ≡ n
+consumed_same known left m n one other =
+    let same : Some (drop m known) ≡ Some (drop n known) = sym one.left ∙ other.left in
+    let rests : drop m known ≡ drop n known = cc in
+    omega (arith, ap length rests, length-drop m known, length-drop n known, one.within, other.within)
+
+-- forwarding a payload consumed at least the loaded bytes
+forwarded_at_least : (s : Segment) (cipher : Cipher) (image : List ℕ) (loaded : ℕ) (left before after : Option (List ℕ))
+    (message : Message) → ForwardsPayload s cipher image loaded left before after message
+    → ConsumedAtLeast image left loaded
+forwarded_at_least s cipher image loaded left before after ReadFailed forwarded =
+    (forwarded.0, forwarded.1, forwarded.6)
+forwarded_at_least s cipher image loaded left before after WriteFailed forwarded = (_, omega arith, forwarded.5)
+forwarded_at_least s cipher image loaded left before after message forwarded = (_, omega arith, forwarded.1)
+
+-- after the key slots were tried, the payload was forwarded
+pub counts_forwarded : (slots : SlotChoice) (image pass : List ℕ) (segment : Segment) (opened : Opened)
+    (loaded : List ℕ) (i s i' w w' : Option (List ℕ)) (secret secret' : ReadCounts) (work work' : ℕ)
+    (message : Message) → Unlocks Attached slots image pass segment opened loaded i s
+    → CountsTried Attached slots image pass i secret secret' work work'
+    → (length image < 2 ^ 64
+    → ForwardsPayload segment (segment.mode, opened.key) image (length loaded) i' w w' message)
+    → CountsTried Attached slots image pass i' secret secret' work work'
+counts_forwarded slots image pass segment opened loaded i s i' w w' secret secret' work work' message u tried forwarded
+    = (
+      tried.0,
+      record {
+        is_volume = tried.1.is_volume;
+        key_file = tried.1.key_file;
+        material = λ counted.
+            let before = tried.1.material counted in
+            let same = consumed_same image i before.0 (length loaded) before.2 u.input_consumed in
+            let cipher : Cipher = (segment.mode, opened.key) in
+            let more = forwarded_at_least segment cipher image (length loaded) i' w w' message (forwarded counted) in
+            (more.0, omega (arith, before.1, same, more.1), more.2);
+      },
+      tried.2,
+    )
 
 -- a source over memory has no failed read to report
 pub never_read : (message : Message) → 0 ≡ counted (is_run_read_failure message) 0 → is_run_read_failure message ≡ false
@@ -165,7 +211,7 @@ module _ (slots : SlotChoice) (file image pass : List ℕ) (segment : Segment) (
       (volume_outcome_by detached_header_of (detached_payload_outcome image pass) slots file pass) message
       (ConsumedExactly file h) (ConsumedExactly image i') (ConsumedExactly pass s) (Appended w w')
   detached_runs_forwarded OutOfMemory only forwarded = absurd only
-  detached_runs_forwarded ReadFailed only (end, count, position, whole, inside, consumption, output) =
+  detached_runs_forwarded ReadFailed only (end, later, count, position, whole, inside, consumption, output) =
       rw (u.outcome (detached_payload_outcome image pass))
       (aborted_at (length loaded) end (length pass) (count * sector_len segment)
       (omega (arith, plain_len segment image (segment.mode, opened.key), mul-le-mul_right (sector_len segment) whole))
@@ -249,27 +295,58 @@ pub none_failed : (in_it : Bool) (before after : ReadCounts) → ReadsOnce (in_i
 none_failed true before after reads = reads
 none_failed false before after reads = reads
 
--- the payload was not read: no more read-ahead is allowed than before
-pub reads_without_payload : (location : HeaderLocation) (slots : SlotChoice) (known known_secret : Option (List ℕ))
-    (failed : Bool) (image image' secret secret' : ReadCounts)
+-- if no read-ahead was allowed, it was allowed up to position 0
+nothing_allowed : (failed ended : Bool) (before after : ReadCounts) → Reads failed ended before after
+    → Reads failed ended (allowed_to 0 before) after
+nothing_allowed failed ended before after reads = record {
+  failures = reads.failures;
+  ends = reads.ends;
+  needed = λ live. reads.needed (record { failed = live.failed; ended = live.ended });
+  reached = omega (arith, reads.reached);
+}
+
+-- the payload was not read: no read-ahead is allowed
+pub none_allowed : (location : HeaderLocation) (slots : SlotChoice) (message : Message)
+    (known known_secret : Option (List ℕ)) (failed : Bool) (before after : ReadCounts) → ReadsOnce failed before after
+    → ReadsPayload (CatAllows location slots message known known_secret) failed before after
+none_allowed location slots message known known_secret failed before after reads = (
+  0,
+  ((λ without. refl), (λ file is pass has. inl refl)),
+  (reads.0, nothing_allowed failed reads.0 before after reads.1),
+)
+
+pub reads_without_payload : (location : HeaderLocation) (slots : SlotChoice) (message : Message)
+    (known known_secret : Option (List ℕ)) (failed : Bool) (image image' secret secret' : ReadCounts)
     → CountsReads ReadsOnce failed image image' secret secret'
-    → CountsReads (ReadsPayload (CatAllows location slots known known_secret)) failed image image' secret secret'
-reads_without_payload location slots known known_secret failed image image' secret secret' reads = record {
+    → CountsReads (ReadsPayload (CatAllows location slots message known known_secret)) failed image image' secret
+    secret'
+reads_without_payload location slots message known known_secret failed image image' secret secret' reads = record {
   in_input = reads.in_input;
-  input_reads = (image.ahead, (λ file is pass has. inl refl), (reads.input_reads.0, reads.input_reads.1));
+  input_reads = none_allowed location slots message known known_secret _ image image' reads.input_reads;
   secret_reads = reads.secret_reads;
 }
 
+-- a key was found, and then read-ahead was allowed up to the payload's end
+pub allows_payload : (location : HeaderLocation) (slots : SlotChoice) (message : Message)
+    (input secret : Option (List ℕ)) (segment : Segment) (opened : Opened) (loaded : List ℕ)
+    (input' secret' : Option (List ℕ)) → PayloadMessage message → IfKnown input (λ known. IfKnown secret
+    (λ passphrase. Unlocks location slots known passphrase segment opened loaded input' secret'))
+    → CatAllows location slots message input secret (max_payload_end segment)
+allows_payload location slots message input secret segment opened loaded input' secret' forwarded unlocks = (
+  (λ without. absurd (with_key message forwarded without)),
+  (λ known is passphrase has.
+      inr (segment, (opened, length loaded, (unlocks known is passphrase has).outcome), refl)),
+)
+
 -- the start of the image was read before read-ahead of its payload was allowed, and then the payload
-pub payload_after : (failed ended : Bool) (segment : Segment) (loaded : ℕ) (a b c : ReadCounts) → Reads false false a b
-    → Reads failed ended (with_payload_ahead segment loaded b) c
-    → Reads failed ended (with_payload_ahead segment loaded a) c
-payload_after failed ended segment loaded a b c first reads =
-    reads_more failed ended (with_payload_ahead segment loaded a) (with_payload_ahead segment loaded b) c (record {
+pub payload_after : (failed ended : Bool) (segment : Segment) (a b c : ReadCounts) → Reads false false a b
+    → Reads failed ended (with_payload_allowed segment b) c → Reads failed ended (with_payload_allowed segment a) c
+payload_after failed ended segment a b c first reads =
+    reads_more failed ended (with_payload_allowed segment a) (with_payload_allowed segment b) c (record {
       failures = first.failures;
       ends = first.ends;
       needed = λ live. first.needed (record { failed = live.failed; ended = live.ended });
-      ahead = omega (arith, first.ahead);
+      reached = ap (λ n. max (max_payload_end segment) n) first.reached;
     }) reads
 
 -- nothing of the payload's image was read

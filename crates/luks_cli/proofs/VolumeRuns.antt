@@ -1,8 +1,8 @@
 -- How the commands on volumes end if their volume is not opened, and what holds if it is.
-use Rattle.std.proofs.Common.{◌≡◌, ℕ, ◌+◌, ◌-◌, ◌≤◌, inl, inr, List, Option, Some, Result, Ok, Err, ◌∙◌, ap, sym}
-use Rattle.std.proofs.Common.{refl, take, drop, length, max, min, arith, ◌*◌, ◌/◌, length-take, true}
+use Rattle.std.proofs.Common.{◌≡◌, ℕ, ◌+◌, ◌-◌, ◌<◌, ◌≤◌, inl, inr, List, Option, Some, Result, Ok, Err, ◌∙◌, ap, sym}
+use Rattle.std.proofs.Common.{refl, take, drop, length, max, min, arith, ◌*◌, ◌/◌, length-take, false, true, is_err, ◌⊎◌}
 use Rattle.std.proofs.lemmas.Bool.{cases_lt}
-use Rattle.luks_header.specs.Area.{AbortsConsuming}
+use Rattle.luks_header.specs.Area.{AbortsConsuming, ConsumedOnto}
 use Rattle.luks_header.specs.Header.{header_read_len, header_of}
 use Rattle.luks_header.specs.HeaderSegment.{segment_of}
 use Rattle.luks_header.specs.declared.header.Header.{Header}
@@ -23,9 +23,11 @@ use Rattle.luks_request.specs.declared.command.SlotChoice.{SlotChoice}
 use Rattle.luks_runs.specs.Run.{RunMatches, result_message}
 use Rattle.luks_runs.proofs.RunLemmas.{aborted_unwritten, header_read_len_within}
 use Rattle.luks_io.proofs.EffectLemmas.{appended-none, consumed-none}
-use Rattle.luks_io.specs.Devices.{Appended, ConsumedExactly}
-use Rattle.luks_runs.specs.KeyFile.{NoKeyFileRead, max_key_file_len}
-use Rattle.luks_cli.specs.CommandRun.{ConsumesLoaded, CountsOpening, PromptForwarding, UnlockEffect, Unlocks, PromptCat}
+use Rattle.luks_io.specs.Devices.{Appended, ConsumedExactly, counted}
+use Rattle.luks_io.specs.declared.counts.ReadCounts.{ReadCounts}
+use Rattle.luks_runs.specs.KeyFile.{NoKeyFileRead, hits_key_file_eof, max_key_file_len}
+use Rattle.luks_cli.specs.CommandRun.{ConsumesLoaded, CountsOpening, CountsTried, PromptForwarding, UnlockEffect, Unlocks}
+use Rattle.luks_cli.specs.CommandRun.{PromptCat}
 use Rattle.luks_unlock.specs.Volume.{OpeningMessage, ends_untried, FindsNoVolume, HasSegmentBy}
 use Rattle.luks_unlock.specs.declared.unlocked.UnlockedVolume.{UnlockedVolume}
 use Rattle.luks_runs.specs.Location.{reader_for, HeaderReader}
@@ -114,52 +116,54 @@ module _ (on_opened : OnOpened) (named : Option ℕ) (v : Volume) (image secret 
 
 -- ---- how many evaluations of HMAC a run needs
 
--- no volume was found, so no key slot was tried
-pub counts_without_volume : (location : HeaderLocation) (slots : SlotChoice) (image pass : List ℕ)
-    (left : Option (List ℕ)) (work : ℕ) (message : Message)
-    → FindsNoVolume (reader_for location) slots image left message
-    → CountsOpening location slots image pass message work work
-counts_without_volume location slots image pass left work OutOfMemory stop = inr (inr refl, refl)
-counts_without_volume location slots image pass left work ReadFailed stop = inr (inr refl, refl)
-counts_without_volume location slots image pass left work message stop = inr (inl (rw stop.0 refl), refl)
+-- if the key file was not read, its end was not hit, and no key slot was tried
+pub end_not_hit : (secret : List ℕ) (left : Option (List ℕ)) (message : Message) → NoKeyFileRead secret left message
+    → (hits_key_file_eof message ≡ false) × (ends_untried message ≡ true)
+end_not_hit secret left KeyFileLength stop = (refl, refl)
+end_not_hit secret left OutOfMemory stop = (refl, refl)
+end_not_hit secret left ReadFailed stop = (refl, refl)
+end_not_hit secret left _ stop = absurd stop
 
--- if the key file was not read, no key slot was tried
-pub untried_without_key_file : (secret : List ℕ) (left : Option (List ℕ)) (message : Message)
-    → NoKeyFileRead secret left message → ends_untried message ≡ true
-untried_without_key_file secret left KeyFileLength stop = refl
-untried_without_key_file secret left OutOfMemory stop = refl
-untried_without_key_file secret left ReadFailed stop = refl
-untried_without_key_file secret left _ stop = absurd stop
-
--- a command that continues with an open volume needs no more
-pub counts_on : (location : HeaderLocation) (slots : SlotChoice) (image pass : List ℕ) (message : Message)
-    (work work' : ℕ) → CountsOpening location slots image pass Done work work'
-    → CountsOpening location slots image pass message work work'
-counts_on location slots image pass message work work' (inl tried) = inl tried
-counts_on location slots image pass message work work' (inr (inl none, same)) = inr (inl none, same)
-counts_on location slots image pass message work work' (inr (inr untried, same)) = absurd cc
+-- no volume was found: the image has none, or a read failed, or memory ran out
+pub early_without_volume : (location : HeaderLocation) (slots : SlotChoice) (image : List ℕ) (left : Option (List ℕ))
+    (message : Message) → FindsNoVolume (reader_for location) slots image left message
+    → (is_err (volume_by (reader_for location) slots image) ≡ true) ⊎ (ends_untried message ≡ true)
+early_without_volume location slots image left OutOfMemory stop = inr refl
+early_without_volume location slots image left ReadFailed stop = inr refl
+early_without_volume location slots image left message stop = inl (rw stop.0 refl)
 
 module _ (image area area' : List ℕ) (i : Option (List ℕ)) (prefix : area ≡ take (header_read_len image) image)
     (named : Option ℕ) (segment : Segment) (order : OrderModel) (pass : List ℕ) where
-  -- the loaded bytes are the first of the image, also after its key slots were tried
+  -- the loaded bytes are the first of the image, and those that were consumed, also after its key slots were tried
+  abbrev LoadedPrefix : Type 0
+  LoadedPrefix =
+      (n : ℕ) × (area' ≡ take n image) × (header_read_len image ≤ n) × ConsumedExactly image i n
+
+  loads_more : (n : ℕ) → ConsumedOnto area area' (drop (header_read_len image) image) i n → LoadedPrefix
+  loads_more n grows = let more = area_more image area area' i 0 prefix n grows in (_, more.0, omega arith, more.1)
+
   prefix_tried : (result : Result UnlockedVolume Message)
-      → TriesSlots named segment order pass area area' (drop (header_read_len image) image) i result
-      → (n : ℕ) × (area' ≡ take n image)
-  prefix_tried (Ok volume) tries = (_, (area_more image area area' i 0 prefix _ tries.0).0)
-  prefix_tried (Err message) (inr tries) = (_, (area_more image area area' i 0 prefix _ tries.0).0)
+      → TriesSlots named segment order pass area area' (drop (header_read_len image) image) i result → LoadedPrefix
+  prefix_tried (Ok volume) tries = loads_more _ tries.0
+  prefix_tried (Err message) (inr tries) = loads_more _ tries.0
   prefix_tried (Err message) (inl lost) = by lost.0 lost.2
     where
       by : (fault : HeaderFault) → AbortsConsuming (key_material_end order.entries - length area) area area'
-          (drop (header_read_len image) image) i fault → (n : ℕ) × (area' ≡ take n image)
-      by HeaderRead stop = (_, (area_more image area area' i 0 prefix stop.0 stop.2).0)
-      by HeaderMemory stop = (_, (area_more image area area' i 0 prefix 0 stop).0)
+          (drop (header_read_len image) image) i fault → LoadedPrefix
+      by HeaderRead stop = loads_more stop.0 stop.2
+      by HeaderMemory stop = loads_more 0 stop
       by _ stop = absurd stop
 
   prefix_unlocked : (s : Option (List ℕ)) (result : Result UnlockedVolume Message)
       → UnlockEffect named segment order pass area area' (drop (header_read_len image) image) i s result
-      → (n : ℕ) × (area' ≡ take n image)
+      → LoadedPrefix
   prefix_unlocked s result (inl (short, read, tries)) = prefix_tried result tries
-  prefix_unlocked s result (inr none) = (header_read_len image, none.3 ∙ prefix)
+  prefix_unlocked s result (inr none) = (
+    header_read_len image,
+    none.3 ∙ prefix,
+    omega arith,
+    record { within = header_read_len_within image; left = none.4 },
+  )
 
 -- ---- runs on a volume
 
@@ -300,24 +304,54 @@ module _ (location : HeaderLocation) (slots : SlotChoice) (image pass : List ℕ
         rw same (runs_without_secret on_opened consumes none.0 none.2
         (record { within = header_read_len_within image; left = none.4 }))
 
+    is_volume : volume_by (reader_for location) slots image ≡ Ok volume
+    is_volume = volume_is location slots image header segment order found is_segment ordered
+
     -- the work of trying its key slots does not depend on which bytes were loaded
+    counts_tried : (area' : List ℕ) (n : ℕ) → area' ≡ take n image → header_read_len image ≤ n
+        → ConsumedExactly image i n → key_material_end order.entries ≤ length area'
+        → (secret secret' : ReadCounts) → secret'.ends ≡ counted true secret.ends
+        → (work work' : ℕ) → work' ≡ capped (work + work_of order area' pass)
+        → CountsTried location slots image pass i secret secret' work work'
+    counts_tried area' n begins header_read consumption enough secret secret' ended work work' counted =
+        let loaded : key_material_end order.entries ≤ n =
+        omega (arith, enough, ap length begins, length-take n image) in (
+          volume,
+          record {
+            is_volume = is_volume;
+            key_file = ended;
+            material = λ countable. (n, omega (arith, loaded, header_read), consumption);
+          },
+          counted ∙ ap (λ (cost : ℕ). capped (work + cost))
+              (ap (λ (bytes : List ℕ). work_of order bytes pass) begins ∙ work_prefix order n image pass loaded),
+        )
+
     pub counts_opening : (area area' : List ℕ) → area ≡ take (header_read_len image) image
         → (result : Result UnlockedVolume Message)
         → UnlockEffect slots.named segment order pass area area' (drop (header_read_len image) image) i s result
-        → (work work' : ℕ) → CountsTrials order area' pass (result_message result) work work'
-        → CountsOpening location slots image pass (result_message result) work work'
-    counts_opening area area' prefix result effect work work' (inl (enough, counted)) =
+        → (secret secret' : ReadCounts) → secret'.ends ≡ counted true secret.ends → (work work' : ℕ)
+        → CountsTrials order area' pass (result_message result) work work'
+        → CountsOpening location slots image pass (result_message result) i secret secret' work work'
+    counts_opening area area' prefix result effect secret secret' ended work work' (inl (enough, counted)) =
         let begins = prefix_unlocked image area area' i prefix slots.named segment order pass s result effect in
-        let loaded : key_material_end order.entries ≤ begins.0 =
-        omega (arith, enough, ap length begins.1, length-take begins.0 image) in
-        inl (
-          volume,
-          volume_is location slots image header segment order found is_segment ordered,
-          counted ∙ ap (λ (cost : ℕ). capped (work + cost))
-              (ap (λ (bytes : List ℕ). work_of order bytes pass) begins.1
-              ∙ work_prefix order begins.0 image pass loaded),
-        )
-    counts_opening area area' prefix result effect work work' (inr (untried, same)) = inr (inr untried, same)
+        inl (counts_tried area' begins.0 begins.1 begins.2 begins.3 enough secret secret' ended work work' counted)
+    counts_opening area area' prefix result effect secret secret' ended work work' (inr (few, untried, same)) =
+        let begins = prefix_unlocked image area area' i prefix slots.named segment order pass s result effect in
+        let fewer : begins.0 < unlock_read_len image volume =
+        omega (arith, few, ap length begins.1, length-take begins.0 image, begins.3.within) in
+        inr (record { unread = inr (volume, is_volume, (begins.0, fewer, begins.3)); early = inr untried }, same)
+
+    -- if the volume was opened, its key slots were tried
+    pub counts_unlocked : (area area' : List ℕ) → area ≡ take (header_read_len image) image → (opened : UnlockedVolume)
+        → UnlockEffect slots.named segment order pass area area' (drop (header_read_len image) image) i s (Ok opened)
+        → (secret secret' : ReadCounts) → secret'.ends ≡ counted true secret.ends → (work work' : ℕ)
+        → CountsTrials order area' pass Done work work'
+        → CountsTried location slots image pass i secret secret' work work'
+    counts_unlocked area area' prefix opened effect secret secret' ended work work' (inl (enough, counted)) =
+        let begins = prefix_unlocked image area area' i prefix slots.named segment order pass s (Ok opened) effect in
+        counts_tried area' begins.0 begins.1 begins.2 begins.3 enough secret secret' ended work work' counted
+    counts_unlocked area area' prefix opened effect secret secret' ended work work' (inr (few, untried, same)) =
+        absurd (let wrong : false ≡ true = untried in cc)
 
     -- the volume was opened
     pub unlocks_volume : (area area' : List ℕ) → area ≡ take (header_read_len image) image → (opened : UnlockedVolume)

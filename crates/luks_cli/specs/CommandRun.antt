@@ -3,22 +3,23 @@
 -- from the image, at the segment's own offset.
 use Rattle.std.specs.Prelude.{◌≡◌, ℕ, ◌<◌, ◌^◌, max, List, length, Option, Some, Bool, true, ◌&&◌, not, ◌⊎◌, is_err}
 use Rattle.std.specs.Prelude.{IfSome, false, ◌≤◌, take, Result, Err, ◌+◌, ◌-◌, ◌*◌, ◌/◌, Ok}
-use Rattle.luks_io.specs.Counts.{Reads, Writes, with_ahead}
+use Rattle.luks_io.specs.Counts.{Reads, Writes, allowed_to}
 use Rattle.luks_io.specs.declared.counts.ReadCounts.{ReadCounts}
 use Rattle.luks_io.specs.declared.counts.WriteCounts.{WriteCounts}
-use Rattle.luks_io.specs.Devices.{Appended, ConsumedExactly, IfKnown}
+use Rattle.luks_io.specs.Devices.{Appended, ConsumedExactly, ConsumedFewer, IfKnown, counted}
 use Rattle.luks_request.specs.Request.{Request, test_passphrase, luks_cat, af_split, secret_of, is_luks, luks_uuid}
 use Rattle.luks_request.specs.Request.{luks_dump, luks_check, af_merge}
 use Rattle.luks_request.specs.declared.command.SlotChoice.{SlotChoice}
 use Rattle.luks_runs.specs.Location.{HeaderReader, reader_for, detached_header_of}
 use Rattle.luks_runs.specs.declared.location.HeaderLocation.{HeaderLocation}
 use Rattle.luks_runs.specs.declared.location.HeaderLocation.TheVariants.{Attached, Detached}
-use Rattle.luks_runs.specs.Payload.{max_needed}
+use Rattle.luks_runs.specs.Payload.{max_payload_end}
 use Rattle.luks_runs.specs.Run.{Promptness, RunMatches, ConsumedNothing, AnyPromptness, is_run_read_failure}
 use Rattle.luks_runs.specs.Run.{is_run_write_failure, DetachedRunMatches, aborts, Outcome}
 use Rattle.luks_runs.specs.Stripe.{max_key_len, PromptSplit, merge_outcome, split_outcome}
-use Rattle.luks_unlock.specs.Volume.{HasSegmentBy, HasSegment, slot_outcome, volume_by, volume_outcome, OnOpened}
-use Rattle.luks_unlock.specs.Volume.{Volume, volume_outcome_by, TriesSlots, OpeningMessage, ends_untried}
+use Rattle.luks_unlock.specs.Volume.{HasSegmentBy, HasSegment, slot_outcome, volume_by, OnOpened}
+use Rattle.luks_unlock.specs.Volume.{Volume, volume_outcome_by, TriesSlots, OpeningMessage, unlock_read_len}
+use Rattle.luks_unlock.specs.Volume.{ends_untried}
 use Rattle.luks_unlock.specs.Volume.{detached_payload_outcome, payload_outcome}
 use Rattle.luks_unlock.specs.Honest.{OpensHonest}
 use Rattle.luks_verdict.specs.declared.segment.Segment.{Segment}
@@ -144,13 +145,41 @@ UnlockEffect named segment order pass area area' rest left secret' result =
     ⊎ ((message : Message) × (result ≡ Err message) × NoKeyFileRead pass secret' message × (area' ≡ area)
     × (left ≡ Some rest))
 
--- the count of work was raised by the evaluations of HMAC that trying the key slots of the image's volume costs; or the
--- image has no volume, or the message says that no key slot was tried, and the count is what it was
-abbrev pub CountsOpening : HeaderLocation → SlotChoice → List ℕ → List ℕ → Message → ℕ → ℕ → Type 0
-CountsOpening location slots image secret message work work' =
-    ((volume : Volume) × (volume_by (reader_for location) slots image ≡ Ok volume)
-    × (work' ≡ capped (work + work_of volume.order image secret)))
-    ⊎ (((is_err (volume_by (reader_for location) slots image) ≡ true) ⊎ (ends_untried message ≡ true)) × (work' ≡ work))
+-- at least this many of a source's remaining bytes were consumed
+abbrev pub ConsumedAtLeast : List ℕ → Option (List ℕ) → ℕ → Type 0
+ConsumedAtLeast known left least = (count : ℕ) × (least ≤ count) × ConsumedExactly known left count
+
+-- the key slots of the image's volume were tried: the end of the key file was hit, and all bytes of the image were
+-- consumed that opening the volume needs
+pub record TriesVolume (location : HeaderLocation) (slots : SlotChoice) (image : List ℕ) (image' : Option (List ℕ))
+    (secret secret' : ReadCounts) (volume : Volume) : Type 0 where
+  pub is_volume : volume_by (reader_for location) slots image ≡ Ok volume
+  pub key_file : secret'.ends ≡ counted true secret.ends
+  pub material : length image < 2 ^ 64 → ConsumedAtLeast image image' (unlock_read_len image volume)
+
+-- the key slots were tried, and the count of work was raised by the evaluations of HMAC that this costs
+abbrev pub CountsTried : HeaderLocation → SlotChoice → List ℕ → List ℕ → Option (List ℕ) → ReadCounts → ReadCounts → ℕ
+    → ℕ → Type 0
+CountsTried location slots image passphrase image' secret secret' work work' =
+    (volume : Volume) × TriesVolume location slots image image' secret secret' volume
+    × (work' ≡ capped (work + work_of volume.order image passphrase))
+
+-- no key slot was tried: the end of the key file was not hit, or not all bytes were consumed that opening the image's
+-- volume needs. The image has no volume, or the message may come before a key slot is tried
+pub record EndsUntried (location : HeaderLocation) (slots : SlotChoice) (image : List ℕ) (message : Message)
+    (image' : Option (List ℕ)) (secret secret' : ReadCounts) : Type 0 where
+  pub unread : (secret'.ends ≡ secret.ends) ⊎ ((volume : Volume)
+      × (volume_by (reader_for location) slots image ≡ Ok volume)
+      × ConsumedFewer image image' (unlock_read_len image volume))
+  pub early : (is_err (volume_by (reader_for location) slots image) ≡ true) ⊎ (ends_untried message ≡ true)
+
+-- the key slots were tried, and the count of work was raised by what that costs; or none was tried, and the count is
+-- what it was
+abbrev pub CountsOpening : HeaderLocation → SlotChoice → List ℕ → List ℕ → Message → Option (List ℕ) → ReadCounts
+    → ReadCounts → ℕ → ℕ → Type 0
+CountsOpening location slots image passphrase message image' secret secret' work work' =
+    CountsTried location slots image passphrase image' secret secret' work work'
+    ⊎ (EndsUntried location slots image message image' secret secret' × (work' ≡ work))
 
 -- ---- runs of commands
 
@@ -192,14 +221,17 @@ RunsAsSpecified request message image secret written =
     (ConsumedExactly known image.after) (ConsumedOfSecret request known_secret secret.after)
     (Appended written.before written.after))
 
--- the evaluations of HMAC that a run of a command needs, if its inputs know their bytes: a command that opens no volume
--- needs none
-abbrev pub CountsWork : HeaderLocation → Request → Message → ℕ → Option (List ℕ) → Option (List ℕ) → Type 0
-CountsWork location (test_passphrase o) message work image secret = IfKnown image (λ known.
-    IfKnown secret (λ passphrase. CountsOpening location o.slots known passphrase message 0 work))
-CountsWork location (luks_cat o) message work image secret = IfKnown image (λ known.
-    IfKnown secret (λ passphrase. CountsOpening location o.slots known passphrase message 0 work))
-CountsWork location _ message work image secret = work ≡ 0
+-- the evaluations of HMAC that a run of a command needs, if its inputs know their bytes: those of trying the key slots
+-- if they were tried, and none otherwise. A command that opens no volume needs none
+abbrev pub CountsWork : HeaderLocation → Request → Message → ℕ → Change (Option (List ℕ)) → Option (List ℕ)
+    → Change ReadCounts → Type 0
+CountsWork location (test_passphrase o) message work image secret counts = IfKnown image.before (λ known. IfKnown secret
+    (λ passphrase. CountsOpening location o.slots known passphrase message image.after counts.before counts.after 0
+    work))
+CountsWork location (luks_cat o) message work image secret counts = IfKnown image.before (λ known. IfKnown secret
+    (λ passphrase. CountsOpening location o.slots known passphrase message image.after counts.before counts.after 0
+    work))
+CountsWork location _ message work image secret counts = work ≡ 0
 
 -- what `luksCat` writes if the volume is honestly sealed: a run that is not aborted writes the plaintext and succeeds
 abbrev pub WritesPlain : Request → Message → Option (List ℕ) → Option (List ℕ) → Option (List ℕ) → Option (List ℕ)
@@ -229,39 +261,38 @@ NeedsNoSecret read (af_split s) image = Knows image (λ known. (length known ≡
 NeedsNoSecret read _ image = Unit {0}
 
 -- what a run adds to the counts of a source: a failure if a read of it failed, at most one end, and no needless read.
--- No more read-ahead is allowed than before
+-- No read-ahead is allowed
 abbrev pub ReadsOnce : Bool → ReadCounts → ReadCounts → Type 0
 ReadsOnce failed before after = (ended : Bool) × Reads failed ended before after
 
--- the same for the image of a payload, for which more read-ahead may be allowed
-abbrev pub ReadsPayload : (ℕ → ℕ → Type 0) → Bool → ReadCounts → ReadCounts → Type 0
-ReadsPayload Allows failed before after =
-    (most : ℕ) × Allows before.ahead most × ReadsOnce failed (with_ahead most before) after
+-- the same for the image of a payload, for which read-ahead is allowed up to one position, and no further at any moment
+abbrev pub ReadsPayload : (ℕ → Type 0) → Bool → ReadCounts → ReadCounts → Type 0
+ReadsPayload Allows failed before after = (end : ℕ) × Allows end × ReadsOnce failed (allowed_to end before) after
 
--- read-ahead stays as it was, or is raised to what is needed up to the payload's end, if `consumed` bytes of the image
--- were consumed to open the volume
-abbrev pub AllowsPayload : (Segment → Type 0) → ℕ → ℕ → ℕ → Type 0
-AllowsPayload IsOf consumed ahead most = (most ≡ ahead)
-    ⊎ ((s : Segment) × IsOf s × (most ≡ max (max_needed s.size s.offset consumed) ahead))
+-- the run surely ended before a key was found: with a message of opening, but not with a failed read, which may have
+-- been a read of the payload
+abbrev pub EndsWithoutKey : Message → Type 0
+EndsWithoutKey message = OpeningMessage message × (is_run_read_failure message ≡ false)
 
--- how many bytes of the payload's image are consumed to open the volume: as many as `testPassphrase` consumes, or none
--- if the header is detached
-abbrev pub consumed_to_open : HeaderLocation → SlotChoice → List ℕ → List ℕ → ℕ
-consumed_to_open Attached slots image secret = (volume_outcome (slot_outcome secret) slots image secret).input_consumed
-consumed_to_open Detached slots file secret = 0
+-- under this passphrase a key of the volume is found, and then the command goes on with this segment
+abbrev pub FindsKey : HeaderLocation → SlotChoice → List ℕ → List ℕ → Segment → Type 0
+FindsKey location slots image secret segment = (opened : Opened) × (loaded : ℕ) × ((on_opened : OnOpened)
+    → volume_outcome_by (reader_for location) on_opened slots image secret ≡ on_opened segment opened loaded)
 
--- how much read-ahead `luksCat` allows for its payload's image
-abbrev pub CatAllows : HeaderLocation → SlotChoice → Option (List ℕ) → Option (List ℕ) → ℕ → ℕ → Type 0
-CatAllows location slots input secret ahead most =
-    IfKnown input (λ known. IfKnown secret (λ passphrase.
-    AllowsPayload (HasSegmentBy (reader_for location) known) (consumed_to_open location slots known passphrase) ahead
-    most))
+-- the position of its payload's image up to which `luksCat` allows read-ahead: 0, which is none, if the run surely
+-- ended without a key. If both inputs know their bytes, it is 0 or, under a passphrase that opens the volume, the
+-- payload's end
+abbrev pub CatAllows : HeaderLocation → SlotChoice → Message → Option (List ℕ) → Option (List ℕ) → ℕ → Type 0
+CatAllows location slots message input secret end = (EndsWithoutKey message → end ≡ 0)
+    × IfKnown input (λ known. IfKnown secret (λ passphrase. (end ≡ 0)
+    ⊎ ((segment : Segment) × FindsKey location slots known passphrase segment × (end ≡ max_payload_end segment))))
 
 -- what a command adds to the counts of its image, or of its payload's image: only `luksCat` reads a payload
-abbrev pub ReadsImage : HeaderLocation → Request → Option (List ℕ) → Option (List ℕ) → Bool → ReadCounts → ReadCounts
-    → Type 0
-ReadsImage location (luks_cat o) input secret = ReadsPayload (CatAllows location o.slots input secret)
-ReadsImage location _ input secret = ReadsOnce
+abbrev pub ReadsImage : HeaderLocation → Request → Message → Option (List ℕ) → Option (List ℕ) → Bool → ReadCounts
+    → ReadCounts → Type 0
+ReadsImage location (luks_cat o) message input secret =
+    ReadsPayload (CatAllows location o.slots message input secret)
+ReadsImage location _ message input secret = ReadsOnce
 
 -- what a part of a run that reads its first input in this way adds to the counts of both inputs: a failure of one of
 -- them if a read failed, at most one end of each, and no needless read
@@ -299,11 +330,6 @@ RunsDetached request message header image secret written =
     (detached_outcome_of request file known known_secret) message
     (ConsumedExactly file header.after) (ConsumedOfPayload request known image.after)
     (ConsumedOfSecret request known_secret secret.after) (Appended written.before written.after))
-
--- the run surely ended before a key was found: with a message of opening, but not with a failed read, which may have
--- been a read of the payload
-abbrev pub EndsWithoutKey : Message → Type 0
-EndsWithoutKey message = OpeningMessage message × (is_run_read_failure message ≡ false)
 
 -- the payload's image is not read: only `luksCat` reads it, and only after a key was found
 abbrev pub NeedsNoPayload : Request → Message → Type 0

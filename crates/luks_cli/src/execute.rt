@@ -40,8 +40,15 @@ mod volumes;
 /// No device is called needlessly: no read goes into a buffer without capacity or follows one that
 /// failed or hit the end, and no write is empty or follows one that failed. The end of each input
 /// is hit at most once. No command but `luksCat` allows read-ahead: every other command consumes
-/// just what it requests, also from a pipe. `luksCat` allows it up to the payload's end and no
-/// further, if both inputs know their bytes.
+/// just what it requests, also from a pipe. A run of `luksCat` that ends before it has found a key
+/// allows none. (After a failed read, both inputs must know their bytes for that.) If both inputs
+/// know their bytes, `luksCat` allows it up to the payload's end, and at no moment further.
+/// Positions are counted from the source's first byte: if the image was read before, less is
+/// allowed.
+///
+/// The report's work is what trying the key slots costs if they were tried, whatever happened
+/// afterwards, and 0 if they were not: then the end of the key file was not hit, or not all key
+/// material was read. (The image and the key file must know their bytes for that.)
 ///
 /// `luksCat` writes the plaintext of an honestly sealed volume if the passphrase has at most
 /// 8,388,608 bytes and is that of a key slot which is tried, no slot tried before gives another
@@ -63,9 +70,12 @@ pub fn execute<I: Source, K: Source, O: Sink>(
     ensures run { RunsAsSpecified (request_of command.now) result.message
         (record { before = I.to_come image.old; after = I.to_come image.new })
         (record { before = K.to_come secret.old; after = K.to_come secret.new })
-        (record { before = O.written out.old; after = O.written out.new })
-        × CountsWork HeaderLocation.Attached (request_of command.now) result.message result.work
-        (I.to_come image.old) (K.to_come secret.old) }
+        (record { before = O.written out.old; after = O.written out.new }) }
+    ensures work { CountsWork HeaderLocation.Attached (request_of command.now) result.message
+        result.work
+        (record { before = I.to_come image.old; after = I.to_come image.new })
+        (K.to_come secret.old)
+        (record { before = K.counts secret.old; after = K.counts secret.new }) }
     ensures honest { WritesPlain (request_of command.now) result.message
         (I.to_come image.old) (K.to_come secret.old)
         (O.written out.old) (O.written out.new) }
@@ -75,7 +85,7 @@ pub fn execute<I: Source, K: Source, O: Sink>(
     ensures reads_first { ReadsFirst (request_of command.now) → result.message ≡ Message.ReadFailed
         → out.new ≡ out.old }
     ensures calls { CountsCalls (ReadsImage HeaderLocation.Attached (request_of command.now)
-        (I.to_come image.old) (K.to_come secret.old))
+        result.message (I.to_come image.old) (K.to_come secret.old))
         result.message (I.counts image.old) (I.counts image.new) (K.counts secret.old)
         (K.counts secret.new) (O.counts out.old) (O.counts out.new) }
 {

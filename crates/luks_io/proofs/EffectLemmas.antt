@@ -147,7 +147,7 @@ appended-all (Some old) (Some new) xs at all p known is = let whole = take_all a
 
 -- without a read, nothing is counted
 pub no_reads : (a : ReadCounts) → Reads false false a a
-no_reads a = record { failures = refl; ends = refl; needed = λ live. refl; ahead = omega arith }
+no_reads a = record { failures = refl; ends = refl; needed = λ live. refl; reached = refl }
 
 -- reads that neither failed nor hit the end, and further ones after them, count as one run of reads
 pub reads_more : (failed ended : Bool) (a b c : ReadCounts) → Reads false false a b → Reads failed ended b c
@@ -158,7 +158,7 @@ reads_more failed ended a b c first then = record {
   needed = λ live.
       let still : IsLive b = record { failed = first.failures ∙ live.failed; ended = first.ends ∙ live.ended } in
       then.needed still ∙ first.needed live;
-  ahead = omega (arith, first.ahead, then.ahead);
+  reached = then.reached ∙ first.reached;
 }
 
 -- without a write, nothing is counted

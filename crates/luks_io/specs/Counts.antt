@@ -2,7 +2,7 @@
 -- that keep them: over memory, over writers, and with a buffer for bytes that are read ahead.
 use Rattle.std.specs.Prelude.{◌≡◌, ℕ, zero, suc, ◌-◌, ◌≤◌, ◌==◌, ◌||◌, nat_lt, is_err, Bool, List, [], Result, Ok, Err}
 use Rattle.std.specs.Prelude.{Option, Some, None, ◌≢◌, ◌+◌, ◌⊎◌, length, max, min, IfOk, IsErr}
-use Rattle.luks_io.specs.Devices.{counted, is_end}
+use Rattle.luks_io.specs.Devices.{counted, is_end, saturating_add}
 use Rattle.luks_io.specs.declared.counts.ReadCounts.{ReadCounts}
 use Rattle.luks_io.specs.declared.counts.WriteCounts.{WriteCounts}
 use Rattle.luks_io.specs.declared.source.ReadFault.{ReadFault}
@@ -18,7 +18,7 @@ given (Err _) = 0
 
 -- the counts of a source that has not been read yet, and is not allowed to read ahead
 abbrev pub unread : ReadCounts
-unread = record { failures = 0; ends = 0; needless = 0; ahead = 0 }
+unread = record { failures = 0; ends = 0; needless = 0; consumed = 0; reached = 0 }
 
 -- the counts after one more read into a buffer of `capacity` bytes
 abbrev pub after_read : {E : Type 0} → Result ℕ E → ℕ → ReadCounts → ReadCounts
@@ -26,22 +26,38 @@ after_read answer capacity counts = record {
   failures = counted (is_err answer) counts.failures;
   ends = counted (is_end answer capacity) counts.ends;
   needless = counted (is_needless_read counts capacity) counts.needless;
-  ahead = counts.ahead - given answer;
+  consumed = saturating_add counts.consumed (given answer);
+  reached = counts.reached;
 }
 
--- the counts of the same source, if it is allowed to read `count` bytes ahead
-abbrev pub with_ahead : ℕ → ReadCounts → ReadCounts
-with_ahead count counts = record {
+-- the counts of the same source, if `count` more bytes are consumed without a read
+abbrev pub with_consumed : ℕ → ReadCounts → ReadCounts
+with_consumed count counts = record {
   failures = counts.failures;
   ends = counts.ends;
   needless = counts.needless;
-  ahead = count;
+  consumed = saturating_add counts.consumed count;
+  reached = counts.reached;
 }
 
--- the number of bytes that are allowed to be read ahead after `count` buffered ones, or none of them, were forwarded
-abbrev pub left_ahead : {A : Type 0} → Option A → ℕ → ℕ → ℕ
-left_ahead (Some _) count ahead = ahead - count
-left_ahead None count ahead = ahead
+-- the counts of the same source, if it is allowed to read ahead up to the position `end`
+abbrev pub allowed_to : ℕ → ReadCounts → ReadCounts
+allowed_to end counts = record {
+  failures = counts.failures;
+  ends = counts.ends;
+  needless = counts.needless;
+  consumed = counts.consumed;
+  reached = max end counts.reached;
+}
+
+-- the counts after `count` buffered bytes, or none of them, were forwarded
+abbrev pub after_forward : {A : Type 0} → Option A → ℕ → ReadCounts → ReadCounts
+after_forward (Some _) count counts = with_consumed count counts
+after_forward None count counts = counts
+
+-- the number of bytes after the consumed ones that are allowed to be read ahead
+abbrev pub ahead_of : ReadCounts → ℕ
+ahead_of counts = counts.reached - counts.consumed
 
 -- no read has failed or hit the end so far
 pub record IsLive (counts : ReadCounts) : Type 0 where
@@ -68,12 +84,12 @@ abbrev pub WritesAsNeeded : WriteCounts → WriteCounts → Type 0
 WritesAsNeeded before after = before.failures ≡ 0 → after.needless ≡ before.needless
 
 -- what the reads of a part of a run add to the counts of a source: a failure if one failed, an end if one hit the end,
--- and nothing needless. No more is allowed to be read ahead than before
+-- and nothing needless. No read-ahead is allowed
 pub record Reads (failed ended : Bool) (before after : ReadCounts) : Type 0 where
   pub failures : after.failures ≡ counted failed before.failures
   pub ends : after.ends ≡ counted ended before.ends
   pub needed : ReadsAsNeeded before after
-  pub ahead : after.ahead ≤ before.ahead
+  pub reached : after.reached ≡ before.reached
 
 -- what the writes of a part of a run add to the counts of a sink: a failure if one failed, and nothing needless
 pub record Writes (failed : Bool) (before after : WriteCounts) : Type 0 where
@@ -90,15 +106,23 @@ abbrev pub left_of : ℕ → Option (List ℕ) → Option (List ℕ)
 left_of zero remaining = remaining
 left_of (suc _) remaining = Some []
 
--- a source over memory, whose reads never fail: the remaining bytes, and the counts of ends and of needless reads
+-- a source over memory, whose reads never fail: the remaining bytes, and all counts except that of failures
 pub record MemSourceModel : Type 0 where
   pub left : List ℕ
   pub ends : ℕ
   pub needless : ℕ
+  pub consumed : ℕ
+  pub reached : ℕ
 
 -- the counts of a source over memory
 abbrev pub counts_of_memory : MemSourceModel → ReadCounts
-counts_of_memory source = record { failures = 0; ends = source.ends; needless = source.needless; ahead = 0 }
+counts_of_memory source = record {
+  failures = 0;
+  ends = source.ends;
+  needless = source.needless;
+  consumed = source.consumed;
+  reached = source.reached;
+}
 
 -- a sink over memory: the bytes written, how many more fit, and the counts of its writes
 pub record MemSinkModel : Type 0 where
@@ -121,7 +145,7 @@ pub record ReadAheadModel (S : Type 0) : Type 0 where
 
 -- the number of bytes after the buffered ones that are allowed to be read ahead
 abbrev pub read_ahead_remaining : {S : Type 0} → ReadAheadModel S → ℕ
-read_ahead_remaining source = source.counts.ahead - length source.buffered
+read_ahead_remaining source = ahead_of source.counts - length source.buffered
 
 -- the largest number of bytes that a read of `requested` bytes consumes: those, or more if more are allowed to be read
 -- ahead, as far as they fit into the buffer

@@ -40,9 +40,13 @@ Appended before after bytes = (known : List ℕ) → before ≡ Some known → a
 abbrev pub max_count : ℕ
 max_count = 2 ^ 64 - 1
 
+-- a count after some more
+abbrev pub saturating_add : ℕ → ℕ → ℕ
+saturating_add count more = min (count + more) max_count
+
 -- a count after one more
 abbrev pub saturating_inc : ℕ → ℕ
-saturating_inc count = min (count + 1) max_count
+saturating_inc count = saturating_add count 1
 
 -- a count after a call: one more exactly if the call is one of those counted
 abbrev pub counted : Bool → ℕ → ℕ

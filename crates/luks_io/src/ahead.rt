@@ -7,8 +7,9 @@ ghost use Rattle.std.specs.Io.{ReadsAtMost};
 ghost use Rattle.std.specs.Io.KnownBytes.{Consumes, IsAtEnd, Keeps, ReadConsumes, prepend_known};
 ghost use Rattle.luks_io.specs.Devices.{ConsumedAtMost, ForwardEffect, IfKnown, buffered_after};
 ghost use Rattle.luks_io.specs.Devices.{is_aborted, is_end};
-ghost use Rattle.luks_io.specs.Counts.{Reads, ReadsAhead, Writes, after_read, given, left_ahead};
-ghost use Rattle.luks_io.specs.Counts.{max_read, read_ahead_remaining, unread, with_ahead};
+ghost use Rattle.luks_io.specs.Counts.{Reads, ReadsAhead, Writes, after_forward, after_read};
+ghost use Rattle.luks_io.specs.Counts.{ahead_of, allowed_to, max_read, read_ahead_remaining};
+ghost use Rattle.luks_io.specs.Counts.{unread};
 
 use crate::DeviceFault;
 use crate::counts::ReadCounts;
@@ -35,7 +36,7 @@ pub struct ReadAheadSource<S> {
 
 impl<S> Model for ReadAheadSource<S> {
     ghost use Rattle.std.specs.Prelude.{◌-◌, ◌≤◌, slice_range, vec_len};
-    ghost use Rattle.luks_io.specs.Counts.{ReadAheadModel};
+    ghost use Rattle.luks_io.specs.Counts.{ReadAheadModel, ahead_of};
 
     ghost Value = { ReadAheadModel S };
 
@@ -48,7 +49,7 @@ impl<S> Model for ReadAheadSource<S> {
         } };
 
     ghost invariant = { λ a. (a.start ≤ a.end) × (a.end ≤ vec_len a.buffer)
-        × (a.end - a.start ≤ a.counts.ahead) };
+        × (a.end - a.start ≤ ahead_of a.counts) };
 }
 
 /// Reads at most `count` bytes into the start of a buffer.
@@ -118,7 +119,7 @@ impl<S: Source> ReadAheadSource<S> {
     /// Reads at most `count` bytes into the empty buffer, and returns how many it read.
     fn refill(&mut self, count: usize) -> Result<usize, DeviceFault>
         requires capacity { count ≤ self.old.capacity }
-        requires allowed { count ≤ self.old.counts.ahead }
+        requires allowed { count ≤ ahead_of self.old.counts }
         requires empty { self.old.buffered ≡ [] }
         ensures buffered { MatchResult result (λ n. (n ≤ count) × (length self.new.buffered ≡ n))
             (λ _. self.new.buffered ≡ self.old.buffered) }
@@ -146,7 +147,7 @@ impl<S: Source> ReadAheadSource<S> {
         ensures len { length buf.new ≡ length buf.old }
         ensures bytes { self.old.buffered ≡ take result buf.new ++ self.new.buffered }
         ensures leaves { self.new ≡ record self.old { buffered = self.new.buffered } }
-        ensures allowed { length self.new.buffered ≤ self.old.counts.ahead - result }
+        ensures allowed { length self.new.buffered ≤ ahead_of self.old.counts - result }
     {
         let (start, end) = (self.start, self.end);
         let count = buf.len().min(end - start);
@@ -163,7 +164,8 @@ impl<S> ReadAheadSource<S> {
         answer: Result<usize, DeviceFault>,
         capacity: usize,
     ) -> Result<usize, DeviceFault>
-        requires { length self.old.buffered ≤ self.old.counts.ahead - given answer }
+        requires { length self.old.buffered
+            ≤ ahead_of (after_read answer capacity self.old.counts) }
         ensures value { result ≡ answer }
         ensures counts { self.new
             ≡ record self.old { counts = after_read answer capacity self.old.counts } }
@@ -212,7 +214,7 @@ impl<S: Source> Source for ReadAheadSource<S> {
         ensures leaves { ReadsAhead (length buf.old) result self.old self.new }
     {
         if self.start == self.end && !buf.is_empty() {
-            let ahead = self.counts.ahead.min(self.buffer.len() as u64) as usize;
+            let ahead = self.counts.ahead().min(self.buffer.len() as u64) as usize;
             if ahead <= buf.len() {
                 let answer = self.read_unbuffered(buf);
                 return self.counted(answer, buf.len());
@@ -225,14 +227,10 @@ impl<S: Source> Source for ReadAheadSource<S> {
         self.copy_out_counted(buf)
     }
 
-    /// Allows read-ahead for the next `count` bytes, including those that are buffered.
-    fn allow_read_ahead(&mut self, count: u64)
-        ensures leaves { self.new ≡ record self.old {
-          counts = with_ahead (max count (length self.old.buffered)) self.old.counts;
-        } }
-        ensures allowed { length self.old.buffered ≤ self.old.counts.ahead }
+    fn allow_read_ahead(&mut self, end: u64)
+        ensures { self.new ≡ record self.old { counts = allowed_to end self.old.counts } }
     {
-        self.counts.ahead = count.max((self.end - self.start) as u64);
+        self.counts.allow(end);
     }
 
     /// Forwards only buffered bytes, and does not read from the source below.
@@ -249,8 +247,7 @@ impl<S: Source> Source for ReadAheadSource<S> {
             (prepend_known self.old.buffered (S.to_come self.old.source))
             (prepend_known self.new.buffered (S.to_come self.new.source))
             (O.written sink.old) (O.written sink.new) }
-        ensures counts { self.new.counts
-            ≡ with_ahead (left_ahead result count self.old.counts.ahead) self.old.counts }
+        ensures counts { self.new.counts ≡ after_forward result count self.old.counts }
         ensures writes { Writes (is_aborted result) (O.counts sink.old) (O.counts sink.new) }
         ensures enough { is_some result ≡ nat_le count (length self.old.buffered) }
         ensures leaves { self.new ≡ record self.old {
@@ -264,7 +261,7 @@ impl<S: Source> Source for ReadAheadSource<S> {
         }
         let answer = put_transformed(&mut self.buffer, start, count, transform, sink);
         self.start += count;
-        self.counts.ahead -= count as u64;
+        self.counts.consume(count as u64);
         Some(answer)
     }
 }

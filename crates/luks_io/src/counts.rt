@@ -1,12 +1,14 @@
 //! The counts that devices keep of their calls. A count of calls saturates.
 
 ghost use Rattle.std.specs.Prelude.{◌≡◌, ◌==◌, ◌&&◌};
-ghost use Rattle.luks_io.specs.Devices.{counted, is_end};
-ghost use Rattle.luks_io.specs.Counts.{after_read, after_write, given, unread};
+ghost use Rattle.luks_io.specs.Devices.{counted, is_end, saturating_add};
+ghost use Rattle.luks_io.specs.Counts.{after_read, after_write, ahead_of, allowed_to};
+ghost use Rattle.luks_io.specs.Counts.{given, unread, with_consumed};
 
 use crate::DeviceFault;
 
-/// The counts of a source's reads, and how far it may read ahead.
+/// The counts of a source's reads, and how far it was ever allowed to read ahead. None of them ever
+/// falls.
 #[derive(Clone, Copy, Debug, PartialEq, Eq)]
 pub struct ReadCounts {
     /// Reads that failed.
@@ -16,8 +18,11 @@ pub struct ReadCounts {
     /// Reads that no caller needs: into a buffer without capacity, or after a read that failed or
     /// hit the end.
     pub needless: u64,
-    /// How many of the next bytes are allowed to be read ahead, before they are requested.
-    pub ahead: u64,
+    /// How many bytes were consumed: the position in the source.
+    pub consumed: u64,
+    /// The greatest position up to which read-ahead was allowed. The bytes between `consumed` and
+    /// this position may be read before they are requested.
+    pub reached: u64,
 }
 
 impl ReadCounts {
@@ -29,12 +34,13 @@ impl ReadCounts {
             failures: 0,
             ends: 0,
             needless: 0,
-            ahead: 0,
+            consumed: 0,
+            reached: 0,
         }
     }
 
-    /// Counts a read into a buffer of `capacity` bytes, and returns its answer. For a source's own
-    /// `read`.
+    /// Counts a read into a buffer of `capacity` bytes, and returns its answer. A source calls it in
+    /// its own `read`.
     pub fn count(
         &mut self,
         answer: Result<usize, DeviceFault>,
@@ -47,8 +53,30 @@ impl ReadCounts {
         count_if(&mut self.needless, needless);
         count_if(&mut self.failures, answer.is_err());
         count_if(&mut self.ends, hits_end(&answer, capacity));
-        self.ahead = self.ahead.saturating_sub(given(&answer));
+        self.consume(given(&answer));
         answer
+    }
+
+    /// Counts `count` more bytes as consumed.
+    pub(crate) fn consume(&mut self, count: u64)
+        ensures { self.new ≡ with_consumed count self.old }
+    {
+        self.consumed = self.consumed.saturating_add(count);
+    }
+
+    /// How many bytes after the consumed ones are allowed to be read ahead.
+    pub(crate) fn ahead(&self) -> u64
+        ensures { result ≡ ahead_of self.now }
+    {
+        self.reached.saturating_sub(self.consumed)
+    }
+
+    /// Notes that read-ahead is allowed up to this position. A source calls it in its own
+    /// `allow_read_ahead`.
+    pub fn allow(&mut self, end: u64)
+        ensures { self.new ≡ allowed_to end self.old }
+    {
+        self.reached = self.reached.max(end);
     }
 }
 
@@ -72,7 +100,7 @@ impl WriteCounts {
         }
     }
 
-    /// Counts a write of `len` bytes, and returns its answer. For a sink's own `write`.
+    /// Counts a write of `len` bytes, and returns its answer. A sink calls it in its own `write`.
     pub fn count(
         &mut self,
         answer: Result<usize, DeviceFault>,

@@ -1,7 +1,7 @@
 //! Sources and sinks over memory, which know their bytes.
 
 ghost use Rattle.std.specs.Prelude.{◌≡◌, ◌+◌, ◌-◌, ◌<◌, ◌≤◌, ◌↔◌, [], Some, length};
-ghost use Rattle.std.specs.Prelude.{take, drop, min, vec_len, IfOk, IsErr};
+ghost use Rattle.std.specs.Prelude.{take, drop, max, min, vec_len, IfOk, IsErr};
 ghost use Rattle.std.specs.Io.{ReadsAtMost};
 ghost use Rattle.std.specs.Io.KnownBytes.{ReadConsumes, WriteAppends};
 ghost use Rattle.luks_io.specs.Devices.{AcceptsSome};
@@ -14,8 +14,8 @@ use crate::source::Source;
 use std::alloc::{AllocError, Global};
 use std::marker::Model;
 
-/// Reads from bytes in memory. No read fails. A clause sees the remaining bytes, how often the end
-/// was hit, and how many reads were needless.
+/// Reads from bytes in memory. No read fails. A clause sees the remaining bytes, and all counts
+/// except that of failures.
 #[derive(Drop)]
 pub struct MemSource<'a> {
     left: &'a [u8],
@@ -29,15 +29,27 @@ impl<'a> Model for MemSource<'a> {
     ghost Value = { MemSourceModel };
 
     ghost view = { λ s.
-        record { left = s.left.now; ends = s.counts.ends; needless = s.counts.needless } };
+        record {
+          left = s.left.now;
+          ends = s.counts.ends;
+          needless = s.counts.needless;
+          consumed = s.counts.consumed;
+          reached = s.counts.reached;
+        } };
 
-    ghost invariant = { λ s. (s.counts.failures ≡ 0) × (s.counts.ahead ≡ 0) };
+    ghost invariant = { λ s. s.counts.failures ≡ 0 };
 }
 
 impl<'a> MemSource<'a> {
     /// A source of these bytes.
     pub fn new(bytes: &'a [u8]) -> MemSource<'a>
-        ensures { result ≡ record { left = bytes.entry.now; ends = 0; needless = 0 } }
+        ensures { result ≡ record {
+          left = bytes.entry.now;
+          ends = 0;
+          needless = 0;
+          consumed = 0;
+          reached = 0;
+        } }
     {
         MemSource {
             left: bytes,
@@ -75,6 +87,13 @@ impl<'a> Source for MemSource<'a> {
         buf[..count].copy_from_slice(now);
         self.left = later;
         self.counts.count(Ok(count), buf.len())
+    }
+
+    /// Nothing is read ahead: all bytes are in memory.
+    fn allow_read_ahead(&mut self, end: u64)
+        ensures { self.new ≡ record self.old { reached = max end self.old.reached } }
+    {
+        self.counts.allow(end);
     }
 }
 

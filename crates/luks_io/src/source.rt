@@ -1,12 +1,12 @@
 //! Sources of bytes.
 
-ghost use Rattle.std.specs.Prelude.{◌≡◌, ◌<◌, ◌≤◌, ℕ, List, Option, length, max, min};
+ghost use Rattle.std.specs.Prelude.{◌≡◌, ◌<◌, ◌≤◌, ℕ, List, Option, length, min};
 ghost use Rattle.std.specs.Prelude.{is_err, IfOk, MatchResult};
 ghost use Rattle.std.specs.Io.{ReadsAtMost};
 ghost use Rattle.std.specs.Io.KnownBytes.{ReadConsumes};
 ghost use Rattle.luks_io.specs.Devices.{ConsumedInto, ForwardEffect, IfKnown, is_aborted};
 ghost use Rattle.luks_io.specs.Devices.{is_short_read};
-ghost use Rattle.luks_io.specs.Counts.{Reads, Writes, after_read, got_in, left_ahead, with_ahead};
+ghost use Rattle.luks_io.specs.Counts.{Reads, Writes, after_forward, after_read, allowed_to, got_in};
 ghost use Rattle.luks_io.specs.declared.counts.ReadCounts.{ReadCounts};
 
 use crate::DeviceFault;
@@ -18,8 +18,8 @@ pub trait Source {
     /// The remaining bytes, if the source knows them.
     ghost to_come: { Self → Option (List ℕ) };
 
-    /// How many reads have failed, how many have hit the end, and how many were needless; and how
-    /// many of the next bytes are allowed to be read ahead.
+    /// How many reads have failed, how many have hit the end, and how many were needless; how many
+    /// bytes were consumed, and the greatest position up to which read-ahead was allowed.
     ghost counts: { Self → ReadCounts };
 
     /// Reads the next bytes into the start of the buffer, and returns how many. `Ok(0)` for a
@@ -30,14 +30,13 @@ pub trait Source {
         ensures counts { counts self.new
             ≡ after_read result (length buf.new) (counts self.old) };
 
-    /// Allows read-ahead for the next `count` bytes: they will be requested, unless the source ends
-    /// or a call of some device fails first. A source may consume them before they are requested;
-    /// the bytes that it gives are the same. It may also ignore the call.
-    fn allow_read_ahead(&mut self, count: u64)
+    /// Allows read-ahead up to this position: the bytes before it will be requested, unless the
+    /// source ends or a call of some device fails first. Positions are counted from the source's
+    /// first byte. A source may read those bytes before they are requested, or not; the bytes that
+    /// it gives are the same. What was allowed stays allowed.
+    fn allow_read_ahead(&mut self, end: u64)
         ensures bytes { to_come self.new ≡ to_come self.old }
-        ensures counts { counts self.new ≡ with_ahead (counts self.new).ahead (counts self.old) }
-        ensures ahead { (counts self.new).ahead ≤ max count (counts self.old).ahead }
-    {}
+        ensures counts { counts self.new ≡ allowed_to end (counts self.old) };
 
     /// Forwards the next `count` bytes, transformed, to the sink, if the source has that many
     /// buffered. They are consumed, whether or not the write fails. `None` means that nothing was
@@ -53,8 +52,7 @@ pub trait Source {
             count
             (C.transformed transform.now) (to_come self.old) (to_come self.new)
             (O.written sink.old) (O.written sink.new) }
-        ensures counts { counts self.new
-            ≡ with_ahead (left_ahead result count (counts self.old).ahead) (counts self.old) }
+        ensures counts { counts self.new ≡ after_forward result count (counts self.old) }
         ensures writes { Writes (is_aborted result) (O.counts sink.old) (O.counts sink.new) }
     {
         None

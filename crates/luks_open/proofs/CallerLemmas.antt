@@ -1,8 +1,6 @@
--- Properties of the key slots to be tried, one after the other, and of their key material, for the functions here and
--- for their callers.
+-- Properties of the key slots to be tried, in their order, and of their key material, for this crate and its callers.
 use Rattle.std.proofs.Common.{◌≡◌, ◌∙◌, ℕ, ◌+◌, ◌*◌, ◌/◌, ◌==◌, ◌<◌, ◌≤◌, max, Bool, true, false, List, [], ◌∷◌, ◌++◌}
-use Rattle.std.proofs.Common.{length, take, drop, get_or, Option, Some, None, Ok, IsOk, IsSome, refl, sym, ap, subst}
-use Rattle.std.proofs.Common.{arith}
+use Rattle.std.proofs.Common.{length, take, drop, get_or, Option, Some, None, Ok, IsOk, IsSome, refl, sym, ap, subst, arith}
 use Rattle.std.specs.Prelude.{if◌then◌else◌, is_some, option_map, slice_index_or, sum_by}
 use Rattle.std.specs.List.{AllByRecursion, All}
 use Rattle.std.proofs.lemmas.Bool.{eq-eqb}

@@ -12,8 +12,8 @@ use Rattle.luks_cipher.specs.Sector.{Cipher}
 use Rattle.luks_cipher.specs.Xts.{joined}
 use Rattle.luks_verdict.specs.declared.segment.Segment.{Segment}
 use Rattle.luks_verdict.proofs.SectorLemmas.{sector_blocks}
-use Rattle.luks_io.proofs.EffectLemmas.{appended-more, appended-none}
-use Rattle.luks_io.specs.Counts.{Reads, with_ahead}
+use Rattle.luks_io.proofs.EffectLemmas.{appended-more, appended-none, no_reads}
+use Rattle.luks_io.specs.Counts.{Reads}
 use Rattle.luks_io.specs.Devices.{Appended, ConsumedExactly}
 use Rattle.luks_io.specs.declared.counts.ReadCounts.{ReadCounts}
 use Rattle.luks_payload.proofs.SectorLemmas.{payload_ends}
@@ -26,7 +26,7 @@ use Rattle.luks_payload.specs.declared.fault.VolumeFault.TheVariants.{Read, Writ
 use Rattle.luks_payload.specs.declared.state.State.TheVariants.{BeforePayload, InPayload}
 use Rattle.luks_payload.specs.declared.state.Step.{Step}
 use Rattle.luks_payload.specs.declared.state.Step.TheVariants.{Sector, End}
-use Rattle.luks_runs.specs.Payload.{ForwardsPayload, max_needed, with_payload_ahead}
+use Rattle.luks_runs.specs.Payload.{ForwardsPayload, with_payload_allowed}
 use Rattle.luks_report.specs.Faults.{message_at_end, message_for_payload}
 use Rattle.luks_report.specs.declared.message.Message.TheVariants.{Done}
 
@@ -237,7 +237,8 @@ module _ (p : PumpModel) (image : List ℕ) (loaded : ℕ) (l b w l' w' : Option
         let whole = take_whole (sector_plaintext p.segment p.cipher image) (sector_len p.segment)
         (sectors_of p.segment image)
         p.count (sector_size p.segment image p.cipher) so_far.few in
-        (end, p.count, sym row, so_far.few, omega (arith, step.2), step.3, rw (same, whole) so_far.wrote)
+        let later : loaded ≤ end = omega (arith, step.1, so_far.consumed_to) in
+        (end, later, p.count, sym row, so_far.few, omega (arith, step.2), step.3, rw (same, whole) so_far.wrote)
 
     -- a write failed within the next sector
     unwritten : StepEffect p.segment p.cipher p.count (consumed_by p) image (Err Write) l' w w'
@@ -270,13 +271,7 @@ module _ (p : PumpModel) (image : List ℕ) (loaded : ℕ) (l b w l' w' : Option
 
 -- ---- read-ahead
 
--- no more read-ahead was allowed than before or than the payload needs
-pub reads_with_ahead_allowed : (s : Segment) (loaded : ℕ) (before after : ReadCounts) → after ≡ with_ahead after.ahead
-    before → after.ahead ≤ max (max_needed s.size s.offset loaded) before.ahead
-    → Reads false false (with_payload_ahead s loaded before) after
-reads_with_ahead_allowed s loaded before after is few = record {
-  failures = ap (λ (c : ReadCounts). c.failures) is;
-  ends = ap (λ (c : ReadCounts). c.ends) is;
-  needed = λ live. ap (λ (c : ReadCounts). c.needless) is;
-  ahead = few;
-}
+-- read-ahead was allowed up to the payload's end
+pub reads_with_payload_allowed : (s : Segment) (before after : ReadCounts) → after ≡ with_payload_allowed s before
+    → Reads false false (with_payload_allowed s before) after
+reads_with_payload_allowed s before after is = rw is (no_reads _)

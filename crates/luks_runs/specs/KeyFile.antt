@@ -1,5 +1,5 @@
 -- The key file.
-use Rattle.std.specs.Prelude.{◌≡◌, ℕ, ◌+◌, ◌<◌, Bool, true, false, List, length, min, Option}
+use Rattle.std.specs.Prelude.{ℕ, ◌+◌, ◌<◌, Bool, true, false, List, length, min, Option}
 use Rattle.luks_io.specs.Counts.{Reads}
 use Rattle.luks_io.specs.Devices.{ConsumedExactly, ConsumedAtMost}
 use Rattle.luks_io.specs.declared.counts.ReadCounts.{ReadCounts}
@@ -19,14 +19,12 @@ NoKeyFileRead secret left OutOfMemory = ConsumedAtMost secret left (min (length 
 NoKeyFileRead secret left ReadFailed = ConsumedAtMost secret left (min (length secret) (max_key_file_len + 1))
 NoKeyFileRead secret left _ = ⊥
 
--- whether reading a key file hit its end: yes if all of it was read, and no if it was too long or a read failed; if
--- memory ran out, the last piece may have hit the end
-abbrev pub HitsKeyFileEof : Message → Bool → Type 0
-HitsKeyFileEof Done ended = ended ≡ true
-HitsKeyFileEof OutOfMemory ended = Unit {0}
-HitsKeyFileEof _ ended = ended ≡ false
+-- whether reading a key file hit its end: yes if all of it was read, and no if it was too long, a read failed, or
+-- memory ran out
+abbrev pub hits_key_file_eof : Message → Bool
+hits_key_file_eof Done = true
+hits_key_file_eof _ = false
 
 -- what reading a key file adds to the counts of its source
 abbrev pub ReadsKeyFile : Message → ReadCounts → ReadCounts → Type 0
-ReadsKeyFile message before after = (ended : Bool) × Reads (is_run_read_failure message) ended before after
-    × HitsKeyFileEof message ended
+ReadsKeyFile message before after = Reads (is_run_read_failure message) (hits_key_file_eof message) before after

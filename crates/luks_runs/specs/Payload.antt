@@ -2,7 +2,7 @@
 use Rattle.std.specs.Prelude.{◌≡◌, ℕ, ◌+◌, ◌-◌, ◌*◌, ◌/◌, ◌^◌, ◌<◌, ◌≤◌, List, length, max, take, Option}
 use Rattle.std.specs.Prelude.{Bool, true, false}
 use Rattle.luks_cipher.specs.Sector.{Cipher}
-use Rattle.luks_io.specs.Counts.{with_ahead}
+use Rattle.luks_io.specs.Counts.{allowed_to}
 use Rattle.luks_io.specs.Devices.{Appended, ConsumedExactly, max_count}
 use Rattle.luks_io.specs.declared.counts.ReadCounts.{ReadCounts}
 use Rattle.luks_verdict.specs.declared.segment.Segment.{Segment}
@@ -12,15 +12,14 @@ use Rattle.luks_report.specs.Faults.{message_at_end}
 use Rattle.luks_report.specs.declared.message.Message.{Message}
 use Rattle.luks_report.specs.declared.message.Message.TheVariants.{Done, ReadFailed, WriteFailed}
 
--- the maximum number of bytes that are requested from any image to forward a payload of this size from this offset on,
--- if its first `loaded_len` bytes are loaded: those after them, up to the payload's end
-abbrev pub max_needed : Option ℕ → ℕ → ℕ → ℕ
-max_needed size offset loaded_len = payload_end_in size offset max_count - loaded_len
+-- the end of the payload, in the longest image whose bytes can be counted: a payload without a fixed size ends with its
+-- image
+abbrev pub max_payload_end : Segment → ℕ
+max_payload_end s = payload_end_in s.size s.offset max_count
 
--- the counts of the image, for which read-ahead is allowed as far as forwarding its payload needs it, if its first
--- `loaded_len` bytes are loaded
-abbrev pub with_payload_ahead : Segment → ℕ → ReadCounts → ReadCounts
-with_payload_ahead s loaded_len counts = with_ahead (max (max_needed s.size s.offset loaded_len) counts.ahead) counts
+-- the counts of the payload's image, for which read-ahead is allowed up to the payload's end
+abbrev pub with_payload_allowed : Segment → ReadCounts → ReadCounts
+with_payload_allowed s counts = allowed_to (max_payload_end s) counts
 
 -- forwarding the payload of an image, whose first `loaded_len` bytes were consumed before, ended with this message: the
 -- image was consumed up to the payload's end, and the plaintext was written; a read failed, and the whole sectors that
@@ -28,7 +27,8 @@ with_payload_ahead s loaded_len counts = with_ahead (max (max_needed s.size s.of
 abbrev pub ForwardsPayload : Segment → Cipher → List ℕ → ℕ → Option (List ℕ) → Option (List ℕ) → Option (List ℕ)
     → Message → Type 0
 ForwardsPayload s cipher image loaded_len left before after ReadFailed =
-    (end : ℕ) × (count : ℕ) × (count ≡ (end - s.offset) / sector_len s) × (count ≤ sectors_of s image)
+    (end : ℕ) × (loaded_len ≤ end) × (count : ℕ) × (count ≡ (end - s.offset) / sector_len s)
+    × (count ≤ sectors_of s image)
     × (end ≤ payload_end_of s image)
     × ConsumedExactly image left end × Appended before after (take (count * sector_len s) (plain_of s cipher image))
 ForwardsPayload s cipher image loaded_len left before after WriteFailed =

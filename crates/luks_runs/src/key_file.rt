@@ -48,7 +48,8 @@ pub fn read_key_file<S: Source>(alloc: Global, source: &mut S) -> Result<Vec<u8>
 }
 
 /// Appends the next piece of the key file to the bytes so far. Returns its length, which is less
-/// than that of the buffer only at the end.
+/// than that of the buffer only at the end. The memory for the piece is allocated before it is
+/// read. Therefore all of the key file was read if its end was hit.
 fn read_piece<S: Source>(
     piece: &mut [u8],
     secret: &mut Vec<u8>,
@@ -70,6 +71,12 @@ fn read_piece<S: Source>(
         (S.counts source.old) (S.counts source.new))
         (λ message. ReadsKeyFile message (S.counts source.old) (S.counts source.new)) }
 {
+    // A byte more than the longest key file has needs no memory.
+    secret.reserve(
+        piece
+            .len()
+            .min(MAX_KEY_FILE_LEN.saturating_sub(secret.len())),
+    )?;
     let got = fill(source, piece)?;
     secret.extend_from_slice(&piece[..got])?;
     Ok(got)

@@ -1,8 +1,8 @@
 //! Forwarding the payload from the image to the output.
 
 ghost use Rattle.std.specs.Prelude.{◌≡◌, ◌≤◌, ◌⊎◌, Bool, List, [], ℕ, Option, length, take};
-ghost use Rattle.luks_runs.specs.Payload.{HitsPayloadEof, ForwardsLoaded, max_needed};
-ghost use Rattle.luks_runs.specs.Payload.{with_payload_ahead};
+ghost use Rattle.luks_runs.specs.Payload.{HitsPayloadEof, ForwardsLoaded, max_payload_end};
+ghost use Rattle.luks_runs.specs.Payload.{with_payload_allowed};
 ghost use Rattle.luks_runs.specs.RunMessages.{PayloadMessage};
 ghost use Rattle.luks_runs.specs.Run.{is_run_read_failure, is_run_write_failure, result_message};
 ghost use Rattle.luks_io.specs.Devices.{ConsumedExactly};
@@ -39,21 +39,19 @@ fn pump_after<'a>(segment: Segment, cipher: SectorCipher, loaded: &'a [u8]) -> P
     Pump::with_loaded(segment, cipher, &loaded[segment.offset as usize..])
 }
 
-/// How many bytes of an image are still needed to forward its payload, if its first `loaded` bytes
-/// are loaded: those up to the payload's end. A payload without a fixed size ends with the image,
-/// and may need all that an image can have.
-fn bytes_needed(segment: &Segment, loaded: usize) -> u64
-    ensures { result ≡ max_needed segment.now.size segment.now.offset loaded }
+/// The position in the image at which its payload ends. A payload without a fixed size ends with
+/// the image, and may need all that an image can have.
+fn payload_end(segment: &Segment) -> u64
+    ensures { result ≡ max_payload_end segment.now }
 {
-    let end = match segment.size {
+    match segment.size {
         Some(size) => segment.offset.saturating_add(size),
         None => u64::MAX,
-    };
-    end.saturating_sub(loaded as u64)
+    }
 }
 
 /// Writes the plaintext of the payload of an image, whose first bytes are loaded: each sector as it
-/// comes.
+/// comes. Read-ahead is allowed up to the payload's end.
 pub fn write_payload<I: Source, O: Sink>(
     segment: Segment,
     cipher: SectorCipher,
@@ -67,12 +65,12 @@ pub fn write_payload<I: Source, O: Sink>(
     ensures only { PayloadMessage (result_message result) }
     ensures reads { (ended : Bool)
         × Reads (is_run_read_failure (result_message result)) ended
-        (with_payload_ahead segment (length loaded.now) (I.counts image.old)) (I.counts image.new)
+        (with_payload_allowed segment (I.counts image.old)) (I.counts image.new)
         × HitsPayloadEof (result_message result) ended }
     ensures writes { Writes (is_run_write_failure (result_message result))
         (O.counts out.old) (O.counts out.new) }
 {
-    image.allow_read_ahead(bytes_needed(&segment, loaded.len()));
+    image.allow_read_ahead(payload_end(&segment));
     let mut pump = pump_after(segment, cipher, loaded);
     'sectors: for _ in 0..u64::MAX {
         match pump.step(image, out)? {

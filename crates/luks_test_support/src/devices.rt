@@ -18,7 +18,8 @@ pub struct FlakySource<'a> {
     piece: usize,
     failing: u64,
     calls: u64,
-    /// How many calls failed, hit the end, and were needless.
+    /// How many calls failed, hit the end, and were needless; how many bytes were consumed, and up
+    /// to which position read-ahead was allowed.
     pub counts: ReadCounts,
 }
 
@@ -73,6 +74,10 @@ impl<'a> Source for FlakySource<'a> {
         buf[..count].copy_from_slice(now);
         self.left = later;
         self.counts.count(Ok(count), buf.len())
+    }
+
+    fn allow_read_ahead(&mut self, end: u64) {
+        self.counts.allow(end);
     }
 }
 
@@ -154,7 +159,8 @@ impl Sink for FlakySink {
 pub struct BrokenSource<'a> {
     left: &'a [u8],
     given: usize,
-    /// How many calls failed, hit the end, and were needless.
+    /// How many calls failed, hit the end, and were needless; how many bytes were consumed, and up
+    /// to which position read-ahead was allowed.
     pub counts: ReadCounts,
 }
 
@@ -198,5 +204,9 @@ impl<'a> Source for BrokenSource<'a> {
         buf[..count].copy_from_slice(now);
         self.left = later;
         self.counts.count(Ok(count), buf.len())
+    }
+
+    fn allow_read_ahead(&mut self, end: u64) {
+        self.counts.allow(end);
     }
 }

@@ -72,7 +72,7 @@ reads_after_end failed ended a b c first kept next = record {
   failures = next.failures ∙ ap (counted failed) first.failures;
   ends = ap (λ (counts : ReadCounts). counts.ends) kept ∙ first.ends;
   needed = λ live. ap (λ (counts : ReadCounts). counts.needless) kept ∙ first.needed live;
-  ahead = omega (arith, first.ahead, next.ahead);
+  reached = next.reached ∙ first.reached;
 }
 
 -- reads without a failure and further reads count as one run of reads, if none was made after the end

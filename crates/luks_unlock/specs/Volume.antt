@@ -212,12 +212,12 @@ TriesSlots named segment order pass area area' rest left (Err message) =
     ⊎ ((fault : OpenFault) × (message ≡ message_for_opening named fault)
     × (key_material_end order.entries ≤ length area') × (opening_of order area' pass ≡ Err fault))))
 
--- the key material is loaded, and the count of work was raised once by the evaluations of HMAC that trying the key
--- slots costs; or the message says that they were not tried, and the count is what it was
+-- if the key material is loaded, the key slots were tried, and the count of work was raised once by the evaluations of
+-- HMAC that this costs; otherwise they were not tried, and the count is what it was
 abbrev pub CountsTrials : OrderModel → List ℕ → List ℕ → Message → ℕ → ℕ → Type 0
 CountsTrials order area pass message work work' =
     ((key_material_end order.entries ≤ length area) × (work' ≡ capped (work + work_of order area pass)))
-    ⊎ ((ends_untried message ≡ true) × (work' ≡ work))
+    ⊎ ((length area < key_material_end order.entries) × (ends_untried message ≡ true) × (work' ≡ work))
 
 -- trying the key slots hit the image's end only if the message is that the image ended
 abbrev pub HitsMaterialEof : Message → Bool → Type 0

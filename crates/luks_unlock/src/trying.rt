@@ -19,9 +19,10 @@ use luks_report::message::Message;
 use luks_request::command::SlotChoice;
 
 /// Tries the key slots of a volume under a passphrase, after reading on in the image up to the end
-/// of the last key material. Nothing is read if the end of the image was hit before. If [`open`] is
-/// called, the count of work is raised by its cost, once; otherwise the count stays. `image` is the
-/// image with an attached header, or the file of a detached one.
+/// of the last key material. Nothing is read if the end of the image was hit before. If all key
+/// material was loaded, the slots were tried, and the count of work is raised by what that costs,
+/// once; otherwise the count stays. `image` is the image with an attached header, or the file of a
+/// detached one.
 pub fn try_slots<I: Source>(
     slots: SlotChoice,
     volume: &mut FoundVolume,

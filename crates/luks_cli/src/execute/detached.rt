@@ -39,9 +39,12 @@ pub fn execute_detached<H: Source, I: Source, K: Source, O: Sink>(
         (record { before = H.to_come header.old; after = H.to_come header.new })
         (record { before = I.to_come image.old; after = I.to_come image.new })
         (record { before = K.to_come secret.old; after = K.to_come secret.new })
-        (record { before = O.written out.old; after = O.written out.new })
-        × CountsWork HeaderLocation.Detached (request_of command.now) result.message result.work
-        (H.to_come header.old) (K.to_come secret.old) }
+        (record { before = O.written out.old; after = O.written out.new }) }
+    ensures work { CountsWork HeaderLocation.Detached (request_of command.now) result.message
+        result.work
+        (record { before = H.to_come header.old; after = H.to_come header.new })
+        (K.to_come secret.old)
+        (record { before = K.counts secret.old; after = K.counts secret.new }) }
     ensures only { MayReport (request_of command.now) result.message }
     ensures unneeded { NeedsNoSecret detached_header_of (request_of command.now)
         (H.to_come header.old) → secret.new ≡ secret.old }
@@ -50,7 +53,7 @@ pub fn execute_detached<H: Source, I: Source, K: Source, O: Sink>(
     ensures reads_first { ReadsFirst (request_of command.now) → result.message ≡ Message.ReadFailed
         → out.new ≡ out.old }
     ensures calls { CountsCallsDetached (ReadsImage HeaderLocation.Detached
-        (request_of command.now) (H.to_come header.old) (K.to_come secret.old))
+        (request_of command.now) result.message (H.to_come header.old) (K.to_come secret.old))
         result.message (record { before = H.counts header.old; after = H.counts header.new })
         (record { before = I.counts image.old; after = I.counts image.new })
         (record { before = K.counts secret.old; after = K.counts secret.new })

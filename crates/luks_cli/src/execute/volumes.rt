@@ -1,17 +1,17 @@
 //! `testPassphrase` and `luksCat`: volumes that a passphrase opens.
 
 ghost use Rattle.std.specs.Prelude.{◌≡◌, ◌<◌, ◌⊎◌, ◌^◌, [], Bool};
-ghost use Rattle.std.specs.Prelude.{IfOk, IfErr, false, is_err, length, true};
+ghost use Rattle.std.specs.Prelude.{IfOk, IfErr, MatchResult, false, is_err, length, true};
 ghost use Rattle.luks_io.specs.Counts.{Reads, Writes};
-ghost use Rattle.luks_io.specs.Devices.{Appended, ConsumedExactly, IfKnown};
+ghost use Rattle.luks_io.specs.Devices.{Appended, ConsumedExactly, IfKnown, counted};
 ghost use Rattle.luks_unlock.specs.Volume.{MatchesHeader};
 ghost use Rattle.luks_unlock.specs.Volume.{OpeningMessage};
-ghost use Rattle.luks_unlock.specs.Volume.{CountsTrials, opened_of};
+ghost use Rattle.luks_unlock.specs.Volume.{CountsTrials, ends_untried, opened_of};
 ghost use Rattle.luks_unlock.specs.Volume.{detached_payload_outcome, payload_outcome, slot_outcome};
 ghost use Rattle.luks_unlock.specs.Volume.{volume_by, volume_of, volume_outcome, volume_outcome_by};
 ghost use Rattle.luks_report.specs.Texts.{opened_line};
 ghost use Rattle.luks_runs.specs.RunMessages.{PayloadMessage};
-ghost use Rattle.luks_runs.specs.Payload.{ForwardsLoaded, with_payload_ahead};
+ghost use Rattle.luks_runs.specs.Payload.{ForwardsLoaded, with_payload_allowed};
 ghost use Rattle.luks_runs.specs.Run.{Prints};
 ghost use Rattle.luks_runs.specs.Location.{detached_header_of};
 ghost use Rattle.luks_runs.specs.Run.{RunMatches, DetachedRunMatches, AnyPromptness};
@@ -19,7 +19,7 @@ ghost use Rattle.luks_runs.specs.Run.{is_run_read_failure, is_run_write_failure,
 ghost use Rattle.luks_runs.specs.Location.{LoadedFrom, reader_for};
 ghost use Rattle.luks_cli.specs.CommandRun.{CatAllows, CountsCalls, CountsReads, ReadsOnce};
 ghost use Rattle.luks_cli.specs.CommandRun.{CountsCallsDetached, EndsWithoutKey, ReadsPayload};
-ghost use Rattle.luks_cli.specs.CommandRun.{CountsOpening, EndsLocked, PromptCat};
+ghost use Rattle.luks_cli.specs.CommandRun.{CountsOpening, CountsTried, EndsLocked, PromptCat};
 ghost use Rattle.luks_cli.specs.CommandRun.{UnlockEffect, Unlocks};
 
 use luks_header::area::HeaderArea;
@@ -65,8 +65,12 @@ fn unlock_found<I: Source, K: Source>(
     ensures only { IfErr result OpeningMessage }
     ensures counts { CountsReads ReadsOnce (is_run_read_failure (result_message result))
         (I.counts image.old) (I.counts image.new) (K.counts secret.old) (K.counts secret.new) }
-    ensures work { IfKnown (K.to_come secret.old) (λ passphrase. CountsTrials volume.old.order
-        volume.new.area.bytes passphrase (result_message result) work.old work.new) }
+    ensures work { IfKnown (K.to_come secret.old) (λ passphrase.
+        (((K.counts secret.new).ends ≡ counted true (K.counts secret.old).ends)
+        × CountsTrials volume.old.order volume.new.area.bytes passphrase (result_message result)
+        work.old work.new)
+        ⊎ ((is_err result ≡ true) × (ends_untried (result_message result) ≡ true)
+        × ((K.counts secret.new).ends ≡ (K.counts secret.old).ends) × (work.new ≡ work.old))) }
     ensures ended { volume.old.area.ended ≡ true → image.new ≡ image.old }
     ensures still { IfOk result (λ _. (volume.new.area.ended ≡ volume.old.area.ended)
         × Reads false false (I.counts image.old) (I.counts image.new)) }
@@ -108,8 +112,11 @@ fn unlock<I: Source, K: Source>(
     ensures counts { CountsReads ReadsOnce (is_run_read_failure (result_message result))
         (I.counts image.old) (I.counts image.new) (K.counts secret.old) (K.counts secret.new) }
     ensures work { IfKnown (I.to_come image.old) (λ known.
-        IfKnown (K.to_come secret.old) (λ passphrase. CountsOpening location slots known
-        passphrase (result_message result) work.old work.new)) }
+        IfKnown (K.to_come secret.old) (λ passphrase. MatchResult result
+        (λ _. CountsTried location slots known passphrase (I.to_come image.new)
+        (K.counts secret.old) (K.counts secret.new) work.old work.new)
+        (λ message. CountsOpening location slots known passphrase message (I.to_come image.new)
+        (K.counts secret.old) (K.counts secret.new) work.old work.new))) }
     ensures loaded { IfOk result (λ unlocked. LoadedFrom unlocked.area (I.to_come image.old)
         (I.to_come image.new) (I.counts image.old) (I.counts image.new)) }
 {
@@ -159,7 +166,8 @@ pub(super) fn test_passphrase<I: Source, K: Source, O: Sink>(
     ensures reads_first { result_message result ≡ Message.ReadFailed → out.new ≡ out.old }
     ensures work { IfKnown (I.to_come image.old) (λ known.
         IfKnown (K.to_come secret.old) (λ passphrase. CountsOpening location slots known
-        passphrase (result_message result) work.old work.new)) }
+        passphrase (result_message result) (I.to_come image.new) (K.counts secret.old)
+        (K.counts secret.new) work.old work.new)) }
     ensures calls { CountsCalls ReadsOnce (result_message result)
         (I.counts image.old) (I.counts image.new) (K.counts secret.old) (K.counts secret.new)
         (O.counts out.old) (O.counts out.new) }
@@ -184,8 +192,7 @@ fn write_plain<I: Source, O: Sink>(
         (O.written out.new) (result_message result) }
     ensures only { PayloadMessage (result_message result) }
     ensures reads { (ended : Bool) × Reads (is_run_read_failure (result_message result)) ended
-        (with_payload_ahead volume.now.segment (length loaded.now) (I.counts image.old))
-        (I.counts image.new) }
+        (with_payload_allowed volume.now.segment (I.counts image.old)) (I.counts image.new) }
     ensures writes { Writes (is_run_write_failure (result_message result))
         (O.counts out.old) (O.counts out.new) }
 {
@@ -213,10 +220,11 @@ pub(super) fn cat<I: Source, K: Source, O: Sink>(
         is_err (volume_of slots known) ≡ true → secret.new ≡ secret.old) }
     ensures work { IfKnown (I.to_come image.old) (λ known.
         IfKnown (K.to_come secret.old) (λ passphrase. CountsOpening HeaderLocation.Attached slots
-        known passphrase (result_message result) work.old work.new)) }
+        known passphrase (result_message result) (I.to_come image.new) (K.counts secret.old)
+        (K.counts secret.new) work.old work.new)) }
     ensures calls { CountsCalls
-        (ReadsPayload (CatAllows HeaderLocation.Attached slots (I.to_come image.old)
-        (K.to_come secret.old))) (result_message result)
+        (ReadsPayload (CatAllows HeaderLocation.Attached slots (result_message result)
+        (I.to_come image.old) (K.to_come secret.old))) (result_message result)
         (I.counts image.old) (I.counts image.new) (K.counts secret.old) (K.counts secret.new)
         (O.counts out.old) (O.counts out.new) }
 {
@@ -254,11 +262,12 @@ pub(super) fn cat_detached<H: Source, I: Source, K: Source, O: Sink>(
         → secret.new ≡ secret.old) }
     ensures work { IfKnown (H.to_come header.old) (λ file.
         IfKnown (K.to_come secret.old) (λ passphrase. CountsOpening HeaderLocation.Detached slots
-        file passphrase (result_message result) work.old work.new)) }
+        file passphrase (result_message result) (H.to_come header.new) (K.counts secret.old)
+        (K.counts secret.new) work.old work.new)) }
     ensures before_key { EndsWithoutKey (result_message result) → image.new ≡ image.old }
     ensures calls { CountsCallsDetached
-        (ReadsPayload (CatAllows HeaderLocation.Detached slots (H.to_come header.old)
-        (K.to_come secret.old)))
+        (ReadsPayload (CatAllows HeaderLocation.Detached slots (result_message result)
+        (H.to_come header.old) (K.to_come secret.old)))
         (result_message result)
         (record { before = H.counts header.old; after = H.counts header.new })
         (record { before = I.counts image.old; after = I.counts image.new })

@@ -38,6 +38,7 @@ returns-in-Err-clause-consumed g c =
 pub returns-in-Ok-clause-loads : goal.returns-in-Ok-clause-loads
 returns-in-Ok-clause-loads g c = record {
   whole = grind (arith, common_steps);
+  fewer = search rules;
   within = grind (arith, common_steps);
   kept = grind (arith, common_steps);
   only = search rules;
@@ -49,6 +50,7 @@ returns-in-Ok-clause-reads g c = grind (arith, common_steps)
 pub returns-in-Err-clause-loads : goal.returns-in-Err-clause-loads
 returns-in-Err-clause-loads g c = record {
   whole = search rules;
+  fewer = grind (arith, common_steps);
   within = grind (arith, common_steps);
   kept = grind (arith, common_steps);
   only = search rules;

@@ -11,8 +11,8 @@ use std::process::Abort;
 
 const BYTES: &[u8] = b"abcdefghij";
 
-/// How much read-ahead is allowed, how many bytes are requested, and the answer. Afterwards the
-/// source below has this many bytes left, and was called this often.
+/// Up to which position read-ahead is allowed, how many bytes are requested, and the answer.
+/// Afterwards the source below has this many bytes left, and was called this often.
 type Step = (Option<u64>, usize, Result<usize, DeviceFault>, usize, u64);
 
 /// A source with capacity for four bytes, over one that gives at most this many bytes a call, or
@@ -40,7 +40,7 @@ static ROWS: [Row; 7] = [
         &[
             (None, 1, Ok(1), 9, 1),
             (None, 2, Ok(2), 7, 2),
-            (Some(3), 1, Ok(1), 4, 3),
+            (Some(6), 1, Ok(1), 4, 3),
             (None, 2, Ok(2), 4, 3),
             (None, 1, Ok(1), 3, 4),
             (None, 1, Ok(1), 2, 5),
@@ -60,26 +60,26 @@ static ROWS: [Row; 7] = [
         (0, 1, 0),
     ),
     (
-        "buffered bytes count as allowed",
+        "what was allowed stays allowed",
         (0, 99),
         &[
             (Some(10), 1, Ok(1), 6, 1),
-            (Some(4), 3, Ok(3), 6, 1),
+            (Some(5), 3, Ok(3), 6, 1),
             (None, 0, Ok(0), 6, 1),
-            (None, 1, Ok(1), 5, 2),
-            (None, 1, Ok(1), 4, 3),
-            (Some(2), 0, Ok(0), 4, 3),
-            (Some(0), 1, Ok(1), 3, 4),
+            (None, 1, Ok(1), 2, 2),
+            (Some(0), 1, Ok(1), 2, 2),
         ],
         (0, 0, 0),
     ),
     (
-        "gives more than a later call allows",
+        "a position that was passed allows nothing",
         (0, 99),
         &[
-            (Some(10), 1, Ok(1), 6, 1),
-            (Some(2), 4, Ok(3), 6, 1),
-            (None, 2, Ok(2), 4, 2),
+            (None, 3, Ok(3), 7, 1),
+            (Some(2), 1, Ok(1), 6, 2),
+            (Some(6), 1, Ok(1), 4, 3),
+            (None, 2, Ok(1), 4, 3),
+            (None, 1, Ok(1), 3, 4),
         ],
         (0, 0, 0),
     ),
@@ -115,8 +115,8 @@ fn goes_as_expected(
     source: &mut ReadAheadSource<FlakySource<'_>>,
     (allowed, requested, answer, left, calls): &Step,
 ) -> bool {
-    if let Some(count) = allowed {
-        source.allow_read_ahead(*count);
+    if let Some(end) = allowed {
+        source.allow_read_ahead(*end);
     }
     let mut buf = [b'-'; 16];
     let got = source.read(&mut buf[..*requested.min(&16)]);

@@ -21,7 +21,8 @@ writes_plain o message image image' secret secret' written written' runs =
 
 pub returns-in-IsLuks : goal.returns-in-IsLuks
 returns-in-IsLuks g c = let said = c.report.ensures in rw (said.0, said.1, c.in-IsLuks.is) (record {
-  run = ((λ known is _ _ _. c.is_luks.ensures.run _ known is), c.new-work.ensures);
+  run = λ known is _ _ _. c.is_luks.ensures.run _ known is;
+  work = c.new-work.ensures;
   honest = tt;
   only = c.is_luks.ensures.only;
   unneeded = λ _. refl;
@@ -31,7 +32,8 @@ returns-in-IsLuks g c = let said = c.report.ensures in rw (said.0, said.1, c.in-
 
 pub returns-in-LuksUuid : goal.returns-in-LuksUuid
 returns-in-LuksUuid g c = let said = c.report-in-LuksUuid.ensures in rw (said.0, said.1, c.in-LuksUuid.is) (record {
-  run = ((λ known is _ _ _. c.print.ensures.run known is), c.new-work.ensures);
+  run = λ known is _ _ _. c.print.ensures.run known is;
+  work = c.new-work.ensures;
   honest = tt;
   only = c.print.ensures.only;
   unneeded = λ _. refl;
@@ -41,7 +43,8 @@ returns-in-LuksUuid g c = let said = c.report-in-LuksUuid.ensures in rw (said.0,
 
 pub returns-in-LuksDump : goal.returns-in-LuksDump
 returns-in-LuksDump g c = let said = c.report-in-LuksDump.ensures in rw (said.0, said.1, c.in-LuksDump.is) (record {
-  run = ((λ known is _ _ _. c.print-in-LuksDump.ensures.run known is), c.new-work.ensures);
+  run = λ known is _ _ _. c.print-in-LuksDump.ensures.run known is;
+  work = c.new-work.ensures;
   honest = tt;
   only = c.print-in-LuksDump.ensures.only;
   unneeded = λ _. refl;
@@ -52,7 +55,8 @@ returns-in-LuksDump g c = let said = c.report-in-LuksDump.ensures in rw (said.0,
 
 pub returns-in-LuksCheck : goal.returns-in-LuksCheck
 returns-in-LuksCheck g c = let said = c.report-in-LuksCheck.ensures in rw (said.0, said.1, c.in-LuksCheck.is) (record {
-  run = ((λ known is _ _ _. c.print-in-LuksCheck.ensures.run known is), c.new-work.ensures);
+  run = λ known is _ _ _. c.print-in-LuksCheck.ensures.run known is;
+  work = c.new-work.ensures;
   honest = tt;
   only = c.print-in-LuksCheck.ensures.only;
   unneeded = λ _. refl;
@@ -64,10 +68,8 @@ returns-in-LuksCheck g c = let said = c.report-in-LuksCheck.ensures in rw (said.
 pub returns-in-TestPassphrase : goal.returns-in-TestPassphrase
 returns-in-TestPassphrase g c =
     let said = c.report-in-TestPassphrase.ensures in rw (said.0, said.1, c.in-TestPassphrase.is) (record {
-      run = (
-        (λ known is pass secret _. c.test_passphrase.ensures.run known is pass secret),
-        rw c.new-work.ensures at c.test_passphrase.ensures.work,
-      );
+      run = λ known is pass secret _. c.test_passphrase.ensures.run known is pass secret;
+      work = rw c.new-work.ensures at c.test_passphrase.ensures.work;
       honest = tt;
       only = c.test_passphrase.ensures.only;
       unneeded = λ needs. c.test_passphrase.ensures.unneeded needs.0 needs.1 needs.2;
@@ -77,10 +79,8 @@ returns-in-TestPassphrase g c =
 
 pub returns-in-LuksCat : goal.returns-in-LuksCat
 returns-in-LuksCat g c = let said = c.report-in-LuksCat.ensures in rw (said.0, said.1, c.in-LuksCat.is) (record {
-  run = (
-    (λ known is pass secret counted. c.cat.ensures.run known is pass secret counted),
-    rw c.new-work.ensures at c.cat.ensures.work,
-  );
+  run = λ known is pass secret counted. c.cat.ensures.run known is pass secret counted;
+  work = rw c.new-work.ensures at c.cat.ensures.work;
   honest = writes_plain (volume_request c.in-LuksCat.volume_args) (result_message c.cat.result) _ _ _ _ _ _
       c.cat.ensures.run;
   only = c.cat.ensures.only;
@@ -91,7 +91,8 @@ returns-in-LuksCat g c = let said = c.report-in-LuksCat.ensures in rw (said.0, s
 
 pub returns-in-AfSplit : goal.returns-in-AfSplit
 returns-in-AfSplit g c = let said = c.report-in-AfSplit.ensures in rw (said.0, said.1, c.in-AfSplit.is) (record {
-  run = ((λ known is random has _. c.split.ensures.run known is random has), c.new-work.ensures);
+  run = λ known is random has _. c.split.ensures.run known is random has;
+  work = c.new-work.ensures;
   honest = tt;
   only = c.split.ensures.only;
   unneeded = λ needs. c.split.ensures.unneeded needs.0 needs.1 needs.2;
@@ -104,7 +105,8 @@ returns-in-AfSplit g c = let said = c.report-in-AfSplit.ensures in rw (said.0, s
 
 pub returns-in-AfMerge : goal.returns-in-AfMerge
 returns-in-AfMerge g c = let said = c.report-in-AfMerge.ensures in rw (said.0, said.1, c.in-AfMerge.is) (record {
-  run = ((λ known is _ _ _. c.merge.ensures.run known is), c.new-work.ensures);
+  run = λ known is _ _ _. c.merge.ensures.run known is;
+  work = c.new-work.ensures;
   honest = tt;
   only = c.merge.ensures.only;
   unneeded = λ _. refl;

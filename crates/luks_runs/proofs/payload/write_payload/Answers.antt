@@ -2,7 +2,7 @@ use Rattle.std.proofs.Common.{◌+◌, ap, arith, inl, inr, refl}
 use Rattle.luks_io.proofs.ErrorLemmas.{given_error}
 use Rattle.luks_io.proofs.EffectLemmas.{no_writes, reads_more, writes_more}
 use Rattle.luks_runs.proofs.PayloadLemmas.{few_sectors, forwarding_aborts, forwarding_ends, forwarding_more}
-use Rattle.luks_runs.proofs.PayloadLemmas.{forwarding_start, reads_with_ahead_allowed}
+use Rattle.luks_runs.proofs.PayloadLemmas.{forwarding_start, reads_with_payload_allowed}
 use Rattle.luks_runs.proofs.payload.write_payload.Goals as goal
 
 pub sectors-init : goal.sectors-init
@@ -13,8 +13,8 @@ sectors-init g c =
       cipher = made.cipher;
       count = made.count;
       running = elim made.state [ inl before ↦ rw before.0 refl | inr within ↦ rw within refl ];
-      reads = reads_with_ahead_allowed c.args.segment _ _ _ c.allow_read_ahead.ensures.counts
-          (rw c.bytes_needed.ensures at c.allow_read_ahead.ensures.ahead);
+      reads = reads_with_payload_allowed c.args.segment _ _
+          (rw c.payload_end.ensures at c.allow_read_ahead.ensures.counts);
       writes = no_writes _;
       forwarding = λ whole few prefix consumption.
           forwarding_start _ whole _ _ _ made.count (rw (← made.segment) at made.early) made.state made.consumed_to

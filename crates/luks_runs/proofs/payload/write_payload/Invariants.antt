@@ -2,7 +2,7 @@ use Rattle.std.proofs.Common.{◌≡◌, ◌<◌, ◌^◌, List, ℕ, length, ta
 use Rattle.luks_io.specs.Devices.{ConsumedExactly}
 use Rattle.luks_io.specs.Counts.{Reads, Writes}
 use Rattle.luks_payload.specs.PumpEffects.{is_running}
-use Rattle.luks_runs.specs.Payload.{with_payload_ahead}
+use Rattle.luks_runs.specs.Payload.{with_payload_allowed}
 use Rattle.luks_runs.proofs.PayloadLemmas.{Forwarding}
 use Rattle.luks_runs.proofs.payload.write_payload.Given as goal
 
@@ -13,7 +13,7 @@ invariant-sectors g l = record {
   cipher : l.pump.cipher ≡ l.fn.cipher;
   count : l.pump.count ≡ l.counter;
   running : is_running l.pump.state ≡ true;
-  reads : Reads false false (with_payload_ahead l.fn.segment (length l.fn.loaded) (g.I.Source.counts l.fn.image))
+  reads : Reads false false (with_payload_allowed l.fn.segment (g.I.Source.counts l.fn.image))
       (g.I.Source.counts l.image);
   writes : Writes false (g.O.Sink.counts l.initial.out) (g.O.Sink.counts l.out);
   forwarding : (whole : List ℕ) → length whole < 2 ^ 64 → l.fn.loaded ≡ take (length l.fn.loaded) whole

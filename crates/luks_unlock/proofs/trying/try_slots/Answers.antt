@@ -16,9 +16,24 @@ returns-in_err-extend_to-clause-run g c =
 pub returns-in_err-extend_to-clause-work : goal.returns-in_err-extend_to-clause-work
 returns-in_err-extend_to-clause-work g c =
     rw (given_error _ _ c.from_residual.ensures.1) (elim c.in_err-extend_to.ensures.loads.only [
-      | inl read ↦ rw read (inr (refl, refl))
-      | inr memory ↦ rw memory (inr (refl, refl))
+      | inl read ↦ rw read (inr (rw c.held_end-end.ensures.value at c.in_err-extend_to.ensures.loads.fewer, refl, refl))
+      | inr memory ↦ rw memory
+          (inr (rw c.held_end-end.ensures.value at c.in_err-extend_to.ensures.loads.fewer, refl, refl))
     ])
+
+pub returns-then-not-branch-clause-work : goal.returns-then-not-branch-clause-work
+returns-then-not-branch-clause-work g c =
+    let whole = c.in_ok-extend_to.ensures.loads.whole in
+    inr (
+      rw c.held_end-end.ensures.value at
+          (short_from_not_whole c.in_ok-extend_to.field-0 _ _ whole c.if-not-branch.true),
+      refl,
+      refl,
+    )
+
+pub returns-then-is_cut-clause-work : goal.returns-then-is_cut-clause-work
+returns-then-is_cut-clause-work g c =
+    inr (rw c.held_end-end.ensures.value at (c.is_cut.ensures.cut c.if-is_cut.true).1, refl, refl)
 
 pub returns-then-not-branch-clause-run : goal.returns-then-not-branch-clause-run
 returns-then-not-branch-clause-run g c rest there nothing =

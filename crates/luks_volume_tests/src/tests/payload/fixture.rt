@@ -139,8 +139,8 @@ impl<S: Source> Source for ForwardCounter<S> {
         self.source.read(buf)
     }
 
-    fn allow_read_ahead(&mut self, count: u64) {
-        self.source.allow_read_ahead(count);
+    fn allow_read_ahead(&mut self, end: u64) {
+        self.source.allow_read_ahead(end);
     }
 
     fn forward_buffered<C: Transform, O: Sink>(

@@ -6,7 +6,8 @@ use Rattle.luks_cli.proofs.execute.detached.execute_detached.Goals as goal
 
 pub returns-in-IsLuks : goal.returns-in-IsLuks
 returns-in-IsLuks g c = let said = c.report.ensures in rw (said.0, said.1, c.in-IsLuks.is) (record {
-  run = ((λ file there known payload pass secret counted. c.is_luks.ensures.run _ file there), c.new-work.ensures);
+  run = λ file there known payload pass secret counted. c.is_luks.ensures.run _ file there;
+  work = c.new-work.ensures;
   only = c.is_luks.ensures.only;
   unneeded = λ _. refl;
   untouched = λ _. refl;
@@ -17,10 +18,8 @@ returns-in-IsLuks g c = let said = c.report.ensures in rw (said.0, said.1, c.in-
 
 pub returns-in-LuksUuid : goal.returns-in-LuksUuid
 returns-in-LuksUuid g c = let said = c.report-in-LuksUuid.ensures in rw (said.0, said.1, c.in-LuksUuid.is) (record {
-  run = (
-    (λ file there known payload pass secret counted. c.print.ensures.run file there),
-    c.new-work.ensures,
-  );
+  run = λ file there known payload pass secret counted. c.print.ensures.run file there;
+  work = c.new-work.ensures;
   only = c.print.ensures.only;
   unneeded = λ _. refl;
   untouched = λ _. refl;
@@ -31,10 +30,8 @@ returns-in-LuksUuid g c = let said = c.report-in-LuksUuid.ensures in rw (said.0,
 
 pub returns-in-LuksDump : goal.returns-in-LuksDump
 returns-in-LuksDump g c = let said = c.report-in-LuksDump.ensures in rw (said.0, said.1, c.in-LuksDump.is) (record {
-  run = (
-    (λ file there known payload pass secret counted. c.print-in-LuksDump.ensures.run file there),
-    c.new-work.ensures,
-  );
+  run = λ file there known payload pass secret counted. c.print-in-LuksDump.ensures.run file there;
+  work = c.new-work.ensures;
   only = c.print-in-LuksDump.ensures.only;
   unneeded = λ _. refl;
   untouched = λ _. refl;
@@ -46,10 +43,8 @@ returns-in-LuksDump g c = let said = c.report-in-LuksDump.ensures in rw (said.0,
 
 pub returns-in-LuksCheck : goal.returns-in-LuksCheck
 returns-in-LuksCheck g c = let said = c.report-in-LuksCheck.ensures in rw (said.0, said.1, c.in-LuksCheck.is) (record {
-  run = (
-    (λ file there known payload pass secret counted. c.print-in-LuksCheck.ensures.run file there),
-    c.new-work.ensures,
-  );
+  run = λ file there known payload pass secret counted. c.print-in-LuksCheck.ensures.run file there;
+  work = c.new-work.ensures;
   only = c.print-in-LuksCheck.ensures.only;
   unneeded = λ _. refl;
   untouched = λ _. refl;
@@ -62,10 +57,8 @@ returns-in-LuksCheck g c = let said = c.report-in-LuksCheck.ensures in rw (said.
 pub returns-in-TestPassphrase : goal.returns-in-TestPassphrase
 returns-in-TestPassphrase g c =
     let said = c.report-in-TestPassphrase.ensures in rw (said.0, said.1, c.in-TestPassphrase.is) (record {
-      run = (
-        (λ file there known payload pass secret counted. c.test_passphrase.ensures.run file there pass secret),
-        rw c.new-work.ensures at c.test_passphrase.ensures.work,
-      );
+      run = λ file there known payload pass secret counted. c.test_passphrase.ensures.run file there pass secret;
+      work = rw c.new-work.ensures at c.test_passphrase.ensures.work;
       only = c.test_passphrase.ensures.only;
       unneeded = λ needs. c.test_passphrase.ensures.unneeded needs.0 needs.1 needs.2;
       untouched = λ _. refl;
@@ -75,11 +68,9 @@ returns-in-TestPassphrase g c =
 
 pub returns-in-LuksCat : goal.returns-in-LuksCat
 returns-in-LuksCat g c = let said = c.report-in-LuksCat.ensures in rw (said.0, said.1, c.in-LuksCat.is) (record {
-  run = (
-    (λ file there known payload pass secret counted.
-        c.cat_detached.ensures.run file there known payload pass secret counted),
-    rw c.new-work.ensures at c.cat_detached.ensures.work,
-  );
+  run = λ file there known payload pass secret counted.
+      c.cat_detached.ensures.run file there known payload pass secret counted;
+  work = rw c.new-work.ensures at c.cat_detached.ensures.work;
   only = c.cat_detached.ensures.only;
   unneeded = λ needs. c.cat_detached.ensures.unneeded needs.0 needs.1 needs.2;
   untouched = c.cat_detached.ensures.before_key;

@@ -1,13 +1,10 @@
-use Rattle.std.proofs.Common.{◌∙◌, Some, ap, inr, max, sym, true}
+use Rattle.std.proofs.Common.{◌∙◌, Some, ap, inl, sym, true}
 use Rattle.luks_io.proofs.ErrorLemmas.{given_error}
 use Rattle.luks_io.specs.Counts.{MemSourceModel}
-use Rattle.luks_runs.specs.Run.{Outcome, result_message}
-use Rattle.luks_runs.specs.Payload.{max_needed}
+use Rattle.luks_runs.specs.Run.{result_message}
 use Rattle.luks_runs.specs.declared.location.HeaderLocation.TheVariants.{Attached}
-use Rattle.luks_unlock.specs.Volume.{slot_outcome}
-use Rattle.luks_cli.proofs.OpenedRuns.{calls_unopened, none_failed, payload_after, reads_without_payload}
+use Rattle.luks_cli.proofs.OpenedRuns.{allows_payload, calls_unopened, counts_forwarded, none_failed, payload_after, reads_without_payload}
 use Rattle.luks_cli.proofs.OpenedRuns.{loaded_from_none, loaded_whole, never_read, runs_forwarded}
-use Rattle.luks_cli.proofs.VolumeRuns.{counts_on}
 use Rattle.luks_cli.proofs.execute.volumes.cat.Goals as goal
 
 pub returns-clause-run : goal.returns-clause-run
@@ -22,19 +19,15 @@ returns-clause-calls g c =
     let unlocked = c.in_ok-unlocked.ensures in
     let segment = c.in_ok-unlocked.unlocked.volume.segment in
     let unended = sym c.has_ended.ensures ∙ c.if-has_ended.false in
-    let reads = rw c.as_slice-loaded.ensures.value at c.write_plain-2.ensures.reads in
+    let reads = c.write_plain-2.ensures.reads in
     record {
       reads = record {
         in_input = true;
         input_reads = (
           _,
-          (λ known is pass has. let u = unlocked.ok known is pass has in inr (
-            segment,
-            u.has,
-            ap (λ (o : Outcome). max (max_needed segment.size segment.offset o.input_consumed)
-                (g.I.Source.counts c.args.image.now).ahead) (sym (u.outcome (slot_outcome pass))),
-          )),
-          (reads.0, payload_after _ _ segment _ _ _ _ (rw unended at unlocked.loaded.reads) reads.1),
+          allows_payload Attached c.args.slots (result_message c.write_plain-2.result) _ _ segment _ _ _ _
+              c.write_plain-2.ensures.only unlocked.ok,
+          (reads.0, payload_after _ _ segment _ _ _ (rw unended at unlocked.loaded.reads) reads.1),
         );
         secret_reads = none_failed _ _ _ unlocked.counts.secret_reads;
       };
@@ -46,7 +39,7 @@ returns-in_err-unlocked-clause-calls g c =
     let stop = c.in_err-unlocked.ensures in
     rw (given_error _ _ c.from_residual.ensures.1)
     (calls_unopened _ _ stop.only
-    (reads_without_payload Attached c.args.slots _ _ _ _ _ _ _ stop.counts))
+    (reads_without_payload Attached c.args.slots _ _ _ _ _ _ _ _ stop.counts))
 
 -- ---- the image's end was hit: its payload is forwarded from memory
 
@@ -55,19 +48,18 @@ returns-then-has_ended-clause-run g c known is pass has counted =
     let unlocked = c.in_ok-unlocked.ensures in
     let u = unlocked.ok known is pass has in
     let none = unlocked.loaded.emptied (sym c.has_ended.ensures ∙ c.if-has_ended.true) known is in
-    let unread = never_read (result_message c.write_plain.result) c.write_plain.ensures.reads.1.failures in
     let forwarded = rw c.as_slice-loaded.ensures.value at (c.write_plain.ensures.run known counted) in
     let source = ap (λ (m : MemSourceModel). Some m.left) c.new.ensures in
     runs_forwarded _ known pass _ _ _ _ _ u _ _ _ _ (result_message c.write_plain.result)
     c.write_plain.ensures.only (forwarded u.prefix (rw source (loaded_from_none _ known pass _ _ _ _ _ u none)))
-    (λ n most consumption. loaded_whole _ known pass _ _ _ _ _ u none n (most unread) consumption.within)
+    (λ n most consumption. loaded_whole _ known pass _ _ _ _ _ u none n most consumption.within)
 
 pub returns-then-has_ended-clause-calls : goal.returns-then-has_ended-clause-calls
 returns-then-has_ended-clause-calls g c =
     let counts = c.in_ok-unlocked.ensures.counts in
     let unread = never_read (result_message c.write_plain.result) c.write_plain.ensures.reads.1.failures in
     record {
-      reads = rw unread (reads_without_payload Attached c.args.slots _ _ _ _ _ _ _ counts);
+      reads = rw unread (reads_without_payload Attached c.args.slots _ _ _ _ _ _ _ _ counts);
       out_writes = c.write_plain.ensures.writes;
     }
 
@@ -76,8 +68,12 @@ returns-in_err-unlocked-clause-work g c = rw (given_error _ _ c.from_residual.en
 
 pub returns-clause-work : goal.returns-clause-work
 returns-clause-work g c known is pass has =
-    counts_on Attached c.args.slots known pass _ _ _ (c.in_ok-unlocked.ensures.work known is pass has)
+    let u = c.in_ok-unlocked.ensures.ok known is pass has in
+    let tried = c.in_ok-unlocked.ensures.work known is pass has in
+    inl (counts_forwarded _ known pass _ _ _ _ _ _ _ _ _ _ _ _ (result_message c.write_plain-2.result) u tried
+    (λ counted.
+    let forwarded = rw c.as_slice-loaded.ensures.value at (c.write_plain-2.ensures.run known counted) in
+    forwarded u.prefix u.input_consumed))
 
 pub returns-then-has_ended-clause-work : goal.returns-then-has_ended-clause-work
-returns-then-has_ended-clause-work g c known is pass has =
-    counts_on Attached c.args.slots known pass _ _ _ (c.in_ok-unlocked.ensures.work known is pass has)
+returns-then-has_ended-clause-work g c known is pass has = inl (c.in_ok-unlocked.ensures.work known is pass has)

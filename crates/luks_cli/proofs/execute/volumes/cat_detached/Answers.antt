@@ -1,14 +1,13 @@
-use Rattle.std.proofs.Common.{inl, inr, refl, true}
+use Rattle.std.proofs.Common.{inl, refl, true}
 use Rattle.luks_io.proofs.ErrorLemmas.{given_error}
 use Rattle.luks_io.proofs.EffectLemmas.{consumed-none}
 use Rattle.luks_io.specs.Devices.{ConsumedExactly}
 use Rattle.luks_runs.specs.Run.{result_message}
 use Rattle.luks_runs.specs.declared.location.HeaderLocation.TheVariants.{Detached}
 use Rattle.luks_unlock.specs.Volume.{detached_payload_outcome}
-use Rattle.luks_cli.proofs.OpenedRuns.{detached_calls_without_payload, calls_unopened, none_read}
+use Rattle.luks_cli.proofs.OpenedRuns.{allows_payload, detached_calls_without_payload, calls_unopened, none_allowed, none_read}
 use Rattle.luks_cli.proofs.OpenedRuns.{detached_payload_consumes_loaded, detached_runs_forwarded, runs_at, with_key}
 use Rattle.luks_cli.specs.CommandRun.{ReadsOnce, PromptCat}
-use Rattle.luks_cli.proofs.VolumeRuns.{counts_on}
 use Rattle.luks_cli.proofs.execute.volumes.cat_detached.Goals as goal
 
 pub returns-in_err-unlocked-clause-run : goal.returns-in_err-unlocked-clause-run
@@ -33,7 +32,7 @@ pub returns-in_err-unlocked-clause-calls : goal.returns-in_err-unlocked-clause-c
 returns-in_err-unlocked-clause-calls g c =
     let stop = c.in_err-unlocked.ensures in
     rw (given_error _ _ c.from_residual.ensures.1)
-    (detached_calls_without_payload _ (_, (λ file there pass has. inl refl), none_read _)
+    (detached_calls_without_payload _ (none_allowed Detached c.args.slots _ _ _ _ _ _ (none_read _))
     (calls_unopened ReadsOnce _ stop.only stop.counts))
 
 pub returns-clause-calls : goal.returns-clause-calls
@@ -43,7 +42,12 @@ returns-clause-calls g c =
     record {
       in_payload = true;
       reads = unlocked.counts;
-      payload_reads = (_, (λ file is pass has. inr (_, (unlocked.ok file is pass has).has, refl)), forwarded.reads);
+      payload_reads = (
+        _,
+        allows_payload Detached c.args.slots (result_message c.write_plain.result) _ _ _ _ _ _ _ forwarded.only
+            unlocked.ok,
+        forwarded.reads,
+      );
       out_writes = forwarded.writes;
     }
 
@@ -52,4 +56,4 @@ returns-in_err-unlocked-clause-work g c = rw (given_error _ _ c.from_residual.en
 
 pub returns-clause-work : goal.returns-clause-work
 returns-clause-work g c known is pass has =
-    counts_on Detached c.args.slots known pass _ _ _ (c.in_ok-unlocked.ensures.work known is pass has)
+    inl (c.in_ok-unlocked.ensures.work known is pass has)

@@ -1,10 +1,9 @@
-use Rattle.std.proofs.Common.{refl}
+use Rattle.std.proofs.Common.{inl, refl}
 use Rattle.luks_io.proofs.ErrorLemmas.{given_error}
 use Rattle.luks_unlock.specs.Volume.{slot_outcome}
 use Rattle.luks_runs.specs.Run.{AnyPromptness, ConsumedNothing, result_message}
 use Rattle.luks_cli.proofs.OpenedRuns.{calls_unopened, runs_at, runs_slot, slot_message, slot_consumes_loaded}
 use Rattle.luks_cli.specs.CommandRun.{ReadsOnce}
-use Rattle.luks_cli.proofs.VolumeRuns.{counts_on}
 use Rattle.luks_cli.proofs.execute.volumes.test_passphrase.Goals as goal
 
 pub returns-in_err-unlocked-clause-run : goal.returns-in_err-unlocked-clause-run
@@ -45,4 +44,4 @@ returns-in_err-unlocked-clause-work g c = rw (given_error _ _ c.from_residual.en
 
 pub returns-clause-work : goal.returns-clause-work
 returns-clause-work g c known is pass has =
-    counts_on c.args.location c.args.slots known pass _ _ _ (c.in_ok-unlocked.ensures.work known is pass has)
+    inl (c.in_ok-unlocked.ensures.work known is pass has)

@@ -1,8 +1,8 @@
-use Rattle.std.proofs.Common.{◌∙◌, [], Some, ap, false}
+use Rattle.std.proofs.Common.{◌∙◌, [], Some, ap, false, inl, inr, refl}
 use Rattle.luks_io.proofs.ErrorLemmas.{given_error}
 use Rattle.luks_unlock.proofs.VolumeLemmas.{none_remain, reads_within, there_is_volume}
 use Rattle.luks_cli.proofs.OpenedRuns.{reads_before, reads_of_image}
-use Rattle.luks_cli.proofs.VolumeRuns.{counts_opening, counts_without_volume, runs_without_key, runs_without_volume}
+use Rattle.luks_cli.proofs.VolumeRuns.{counts_opening, counts_unlocked, early_without_volume, runs_without_key, runs_without_volume}
 use Rattle.luks_cli.proofs.VolumeRuns.{unlocks_volume}
 use Rattle.luks_cli.proofs.execute.volumes.unlock.Goals as goal
 
@@ -14,8 +14,13 @@ returns-in_err-volume-clause-err g c =
 
 pub returns-in_err-volume-clause-work : goal.returns-in_err-volume-clause-work
 returns-in_err-volume-clause-work g c =
-    rw (given_error _ _ c.from_residual.ensures.1) (λ known is pass has.
-    counts_without_volume c.args.location c.args.slots known pass _ _ _ (c.in_err-volume.ensures.err known is))
+    rw (given_error _ _ c.from_residual.ensures.1) (λ known is pass has. inr (
+      record {
+        unread = inl refl;
+        early = early_without_volume c.args.location c.args.slots known _ _ (c.in_err-volume.ensures.err known is);
+      },
+      refl,
+    ))
 
 pub returns-in_err-volume-clause-counts : goal.returns-in_err-volume-clause-counts
 returns-in_err-volume-clause-counts g c =
@@ -35,10 +40,14 @@ returns-in_err-opened-clause-work g c =
     rw (given_error _ _ c.from_residual-in_err-opened.ensures.1) (λ known is pass has.
     let found = c.in_ok-volume.ensures.found in
     let read = found.header known is in
-    counts_opening c.args.location c.args.slots known pass _ _ (Some []) _ _ _ read.0
-    found.slots.segment found.slots.order _ _ read.1 _
-    (c.in_err-opened.ensures.run _ read.2.left pass has (none_remain _ _ _ _ _ known _ found.loaded is read.2.left))
-    _ _ (c.in_err-opened.ensures.work pass has))
+    elim (c.in_err-opened.ensures.work pass has) [
+      | inl counts ↦ counts_opening c.args.location c.args.slots known pass _ _ (Some []) _ _ _ read.0
+          found.slots.segment found.slots.order _ _ read.1 _
+          (c.in_err-opened.ensures.run _ read.2.left pass has
+          (none_remain _ _ _ _ _ known _ found.loaded is read.2.left))
+          _ _ counts.0 _ _ counts.1
+      | inr unread ↦ inr (record { unread = inl unread.2; early = inr unread.1 }, unread.3)
+    ])
 
 pub returns-in_err-opened-clause-unneeded : goal.returns-in_err-opened-clause-unneeded
 returns-in_err-opened-clause-unneeded g c known is none =
@@ -64,10 +73,14 @@ pub returns-clause-work : goal.returns-clause-work
 returns-clause-work g c known is pass has =
     let found = c.in_ok-volume.ensures.found in
     let read = found.header known is in
-    counts_opening c.args.location c.args.slots known pass _ _ (Some []) _ _ _ read.0
-    found.slots.segment found.slots.order _ _ read.1 _
-    (c.in_ok-opened.ensures.run _ read.2.left pass has (none_remain _ _ _ _ _ known _ found.loaded is read.2.left))
-    _ _ (c.in_ok-opened.ensures.work pass has)
+    elim (c.in_ok-opened.ensures.work pass has) [
+      | inl counts ↦ counts_unlocked c.args.location c.args.slots known pass _ _ (Some []) _ _ _ read.0
+          found.slots.segment found.slots.order _ _ read.1 _
+          (c.in_ok-opened.ensures.run _ read.2.left pass has
+          (none_remain _ _ _ _ _ known _ found.loaded is read.2.left))
+          _ _ counts.0 _ _ counts.1
+      | inr unread ↦ absurd (let wrong = unread.0 in cc)
+    ]
 
 pub returns-clause-unneeded : goal.returns-clause-unneeded
 returns-clause-unneeded g c known is none =

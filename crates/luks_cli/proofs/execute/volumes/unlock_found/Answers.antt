@@ -2,7 +2,7 @@ use Rattle.std.proofs.Common.{◌≡◌, ◌≤◌, ap, arith, false, inl, inr, 
 use Rattle.luks_io.proofs.ErrorLemmas.{given_error}
 use Rattle.luks_runs.specs.KeyFile.{max_key_file_len}
 use Rattle.luks_cli.proofs.OpenedRuns.{within_areas}
-use Rattle.luks_cli.proofs.VolumeRuns.{untried_without_key_file}
+use Rattle.luks_cli.proofs.VolumeRuns.{end_not_hit}
 use Rattle.luks_io.proofs.EffectLemmas.{no_reads}
 use Rattle.luks_cli.proofs.execute.volumes.unlock_found.Goals as goal
 
@@ -14,13 +14,18 @@ returns-in_err-passphrase-clause-run g c =
 pub returns-in_err-passphrase-clause-work : goal.returns-in_err-passphrase-clause-work
 returns-in_err-passphrase-clause-work g c =
     rw (given_error _ _ c.from_residual.ensures.1)
-    (λ pass has. inr (untried_without_key_file pass _ _ (c.in_err-passphrase.ensures.err pass has), refl))
+    (λ pass has.
+    let not_hit = end_not_hit pass _ _ (c.in_err-passphrase.ensures.err pass has) in
+    let reads = rw not_hit.0 at c.in_err-passphrase.ensures.reads in
+    inr (refl, not_hit.1, reads.ends, refl))
 
 pub returns-in_err-passphrase-clause-counts : goal.returns-in_err-passphrase-clause-counts
 returns-in_err-passphrase-clause-counts g c =
-    let passphrase = c.in_err-passphrase.ensures.reads in
-    rw (given_error _ _ c.from_residual.ensures.1)
-    (record { in_input = false; input_reads = (false, no_reads _); secret_reads = (passphrase.0, passphrase.1) })
+    rw (given_error _ _ c.from_residual.ensures.1) (record {
+      in_input = false;
+      input_reads = (false, no_reads _);
+      secret_reads = (_, c.in_err-passphrase.ensures.reads);
+    })
 
 pub returns-clause-run : goal.returns-clause-run
 returns-clause-run g c rest there pass has nothing =
@@ -32,17 +37,16 @@ returns-clause-run g c rest there pass has nothing =
 
 pub returns-clause-counts : goal.returns-clause-counts
 returns-clause-counts g c =
-    let passphrase = c.in_ok-passphrase.ensures.reads in
     record {
       in_input = true;
       input_reads = (_, c.try_slots.ensures.reads.1);
-      secret_reads = (passphrase.0, passphrase.1);
+      secret_reads = (_, c.in_ok-passphrase.ensures.reads);
     }
 
 pub returns-clause-work : goal.returns-clause-work
 returns-clause-work g c pass has =
     let whole = c.in_ok-passphrase.ensures.ok pass has in
-    rw (c.deref.ensures.value, whole.0) at c.try_slots.ensures.work
+    inl (c.in_ok-passphrase.ensures.reads.ends, rw (c.deref.ensures.value, whole.0) at c.try_slots.ensures.work)
 
 pub returns-clause-still : goal.returns-clause-still
 returns-clause-still g c =
