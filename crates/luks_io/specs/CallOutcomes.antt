@@ -1,10 +1,12 @@
--- The result of a device's answers: an interrupted call is retried a limited number of times.
+-- The result of a device's answers: an interrupted call is retried a limited number of times. Also the model of a source
+-- over such a device.
 use Rattle.std.specs.Prelude.{◌≡◌, ◌==◌, ℕ, zero, suc, ◌≤◌, List, [], ◌∷◌, length, take, Option, Some, Result, Ok, Err}
 use Rattle.std.specs.Prelude.{if◌then◌else◌, ◌<◌}
 use Rattle.std.specs.Io.KnownBytes.{Appends, Consumes, IsAtEnd, Keeps}
 use Rattle.luks_io.specs.declared.DeviceFault.{DeviceFault}
 use Rattle.luks_io.specs.declared.adapters.CallOutcome.{CallOutcome}
 use Rattle.luks_io.specs.declared.adapters.CallOutcome.TheVariants.{Moved, Interrupted, Failed}
+use Rattle.luks_io.specs.declared.counts.ReadCounts.{ReadCounts}
 
 -- a device whose answers are these gave its next one
 abbrev pub IsNextOf : List CallOutcome → CallOutcome → Option (List CallOutcome) → Type 0
@@ -55,3 +57,8 @@ OutcomeConsumes before after _ buf = Keeps before after
 abbrev pub OutcomeAppends : Option (List ℕ) → Option (List ℕ) → CallOutcome → List ℕ → Type 0
 OutcomeAppends before after (Moved n) buf = (n ≤ length buf) × Appends before after (take n buf)
 OutcomeAppends before after _ buf = Keeps before after
+
+-- a source over a reader: the reader, and the counts of the source's reads
+pub record ReadSourceModel (D : Type 0) : Type 0 where
+  pub reader : D
+  pub counts : ReadCounts

@@ -1,23 +1,25 @@
 //! `luksrd`: reads its arguments, opens the inputs, runs the command, and reports how it ended.
 //!
-//! What a run does is specified by `plan`, `execute` and `execute_detached` of `luks_cli`; only the
-//! devices are here.
+//! What a run does is specified by `plan`, `execute` and `execute_detached` of `luks_cli`, and what
+//! is decided about devices by `luks_host`; only calls of the system are here.
 #![tactic(auto)]
 
+mod descriptors;
 mod input;
-mod output;
 mod target;
 
-use input::{Input, InputFault};
+use descriptors::stand_in;
+use input::{HostInput, InputFault, open_input};
 use luks_cli::execute::{execute, execute_detached};
 use luks_cli::plan_fault::report_of_fault;
 use luks_cli::{Command, Message, NOT_OPENED, Report, not_opened_text, plan};
+use luks_host::ending::{Ending, end_run, print_ending};
+use luks_host::input::Input;
+use luks_host::output::{RawFlush, RetryingWriter};
 use luks_io::adapters::{ReadSource, WriteSink};
 use luks_io::ahead::ReadAheadSource;
-use luks_io::sink::put_all;
-use output::{RetryingWriter, stand_in};
 use std::env;
-use std::io::{BufWriter, ErrorKind, Write};
+use std::io::{BufWriter, ErrorKind};
 use std::process::ExitCode;
 
 /// The capacity in bytes of the buffers for inputs and for the output.
@@ -43,7 +45,7 @@ fn main(rt: HostRuntime) -> ExitCode {
 
 /// Opens the inputs and runs the command over them: the image is opened first, then a detached
 /// header's file, then the second input. Both variants of the result hold an exit status: `Err`
-/// that of a command which was not started, or whose output could not be flushed.
+/// that of a command which was not started.
 fn run(rt: &HostRuntime, command: &Command<'_>) -> Result<ExitCode, ExitCode> {
     let image = ReadSource::new(open(rt, Some(command.image()))?);
     let Ok(mut image) = ReadAheadSource::new(rt.alloc(), BUFFER, image) else {
@@ -69,20 +71,37 @@ fn run(rt: &HostRuntime, command: &Command<'_>) -> Result<ExitCode, ExitCode> {
     } else {
         execute(alloc, command, &mut image, &mut secret, &mut out)
     };
-    // If this flush fails, output is lost: the run ends with a failed write, whatever the command
-    // reported.
-    if out.into_inner().flush().is_err() {
-        return Err(end(rt, Message::WriteFailed));
-    }
-    Ok(print_report(rt, &report))
+    Ok(finish(rt, &report, &mut out.into_inner()))
+}
+
+/// Flushes the output, prints the message of a report, and returns the exit status.
+///
+/// It is not inlined: the buffers of its lines would be on the stack during the run, and may not
+/// fit into a limited address space (`tests/memory.sh`).
+#[inline(never)]
+fn finish<O: RawFlush>(rt: &HostRuntime, report: &Report, output: &mut O) -> ExitCode {
+    let (line, lost) = (report.message.line(), Message::WriteFailed.line());
+    let status = end_run(
+        output,
+        Ending {
+            line: line.as_slice(),
+            status: report.status,
+        },
+        Ending {
+            line: lost.as_slice(),
+            status: Message::WriteFailed.status(),
+        },
+        &mut WriteSink::new(rt.stderr()),
+    );
+    ExitCode::from(status)
 }
 
 /// Opens the named input; without a name, an empty one.
-fn open(rt: &HostRuntime, name: Option<&str>) -> Result<Input, ExitCode> {
+fn open(rt: &HostRuntime, name: Option<&str>) -> Result<HostInput, ExitCode> {
     let Some(name) = name else {
         return Ok(Input::Empty);
     };
-    Input::open(rt, name).map_err(|fault| report_fault(rt, fault, name))
+    open_input(rt, name).map_err(|fault| report_fault(rt, fault, name))
 }
 
 /// Reports that an input cannot be opened.
@@ -93,9 +112,7 @@ fn report_fault(rt: &HostRuntime, fault: InputFault, name: &str) -> ExitCode {
     let Ok(line) = not_opened_text(rt.alloc(), name) else {
         return end(rt, Message::OutOfMemory);
     };
-    // If the message cannot be printed, only the status remains.
-    let _ = put_all(&mut WriteSink::new(rt.stderr()), line.as_bytes());
-    ExitCode::from(NOT_OPENED)
+    print(rt, line.as_bytes(), NOT_OPENED)
 }
 
 /// Prints this message and returns its exit status.
@@ -103,9 +120,14 @@ fn end(rt: &HostRuntime, message: Message) -> ExitCode {
     print_report(rt, &Report::of(message, 0))
 }
 
-/// Prints the message of a report and returns its status. A message that cannot be printed is lost:
-/// only the status remains.
+/// Prints the message of a report and returns its status. It is not inlined, as [`finish`] is not.
+#[inline(never)]
 fn print_report(rt: &HostRuntime, report: &Report) -> ExitCode {
-    let _ = report.message.print(&mut WriteSink::new(rt.stderr()));
-    ExitCode::from(report.status)
+    print(rt, report.message.line().as_slice(), report.status)
+}
+
+/// Prints a line on standard error and returns the status with it.
+fn print(rt: &HostRuntime, line: &[u8], status: u8) -> ExitCode {
+    let ending = Ending { line, status };
+    ExitCode::from(print_ending(ending, &mut WriteSink::new(rt.stderr())))
 }

@@ -1,4 +1,4 @@
-//! Sinks over std's writers.
+//! Sinks over writers.
 
 ghost use Rattle.std.specs.Prelude.{◌≡◌, ◌<◌, ℕ, List, Ok, Option, None, length};
 ghost use Rattle.std.specs.Io.KnownBytes.{WriteAppends};
@@ -16,14 +16,16 @@ use std::io::Write;
 use std::marker::Model;
 
 /// A device that answers one write at a time. If its answers are known, clauses say which of them
-/// are requested and what is reported from them.
-trait RawWriter {
+/// are requested and what is reported from them. Each writer of std is one, whose answers are not
+/// known in advance.
+pub trait RawWriter {
     /// The bytes that were written, if they are known.
     ghost bytes: { Self → Option (List ℕ) };
 
     /// The answers of the calls from here on, if they are known.
     ghost answers: { Self → Option (List CallOutcome) };
 
+    /// Writes once, a prefix of the buffer. Only `Moved` moves bytes.
     fn call(&mut self, buf: &[u8]) -> CallOutcome
         ensures next { GivesNext (answers self.old) result (answers self.new) }
         ensures moved { OutcomeAppends (bytes self.old) (bytes self.new) result buf.now };
@@ -41,7 +43,11 @@ impl<W: Write> RawWriter for W {
 
 /// Writes once, and again while the write is interrupted and a retry remains. A write that accepts
 /// nothing has failed. An empty buffer is not written.
-fn write_patiently<D: RawWriter>(device: &mut D, buf: &[u8]) -> Result<usize, DeviceFault>
+///
+/// # Errors
+///
+/// A [`DeviceFault`] if a write failed, or was interrupted after the last retry.
+pub fn write_patiently<D: RawWriter>(device: &mut D, buf: &[u8]) -> Result<usize, DeviceFault>
     ensures reported { 0 < length buf.now
         → ReportsFirst write_result (D.answers device.old) max_retries result
         (D.answers device.new) }
@@ -67,25 +73,24 @@ fn write_patiently<D: RawWriter>(device: &mut D, buf: &[u8]) -> Result<usize, De
 /// A sink over a writer. It knows the bytes that the writer knows. A clause sees the writer, and
 /// the counts.
 #[derive(Drop)]
-pub struct WriteSink<W> {
-    writer: W,
+pub struct WriteSink<D> {
+    writer: D,
     counts: WriteCounts,
 }
 
-impl<W> Model for WriteSink<W> {
+impl<D> Model for WriteSink<D> {
     ghost use Rattle.luks_io.specs.Counts.{WriteSinkModel};
 
-    ghost Value = { WriteSinkModel W };
+    ghost Value = { WriteSinkModel D };
 
     ghost view = { λ s. record { writer = s.writer; counts = s.counts } };
 }
 
-impl<W: Write> WriteSink<W> {
+impl<D: RawWriter> WriteSink<D> {
     /// A sink over this writer, with nothing counted so far.
-    pub fn new(writer: W) -> WriteSink<W>
-        ensures bytes { ⟦<WriteSink<W> as Sink>⟧.written result ≡ W.contents writer }
-        ensures counts { ⟦<WriteSink<W> as Sink>⟧.counts result
-            ≡ record { failures = 0; needless = 0 } }
+    pub fn new(writer: D) -> WriteSink<D>
+        ensures { result
+            ≡ record { writer = writer; counts = record { failures = 0; needless = 0 } } }
     {
         WriteSink {
             writer,
@@ -94,26 +99,29 @@ impl<W: Write> WriteSink<W> {
     }
 
     /// The writer, with the bytes that were written so far.
-    pub fn into_inner(self) -> W
-        ensures { W.contents result ≡ ⟦<WriteSink<W> as Sink>⟧.written self }
+    pub fn into_inner(self) -> D
+        ensures { result ≡ self.writer }
     {
         self.writer
     }
 }
 
-impl<W: Write> Sink for WriteSink<W> {
-    ghost written = { λ s. W.contents s.writer };
+impl<D: RawWriter> Sink for WriteSink<D> {
+    ghost written = { λ s. D.bytes s.writer };
 
     ghost counts = { λ s. s.counts };
 
-    /// Writes a prefix of the buffer. A writer that accepts nothing of a buffer with bytes has
+    /// Writes a prefix of the buffer: the first answer of the writer that is not an interruption is
+    /// returned, and counted as one write. A writer that accepts nothing of a buffer with bytes has
     /// failed. An empty buffer does not reach the writer.
     fn write(&mut self, buf: &[u8]) -> Result<usize, DeviceFault>
         ensures bound { AcceptsSome result buf.now }
-        ensures bytes { WriteAppends (⟦<WriteSink<W> as Sink>⟧.written self.old)
-            (⟦<WriteSink<W> as Sink>⟧.written self.new) result buf.now }
-        ensures counts { ⟦<WriteSink<W> as Sink>⟧.counts self.new
-            ≡ after_write result (length buf.now) (⟦<WriteSink<W> as Sink>⟧.counts self.old) }
+        ensures bytes { WriteAppends (D.bytes self.old.writer) (D.bytes self.new.writer) result
+            buf.now }
+        ensures counts { self.new.counts ≡ after_write result (length buf.now) self.old.counts }
+        ensures reported { 0 < length buf.now
+            → ReportsFirst write_result (D.answers self.old.writer) max_retries result
+            (D.answers self.new.writer) }
         ensures empty { length buf.now ≡ 0 → (result ≡ Ok 0)
             × (self.new.writer ≡ self.old.writer) }
     {
