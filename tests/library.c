@@ -5,9 +5,15 @@
  * writes the plain text of a volume to standard output and luksrd's sentence to standard error, and
  * ends with luksrd's status. HEADER is - if it is not detached. On the way it reads each sector by
  * itself from several threads at once, and makes the calls that are refused; each argument is in
- * memory of exactly its length. */
+ * memory of exactly its length.
+ *
+ *     library fields IMAGE PASSPHRASE LENGTH..
+ *
+ * prints each field of the open volume, and for an image of each length the number of bytes of plain
+ * text that it has, and how its payload ends. */
 #include "luksrd.h"
 
+#include <inttypes.h>
 #include <pthread.h>
 #include <stdbool.h>
 #include <stdio.h>
@@ -177,19 +183,66 @@ static void read_volume(struct job *job)
   must(fwrite(job->plain.at, 1, len, stdout) == len, "the output");
 }
 
+static void print_fields(const struct luksrd_volume *volume)
+{
+  printf("offset=%" PRIu64 " size=%" PRIu64 " iv_tweak=%" PRIu64, volume->offset, volume->size,
+         volume->iv_tweak);
+  printf(" has_size=%" PRIu32 " sector_size=%" PRIu32 " mode=%" PRIu32, volume->has_size,
+         volume->sector_size, volume->mode);
+  printf(" key_size=%" PRIu32 " key_slot=%" PRIu32 " reserved=%" PRIu32 " key=", volume->key_size,
+         volume->key_slot, volume->reserved);
+  for (size_t i = 0; i < sizeof volume->key; i++)
+    printf("%02x", volume->key[i]);
+  printf("\n");
+}
+
+/* How much plain text an image of this length has, and how its payload ends. */
+static void print_ending(const struct luksrd_volume *volume, uint64_t image_len)
+{
+  struct luksrd_message message;
+  uint64_t bytes = UINT64_MAX;
+  const uint32_t code = luksrd_ending(volume, image_len, &bytes, &message);
+  printf("%" PRIu64 ": len=%" PRIu64 " code=%" PRIu32 " bytes=%" PRIu64 " status=%" PRIu32 " %.*s\n",
+         image_len, luksrd_len(volume, image_len), code, bytes, message.status, (int)message.len,
+         (const char *)message.text);
+}
+
+/* The image's or the header's first bytes, which are all that opening needs. */
+static struct bytes header_in(const char *name)
+{
+  struct bytes header = contents(name);
+  if (header.len > LUKSRD_HEADER_BYTES)
+    header.len = LUKSRD_HEADER_BYTES;
+  return header;
+}
+
+static int print_volume(int lengths, char **argv)
+{
+  struct luksrd_options options = { 0 };
+  struct luksrd_volume volume;
+  struct bytes header = header_in(argv[0]), passphrase = contents(argv[1]);
+  open_volume(header, passphrase, &options, &volume);
+  print_fields(&volume);
+  for (int i = 0; i < lengths; i++)
+    print_ending(&volume, strtoull(argv[2 + i], NULL, 10));
+  free(header.at);
+  free(passphrase.at);
+  return 0;
+}
+
 int main(int argc, char **argv)
 {
-  must(argc == 4, "the arguments");
   must(luksrd_version() == LUKSRD_VERSION, "the version");
+  if (argc > 4 && strcmp(argv[1], "fields") == 0)
+    return print_volume(argc - 4, argv + 2);
+  must(argc == 4, "the arguments");
   read_texts();
 
   struct luksrd_options options = { .detached = strcmp(argv[2], "-") != 0 };
   struct luksrd_volume volume;
   struct job job = { .volume = &volume, .image = contents(argv[1]) };
   struct bytes passphrase = contents(argv[3]);
-  struct bytes header = contents(options.detached ? argv[2] : argv[1]);
-  if (header.len > LUKSRD_HEADER_BYTES)
-    header.len = LUKSRD_HEADER_BYTES;
+  struct bytes header = header_in(options.detached ? argv[2] : argv[1]);
   open_volume(header, passphrase, &options, &volume);
   read_volume(&job);
 

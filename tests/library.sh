@@ -1,6 +1,7 @@
 #!/usr/bin/env bash
 # Runs small programs over luksrd.h, one in C that is built with AddressSanitizer and also run under valgrind, and one in Python by ctypes: each writes what luksCat
-# does, with the same messages, for both sample volumes and for volumes that are truncated, detached or not opened.
+# does, with the same messages, for both sample volumes and for volumes that are truncated, detached or not opened. The one in C also prints each field of a
+# volume that is made here. What luksrd.h declares is compared with what the library's source does.
 sources=$(realpath "$(dirname "$0")/..")
 library=$(realpath "${2:?the built library}")
 shared=$(realpath "${3:?the same as a shared one}")
@@ -68,6 +69,85 @@ agree 'nothing' empty - pass
 head -c 20000 volume >shorter
 agree 'truncated inside a key area' shorter - pass
 
+# each field of a volume, as cryptsetup and the change below made it: a payload of 12 GiB in sectors of 4,096 bytes, of which the image has the first five, from the
+# second page of the payload on. The expected lengths are worked out from these numbers
+set_segment() {
+    python3 - "$@" <<'PYTHON'
+import hashlib, json, sys
+image, *members = sys.argv[1:]
+with open(image, 'r+b') as file:
+    size = int.from_bytes(file.read(16)[8:], 'big')
+    for offset in (0, size):
+        file.seek(offset)
+        header = bytearray(file.read(size))
+        tree = json.loads(header[4096:header.index(0, 4096)])
+        tree['segments']['0'].update(member.split('=') for member in members)
+        area = json.dumps(tree, separators=(',', ':')).encode()
+        header[4096:] = area + bytes(size - 4096 - len(area))
+        header[448:512] = bytes(64)
+        header[448:480] = hashlib.sha256(header).digest()
+        file.seek(offset)
+        file.write(header)
+PYTHON
+}
+options=(--pbkdf pbkdf2 --pbkdf-force-iterations 1000 --hash sha256 --key-file pass)
+head -c 24576 /dev/urandom >plain
+cp plain fixed
+truncate -s +1M fixed
+cryptsetup -q reencrypt --encrypt --type luks2 --reduce-device-size 1M --force-offline-reencrypt --luks2-metadata-size 16k --luks2-keyslots-size 256k \
+    --cipher aes-xts-plain64 --key-size 256 --sector-size 4096 "${options[@]}" fixed >log 2>&1 || { cat log; exit 1; }
+printf 'of slot 5' >pass5
+cryptsetup -q luksAddKey --key-slot 5 "${options[@]}" fixed pass5 || exit 1
+key=$(cryptsetup -q luksDump --dump-volume-key --key-file pass fixed | sed -n '/^MK dump:/,$p' | sed 's/^MK dump://' | tr -cd '0-9a-f')
+same 'the length of the key' ${#key} 64
+printf -v zeros '%064d' 0
+lengths() {
+    sed -n 's/^\([0-9]*\): .*/\1/p' "$1"
+}
+
+# fields NAME FILE: the program in C prints the volume in `fixed` as the file says, also with the shared library
+fields() {
+    local variant
+    for variant in ./sanitized ./shared; do
+        # shellcheck disable=SC2046
+        same "$1, $variant" "$($variant fields fixed pass5 $(lengths "$2") 2>&1; echo $?)" "$(cat "$2"; echo 0)"
+    done
+}
+
+truncate -s 548864 fixed
+set_segment fixed size=12884901888 iv_tweak=8 offset=528384
+cat >wanted <<TEXT
+offset=528384 size=12884901888 iv_tweak=8 has_size=1 sector_size=4096 mode=1 key_size=32 key_slot=5 reserved=0 key=$key$zeros
+0: len=0 code=12 bytes=0 status=4 luksrd: image ends before the payload
+528383: len=0 code=12 bytes=0 status=4 luksrd: image ends before the payload
+528384: len=0 code=14 bytes=12884901888 status=4 luksrd: image ends 12884901888 bytes before the segment does
+4294967295: len=4294434816 code=14 bytes=8590462977 status=4 luksrd: image ends 8590462977 bytes before the segment does
+4294967296: len=4294438912 code=14 bytes=8590462976 status=4 luksrd: image ends 8590462976 bytes before the segment does
+5368709120: len=5368180736 code=14 bytes=7516721152 status=4 luksrd: image ends 7516721152 bytes before the segment does
+12885430271: len=12884897792 code=14 bytes=1 status=4 luksrd: image ends 1 bytes before the segment does
+12885430272: len=12884901888 code=0 bytes=0 status=0 
+18446744073709551615: len=12884901888 code=0 bytes=0 status=0 
+TEXT
+fields 'a fixed size' wanted
+agree 'a fixed size' fixed - pass5
+same 'a fixed size: what was encrypted' "$(sha256sum <text)" "$(tail -c +4097 plain | sha256sum)"
+
+set_segment fixed size=dynamic
+cat >wanted <<TEXT
+offset=528384 size=0 iv_tweak=8 has_size=0 sector_size=4096 mode=1 key_size=32 key_slot=5 reserved=0 key=$key$zeros
+528383: len=0 code=12 bytes=0 status=4 luksrd: image ends before the payload
+528384: len=0 code=0 bytes=0 status=0 
+4294967295: len=4294434816 code=13 bytes=4095 status=4 luksrd: image ends inside a sector: 4095 bytes left over
+4294967296: len=4294438912 code=0 bytes=0 status=0 
+5368709820: len=5368180736 code=13 bytes=700 status=4 luksrd: image ends inside a sector: 700 bytes left over
+18446744073709551615: len=18446744073709019136 code=13 bytes=4095 status=4 luksrd: image ends inside a sector: 4095 bytes left over
+TEXT
+fields 'no fixed size' wanted
+
+# what both sources declare
+"$sources/tests/border" >said 2>&1
+same 'what luksrd.h and luks_c declare' "$? $(sed '$s/^[1-9][0-9]* passed, 0 failed$/agrees/' said)" '0 agrees'
+
 # the examples of docs/LIBRARY.md: the one in Rattle is that of its program, and the one in C reads the same volume
 block() {
     sed -n "/^\`\`\`$1\$/,/^\`\`\`\$/p" "$sources/docs/LIBRARY.md" | sed '1d;$d'
@@ -88,7 +168,7 @@ same 'what the library exports' "$(nm -D --defined-only "$shared" | awk '{ print
     'luksrd_decrypt luksrd_ending luksrd_len luksrd_open luksrd_status_text luksrd_version '
 same 'the same of the archive' "$(nm -g --defined-only "$library" 2>&1 | awk 'NF == 3 { print $3 }' | sort | tr '\n' ' ')" \
     'luksrd_decrypt luksrd_ending luksrd_len luksrd_open luksrd_status_text luksrd_version '
-same 'text that is moved' "$(readelf -d "$shared" | grep -c TEXTREL)" 0
+same 'relocations in its code' "$(readelf -d "$shared" | grep -c TEXTREL)" 0
 same 'its name' "$(readelf -d "$shared" | sed -n 's/.*soname: \[\(.*\)\]/\1/p')" libluksrd.so.1
 make -s -C "$sources" uninstall PREFIX="$work/installed" PLUGINS= >log 2>&1
 same 'what is left of it' "$(find installed ! -type d)" ''

@@ -1,2 +1,4 @@
+pub mod ConsumedLemmas
+pub mod FailingLemmas
 pub mod OpeningLemmas
 pub mod RangeLemmas

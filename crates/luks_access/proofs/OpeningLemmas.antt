@@ -79,7 +79,7 @@ module _ (options : Options) (image pass : List ℕ) (i : Option (List ℕ)) whe
         rw is (refused_by _ (unlock_read_len image described) (length pass)
         (λ on_opened. tried_is options.location options.slots image pass volume.header volume.segment volume.order read
         matched.segment matched.order short volume.area.bytes area' i prefix grows enough (Err fault) tried on_opened))
-    refused_unopened message never (inr (long, is)) =
+    refused_unopened message never (inr (long, is, rest)) =
         let same : message ≡ KeyFileLength = cc in
         rw same (refused_by KeyFileLength (header_read_len image) _
         (λ on_opened. as_found on_opened ∙ found_long on_opened options.slots.named described image pass long))
@@ -96,7 +96,7 @@ module _ (options : Options) (image pass : List ℕ) (i : Option (List ℕ)) whe
           tried on_opened
           ∙ ap (λ s. on_opened s (opened_of opened) (unlock_read_len image described)) (sym same);
     }
-    opened_by opened (inr (long, is)) = cc
+    opened_by opened (inr (long, is, rest)) = cc
 
 -- ---- the plaintext of an open volume
 

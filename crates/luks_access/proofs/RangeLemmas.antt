@@ -1,9 +1,9 @@
 -- Parts of a plaintext: sectors that are decrypted one after the other, and ranges that are joined from smaller ones.
 use Rattle.std.proofs.Common.{◌≡◌, ℕ, suc, ◌+◌, ◌-◌, ◌*◌, ◌/◌, ◌%◌, ◌<◌, ◌≤◌, List, [], ◌++◌, length, take, drop}
 use Rattle.std.proofs.Common.{length-drop, append-nil, append_assoc, add-one, arith, refl, sym, ap, ◌∙◌}
-use Rattle.std.proofs.Common.{length-append, Option, Some, Result, Ok, Err, Bool, true, subst}
+use Rattle.std.proofs.Common.{length-append, Option, None, Some, Result, Ok, Err, Bool, subst}
 use Rattle.std.proofs.lemmas.List.{drop-drop, drop_all, drop_at, take_at}
-use Rattle.std.proofs.Math.Nat.{div-mul_cancel, dvd_of_mod-eq-zero}
+use Rattle.std.proofs.Math.Nat.{div-mul_cancel, dvd_of_mod-eq-zero, mod-add-div'}
 use Rattle.std.specs.Prelude.{OnOk}
 use Rattle.std.proofs.Math.Seq.{take-add}
 use Rattle.luks_io.specs.Devices.{IfKnown}
@@ -17,7 +17,11 @@ use Rattle.luks_payload.specs.Plain.{unit_number, unit_plain, payload_bytes}
 use Rattle.luks_payload.proofs.ForwardingLemmas.{two_parts}
 use Rattle.luks_payload.proofs.SectorLemmas.{one_more_fits}
 use Rattle.luks_runs.proofs.PayloadLemmas.{joined_length, plain_len, sector_size, take_whole}
-use Rattle.luks_access.specs.Sectors.{AreStored, IsRangeOf, ReadsRange, plain_at, plain_in, plaintext_len, sector_in}
+use Rattle.luks_access.proofs.FailingLemmas.{fails_more, fails_stored}
+use Rattle.luks_access.specs.Sectors.{AreStored, FailsInRange, FailsWithin, IsRangeOf, ReadsRange, plain_at, plain_in}
+use Rattle.luks_access.specs.Sectors.{plaintext_len, range_fault, sector_in}
+use Rattle.luks_access.specs.declared.image.ReadAtFault.{ReadAtFault}
+use Rattle.luks_access.specs.declared.image.ReadAtFault.TheVariants.{Failed, Ended}
 use Rattle.luks_access.specs.declared.fault.RangeFault.{RangeFault}
 use Rattle.luks_access.specs.declared.fault.RangeFault.TheVariants.{PastEnd, Read, Shorter}
 use Rattle.luks_area.proofs.FieldLemmas.{at_prefix}
@@ -137,7 +141,16 @@ plaintext_length s cipher image image_len len long is =
     is ∙ (ap (λ n. payload_bytes s.size (n - s.offset) / sector_len s * sector_len s) (sym long)
     ∙ sym (plain_len s image cipher))
 
-module _ (s : Segment) (cipher : Cipher) (len : ℕ) (image : Option (List ℕ)) (fails : Bool) (offset : ℕ) where
+-- an image has no more bytes of a payload than from its start on
+payload_within : (size : Option ℕ) (len : ℕ) → payload_bytes size len ≤ len
+payload_within None len = omega arith
+payload_within (Some size) len = omega arith
+
+-- the answer of a read that ended with this fault
+abbrev pub read_answer : ReadAtFault → Result (Unit {0}) ReadAtFault
+read_answer fault = Err fault
+
+module _ (s : Segment) (cipher : Cipher) (len : ℕ) (image : Option (List ℕ)) (fails : ℕ → Bool) (offset : ℕ) where
   -- the first n bytes of a buffer were read, and then the rest was read, or reading it failed
   pub reads_rest : (n : ℕ) (a rest b : List ℕ) (result : Result (Unit {0}) RangeFault) → length a ≡ n
       → ReadsRange s cipher len image fails offset (Ok tt) a
@@ -149,8 +162,21 @@ module _ (s : Segment) (cipher : Cipher) (len : ℕ) (image : Option (List ℕ))
       subst (IsRangeOf (plain_of s cipher known) offset) (sym (two_parts a rest b n long))
       (range_joined (plain_of s cipher known) a b offset (first known there all) behind)
   reads_rest n a rest b (Err PastEnd) long first second = second
-  reads_rest n a rest b (Err Read) long first second = second
+  reads_rest n a rest b (Err Read) long first second =
+      let count = ap length (two_parts a rest b n long) ∙ length-append a b in
+      fails_more s fails (offset + n) (length b) offset _ (omega arith) (omega (arith, count, long)) second
   reads_rest n a rest b (Err Shorter) long first second = second
+
+  -- reading whole sectors failed: one of them, if a read failed. An image does not end before a part of its plaintext
+  pub stops_stored : (fault : ReadAtFault) (bytes : List ℕ) → 0 < length bytes → offset + length bytes ≤ len
+      → (read_answer fault ≡ Err Failed → FailsWithin fails (s.offset + offset) (length bytes))
+      → (read_answer fault ≡ Err Ended → IfKnown image (λ known. length known < s.offset + offset + length bytes))
+      → ReadsRange s cipher len image fails offset (Err (range_fault fault)) bytes
+  stops_stored Failed bytes some inside failed ended = fails_stored s fails offset (length bytes) (failed refl)
+  stops_stored Ended bytes some inside failed ended = λ known is all.
+      let stored = length known - s.offset in
+      let whole = mod-add-div' (payload_bytes s.size stored) (sector_len s) in
+      omega (arith, ended refl known is, inside, some, all, payload_within s.size stored, whole)
 
   -- if `len` is the length of the image's plaintext, a range was read, or the image did not become shorter
   module _ (bytes : List ℕ) (image_len : ℕ) (counted : IfKnown image (λ known. image_len ≡ length known))
@@ -160,7 +186,8 @@ module _ (s : Segment) (cipher : Cipher) (len : ℕ) (image : Option (List ℕ))
 
     pub range_ends : (result : Result (Unit {0}) RangeFault) → ReadsRange s cipher len image fails offset result bytes
         → OnOk result (IfKnown image (λ known. IsRangeOf (plain_of s cipher known) offset bytes))
-        × IfKnown image (λ known. result ≡ Err Shorter → ⊥) × (result ≡ Err Read → fails ≡ true)
+        × IfKnown image (λ known. result ≡ Err Shorter → ⊥)
+        × (result ≡ Err Read → FailsInRange s fails offset (length bytes))
     range_ends (Ok _) reads = (λ known is. reads known is (all_of known is), λ known is wrong. (cc), λ wrong. (cc))
     range_ends (Err PastEnd) reads = absurd reads
     range_ends (Err Read) reads = (tt, λ known is wrong. (cc), λ _. reads)

@@ -1,5 +1,6 @@
 -- Which volume is opened, compared with `luksCat`.
-use Rattle.std.specs.Prelude.{ℕ, ◌≡◌, List, Ok, false, ◌⊎◌, ◌<◌, ◌≤◌, length, Option, Result, Err}
+use Rattle.std.specs.Prelude.{ℕ, ◌≡◌, List, Ok, false, ◌⊎◌, ◌<◌, ◌≤◌, length, Option, Some, Result, Err, MatchBool}
+use Rattle.luks_io.specs.Devices.{ConsumedAtMost, ConsumedExactly}
 use Rattle.luks_cipher.specs.Sector.{Cipher}
 use Rattle.luks_report.specs.Faults.{message_at_end}
 use Rattle.luks_report.specs.declared.message.Message.{Message}
@@ -14,7 +15,7 @@ use Rattle.luks_unlock.specs.Honest.{OpensHonest}
 use Rattle.luks_unlock.specs.Volume.{TriesSlots, opened_of, OnOpened, detached_payload_outcome, payload_outcome}
 use Rattle.luks_unlock.specs.declared.found.FoundVolume.{FoundVolume}
 use Rattle.luks_unlock.specs.declared.unlocked.UnlockedVolume.{UnlockedVolume}
-use Rattle.luks_unlock.specs.Volume.{volume_outcome, volume_outcome_by}
+use Rattle.luks_unlock.specs.Volume.{slot_outcome, volume_outcome, volume_outcome_by}
 use Rattle.luks_payload.specs.Plain.{ending_of, plain_of}
 use Rattle.luks_payload.specs.declared.state.Step.TheVariants.{End}
 use Rattle.luks_access.specs.declared.options.Options.{Options}
@@ -43,13 +44,25 @@ pub record Refuses (options : Options) (header pass : List ℕ) (message : Messa
       → volume_outcome_by (reader_for options.location) on_opened options.slots header pass
       ≡ no_output message header_consumed secret_consumed
 
--- the key slots of a volume were tried with a passphrase that is not too long, or the passphrase is too long
+-- the number of bytes of an image or detached header that opening consumes: as many as `testPassphrase` does
+abbrev pub open_read_len : Options → List ℕ → List ℕ → ℕ
+open_read_len options header pass =
+    (volume_outcome_by (reader_for options.location) (slot_outcome pass) options.slots header pass).input_consumed
+
+-- opening ended with this message: it consumed as many bytes, or no more than these if a read failed or memory ran out
+abbrev pub ConsumesToOpen : Options → List ℕ → List ℕ → Message → Option (List ℕ) → Type 0
+ConsumesToOpen options header pass message left =
+    MatchBool (aborts message) (ConsumedAtMost header left (open_read_len options header pass))
+    (ConsumedExactly header left (open_read_len options header pass))
+
+-- the key slots of a volume were tried with a passphrase that is not too long, or the passphrase is too long, and
+-- nothing was read
 abbrev pub UnlocksVolume : Option ℕ → FoundVolume → List ℕ → List ℕ → List ℕ → Option (List ℕ)
     → Result UnlockedVolume Message → Type 0
 UnlocksVolume named volume pass area' rest left result =
     ((length pass ≤ max_key_file_len)
     × TriesSlots named volume.segment volume.order pass volume.area.bytes area' rest left result)
-    ⊎ ((max_key_file_len < length pass) × (result ≡ Err KeyFileLength))
+    ⊎ ((max_key_file_len < length pass) × (result ≡ Err KeyFileLength) × (left ≡ Some rest))
 
 -- the image of the payload: the one that the header is attached to, or another
 abbrev pub payload_image_of : HeaderLocation → List ℕ → List ℕ → List ℕ

@@ -26,13 +26,16 @@ impl ReadAt for FileImage {
 
     ghost image = { λ _. None };
 
-    ghost fails = { λ _. true };
+    ghost fails = { λ _ _. true };
 
     fn len(&self) -> u64 {
         self.len
     }
 
     fn read_at(&self, offset: u64, buf: &mut [u8]) -> Result<(), ReadAtFault> {
+        if buf.is_empty() {
+            return Ok(());
+        }
         match self.file.read_exact_at(buf, offset) {
             Ok(()) => Ok(()),
             Err(error) if error.kind() == ErrorKind::UnexpectedEof => Err(ReadAtFault::Ended),

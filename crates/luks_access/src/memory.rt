@@ -3,7 +3,7 @@
 ghost use Rattle.std.specs.Prelude.{◌≡◌, ◌+◌, ◌<◌, ◌≤◌, List, ℕ, Some, Err};
 ghost use Rattle.std.specs.Prelude.{IfErr, MatchOption, OnOk, false, length, true};
 ghost use Rattle.luks_io.specs.Devices.{IfKnown};
-ghost use Rattle.luks_access.specs.Sectors.{IsAt};
+ghost use Rattle.luks_access.specs.Sectors.{FailsWithin, IsAt};
 
 use crate::image::{ReadAt, ReadAtFault};
 use std::marker::Model;
@@ -48,7 +48,7 @@ impl<'a> ReadAt for MemImage<'a> {
 
     ghost image = { λ image. Some image };
 
-    ghost fails = { λ _. false };
+    ghost fails = { λ _ _. false };
 
     fn len(&self) -> u64 {
         self.bytes.len() as u64
@@ -58,7 +58,8 @@ impl<'a> ReadAt for MemImage<'a> {
         ensures bytes { OnOk result (IfKnown (Some self.now) (λ known. IsAt known offset buf.new)) }
         ensures ended { result ≡ Err ReadAtFault.Ended → IfKnown (Some self.now)
             (λ known. length known < offset + length buf.new) }
-        ensures failed { result ≡ Err ReadAtFault.Failed → false ≡ true }
+        ensures failed { result ≡ Err ReadAtFault.Failed
+            → FailsWithin (λ _. false) offset (length buf.new) }
         ensures only { IfErr result (λ fault. fault ≡ ReadAtFault.Ended) }
     {
         let Some((start, end)) = bounds(self.bytes.len(), offset, buf.len()) else {

@@ -54,4 +54,8 @@ impl<'a, I: ReadAt> Source for ImageSource<'a, I> {
             Err(_) => self.counts.count(Err(DeviceFault), buf.len()),
         }
     }
+
+    fn allow_read_ahead(&mut self, end: u64) {
+        self.counts.allow(end);
+    }
 }

@@ -1,7 +1,8 @@
 //! Open volumes.
 
-ghost use Rattle.std.specs.Prelude.{◌≡◌, ◌≢◌, ◌+◌, ◌-◌, ◌%◌, ◌^◌, ◌<◌, ◌≤◌, Bool, List, ℕ, Err};
-ghost use Rattle.std.specs.Prelude.{[], IfErr, IfOk, OnOk, length, nat_le, replicate, true};
+ghost use Rattle.std.specs.Prelude.{◌≡◌, ◌≢◌, ◌+◌, ◌-◌, ◌%◌, ◌^◌, ◌<◌, ◌≤◌, ◌⊎◌, Bool, List, ℕ, Err};
+ghost use Rattle.std.specs.Prelude.{[], IfErr, IfOk, OnOk, is_err, length, nat_le, replicate, true};
+ghost use Rattle.luks_runs.specs.KeyFile.{max_key_file_len};
 ghost use Rattle.luks_io.specs.Counts.{Reads};
 ghost use Rattle.luks_io.specs.Devices.{IfKnown};
 ghost use Rattle.luks_runs.specs.Run.{is_run_read_failure, result_message};
@@ -9,8 +10,9 @@ ghost use Rattle.luks_unlock.specs.Volume.{MatchesHeader};
 ghost use Rattle.luks_unlock.specs.Volume.{OpeningMessage};
 ghost use Rattle.luks_unlock.specs.Volume.{CountsTrials};
 ghost use Rattle.luks_payload.specs.Plain.{ending_of, sector_len};
-ghost use Rattle.luks_access.specs.Sectors.{IsRangeOf};
-ghost use Rattle.luks_access.specs.Opens.{OpensVolume, RefusesVolume, UnlocksVolume, plaintext_of};
+ghost use Rattle.luks_access.specs.Sectors.{FailsInRange, IsRangeOf};
+ghost use Rattle.luks_access.specs.Opens.{ConsumesToOpen, OpensVolume, RefusesVolume};
+ghost use Rattle.luks_access.specs.Opens.{UnlocksVolume, plaintext_of};
 
 use crate::fault::RangeFault;
 use crate::image::ReadAt;
@@ -67,8 +69,10 @@ fn unlock<S: Source>(
     ensures run { IfKnown (S.to_come source.old) (λ rest. (found.area.ended ≡ true → rest ≡ [])
         → (loaded : List ℕ) × UnlocksVolume slots.named found pass.now loaded rest
         (S.to_come source.new) result) }
-    ensures work { (loaded : List ℕ)
-        × CountsTrials found.order loaded pass.now (result_message result) work.old work.new }
+    ensures work { ((loaded : List ℕ) × CountsTrials found.order loaded pass.now
+        (result_message result) work.old work.new)
+        ⊎ ((max_key_file_len < length pass.now) × (is_err result ≡ true)
+        × (work.new ≡ work.old)) }
     ensures only { IfErr result OpeningMessage }
     ensures reads { (ended : Bool) × Reads (is_run_read_failure (result_message result)) ended
         (S.counts source.old) (S.counts source.new) }
@@ -87,6 +91,7 @@ impl Volume {
     ///
     /// The volume is the one that `luksCat` opens with these options, and a refusal is the message
     /// of `luksCat`. A passphrase longer than [`MAX_PASSPHRASE_LEN`] is refused, as a key file is.
+    /// As many bytes of the source are consumed as `testPassphrase` consumes.
     pub fn open_from<S: Source>(
         alloc: Global,
         options: &Options,
@@ -97,6 +102,8 @@ impl Volume {
             (λ known. OpensVolume options.now known pass.now volume)) }
         ensures refuses { IfErr result (λ message. IfKnown (S.to_come source.old)
             (λ known. RefusesVolume options.now known pass.now message)) }
+        ensures consumes { IfKnown (S.to_come source.old) (λ known. ConsumesToOpen options.now known
+            pass.now (result_message result) (S.to_come source.new)) }
         ensures only { IfErr result OpeningMessage }
         ensures reads { (ended : Bool) × Reads (is_run_read_failure (result_message result)) ended
             (S.counts source.old) (S.counts source.new) }
@@ -192,7 +199,8 @@ impl Volume {
             → buf.new ≡ replicate (length buf.old) 0) }
         ensures whole { IfKnown (I.image image.now)
             (λ known. result ≢ Err RangeFault.Shorter) }
-        ensures failed { result ≡ Err RangeFault.Read → I.fails image.now ≡ true }
+        ensures failed { result ≡ Err RangeFault.Read
+            → FailsInRange self.now.segment (I.fails image.now) offset (length buf.old) }
     {
         let len = self.len(image.len());
         if !is_within(len, offset, buf.len()) {

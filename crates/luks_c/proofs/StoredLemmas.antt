@@ -5,7 +5,7 @@ use Rattle.std.specs.Prelude.{◌==◌, if◌then◌else◌, unwrap_or}
 use Rattle.luks_access.proofs.RangeLemmas.{plaintext_length}
 use Rattle.luks_access.specs.Opens.{cipher_of, plaintext_of}
 use Rattle.luks_unlock.specs.declared.unlocked.UnlockedVolume.{UnlockedVolume}
-use Rattle.luks_access.specs.Sectors.{AreStored, plain_at}
+use Rattle.luks_access.specs.Sectors.{AreStored, plain_at, plain_in}
 use Rattle.luks_cipher.specs.Sector.{Cipher, is_mode_key_length}
 use Rattle.luks_cipher.specs.declared.mode.Mode.{Mode}
 use Rattle.luks_cipher.specs.declared.mode.Mode.TheVariants.{XtsPlain64, XtsPlain, CbcEssivSha256, CbcPlain64}
@@ -16,8 +16,8 @@ use Rattle.luks_verdict.specs.SectorSize.{HasWholeSectors, has_whole_sectors, by
 use Rattle.luks_verdict.specs.declared.sector_size.SectorSize.{SectorSize}
 use Rattle.luks_verdict.specs.declared.segment.Segment.{Segment}
 use Rattle.luks_payload.specs.Plain.{sector_len, payload_bytes}
-use Rattle.luks_c.specs.Stored.{decrypt_code, range_code, segment_code, Stores, cipher_in, has_size_of, mode_in}
-use Rattle.luks_c.specs.Stored.{mode_number, segment_in, size_stored_in}
+use Rattle.luks_c.specs.Stored.{DecryptsAs, decrypt_code, range_code, segment_code, Stores, cipher_in, has_size_of}
+use Rattle.luks_c.specs.Stored.{mode_in, mode_number, segment_in, size_stored_in}
 use Rattle.luks_c.specs.declared.volume.LuksrdVolume.{LuksrdVolume}
 
 pub mode_again : (mode : Mode) → mode_in (mode_number mode) ≡ Some mode
@@ -30,6 +30,14 @@ mode_again CbcPlain64 = refl
 whole_are : (size : Option ℕ) (z : SectorSize) → HasWholeSectors size z → has_whole_sectors size z ≡ true
 whole_are None z whole = refl
 whole_are (Some bytes) z whole = ap (λ n. n == 0) (whole bytes refl)
+
+-- whole sectors are decrypted by the segment and the cipher that the struct holds
+pub decrypted_by : (c : LuksrdVolume) (s : Segment) (cipher : Cipher) (first : ℕ) (old new : List ℕ)
+    → Some s ≡ segment_in c → cipher ≡ cipher_in c s.mode → new ≡ plain_in s cipher first old
+    → DecryptsAs c first old new
+decrypted_by c s cipher first old new is_segment is_cipher plain = λ t there.
+    subst (λ (u : Segment). new ≡ plain_in u (cipher_in c u.mode) first old) (same_Some s t (is_segment ∙ there))
+    (rw is_cipher at plain)
 
 module _ (c : LuksrdVolume) (v : UnlockedVolume) (stored : Stores c v) where
   pub stored_sector : sector_size_with c.sector_size ≡ Some v.segment.sector_size

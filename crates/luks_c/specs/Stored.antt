@@ -1,6 +1,6 @@
 -- The codes and the structs of `c/luksrd.h`, field by field, how a volume is read back, and what the functions answer.
 use Rattle.std.specs.Prelude.{ℕ, ◌≡◌, ◌-◌, ◌==◌, if◌then◌else◌, drop, length, replicate, take, Option, None, Some, []}
-use Rattle.std.specs.Prelude.{Bool, List, codes, false, min, nat_lt, unwrap_or, ◌≢◌, ◌+◌, ◌/◌, ◌%◌, ◌^◌, Result, Ok}
+use Rattle.std.specs.Prelude.{Bool, List, codes, false, min, nat_lt, unwrap_or, ◌≢◌, ◌+◌, ◌*◌, ◌/◌, ◌%◌, ◌^◌, Result, Ok}
 use Rattle.std.specs.Prelude.{Err}
 use Rattle.luks_access.specs.declared.options.Options.{Options}
 use Rattle.luks_unlock.specs.declared.unlocked.UnlockedVolume.{UnlockedVolume}
@@ -22,12 +22,15 @@ use Rattle.luks_runs.specs.declared.location.HeaderLocation.TheVariants.{Attache
 use Rattle.luks_c.specs.declared.message.LuksrdMessage.{LuksrdMessage}
 use Rattle.luks_c.specs.declared.options.LuksrdOptions.{LuksrdOptions}
 use Rattle.luks_access.specs.Opens.{Opens, Refuses}
+use Rattle.luks_access.specs.Sectors.{plain_in}
 use Rattle.luks_area.specs.Area.{max_loaded_len}
 use Rattle.luks_report.specs.Faults.{message_for_payload}
 use Rattle.luks_runs.specs.Run.{aborts}
 use Rattle.luks_unlock.specs.Volume.{OpeningMessage}
 use Rattle.luks_payload.specs.declared.fault.VolumeFault.{VolumeFault}
 use Rattle.luks_payload.specs.declared.fault.VolumeFault.TheVariants.{Tail as FaultTail, Short as FaultShort}
+use Rattle.luks_payload.specs.declared.fault.VolumeFault.TheVariants.{CutBeforePayload as FaultCut}
+use Rattle.luks_payload.specs.Plain.{ending_of_len, payload_bytes}
 use Rattle.luks_payload.specs.declared.state.Step.{Step}
 
 -- the number of a message, in `enum luksrd_code`
@@ -172,6 +175,23 @@ segment_in c = segment_from record {
 abbrev pub cipher_in : LuksrdVolume → Mode → Cipher
 cipher_in c mode = (mode, take c.key_size c.key)
 
+-- the length of the plaintext in an image of `image_len` bytes: all whole sectors of this size. 0 if there is no sector
+-- size
+abbrev pub plaintext_len_by : Option SectorSize → LuksrdVolume → ℕ → ℕ
+plaintext_len_by None c image_len = 0
+plaintext_len_by (Some sector_size) c image_len =
+    payload_bytes (size_stored_in c) (image_len - c.offset) / bytes_of sector_size * bytes_of sector_size
+
+-- the same for the struct's own sector size, whatever else the struct holds
+abbrev pub plaintext_len_in : LuksrdVolume → ℕ → ℕ
+plaintext_len_in c = plaintext_len_by (sector_size_with c.sector_size) c
+
+-- how the payload ends in an image of `image_len` bytes, in sectors of this size
+abbrev pub ending_by : SectorSize → LuksrdVolume → ℕ → Result Step VolumeFault
+ending_by sector_size c image_len =
+    if nat_lt image_len c.offset then Err FaultCut
+    else ending_of_len (size_stored_in c) (bytes_of sector_size) (image_len - c.offset)
+
 -- ---- the results of the functions for C
 
 -- the image starts with these bytes, as far as a header area can reach: both have the same first 33,554,432 bytes, or
@@ -214,6 +234,22 @@ EndsAs (Ok _) code bytes message = (code ≡ 0) × (bytes ≡ 0) × StoresMessag
 EndsAs (Err fault) code bytes message =
     (code ≡ code_for (message_for_payload fault)) × (bytes ≡ fault_bytes fault)
     × StoresMessage message (message_for_payload fault)
+
+-- the result is the ending of the payload in an image of `image_len` bytes, if there is a sector size; otherwise its
+-- code is 16
+abbrev pub EndsBy : Option SectorSize → LuksrdVolume → ℕ → ℕ → ℕ → LuksrdMessage → Type 0
+EndsBy None c image_len code bytes message = (code ≡ 16) × (bytes ≡ 0) × StoresCode message 16
+EndsBy (Some sector_size) c image_len code bytes message =
+    EndsAs (ending_by sector_size c image_len) code bytes message
+
+-- the same for the struct's own sector size, whatever else the struct holds
+abbrev pub EndsIn : LuksrdVolume → ℕ → ℕ → ℕ → LuksrdMessage → Type 0
+EndsIn c = EndsBy (sector_size_with c.sector_size) c
+
+-- whole sectors were decrypted in place, from sector `first` on, by the segment and the cipher that the struct holds
+abbrev pub DecryptsAs : LuksrdVolume → ℕ → List ℕ → List ℕ → Type 0
+DecryptsAs c first old new =
+    (segment : Segment) → segment_in c ≡ Some segment → new ≡ plain_in segment (cipher_in c segment.mode) first old
 
 -- `len` bytes are whole sectors of this size, and the number after that of the last one is below 2^64
 abbrev pub is_range : SectorSize → ℕ → ℕ → Bool

@@ -4,16 +4,16 @@
 //! pointers that C passes; the C caller must pass pointers as the header requires.
 #![tactic(auto)]
 
-ghost use Rattle.std.specs.Prelude.{◌≡◌, ◌≢◌, ◌+◌, ◌*◌, ◌/◌, ◌%◌, ◌^◌, ◌<◌, List, ℕ, None};
-ghost use Rattle.std.specs.Prelude.{length, true};
+ghost use Rattle.std.specs.Prelude.{◌≡◌, ◌≢◌, ◌+◌, ◌*◌, ◌/◌, ◌%◌, ◌^◌, ◌<◌, List, ℕ, length};
+ghost use Rattle.std.specs.Prelude.{true};
 ghost use Rattle.luks_access.specs.Opens.{cipher_of, plaintext_of};
 ghost use Rattle.luks_access.specs.Sectors.{AreStored, plain_at};
 ghost use Rattle.luks_unlock.specs.declared.unlocked.UnlockedVolume.{UnlockedVolume};
 ghost use Rattle.luks_payload.specs.Plain.{ending_of, sector_len};
-ghost use Rattle.luks_verdict.specs.SectorSize.{bytes_of, sector_size_with};
-ghost use Rattle.luks_c.specs.Stored.{EndsAs, Opened, Refused, decrypt_code, fault_bytes};
-ghost use Rattle.luks_c.specs.Stored.{is_range};
-ghost use Rattle.luks_c.specs.Stored.{IsCleared, Stores, StoresCode, names_no_slot};
+ghost use Rattle.luks_verdict.specs.SectorSize.{bytes_of};
+ghost use Rattle.luks_c.specs.Stored.{DecryptsAs, EndsAs, EndsIn, IsCleared, Opened, Refused};
+ghost use Rattle.luks_c.specs.Stored.{Stores, StoresCode, decrypt_code, fault_bytes, is_range};
+ghost use Rattle.luks_c.specs.Stored.{names_no_slot, plaintext_len_in};
 
 use crate::code::{BAD_OPTIONS, BAD_RANGE, BAD_VOLUME, OK, code_of, sentence};
 use crate::message::LuksrdMessage;
@@ -49,12 +49,12 @@ pub extern "C" fn luksrd_open(
 ) -> u32
     ensures opens { result ≡ 0
         → Opened options.now header.now passphrase.now volume.new message.new }
-    ensures refuses { result ≢ 0 → result ≢ BAD_OPTIONS
+    ensures refuses { result ≢ 0 → result ≢ 15
         → Refused options.now header.now passphrase.now result message.new }
     ensures cleared { result ≢ 0 → IsCleared volume.new }
     ensures bad_slot { names_no_slot options.now ≡ true
-        → (result ≡ BAD_OPTIONS) × StoresCode message.new BAD_OPTIONS }
-    ensures bad_options { result ≡ BAD_OPTIONS → names_no_slot options.now ≡ true }
+        → (result ≡ 15) × StoresCode message.new 15 }
+    ensures bad_options { result ≡ 15 → names_no_slot options.now ≡ true }
 {
     let Some(options) = options_in(options) else {
         volume.clear();
@@ -88,10 +88,10 @@ fn answer_code(code: u32, message: &mut LuksrdMessage) -> u32
 /// for a struct without a sector size.
 #[unsafe(no_mangle)]
 pub extern "C" fn luksrd_len(volume: &LuksrdVolume, image_len: u64) -> u64
-    ensures value { (v : UnlockedVolume) (image : List ℕ) → Stores volume.now v
+    ensures value { result ≡ plaintext_len_in volume.now image_len }
+    ensures stored { (v : UnlockedVolume) (image : List ℕ) → Stores volume.now v
         → length image ≡ image_len
         → result ≡ length (plaintext_of v image) }
-    ensures unfilled { sector_size_with volume.now.sector_size ≡ None → result ≡ 0 }
 {
     match volume::sector_size(volume) {
         Some(sector_size) => {
@@ -109,12 +109,10 @@ pub extern "C" fn luksrd_ending(
     bytes: &mut u64,
     message: &mut LuksrdMessage,
 ) -> u32
-    ensures value { (v : UnlockedVolume) (image : List ℕ) → Stores volume.now v
+    ensures value { EndsIn volume.now image_len result bytes.new message.new }
+    ensures stored { (v : UnlockedVolume) (image : List ℕ) → Stores volume.now v
         → length image ≡ image_len
         → EndsAs (ending_of v.segment image) result bytes.new message.new }
-    ensures unfilled { sector_size_with volume.now.sector_size ≡ None
-        → (result ≡ BAD_VOLUME) × (bytes.new ≡ 0) × StoresCode message.new BAD_VOLUME }
-    ensures bad_volume { result ≡ BAD_VOLUME → sector_size_with volume.now.sector_size ≡ None }
 {
     *bytes = 0;
     let Some(sector_size) = volume::sector_size(volume) else {
@@ -159,7 +157,8 @@ fn is_range(sector_size: SectorSize, first: u64, len: usize) -> bool
 /// bytes are as they were.
 #[unsafe(no_mangle)]
 pub extern "C" fn luksrd_decrypt(volume: &LuksrdVolume, first_sector: u64, bytes: &mut [u8]) -> u32
-    ensures plain { result ≡ 0 → (v : UnlockedVolume) (image : List ℕ) → Stores volume.now v
+    ensures value { result ≡ 0 → DecryptsAs volume.now first_sector bytes.old bytes.new }
+    ensures stored { result ≡ 0 → (v : UnlockedVolume) (image : List ℕ) → Stores volume.now v
         → AreStored v.segment image first_sector bytes.old
         → bytes.new ≡ plain_at v.segment (cipher_of v) image
         (first_sector * sector_len v.segment) (length bytes.old) }
@@ -190,7 +189,7 @@ pub extern "C" fn luksrd_status_text(code: u32, message: &mut LuksrdMessage)
 /// The version of this library.
 #[unsafe(no_mangle)]
 pub extern "C" fn luksrd_version() -> u32
-    ensures { result ≡ VERSION }
+    ensures { result ≡ 1 * 65536 + 1 * 256 }
 {
     VERSION
 }

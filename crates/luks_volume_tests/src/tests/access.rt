@@ -1,8 +1,10 @@
 //! What no clause says: ranges of volumes that the tests seal from a known text, which sectors are
-//! read for a range, and images with a read that fails or that are shorter than they report.
+//! read for a range, images with a read that fails or that are shorter than they report, and
+//! images in files.
 
 mod endings;
 mod failing;
+mod files;
 mod fixture;
 mod opening;
 mod ranges;

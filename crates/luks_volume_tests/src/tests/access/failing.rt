@@ -5,12 +5,9 @@ use super::fixture::{BadImage, OPTIONS, PASS, image2, opened, refusal, text};
 use crate::tests::shared::assert_of;
 use luks_access::Message;
 use luks_access::fault::RangeFault;
-use luks_access::file::FileImage;
-use luks_access::image::{ReadAt, ReadAtFault};
 use luks_access::volume::Volume;
 use luks_seal_fixtures::bytes::at;
 use luks_verdict::sector_size::SectorSize;
-use std::fs::File;
 use std::process::Abort;
 
 fn is_zero(bytes: &[u8]) -> bool {
@@ -88,17 +85,16 @@ fn an_image_is_not_opened_if_a_read_fails(rt: HostRuntime) {
     }
 }
 
-// Any byte of the first device can be read, though its length is reported as 0; the second device
-// has no bytes.
+// The image reports its first length: it is not one that ends inside its header or a key area.
 #[test]
-fn files_are_read_at_offsets(rt: HostRuntime) {
-    let zeros = File::open(&rt, "/dev/zero").expect(&rt, "a device");
-    let zeros = FileImage::new(zeros).expect(&rt, "an end");
-    let mut bytes = [0xee; 600];
-    let is_read = zeros.read_at(512, &mut bytes) == Ok(());
-    assert_of(&rt, "zeros", is_read & (zeros.len() == 0) & is_zero(&bytes));
-    let none = File::open(&rt, "/dev/null").expect(&rt, "a device");
-    let none = FileImage::new(none).expect(&rt, "an end");
-    let is_ended = none.read_at(0, &mut bytes) == Err(ReadAtFault::Ended);
-    assert_of(&rt, "none", is_ended);
+fn an_image_that_became_shorter_is_not_opened(rt: HostRuntime) {
+    let image = image2(&rt, text(&rt, 1024), SectorSize::B512, 0, false);
+    for len in [0, 511, 4_096, 20_000, 33_000] {
+        let shorter = BadImage {
+            bytes: at(image, 0, len),
+            ..BadImage::new(image)
+        };
+        let message = refusal(rt.alloc(), &OPTIONS, &shorter, PASS);
+        assert_at(&rt, len as u64, message == Message::ReadFailed);
+    }
 }

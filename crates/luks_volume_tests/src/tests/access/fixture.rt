@@ -129,7 +129,7 @@ impl<'a> ReadAt for BadImage<'a> {
 
     ghost image = { λ _. None };
 
-    ghost fails = { λ _. true };
+    ghost fails = { λ _ _. true };
 
     fn len(&self) -> u64 {
         self.len
@@ -139,6 +139,9 @@ impl<'a> ReadAt for BadImage<'a> {
         let call = self.calls.get().saturating_add(1);
         self.calls.set(call);
         let end = offset.saturating_add(buf.len() as u64);
+        if buf.is_empty() {
+            return Ok(());
+        }
         if call == self.failing || offset < self.first || self.end < end {
             // What a failed read leaves in the buffer is not plaintext.
             buf.fill(0xbd);

@@ -1,5 +1,6 @@
 use Rattle.std.proofs.Common.{ap}
 use Rattle.luks_io.proofs.ErrorLemmas.{given_error}
+use Rattle.luks_access.proofs.ConsumedLemmas.{consumed_unfound, consumed_unlocked}
 use Rattle.luks_access.proofs.OpeningLemmas.{opened_by, refused_unfound, refused_unopened, volume_opened}
 use Rattle.luks_access.proofs.OpeningLemmas.{volume_refused}
 use Rattle.luks_unlock.proofs.VolumeLemmas.{none_remain, reads_on}
@@ -27,6 +28,27 @@ returns-in_err-unlocked-clause-refuses g c =
     let read = found.header known is in
     refused_unopened c.args.options.now known c.args.pass.now _ _ found.slots read.0 _ read.1 _ never
     (c.in_err-unlocked.ensures.run _ read.2.left (none_remain _ _ _ _ _ known _ found.loaded is read.2.left)).1))
+
+pub returns-clause-consumes : goal.returns-clause-consumes
+returns-clause-consumes g c known is =
+    let found = c.in_ok-found.ensures.found in
+    let read = found.header known is in
+    consumed_unlocked c.args.options.now known c.args.pass.now _ found.slots read.0 _ _ read.1 _
+    (c.in_ok-unlocked.ensures.run _ read.2.left (none_remain _ _ _ _ _ known _ found.loaded is read.2.left)).1
+
+pub returns-in_err-found-clause-consumes : goal.returns-in_err-found-clause-consumes
+returns-in_err-found-clause-consumes g c =
+    rw (given_error _ _ c.from_residual.ensures.1) (λ known is.
+    consumed_unfound c.args.options.now known c.args.pass.now _ _ c.in_err-found.ensures.only
+    (c.in_err-found.ensures.err known is))
+
+pub returns-in_err-unlocked-clause-consumes : goal.returns-in_err-unlocked-clause-consumes
+returns-in_err-unlocked-clause-consumes g c =
+    rw (given_error _ _ c.from_residual-in_err-unlocked.ensures.1) (λ known is.
+    let found = c.in_ok-found.ensures.found in
+    let read = found.header known is in
+    consumed_unlocked c.args.options.now known c.args.pass.now _ found.slots read.0 _ _ read.1 _
+    (c.in_err-unlocked.ensures.run _ read.2.left (none_remain _ _ _ _ _ known _ found.loaded is read.2.left)).1)
 
 -- the key slots were tried after the volume was found
 pub returns-in_err-unlocked-clause-reads : goal.returns-in_err-unlocked-clause-reads
