@@ -16,7 +16,7 @@ text() {
 
 # served COMMAND PARAMETER..: runs a command while the plugin serves a volume; its messages and those of nbdkit are in the file said
 served() {
-    timeout 60 nbdkit -U - "$plugin" "${@:2}" --run "$1" >said 2>&1
+    timeout "$patience" nbdkit -U - "$plugin" "${@:2}" --run "$1" >said 2>&1
 }
 
 # compared WAY NAME ARGUMENT PARAMETER..: the problems that the clients of this way find, compared with the text; nbdkit's own messages are in the file said
@@ -150,10 +150,10 @@ opens 'a key file from a pipe' "$volume1" key-file=<(cat pass)
 opens 'a passphrase from the command line' "$volume1" passphrase='a passphrase'
 opens 'a passphrase from a file' "$volume1" passphrase=+pass
 opens 'a passphrase from a descriptor' "$volume1" passphrase=-9 9<pass
-timeout 60 /usr/bin/python3 "$here/clients.py" asks 'a passphrase' nbdkit -U - "$plugin" "$volume1" passphrase=- --run 'nbdcopy "$uri" copy' >said 2>&1
+timeout "$patience" /usr/bin/python3 "$here/clients.py" asks 'a passphrase' nbdkit -U - "$plugin" "$volume1" passphrase=- --run 'nbdcopy "$uri" copy' >said 2>&1
 same 'a passphrase from a terminal: status' $? 0
 same 'a passphrase from a terminal' "$(sha256sum <copy)" "$(sha256sum <text)"
-timeout 60 /usr/bin/python3 "$here/clients.py" asks 'a wrong one' nbdkit -U - "$plugin" "$volume1" passphrase=- --run 'echo it is served' >said 2>&1
+timeout "$patience" /usr/bin/python3 "$here/clients.py" asks 'a wrong one' nbdkit -U - "$plugin" "$volume1" passphrase=- --run 'echo it is served' >said 2>&1
 same 'a wrong passphrase from a terminal' $? 1
 printf 'a passphrase\n' >newline
 refused 'a newline after the passphrase' 'luksrd: no key opens the volume' "$volume1" key-file=newline
@@ -265,11 +265,14 @@ cp "$volume1" remembered
 quietly luksAddKey --pbkdf-force-iterations 1000 --key-file pass remembered secret
 quietly luksDump --dump-volume-key --volume-key-file volume_key --key-file pass remembered
 for parameter in key-file=secret passphrase=+secret; do
-    nbdkit -U socket -P pid "$plugin" remembered $parameter
-    until [ -s pid ]; do sleep 0.1; done
-    same "$parameter: the passphrase in memory" "$(/usr/bin/python3 "$here/clients.py" finds secret "$(cat pid)")" 0
-    same "$parameter: the volume key in memory" "$(/usr/bin/python3 "$here/clients.py" finds volume_key "$(cat pid)" | grep -cv '^0$')" 1
-    kill "$(cat pid)"
+    nbdkit -f -U socket -P pid "$plugin" remembered $parameter >said 2>&1 &
+    server=$!
+    wait_until $server test -s pid
+    same "$parameter: it is served" $? 0
+    same "$parameter: the passphrase in memory" "$(/usr/bin/python3 "$here/clients.py" finds secret $server)" 0
+    same "$parameter: the volume key in memory" "$(/usr/bin/python3 "$here/clients.py" finds volume_key $server | grep -cv '^0$')" 1
+    kill $server
+    ended $server
     rm -f pid socket
 done
 
@@ -279,21 +282,21 @@ if device=$(losetup -f --show "$volume1" 2>err); then
     opens 'a block device' "$device" key-file=pass
     losetup -d "$device"
 else
-    echo 'loop devices cannot be made here: no block device is served'
+    skip 'a block device that is served' 'no loop device can be made here'
 fi
 
 # out of memory: it ends with a message, not by a signal. With too little memory for nbdkit alone, nbdkit ends by one.
 # within MIB ARGUMENT..: runs nbdkit with these arguments in MIB MiB of address space
 within() {
-    (ulimit -v $(($1 * 1024)); exec timeout 60 nbdkit -U - "${@:2}" --run true) >said 2>&1
+    (ulimit -v $(($1 * 1024)); exec timeout "$patience" nbdkit -U - "${@:2}" --run true) >said 2>&1
 }
 mib=8
-until within $mib null; do mib=$((mib + 4)); done 2>err
+until within $mib null || [ $mib -ge 300 ]; do mib=$((mib + 4)); done 2>err
 starved=0
 until within $mib "$plugin" "$volume1" key-file=pass; do
     status=$?
     ! grep -q 'luksrd: out of memory' said || starved=$((starved + 1))
-    same "$mib MiB of memory: a status and a message" "$((status < 126)) $([ -s said ]; echo $?)" '1 0'
+    same "$mib MiB of memory: a status and a message" "$((status < 124)) $([ -s said ]; echo $?)" '1 0'
     mib=$((mib + 2))
     [ $mib -lt 300 ] || break
 done 2>err
@@ -307,16 +310,16 @@ instrumented() {
     shift 2
     for sealed in "$volume1" "$volume2"; do
         text "$sealed" pass
-        timeout 100 "$@" nbdkit -U - "$plugin" "$sealed" key-file=pass --run "unset LD_PRELOAD; /usr/bin/python3 '$here/clients.py' ranges \"\$uri\" text 200 >answer" >said 2>&1
+        timeout "$patience" "$@" nbdkit -U - "$plugin" "$sealed" key-file=pass --run "unset LD_PRELOAD; /usr/bin/python3 '$here/clients.py' ranges \"\$uri\" text 200 >answer" >said 2>&1
         same "$name, $sealed: status" $? 0
         same "$name, $sealed: ranges" "$(cat answer)" 'all the same'
     done
     cp "$volume1" image
     text image pass
-    timeout 100 "$@" nbdkit -U - "$plugin" image key-file=pass --run "unset LD_PRELOAD; /usr/bin/python3 '$here/clients.py' shrinks \"\$uri\" text image >answer" >said 2>&1
+    timeout "$patience" "$@" nbdkit -U - "$plugin" image key-file=pass --run "unset LD_PRELOAD; /usr/bin/python3 '$here/clients.py' shrinks \"\$uri\" text image >answer" >said 2>&1
     same "$name: truncated while it is served" "$? $(cat answer)" '0 all the same'
     for key in key-file=wrong key-file=long passphrase=+wrong key-file=absent key-slot=x; do
-        timeout 100 "$@" nbdkit -U - "$plugin" "$volume1" "$key" --run true >said 2>&1
+        timeout "$patience" "$@" nbdkit -U - "$plugin" "$volume1" "$key" --run true >said 2>&1
         same "$name, $key" $? 1
     done
 }

@@ -5,11 +5,65 @@ set -u
 # the options of the make that calls this script are not for those that it calls
 unset MAKEFLAGS
 program=$(realpath "${1:?the built program}")
+# The seconds after which one run or one wait hangs, and a script: at least ten times what an idle machine needs
+patience=${PATIENCE:-300}
+limit=$((patience * 10))
+passed=0
+failed=0
+skipped=0
+
+# end_children PID: kills what this process started, and what that started, but not the process that does it
+end_children() {
+    local child
+    for child in $(pgrep -P "$1"); do
+        [ "$child" = "$BASHPID" ] || { end_children "$child"; kill -KILL "$child"; }
+    done
+}
+
+# This process ends a script that hangs, and what it started, again and again, since a command of which one part is killed goes on to the
+# next. It ends when the script does. (A trap for that fails in bash 5.2 if it comes while a command substitution is parsed.)
+{
+    while [ "$SECONDS" -lt "$limit" ]; do
+        sleep 1
+        kill -0 $$ || exit
+    done
+    echo "FAILED: no end within $limit seconds" >>/proc/$$/fd/1
+    kill $$
+    while kill -0 $$; do
+        end_children $$
+        sleep 0.1
+    done
+} </dev/null >/dev/null 2>&1 &
+disown
+
 work=$(mktemp -d)
 trap 'rm -rf "$work"' EXIT
 cd "$work" || exit 1
-passed=0
-failed=0
+
+# wait_until PID COMMAND..: waits until the command succeeds. It fails if it still does not when this process has ended, or hangs.
+wait_until() {
+    local pid=$1 deadline=$((SECONDS + patience))
+    shift
+    until "$@"; do
+        if ! kill -0 "$pid" 2>/dev/null || [ "$SECONDS" -ge "$deadline" ]; then
+            "$@"
+            return
+        fi
+        sleep 0.05
+    done
+}
+
+# ended PID: waits until this process, which the script started, has ended, and gives its status; if it hangs, it is killed
+ended() {
+    wait_until "$1" false || kill -KILL "$1" 2>/dev/null
+    wait "$1"
+}
+
+# skip NAME REASON: counts a check that cannot be made here
+skip() {
+    skipped=$((skipped + 1))
+    echo "SKIPPED $1: $2"
+}
 
 # bytes HEX: these bytes
 bytes() { printf '%b' "$(printf '%s' "$1" | sed 's/../\\x&/g')"; }
@@ -101,8 +155,8 @@ scarce() {
     [ "$starved" -gt 0 ] || { failed=$((failed + 1)); echo "FAILED: no run of $1 was out of memory"; }
 }
 
-# finish: the count, and whether all was as expected
+# finish: the counts, and whether all was as expected; a script of which no check was made fails
 finish() {
-    echo "$passed passed, $failed failed"
-    [ "$failed" = 0 ]
+    echo "$passed passed, $failed failed, $skipped skipped"
+    [ "$failed" = 0 ] && [ "$passed" -gt 0 ]
 }

@@ -93,6 +93,7 @@ same 'what bash offers' "$(diff ../wanted ../offered)" ''
 # typed LINE: bash reads this line and a tab, and calls a function instead of the program with the
 # completed arguments
 typed() {
+    rm -f ../called
     # shellcheck disable=SC2016
     printf '%s\n' ". '$completions/luksrd.bash'" 'luksrd() { printf "<%s>" "$@" >../called; }' \
         "luksrd $1"$'\t' |
@@ -148,7 +149,7 @@ bindkey '^I' answer
 print READ''Y
 ZSH
 rm -f ../offered
-timeout 120 zsh -f ../zsh.terminal "$completions" >../zsh.log 2>&1
+timeout "$patience" zsh -f ../zsh.terminal "$completions" >../zsh.log 2>&1
 same 'what zsh offers' "$(diff ../wanted ../offered 2>&1)" ''
 same 'what zsh sees of the file' "$(zsh -n "$completions/_luksrd" 2>&1)" ''
 
