@@ -1,19 +1,11 @@
 #!/usr/bin/env bash
-# Runs the built program on devices as a shell passes them: files and block devices that are their own output, pipes, folders, closed
-# descriptors, and system calls that are interrupted or fail (by strace, if a program may be traced).
-sample=$(realpath "$(dirname "$0")/../sample")
-sources=$(realpath "$(dirname "$0")/..")
-# shellcheck source=tests/common.sh
-. "$(dirname "$0")/common.sh"
+# Runs the built program on files and devices as a shell passes them: files and block devices that are their own output, folders, closed
+# descriptors, file systems, an empty /dev, and full devices.
+# shellcheck source=tests/inputs.sh
+. "$(dirname "$0")/inputs.sh"
 
-gzip -dc "$sample/volume.img.gz" >volume
-cp "$sample/passphrase" pass
-plain=$(hex "$sample/plain.txt")
 opens=$(printf 'Key slot 0 opens the volume.\n' >line; hex line)
-area_end=$((8 * 512 + 64 * 4000))
-head -c $area_end volume >header
 printf 'another one' >wrong
-: >in
 
 # into NAME MESSAGE FILE ARGUMENT..: a run that writes into a file or a device ends with this message and leaves it unchanged
 into() {
@@ -21,7 +13,7 @@ into() {
     shift 3
     before=$(sha256sum <"$file")
     : >out
-    timeout 60 "$program" "$@" <in 1<>"$file" 2>err
+    timeout "$patience" "$program" "$@" <in 1<>"$file" 2>err
     echo $? >status
     expect "$name, written into" 4 '' "$message"
     same "$name: what it writes into" "$(sha256sum <"$file")" "$before"
@@ -34,7 +26,7 @@ onto() {
     shift 3
     before=$(sha256sum <"$file")
     : >out
-    timeout 60 "$program" "$@" <in >>"$file" 2>err
+    timeout "$patience" "$program" "$@" <in >>"$file" 2>err
     echo $? >status
     expect "$name, appended" 4 '' "$message"
     same "$name: the file" "$(sha256sum <"$file")" "$before"
@@ -57,20 +49,6 @@ echo $? >status
 expect '/dev/null as input and output' 1 '' ''
 
 # block devices: one has many names, and a loop device and its file show the same bytes
-loops=()
-# loop FILE: a loop device over a file, in $device
-loop() {
-    device=$(losetup -f --show "$1" 2>/dev/null) || return
-    loops+=("$device")
-}
-release() {
-    local device
-    for device in "${loops[@]}"; do
-        losetup -d "$device"
-    done
-    rm -rf "$work"
-}
-trap release EXIT
 cp volume mapped
 head -c 1M /dev/zero >blank
 if loop mapped && image=$device && loop mapped && other=$device && loop blank && target=$device; then
@@ -89,9 +67,23 @@ if loop mapped && image=$device && loop mapped && other=$device && loop blank &&
     expect 'a device onto another' 0 "$plain" ''
     run luksCat --key-file pass node
     expect 'a device by another node' 0 "$plain" ''
+    release_loops
 else
-    echo 'loop devices cannot be made here: inputs that standard output writes to by another name are not tried'
+    skip 'inputs that standard output writes to by another name' 'no loop device can be made here'
 fi
+# the kernel shows the name of the file under a loop device with a newline after it; a name may end in any blank itself
+for blank in ' ' $'\t' $'\n' $'\n\n'; do
+    named="mapped$blank"
+    cp volume "$named"
+    if loop "$named"; then
+        into "a loop device onto its file, named $(printf %q "$named")" "luksrd: cannot open $device" "$named" luksCat --key-file pass "$device"
+        # the message is compared without the newlines at its end, which the shell drops from what a command prints
+        into "the file $(printf %q "$named") onto its loop device" "$(echo "luksrd: cannot open $named")" "$device" luksCat --key-file pass "$named"
+        release_loops
+    else
+        skip "a loop device over a file named $(printf %q "$named")" 'no loop device can be made here'
+    fi
+done
 
 # folders
 run luksCat --key-file pass .
@@ -158,173 +150,107 @@ expect 'no standard error' 0 "$plain" ''
 same 'none at all' "$("$program" luksCat --key-file pass volume <&- >&- 2>&-; echo $?)" 6
 same 'none at all, and none needed' "$("$program" isLuks volume <&- >&- 2>&-; echo $?)" 0
 
-# bytes of a pipe that are not needed stay in it
-mkfifo pipe
-# consumes BYTES ARGUMENT..: a run over a named pipe, into which an image and more are written, consumes this number of its bytes
-piped=volume
-consumes() {
-    local count=$1 writer
-    shift
-    exec 3<>pipe
-    (cat "$piped"; printf 'the rest') >pipe &
-    writer=$!
-    run "$@"
-    timeout 60 head -c $(($(stat -c %s "$piped") + 8 - count)) <&3 >rest
-    wait $writer
-    exec 3>&-
-    same "$*: the rest of the pipe after $count bytes" "$(sha256sum <rest)" "$( (tail -c +$((count + 1)) "$piped"; printf 'the rest') | sha256sum)"
+# file systems of their own number their files alike: an input is no output because the numbers of their files agree
+if declare -F in_namespace >/dev/null; then
+    mkdir one two
+    # shellcheck disable=SC2016
+    in_namespace bash -c '
+        mount -t tmpfs none one && mount -t tmpfs none two && cp volume one/input && : >two/output || exit
+        stat -c %i one/input two/output | uniq | wc -l >alike
+        "$0" luksCat --key-file pass one/input 1<>two/output 2>err
+        echo $? >status
+        cat two/output >out' "$program"
+    if [ "$(cat alike)" = 1 ]; then
+        expect 'a file of another file system with the same number' 0 "$plain" ''
+    else
+        skip 'a file of another file system with the same number' 'file systems number their files otherwise here'
+    fi
+else
+    skip 'a file of another file system with the same number' 'no file system can be mounted here'
+fi
+
+# an empty /dev: neither standard input nor standard output can be looked at, and there is no /dev/null
+# bare ARGUMENT..: a run there
+bare() {
+    # shellcheck disable=SC2016
+    in_namespace bash -c 'mount -t tmpfs none /dev && exec "$0" "$@"' "$program" "$@" <in >out 2>err
+    echo $? >status
 }
-consumes $area_end testPassphrase --key-file pass pipe
-expect 'a named pipe' 0 "$opens" ''
-consumes $area_end testPassphrase --key-file pass --header pipe volume
-expect 'a header in a named pipe' 0 "$opens" ''
-consumes $area_end luksCat --key-file pass --header pipe volume
-expect 'a header in a named pipe, and the payload in a file' 0 "$plain" ''
-consumes 592 isLuks --header pipe volume
-expect 'a header in a named pipe, which is looked for' 0 '' ''
+if declare -F in_namespace >/dev/null; then
+    cp volume in
+    bare luksCat --key-file pass -
+    expect 'an image from standard input in an empty /dev' 0 "$plain" ''
+    bare testPassphrase --key-file pass --header - volume
+    expect 'a header from standard input in an empty /dev' 0 "$opens" ''
+    cp pass in
+    bare luksCat --key-file - volume
+    expect 'a key file from standard input in an empty /dev' 0 "$plain" ''
+    : >in
+    bare luksCat --key-file pass volume
+    expect 'no standard input in an empty /dev' 0 "$plain" ''
+    bare luksCat --key-file pass missing
+    expect 'a missing image in an empty /dev' 4 '' 'luksrd: cannot open missing'
+else
+    skip 'an empty /dev' 'no file system can be mounted here'
+fi
 
-# the image is not read before a key was found, nor by a command that needs only the header
-consumes 0 luksCat --key-file wrong --header header pipe
-expect 'a wrong passphrase beside a header' 2 '' 'luksrd: no key opens the volume'
-consumes 0 luksCat --key-file pass --header pass pipe
-expect 'no header' 4 '' 'luksrd: not a LUKS image'
-consumes 0 testPassphrase --key-file pass --header header pipe
-expect 'a passphrase beside a header' 0 "$opens" ''
-consumes 0 isLuks --header header pipe
-expect 'a header that is looked for' 0 '' ''
-for command in luksUUID luksDump luksCheck; do
-    "$program" $command header >wanted
-    consumes 0 $command --header header pipe
-    expect "$command beside a header" 0 "$(hex wanted)" ''
-done
-
-# a payload is read ahead, but not past its end
-gzip -dc "$sample/volume2.img.gz" >dynamic
-truncate -s +200k dynamic
-"$program" luksCat --key-file pass dynamic >whole
-# sized BYTES: the same volume with a payload of a fixed size and two headers with valid checksums
-sized() {
-    python3 - "$1" <<'PYTHON'
-import hashlib, sys
-image = bytearray(open("dynamic", "rb").read())
-size = b'"size":"%s"' % sys.argv[1].encode()
-for offset in 0, 16384:
-    header = image[offset : offset + 16384].replace(b'"size":"dynamic"', size)
-    header += bytes(16384 - len(header))
-    header[448:512] = bytes(64)
-    header[448:480] = hashlib.sha256(header).digest()
-    image[offset : offset + 16384] = header
-sys.stdout.buffer.write(image)
-PYTHON
+# two faults at once: of what is written to a full device nothing is there, so this is what a run ends with
+head -c $(($(stat -c %s volume) - 1)) volume >torn
+head -c $((area_end - 1)) volume >short
+# full ARGUMENT..: a run whose output is a full device
+full() {
+    : >out
+    "$program" "$@" <in >/dev/full 2>err
+    echo $? >status
 }
-piped=sized
-for sectors in 1 2 3 127 128 129 400; do
-    sized $((sectors * 512)) >sized
-    consumes $((1048576 + sectors * 512)) luksCat --key-file pass pipe
-    head -c $((sectors * 512)) whole >wanted
-    expect "a payload of $sectors sectors in a named pipe" 0 "$(hex wanted)" ''
-    consumes $((1048576 + sectors * 512)) luksCat --key-file pass --header sized pipe
-    expect "a payload of $sectors sectors in a named pipe beside a header" 0 "$(hex wanted)" ''
-done
-run luksCat --key-file pass <(cat dynamic)
-expect 'a payload without an end from a pipe' 0 "$(hex whole)" ''
-rm in
-ln -s pipe in
-consumes $((1048576 + sectors * 512)) luksCat --key-file pass -
-expect 'a payload of a fixed size from standard input' 0 "$(hex wanted)" ''
-rm in
-: >in
-piped=volume
+head -c 512 "$sample/plain.txt" >first
+run luksCat --key-file pass torn
+expect 'a torn sector' 4 "$(hex first)" 'luksrd: image ends inside a sector: 511 bytes left over'
+full luksCat --key-file pass torn
+expect 'a torn sector, and a full device' 6 '' 'luksrd: write failed'
+full luksCat --key-file pass --header header torn
+expect 'a torn sector beside a header, and a full device' 6 '' 'luksrd: write failed'
+cp torn long
+truncate -s +200k long
+full luksCat --key-file pass long
+expect 'a torn sector after more than a buffer, and a full device' 6 '' 'luksrd: write failed'
+head -c 100 /dev/zero >few
+full afSplit --hash sha256 --stripes 3 --random few key
+expect 'too few random bytes, and a full device' 6 '' 'luksrd: write failed'
+cp volume damaged
+printf '\0\0\0\1' | dd of=damaged bs=1 seek=256 conv=notrunc status=none
+printf 'slot 1: state\n' >findings
+full luksCheck damaged
+expect 'findings, and a full device' 6 '' 'luksrd: write failed'
+full luksCat --key-file wrong volume
+expect 'nothing to write, and a full device' 2 '' 'luksrd: no key opens the volume'
+full luksCat --key-file pass short
+expect 'a truncated key area, and a full device' 4 '' 'luksrd: image ends inside the header or a key area'
 
-run luksCat --key-file <(cat pass) <(cat volume)
-expect 'pipes of the shell' 0 "$plain" ''
-run luksCat --key-file <(cat pass) --header <(cat header) <(cat volume)
-expect 'pipes of the shell, with a header' 0 "$plain" ''
+# unprintable NAME STATUS HEX ARGUMENT..: a run whose message cannot be printed ends with its status, and its output stays
+unprintable() {
+    local name=$1 status=$2 output=$3
+    shift 3
+    : >err
+    "$program" "$@" <in >out 2>/dev/full
+    echo $? >status
+    expect "$name, and the message cannot be printed" "$status" "$output" ''
+}
+unprintable 'arguments that are no command' 1 '' isLuks
+unprintable 'findings' 1 "$(hex findings)" luksCheck damaged
+unprintable 'a wrong passphrase' 2 '' luksCat --key-file wrong volume
+unprintable 'a missing image' 4 '' isLuks missing
+unprintable 'no volume' 4 '' luksUUID pass
+unprintable 'a torn sector' 4 "$(hex first)" luksCat --key-file pass torn
+unprintable 'no message' 0 "$plain" luksCat --key-file pass volume
+same 'neither output nor message' "$("$program" luksCat --key-file pass volume >/dev/full 2>/dev/full; echo $?)" 6
 
 # a long derivation ends at once when a signal stops it
-cp volume long
-printf '\377\377\377\377' | dd of=long bs=1 seek=212 conv=notrunc status=none
-timeout -k 60 1 "$program" testPassphrase --key-file pass long >out 2>err
+cp volume slow
+printf '\377\377\377\377' | dd of=slow bs=1 seek=212 conv=notrunc status=none
+timeout -k 60 1 "$program" testPassphrase --key-file pass slow >out 2>err
 echo $? >status
 expect 'a derivation that is ended' 124 '' ''
 
-# installing into a folder with a space in its name
-mkdir 'a folder'
-make -s -C "$sources" install LIBRARY=absent PLUGIN=absent DESTDIR="$work/a folder" PREFIX=/usr PROGRAM="$program"
-find 'a folder' -type f -printf '%m %P\n' | sort >files
-same 'what is installed, and its modes' "$(cat files)" \
-    '644 usr/share/bash-completion/completions/luksrd
-644 usr/share/man/man1/luksrd.1
-644 usr/share/zsh/site-functions/_luksrd
-755 usr/bin/luksrd'
-for file in bin/luksrd:"$program" share/man/man1/luksrd.1:"$sources/docs/luksrd.1" \
-    share/bash-completion/completions/luksrd:"$sources/completions/luksrd.bash" \
-    share/zsh/site-functions/_luksrd:"$sources/completions/_luksrd"; do
-    same "what is installed as ${file%%:*}" "$(cmp "a folder/usr/${file%%:*}" "${file#*:}" 2>&1)" ''
-done
-make -s -C "$sources" uninstall DESTDIR="$work/a folder" PREFIX=/usr PROGRAM="$program"
-same 'what is left of it' "$(find 'a folder' -type f)" ''
-
-# traced CALL FILE HOW ARGUMENT..: a run in which the calls on a file are tampered with
-traced() {
-    local call=$1 file=$2 how=$3
-    shift 3
-    timeout 120 strace -qq -o trace -P "$file" -e trace="$call" -e inject="$call:$how" "$program" "$@" <in >out 2>err
-    echo $? >status
-}
-
-if ! strace -qq -o trace true; then
-    echo 'strace cannot trace here: interrupted and failed calls are not tried'
-    finish
-    exit
-fi
-
-read_failed='luksrd: read failed'
-write_failed='luksrd: write failed'
-: >out
-traced write "$work/out" error=EINTR luksCat --key-file pass volume
-expect 'every write interrupted' 6 '' "$write_failed"
-same 'the number of write calls' "$(grep -c '^write' trace)" 101
-traced write "$work/out" error=EINTR:when=1..100 luksCat --key-file pass volume
-expect 'a hundred writes interrupted' 0 "$plain" ''
-traced write "$work/out" error=ENOSPC:when=1 luksCat --key-file pass volume
-expect 'a write that fails once' 6 '' "$write_failed"
-for file in volume pass; do
-    traced read "$work/$file" error=EINTR luksCat --key-file pass volume
-    expect "every read of $file interrupted" 6 '' "$read_failed"
-    same "the number of read calls on $file" "$(grep -c '^read' trace)" 101
-    traced read "$work/$file" error=EINTR:when=1..100 luksCat --key-file pass volume
-    expect "a hundred reads of $file interrupted" 0 "$plain" ''
-    traced read "$work/$file" error=EIO:when=1 luksCat --key-file pass volume
-    expect "a read of $file that fails" 6 '' "$read_failed"
-done
-for file in header volume pass; do
-    traced read "$work/$file" error=EINTR:when=1..100 luksCat --key-file pass --header header volume
-    expect "a hundred reads of $file beside a header interrupted" 0 "$plain" ''
-    traced read "$work/$file" error=EIO:when=1 luksCat --key-file pass --header header volume
-    expect "a read of $file beside a header that fails" 6 '' "$read_failed"
-done
-# these sectors are read in fewer calls than there are sectors, though a pipe may give as little as a page
-cat sized >pipe &
-strace -qq -o trace -P "$work/pipe" -e trace=read "$program" luksCat --key-file pass pipe >out 2>err
-echo $? >status
-wait $!
-expect 'a pipe that is traced' 0 "$(hex wanted)" ''
-same "fewer reads than $sectors" "$([ "$(grep -c '^read' trace)" -lt "$sectors" ] && echo fewer)" fewer
-for call in $(seq 2 40); do
-    traced read "$work/volume" "error=EIO:when=$call" luksCat --key-file pass volume
-    grep -q INJECTED trace || break
-    same "read $call that fails: status and message" "$(cat status err)" "6
-$read_failed"
-    case $plain in
-    "$(hex out)"*) passed=$((passed + 1)) ;;
-    *) failed=$((failed + 1)); echo "FAILED: what read $call that fails leaves is no prefix of the plain text" ;;
-    esac
-done
-expect 'no read that fails' 0 "$plain" ''
-traced openat "$work/volume" error=EACCES luksCat --key-file pass "$work/volume"
-expect 'an image that may not be read' 4 '' "luksrd: cannot open $work/volume"
-traced openat "$work/header" error=EACCES luksCat --key-file missing --header "$work/header" volume
-expect 'a header that may not be read' 4 '' "luksrd: cannot open $work/header"
 
 finish
