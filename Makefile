@@ -3,13 +3,15 @@
 # make check      runs the built program on files and pipes, and beside cryptsetup and qemu-img: all of `make test` but the gate
 # make test       what CI runs: the gate, which proves everything, tries each must-fail edit and runs the tests, and beside it the same
 #                 scripts on the program that it builds; it prints the processor time that each crate took
-# make bench      measures key derivation, decryption and whole volumes beside other implementations
+# make bench      measures key derivation, decryption and whole volumes beside other implementations, and memory
 # make library    builds the library for C: out/libluksrd.a, out/libluksrd.so and out/luksrd.pc
 # make nbdkit     builds the plugin for nbdkit, out/nbdkit-luksrd-plugin.so
-# make install    puts the program, its man page and its completions below PREFIX (/usr/local if it is
-#                 not given), in DESTDIR if that is given; the library too if it is built, and the
-#                 plugin if it is built, which goes into nbdkit's own folder (PLUGINS)
-# make uninstall  removes them again
+# make install    puts the program, its man page, its completions, README.md and FORMATS.md below PREFIX
+#                 (/usr/local if it is not given), in DESTDIR if that is given; the library too if it
+#                 is built, and the plugin if it is built: for /usr and /usr/local in nbdkit's own
+#                 folder, for any other PREFIX in lib/nbdkit/plugins below it, or in PLUGINS if that
+#                 is given
+# make uninstall  removes them again, except what a Debian package has put there
 # make deb        makes a Debian package of the program as it is built, in DEB, and if the plugin is
 #                 built, one of that in PLUGIN_DEB
 
@@ -25,13 +27,16 @@ DEB ?= out/luksrd_$(VERSION)_amd64.deb
 PLUGIN_DEB ?= out/nbdkit-plugin-luksrd_$(VERSION)_amd64.deb
 PREFIX ?= /usr/local
 ZSH_FUNCTIONS ?= $(PREFIX)/share/zsh/site-functions
-PLUGINS ?= $(shell pkg-config nbdkit --variable=plugindir 2>/dev/null)
+# nbdkit finds plugins by name in its own folder alone, but only root may write there
+PLUGINS ?= $(if $(filter-out /usr /usr/local,$(PREFIX:/=)),$(PREFIX)/lib/nbdkit/plugins,$(shell pkg-config nbdkit --variable=plugindir 2>/dev/null))
 BINARIES = $(DESTDIR)$(PREFIX)/bin
 PAGES = $(DESTDIR)$(PREFIX)/share/man/man1
+DOCUMENTS = $(DESTDIR)$(PREFIX)/share/doc/luksrd
 BASH_COMPLETIONS = $(DESTDIR)$(PREFIX)/share/bash-completion/completions
 ZSH_COMPLETIONS = $(DESTDIR)$(ZSH_FUNCTIONS)
 LIBRARIES = $(DESTDIR)$(PREFIX)/lib
 HEADERS = $(DESTDIR)$(PREFIX)/include
+PLUGIN_FILE = $(DESTDIR)$(PLUGINS)/nbdkit-luksrd-plugin.so
 CFLAGS ?= -O2
 # the library's file, and the two names that lead to it
 SHARED_NAMES = libluksrd.so.$(VERSION) libluksrd.so.$(INTERFACE) libluksrd.so
@@ -94,10 +99,11 @@ toolchain:
 	@command -v rt >/dev/null || { echo "rt is missing: put the Rattle toolchain on the path" >&2; exit 1; }
 
 check: all $(TOOLS) library nbdkit scripts
+	tests/impostors.sh $(PROGRAM)
 
 # The programs, the library and the plugin are used as they are. Four scripts run side by side; the
 # output of each comes when it has ended. Some need the tools, or what is built from C.
-TESTS := stripes volumes devices memory hostile completions
+TESTS := stripes volumes devices pipes faults interruptions install memory hostile completions
 INTEROP := headers headers2 volumes volumes2 detached filesystems
 PROGRAM_SCRIPTS := test-names test-counts $(TESTS:%=test-%) $(INTEROP:%=interop-%)
 C_SCRIPTS := test-package test-library interop-nbd interop-recipes
@@ -127,7 +133,7 @@ $(TOOL_SCRIPTS): interop-%:
 	interop/$*.sh $(PROGRAM) $(TOOLS)
 
 test-package:
-	tests/package.sh $(PROGRAM) $(PLUGIN)
+	tests/package.sh $(PROGRAM) $(PLUGIN) $(LIBRARY) $(SHARED)
 
 interop-nbd:
 	interop/nbd.sh $(PROGRAM) $(PLUGIN) $(LIBRARY)
@@ -142,6 +148,8 @@ test: toolchain
 	tests/gate
 
 bench: all
+	bench/instructions
+	bench/memory
 	bench/pbkdf2
 	bench/xts
 	bench/volume
@@ -152,14 +160,20 @@ bench: all
 built:
 	@test -f "$(PROGRAM)" -a -x "$(PROGRAM)" || { echo "luksrd is not built: run make first" >&2; exit 1; }
 
-install: install-program $(if $(wildcard $(LIBRARY)),install-library) $(if $(wildcard $(PLUGIN)),install-plugin)
+# The plugin comes before the program: if its folder is not known or not writable, nothing is installed.
+install: built $(if $(wildcard $(PLUGIN)),install-plugin) install-program $(if $(wildcard $(LIBRARY)),install-library)
 
 install-program: built
-	install -d "$(BINARIES)" "$(PAGES)" "$(BASH_COMPLETIONS)" "$(ZSH_COMPLETIONS)"
+	install -d "$(BINARIES)" "$(PAGES)" "$(DOCUMENTS)" "$(BASH_COMPLETIONS)" "$(ZSH_COMPLETIONS)"
 	install -m 755 "$(PROGRAM)" "$(BINARIES)/luksrd"
 	install -m 644 docs/luksrd.1 "$(PAGES)/luksrd.1"
+	install -m 644 README.md docs/FORMATS.md "$(DOCUMENTS)"
 	install -m 644 completions/luksrd.bash "$(BASH_COMPLETIONS)/luksrd"
 	install -m 644 completions/_luksrd "$(ZSH_COMPLETIONS)/_luksrd"
+
+# The loader finds a library in the folders that ldconfig knows, but only after ldconfig has noted it.
+note_library = if [ -z "$(DESTDIR)" ] && [ "$$(id -u)" = 0 ] && PATH=$$PATH:/usr/sbin:/sbin && \
+    ldconfig -vNX 2>/dev/null | grep "^$(LIBRARIES):" >/dev/null; then ldconfig; fi
 
 install-library:
 	@test -f "$(LIBRARY)" -a -f "$(SHARED)" || { echo "the library is not built: run make library first" >&2; exit 1; }
@@ -170,18 +184,30 @@ install-library:
 	ln -sf $(word 1,$(SHARED_NAMES)) "$(LIBRARIES)/$(word 2,$(SHARED_NAMES))"
 	ln -sf $(word 2,$(SHARED_NAMES)) "$(LIBRARIES)/$(word 3,$(SHARED_NAMES))"
 	$(call package_config,$(LIBRARIES)/pkgconfig/luksrd.pc)
+	@$(note_library)
+
+# $(call packaged,FILE): the Debian package that has put this file there
+packaged = dpkg-query -S "$(1)" 2>/dev/null | sed 's/: .*//'
 
 install-plugin:
 	@test -f "$(PLUGIN)" || { echo "the plugin is not built: run make nbdkit first" >&2; exit 1; }
 	@test -n "$(PLUGINS)" || { echo "nbdkit's folder is not known: run apt-get install nbdkit-plugin-dev pkg-config" >&2; exit 1; }
+	@name=$$($(call packaged,$(PLUGIN_FILE))); [ -z "$$name" ] || { echo "the package $$name has $(PLUGIN_FILE): run apt-get remove $$name, or give a PREFIX" >&2; exit 1; }
 	install -d "$(DESTDIR)$(PLUGINS)" "$(PAGES)"
-	install -m 644 "$(PLUGIN)" "$(DESTDIR)$(PLUGINS)/nbdkit-luksrd-plugin.so"
+	install -m 644 "$(PLUGIN)" "$(PLUGIN_FILE)"
 	install -m 644 docs/nbdkit-luksrd-plugin.1 "$(PAGES)/nbdkit-luksrd-plugin.1"
 
+INSTALLED = "$(BINARIES)/luksrd" "$(PAGES)/luksrd.1" "$(DOCUMENTS)/README.md" "$(DOCUMENTS)/FORMATS.md" \
+    "$(BASH_COMPLETIONS)/luksrd" "$(ZSH_COMPLETIONS)/_luksrd" \
+    "$(HEADERS)/luksrd.h" "$(LIBRARIES)/libluksrd.a" $(SHARED_NAMES:%="$(LIBRARIES)/%") "$(LIBRARIES)/pkgconfig/luksrd.pc" \
+    "$(PAGES)/nbdkit-luksrd-plugin.1" $(if $(PLUGINS),"$(PLUGIN_FILE)")
+
 uninstall:
-	rm -f "$(BINARIES)/luksrd" "$(PAGES)/luksrd.1" "$(BASH_COMPLETIONS)/luksrd" "$(ZSH_COMPLETIONS)/_luksrd"
-	rm -f "$(HEADERS)/luksrd.h" "$(LIBRARIES)/libluksrd.a" $(SHARED_NAMES:%="$(LIBRARIES)/%") "$(LIBRARIES)/pkgconfig/luksrd.pc"
-	rm -f "$(PAGES)/nbdkit-luksrd-plugin.1" $(if $(PLUGINS),"$(DESTDIR)$(PLUGINS)/nbdkit-luksrd-plugin.so")
+	@for file in $(INSTALLED); do \
+	    [ ! -e "$$file" ] && [ ! -L "$$file" ] || [ -n "$$($(call packaged,$$file))" ] || { echo "rm $$file"; rm "$$file" || exit; }; \
+	done
+	@[ ! -d "$(DOCUMENTS)" ] || rmdir --ignore-fail-on-non-empty "$(DOCUMENTS)"
+	@$(note_library)
 
 # This too uses the program and the plugin as they are.
 deb: built

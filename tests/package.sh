@@ -1,9 +1,11 @@
 #!/usr/bin/env bash
-# Makes Debian packages of the built program and of the built plugin (the second argument), and looks
-# into them; as root, and if neither is installed, dpkg also installs them, they run from
-# there, and dpkg removes all of them.
+# Makes Debian packages of the built program and of the built plugin, and looks into them; installs by make, as root and as another user,
+# into folders of its own. As root, and if luksrd is not installed, dpkg also installs the packages, and make the library into /usr/local:
+# they run from there, and all of it is removed again.
 sources=$(realpath "$(dirname "$0")/..")
 plugin=$(realpath "${2:?the built plugin}")
+library=$(realpath "${3:?the built library}")
+shared=$(realpath "${4:?the same as a shared one}")
 # shellcheck source=tests/common.sh
 . "$(dirname "$0")/common.sh"
 export LC_ALL=C
@@ -65,6 +67,9 @@ holds() {
     same "$name: the newest change" "$(zcat "$papers/changelog.gz" | head -1)" "luksrd ($version) stable; urgency=medium"
     same "$name: the same released changes" "$(zcat "$papers/changelog.gz" | grep -c '^  \*')" \
         "$(sed -n '/^## [0-9]/,$p' "$sources/CHANGELOG.md" | grep -c '^-')"
+    same "$name: their words" "$(zcat "$papers/changelog.gz" | grep -vE '^(luksrd \(|  \[ | -- )' | sed 's/^  \* //' | tr -s ' \n' ' ')" \
+        "$(sed -n '/^## [0-9]/,$p' "$sources/CHANGELOG.md" | grep -v '^#' | sed 's/^- //' | tr -s ' \n' ' ')"
+    same "$name: lines of its changes that are too long" "$(zcat "$papers/changelog.gz" | grep -v '^ -- ' | awk 'length > 80')" ''
     same "$name: the man page" "$(zcat "$name/usr/share/man/man1/$page.gz")" "$(cat "$sources/docs/$page")"
     same "$name: the version of the man page" "$(grep '^\.Os' "$sources/docs/$page")" ".Os luksrd $version"
     same "$name: what man says of its page" "$(man --warnings -l "$sources/docs/$page" 2>&1 >/dev/null)" ''
@@ -72,6 +77,8 @@ holds() {
 }
 holds luksrd "$program_package" luksrd.1 '-rwxr-xr-x root/root ./usr/bin/luksrd
 -rw-r--r-- root/root ./usr/share/bash-completion/completions/luksrd
+-rw-r--r-- root/root ./usr/share/doc/luksrd/FORMATS.md
+-rw-r--r-- root/root ./usr/share/doc/luksrd/README.md
 -rw-r--r-- root/root ./usr/share/doc/luksrd/changelog.gz
 -rw-r--r-- root/root ./usr/share/doc/luksrd/copyright
 -rw-r--r-- root/root ./usr/share/man/man1/luksrd.1.gz
@@ -108,24 +115,142 @@ serves() {
 }
 serves "$work/nbdkit-plugin-luksrd$plugins/nbdkit-luksrd-plugin.so"
 
-# `make uninstall` removes what `make install` puts below a folder of its own; what is not built is left out
-there() { (cd "$work/there" && find . ! -type d | sort); }
-program_files=(./usr/local/bin/luksrd ./usr/local/share/bash-completion/completions/luksrd
-    ./usr/local/share/man/man1/luksrd.1 ./usr/local/share/zsh/site-functions/_luksrd)
-plugin_files=(./usr/local/share/man/man1/nbdkit-luksrd-plugin.1 ./usr/plugins/nbdkit-luksrd-plugin.so)
-make -s -C "$sources" install PROGRAM="$program" LIBRARY=absent PLUGIN=absent DESTDIR="$work/there" >log 2>&1
-same 'make install of the program alone' "$(there)" "$(printf '%s\n' "${program_files[@]}" | sort)"
-make -s -C "$sources" install PROGRAM="$program" LIBRARY=absent PLUGIN="$plugin" DESTDIR="$work/there" PLUGINS=/usr/plugins >log 2>&1
-same 'make install of the plugin too' "$(there)" "$(printf '%s\n' "${program_files[@]}" "${plugin_files[@]}" | sort)"
-make -s -C "$sources" uninstall DESTDIR="$work/there" PLUGINS=/usr/plugins >log 2>&1
-same 'make uninstall' "$(there)" ''
+# put ARGUMENT..: make with these arguments, and with what is built
+built=(PROGRAM="$program" LIBRARY="$library" SHARED="$shared" PLUGIN="$plugin")
+put() {
+    make -s -C "$sources" "${built[@]}" "$@" >log 2>&1
+}
 
-if [ "$(id -u)" != 0 ] || dpkg -s luksrd >log 2>&1 || dpkg -s nbdkit-plugin-luksrd >log 2>&1 ||
-    [ -e /usr/bin/luksrd ] || [ -e "$plugins/nbdkit-luksrd-plugin.so" ]; then
-    echo 'not root, or luksrd or its plugin is installed: the packages are not installed'
+# files FOLDER: what is in it
+files() {
+    (cd "$1" 2>/dev/null && find . ! -type d | LC_ALL=C sort)
+}
+
+# `make uninstall` removes what `make install` puts below a folder of its own; what is not built is left out
+mkdir tools known
+cat >tools/pkg-config <<TEXT
+#!/bin/sh
+echo /nbdkit/plugins
+TEXT
+chmod +x tools/pkg-config
+program_files=(bin/luksrd share/bash-completion/completions/luksrd share/doc/luksrd/FORMATS.md share/doc/luksrd/README.md
+    share/man/man1/luksrd.1 share/zsh/site-functions/_luksrd)
+library_files=(include/luksrd.h lib/libluksrd.a lib/libluksrd.so lib/libluksrd.so.1 "lib/libluksrd.so.$version" lib/pkgconfig/luksrd.pc)
+page=share/man/man1/nbdkit-luksrd-plugin.1
+name=nbdkit-luksrd-plugin.so
+# below PREFIX PATH..: as `files` lists them
+below() {
+    printf "./${1:+$1/}%s\n" "${@:2}" | LC_ALL=C sort
+}
+put install LIBRARY=absent PLUGIN=absent DESTDIR="$work/there"
+same 'make install of the program alone' "$? $(files there)" "0 $(below usr/local "${program_files[@]}")"
+put install LIBRARY=absent DESTDIR="$work/there" PLUGINS=/usr/plugins
+same 'make install of the plugin too' "$? $(files there)" "0 $(below usr "${program_files[@]/#/local/}" "local/$page" "plugins/$name")"
+put uninstall DESTDIR="$work/there" PLUGINS=/usr/plugins
+same 'make uninstall' "$? $(files there)" '0 '
+for prefix in /usr /usr/local/; do
+    PATH=$work/tools:$PATH put install-plugin DESTDIR="$work/there" PREFIX="$prefix"
+    same "the plugin for $prefix" "$? $(files there)" "0 $(below '' "nbdkit/plugins/$name" "$(realpath -ms "$prefix/$page" | cut -c 2-)")"
+    PATH=$work/tools:$PATH put uninstall DESTDIR="$work/there" PREFIX="$prefix"
+    same "the plugin for $prefix, uninstalled" "$? $(files there)" '0 '
+done
+
+# another COMMAND..: as a user who may write neither into the system's folders nor into the tree
+another() {
+    if [ "$(id -u)" = 0 ]; then
+        setpriv --reuid 65534 --regid 65534 --clear-groups "$@"
+    else
+        "$@"
+    fi
+}
+# put_by_another FOLDER ARGUMENT..: make as this user, with the tree and what is built as this user can read them
+put_by_another() {
+    another make -s -C "$work/tree" PROGRAM=../built/luksrd LIBRARY=../built/libluksrd.a SHARED=../built/libluksrd.so \
+        PLUGIN="../built/$name" "$@" >log 2>&1
+}
+mkdir tree built own
+cp -r "$sources"/{Makefile,README.md,c,completions,docs} tree
+cp "$program" built/luksrd
+cp "$library" built/libluksrd.a
+cp "$shared" built/libluksrd.so
+cp "$plugin" "built/$name"
+chmod -R a+rX tree built tools
+chmod 711 .
+chmod 777 own
+if another test -r tree/Makefile; then
+    plugins_before=$(ls -la --full-time "$plugins")
+    put_by_another install PREFIX="$work/own/it"
+    same 'make install by another user' "$? $(files own/it)" \
+        "0 $(below '' "${program_files[@]}" "${library_files[@]}" "$page" "lib/nbdkit/plugins/$name")"
+    same "nbdkit's own folder" "$(ls -la --full-time "$plugins")" "$plugins_before"
+    works "$work/own/it/bin/luksrd" "$work/own/it/share/bash-completion/completions/luksrd"
+    serves "$work/own/it/lib/nbdkit/plugins/$name"
+    put_by_another uninstall PREFIX="$work/own/it"
+    same 'make uninstall by another user' "$? $(files own/it)" '0 '
+    same "luksrd's own folder" "$(find own/it -name luksrd)" ''
+    put_by_another install PREFIX="$work/own/it" PLUGINS="$work/known"
+    same 'make install of a plugin into a closed folder' "$(($? != 0)) $(files own/it)$(files known)" '1 '
+else
+    skip 'make install by another user' "no other user can read $work"
+fi
+
+# a plugin that this PREFIX did not get
+mkdir nbdkit
+: >"nbdkit/$name"
+sed -i "s|/nbdkit|$work/nbdkit|; s|/plugins||" tools/pkg-config
+same "nbdkit's folder, as make asks for it" "$(PATH=$work/tools:$PATH pkg-config nbdkit --variable=plugindir)" "$work/nbdkit"
+PATH=$work/tools:$PATH put install PREFIX="$work/own/root"
+same 'make install into another PREFIX' "$? $(files nbdkit)" "0 ./$name"
+same "the plugin in nbdkit's folder" "$(wc -c <"nbdkit/$name")" 0
+PATH=$work/tools:$PATH put uninstall PREFIX="$work/own/root"
+same 'make uninstall of another PREFIX' "$? $(files own/root)$(files nbdkit)" "0 ./$name"
+
+# `ldconfig` runs for a folder that it knows, as root, and if the files are in place
+cat >tools/ldconfig <<TEXT
+#!/bin/sh
+case \$* in
+-vNX) printf '%s: (from /etc/ld.so.conf:1)\n\tlibc.so.6 -> libc.so.6\n' /usr/lib '$work/known/lib' '$work/own/lib' ;;
+'') echo noted >>'$work/notes' ;;
+esac
+TEXT
+chmod +x tools/ldconfig
+# notes NAME WANTED COMMAND..: how often the command makes ldconfig note libraries
+notes() {
+    : >notes
+    chmod 666 notes
+    PATH=$work/tools:$PATH "${@:3}"
+    same "$1" "$? $(wc -l <notes)" "0 $2"
+}
+if [ "$(id -u)" = 0 ]; then
+    notes 'ldconfig for a folder that it knows' 1 put install-library PREFIX="$work/known"
+    notes 'ldconfig after make uninstall' 1 put uninstall PREFIX="$work/known"
+else
+    skip 'ldconfig for a folder that it knows' 'not root'
+fi
+notes 'ldconfig for any other folder' 0 put install-library PREFIX="$work/own/root"
+notes 'ldconfig for a folder below DESTDIR' 0 put install-library PREFIX="$work/known" DESTDIR="$work/there"
+if another test -r tree/Makefile; then
+    notes 'ldconfig by another user' 0 put_by_another install-library PREFIX="$work/own"
+fi
+
+if [ "$(id -u)" != 0 ] || dpkg -s luksrd >log 2>&1 || dpkg -s nbdkit-plugin-luksrd >log 2>&1 || [ -e /usr/bin/luksrd ] ||
+    [ -e "$plugins/$name" ] || [ -n "$(find /usr/local /usr/include /usr/lib/pkgconfig -name '*luksrd*' -print -quit 2>/dev/null)" ]; then
+    skip 'packages that are installed' 'not root, or luksrd is installed'
     finish
     exit
 fi
+
+# the library is found by its name
+loads() {
+    python3 -c 'import ctypes; print(hex(ctypes.CDLL("libluksrd.so.1").luksrd_version()))' 2>&1 | tail -n 1
+}
+trap 'put uninstall PLUGINS=; rm -rf "$work"' EXIT
+put install-library
+same 'make install of the library' "$? $(loads)" "0 $(sed -n 's/^#define LUKSRD_VERSION 0x0*/0x/p' "$sources/c/luksrd.h")"
+put uninstall PLUGINS=
+same 'make uninstall of the library' "$? $(loads | grep -c 'cannot open shared object file')" '0 1'
+same 'what is left of the library' "$(find /usr/local -name '*luksrd*'; ldconfig -p | grep luksrd)" ''
+
 trap 'dpkg -r luksrd nbdkit-plugin-luksrd >/dev/null 2>&1; rm -rf "$work"' EXIT
 dpkg -i "$program_package" "$plugin_package" >log 2>&1
 same 'they install' $? 0
@@ -133,6 +258,11 @@ works /usr/bin/luksrd /usr/share/bash-completion/completions/luksrd
 serves luksrd
 same 'zsh finds its completion' \
     "$(zsh -fc 'autoload -Uz compinit; compinit -D -u; print -r -- $_comps[luksrd]')" _luksrd
+same "make install over a package's plugin" "$(lacking "$PATH" install "${built[@]}" DESTDIR= PREFIX="$work/own/late" PLUGINS="$plugins")" \
+    "the package nbdkit-plugin-luksrd has $plugins/$name: run apt-get remove nbdkit-plugin-luksrd, or give a PREFIX"
+same 'what that installs' "$(files own/late)" ''
+put uninstall PREFIX=/usr
+same "make uninstall of packages' files" $? 0
 dpkg -L luksrd nbdkit-plugin-luksrd | grep luksrd >paths
 same 'nothing is changed' "$(dpkg -V luksrd nbdkit-plugin-luksrd | grep -vE '/usr/share/(doc|man)/')" ''
 dpkg -r luksrd nbdkit-plugin-luksrd >log 2>&1
