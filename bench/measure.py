@@ -2,6 +2,7 @@
 
 import os
 import pathlib
+import re
 import subprocess
 import sys
 
@@ -44,6 +45,24 @@ def seconds_of(command, status=0, piped=None):
     if started.returncode != status:
         sys.exit(f"{command} ended with {started.returncode}")
     return used.ru_utime + used.ru_stime
+
+
+def instructions(folder, command, piped=None, within=None):
+    """The number of instructions of a command, which callgrind counts, without those of programs that it starts. Its standard input is a pipe with
+    the bytes of a file, if that is given. `within` is a pattern of the functions that alone are counted, with what they call."""
+    for log in folder.glob("counted.*"):
+        log.unlink()
+    counter = ["valgrind", "--tool=callgrind", "--callgrind-out-file=/dev/null", f"--log-file={folder / 'counted.%p'}"]
+    if within:
+        counter.append(f"--toggle-collect={within}")
+    source = subprocess.Popen(["cat", piped], stdout=subprocess.PIPE) if piped else None
+    given = source.stdout if source else subprocess.DEVNULL
+    subprocess.run([*counter, *command], check=True, stdin=given, stdout=subprocess.DEVNULL, stderr=subprocess.DEVNULL)
+    if source:
+        source.stdout.close()
+        source.wait()
+    counts = [re.search(r"Collected : (\d+)", log.read_text()) for log in folder.glob("counted.*")]
+    return sum(int(count[1]) for count in counts if count)
 
 
 def format_volume(folder, name, *options):
