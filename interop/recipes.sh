@@ -1,8 +1,9 @@
 #!/usr/bin/env bash
-# Runs README's recipes as they are written there, in bash and in zsh, on volumes of cryptsetup and qemu-img: they
-# write the plain text, and no image changes, not even one with a damaged secondary header. Mounting is left out.
-# nbdkit loads the plugin from where it is built (the second argument).
+# Runs README's recipes and the examples of the man pages as they are written there, in bash and in zsh, on volumes of
+# cryptsetup and qemu-img: they write the plain text, all files that they make are private, and no image changes, not even one
+# with a damaged secondary header. Mounting is left out. nbdkit loads the plugin from where it is built (the second argument).
 readme=$(realpath "$(dirname "$0")/../README.md")
+pages=$(realpath "$(dirname "$0")/../docs")
 plugin=$(realpath "${2:?the built plugin}")
 # shellcheck source=interop/common.sh
 . "$(dirname "$0")/common.sh"
@@ -27,21 +28,51 @@ recipe() {
         inside { exit }' "$readme"
 }
 
+# example PAGE TEXT: the example in a man page that follows this text
+example() {
+    awk -v text="$2" '
+        !/^\./ && index($0, text) { found = 1 }
+        found && /^\.Ed/ { exit }
+        inside
+        found && /^\.Bd/ { inside = 1 }
+        found && /^\.Dl / { print substr($0, 5); exit }' "$pages/$1" | sed 's/\\(dq/"/g; s/\\e/\\/g'
+}
+
+# begins TEXT: the lines that come before a recipe of this name, which is as in cooks
+begins() {
+    case $1 in
+    *.1:*)
+        echo 'mkdir rescue && cd rescue && ln -s ../disk.img .'
+        example luksrd.1 'Keep new files private'
+        example luksrd.1 'Type a passphrase into a key file'
+        ;;
+    *) recipe 'Begin with these lines' ;;
+    esac
+}
+
 # cooks FOLDER NEEDED TEXT..: runs these recipes in a folder with images, in each shell, with links to the other files that
-# they need; no image changes
+# they need; no image changes. PAGE:TEXT is an example of a man page. Left out is what needs root, a disk or a terminal.
 cooks() {
     local folder=$1 needed=$2 shell text
     shift 2
     (cd "$folder" && sha256sum -- *) >before
     {
-        recipe 'Begin with these lines'
+        begins "$1"
         echo "for file in $needed; do ln -s ../\$file .; done"
-        for text in "$@"; do recipe "$text" | grep -v '^mount '; done
+        for text in "$@"; do
+            case $text in
+            *.1:*) example "${text%%:*}" "${text#*:}" ;;
+            *) recipe "$text" ;;
+            esac | grep -vE '^mount |/dev/sdb2' >lines
+            [ -s lines ] || same "a recipe that begins with: $text" none some >&2
+            cat lines
+        done
     } >script
     for shell in bash 'zsh -o interactive_comments'; do
         (cd "$folder" && $shell ../script <../typed) >"$folder, ${shell%% *}" 2>&1
         mv "$folder/rescue" "rescue $folder, ${shell%% *}"
-        same "$1 in $shell: the images" "$(cd "$folder" && sha256sum -- *)" "$(cat before)"
+        same "$folder in $shell: files that others may read" "$(find "rescue $folder, ${shell%% *}" -type f -perm /077 ! -name plain.pid)" ''
+        same "$folder in $shell: the images" "$(cd "$folder" && sha256sum -- *)" "$(cat before)"
     done
 }
 
@@ -65,6 +96,9 @@ says() {
     done
 }
 
+# has_ended PID: this process, which is no child, has ended
+has_ended() { ! kill -0 "$1" 2>err; }
+
 # damaged IMAGE: its secondary header has another byte
 damaged() {
     printf '\377' | dd of="$1" bs=1 seek=$((16384 + 5000)) conv=notrunc status=none
@@ -73,19 +107,49 @@ damaged() {
 by_argon2=(--pbkdf argon2id --pbkdf-force-iterations 4 --pbkdf-memory 32768 --pbkdf-parallel 1)
 printf 'a secret' >pass
 printf 'another one' >pass2
-printf 'a secret\n' >typed
+printf 'a secret\na secret\n' >typed
 truncate -s 8M plain
 mke2fs -q -t ext4 plain
 echo 'inside' >inside
 debugfs -w -R 'write inside inside' plain >err 2>&1
 
-# from the image, from a pipe and from an archive; what is in it
+# from the image, from a pipe and from an archive; what is in it, its first bytes, and a key file that is removed
 mkdir volume
 format1 volume/disk.img aes-xts-plain64 sha256 512
 fill volume/disk.img
 zstd -q volume/disk.img -o volume/disk.img.zst
-cooks volume disk.img.zst 'Rescue and migration' 'Look into the file system'
-for image in plain.img plain2.img plain3.img; do gives volume $image plain; done
+cooks volume disk.img.zst 'Rescue and migration' 'The first bytes alone' 'Look into the file system' 'At the end'
+for image in plain.img plain2.img plain3.img plain4.img; do gives volume $image plain; done
+head -c 1M plain >first
+gives volume first first
+says volume 'luksrd: write failed'
+for shell in bash zsh; do
+    same "volume in $shell: the key file" "$(ls "rescue volume, $shell/pass" 2>err)" ''
+done
+
+# the same by the man pages, and by the server
+mkdir page served
+cp volume/disk.img volume/disk.img.zst page
+cp volume/disk.img page/NAME
+cp volume/disk.img served
+cooks page 'disk.img.zst NAME' luksrd.1:'Decrypt a volume into a file' luksrd.1:'Decrypt the first bytes alone' \
+    luksrd.1:'Read a file whose name' luksrd.1:'Check a header from a stranger'
+for image in plain.img plain3.img plain4.img; do gives page $image plain; done
+gives page first first
+says page "clean
+Key slot 0 opens the volume."
+says page "UUID: $("$program" luksUUID page/NAME)"
+cooks served '' nbdkit-luksrd-plugin.1:'Copy the plaintext out' nbdkit-luksrd-plugin.1:'Serve a volume on a socket' \
+    nbdkit-luksrd-plugin.1:'Serve a volume to tools'
+gives served plain.img plain
+for shell in bash zsh; do
+    same "served in $shell: plain.qcow2" "$(qemu-img compare "rescue served, $shell/plain.qcow2" plain)" 'Images are identical.'
+    for folder in served scratch; do
+        server=$(cat "rescue served, $shell/$folder/plain.pid")
+        same "served in $shell: the server in $folder" "$([ -n "$server" ] && wait_until $$ has_ended "$server"; echo $?)" 0
+    done
+done
+says served 'is_read_only: false'
 says volume 'Key slot 0 opens the volume.'
 says volume 'TYPE="ext4"'
 says volume ' inside'
@@ -98,13 +162,14 @@ damaged_plain() {
 has_fuse() {
     mkdir tried
     nbdfuse -r tried/disk --command nbdkit -s null 1M >err 2>&1 &
-    for _ in $(seq 100); do
-        [ -e tried/disk ] || ! kill -0 $! 2>err || sleep 0.1
-    done
-    [ -e tried/disk ] && fusermount3 -u tried
+    wait_until $! test -e tried/disk && fusermount3 -u tried
 }
+mkdir -p files/etc
+echo '/dev/sda1 / ext4 defaults 0 1' >files/etc/fstab
+truncate -s 8M tree
+mke2fs -q -t ext4 -d files tree
 if has_fuse; then
-    mkdir fuse
+    mkdir fuse whole
     cp plain whole_plain
     damaged_plain
     format1 fuse/disk.img aes-xts-plain64 sha256 512
@@ -113,32 +178,52 @@ if has_fuse; then
     cooks fuse '' 'As a file, by FUSE'
     says fuse ' inside'
     says fuse 'FILE SYSTEM WAS MODIFIED'
+    cp plain whole_plain
+    cp tree plain
+    seal volume2 aes-xts-plain64 512
+    cp whole_plain plain
+    truncate -s 16M whole/whole.img
+    printf 'label: gpt\nstart=2048, size=4096\nstart=6144\n' | sfdisk -q whole/whole.img
+    dd if=volume2 of=whole/whole.img bs=512 seek=6144 conv=notrunc status=none
+    cooks whole whole.img 'A whole disk (isLuks of it says no)'
+    gives whole fstab files/etc/fstab
+    says whole 'whole.img2 : start=        6144,'
+    says whole 'Key slot 0 opens the volume.'
+    cp -r whole whole_page
+    cooks whole_page whole.img luksrd.1:'Show partition 2'
+    gives whole_page part.plain tree
+    cp -r whole whole_plugin
+    cooks whole_plugin whole.img nbdkit-luksrd-plugin.1:'Copy one file out of a volume that'
+    gives whole_plugin fstab2 files/etc/fstab
 else
-    echo 'there is no FUSE here: its recipes are left out'
+    skip 'recipes by FUSE' 'nothing can be mounted by FUSE'
 fi
 
 # any part of a volume
 mkdir any
 cp plain whole_plain
 truncate -s 16M plain
-printf 'start=2048, size=16384\nstart=18432, size=12288\n' | sfdisk -q plain
-mkdir -p files/etc
-echo '/dev/sda1 / ext4 defaults 0 1' >files/etc/fstab
-truncate -s 8M first_partition
-mke2fs -q -t ext4 -d files first_partition
-dd if=first_partition of=plain bs=512 seek=2048 conv=notrunc status=none
+printf 'label: gpt\nstart=2048, size=16384\nstart=18432, size=12288\n' | sfdisk -q plain
+dd if=tree of=plain bs=512 seek=2048 conv=notrunc status=none
 format1 any/disk.img aes-xts-plain64 sha256 512
 fill any/disk.img
 cooks any '' 'Any part of a volume' 'A partition, a window of'
 gives any fstab files/etc/fstab
-gives any part.img first_partition
+gives any part.img tree
 tail -c +1048577 plain | head -c 4M >window
 gives any window window
-says any 'export-size: 16777216 (16M)'
+says any '16777216 bytes'
 says any 'start=       18432, size=       12288'
 for shell in bash zsh; do
     same "any in $shell: plain.qcow2" "$(qemu-img compare "rescue any, $shell/plain.qcow2" plain)" 'Images are identical.'
 done
+mkdir second
+printf 'label: gpt\nstart=2048, size=2048\nstart=4096, size=16384\n' | sfdisk -q plain >err 2>&1
+dd if=tree of=plain bs=512 seek=4096 conv=notrunc status=none
+format1 second/disk.img aes-xts-plain64 sha256 512
+fill second/disk.img
+cooks second '' nbdkit-luksrd-plugin.1:'Copy one file out of the ext4'
+gives second fstab files/etc/fstab
 mv whole_plain plain
 
 # a partition of a whole disk, with the length that README gives
@@ -149,8 +234,11 @@ echo 'start=2048, size=24576' | sfdisk -q partition/whole.img
 dd if=partition/disk.img of=partition/whole.img bs=512 seek=2048 conv=notrunc status=none
 same 'the partition' "$(stat -c %s partition/disk.img)" $((24576 * 512))
 same 'isLuks of a whole disk' "$(reported isLuks partition/whole.img)" 1
-cooks partition whole.img 'A partition of a whole disk'
+cooks partition whole.img 'A partition of a whole disk without FUSE'
 gives partition plain.img plain
+cp -r partition partition_page
+cooks partition_page whole.img luksrd.1:'Do the same without FUSE'
+gives partition_page plain.img plain
 says partition 'start=        2048, size=       24576'
 
 # a detached header
@@ -171,6 +259,26 @@ gives backup plain.img plain
 says backup "clean
 Key slot 0 opens the volume."
 says backup 'TYPE="ext4"'
+# what the documents warn of: the backup as the image, image and header exchanged, image and key file exchanged
+seal whole_volume aes-xts-plain64 512
+cryptsetup luksHeaderBackup --header-backup-file its_header whole_volume
+same 'a backup as the image' "$(reported luksCat --key-file pass its_header)" 0
+same 'image and header exchanged' "$(reported luksCat --key-file pass --header whole_volume its_header)" 0
+same 'image and key file exchanged' "$(reported luksCat --key-file whole_volume pass)" 'luksrd: not a LUKS image
+4'
+# a slot of priority 0
+cryptsetup config --priority ignore --key-slot 1 whole_volume
+same 'a slot of priority 0' "$(reported testPassphrase --key-file pass2 whole_volume)" 'luksrd: no key opens the volume
+2'
+same 'a slot of priority 0 by its number' "$(reported testPassphrase --key-slot 1 --key-file pass2 whole_volume)" \
+    'Key slot 1 opens the volume.
+0'
+cryptsetup config --priority ignore --key-slot 0 whole_volume
+same 'slots of priority 0 alone' "$(reported testPassphrase --key-file pass whole_volume)" 'luksrd: no key slot can be tried
+1'
+cp -r backup backup_page
+cooks backup_page backup luksrd.1:'Decrypt a volume whose header is damaged'
+gives backup_page plain.img plain
 
 # key slots of Argon2 only, and a damaged secondary header
 mkdir argon2
@@ -178,11 +286,22 @@ cp plain argon2/disk.img
 truncate -s +4M argon2/disk.img
 cryptsetup -q reencrypt --encrypt --type luks2 --reduce-device-size 4M --force-offline-reencrypt --luks2-metadata-size 16k \
     --luks2-keyslots-size 1m "${by_argon2[@]}" --key-file pass argon2/disk.img >err 2>&1 || { cat err; exit 1; }
+if command -v systemd-cryptenroll >err; then
+    cp argon2/disk.img recovered
+    systemd-cryptenroll --unlock-key-file=pass --recovery-key recovered 2>err | tr -d '\n' >recovery_key
+    same 'a recovery key of systemd' "$(reported testPassphrase --key-file recovery_key recovered)" 'Key slot 1 opens the volume.
+0'
+else
+    skip 'a recovery key of systemd' 'there is no systemd-cryptenroll'
+fi
 damaged argon2/disk.img
 same 'a volume of Argon2' "$(reported testPassphrase --key-file pass argon2/disk.img)" 'luksrd: no key slot can be tried; skipped: 0 (argon2id)
 1'
 cooks argon2 '' 'Argon2 key slots only'
 gives argon2 plain.img plain
+cp -r argon2 argon2_page
+cooks argon2_page '' luksrd.1:'Decrypt a LUKS2 volume that has key slots by Argon2'
+gives argon2_page plain.img plain
 
 # images of all kinds
 mkdir audit
