@@ -9,7 +9,9 @@ use luks_host::ending::{Ending, end_run};
 use luks_host::loop_device::{backing_entry, backing_name};
 use luks_host::output::{RawFlush, RetryingWriter};
 use luks_host::storage::{FileFacts, FileKind, SeenFile, share_storage};
+use luks_io::adapters::WriteSink;
 use luks_io::memory::MemSink;
+use luks_io::sink::put_all;
 use std::cell::Cell;
 use std::io::{self, BufWriter, ErrorKind, Write};
 use std::process::Abort;
@@ -152,6 +154,9 @@ fn a_write_does_not_flush(rt: HostRuntime) -> Result<(), Fail> {
     writer.write_all(b"bytes")?;
     writer.write_all(b"more bytes")?;
     assert_that(&rt, "written", count.get() == 0);
+    let mut sink = WriteSink::new(CountsFlushes { count: &count });
+    let accepted = put_all(&mut sink, b"bytes").is_ok();
+    assert_that(&rt, "written by a sink", accepted && count.get() == 0);
     writer.flush()?;
     assert_that(&rt, "flushed", count.get() == 1);
     Ok(())
