@@ -1,30 +1,54 @@
-# make            builds the program, crates/luksrd/out/luksrd, which proves everything that it uses
+# make            builds luksrd, crates/luksrd/out/luksrd, and luksrd-audit, crates/luksrd_audit/out/luksrd_audit,
+#                 which proves everything that they use. They run on every x86-64-v2 processor.
+#                 With CPU=x86-64-v3 it builds out/x86-64-v3/luksrd over the same proofs, for processors of that level
+#                 (AVX2), in place of the first; luksrd-audit is built for x86-64-v2 alone
 # make demo       reads both sample volumes with a program that is built without proofs
 # make check      runs the built program on files and pipes, and beside cryptsetup and qemu-img: all of `make test` but the gate
 # make test       what CI runs: the gate, which proves everything, tries each must-fail edit and runs the tests, and beside it the same
 #                 scripts on the program that it builds; it prints the processor time that each crate took
 # make bench      measures key derivation, decryption and whole volumes beside other implementations, and memory
-# make library    builds the library for C: out/libluksrd.a, out/libluksrd.so and out/luksrd.pc
-# make nbdkit     builds the plugin for nbdkit, out/nbdkit-luksrd-plugin.so
+# make library    builds the library for C: out/libluksrd.a, out/libluksrd.so and out/luksrd.pc, and the same for x86-64-v3 in
+#                 out/glibc-hwcaps, which the loader takes if the processor can run it
+# make nbdkit     builds the plugin for nbdkit, out/nbdkit-luksrd-plugin.so, and the library, which it loads
 # make install    puts the program, its man page, its completions, README.md and FORMATS.md below PREFIX
 #                 (/usr/local if it is not given), in DESTDIR if that is given; the library too if it
 #                 is built, and the plugin if it is built: for /usr and /usr/local in nbdkit's own
 #                 folder, for any other PREFIX in lib/nbdkit/plugins below it, or in PLUGINS if that
-#                 is given
+#                 is given; luksrd-audit, its man page, its completions and AUDIT.md too, if it is built. With
+#                 CPU=x86-64-v3 it installs the luksrd for that, if it runs here
 # make uninstall  removes them again, except what a Debian package has put there
-# make deb        makes a Debian package of the program as it is built, in DEB, and if the plugin is
-#                 built, one of that in PLUGIN_DEB
+# make deb        makes a Debian package of the program as it is built for both processors, in DEB, and if the plugin is
+#                 built, one of that in PLUGIN_DEB and one of the library, which it loads, in LIBRARY_DEB. No package
+#                 has luksrd-audit
 
-PROGRAM := crates/luksrd/out/luksrd
-TOOLS := crates/luksrd_tools/out/luksrd_tools
-ARCHIVE := crates/luks_c/out/libluks_c.a
-LIBRARY := out/libluksrd.a
-SHARED := out/libluksrd.so
-PLUGIN := out/nbdkit-luksrd-plugin.so
+# What the program is built for and installed for; the library is always built for both. (Some
+# systems have a CPU in the environment, so this is not ?=.)
+CPU := x86-64-v2
+ifeq ($(filter $(CPU),x86-64-v2 x86-64-v3),)
+    $(error CPU is x86-64-v2 or x86-64-v3)
+endif
 VERSION := 1.1.0
 INTERFACE := 1
+# where the loader looks for libraries for x86-64-v3, below each folder with libraries
+HWCAPS := glibc-hwcaps/x86-64-v3
+
+# The kit builds for any processor in one place; what is for x86-64-v3 is moved away from there.
+PROGRAM_V2 := crates/luksrd/out/luksrd
+PROGRAM_V3 := out/x86-64-v3/luksrd
+AUDIT := crates/luksrd_audit/out/luksrd_audit
+TOOLS_V2 := crates/luksrd_tools/out/luksrd_tools
+TOOLS_V3 := out/x86-64-v3/luksrd_tools
+ARCHIVE_V2 := crates/luks_c/out/libluks_c.a
+ARCHIVE_V3 := out/x86-64-v3/libluks_c.a
+PROGRAM := $(if $(filter x86-64-v3,$(CPU)),$(PROGRAM_V3),$(PROGRAM_V2))
+TOOLS := $(if $(filter x86-64-v3,$(CPU)),$(TOOLS_V3),$(TOOLS_V2))
+LIBRARY := out/libluksrd.a
+SHARED := out/libluksrd.so
+SHARED_V3 := out/$(HWCAPS)/libluksrd.so.$(INTERFACE)
+PLUGIN := out/nbdkit-luksrd-plugin.so
 DEB ?= out/luksrd_$(VERSION)_amd64.deb
 PLUGIN_DEB ?= out/nbdkit-plugin-luksrd_$(VERSION)_amd64.deb
+LIBRARY_DEB ?= out/libluksrd$(INTERFACE)_$(VERSION)_amd64.deb
 PREFIX ?= /usr/local
 ZSH_FUNCTIONS ?= $(PREFIX)/share/zsh/site-functions
 # nbdkit finds plugins by name in its own folder alone, but only root may write there
@@ -41,40 +65,61 @@ CFLAGS ?= -O2
 # the library's file, and the two names that lead to it
 SHARED_NAMES = libluksrd.so.$(VERSION) libluksrd.so.$(INTERFACE) libluksrd.so
 
-.PHONY: all demo check scripts program-scripts c-scripts tool-scripts test bench library nbdkit toolchain built
-.PHONY: install install-program install-library install-plugin uninstall deb
+.PHONY: all demo check scripts program-scripts audit-scripts c-scripts tool-scripts v3-scripts test bench library nbdkit tools toolchain built
+.PHONY: install install-program install-audit install-library install-shared install-plugin library-built runs-here uninstall deb
 
-all: $(PROGRAM)
+all: $(PROGRAM) $(AUDIT)
 
 # `rt run` proves, builds and runs; the run here merges one stripe, which gives the stripe itself.
-$(PROGRAM): FORCE | toolchain
-	cd crates/luksrd && rt run -- afMerge --hash sha256 --stripes 1 --key-bytes 32 data/stripes >/dev/null
+merge_a_stripe = afMerge --hash sha256 --stripes 1 --key-bytes 32
+
+out/x86-64-v3/luksrd: BUILT_FOR = x86-64-v3
+crates/luksrd/out/luksrd out/x86-64-v3/luksrd: FORCE | toolchain
+	packaging/build $(BUILT_FOR) crates/luksrd/out/luksrd $@ run -- $(merge_a_stripe) data/stripes
+
+BUILT_FOR = x86-64-v2
+
+$(AUDIT): FORCE | toolchain
+	cd crates/luksrd_audit && rt run -- --version >/dev/null
 
 .PHONY: FORCE
 FORCE:
 
-# It derives keys, times sectors and seals volumes, for interop/ and bench/; with no arguments it does nothing.
-$(TOOLS): FORCE | toolchain
-	cd crates/luksrd_tools && rt run >/dev/null
+# They derive keys, time sectors and seal volumes, for interop/ and bench/; with no arguments they do nothing.
+tools: $(TOOLS)
+
+out/x86-64-v3/luksrd_tools: BUILT_FOR = x86-64-v3
+crates/luksrd_tools/out/luksrd_tools out/x86-64-v3/luksrd_tools: FORCE | toolchain
+	packaging/build $(BUILT_FOR) crates/luksrd_tools/out/luksrd_tools $@ run
 
 # `rt lib` proves and builds it; it has no code in C.
-crates/luks_c/out/libluks_c.a: FORCE | toolchain
-	cd crates/luks_c && rt lib >/dev/null
+out/x86-64-v3/libluks_c.a: BUILT_FOR = x86-64-v3
+crates/luks_c/out/libluks_c.a out/x86-64-v3/libluks_c.a: FORCE | toolchain
+	packaging/build $(BUILT_FOR) crates/luks_c/out/libluks_c.a $@ lib
 
-library: $(LIBRARY) $(SHARED) out/luksrd.pc
+library: $(LIBRARY) $(SHARED) $(SHARED_V3) out/luksrd.pc
 
 # One object with what it needs from the kit, which exports only the names of luksrd.h.
-out/libluksrd.a: $(ARCHIVE)
-	mkdir -p out
-	ld -r -o out/luksrd.o --whole-archive $(ARCHIVE) "$$(dirname "$$(rt doc)")/c/liblibc_c.a"
-	objcopy --wildcard --keep-global-symbol='luksrd_*' out/luksrd.o
+out/libluksrd.a: $(ARCHIVE_V2)
+out/x86-64-v3/libluksrd.a: $(ARCHIVE_V3)
+out/libluksrd.a out/x86-64-v3/libluksrd.a:
+	mkdir -p $(@D)
+	ld -r -o $(@D)/luksrd.o --whole-archive $< "$$(dirname "$$(rt doc)")/c/liblibc_c.a"
+	objcopy --wildcard --keep-global-symbol='luksrd_*' $(@D)/luksrd.o
 	rm -f $@
-	ar rcsD $@ out/luksrd.o
+	ar rcsD $@ $(@D)/luksrd.o
+
+# $(call link_shared,FILE): the archive as a shared library
+link_shared = $(CC) -shared -o $(1) -Wl,-soname,libluksrd.so.$(INTERFACE) -Wl,-z,defs,-z,relro,-z,now,-z,noexecstack \
+    -Wl,--whole-archive $< -Wl,--no-whole-archive $(LDLIBS)
 
 out/libluksrd.so: $(LIBRARY)
-	$(CC) -shared -o out/libluksrd.so.$(VERSION) -Wl,-soname,libluksrd.so.$(INTERFACE) \
-	    -Wl,-z,defs,-z,relro,-z,now,-z,noexecstack -Wl,--whole-archive $(LIBRARY) -Wl,--no-whole-archive $(LDLIBS)
+	$(call link_shared,out/$(word 1,$(SHARED_NAMES)))
 	cd out && ln -sf $(word 1,$(SHARED_NAMES)) $(word 2,$(SHARED_NAMES)) && ln -sf $(word 2,$(SHARED_NAMES)) $(word 3,$(SHARED_NAMES))
+
+out/$(HWCAPS)/libluksrd.so.$(INTERFACE): out/x86-64-v3/libluksrd.a
+	mkdir -p $(@D)
+	$(call link_shared,$@)
 
 # $(call package_config,FILE): what pkg-config reports about the library below PREFIX
 package_config = sed -e 's|@PREFIX@|$(PREFIX)|' -e 's|@VERSION@|$(VERSION)|' c/luksrd.pc.in >"$(1)"
@@ -83,14 +128,15 @@ out/luksrd.pc: c/luksrd.pc.in FORCE
 	mkdir -p out
 	$(call package_config,$@)
 
-nbdkit: $(PLUGIN)
+nbdkit: $(PLUGIN) $(SHARED_V3)
 
-# The library is in it, and is not exported.
-$(PLUGIN): $(wildcard nbdkit/*.[ch]) c/luksrd.h $(LIBRARY)
+# It loads the library from its own folder, as in out/, or from two folders above that, as for
+# lib/nbdkit/plugins below a PREFIX; otherwise the loader has to know the library.
+$(PLUGIN): $(wildcard nbdkit/*.[ch]) c/luksrd.h $(SHARED)
 	mkdir -p "$(dir $@)"
 	$(CC) $(CFLAGS) -std=c11 -D_GNU_SOURCE -DVERSION='"$(VERSION)"' -Wall -Wextra -Werror -fPIC -fvisibility=hidden -Ic \
-	    $$(pkg-config nbdkit --cflags) -shared -Wl,--exclude-libs,ALL,-z,relro,-z,now,-z,noexecstack $(LDFLAGS) \
-	    -o "$@" nbdkit/*.c $(LIBRARY) $(LDLIBS)
+	    $$(pkg-config nbdkit --cflags) -shared -Wl,-z,relro,-z,now,-z,noexecstack \
+	    -Wl,--enable-new-dtags,-rpath,'$$ORIGIN:$$ORIGIN/../..' $(LDFLAGS) -o "$@" nbdkit/*.c "$(SHARED)" $(LDLIBS)
 
 demo: toolchain
 	@tests/demo
@@ -98,27 +144,42 @@ demo: toolchain
 toolchain:
 	@command -v rt >/dev/null || { echo "rt is missing: put the Rattle toolchain on the path" >&2; exit 1; }
 
-check: all $(TOOLS) library nbdkit scripts
-	tests/impostors.sh $(PROGRAM)
+check: $(PROGRAM_V2) $(PROGRAM_V3) $(AUDIT) $(TOOLS) library nbdkit scripts v3-scripts
+	tests/impostors.sh $(PROGRAM_V2)
 
 # The programs, the library and the plugin are used as they are. Four scripts run side by side; the
 # output of each comes when it has ended. Some need the tools, or what is built from C.
 TESTS := stripes volumes devices pipes faults interruptions install memory hostile completions
 INTEROP := headers headers2 volumes volumes2 detached filesystems
 PROGRAM_SCRIPTS := test-names test-counts $(TESTS:%=test-%) $(INTEROP:%=interop-%)
-C_SCRIPTS := test-package test-library interop-nbd interop-recipes
+C_SCRIPTS := test-package test-library test-processors interop-nbd interop-recipes
 TOOL_SCRIPTS := interop-sealed interop-keys
-ALL_SCRIPTS := $(PROGRAM_SCRIPTS) $(C_SCRIPTS) $(TOOL_SCRIPTS)
+AUDIT_SCRIPTS := interop-audit
+ALL_SCRIPTS := $(PROGRAM_SCRIPTS) $(AUDIT_SCRIPTS) $(C_SCRIPTS) $(TOOL_SCRIPTS)
+# Those that are run once more with the program for x86-64-v3, in a minute of processor time. Four
+# more would take several: they try failing calls, scarce memory, detached headers and generated
+# ones; tests/processors.sh gives some of these to both programs. The rest runs no such code.
+V3_SCRIPTS := $(filter-out $(addprefix test-,names counts faults memory hostile install completions) interop-detached,$(PROGRAM_SCRIPTS))
 
 .PHONY: $(ALL_SCRIPTS)
 
 scripts: REQUESTED = $(ALL_SCRIPTS)
 program-scripts: REQUESTED = $(PROGRAM_SCRIPTS)
+audit-scripts: REQUESTED = $(AUDIT_SCRIPTS)
 c-scripts: REQUESTED = $(C_SCRIPTS)
 tool-scripts: REQUESTED = $(TOOL_SCRIPTS)
-scripts program-scripts c-scripts tool-scripts:
+scripts program-scripts audit-scripts c-scripts tool-scripts:
 	tests/packages
 	+$(MAKE) -k -j 4 --output-sync=target --no-print-directory $(REQUESTED)
+
+# The loader knows whether this processor can run it; on an older one these scripts are skipped.
+v3-scripts:
+	tests/packages
+	@if /lib64/ld-linux-x86-64.so.2 --help | grep '^  x86-64-v3 (supported' >/dev/null; then \
+	    $(MAKE) -k -j 4 --output-sync=target --no-print-directory PROGRAM="$(PROGRAM_V3)" $(V3_SCRIPTS); \
+	else \
+	    echo 'SKIPPED the scripts with luksrd for x86-64-v3: this processor is older'; \
+	fi
 
 test-names test-counts: test-%:
 	tests/$*
@@ -133,16 +194,22 @@ $(TOOL_SCRIPTS): interop-%:
 	interop/$*.sh $(PROGRAM) $(TOOLS)
 
 test-package:
-	tests/package.sh $(PROGRAM) $(PLUGIN) $(LIBRARY) $(SHARED)
+	tests/package.sh $(PROGRAM_V2) $(PLUGIN) $(LIBRARY) $(SHARED) $(SHARED_V3) $(PROGRAM_V3)
+
+test-processors:
+	tests/processors.sh $(PROGRAM_V2) $(PLUGIN) $(SHARED) $(SHARED_V3) $(PROGRAM_V3)
 
 interop-nbd:
-	interop/nbd.sh $(PROGRAM) $(PLUGIN) $(LIBRARY)
+	interop/nbd.sh $(PROGRAM) $(PLUGIN) $(SHARED)
+
+interop-audit:
+	interop/audit.sh $(PROGRAM) $(AUDIT)
 
 interop-recipes:
 	interop/recipes.sh $(PROGRAM) $(PLUGIN)
 
 test-library:
-	tests/library.sh $(PROGRAM) $(LIBRARY) $(SHARED)
+	tests/library.sh $(PROGRAM) $(LIBRARY) $(SHARED) $(SHARED_V3)
 
 test: toolchain
 	tests/gate
@@ -157,13 +224,37 @@ bench: all
 	bench/plot
 
 # What is already built is installed as it is, so this needs no toolchain.
+# $(call check_built,FILE,COMMAND): stops if this program is not built, or if a build for another processor was cut off in its place
+check_built = test -f "$(1)" -a -x "$(1)" || { echo "luksrd is not built: run $(2) first" >&2; exit 1; }; \
+    test ! -d "$$(dirname "$(1)")/aside" || { echo "a build for another processor was cut off: run $(2) first" >&2; exit 1; }
+# how the program for this processor is made
+MAKE_IT = make$(if $(filter-out x86-64-v2,$(CPU)), CPU=$(CPU))
+
 built:
-	@test -f "$(PROGRAM)" -a -x "$(PROGRAM)" || { echo "luksrd is not built: run make first" >&2; exit 1; }
+	@$(call check_built,$(PROGRAM),$(MAKE_IT))
+
+# A program for x86-64-v3 is installed only after it has run here.
+runs-here: built
+	@"$(PROGRAM)" $(merge_a_stripe) crates/luksrd/data/stripes | cmp -s - crates/luksrd/data/stripes || \
+	    { echo "luksrd for $(CPU) does not run here: nothing is installed" >&2; exit 1; }
 
 # The plugin comes before the program: if its folder is not known or not writable, nothing is installed.
-install: built $(if $(wildcard $(PLUGIN)),install-plugin) install-program $(if $(wildcard $(LIBRARY)),install-library)
+install: built $(if $(filter-out x86-64-v2,$(CPU)),runs-here) $(if $(wildcard $(PLUGIN)),library-built install-plugin) install-program \
+    $(if $(wildcard $(AUDIT)),install-audit) \
+    $(if $(wildcard $(PLUGIN) $(LIBRARY)),install-library)
 
-install-program: built
+install-audit:
+	@test -f "$(AUDIT)" -a -x "$(AUDIT)" || { echo "luksrd-audit is not built: run make first" >&2; exit 1; }
+	install -d "$(BINARIES)" "$(PAGES)" "$(DOCUMENTS)" "$(BASH_COMPLETIONS)" "$(ZSH_COMPLETIONS)"
+	install -m 755 "$(AUDIT)" "$(BINARIES)/luksrd-audit"
+	install -m 644 docs/luksrd-audit.1 "$(PAGES)/luksrd-audit.1"
+	install -m 644 docs/AUDIT.md "$(DOCUMENTS)"
+	install -m 644 completions/luksrd-audit.bash "$(BASH_COMPLETIONS)/luksrd-audit"
+	install -m 644 completions/_luksrd-audit "$(ZSH_COMPLETIONS)/_luksrd-audit"
+
+install-program: built $(if $(filter-out x86-64-v2,$(CPU)),runs-here)
+	@name=$$($(call packaged,$(BINARIES)/luksrd)); [ -z "$$name" ] || \
+	    { echo "$(BINARIES)/luksrd is of $$name: run apt-get remove luksrd, or give a PREFIX" >&2; exit 1; }
 	install -d "$(BINARIES)" "$(PAGES)" "$(DOCUMENTS)" "$(BASH_COMPLETIONS)" "$(ZSH_COMPLETIONS)"
 	install -m 755 "$(PROGRAM)" "$(BINARIES)/luksrd"
 	install -m 644 docs/luksrd.1 "$(PAGES)/luksrd.1"
@@ -175,21 +266,29 @@ install-program: built
 note_library = if [ -z "$(DESTDIR)" ] && [ "$$(id -u)" = 0 ] && PATH=$$PATH:/usr/sbin:/sbin && \
     ldconfig -vNX 2>/dev/null | grep "^$(LIBRARIES):" >/dev/null; then ldconfig; fi
 
-install-library:
-	@test -f "$(LIBRARY)" -a -f "$(SHARED)" || { echo "the library is not built: run make library first" >&2; exit 1; }
+library-built:
+	@test -f "$(LIBRARY)" -a -f "$(SHARED)" -a -f "$(SHARED_V3)" || { echo "the library is not built: run make library first" >&2; exit 1; }
+
+# what programs load: for all processors, and for x86-64-v3
+install-shared: | $(if $(filter-out x86-64-v2,$(CPU)),runs-here)
+	install -d "$(LIBRARIES)/$(HWCAPS)"
+	install -m 644 "$(SHARED)" "$(LIBRARIES)/$(word 1,$(SHARED_NAMES))"
+	ln -sf $(word 1,$(SHARED_NAMES)) "$(LIBRARIES)/$(word 2,$(SHARED_NAMES))"
+	install -m 644 "$(SHARED_V3)" "$(LIBRARIES)/$(HWCAPS)/$(word 2,$(SHARED_NAMES))"
+
+install-library: library-built install-shared
 	install -d "$(LIBRARIES)/pkgconfig" "$(HEADERS)"
 	install -m 644 c/luksrd.h "$(HEADERS)/luksrd.h"
 	install -m 644 "$(LIBRARY)" "$(LIBRARIES)/libluksrd.a"
-	install -m 644 "$(SHARED)" "$(LIBRARIES)/$(word 1,$(SHARED_NAMES))"
-	ln -sf $(word 1,$(SHARED_NAMES)) "$(LIBRARIES)/$(word 2,$(SHARED_NAMES))"
 	ln -sf $(word 2,$(SHARED_NAMES)) "$(LIBRARIES)/$(word 3,$(SHARED_NAMES))"
 	$(call package_config,$(LIBRARIES)/pkgconfig/luksrd.pc)
 	@$(note_library)
 
-# $(call packaged,FILE): the Debian package that has put this file there
-packaged = dpkg-query -S "$(1)" 2>/dev/null | sed 's/: .*//'
+# $(call packaged,FILE): the Debian package that has put this file there, or the link of
+# update-alternatives that it is
+packaged = { dpkg-query -S "$(1)" | sed 's/: .*//'; readlink "$(1)" | grep '^/etc/alternatives/'; } 2>/dev/null
 
-install-plugin:
+install-plugin: | $(if $(filter-out x86-64-v2,$(CPU)),runs-here)
 	@test -f "$(PLUGIN)" || { echo "the plugin is not built: run make nbdkit first" >&2; exit 1; }
 	@test -n "$(PLUGINS)" || { echo "nbdkit's folder is not known: run apt-get install nbdkit-plugin-dev pkg-config" >&2; exit 1; }
 	@name=$$($(call packaged,$(PLUGIN_FILE))); [ -z "$$name" ] || { echo "the package $$name has $(PLUGIN_FILE): run apt-get remove $$name, or give a PREFIX" >&2; exit 1; }
@@ -199,19 +298,29 @@ install-plugin:
 
 INSTALLED = "$(BINARIES)/luksrd" "$(PAGES)/luksrd.1" "$(DOCUMENTS)/README.md" "$(DOCUMENTS)/FORMATS.md" \
     "$(BASH_COMPLETIONS)/luksrd" "$(ZSH_COMPLETIONS)/_luksrd" \
+    "$(BINARIES)/luksrd-audit" "$(PAGES)/luksrd-audit.1" "$(DOCUMENTS)/AUDIT.md" \
+    "$(BASH_COMPLETIONS)/luksrd-audit" "$(ZSH_COMPLETIONS)/_luksrd-audit" \
     "$(HEADERS)/luksrd.h" "$(LIBRARIES)/libluksrd.a" $(SHARED_NAMES:%="$(LIBRARIES)/%") "$(LIBRARIES)/pkgconfig/luksrd.pc" \
+    "$(LIBRARIES)/$(HWCAPS)/$(word 2,$(SHARED_NAMES))" \
     "$(PAGES)/nbdkit-luksrd-plugin.1" $(if $(PLUGINS),"$(PLUGIN_FILE)")
 
 uninstall:
 	@for file in $(INSTALLED); do \
 	    [ ! -e "$$file" ] && [ ! -L "$$file" ] || [ -n "$$($(call packaged,$$file))" ] || { echo "rm $$file"; rm "$$file" || exit; }; \
 	done
-	@[ ! -d "$(DOCUMENTS)" ] || rmdir --ignore-fail-on-non-empty "$(DOCUMENTS)"
+	@for folder in "$(DOCUMENTS)" "$(LIBRARIES)/$(HWCAPS)" "$(LIBRARIES)/glibc-hwcaps"; do \
+	    [ ! -d "$$folder" ] || rmdir --ignore-fail-on-non-empty "$$folder"; \
+	done
 	@$(note_library)
 
-# This too uses the program and the plugin as they are.
-deb: built
-	packaging/deb luksrd "$(PROGRAM)" "$(VERSION)" "$(DEB)"
+# These too are used as they are.
+deb:
+	@$(call check_built,$(PROGRAM_V2),make)
+	@$(call check_built,$(PROGRAM_V3),make CPU=x86-64-v3)
+	@$(if $(wildcard $(PLUGIN)),test -f "$(SHARED)" -a -f "$(SHARED_V3)" || { echo "the library is not built: run make library first" >&2; exit 1; })
+	packaging/deb luksrd "$(VERSION)" "$(DEB)" "$(PROGRAM_V2)" "$(PROGRAM_V3)"
 	@echo "$(DEB)"
-	$(if $(wildcard $(PLUGIN)),packaging/deb nbdkit-plugin-luksrd "$(PLUGIN)" "$(VERSION)" "$(PLUGIN_DEB)")
+	$(if $(wildcard $(PLUGIN)),packaging/deb libluksrd$(INTERFACE) "$(VERSION)" "$(LIBRARY_DEB)" "$(SHARED)" "$(SHARED_V3)")
+	@$(if $(wildcard $(PLUGIN)),echo "$(LIBRARY_DEB)")
+	$(if $(wildcard $(PLUGIN)),packaging/deb nbdkit-plugin-luksrd "$(VERSION)" "$(PLUGIN_DEB)" "$(PLUGIN)")
 	@$(if $(wildcard $(PLUGIN)),echo "$(PLUGIN_DEB)")

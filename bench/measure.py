@@ -1,5 +1,6 @@
 """Shared by the measurements: the programs, and the cost of a run."""
 
+import collections
 import os
 import pathlib
 import re
@@ -11,14 +12,44 @@ LUKSRD = TOP / "crates" / "luksrd" / "out" / "luksrd"
 TOOLS = TOP / "crates" / "luksrd_tools" / "out" / "luksrd_tools"
 MIB = 1 << 20
 
+# The program and the tools for a processor, and the name of their rows.
+Build = collections.namedtuple("Build", "cpu name luksrd tools")
+V3 = TOP / "out" / "x86-64-v3"
+BUILDS = {
+    "x86-64-v2": Build("x86-64-v2", "ours", LUKSRD, TOOLS),
+    "x86-64-v3": Build("x86-64-v3", "ours-v3", V3 / "luksrd", V3 / "luksrd_tools"),
+}
 
-def build():
-    subprocess.run(["make", "all"], cwd=TOP, check=True, stdout=subprocess.DEVNULL)
+
+def make(*arguments):
+    done = subprocess.run(["make", *arguments], cwd=TOP, stdout=subprocess.DEVNULL, stderr=subprocess.PIPE, text=True)
+    if done.returncode:
+        sys.exit(f"make {' '.join(arguments)} failed:\n{done.stderr[-3000:]}")
 
 
-def build_tools():
+def build(cpu="x86-64-v2"):
+    make("all", f"CPU={cpu}")
+
+
+def build_tools(cpu="x86-64-v2"):
     """The program with the tools; without arguments it does nothing."""
-    subprocess.run(["rt", "run"], cwd=TOOLS.parents[1], check=True, stdout=subprocess.DEVNULL, stderr=subprocess.DEVNULL)
+    make("tools", f"CPU={cpu}")
+
+
+def requested(rounds=None):
+    """The arguments of a measurement: the number of rounds, unless `rounds` is None, and the builds, which are made. Without a processor these are
+    that for x86-64-v2, and that for x86-64-v3 if its program and its tools are there."""
+    arguments = sys.argv[1:]
+    if rounds is not None and arguments and arguments[0] not in BUILDS:
+        rounds = int(arguments.pop(0))
+    unknown = [cpu for cpu in arguments if cpu not in BUILDS]
+    if unknown:
+        sys.exit(f"{unknown[0]}: no processor that luksrd is built for: {', '.join(BUILDS)}")
+    chosen = arguments or [cpu for cpu, it in BUILDS.items() if cpu == "x86-64-v2" or it.luksrd.exists() and it.tools.exists()]
+    for cpu in chosen:
+        build(cpu)
+        build_tools(cpu)
+    return rounds, [BUILDS[cpu] for cpu in chosen]
 
 
 def measured(folder, command, environment=None):

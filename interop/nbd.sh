@@ -1,13 +1,16 @@
 #!/usr/bin/env bash
 # Serves volumes by the plugin for nbdkit (the second argument), and compares what clients read from them with what luksCat writes and with what went into them: all of it,
 # and ranges from many connections at once. Then what the plugin refuses, how it ends out of memory, an image that is truncated while it is served, and the plugin's C under
-# valgrind and AddressSanitizer, for which it is built again with the library (the third argument).
+# valgrind and AddressSanitizer, for which it is built again over the library (the third argument).
 # shellcheck disable=SC2016 # nbdkit's commands find the address in $uri
 plugin=$(realpath "${2:?the built plugin}")
-library=$(realpath "${3:?the built library}")
+shared=$(realpath "${3:?the built library, as a shared one}")
 here=$(realpath "$(dirname "$0")")
 # shellcheck source=interop/common.sh
 . "$(dirname "$0")/common.sh"
+
+# the library for all processors, which plugins in this folder load, or others if the loader looks here first
+cp "$shared" libluksrd.so.1
 
 # text IMAGE KEY OPTION..: what luksCat writes for the volume, in the file text
 text() {
@@ -26,7 +29,7 @@ compared() {
     same "$2: $1" "$(cat answer)" 'all the same'
 }
 
-# serves NAME IMAGE KEY [PLAIN [SKIP]]: nbdcopy gives what luksCat writes, which begins with the bytes of PLAIN after the first SKIP ones, and so do ranges
+# serves NAME IMAGE KEY [PLAIN [SKIP]]: nbdcopy gives what luksCat writes, which begins with the bytes of PLAIN after the first SKIP ones, also with the library for all processors
 serves() {
     local skip=${5-0}
     text "$2" "$3"
@@ -35,6 +38,8 @@ serves() {
     same "$1: nbdcopy" "$? $(cat said)" '0 '
     same "$1: what is served" "$(sha256sum <copy)" "$(sha256sum <text)"
     same "$1: what was encrypted" "$(head -c $(($(stat -c %s "${4-plain}") - skip)) copy | sha256sum)" "$(tail -c +$((skip + 1)) "${4-plain}" | sha256sum)"
+    LD_LIBRARY_PATH=$work served 'nbdcopy "$uri" copy' "$2" key-file="$3"
+    same "$1, the library for all processors" "$? $(cat said) $(sha256sum <copy)" "0  $(sha256sum <text)"
 }
 
 # says NAME MESSAGE: this is among the last messages
@@ -324,9 +329,9 @@ instrumented() {
     done
 }
 built() {
-    make -s -C "$here/.." nbdkit PLUGIN="$work/$1" LIBRARY="$library" CFLAGS="$2" >err 2>&1 || { cat err >&2; exit 1; }
+    make -s -C "$here/.." PLUGIN="$work/$1" SHARED="$shared" CFLAGS="$2" "$work/$1" >err 2>&1 || { cat err >&2; exit 1; }
 }
-# nbdkit loses some memory of its own if it ends while clients are connected
+# nbdkit loses some memory of its own if it ends while clients are connected, and the loader compares words of which the end may be no part of a name
 cat >suppressed <<'TEXT'
 {
     what nbdkit itself takes
@@ -341,6 +346,14 @@ cat >suppressed <<'TEXT'
     ...
     fun:pthread_create*
     obj:*/nbdkit
+}
+{
+    the loader looks for $ORIGIN in the names of the plugin's folders, eight bytes at a time
+    Memcheck:Addr8
+    fun:strncmp
+    fun:is_dst
+    ...
+    fun:_dl_map_object
 }
 TEXT
 built checked.so '-O1 -g'

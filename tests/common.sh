@@ -115,6 +115,9 @@ sealed_by_qemu() {
     exit 1
 }
 
+# runs_v3: this processor runs what is built for x86-64-v3, as the loader has it
+runs_v3() { /lib64/ld-linux-x86-64.so.2 --help | grep '^  x86-64-v3 (supported' >/dev/null; }
+
 # run ARGUMENT..: the program with these arguments, with standard input from the file in
 run() {
     "$program" "$@" <in >out 2>err

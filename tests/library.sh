@@ -1,10 +1,11 @@
 #!/usr/bin/env bash
 # Runs small programs over luksrd.h, one in C that is built with AddressSanitizer and also run under valgrind, and one in Python by ctypes: each writes what luksCat
-# does, with the same messages, for both sample volumes and for volumes that are truncated, detached or not opened. The one in C also prints each field of a
-# volume that is made here. What luksrd.h declares is compared with what the library's source does.
+# does, with the same messages, for both sample volumes and for volumes that are truncated, detached or not opened: with the library for all processors, and with that for
+# x86-64-v3. The one in C also prints each field of a volume that is made here. What luksrd.h declares is compared with what the library's source does.
 sources=$(realpath "$(dirname "$0")/..")
 library=$(realpath "${2:?the built library}")
 shared=$(realpath "${3:?the same as a shared one}")
+shared_v3=$(realpath "${4:?the same for x86-64-v3}")
 # shellcheck source=tests/common.sh
 . "$(dirname "$0")/common.sh"
 
@@ -15,10 +16,20 @@ compiled() {
 compiled checked -I"$sources/c" "$library"
 compiled sanitized -I"$sources/c" "$library" -fsanitize=address,undefined -fno-sanitize-recover=all
 # as it is installed, with the shared library and the flags of pkg-config
-make -s -C "$sources" install-library LIBRARY="$library" SHARED="$shared" PREFIX="$work/installed" >log 2>&1 || { cat log; exit 1; }
+make -s -C "$sources" install-library LIBRARY="$library" SHARED="$shared" SHARED_V3="$shared_v3" PREFIX="$work/installed" >log 2>&1 || { cat log; exit 1; }
 export PKG_CONFIG_PATH=$work/installed/lib/pkgconfig LD_LIBRARY_PATH=$work/installed/lib
 read -ra flags <<<"$(pkg-config --cflags --libs luksrd)"
 compiled shared "${flags[@]}"
+# a folder for each library alone
+mkdir x86-64-v2 x86-64-v3
+cp "$shared" x86-64-v2/libluksrd.so.1
+cp "$shared_v3" x86-64-v3/libluksrd.so.1
+processors=(x86-64-v2)
+if runs_v3; then
+    processors+=(x86-64-v3)
+else
+    skip 'the library for x86-64-v3' 'this processor is older'
+fi
 
 # reads NAME IMAGE HEADER KEY ARGUMENT..: the program with these arguments has the output and the messages of luksCat
 reads() {
@@ -31,15 +42,17 @@ reads() {
 
 # agree NAME IMAGE HEADER KEY: all programs do
 agree() {
-    local header=() status
+    local header=() status processor
     [ "$3" = - ] || header=(--header "$3")
     "$program" luksCat --key-file "$4" "${header[@]}" "$2" >text 2>said
     status=$?
     wanted="$status $(cat said)"
     reads "$1, AddressSanitizer" "${@:2}" ./sanitized
     reads "$1, valgrind" "${@:2}" valgrind -q --error-exitcode=98 --leak-check=full --errors-for-leak-kinds=definite ./checked
-    reads "$1, shared" "${@:2}" ./shared
-    reads "$1, Python" "${@:2}" python3 "$sources/tests/library.py" "$shared"
+    for processor in "${processors[@]}"; do
+        reads "$1, shared, $processor" "${@:2}" env LD_LIBRARY_PATH="$work/$processor" ./shared
+        reads "$1, Python, $processor" "${@:2}" python3 "$sources/tests/library.py" "$work/$processor/libluksrd.so.1"
+    done
 }
 
 cp "$sources/sample/passphrase" pass
@@ -105,12 +118,13 @@ lengths() {
     sed -n 's/^\([0-9]*\): .*/\1/p' "$1"
 }
 
-# fields NAME FILE: the program in C prints the volume in `fixed` as the file says, also with the shared library
+# fields NAME FILE: the program in C prints the volume in `fixed` as the file says, also with each shared library
 fields() {
-    local variant
-    for variant in ./sanitized ./shared; do
-        # shellcheck disable=SC2046
-        same "$1, $variant" "$($variant fields fixed pass5 $(lengths "$2") 2>&1; echo $?)" "$(cat "$2"; echo 0)"
+    local processor lengths
+    read -ra lengths <<<"$(lengths "$2" | tr '\n' ' ')"
+    same "$1, AddressSanitizer" "$(./sanitized fields fixed pass5 "${lengths[@]}" 2>&1; echo $?)" "$(cat "$2"; echo 0)"
+    for processor in "${processors[@]}"; do
+        same "$1, shared, $processor" "$(LD_LIBRARY_PATH=$work/$processor ./shared fields fixed pass5 "${lengths[@]}" 2>&1; echo $?)" "$(cat "$2"; echo 0)"
     done
 }
 
@@ -164,12 +178,14 @@ same 'what it writes' "$(sha256sum <given)" "$(sha256sum <"$example/stdout")"
 # it has the version of the program, and exports only the names of luksrd.h
 same 'its version' "$(pkg-config --modversion luksrd)" "$(make -s -C "$sources" -f Makefile -f - version <<<$'version:\n\t@echo $(VERSION)')"
 same "its header's version" "$(sed -n 's/^#define LUKSRD_VERSION 0x\(..\)\(..\)\(..\)$/\1 \2 \3/p' "$sources/c/luksrd.h" | { read -r major minor patch; echo "$((16#$major)).$((16#$minor)).$((16#$patch))"; })" "$(pkg-config --modversion luksrd)"
-same 'what the library exports' "$(nm -D --defined-only "$shared" | awk '{ print $3 }' | sort | tr '\n' ' ')" \
-    'luksrd_decrypt luksrd_ending luksrd_len luksrd_open luksrd_status_text luksrd_version '
-same 'the same of the archive' "$(nm -g --defined-only "$library" 2>&1 | awk 'NF == 3 { print $3 }' | sort | tr '\n' ' ')" \
-    'luksrd_decrypt luksrd_ending luksrd_len luksrd_open luksrd_status_text luksrd_version '
-same 'relocations in its code' "$(readelf -d "$shared" | grep -c TEXTREL)" 0
-same 'its name' "$(readelf -d "$shared" | sed -n 's/.*soname: \[\(.*\)\]/\1/p')" libluksrd.so.1
+exported='luksrd_decrypt luksrd_ending luksrd_len luksrd_open luksrd_status_text luksrd_version '
+for file in "$shared" "$shared_v3"; do
+    same "what ${file##*/} exports" "$(nm -D --defined-only "$file" | awk '{ print $3 }' | sort | tr '\n' ' ')" "$exported"
+    same "relocations in the code of ${file##*/}" "$(readelf -d "$file" | grep -c TEXTREL)" 0
+    same "the name of ${file##*/}" "$(readelf -d "$file" | sed -n 's/.*soname: \[\(.*\)\]/\1/p')" libluksrd.so.1
+done
+same 'what the archive exports' "$(nm -g --defined-only "$library" 2>&1 | awk 'NF == 3 { print $3 }' | sort | tr '\n' ' ')" "$exported"
+same 'they are built for different processors' "$(cmp -s "$shared" "$shared_v3"; echo $?)" 1
 make -s -C "$sources" uninstall PREFIX="$work/installed" PLUGINS= >log 2>&1
 same 'what is left of it' "$(find installed ! -type d)" ''
 finish

@@ -1,6 +1,6 @@
 -- How many bytes of an image or detached header are consumed to open its volume.
-use Rattle.std.proofs.Common.{◌≡◌, ℕ, inl, inr, List, Option, Some, Result, Ok, Err, ◌∙◌, ap, sym, refl, take, drop}
-use Rattle.std.proofs.Common.{length, length-drop, Bool, true, false, arith, min, ◌+◌, ◌-◌, ◌≤◌}
+use Rattle.std.proofs.Common.{◌≡◌, ℕ, inl, inr, List, Option, Result, Ok, Err, ◌∙◌, ap, refl, take, drop}
+use Rattle.std.proofs.Common.{length, Bool, true, false, arith, min, ◌+◌, ◌-◌, ◌≤◌}
 use Rattle.std.proofs.lemmas.Bool.{cases_lt}
 use Rattle.std.specs.Prelude.{MatchBool}
 use Rattle.luks_area.specs.Area.{AbortsConsuming}

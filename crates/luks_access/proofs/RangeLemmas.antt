@@ -1,15 +1,15 @@
 -- Parts of a plaintext: sectors that are decrypted one after the other, and ranges that are joined from smaller ones.
-use Rattle.std.proofs.Common.{◌≡◌, ℕ, suc, ◌+◌, ◌-◌, ◌*◌, ◌/◌, ◌%◌, ◌<◌, ◌≤◌, List, [], ◌++◌, length, take, drop}
-use Rattle.std.proofs.Common.{length-drop, append-nil, append_assoc, add-one, arith, refl, sym, ap, ◌∙◌}
+use Rattle.std.proofs.Common.{◌≡◌, ℕ, ◌+◌, ◌-◌, ◌*◌, ◌/◌, ◌%◌, ◌<◌, ◌≤◌, List, ◌++◌, length, take, drop}
+use Rattle.std.proofs.Common.{◌^◌, arith, refl, sym, ap, ◌∙◌}
 use Rattle.std.proofs.Common.{length-append, Option, None, Some, Result, Ok, Err, Bool, subst}
-use Rattle.std.proofs.lemmas.List.{drop-drop, drop_all, drop_at, take_at}
+use Rattle.std.proofs.lemmas.List.{drop-drop, drop_at}
 use Rattle.std.proofs.Math.Nat.{div-mul_cancel, dvd_of_mod-eq-zero, mod-add-div'}
 use Rattle.std.specs.Prelude.{OnOk}
 use Rattle.std.proofs.Math.Seq.{take-add}
 use Rattle.luks_io.specs.Devices.{IfKnown}
 use Rattle.luks_cipher.proofs.UnitLemmas.{joined_more}
 use Rattle.luks_cipher.proofs.UnitsUndone.{joined_same}
-use Rattle.luks_cipher.specs.Sector.{Cipher, sector_decrypted}
+use Rattle.luks_cipher.specs.Sector.{Cipher, sector_decrypted, units_decrypted}
 use Rattle.luks_cipher.specs.Xts.{joined}
 use Rattle.luks_verdict.specs.declared.segment.Segment.{Segment}
 use Rattle.luks_payload.specs.Plain.{plain_of, sector_len, sector_plaintext, sector_start, sectors_of}
@@ -42,43 +42,22 @@ joined_part f z a n total sizes few =
 
 -- ---- sectors decrypted one after the other
 
-module _ (s : Segment) (cipher : Cipher) (first : ℕ) (stored : List ℕ) where
-  pub none_decrypted : (size : ℕ) → stored ≡ joined (sector_in s cipher first stored) 0 ++ drop (0 * size) stored
-  unfolding joined
-  none_decrypted size = let none : 0 * size ≡ 0 = omega arith in rw none refl
+-- the unit number of sector `first + j`, counted from that of sector `first`
+number_after : (s : Segment) (first j : ℕ)
+    → (unit_number s first + j * (sector_len s / 512)) % 2 ^ 64 ≡ unit_number s (first + j)
+number_after s first j =
+    let units = sector_len s / 512 in
+    let both : (first + j) * units ≡ first * units + j * units = omega arith in
+    rw both (omega arith)
 
-  -- one more sector is decrypted
-  pub one_decrypted : (now new : List ℕ) (size j : ℕ) → size ≡ sector_len s → j * size + size ≤ length stored
-      → length now ≡ length stored → now ≡ joined (sector_in s cipher first stored) j ++ drop (j * size) stored
-      → new ≡ sector_decrypted cipher.0 cipher.1 (unit_number s (first + j))
-      (take (j * size + size - j * size) (drop (j * size) now))
-      → take (j * size) now ++ (new ++ drop (j * size + size - j * size) (drop (j * size) now))
-      ≡ joined (sector_in s cipher first stored) (j + 1) ++ drop ((j + 1) * size) stored
-  unfolding joined unit_plain
-  one_decrypted now new size j is_size inside same is_now is_new =
-      let f = sector_in s cipher first stored in
-      let a = j * size in
-      let width : a + size - a ≡ size = omega arith in
-      let next : a + size ≡ (j + 1) * size = omega arith in
-      let long : length (joined f j) ≡ a =
-      omega (arith, ap length is_now, length-append (joined f j) (drop a stored), length-drop a stored) in
-      let prefix : take a now ≡ joined f j = rw is_now (take_at (joined f j) (drop a stored) a long) in
-      let back : drop a now ≡ drop a stored = rw is_now (drop_at (joined f j) (drop a stored) a long) in
-      let here : new ≡ f j = is_new ∙ rw (back, width, is_size) refl in
-      let rest : drop (a + size - a) (drop a now) ≡ drop ((j + 1) * size) stored =
-      rw (back, width) (drop-drop size a stored ∙ ap (λ n. drop n stored) next) in
-      rw (prefix, rest, here, add-one) (sym (append_assoc (joined f j) (f j) (drop (suc j * size) stored)))
-
-  -- all sectors are decrypted
-  pub all_decrypted : (now : List ℕ) (size count j : ℕ)
-      → size ≡ sector_len s → count ≡ length stored / size → length stored % size ≡ 0 → j ≡ count
-      → now ≡ joined (sector_in s cipher first stored) j ++ drop (j * size) stored
-      → now ≡ plain_in s cipher first stored
-  all_decrypted now size count j is_size is_count whole is_last is_now =
-      let all : j * size ≡ length stored =
-      ap (λ k. k * size) (is_last ∙ is_count) ∙ div-mul_cancel size (dvd_of_mod-eq-zero size whole) in
-      let nothing : drop (j * size) stored ≡ [] = drop_all (j * size) stored (omega arith) in
-      is_now ∙ rw (nothing, append-nil, is_last, is_count, is_size) refl
+-- decrypting data units that follow one another decrypts all sectors of `stored`
+pub units_of_payload : (s : Segment) (cipher : Cipher) (first : ℕ) (stored : List ℕ)
+    → units_decrypted cipher.0 cipher.1 (unit_number s first) (sector_len s) stored ≡ plain_in s cipher first stored
+unfolding units_decrypted unit_plain
+units_of_payload s cipher first stored =
+    joined_same _ (sector_in s cipher first stored) (length stored / sector_len s)
+    (λ j low. ap (λ n. sector_decrypted cipher.0 cipher.1 n (take (sector_len s) (drop (j * sector_len s) stored)))
+    (number_after s first j))
 
 -- ---- sectors of an image
 

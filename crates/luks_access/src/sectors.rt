@@ -67,10 +67,6 @@ pub fn decrypt_sectors(segment: &Segment, cipher: &SectorCipher, first: u64, byt
         → bytes.new ≡ plain_at segment.now cipher.now image (first * sector_len segment.now)
         (length bytes.old) }
 {
-    let size = segment.sector_size.bytes();
-    let count = bytes.len() / size;
-    'sectors: for i in 0..count {
-        let number = unit_number(segment, first + i as u64);
-        cipher.decrypt_unit(number, &mut bytes[i * size..i * size + size]);
-    }
+    let number = unit_number(segment, first);
+    cipher.decrypt_units(number, segment.sector_size.bytes(), bytes);
 }

@@ -1,2 +1,4 @@
 pub mod MixLemmas
+pub mod WordLemmas
 pub mod RoundLemmas
+pub mod PackLemmas

@@ -1,23 +1,16 @@
 -- InvMixColumns by doublings and XORs, one bit plane at a time.
-use Rattle.std.proofs.Common.{◌≡◌, ℕ, zero, suc, ◌+◌, ◌%◌, ◌<◌, List, [], arith, refl, sym, ap, ◌∙◌}
-use Rattle.std.specs.Prelude.{slice_index_or}
+use Rattle.std.proofs.Common.{◌≡◌, ℕ, zero, suc, ◌+◌, ◌%◌, ◌<◌, arith, refl, sym, ap, ◌∙◌}
 use Rattle.std.specs.Int.{bit_at}
 use Rattle.std.specs.Int.Bits.{bit_xor}
-use Rattle.std.specs.Simd.Lanes.{zip2}
 use Rattle.std.proofs.lemmas.Nat.Bits.{same_from_bits, bit_at_xor}
 use Rattle.luks_aes.specs.Field.{◌⊕◌, ◌•◌, times_x, product_of_bits}
 use Rattle.luks_aes.specs.Columns.{inv_mixed_row}
-use Rattle.luks_aes.proofs.Bytes.{same_below, listed_below_8}
+use Rattle.luks_aes.proofs.Bytes.{same_below}
 use Rattle.luks_aes.proofs.ColumnLemmas.{times_x_byte, product_byte, xor_byte}
 use Rattle.luks_aes.proofs.MixingLemmas.{inv_mixed, times_x_xor}
 use Rattle.luks_bitslice.specs.BitPlanes.{IsBitPlane}
-use Rattle.luks_bitslice.proofs.GateLemmas.{plane_of_xors}
-use Rattle.luks_aes_batch.specs.States.{RepresentRows}
-use Rattle.luks_aes_batch.specs.RoundKeys.{row_0_of, row_1_of, row_2_of, row_3_of, rows_of}
-use Rattle.luks_aes_batch.specs.Mixing.{column_bytes_xor, even_of, step_of, AreBytes, IsOfPlane}
-use Rattle.luks_aes_batch.specs.Mixing.{HasSharedValues, HasDoubledValues}
-use Rattle.luks_aes_batch.specs.declared.rows.BitslicedState.{BitslicedState}
-use Rattle.luks_aes_batch.specs.declared.mixing.SharedValues.{SharedValues}
+use Rattle.luks_aes_batch.specs.Words.{AreRows}
+use Rattle.luks_aes_batch.specs.Mixing.{column_bytes_xor, even_of, step_of, AreBytes, AreShared, AreDoubled}
 
 -- a byte doubled n times
 abbrev times_x_n : ℕ → ℕ → ℕ
@@ -184,11 +177,43 @@ reduced_bits = (
   same_below (λ b. bit_at (times_x b) 4) (λ b. (bit_at b 3 + bit_at b 7) % 2) 256 refl,
 )
 
--- ---- bit planes of the doubled bytes: a bit plane unchanged, or XORed with bit plane 7
+-- ---- bit planes
 
-pub moved : (f : ℕ → ℕ) (j k : ℕ) {v : List ℕ} → IsMoved j k
-    → ((q : ℕ) → f q < 256) → IsBitPlane f j v → IsBitPlane (λ q. times_x (f q)) k v
-moved f j k law bytes is = record { len = is.len; at = λ q low. is.at q low ∙ sym (law (f q) (bytes q)) }
+-- the XOR of two words holds bit k of the bytes x, if that is the XOR of the bits that both words hold
+pub plane_of_xors : (x : ℕ → ℕ) (k : ℕ) {y z : ℕ → ℕ} {i j v w r : ℕ} → IsBitPlane y i v → IsBitPlane z j w
+    → r ≡ bit_xor v w → ((q : ℕ) → bit_at (x q) k ≡ (bit_at (y q) i + bit_at (z q) j) % 2) → IsBitPlane x k r
+plane_of_xors x k {y} {z} {i} {j} {v} {w} {r} first second is law = record {
+  at = λ q low. ap (λ n. bit_at n q) is
+      ∙ bit_at_xor v w q
+      ∙ (λ t. (first.at q low t + second.at q low t) % 2)
+      ∙ sym (law q);
+}
+
+pub xor_plane : {y z : ℕ → ℕ} {j v w r : ℕ} → IsBitPlane y j v → IsBitPlane z j w → r ≡ bit_xor v w
+    → IsBitPlane (λ q. y q ⊕ z q) j r
+xor_plane {y} {z} {j} first second is =
+    plane_of_xors (λ q. y q ⊕ z q) j first second is (λ q. bit_at_xor (y q) (z q) j)
+
+-- the same word, and the same bytes
+pub as_plane : {y : ℕ → ℕ} {j v w : ℕ} → v ≡ w → IsBitPlane y j w → IsBitPlane y j v
+as_plane same is = record { at = λ q low. ap (λ n. bit_at n q) same ∙ is.at q low }
+
+pub plane_also : {y : ℕ → ℕ} (z : ℕ → ℕ) {j w : ℕ} → IsBitPlane y j w → ((q : ℕ) → y q ≡ z q) → IsBitPlane z j w
+plane_also z {j} is same = record { at = λ q low. is.at q low ∙ ap (λ b. bit_at b j) (same q) }
+
+pub as_rows : {y : ℕ → ℕ → ℕ} {j a b c d e f g h : ℕ} → a ≡ e → b ≡ f → c ≡ g → d ≡ h → AreRows y j e f g h
+    → AreRows y j a b c d
+as_rows p q r s are = record {
+  row_0 = as_plane p are.row_0;
+  row_1 = as_plane q are.row_1;
+  row_2 = as_plane r are.row_2;
+  row_3 = as_plane s are.row_3;
+}
+
+-- bit k of the doubled bytes, if that is bit j of the bytes
+pub moved : (f : ℕ → ℕ) (j k : ℕ) {w : ℕ} → IsMoved j k → ((q : ℕ) → f q < 256) → IsBitPlane f j w
+    → IsBitPlane (λ q. times_x (f q)) k w
+moved f j k law bytes is = record { at = λ q low. is.at q low ∙ sym (law (f q) (bytes q)) }
 
 -- ---- the shared values as bytes
 
@@ -210,9 +235,9 @@ step_bytes y all q =
 
 -- ---- the shared values in one bit plane as doubled values in another
 
-pub doubled_from : (y : ℕ → ℕ → ℕ) (j k : ℕ) (x : SharedValues) → IsMoved j k
-    → AreBytes y → HasSharedValues y j x → HasDoubledValues y k x
-doubled_from y j k x law all has = record {
+pub doubled_from : (y : ℕ → ℕ → ℕ) (j k : ℕ) {a e s : ℕ} → IsMoved j k → AreBytes y → AreShared y j a e s
+    → AreDoubled y k a e s
+doubled_from y j k law all has = record {
   all = moved _ j k law (xored_bytes y all) has.all;
   even = moved _ j k law (even_bytes y all) has.even;
   step = moved _ j k law (step_bytes y all) has.step;
@@ -220,19 +245,16 @@ doubled_from y j k x law all has = record {
 
 -- the doubled values in plane k are the values in plane j XORed with those in plane 7, if bit k of each doubled byte is
 -- the XOR of the byte's bits j and 7
-pub doubled_with : (y : ℕ → ℕ → ℕ) (j k : ℕ) (x top r : SharedValues) → IsReduced j k
-    → AreBytes y → HasSharedValues y j x → HasSharedValues y 7 top → r.all ≡ zip2 bit_xor x.all top.all
-    → r.even ≡ zip2 bit_xor x.even top.even → r.step ≡ zip2 bit_xor x.step top.step → HasDoubledValues y k r
-doubled_with y j k x top r law all has last a e s = record {
-  all = plane_of_xors _ k has.all last.all a (λ q. law _ (xored_bytes y all q));
-  even = plane_of_xors _ k has.even last.even e (λ q. law _ (even_bytes y all q));
-  step = plane_of_xors _ k has.step last.step s (λ q. law _ (step_bytes y all q));
+pub doubled_with : (y : ℕ → ℕ → ℕ) (j k : ℕ) {a e s b f t c g u : ℕ} → IsReduced j k
+    → AreBytes y → AreShared y j a e s → AreShared y 7 b f t
+    → c ≡ bit_xor a b → g ≡ bit_xor e f → u ≡ bit_xor s t → AreDoubled y k c g u
+doubled_with y j k law all has top p q r = record {
+  all = plane_of_xors _ k has.all top.all p (λ n. law _ (xored_bytes y all n));
+  even = plane_of_xors _ k has.even top.even q (λ n. law _ (even_bytes y all n));
+  step = plane_of_xors _ k has.step top.step r (λ n. law _ (step_bytes y all n));
 }
 
 -- ---- rows
-
-pub all_bytes : (y : ℕ → ℕ → ℕ) (rows : List (List (List ℕ))) → RepresentRows y rows → AreBytes y
-all_bytes y rows is = record { at = λ r q low. (is.at r low).bytes q }
 
 -- after InvMixColumns and the XOR with a round key, a row still consists of bytes
 pub row_byte : (y z : ℕ → ℕ → ℕ) → AreBytes y → AreBytes z → (r q : ℕ) → r < 4 → inv_mixed_row y r q ⊕ z r q < 256
@@ -242,25 +264,3 @@ row_byte y z all keys r q low =
     ((r + 2) % 4) q (omega arith))
     (all.at ((r + 3) % 4) q (omega arith)))
     (keys.at r q low)
-
--- bit plane j of the rows
-plane_of : (y : ℕ → ℕ → ℕ) (x : BitslicedState) → RepresentRows y (rows_of x) → (j : ℕ) → j < 8
-    → IsOfPlane y j (record {
-      row_0 = slice_index_or (row_0_of x) j [];
-      row_1 = slice_index_or (row_1_of x) j [];
-      row_2 = slice_index_or (row_2_of x) j [];
-      row_3 = slice_index_or (row_3_of x) j [];
-    })
-unfolding rows_of
-plane_of y x is j low = record {
-  row_0 = (is.at 0 (omega arith)).at j low;
-  row_1 = (is.at 1 (omega arith)).at j low;
-  row_2 = (is.at 2 (omega arith)).at j low;
-  row_3 = (is.at 3 (omega arith)).at j low;
-}
-
-pub planes_of : (y : ℕ → ℕ → ℕ) (x : BitslicedState) → RepresentRows y (rows_of x)
-    → IsOfPlane y 0 x.plane_0 × IsOfPlane y 1 x.plane_1 × IsOfPlane y 2 x.plane_2 × IsOfPlane y 3 x.plane_3
-    × IsOfPlane y 4 x.plane_4 × IsOfPlane y 5 x.plane_5 × IsOfPlane y 6 x.plane_6 × IsOfPlane y 7 x.plane_7
-unfolding row_0_of row_1_of row_2_of row_3_of
-planes_of y x is = listed_below_8 _ (plane_of y x is)

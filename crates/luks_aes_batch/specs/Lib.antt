@@ -1,3 +1,4 @@
-pub mod States
-pub mod RoundKeys
+pub mod Words
+pub mod Blocks
 pub mod Mixing
+pub mod RoundKeys

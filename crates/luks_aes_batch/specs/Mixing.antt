@@ -4,9 +4,8 @@
 -- 2 • step ⊕ all ⊕ a. Row 1 is row 0 ⊕ step. Row 2 is row 0 ⊕ even. Row 3 is row 1 ⊕ even ⊕ all.
 use Rattle.std.specs.Prelude.{ℕ, ◌<◌}
 use Rattle.luks_aes.specs.Field.{◌⊕◌, times_x}
-use Rattle.luks_bitslice.specs.BitPlanes.{IsBitPlane}
-use Rattle.luks_aes_batch.specs.declared.rows.FourPlanes.{FourPlanes}
-use Rattle.luks_aes_batch.specs.declared.mixing.SharedValues.{SharedValues}
+use Rattle.luks_aes.specs.Columns.{inv_mixed_row}
+use Rattle.luks_bitslice.specs.BitPlanes.{IsBitPlane, rotated_index}
 
 -- ---- the values that the rows of a column share
 
@@ -24,21 +23,18 @@ step_of a b c d = (times_x (even_of a b c d) ⊕ a) ⊕ b
 pub record AreBytes (y : ℕ → ℕ → ℕ) : Type 0 where
   pub at : (r q : ℕ) → r < 4 → y r q < 256
 
--- `x` holds bit j of the bytes of four rows
-pub record IsOfPlane (y : ℕ → ℕ → ℕ) (j : ℕ) (x : FourPlanes) : Type 0 where
-  pub row_0 : IsBitPlane (y 0) j x.row_0
-  pub row_1 : IsBitPlane (y 1) j x.row_1
-  pub row_2 : IsBitPlane (y 2) j x.row_2
-  pub row_3 : IsBitPlane (y 3) j x.row_3
+-- the words hold bit j of the shared values
+pub record AreShared (y : ℕ → ℕ → ℕ) (j all_word even_word step_word : ℕ) : Type 0 where
+  pub all : IsBitPlane (λ q. column_bytes_xor (y 0 q) (y 1 q) (y 2 q) (y 3 q)) j all_word
+  pub even : IsBitPlane (λ q. even_of (y 0 q) (y 1 q) (y 2 q) (y 3 q)) j even_word
+  pub step : IsBitPlane (λ q. step_of (y 0 q) (y 1 q) (y 2 q) (y 3 q)) j step_word
 
--- `x` holds bit j of the shared values
-pub record HasSharedValues (y : ℕ → ℕ → ℕ) (j : ℕ) (x : SharedValues) : Type 0 where
-  pub all : IsBitPlane (λ q. column_bytes_xor (y 0 q) (y 1 q) (y 2 q) (y 3 q)) j x.all
-  pub even : IsBitPlane (λ q. even_of (y 0 q) (y 1 q) (y 2 q) (y 3 q)) j x.even
-  pub step : IsBitPlane (λ q. step_of (y 0 q) (y 1 q) (y 2 q) (y 3 q)) j x.step
+-- the words hold bit j of the doubled shared values
+pub record AreDoubled (y : ℕ → ℕ → ℕ) (j all_word even_word step_word : ℕ) : Type 0 where
+  pub all : IsBitPlane (λ q. times_x (column_bytes_xor (y 0 q) (y 1 q) (y 2 q) (y 3 q))) j all_word
+  pub even : IsBitPlane (λ q. times_x (even_of (y 0 q) (y 1 q) (y 2 q) (y 3 q))) j even_word
+  pub step : IsBitPlane (λ q. times_x (step_of (y 0 q) (y 1 q) (y 2 q) (y 3 q))) j step_word
 
--- `x` holds bit j of the doubled shared values
-pub record HasDoubledValues (y : ℕ → ℕ → ℕ) (j : ℕ) (x : SharedValues) : Type 0 where
-  pub all : IsBitPlane (λ q. times_x (column_bytes_xor (y 0 q) (y 1 q) (y 2 q) (y 3 q))) j x.all
-  pub even : IsBitPlane (λ q. times_x (even_of (y 0 q) (y 1 q) (y 2 q) (y 3 q))) j x.even
-  pub step : IsBitPlane (λ q. times_x (step_of (y 0 q) (y 1 q) (y 2 q) (y 3 q))) j x.step
+-- the bytes after InvMixColumns, AddRoundKey with the bytes z, and InvShiftRows
+abbrev pub mixed_and_shifted : (ℕ → ℕ → ℕ) → (ℕ → ℕ → ℕ) → ℕ → ℕ → ℕ
+mixed_and_shifted y z r q = inv_mixed_row y r (rotated_index r q) ⊕ z r (rotated_index r q)

@@ -1,130 +1,168 @@
-//! InvMixColumns, AddRoundKey and InvShiftRows on a bitsliced state, one bit plane at a time.
+//! InvMixColumns (FIPS 197, 5.3.3) on one bit plane of a bitsliced state.
 
-ghost use Rattle.std.specs.Prelude.{◌≡◌, ◌+◌, ◌%◌, ◌<◌, ℕ};
-ghost use Rattle.luks_aes.specs.Field.{◌⊕◌, ◌•◌, times_x};
+ghost use Rattle.std.specs.Prelude.{◌<◌, ℕ};
+ghost use Rattle.luks_aes.specs.Field.{◌⊕◌, times_x};
 ghost use Rattle.luks_aes.specs.Columns.{inv_mixed_row};
 ghost use Rattle.luks_bitslice.specs.BitPlanes.{IsBitPlane, rotated_index};
+ghost use Rattle.luks_aes_batch.specs.Words.{AreRows};
 ghost use Rattle.luks_aes_batch.specs.Mixing.{column_bytes_xor, even_of, step_of};
-ghost use Rattle.luks_aes_batch.specs.Mixing.{AreBytes, IsOfPlane, HasSharedValues};
-ghost use Rattle.luks_aes_batch.specs.Mixing.{HasDoubledValues};
-ghost use Rattle.luks_aes_batch.specs.RoundKeys.{rows_of};
-ghost use Rattle.luks_aes_batch.specs.States.{RepresentRows};
+ghost use Rattle.luks_aes_batch.specs.Mixing.{AreBytes, AreShared, AreDoubled};
 
-use crate::rows::{BitslicedState, FourPlanes};
-use luks_bitslice::{Columns, plane_rotated, xor};
-use std::simd::prelude::*;
+use luks_bitslice::{Columns, Lane};
+
+/// The four rows of a bit plane, for one group of blocks or two.
+#[derive(Clone, Copy, Drop)]
+pub struct Rows<L> {
+    pub row_0: L,
+    pub row_1: L,
+    pub row_2: L,
+    pub row_3: L,
+}
 
 /// One bit plane of the values that the four rows of a column after InvMixColumns share, or of
 /// these values doubled. `specs/Mixing.antt` defines them.
 #[derive(Clone, Copy, Drop)]
-struct SharedValues {
-    all: u8x16,
-    even: u8x16,
-    step: u8x16,
+pub struct SharedValues<L> {
+    pub all: L,
+    pub even: L,
+    pub step: L,
 }
 
-impl SharedValues {
-    // The doubled values in the next bit plane, if the reduction of x^8 (FIPS 197, 4.2) has a term
-    // there: the values in this plane XORed with those in plane 7.
+/// A bit plane after InvMixColumns, and the shared values in it.
+#[derive(Clone, Copy, Drop)]
+pub struct Mixed<L> {
+    pub rows: Rows<L>,
+    pub shared: SharedValues<L>,
+}
+
+impl<L: Lane> SharedValues<L> {
+    /// The doubled values in the next bit plane, if the reduction of x^8 (FIPS 197, 4.2) has a term
+    /// there: the values in this plane XORed with those in plane 7.
     #[inline(always)]
-    fn reduced(&self, top: &SharedValues) -> SharedValues
-        ensures to_1 { (y : ℕ → ℕ → ℕ) → AreBytes y → HasSharedValues y 0 self.now
-            → HasSharedValues y 7 top.now → HasDoubledValues y 1 result }
-        ensures to_3 { (y : ℕ → ℕ → ℕ) → AreBytes y → HasSharedValues y 2 self.now
-            → HasSharedValues y 7 top.now → HasDoubledValues y 3 result }
-        ensures to_4 { (y : ℕ → ℕ → ℕ) → AreBytes y → HasSharedValues y 3 self.now
-            → HasSharedValues y 7 top.now → HasDoubledValues y 4 result }
+    pub fn reduced(self, top: SharedValues<L>) -> SharedValues<L>
+        ensures to_1 { (l : ℕ) (y : ℕ → ℕ → ℕ) → l < L.count → AreBytes y
+            → AreShared y 0 (L.word self.all l) (L.word self.even l) (L.word self.step l)
+            → AreShared y 7 (L.word top.all l) (L.word top.even l) (L.word top.step l)
+            → AreDoubled y 1 (L.word result.all l) (L.word result.even l) (L.word result.step l) }
+        ensures to_3 { (l : ℕ) (y : ℕ → ℕ → ℕ) → l < L.count → AreBytes y
+            → AreShared y 2 (L.word self.all l) (L.word self.even l) (L.word self.step l)
+            → AreShared y 7 (L.word top.all l) (L.word top.even l) (L.word top.step l)
+            → AreDoubled y 3 (L.word result.all l) (L.word result.even l) (L.word result.step l) }
+        ensures to_4 { (l : ℕ) (y : ℕ → ℕ → ℕ) → l < L.count → AreBytes y
+            → AreShared y 3 (L.word self.all l) (L.word self.even l) (L.word self.step l)
+            → AreShared y 7 (L.word top.all l) (L.word top.even l) (L.word top.step l)
+            → AreDoubled y 4 (L.word result.all l) (L.word result.even l) (L.word result.step l) }
     {
-        SharedValues {
-            all: xor(self.all, top.all),
-            even: xor(self.even, top.even),
-            step: xor(self.step, top.step),
-        }
+        let all = self.all.xor(top.all);
+        let even = self.even.xor(top.even);
+        let step = self.step.xor(top.step);
+        SharedValues { all, even, step }
     }
 }
 
-impl FourPlanes {
-    // The shared values in this plane, from the doubled values in it.
+impl<L: Lane> Rows<L> {
+    /// The shared values in this plane, from the doubled values in it.
     #[inline(always)]
-    fn shared_values(&self, all_doubled: u8x16, even_doubled: u8x16) -> SharedValues
-        ensures all { (y : ℕ → ℕ → ℕ) (j : ℕ) → IsOfPlane y j self.now
-            → IsBitPlane (λ q. column_bytes_xor (y 0 q) (y 1 q) (y 2 q) (y 3 q)) j result.all }
-        ensures even { (y : ℕ → ℕ → ℕ) (j : ℕ) → IsOfPlane y j self.now
+    pub fn shared_values(self, all_doubled: L, even_doubled: L) -> SharedValues<L>
+        ensures all { (l : ℕ) (y : ℕ → ℕ → ℕ) (j : ℕ) → l < L.count
+            → AreRows y j (L.word self.row_0 l) (L.word self.row_1 l) (L.word self.row_2 l)
+            (L.word self.row_3 l)
+            → IsBitPlane (λ q. column_bytes_xor (y 0 q) (y 1 q) (y 2 q) (y 3 q)) j
+            (L.word result.all l) }
+        ensures even { (l : ℕ) (y : ℕ → ℕ → ℕ) (j : ℕ) → l < L.count
+            → AreRows y j (L.word self.row_0 l) (L.word self.row_1 l) (L.word self.row_2 l)
+            (L.word self.row_3 l)
             → IsBitPlane (λ q. times_x (column_bytes_xor (y 0 q) (y 1 q) (y 2 q) (y 3 q))) j
-            all_doubled
-            → IsBitPlane (λ q. even_of (y 0 q) (y 1 q) (y 2 q) (y 3 q)) j result.even }
-        ensures step { (y : ℕ → ℕ → ℕ) (j : ℕ) → IsOfPlane y j self.now
-            → IsBitPlane (λ q. times_x (even_of (y 0 q) (y 1 q) (y 2 q) (y 3 q))) j even_doubled
-            → IsBitPlane (λ q. step_of (y 0 q) (y 1 q) (y 2 q) (y 3 q)) j result.step }
+            (L.word all_doubled l)
+            → IsBitPlane (λ q. even_of (y 0 q) (y 1 q) (y 2 q) (y 3 q)) j (L.word result.even l) }
+        ensures step { (l : ℕ) (y : ℕ → ℕ → ℕ) (j : ℕ) → l < L.count
+            → AreRows y j (L.word self.row_0 l) (L.word self.row_1 l) (L.word self.row_2 l)
+            (L.word self.row_3 l)
+            → IsBitPlane (λ q. times_x (even_of (y 0 q) (y 1 q) (y 2 q) (y 3 q))) j
+            (L.word even_doubled l)
+            → IsBitPlane (λ q. step_of (y 0 q) (y 1 q) (y 2 q) (y 3 q)) j (L.word result.step l) }
     {
-        let ends = xor(self.row_0, self.row_2);
-        let three = xor(ends, self.row_1);
-        let all = xor(three, self.row_3);
-        let even = xor(all_doubled, ends);
-        let with_first = xor(even_doubled, self.row_0);
-        let step = xor(with_first, self.row_1);
+        let ends = self.row_0.xor(self.row_2);
+        let three = ends.xor(self.row_1);
+        let all = three.xor(self.row_3);
+        let even = all_doubled.xor(ends);
+        let with_first = even_doubled.xor(self.row_0);
+        let step = with_first.xor(self.row_1);
         SharedValues { all, even, step }
     }
 
-    // Applies InvMixColumns, AddRoundKey and InvShiftRows to this plane, with the doubled values in
-    // it, and returns the shared values in it.
+    /// This plane after InvMixColumns, from the doubled values in it, and the shared values in it.
     #[inline(always)]
-    fn inv_mix_columns_batch(&mut self, key: &FourPlanes, doubled: SharedValues) -> SharedValues
-        ensures plane { (y z : ℕ → ℕ → ℕ) (j : ℕ) → AreBytes y → IsOfPlane y j self.old
-            → IsOfPlane z j key.now → HasDoubledValues y j doubled
-            → IsOfPlane (λ r q. inv_mixed_row y r (rotated_index r q) ⊕ z r (rotated_index r q)) j
-            self.new }
-        ensures shared { (y : ℕ → ℕ → ℕ) (j : ℕ) → IsOfPlane y j self.old
-            → HasDoubledValues y j doubled → HasSharedValues y j result }
+    pub fn inv_mixed(self, doubled: SharedValues<L>) -> Mixed<L>
+        ensures rows { (l : ℕ) (y : ℕ → ℕ → ℕ) (j : ℕ) → l < L.count → AreBytes y
+            → AreRows y j (L.word self.row_0 l) (L.word self.row_1 l) (L.word self.row_2 l)
+            (L.word self.row_3 l)
+            → AreDoubled y j (L.word doubled.all l) (L.word doubled.even l) (L.word doubled.step l)
+            → AreRows (inv_mixed_row y) j (L.word result.rows.row_0 l) (L.word result.rows.row_1 l)
+            (L.word result.rows.row_2 l) (L.word result.rows.row_3 l) }
+        ensures shared { (l : ℕ) (y : ℕ → ℕ → ℕ) (j : ℕ) → l < L.count
+            → AreRows y j (L.word self.row_0 l) (L.word self.row_1 l) (L.word self.row_2 l)
+            (L.word self.row_3 l)
+            → AreDoubled y j (L.word doubled.all l) (L.word doubled.even l) (L.word doubled.step l)
+            → AreShared y j (L.word result.shared.all l) (L.word result.shared.even l)
+            (L.word result.shared.step l) }
     {
         let shared = self.shared_values(doubled.all, doubled.even);
-        let with_all = xor(doubled.step, shared.all);
-        let first = xor(with_all, self.row_0);
-        let second = xor(first, shared.step);
-        let third = xor(first, shared.even);
-        let with_even = xor(second, shared.even);
-        let fourth = xor(with_even, shared.all);
-        self.row_0 = xor(first, key.row_0);
-        self.row_1 = plane_rotated(xor(second, key.row_1), Columns::One);
-        self.row_2 = plane_rotated(xor(third, key.row_2), Columns::Two);
-        self.row_3 = plane_rotated(xor(fourth, key.row_3), Columns::Three);
-        shared
+        let with_all = doubled.step.xor(shared.all);
+        let row_0 = with_all.xor(self.row_0);
+        let row_1 = row_0.xor(shared.step);
+        let row_2 = row_0.xor(shared.even);
+        let with_even = row_1.xor(shared.even);
+        let row_3 = with_even.xor(shared.all);
+        let rows = Rows {
+            row_0,
+            row_1,
+            row_2,
+            row_3,
+        };
+        Mixed { rows, shared }
     }
-}
 
-// The shared values in plane 7, which depend on those in planes 5 and 6.
-#[inline(always)]
-fn top_shared_values(rows: &BitslicedState) -> SharedValues
-    ensures { (y : ℕ → ℕ → ℕ) → RepresentRows y (rows_of rows.now) → HasSharedValues y 7 result }
-{
-    let unknown = u8x16::splat(0);
-    let below = rows.plane_5.shared_values(unknown, unknown);
-    let middle = rows.plane_6.shared_values(below.all, unknown);
-    rows.plane_7.shared_values(middle.all, middle.even)
-}
+    /// AddRoundKey (5.1.4).
+    #[inline(always)]
+    pub fn keyed(self, key: Rows<L>) -> Rows<L>
+        ensures { (l : ℕ) (y z : ℕ → ℕ → ℕ) (j : ℕ) → l < L.count
+            → AreRows y j (L.word self.row_0 l) (L.word self.row_1 l) (L.word self.row_2 l)
+            (L.word self.row_3 l)
+            → AreRows z j (L.word key.row_0 l) (L.word key.row_1 l) (L.word key.row_2 l)
+            (L.word key.row_3 l)
+            → AreRows (λ r q. y r q ⊕ z r q) j (L.word result.row_0 l) (L.word result.row_1 l)
+            (L.word result.row_2 l) (L.word result.row_3 l) }
+    {
+        let row_0 = self.row_0.xor(key.row_0);
+        let row_1 = self.row_1.xor(key.row_1);
+        let row_2 = self.row_2.xor(key.row_2);
+        let row_3 = self.row_3.xor(key.row_3);
+        Rows {
+            row_0,
+            row_1,
+            row_2,
+            row_3,
+        }
+    }
 
-/// InvMixColumns (FIPS 197, 5.3.3), AddRoundKey with a round key that is itself after
-/// InvMixColumns, and InvShiftRows.
-#[inline(never)]
-pub fn inv_mix_columns_batch(rows: &mut BitslicedState, key: &BitslicedState)
-    ensures { (y z : ℕ → ℕ → ℕ) → RepresentRows y (rows_of rows.old)
-        → RepresentRows z (rows_of key.now)
-        → RepresentRows (λ r q. inv_mixed_row y r (rotated_index r q) ⊕ z r (rotated_index r q))
-        (rows_of rows.new) }
-{
-    let top = top_shared_values(rows);
-    let shared_0 = rows.plane_0.inv_mix_columns_batch(&key.plane_0, top);
-    let shared_1 = rows
-        .plane_1
-        .inv_mix_columns_batch(&key.plane_1, shared_0.reduced(&top));
-    let shared_2 = rows.plane_2.inv_mix_columns_batch(&key.plane_2, shared_1);
-    let shared_3 = rows
-        .plane_3
-        .inv_mix_columns_batch(&key.plane_3, shared_2.reduced(&top));
-    let shared_4 = rows
-        .plane_4
-        .inv_mix_columns_batch(&key.plane_4, shared_3.reduced(&top));
-    let shared_5 = rows.plane_5.inv_mix_columns_batch(&key.plane_5, shared_4);
-    let shared_6 = rows.plane_6.inv_mix_columns_batch(&key.plane_6, shared_5);
-    rows.plane_7.inv_mix_columns_batch(&key.plane_7, shared_6);
+    /// InvShiftRows (5.3.1).
+    #[inline(always)]
+    pub fn inv_shifted(self) -> Rows<L>
+        ensures { (l : ℕ) (y : ℕ → ℕ → ℕ) (j : ℕ) → l < L.count
+            → AreRows y j (L.word self.row_0 l) (L.word self.row_1 l) (L.word self.row_2 l)
+            (L.word self.row_3 l)
+            → AreRows (λ r q. y r (rotated_index r q)) j (L.word result.row_0 l)
+            (L.word result.row_1 l) (L.word result.row_2 l) (L.word result.row_3 l) }
+    {
+        let row_1 = self.row_1.rotated(Columns::One);
+        let row_2 = self.row_2.rotated(Columns::Two);
+        let row_3 = self.row_3.rotated(Columns::Three);
+        Rows {
+            row_0: self.row_0,
+            row_1,
+            row_2,
+            row_3,
+        }
+    }
 }

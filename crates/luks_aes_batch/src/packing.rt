@@ -1,140 +1,204 @@
-//! From 32 blocks to their bitsliced states, and back.
+//! From blocks to their bitsliced states, and back.
 
-ghost use Rattle.std.specs.Prelude.{◌≡◌, ◌+◌, ◌*◌, ◌/◌, ◌%◌, ◌<◌, ◌≤◌, ℕ, List, [], ◌∷◌, length};
-ghost use Rattle.std.specs.Prelude.{slice_index, slice_index_or};
+ghost use Rattle.std.specs.Prelude.{◌≡◌, ◌+◌, ◌*◌, ◌/◌, ◌%◌, ◌<◌, ◌≤◌, ℕ, List, length};
+ghost use Rattle.std.specs.Prelude.{slice_index, bit_xor};
 ghost use Rattle.std.specs.Int.{bit_at};
-ghost use Rattle.std.specs.Simd.Lanes.{chunk};
-ghost use Rattle.luks_aes.specs.Aes.{cell};
-ghost use Rattle.luks_bitslice.specs.BitPlanes.{column_order, column_index, HasBits, Represents};
-ghost use Rattle.luks_aes_batch.specs.States.{RepresentRows, RepresentStates, block_in};
+ghost use Rattle.luks_aes.specs.Bytes.{IsBytes};
+ghost use Rattle.luks_aes_batch.specs.Blocks.{masked_block, masked_byte, RepresentStates};
+ghost use Rattle.luks_aes_batch.specs.Words.{words_at};
 
-use luks_bitslice::{blocks_to_rows, rows_to_blocks, transposed_bits};
+use crate::planes::BitPlane;
+use crate::state::BitslicedState;
+use luks_bitslice::{pair_of_rows, rows_of_pair};
 use std::simd::prelude::*;
 
-// Block `n` of the batch.
+// Block `n` of the batch, XORed with that of the mask.
 #[inline(always)]
-fn load(batch: &[u8], n: usize) -> u8x16
-    requires { 16 * n + 16 ≤ length batch.now }
-    ensures { result ≡ chunk (16 * n) 16 batch.now }
+fn masked_block(batch: &[u8], mask: &[u8], n: usize) -> u8x16
+    requires batch { 16 * n + 16 ≤ length batch.now }
+    requires mask { 16 * n + 16 ≤ length mask.now }
+    ensures { (i : ℕ) → i < 16
+        → slice_index result i
+        ≡ bit_xor (slice_index batch.now (16 * n + i)) (slice_index mask.now (16 * n + i)) }
 {
-    u8x16::from_slice(&batch[16 * n..])
+    u8x16::from_slice(&batch[16 * n..]) ^ u8x16::from_slice(&mask[16 * n..])
 }
 
-// The rows of the four blocks from block 4 * `g` on.
+// Writes block `n` of the batch, XORed with that of the mask.
 #[inline(always)]
-fn group(batch: &[u8], g: usize) -> [u8x16; 4]
-    requires { 64 * g + 64 ≤ length batch.now }
-    ensures { (r : ℕ) → r < 4
-        → HasBits
-        (λ p k. bit_at (slice_index batch.now (16 * (4 * g + p / 4) + (r + 4 * column_order
-        (p % 4)))) k)
-        (slice_index_or result r []) }
+fn put_masked_block(batch: &mut [u8], mask: &[u8], n: usize, block: u8x16)
+    requires batch { 16 * n + 16 ≤ length batch.old }
+    requires mask { 16 * n + 16 ≤ length mask.now }
+    requires lanes { length block ≡ 16 }
+    ensures here { (i : ℕ) → i < 16
+        → slice_index batch.new (16 * n + i)
+        ≡ bit_xor (slice_index block i) (slice_index mask.now (16 * n + i)) }
+    ensures before { (k : ℕ) → k < 16 * n → slice_index batch.new k ≡ slice_index batch.old k }
+    ensures after { (k : ℕ) → 16 * n + 16 ≤ k
+        → slice_index batch.new k ≡ slice_index batch.old k }
 {
-    let n = 4 * g;
-    blocks_to_rows(
-        load(batch, n),
-        load(batch, n + 1),
-        load(batch, n + 2),
-        load(batch, n + 3),
+    let masked = block ^ u8x16::from_slice(&mask[16 * n..]);
+    masked.copy_to_slice(&mut batch[16 * n..16 * n + 16]);
+}
+
+// The rows of blocks `n` and `n` + 8, each block XORed with that of the mask.
+#[inline(always)]
+fn masked_rows(batch: &[u8], mask: &[u8], n: usize) -> [u64; 4]
+    requires batch { 16 * n + 144 ≤ length batch.now }
+    requires mask { 16 * n + 144 ≤ length mask.now }
+    ensures { (r p k : ℕ) → r < 4 → p < 8 → k < 8
+        → bit_at (slice_index result r) (8 * p + k)
+        ≡ bit_at (masked_byte batch.now mask.now (n + 8 * (p % 2)) (r + 4 * (p / 2))) k }
+{
+    rows_of_pair(
+        masked_block(batch, mask, n),
+        masked_block(batch, mask, n + 8),
     )
 }
 
-// The bit planes of one row, from its bytes in the eight groups of four blocks.
+// Writes blocks `n` and `n` + 8, from their rows, each XORed with that of the mask.
 #[inline(always)]
-fn planes(x: [u8x16; 8]) -> [u8x16; 8]
-    ensures { (e : ℕ → ℕ → ℕ) → ((g p : ℕ) → e g p < 256)
-        → ((g : ℕ) → g < 8 → HasBits (λ p k. bit_at (e g p) k) (slice_index_or x g []))
-        → Represents (λ q. e (q % 8) (q / 8)) result }
+fn put_masked_rows(batch: &mut [u8], mask: &[u8], n: usize, rows: [u64; 4])
+    requires batch { 16 * n + 144 ≤ length batch.old }
+    requires mask { 16 * n + 144 ≤ length mask.now }
+    ensures here { (e i k : ℕ) → e < 2 → i < 16 → k < 8
+        → bit_at (masked_byte batch.new mask.now (n + 8 * e) i) k
+        ≡ bit_at (slice_index rows (i % 4)) (8 * (2 * (i / 4) + e) + k) }
+    ensures others { (m i : ℕ) → (m ≡ n → ⊥) → (m ≡ n + 8 → ⊥) → i < 16
+        → slice_index batch.new (16 * m + i) ≡ slice_index batch.old (16 * m + i) }
 {
-    transposed_bits(x)
+    let pair = pair_of_rows(rows);
+    put_masked_block(batch, mask, n, pair[0]);
+    put_masked_block(batch, mask, n + 8, pair[1]);
 }
 
-/// Bitslices 32 blocks.
-#[inline(always)]
-pub fn pack(batch: &[u8]) -> [[u8x16; 8]; 4]
-    requires { length batch.now ≡ 512 }
-    ensures { RepresentStates (block_in batch.now) 0 result }
-{
-    let a = group(batch, 0);
-    let b = group(batch, 1);
-    let c = group(batch, 2);
-    let d = group(batch, 3);
-    let e = group(batch, 4);
-    let f = group(batch, 5);
-    let g = group(batch, 6);
-    let h = group(batch, 7);
-    [
-        planes([a[0], b[0], c[0], d[0], e[0], f[0], g[0], h[0]]),
-        planes([a[1], b[1], c[1], d[1], e[1], f[1], g[1], h[1]]),
-        planes([a[2], b[2], c[2], d[2], e[2], f[2], g[2], h[2]]),
-        planes([a[3], b[3], c[3], d[3], e[3], f[3], g[3], h[3]]),
-    ]
+impl<const WORDS: usize> BitPlane<WORDS> {
+    // The words of the four rows in group `g`.
+    #[inline(always)]
+    fn row_words(&self, g: usize) -> [u64; 4]
+        requires whole { WORDS % 4 ≡ 0 }
+        requires inside { g < WORDS / 4 }
+        ensures { (r : ℕ) → r < 4
+            → slice_index result r ≡ slice_index self.now.words (WORDS / 4 * r + g) }
+    {
+        self.is_whole();
+        let groups = WORDS / 4;
+        [
+            self.words[g],
+            self.words[groups + g],
+            self.words[2 * groups + g],
+            self.words[3 * groups + g],
+        ]
+    }
+
+    // Writes the words of the four rows in group `g`.
+    #[inline(always)]
+    fn put_row_words(&mut self, g: usize, rows: [u64; 4])
+        requires whole { WORDS % 4 ≡ 0 }
+        requires inside { g < WORDS / 4 }
+        ensures here { (r : ℕ) → r < 4
+            → slice_index self.new.words (WORDS / 4 * r + g) ≡ slice_index rows r }
+        ensures others { (r h : ℕ) → r < 4 → h < WORDS / 4 → (h ≡ g → ⊥)
+            → slice_index self.new.words (WORDS / 4 * r + h)
+            ≡ slice_index self.old.words (WORDS / 4 * r + h) }
+    {
+        self.is_whole();
+        let groups = WORDS / 4;
+        self.words[g] = rows[0];
+        self.words[groups + g] = rows[1];
+        self.words[2 * groups + g] = rows[2];
+        self.words[3 * groups + g] = rows[3];
+    }
 }
 
-/// The bitsliced states of 32 equal blocks.
-pub fn broadcast(block: [u8; 16]) -> [[u8x16; 8]; 4]
-    ensures { RepresentRows (λ r q. cell block r (column_index q)) result }
-{
-    let v = u8x16::from_array(block);
-    let a = blocks_to_rows(v, v, v, v);
-    [
-        planes([a[0], a[0], a[0], a[0], a[0], a[0], a[0], a[0]]),
-        planes([a[1], a[1], a[1], a[1], a[1], a[1], a[1], a[1]]),
-        planes([a[2], a[2], a[2], a[2], a[2], a[2], a[2], a[2]]),
-        planes([a[3], a[3], a[3], a[3], a[3], a[3], a[3], a[3]]),
-    ]
-}
+impl<const WORDS: usize> BitslicedState<WORDS> {
+    // Fills in group `g`, without the transposition.
+    #[inline(always)]
+    fn pack_group(&mut self, batch: &[u8], mask: &[u8], g: usize)
+        requires whole { WORDS % 4 ≡ 0 }
+        requires inside { g < WORDS / 4 }
+        requires batch { length batch.now ≡ 64 * WORDS }
+        requires mask { length mask.now ≡ 64 * WORDS }
+        ensures here { (r j p k : ℕ) → r < 4 → j < 8 → p < 8 → k < 8
+            → bit_at (slice_index (words_at (WORDS / 4 * r + g) self.new) j) (8 * p + k)
+            ≡ bit_at
+            (masked_byte batch.now mask.now (16 * g + j + 8 * (p % 2)) (r + 4 * (p / 2))) k }
+        ensures others { (r h : ℕ) → r < 4 → h < WORDS / 4 → (h ≡ g → ⊥)
+            → words_at (WORDS / 4 * r + h) self.new ≡ words_at (WORDS / 4 * r + h) self.old }
+    {
+        let n = 16 * g;
+        self.plane_0.put_row_words(g, masked_rows(batch, mask, n));
+        self.plane_1
+            .put_row_words(g, masked_rows(batch, mask, n + 1));
+        self.plane_2
+            .put_row_words(g, masked_rows(batch, mask, n + 2));
+        self.plane_3
+            .put_row_words(g, masked_rows(batch, mask, n + 3));
+        self.plane_4
+            .put_row_words(g, masked_rows(batch, mask, n + 4));
+        self.plane_5
+            .put_row_words(g, masked_rows(batch, mask, n + 5));
+        self.plane_6
+            .put_row_words(g, masked_rows(batch, mask, n + 6));
+        self.plane_7
+            .put_row_words(g, masked_rows(batch, mask, n + 7));
+    }
 
-// The bytes of a row in the eight groups, from its bit planes.
-#[inline(always)]
-fn groups(x: [u8x16; 8]) -> [u8x16; 8]
-    ensures { (y : ℕ → ℕ) → Represents y x
-        → (g : ℕ) → g < 8 → HasBits (λ p k. bit_at (y (8 * p + g)) k) (slice_index_or result g []) }
-{
-    transposed_bits(x)
-}
+    /// Bitslices the blocks of a batch, each XORed with that of the mask.
+    #[inline(always)]
+    pub fn pack(&mut self, batch: &[u8], mask: &[u8])
+        requires whole { WORDS % 4 ≡ 0 }
+        requires batch { length batch.now ≡ 64 * WORDS }
+        requires mask { length mask.now ≡ 64 * WORDS }
+        ensures { RepresentStates (masked_block batch.now mask.now) 0 self.new }
+    {
+        for g in 0..WORDS / 4 {
+            self.pack_group(batch, mask, g);
+        }
+        self.transpose();
+    }
 
-// Writes block `n` of the batch.
-#[inline(always)]
-fn store(batch: &mut [u8], n: usize, block: u8x16)
-    requires capacity { 16 * n + 16 ≤ length batch.old }
-    requires lanes { length block ≡ 16 }
-    ensures written { (i : ℕ) → i < 16 → slice_index batch.new (16 * n + i) ≡ slice_index block i }
-    ensures kept { (k : ℕ) → k < 16 * n → slice_index batch.new k ≡ slice_index batch.old k }
-{
-    batch[16 * n..16 * n + 16].copy_from_slice(&block.to_array());
-}
+    // Writes the blocks of group `g`, each XORed with that of the mask, after the transposition.
+    #[inline(always)]
+    fn unpack_group(&self, mask: &[u8], batch: &mut [u8], g: usize)
+        requires whole { WORDS % 4 ≡ 0 }
+        requires inside { g < WORDS / 4 }
+        requires batch { length batch.old ≡ 64 * WORDS }
+        requires mask { length mask.now ≡ 64 * WORDS }
+        ensures here { (j e i k : ℕ) → j < 8 → e < 2 → i < 16 → k < 8
+            → bit_at (masked_byte batch.new mask.now (16 * g + j + 8 * e) i) k
+            ≡ bit_at
+            (slice_index (words_at (WORDS / 4 * (i % 4) + g) self.now) j)
+            (8 * (2 * (i / 4) + e) + k) }
+        ensures others { (m i : ℕ) → (m / 16 ≡ g → ⊥) → i < 16
+            → slice_index batch.new (16 * m + i) ≡ slice_index batch.old (16 * m + i) }
+    {
+        let n = 16 * g;
+        put_masked_rows(batch, mask, n, self.plane_0.row_words(g));
+        put_masked_rows(batch, mask, n + 1, self.plane_1.row_words(g));
+        put_masked_rows(batch, mask, n + 2, self.plane_2.row_words(g));
+        put_masked_rows(batch, mask, n + 3, self.plane_3.row_words(g));
+        put_masked_rows(batch, mask, n + 4, self.plane_4.row_words(g));
+        put_masked_rows(batch, mask, n + 5, self.plane_5.row_words(g));
+        put_masked_rows(batch, mask, n + 6, self.plane_6.row_words(g));
+        put_masked_rows(batch, mask, n + 7, self.plane_7.row_words(g));
+    }
 
-// Writes the four blocks from block 4 * `g` on, from their rows.
-#[inline(always)]
-fn put_group(batch: &mut [u8], g: usize, a: u8x16, b: u8x16, c: u8x16, d: u8x16)
-    requires { 64 * g + 64 ≤ length batch.old }
-    ensures written { (m i : ℕ) → m < 4 → i < 16
-        → slice_index batch.new (16 * (4 * g + m) + i)
-        ≡ slice_index (slice_index_or (a ∷ b ∷ c ∷ d ∷ []) (i % 4) []) (4 * m + column_order
-        (i / 4)) }
-    ensures kept { (k : ℕ) → k < 64 * g → slice_index batch.new k ≡ slice_index batch.old k }
-{
-    let blocks = rows_to_blocks(a, b, c, d);
-    let n = 4 * g;
-    store(batch, n, blocks[0]);
-    store(batch, n + 1, blocks[1]);
-    store(batch, n + 2, blocks[2]);
-    store(batch, n + 3, blocks[3]);
-}
-
-/// Writes the 32 blocks of bitsliced states.
-#[inline(always)]
-pub fn unpack(rows: [[u8x16; 8]; 4], batch: &mut [u8])
-    requires { length batch.old ≡ 512 }
-    ensures { (s : ℕ → List ℕ) → RepresentStates s 0 rows
-        → (n i : ℕ) → n < 32 → i < 16 → slice_index batch.new (16 * n + i) ≡ slice_index (s n) i }
-{
-    let a = groups(rows[0]);
-    let b = groups(rows[1]);
-    let c = groups(rows[2]);
-    let d = groups(rows[3]);
-    for g in 0..8 {
-        put_group(batch, g, a[g], b[g], c[g], d[g]);
+    /// Writes the blocks of bitsliced states, each XORed with that of the mask. The states are of
+    /// no use afterwards.
+    #[inline(always)]
+    pub fn unpack(&mut self, mask: &[u8], batch: &mut [u8])
+        requires whole { WORDS % 4 ≡ 0 }
+        requires batch { length batch.old ≡ 64 * WORDS }
+        requires mask { length mask.now ≡ 64 * WORDS }
+        ensures { (s : ℕ → List ℕ) → ((m : ℕ) → IsBytes (s m)) → RepresentStates s 0 self.old
+            → (m i : ℕ) → m < 4 * WORDS → i < 16
+            → slice_index batch.new (16 * m + i)
+            ≡ bit_xor (slice_index (s m) i) (slice_index mask.now (16 * m + i)) }
+    {
+        self.transpose();
+        for g in 0..WORDS / 4 {
+            self.unpack_group(mask, batch, g);
+        }
     }
 }

@@ -1,2 +1,3 @@
 pub mod GateLemmas
 pub mod LaneLemmas
+pub mod WordLemmas

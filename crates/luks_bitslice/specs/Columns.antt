@@ -1,7 +1,7 @@
 -- How many columns InvShiftRows rotates a row by (FIPS 197, 5.3.1).
 use Rattle.std.specs.Prelude.{ℕ}
-use Rattle.luks_bitslice.specs.declared.rows.Columns.{Columns}
-use Rattle.luks_bitslice.specs.declared.rows.Columns.TheVariants.{One, Two, Three}
+use Rattle.luks_bitslice.specs.declared.lane.Columns.{Columns}
+use Rattle.luks_bitslice.specs.declared.lane.Columns.TheVariants.{One, Two, Three}
 
 -- the number of columns
 abbrev pub column_count : Columns → ℕ

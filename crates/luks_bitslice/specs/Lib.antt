@@ -1,4 +1,4 @@
 pub mod BitPlanes
-pub mod Lanes
-pub mod Runs
 pub mod Columns
+pub mod Runs
+pub mod Shuffles

@@ -1,5 +1,5 @@
 -- A transposition of 8 by 8 bits in three steps, each of which exchanges runs of 1, 2 or 4 bits.
-use Rattle.std.specs.Prelude.{ℕ}
+use Rattle.std.specs.Prelude.{ℕ, ◌+◌, ◌-◌, ◌/◌, ◌%◌, ◌==◌, if◌then◌else◌}
 use Rattle.luks_bitslice.specs.declared.transpose.Run.{Run}
 use Rattle.luks_bitslice.specs.declared.transpose.Run.TheVariants.{Bit, Pair, Nibble}
 
@@ -9,14 +9,16 @@ run_bits Bit = 1
 run_bits Pair = 2
 run_bits Nibble = 4
 
--- the mask of the lower runs of a byte: every other run, from the lowest bit on
+-- the mask of the lower runs of a word: every other run, from the lowest bit on
 abbrev pub low_mask : Run → ℕ
-low_mask Bit = 0x55
-low_mask Pair = 0x33
-low_mask Nibble = 0x0f
+low_mask Bit = 0x5555555555555555
+low_mask Pair = 0x3333333333333333
+low_mask Nibble = 0x0f0f0f0f0f0f0f0f
 
--- the mask of the upper runs, which are between the lower ones
-abbrev pub high_mask : Run → ℕ
-high_mask Bit = 0xaa
-high_mask Pair = 0xcc
-high_mask Nibble = 0xf0
+-- in the lower runs of n bits, the bits of f; in the runs between them, the bits that g has n positions lower
+abbrev pub swapped_low : ℕ → (ℕ → ℕ) → (ℕ → ℕ) → ℕ → ℕ
+swapped_low n f g q = if q / n % 2 == 0 then f q else g (q - n)
+
+-- in the lower runs of n bits, the bits that f has n positions higher; in the runs between them, the bits of g
+abbrev pub swapped_high : ℕ → (ℕ → ℕ) → (ℕ → ℕ) → ℕ → ℕ
+swapped_high n f g q = if q / n % 2 == 0 then f (q + n) else g q

@@ -1,18 +1,17 @@
-//! The inverse S-box as a circuit of gates on eight bit planes.
+//! The inverse S-box as a circuit of gates on eight words, which hold the bits of 64 bytes.
 
 ghost use Rattle.std.specs.Prelude.{◌≡◌, ℕ};
 ghost use Rattle.luks_aes.specs.Field.{◌⊕◌};
 ghost use Rattle.luks_aes.specs.Aes.{inv_sbox};
-ghost use Rattle.luks_bitslice.specs.BitPlanes.{Represents};
+ghost use Rattle.luks_bitslice.specs.BitPlanes.{HoldBytes};
 
 use crate::gates::{and, andn, or, xor};
-use std::simd::prelude::*;
 
 /// The inverse S-box (FIPS 197, 5.3.2) on bytes with 0x63 XORed into them, in the form of Boyar and
 /// Peralta: a linear layer, an inversion in the field of 16 elements, and a linear layer.
 #[inline(always)]
-pub fn inv_sbox_circuit(x: [u8x16; 8]) -> [u8x16; 8]
-    ensures { (y : ℕ → ℕ) → Represents y x → Represents (λ q. inv_sbox (y q ⊕ 0x63)) result }
+pub fn inv_sbox_circuit(x: [u64; 8]) -> [u64; 8]
+    ensures { (y : ℕ → ℕ) → HoldBytes y x → HoldBytes (λ k. inv_sbox (y k ⊕ 0x63)) result }
 {
     let x0 = x[0];
     let x1 = x[1];
@@ -94,7 +93,6 @@ pub fn inv_sbox_circuit(x: [u8x16; 8]) -> [u8x16; 8]
     let w0 = and(m37, b0);
     let w5 = and(m42, b5);
     let u6 = and(m43, a6);
-    let w6 = and(m43, b6);
     let m45 = xor(m42, m41);
     let u4 = and(m41, a4);
     let w8 = and(m45, x6);
@@ -102,6 +100,7 @@ pub fn inv_sbox_circuit(x: [u8x16; 8]) -> [u8x16; 8]
     let z18 = xor(w4, w5);
     let u8 = and(m45, a8);
     let z27 = xor(w3, w5);
+    let w6 = and(m43, b6);
     let z34 = xor(w8, z27);
     let z31 = xor(w2, w6);
     let z24 = xor(z18, z23);

@@ -1,3 +1,4 @@
 pub mod ModeLemmas
 pub mod UnitsUndone
 pub mod UnitLemmas
+pub mod PairLemmas

@@ -1,16 +1,18 @@
 -- The halves of a key, tweaks and their doubling, and data units that are transformed block by block or in batches of
 -- 32 blocks.
 use Rattle.std.proofs.Common.{◌≡◌, ℕ, zero, suc, ◌+◌, ◌-◌, ◌*◌, ◌/◌, ◌%◌, ◌^◌, ◌<◌, ◌≤◌, List, [], ◌∷◌, ◌++◌, length}
-use Rattle.std.proofs.Common.{take, drop, arith, length-append, append_assoc, refl, sym, ap, subst, ◌∙◌, inl, inr, ltb}
-use Rattle.std.proofs.Common.{true, false}
+use Rattle.std.proofs.Common.{take, drop, arith, length-append, append_assoc, refl, sym, ap, ◌∙◌, inl, inr, ltb}
+use Rattle.std.proofs.Common.{true, false, slice_index, length-drop, length-take, replicate}
+use Rattle.std.proofs.Math.ListN.{get_or-eq_default}
 use Rattle.std.specs.Int.{w128, to_le_bytes, from_le_bytes}
 use Rattle.std.specs.Int.Bits.{bit_xor, xor_zero_r, xor_shifted}
 use Rattle.std.specs.Simd.Lanes.{Each1, zip2, put_chunk, number_l, digits_l}
-use Rattle.std.proofs.Math.Nat.{div-div-eq-div-mul, pow-zero, pow-succ'}
-use Rattle.std.proofs.lemmas.Nat.{xor_block}
+use Rattle.std.proofs.Math.Nat.{div-div-eq-div-mul, div-lt_iff_lt-mul, pow-zero, pow-suc, pow-succ'}
+use Rattle.std.proofs.lemmas.Nat.{xor_block, div-add-mod'}
 use Rattle.std.proofs.lemmas.Bool.{lt-ltb, le-ltb, cases_lt}
 use Rattle.std.proofs.lemmas.Simd.{get_or-zip2, length-zip2, put_chunk_whole}
-use Rattle.std.proofs.lemmas.List.{append-nil, take_at, drop_at, take_all, take-take, drop-take, drop-drop}
+use Rattle.std.proofs.lemmas.List.{append-nil, take_at, drop_at, take_all, take-take, drop-take, drop-drop, drop_all}
+use Rattle.std.proofs.lemmas.List.{get_or-take, get_or-drop, length-take-le, get_or-replicate, length-replicate}
 use Rattle.std.proofs.lemmas.Slice.{take-put_mid, drop-put_mid}
 use borrow.Rule.Slice.PartMut.{put_mid}
 use Rattle.luks_aes.specs.Field.{◌⊕◌}
@@ -21,7 +23,7 @@ use Rattle.luks_aes.proofs.MixingLemmas.{same_cells}
 use Rattle.luks_cipher.specs.Xts.{data_key, tweak_key, doubled_number, doubled, tweak_of, block_at, joined, block_xor}
 use Rattle.luks_cipher.specs.Xts.{block_encrypted, block_decrypted, tweak_after}
 use Rattle.luks_cipher.specs.Cbc.{block_before}
-use Rattle.luks_cipher.proofs.UnitsUndone.{block_xor_len, joined_at, joined_same}
+use Rattle.luks_cipher.proofs.UnitsUndone.{joined_same, joined_units}
 
 -- ---- the two halves of a key
 
@@ -142,41 +144,47 @@ progress_next g t old new piece own next j before capacity size is is_next = rec
   done = done_next g t old new piece own j before.done capacity size before.next is;
 }
 
--- block m of batch i, as the code reads it
-pub batch_block : (old new : List ℕ) (i : ℕ) → drop (16 * (32 * i)) new ≡ drop (16 * (32 * i)) old
-    → (m : ℕ) → m < 32 → block_at (take (512 * i + 512 - 512 * i) (drop (512 * i) new)) m ≡ block_at old (32 * i + m)
-batch_block old new i left m low =
-    let j = 32 * i in
-    let index : 512 * i ≡ 16 * j = omega arith in
-    let size : 512 * i + 512 - 512 * i ≡ 16 * m + (512 - 16 * m) = omega arith in
+-- block m of the n blocks from block j on, as the code reads them
+pub batch_block : (old new : List ℕ) (j n : ℕ) → drop (16 * j) new ≡ drop (16 * j) old
+    → (m : ℕ) → m < n → block_at (take (16 * j + 16 * n - 16 * j) (drop (16 * j) new)) m ≡ block_at old (j + m)
+batch_block old new j n left m low =
+    let size : 16 * j + 16 * n - 16 * j ≡ 16 * m + (16 * n - 16 * m) = omega arith in
     let there : 16 * j + 16 * m ≡ 16 * (j + m) = omega arith in
-    (λ t. take 16 (drop (16 * m) (take (size t) (drop (index t) new))))
-    ∙ ap (λ l. take 16 (drop (16 * m) (take (16 * m + (512 - 16 * m)) l))) left
-    ∙ ap (take 16) (drop-take (16 * m) (512 - 16 * m) (drop (16 * j) old))
-    ∙ take-take 16 (512 - 16 * m) (drop (16 * m) (drop (16 * j) old)) (omega arith)
+    ap (λ k. take 16 (drop (16 * m) (take k (drop (16 * j) new)))) size
+    ∙ ap (λ l. take 16 (drop (16 * m) (take (16 * m + (16 * n - 16 * m)) l))) left
+    ∙ ap (take 16) (drop-take (16 * m) (16 * n - 16 * m) (drop (16 * j) old))
+    ∙ take-take 16 (16 * n - 16 * m) (drop (16 * m) (drop (16 * j) old)) (omega arith)
     ∙ ap (take 16) (drop-drop (16 * m) (16 * j) old)
     ∙ ap (λ n. take 16 (drop n old)) there
 
--- batch i is done, from what the code reads; `after n` is the own value of the block n after the batch's first
-pub progress_batch : (g : List ℕ → List ℕ → List ℕ) (t after : ℕ → List ℕ) (old new piece own next : List ℕ) (i : ℕ)
-    → IsProgress g t old new own (32 * i) → 512 * i + 512 ≤ length new → length piece ≡ 512
-    → piece ≡ joined (λ n. g (after n) (block_at (take (512 * i + 512 - 512 * i) (drop (512 * i) new)) n)) 32
-    → next ≡ after 32 → ((n : ℕ) → n ≤ 32 → after n ≡ t (32 * i + n))
-    → IsProgress g t old (put_mid (512 * i) (512 * i + 512 - 512 * i) new piece) next (32 * (i + 1))
-progress_batch g t after old new piece own next i before capacity long is is_next same =
+-- n blocks are done, from what the code reads; `after m` is the own value of the block m after the first of them
+pub progress_batch : (g : List ℕ → List ℕ → List ℕ) (t after : ℕ → List ℕ) (old new piece own next : List ℕ)
+    (j n k : ℕ) → IsProgress g t old new own j → 16 * j + 16 * n ≤ length new → length piece ≡ 16 * n → k ≡ n
+    → piece ≡ joined (λ m. g (after m) (block_at (take (16 * j + 16 * n - 16 * j) (drop (16 * j) new)) m)) k
+    → next ≡ after k → ((m : ℕ) → m ≤ n → after m ≡ t (j + m))
+    → IsProgress g t old (put_mid (16 * j) (16 * j + 16 * n - 16 * j) new piece) next (j + n)
+progress_batch g t after old new piece own next j n k before capacity long count is is_next same =
     let f : ℕ → List ℕ = λ j. g (t j) (block_at old j) in
-    let batch = take (512 * i + 512 - 512 * i) (drop (512 * i) new) in
-    let blocks : joined (λ n. g (after n) (block_at batch n)) 32 ≡ joined (λ m. f (32 * i + m)) 32 =
-    joined_same (λ n. g (after n) (block_at batch n)) (λ m. f (32 * i + m)) 32
-    (λ n low k. g (same n (omega arith) k) (batch_block old new i before.done.left n low k)) in
-    let more : 32 * i + 32 ≡ 32 * (i + 1) = omega arith in
-    subst (IsProgress g t old (put_mid (512 * i) (512 * i + 512 - 512 * i) new piece) next) more
-    (record {
+    let batch = take (16 * j + 16 * n - 16 * j) (drop (16 * j) new) in
+    let blocks : joined (λ m. g (after m) (block_at batch m)) n ≡ joined (λ m. f (j + m)) n =
+    joined_same (λ m. g (after m) (block_at batch m)) (λ m. f (j + m)) n
+    (λ m low i. g (same m (omega arith) i) (batch_block old new j n before.done.left m low i)) in
+    record {
       bytes = before.bytes;
-      next = is_next ∙ same 32 (omega arith);
-      done = done_many f old new piece (512 * i) (512 * i + 512 - 512 * i) (32 * i) 32 (omega arith) (omega arith)
-          before.done (omega arith) (omega arith) (is ∙ blocks);
-    })
+      next = is_next ∙ ap after count ∙ same n (omega arith);
+      done = done_many f old new piece (16 * j) (16 * j + 16 * n - 16 * j) j n refl (omega arith) before.done capacity
+          long (is ∙ ap (joined (λ m. g (after m) (block_at batch m))) count ∙ blocks);
+    }
+
+-- a data unit is joined from its blocks
+pub from_blocks : (unit : List ℕ) (f : ℕ → List ℕ) (n : ℕ) → length unit ≡ 16 * n
+    → ((j : ℕ) → j < n → block_at unit j ≡ f j) → unit ≡ joined f n
+from_blocks unit f n long same =
+    let size : n * 16 ≡ 16 * n = omega arith in
+    let index : (j : ℕ) → j * 16 ≡ 16 * j = λ j. omega arith in
+    sym (joined_units unit 16 n ∙ ap (λ k. take k unit) size ∙ take_all (16 * n) unit (omega arith))
+    ∙ joined_same (λ j. take 16 (drop (j * 16) unit)) f n
+    (λ j low. ap (λ k. take 16 (drop k unit)) (index j) ∙ same j low)
 
 -- ---- tweaks
 
@@ -198,38 +206,75 @@ unfolding tweak_after
 tweak_len tweak zero long = long
 tweak_len tweak (suc n) long = doubled_len (tweak_after tweak n)
 
--- a batch that is decrypted between two XORs with the tweaks of its blocks
-pub xts_batch : (key tweak kept old s t new : List ℕ) → ((n : ℕ) → n < 32 → block_at kept n ≡ tweak_after tweak n)
-    → s ≡ joined (λ n. block_xor (block_at old n) (block_at kept n)) 32
-    → ((n : ℕ) → n < 32 → block_at t n ≡ decrypted (data_key key) (block_at s n))
-    → new ≡ joined (λ n. block_xor (block_at t n) (block_at kept n)) 32
-    → new ≡ joined (λ n. block_decrypted key (tweak_after tweak n) (block_at old n)) 32
-unfolding block_decrypted
-xts_batch key tweak kept old s t new tweaks masked back unmasked =
-    let mask : ℕ → List ℕ = λ n. block_xor (block_at old n) (block_at kept n) in
-    let plain : (n : ℕ) → n < 32
-    → block_at t n ≡ decrypted (data_key key) (block_xor (block_at old n) (tweak_after tweak n)) = λ n low.
-    back n low
-    ∙ ap (decrypted (data_key key))
-    (ap (λ x. block_at x n) masked ∙ joined_at mask 32 n (λ j below. block_xor_len (block_at old j) (block_at kept j))
-    low ∙ ap (block_xor (block_at old n)) (tweaks n low)) in
-    unmasked
-    ∙ joined_same (λ n. block_xor (block_at t n) (block_at kept n))
-    (λ n. block_decrypted key (tweak_after tweak n) (block_at old n)) 32
-    (λ n low i. block_xor (plain n low i) (tweaks n low i))
-
 -- ---- chains
 
-pub before_same : (iv before old batch : List ℕ) (j n : ℕ) → before ≡ block_before iv old j
-    → ((m : ℕ) → m < 32 → block_at batch m ≡ block_at old (j + m)) → n ≤ 32
-    → block_before before batch n ≡ block_before iv old (j + n)
+pub before_same : (iv before old batch : List ℕ) (j n m : ℕ) → before ≡ block_before iv old j
+    → ((k : ℕ) → k < n → block_at batch k ≡ block_at old (j + k)) → m ≤ n
+    → block_before before batch m ≡ block_before iv old (j + m)
 unfolding block_before
-before_same iv before old batch j zero first same low =
+before_same iv before old batch j n zero first same low =
     let none : j + 0 ≡ j = omega arith in
     rw none first
-before_same iv before old batch j (suc n) first same low =
-    let next : j + suc n ≡ suc (j + n) = omega arith in
-    rw next (same n (omega arith))
+before_same iv before old batch j n (suc m) first same low =
+    let next : j + suc m ≡ suc (j + m) = omega arith in
+    rw next (same m (omega arith))
+
+-- a block and after it a batch, as blocks
+pub chain_block : (before batch : List ℕ) (n : ℕ) → length before ≡ 16 → 16 * n ≤ length batch
+    → block_at (before ++ batch) n ≡ block_before before batch n
+unfolding block_before
+chain_block before batch zero long low = ap (take 16) refl ∙ take_at before batch 16 long
+chain_block before batch (suc n) long low =
+    let split : 16 * suc n ≡ 16 + 16 * n = omega arith in
+    ap (λ k. take 16 (drop k (before ++ batch))) split
+    ∙ ap (take 16) (sym (drop-drop (16 * n) 16 (before ++ batch)) ∙ ap (drop (16 * n)) (drop_at before batch 16 long))
+
+-- what is written after the first 16 bytes
+pub put_after : (before batch old first rest : List ℕ) → length old ≡ length batch + 16 → length before ≡ 16
+    → first ≡ before → rest ≡ batch
+    → put_mid 16 (length (first ++ drop 16 old) - 16) (first ++ drop 16 old) rest ≡ before ++ batch
+put_after before batch old first rest capacity long is also =
+    let whole = before ++ drop 16 old in
+    let rest_len : length (drop 16 old) ≡ length batch = length-drop 16 old ∙ (omega arith) in
+    let size : length whole ≡ 16 + length batch = length-append before (drop 16 old) ∙ (omega arith) in
+    rw (is, also)
+    (λ i. take_at before (drop 16 old) 16 long i
+    ++ (ap (λ x. batch ++ x) (drop-drop (length whole - 16) 16 whole ∙ drop_all _ whole (omega arith))
+    ∙ append-nil batch) i)
+
+-- a block of the first part of a list
+pub block_of_part : (xs : List ℕ) (n size : ℕ) → 16 * n + 16 ≤ size → block_at (take size xs) n ≡ block_at xs n
+block_of_part xs n size low =
+    let split : size ≡ 16 * n + (size - 16 * n) = omega arith in
+    ap (λ k. take 16 (drop (16 * n) (take k xs))) split
+    ∙ ap (take 16) (drop-take (16 * n) (size - 16 * n) xs)
+    ∙ take-take 16 (size - 16 * n) (drop (16 * n) xs) (omega arith)
+
+-- a mask of zeros changes no block
+pub zero_mask : (unit zeros : List ℕ) (n : ℕ) → 16 * n + 16 ≤ length unit → ((i : ℕ) → slice_index zeros i ≡ 0)
+    → block_xor (block_at unit n) (block_at zeros n) ≡ block_at unit n
+unfolding block_xor
+zero_mask unit zeros n inside all =
+    let block = block_at unit n in
+    let capacity : 16 ≤ length (drop (16 * n) unit) = rw (length-drop (16 * n) unit) (omega arith) in
+    let zero : (i : ℕ) → i < 16 → slice_index (block_at zeros n) i ≡ 0 = λ i low.
+    get_or-take 16 (drop (16 * n) zeros) i 0 low ∙ get_or-drop (16 * n) zeros i 0 ∙ all (16 * n + i) in
+    same_cells (λ r c. cell block r c ⊕ cell (block_at zeros n) r c) (cell block)
+    (λ r c low small. ap (λ x. cell block r c ⊕ x) (zero (r + 4 * c) (omega arith)) ∙ xor_zero_r (cell block r c))
+    ∙ sym (whole_state block (length-take-le 16 (drop (16 * n) unit) capacity))
+
+-- a part of a list of zeros
+pub zeros_part : (n len i : ℕ) → slice_index (take len (replicate n 0)) i ≡ 0
+zeros_part n len i =
+    let zero : slice_index (replicate n 0) i ≡ 0 = elim (cases_lt i n) [
+      | inl inside ↦ get_or-replicate n i 0 0 inside
+      | inr past ↦ get_or-eq_default (replicate n 0) 0 (omega (arith, length-replicate {A = ℕ} n 0))
+    ] in
+    elim (cases_lt i len) [
+      | inl inside ↦ get_or-take len (replicate n 0) i 0 inside ∙ zero
+      | inr past ↦ get_or-eq_default (take len (replicate n 0)) 0
+          (omega (arith, length-take {A = ℕ} len (replicate n 0), length-replicate {A = ℕ} n 0, past))
+    ]
 
 -- ---- the bytes of a number, as lanes and as a number
 
@@ -325,18 +370,52 @@ doubled_halves low high fits also =
     ≡ first + 2 ^ 64 * (high % 2 ^ 63 * 2 + low / 2 ^ 63) = omega arith in
     ap (λ m. first + 2 ^ 64 * (m + 2 ^ 64 * 0)) (carried_up low high fits) ∙ flat ∙ halves_doubled low high fits also
 
+-- the digits of a number make it again
+number_of_digits : (p n x : ℕ) → 0 < p → x < p ^ n → number_l p (digits_l p n x) ≡ x
+number_of_digits p zero x some small = omega (arith, pow-zero p)
+number_of_digits p (suc n) x some small =
+    let less : x / p < p ^ n = (div-lt_iff_lt-mul some).1 (rw (← pow-suc p n) small) in
+    rw (number_of_digits p n (x / p) some less) (omega (arith, div-add-mod' x p))
+
+-- the carries of words 1 and 3, as the code moves them
+abbrev carries : ℕ → ℕ → ℕ → ℕ → List ℕ
+carries a b c d =
+    d / 2 ^ 31 * 0x87 % 2 ^ 32 ∷ a / 2 ^ 31 * 0 % 2 ^ 32 ∷ b / 2 ^ 31 * 1 % 2 ^ 32 ∷ c / 2 ^ 31 * 0 % 2 ^ 32 ∷ []
+
+-- they are those of both halves
+carries_of_halves : (a b c d : ℕ) → a < 2 ^ 32 → b < 2 ^ 32 → c < 2 ^ 32 → d < 2 ^ 32
+    → number_l (2 ^ 32) (carries a b c d)
+    ≡ (c + 2 ^ 32 * d) / 2 ^ 63 * 0x87 + 2 ^ 64 * ((a + 2 ^ 32 * b) / 2 ^ 63)
+carries_of_halves a b c d first second third fourth =
+    let top : (c + 2 ^ 32 * d) / 2 ^ 63 ≡ d / 2 ^ 31 = omega arith in
+    let middle : (a + 2 ^ 32 * b) / 2 ^ 63 ≡ b / 2 ^ 31 = omega arith in
+    rw (top, middle) (omega arith)
+
 -- the bytes that the code computes from both halves are those of the doubled tweak
 pub doubled_lanes : (tweak : List ℕ) → length tweak ≡ 16 → Each1 (λ x. x < 256) tweak
-    → (low high : ℕ) → low ≡ number_l 256 tweak % 2 ^ 64 → high ≡ number_l 256 tweak / 2 ^ 64 % 2 ^ 64
+    → (low high a b c d carried : ℕ)
+    → low ≡ number_l 256 tweak % 2 ^ 64 → high ≡ number_l 256 tweak / 2 ^ 64 % 2 ^ 64
+    → a ≡ number_l 256 tweak % 2 ^ 32 → b ≡ number_l 256 tweak / 2 ^ 32 % 2 ^ 32
+    → c ≡ number_l 256 tweak / 2 ^ 32 / 2 ^ 32 % 2 ^ 32 → d ≡ number_l 256 tweak / 2 ^ 32 / 2 ^ 32 / 2 ^ 32 % 2 ^ 32
+    → carried ≡ number_l 256 (digits_l 256 16 (number_l (2 ^ 32) (carries a b c d)))
     → digits_l 256 16 (number_l (2 ^ 64)
-    (bit_xor (low * 2 % 2 ^ 64) (high / 2 ^ 63 * 0x87 % 2 ^ 64) ∷ bit_xor (high * 2 % 2 ^ 64) (low / 2 ^ 63 * 1 % 2 ^
-    64) ∷ []))
+    (bit_xor (low * 2 % 2 ^ 64) (carried % 2 ^ 64) ∷ bit_xor (high * 2 % 2 ^ 64) (carried / 2 ^ 64 % 2 ^ 64) ∷ []))
     ≡ doubled tweak
 unfolding doubled
-doubled_lanes tweak long bytes low high is_low is_high =
-    let fits : number_l 256 tweak < 2 ^ 128 = rw long at (lanes_fit tweak bytes) in
-    let parts : low + 2 ^ 64 * high ≡ number_l 256 tweak = omega arith in
+doubled_lanes tweak long bytes low high a b c d carried is_low is_high is_a is_b is_c is_d is =
+    let n = number_l 256 tweak in
+    let fits : n < 2 ^ 128 = rw long at (lanes_fit tweak bytes) in
+    let parts : low + 2 ^ 64 * high ≡ n = omega arith in
+    let lower : low ≡ a + 2 ^ 32 * b = omega (arith, is_low, is_a, is_b) in
+    let upper : high ≡ c + 2 ^ 32 * d = omega (arith, is_high, is_c, is_d, fits) in
+    let both = carries_of_halves a b c d (omega (arith, is_a)) (omega (arith, is_b)) (omega (arith, is_c)) (omega (arith, is_d)) in
+    let sum : number_l (2 ^ 32) (carries a b c d) ≡ high / 2 ^ 63 * 0x87 + 2 ^ 64 * (low / 2 ^ 63) =
+    rw (lower, upper) both in
+    let whole : carried ≡ high / 2 ^ 63 * 0x87 + 2 ^ 64 * (low / 2 ^ 63) =
+    is ∙ number_of_digits 256 16 _ (omega arith) (rw sum (omega (arith, is_low, is_high))) ∙ sum in
+    let first : carried % 2 ^ 64 ≡ high / 2 ^ 63 * 0x87 % 2 ^ 64 = omega (arith, whole, is_high) in
+    let second : carried / 2 ^ 64 % 2 ^ 64 ≡ low / 2 ^ 63 * 1 % 2 ^ 64 = omega (arith, whole, is_low, is_high) in
     lanes_of_number _
     ∙ ap (to_le_bytes w128)
-    (doubled_halves low high (omega arith) (omega arith)
+    (rw (first, second) (doubled_halves low high (omega (arith, is_low)) (omega (arith, is_high)))
     ∙ ap doubled_number (parts ∙ number_of_lanes tweak long))

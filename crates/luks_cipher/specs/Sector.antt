@@ -1,10 +1,11 @@
 -- Encryption of sectors under AES, in the modes that dm-crypt's documentation calls by these names. A sector is a data
 -- unit of whole blocks with a unit number.
-use Rattle.std.specs.Prelude.{ℕ, ◌%◌, ◌^◌, Bool, ◌||◌, ◌==◌, if◌then◌else◌, bytes_eq, codes, List, Option, Some, None}
+use Rattle.std.specs.Prelude.{ℕ, ◌+◌, ◌*◌, ◌/◌, ◌%◌, ◌^◌, Bool, ◌||◌, ◌==◌, if◌then◌else◌, bytes_eq, codes, List}
+use Rattle.std.specs.Prelude.{length, take, drop, Option, Some, None}
 use Rattle.std.specs.Int.{w128, to_le_bytes}
 use Rattle.sha2.specs.Sha256.{sha256}
 use Rattle.luks_aes.specs.Aes.{encrypted}
-use Rattle.luks_cipher.specs.Xts.{is_xts_key_length, xts_encrypted, xts_decrypted}
+use Rattle.luks_cipher.specs.Xts.{is_xts_key_length, xts_encrypted, xts_decrypted, joined}
 use Rattle.luks_cipher.specs.Cbc.{cbc_encrypted, cbc_decrypted}
 use Rattle.luks_cipher.specs.declared.mode.Mode.{Mode}
 use Rattle.luks_cipher.specs.declared.mode.Mode.TheVariants.{XtsPlain64, XtsPlain, CbcEssivSha256, CbcPlain64}
@@ -61,3 +62,10 @@ sector_decrypted XtsPlain64 key number sector = xts_decrypted key number sector
 sector_decrypted XtsPlain key number sector = xts_decrypted key (number % 2 ^ 32) sector
 sector_decrypted CbcEssivSha256 key number sector = cbc_decrypted key (essiv_iv key number) sector
 sector_decrypted CbcPlain64 key number sector = cbc_decrypted key (plain64_iv number) sector
+
+-- sectors of `size` bytes that follow one another, each decrypted by itself. Unit numbers count units of 512 bytes, and
+-- wrap at 2^64
+unfoldable pub units_decrypted : Mode → List ℕ → ℕ → ℕ → List ℕ → List ℕ
+units_decrypted mode key first size units =
+    joined (λ i. sector_decrypted mode key ((first + i * (size / 512)) % 2 ^ 64) (take size (drop (i * size) units)))
+    (length units / size)

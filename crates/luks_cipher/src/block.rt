@@ -1,6 +1,6 @@
-//! Blocks of 16 bytes.
+//! Blocks of 16 bytes, and batches of them.
 
-ghost use Rattle.std.specs.Prelude.{◌≡◌, length};
+ghost use Rattle.std.specs.Prelude.{◌≡◌, ◌*◌, ◌%◌, ◌≤◌, length, nat_lt, if◌then◌else◌};
 ghost use Rattle.luks_cipher.specs.Xts.{block_xor};
 
 use std::simd::prelude::*;
@@ -36,4 +36,16 @@ pub fn xor_vector(vector: u8x16, piece: &mut [u8])
 {
     let xored = u8x16::from_slice(piece) ^ vector;
     xored.copy_to_slice(piece);
+}
+
+/// The number of blocks in the next batch, if so many are left: 64, or 32 if there are fewer.
+pub fn batch_size(left: usize) -> usize
+    requires { 32 ≤ left }
+    ensures value { result ≡ (if nat_lt left 64 then 32 else 64) }
+    ensures within { result ≤ left }
+    ensures whole { 16 * result % 512 ≡ 0 }
+    ensures least { 32 ≤ result }
+    ensures most { result ≤ 64 }
+{
+    if left < 64 { 32 } else { 64 }
 }

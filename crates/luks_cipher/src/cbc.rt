@@ -1,12 +1,13 @@
 //! CBC (NIST SP 800-38A, 6.2) over data units of whole blocks.
 
-ghost use Rattle.std.specs.Prelude.{◌≡◌, ◌%◌, List, length, ℕ};
+ghost use Rattle.std.specs.Prelude.{◌≡◌, ◌+◌, ◌*◌, ◌/◌, ◌%◌, ◌≤◌, ◌++◌, List, length, take, drop, ℕ};
+ghost use Rattle.std.specs.Prelude.{slice_index};
 ghost use Rattle.luks_aes.specs.Aes.{encrypted, decrypted};
 ghost use Rattle.luks_aes.specs.Bytes.{IsBytes};
 ghost use Rattle.luks_cipher.specs.Xts.{block_xor, block_at, joined};
 ghost use Rattle.luks_cipher.specs.Cbc.{block_before, cbc_encrypted, cbc_decrypted};
 
-use crate::block::{block_of, block_xor, xor_vector};
+use crate::block::{batch_size, block_of, block_xor};
 use luks_aes::AesKey;
 use luks_aes_batch::BatchKey;
 use std::simd::prelude::*;
@@ -44,37 +45,59 @@ fn decrypt_link(key: &AesKey, before: [u8; 16], piece: &mut [u8]) -> [u8; 16]
     block
 }
 
-// XORs the cipher block before each of the 32 blocks of a batch into that block, and returns the
-// last cipher block.
-fn xor_blocks_before(before: [u8; 16], cipher: &[u8], batch: &mut [u8]) -> [u8; 16]
-    requires cipher { length cipher.now ≡ 512 }
-    requires batch { length batch.old ≡ 512 }
-    ensures value { batch.new
-        ≡ joined (λ n. block_xor (block_at batch.old n) (block_before before cipher.now n)) 32 }
-    ensures next { result ≡ block_before before cipher.now 32 }
+// Writes the block before the first of a batch, and after it the batch.
+fn put_chain(before: [u8; 16], batch: &[u8], chain: &mut [u8])
+    requires whole { length batch.now % 16 ≡ 0 }
+    requires capacity { length chain.old ≡ length batch.now + 16 }
+    ensures { (n : ℕ) → 16 * n ≤ length batch.now
+        → block_at chain.new n ≡ block_before before batch.now n }
 {
-    let mut last = before;
-    for n in 0..32 {
-        xor_vector(u8x16::from_array(last), &mut batch[16 * n..16 * n + 16]);
-        let next = block_of(&cipher[16 * n..16 * n + 16]);
-        last = next;
-    }
-    last
+    chain[..16].copy_from_slice(&before);
+    chain[16..].copy_from_slice(batch);
 }
 
-// Decrypts 32 blocks of a chain, and returns the last cipher block for the next batch.
-fn decrypt_batch(key: &BatchKey, before: [u8; 16], batch: &mut [u8]) -> [u8; 16]
-    requires { length batch.old ≡ 512 }
+// Decrypts a batch as `decrypt_batch` below does, with a mask of zeros and a buffer for the chain.
+fn decrypt_by(
+    key: &BatchKey,
+    before: [u8; 16],
+    zeros: &[u8],
+    chain: &mut [u8],
+    batch: &mut [u8],
+) -> [u8; 16]
+    requires whole { length batch.old % 512 ≡ 0 }
+    requires least { 512 ≤ length batch.old }
+    requires most { length batch.old ≤ 1024 }
+    requires zeros { (i : ℕ) → slice_index zeros.now i ≡ 0 }
+    requires size { length zeros.now ≡ length batch.old }
+    requires capacity { length chain.old ≡ length batch.old + 16 }
     ensures value { batch.new
         ≡ joined
         (λ n. block_xor (decrypted key.now (block_at batch.old n))
-        (block_before before batch.old n)) 32 }
-    ensures next { result ≡ block_before before batch.old 32 }
+        (block_before before batch.old n)) (length batch.old / 16) }
+    ensures next { result ≡ block_before before batch.old (length batch.old / 16) }
 {
-    let mut cipher = [0; 512];
-    cipher.copy_from_slice(batch);
-    key.decrypt_batch(batch);
-    xor_blocks_before(before, &cipher, batch)
+    let len = batch.len();
+    put_chain(before, batch, chain);
+    key.decrypt_batch(batch, zeros, &chain[..len]);
+    block_of(&chain[len..len + 16])
+}
+
+// Decrypts a batch of 32 or 64 blocks of a chain, and returns the last cipher block for the next
+// batch.
+fn decrypt_batch(key: &BatchKey, before: [u8; 16], batch: &mut [u8]) -> [u8; 16]
+    requires whole { length batch.old % 512 ≡ 0 }
+    requires least { 512 ≤ length batch.old }
+    requires most { length batch.old ≤ 1024 }
+    ensures value { batch.new
+        ≡ joined
+        (λ n. block_xor (decrypted key.now (block_at batch.old n))
+        (block_before before batch.old n)) (length batch.old / 16) }
+    ensures next { result ≡ block_before before batch.old (length batch.old / 16) }
+{
+    let len = batch.len();
+    let zeros = [0; 1024];
+    let mut chain = [0; 1040];
+    decrypt_by(key, before, &zeros[..len], &mut chain[..len + 16], batch)
 }
 
 /// Encrypts the data unit, whole blocks of 16 bytes, in place by CBC under the key and the IV (NIST
@@ -106,13 +129,51 @@ pub fn decrypt_chain(key: &BatchKey, iv: [u8; 16], unit: &mut [u8])
     let block_key = key.key();
     holds_bytes(block_key);
     let mut before = iv;
-    let batches = unit.len() / 512;
-    for i in 0..batches {
-        let next = decrypt_batch(key, before, &mut unit[512 * i..512 * i + 512]);
+    let blocks = unit.len() / 16;
+    let mut done = 0;
+    'batches: while blocks - done >= 32 {
+        let count = batch_size(blocks - done);
+        let next = decrypt_batch(key, before, &mut unit[16 * done..16 * done + 16 * count]);
         before = next;
+        done += count;
     }
-    for j in 32 * batches..unit.len() / 16 {
+    'rest: for j in done..blocks {
         let next = decrypt_link(block_key, before, &mut unit[16 * j..16 * j + 16]);
         before = next;
     }
+}
+
+// Decrypts two data units as `decrypt_pair` below does, with a mask of zeros and a buffer for the
+// blocks before theirs and one block more.
+fn decrypt_pair_by(
+    key: &BatchKey,
+    iv: [u8; 16],
+    next_iv: [u8; 16],
+    zeros: &[u8],
+    chains: &mut [u8],
+    pair: &mut [u8],
+)
+    requires pair { length pair.old ≡ 1024 }
+    requires zeros { (i : ℕ) → slice_index zeros.now i ≡ 0 }
+    requires size { length zeros.now ≡ 1024 }
+    requires capacity { length chains.old ≡ 1040 }
+    ensures { pair.new
+        ≡ cbc_decrypted key.now iv (take 512 pair.old)
+        ++ cbc_decrypted key.now next_iv (drop 512 pair.old) }
+{
+    put_chain(iv, &pair[..512], &mut chains[..528]);
+    put_chain(next_iv, &pair[512..1024], &mut chains[512..1040]);
+    key.decrypt_batch(pair, zeros, &chains[..1024]);
+}
+
+/// Decrypts two data units of 512 bytes in place, each a chain with its own IV.
+pub fn decrypt_pair(key: &BatchKey, iv: [u8; 16], next_iv: [u8; 16], pair: &mut [u8])
+    requires { length pair.old ≡ 1024 }
+    ensures { pair.new
+        ≡ cbc_decrypted key.now iv (take 512 pair.old)
+        ++ cbc_decrypted key.now next_iv (drop 512 pair.old) }
+{
+    let zeros = [0; 1024];
+    let mut chains = [0; 1040];
+    decrypt_pair_by(key, iv, next_iv, &zeros, &mut chains, pair);
 }

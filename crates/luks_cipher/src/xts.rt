@@ -1,55 +1,45 @@
 //! XTS-AES (IEEE 1619) over data units of whole blocks.
 
-ghost use Rattle.std.specs.Prelude.{◌≡◌, ◌+◌, ◌*◌, ◌%◌, ◌<◌, ◌≤◌, List, ℕ, ◌++◌, length};
-ghost use Rattle.std.specs.Prelude.{Some, None, if◌then◌else◌, true};
-ghost use Rattle.luks_cipher.specs.Xts.{doubled, tweak_of, block_xor, block_at, joined};
+ghost use Rattle.std.specs.Prelude.{◌≡◌, ◌+◌, ◌*◌, ◌/◌, ◌%◌, ◌<◌, ◌≤◌, List, ℕ, ◌++◌, length};
+ghost use Rattle.std.specs.Prelude.{take, drop, Some, None, if◌then◌else◌, true};
+ghost use Rattle.luks_cipher.specs.Xts.{doubled, tweak_of, block_at, joined};
 ghost use Rattle.luks_cipher.specs.Xts.{block_encrypted, block_decrypted, xts_encrypted};
 ghost use Rattle.luks_cipher.specs.Xts.{xts_decrypted, is_xts_key_length, tweak_after, IsKeyPair};
 ghost use Rattle.luks_aes.specs.Bytes.{IsBytes};
 
-use crate::block::{block_of, xor_vector};
+use crate::block::{batch_size, block_of, xor_vector};
 use luks_aes::AesKey;
 use luks_aes_batch::BatchKey;
 use std::marker::Model;
 use std::simd::prelude::*;
 
 // The tweak times the primitive element (5.2): both halves are doubled, the carry of the low half
-// goes into the high one, and the carry of the high half reduces to 0x87 in the low one.
+// goes into the high one, and the carry of the high half reduces to 0x87 in the low one. The
+// carries are the top bits of words 1 and 3, which processors get sooner than those of halves.
 #[inline(always)]
 fn doubled(tweak: u8x16) -> u8x16
     ensures { result ≡ doubled tweak }
 {
-    let halves = u64x2::from_le_bytes(tweak);
-    let carried = (halves.shuffle(halves, [1, 0]) >> 63) * u64x2::from_array([0x87, 1]);
-    ((halves << 1) ^ carried).to_le_bytes()
+    let carries = (u32x4::from_le_bytes(tweak) >> 31) * u32x4::from_array([0, 1, 0, 0x87]);
+    let carried = u64x2::from_le_bytes(carries.shuffle(carries, [3, 0, 1, 2]).to_le_bytes());
+    ((u64x2::from_le_bytes(tweak) << 1) ^ carried).to_le_bytes()
 }
 
-// Writes the tweaks of 32 blocks, the first of which is `tweak`, and returns the one after them.
+// Writes the tweaks of the blocks of a batch, the first of which is `tweak`, and returns the one
+// after them.
 fn put_tweaks(tweak: u8x16, tweaks: &mut [u8]) -> u8x16
-    requires { length tweaks.old ≡ 512 }
-    ensures value { (n : ℕ) → n < 32 → block_at tweaks.new n ≡ tweak_after tweak n }
-    ensures next { result ≡ tweak_after tweak 32 }
+    requires { length tweaks.old % 16 ≡ 0 }
+    ensures value { (n : ℕ) → n < length tweaks.old / 16
+        → block_at tweaks.new n ≡ tweak_after tweak n }
+    ensures next { result ≡ tweak_after tweak (length tweaks.old / 16) }
 {
     let mut last = tweak;
-    for n in 0..32 {
+    for n in 0..tweaks.len() / 16 {
         last.copy_to_slice(&mut tweaks[16 * n..16 * n + 16]);
         let next = doubled(last);
         last = next;
     }
     last
-}
-
-// XORs its tweak into each of the 32 blocks of a batch.
-fn xor_tweaks(tweaks: &[u8], batch: &mut [u8])
-    requires tweaks { length tweaks.now ≡ 512 }
-    requires batch { length batch.old ≡ 512 }
-    ensures { batch.new
-        ≡ joined (λ n. block_xor (block_at batch.old n) (block_at tweaks.now n)) 32 }
-{
-    for n in 0..32 {
-        let tweak = block_of(&tweaks[16 * n..16 * n + 16]);
-        xor_vector(u8x16::from_array(tweak), &mut batch[16 * n..16 * n + 16]);
-    }
 }
 
 // Whether a key can have this number of bytes.
@@ -133,20 +123,34 @@ impl XtsKey {
         xor_vector(tweak, piece);
     }
 
-    // Decrypts 32 blocks, the first of them under `tweak`, and returns the tweak of the block after
-    // them.
-    fn decrypt_batch(&self, tweak: u8x16, batch: &mut [u8]) -> u8x16
-        requires { length batch.old ≡ 512 }
+    // Decrypts each block of a batch of 32 or 64 under its tweak.
+    fn decrypt_under(&self, tweaks: &[u8], batch: &mut [u8])
+        requires whole { length batch.old % 512 ≡ 0 }
+        requires least { 512 ≤ length batch.old }
+        requires most { length batch.old ≤ 1024 }
+        requires tweaks { length tweaks.now ≡ length batch.old }
+        ensures { (n : ℕ) → 16 * n < length batch.old
+            → block_at batch.new n
+            ≡ block_decrypted self.now (block_at tweaks.now n) (block_at batch.old n) }
+    {
+        self.data_key.decrypt_batch(batch, tweaks, tweaks);
+    }
+
+    // Decrypts a batch of 32 or 64 blocks, the first of them under `tweak`, and returns the tweak
+    // of the block after them. The buffer for their tweaks is as long as the batch.
+    fn decrypt_batch(&self, tweak: u8x16, tweaks: &mut [u8], batch: &mut [u8]) -> u8x16
+        requires whole { length batch.old % 512 ≡ 0 }
+        requires least { 512 ≤ length batch.old }
+        requires most { length batch.old ≤ 1024 }
+        requires capacity { length tweaks.old ≡ length batch.old }
         ensures value { batch.new
             ≡ joined
-            (λ n. block_decrypted self.now (tweak_after tweak n) (block_at batch.old n)) 32 }
-        ensures next { result ≡ tweak_after tweak 32 }
+            (λ n. block_decrypted self.now (tweak_after tweak n) (block_at batch.old n))
+            (length batch.old / 16) }
+        ensures next { result ≡ tweak_after tweak (length batch.old / 16) }
     {
-        let mut tweaks = [0; 512];
-        let next = put_tweaks(tweak, &mut tweaks);
-        xor_tweaks(&tweaks, batch);
-        self.data_key.decrypt_batch(batch);
-        xor_tweaks(&tweaks, batch);
+        let next = put_tweaks(tweak, tweaks);
+        self.decrypt_under(tweaks, batch);
         next
     }
 
@@ -181,15 +185,34 @@ impl XtsKey {
         ensures undone { xts_encrypted self.now number unit.new ≡ unit.old }
     {
         let mut tweak = self.first_tweak(number);
-        let batches = unit.len() / 512;
-        for i in 0..batches {
-            let next = self.decrypt_batch(tweak, &mut unit[512 * i..512 * i + 512]);
+        let blocks = unit.len() / 16;
+        let mut tweaks = [0; 1024];
+        let mut done = 0;
+        'batches: while blocks - done >= 32 {
+            let count = batch_size(blocks - done);
+            let batch = &mut unit[16 * done..16 * done + 16 * count];
+            let next = self.decrypt_batch(tweak, &mut tweaks[..16 * count], batch);
             tweak = next;
+            done += count;
         }
-        for j in 32 * batches..unit.len() / 16 {
+        'rest: for j in done..blocks {
             self.decrypt_piece(tweak, &mut unit[16 * j..16 * j + 16]);
             let next = doubled(tweak);
             tweak = next;
         }
+    }
+
+    /// Decrypts two data units of 512 bytes in place, each under its own number.
+    pub fn decrypt_pair(&self, first: u64, second: u64, units: &mut [u8])
+        requires { length units.old ≡ 1024 }
+        ensures { units.new
+            ≡ xts_decrypted self.now first (take 512 units.old)
+            ++ xts_decrypted self.now second (drop 512 units.old) }
+    {
+        let mut tweaks = [0; 1024];
+        let (low, high) = tweaks.split_at_mut(512);
+        put_tweaks(self.first_tweak(first), low);
+        put_tweaks(self.first_tweak(second), high);
+        self.decrypt_under(&tweaks, units);
     }
 }

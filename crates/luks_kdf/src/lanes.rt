@@ -1,12 +1,11 @@
-//! PBKDF2 with the blocks of a key side by side: a lane of a vector derives each.
+//! PBKDF2 with the blocks of a key side by side, if the hash function has lanes for several.
 
-ghost use Rattle.std.specs.Prelude.{◌≡◌, ℕ, ◌+◌, ◌*◌, ◌^◌, ◌<◌, ◌≤◌, List, ◌⊎◌, length, refl, take};
+ghost use Rattle.std.specs.Prelude.{◌≡◌, ℕ, ◌+◌, ◌*◌, ◌^◌, ◌<◌, ◌≤◌, List, length, refl, take};
 ghost use Rattle.std.specs.Int.{div_ceil};
-ghost use Rattle.std.proofs.Common.{inl, inr};
 ghost use Rattle.luks_sha_lanes.specs.Chains.{chain_xor, digest_at};
-ghost use Rattle.luks_kdf.specs.declared.hash.Hash.TheVariants as Variants;
 ghost use Rattle.luks_kdf.specs.Bytes.{joined};
 ghost use Rattle.luks_kdf.specs.Hash.{block_len, hash_of, digest_len};
+ghost use Rattle.luks_kdf.specs.Lanes.{lanes_of};
 ghost use Rattle.luks_kdf.specs.Hmac.{inner_block, outer_block};
 ghost use Rattle.luks_kdf.specs.Pbkdf2.{capped, derived_key, t_of, u_of};
 
@@ -14,14 +13,15 @@ use crate::Work;
 use crate::derive::derive_block;
 use crate::engine::Engine;
 use crate::mac::{KeyBlocks, Keyed, key_blocks};
-use luks_sha_lanes::{chains1, chains256};
+use luks_sha_lanes::{chains1, chains256, chains512};
 use sha1::Sha1;
-use sha2::Sha256;
+use sha2::{Sha256, Sha384, Sha512};
 
 // The maximum total length in bytes of the digests that are computed side by side.
 const MAX_GROUP: usize = 80;
 
-/// A hash function that computes several chains of digests side by side.
+/// A hash function that computes chains of digests by code of its own, side by side if there are
+/// lanes for several.
 pub(crate) trait Lanes: Engine {
     // The number of chains side by side.
     const WIDTH: usize;
@@ -35,8 +35,8 @@ pub(crate) trait Lanes: Engine {
     /// where the chains follow one another. `last` has the last digest of each chain, in the same
     /// order.
     fn xor_chains(inner: &[u8], outer: &[u8], used: usize, count: u32, last: &[u8], xors: &mut [u8])
-        requires inner { length inner.now ≡ 64 }
-        requires outer { length outer.now ≡ 64 }
+        requires inner { length inner.now ≡ block_len Self.function }
+        requires outer { length outer.now ≡ block_len Self.function }
         requires used { used ≤ WIDTH }
         requires last { length last.now ≡ WIDTH * digest_len Self.function }
         requires xors { length xors.old ≡ WIDTH * digest_len Self.function }
@@ -45,8 +45,7 @@ pub(crate) trait Lanes: Engine {
             (digest_at (digest_len Self.function) j last.now)
             (digest_at (digest_len Self.function) j xors.old) count };
 
-    ghost known: { ((Self.function ≡ Variants.Sha1) × (WIDTH ≡ 4))
-        ⊎ ((Self.function ≡ Variants.Sha256) × (WIDTH ≡ 2)) };
+    ghost known: { WIDTH ≡ lanes_of Self.function };
 }
 
 impl Lanes for Sha1 {
@@ -71,7 +70,7 @@ impl Lanes for Sha1 {
         }
     }
 
-    ghost known = { inl (refl, refl) };
+    ghost known = { refl };
 }
 
 impl Lanes for Sha256 {
@@ -92,7 +91,49 @@ impl Lanes for Sha256 {
         chains256::xor_chains(inner, outer, count, last, xors);
     }
 
-    ghost known = { inr (refl, refl) };
+    ghost known = { refl };
+}
+
+impl Lanes for Sha384 {
+    const WIDTH: usize = 1;
+
+    ghost WIDTH = { 1 };
+
+    const LONE: bool = true;
+
+    fn xor_chains(
+        inner: &[u8],
+        outer: &[u8],
+        _used: usize,
+        count: u32,
+        last: &[u8],
+        xors: &mut [u8],
+    ) {
+        chains512::xor_chain384(inner, outer, count, last, xors);
+    }
+
+    ghost known = { refl };
+}
+
+impl Lanes for Sha512 {
+    const WIDTH: usize = 1;
+
+    ghost WIDTH = { 1 };
+
+    const LONE: bool = true;
+
+    fn xor_chains(
+        inner: &[u8],
+        outer: &[u8],
+        _used: usize,
+        count: u32,
+        last: &[u8],
+        xors: &mut [u8],
+    ) {
+        chains512::xor_chain512(inner, outer, count, last, xors);
+    }
+
+    ghost known = { refl };
 }
 
 /// Fills `out` with the key that PBKDF2 with HMAC derives from the password, as many blocks at a
@@ -113,8 +154,8 @@ pub(crate) fn derive_in_lanes<E: Lanes>(
 {
     // The clause of `count` says that the count is within its range: it is capped from the start.
     let _before = work.count();
-    let keyed = Keyed::<E>::new(pass);
     let blocks = key_blocks::<E>(pass);
+    let keyed = Keyed::<E>::after(&blocks);
     let group = E::WIDTH * E::hash().size();
     let count = out.len().div_ceil(group);
     'fill: for i in 0..count {
@@ -149,8 +190,8 @@ fn derive_group<E: Lanes>(
     requires capacity { length out.old ≤ E.WIDTH * digest_len E.function }
     ensures key { (pass : List ℕ) → E.holds keyed.now.inner (inner_block E.function pass)
         → E.holds keyed.now.outer (outer_block E.function pass)
-        → blocks.now.inner ≡ inner_block E.function pass
-        → blocks.now.outer ≡ outer_block E.function pass
+        → take (block_len E.function) blocks.now.inner ≡ inner_block E.function pass
+        → take (block_len E.function) blocks.now.outer ≡ outer_block E.function pass
         → out.new ≡ take (length out.old)
         (joined (λ k. t_of E.function pass salt.now (number + k) iterations) E.WIDTH) }
     ensures work { work.new
@@ -185,8 +226,8 @@ fn write_group<E: Lanes>(
     requires capacity { length t.old ≡ E.WIDTH * digest_len E.function }
     ensures { (pass : List ℕ) → E.holds keyed.now.inner (inner_block E.function pass)
         → E.holds keyed.now.outer (outer_block E.function pass)
-        → blocks.now.inner ≡ inner_block E.function pass
-        → blocks.now.outer ≡ outer_block E.function pass
+        → take (block_len E.function) blocks.now.inner ≡ inner_block E.function pass
+        → take (block_len E.function) blocks.now.outer ≡ outer_block E.function pass
         → (k : ℕ) → k < count → digest_at (digest_len E.function) k t.new
         ≡ t_of E.function pass salt.now (number + k) iterations }
 {
@@ -194,7 +235,10 @@ fn write_group<E: Lanes>(
     let u = &mut u[..t.len()];
     first_iterations(keyed, salt, number, count, u);
     t.copy_from_slice(u);
-    E::xor_chains(&blocks.inner, &blocks.outer, count, iterations - 1, u, t);
+    let size = E::hash().block();
+    let inner = &blocks.inner[..size];
+    let outer = &blocks.outer[..size];
+    E::xor_chains(inner, outer, count, iterations - 1, u, t);
 }
 
 // Writes the first U of `count` blocks, from this number on.

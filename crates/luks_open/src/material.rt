@@ -1,8 +1,10 @@
 //! Key material: the stripes of a volume key, encrypted in sectors of 512 bytes that are numbered
 //! from the material's start.
 
-ghost use Rattle.std.specs.Prelude.{◌≡◌, ◌+◌, ◌*◌, ◌≤◌, ◌++◌, List, ℕ, true, length, take};
+ghost use Rattle.std.specs.Prelude.{◌≡◌, ◌+◌, ◌*◌, ◌/◌, ◌%◌, ◌≤◌, ◌++◌, List, ℕ, true, length};
+ghost use Rattle.std.specs.Prelude.{take};
 ghost use Rattle.luks_cipher.specs.Sector.{is_key_length};
+ghost use Rattle.luks_cipher.specs.Xts.{joined};
 ghost use Rattle.luks_kdf.specs.declared.hash.Hash.{Hash as AnyHash};
 ghost use Rattle.luks_kdf.specs.Stripes.{splitter_after};
 ghost use Rattle.luks_verdict.specs.Rule.{max_stripes, need_of};
@@ -14,15 +16,27 @@ use luks_kdf::{AfSplitter, Hash};
 /// The length of a sector of key material.
 const SECTOR: usize = 512;
 
-// Decrypts the sector of this number of the key material from `offset` on.
-fn decrypt_sector(key: &SectorCipher, image: &[u8], offset: usize, number: usize, sector: &mut [u8])
-    requires capacity { length sector.old ≡ 512 }
-    requires there { offset + 512 * number + 512 ≤ length image.now }
-    ensures { sector.new ≡ material_sector key.now image.now offset number }
+/// The length of two of them.
+const PAIR: usize = 1024;
+
+// Decrypts one or two sectors of the key material from `offset` on, the first of which has this
+// number.
+fn decrypt_sectors(
+    key: &SectorCipher,
+    image: &[u8],
+    offset: usize,
+    number: usize,
+    sectors: &mut [u8],
+)
+    requires whole { length sectors.old % 512 ≡ 0 }
+    requires there { offset + 512 * number + length sectors.old ≤ length image.now }
+    ensures { sectors.new
+        ≡ joined (λ i. material_sector key.now image.now offset (number + i))
+        (length sectors.old / 512) }
 {
     let start = offset + SECTOR * number;
-    sector.copy_from_slice(&image[start..start + SECTOR]);
-    key.decrypt_unit(number as u64, sector);
+    sectors.copy_from_slice(&image[start..start + sectors.len()]);
+    key.decrypt_units(number as u64, SECTOR, sectors);
 }
 
 // Absorbs `count` stripes of `len` bytes, none of which is the last.
@@ -41,18 +55,26 @@ fn absorb_stripes(splitter: &mut AfSplitter, stripes: &[u8], len: usize, count: 
     }
 }
 
+// The length of the sectors that have the last `len` bytes: one sector or two.
+fn last_len(len: usize) -> usize
+    requires { len ≤ 1024 }
+    ensures { result ≡ (len + 511) / 512 * 512 }
+{
+    len.div_ceil(SECTOR) * SECTOR
+}
+
 // Merges the stripes in the key material into the key that they hold, as `recover` below does. It
-// decrypts one sector at a time into `sector`.
+// decrypts two sectors at a time into `sectors`, as long as stripes before the last one fill them.
 fn recover_by(
     af: Hash,
     key: &SectorCipher,
     image: &[u8],
     offset: usize,
     stripes: usize,
-    sector: &mut [u8],
+    sectors: &mut [u8],
     out: &mut [u8],
 )
-    requires capacity { length sector.old ≡ 512 }
+    requires capacity { length sectors.old ≡ 1024 }
     requires key_bytes { is_key_length (length out.old) ≡ true }
     requires some { 1 ≤ stripes }
     requires few { stripes ≤ max_stripes }
@@ -60,18 +82,19 @@ fn recover_by(
     ensures { out.new ≡ recovered af key.now image.now offset (length out.old) stripes }
 {
     let len = out.len();
-    let in_sector = SECTOR / len;
+    let in_pair = PAIR / len;
     let before_last = stripes - 1;
-    let whole = before_last / in_sector;
-    let rest = before_last % in_sector;
+    let pairs = before_last / in_pair;
+    let rest = before_last % in_pair;
     let mut splitter = AfSplitter::new(af, len);
-    'sectors: for number in 0..whole {
-        decrypt_sector(key, image, offset, number, sector);
-        absorb_stripes(&mut splitter, sector, len, in_sector);
+    'pairs: for i in 0..pairs {
+        decrypt_sectors(key, image, offset, 2 * i, sectors);
+        absorb_stripes(&mut splitter, sectors, len, in_pair);
     }
-    decrypt_sector(key, image, offset, whole, sector);
-    absorb_stripes(&mut splitter, sector, len, rest);
-    splitter.last(&sector[rest * len..rest * len + len], out);
+    let sectors = &mut sectors[..last_len(rest * len + len)];
+    decrypt_sectors(key, image, offset, 2 * pairs, sectors);
+    absorb_stripes(&mut splitter, sectors, len, rest);
+    splitter.last(&sectors[rest * len..rest * len + len], out);
 }
 
 /// Decrypts the key material from `offset` on, and writes the key that its stripes hold. Each
@@ -90,6 +113,6 @@ pub(crate) fn recover(
     requires there { offset + need_of (length out.old) stripes ≤ length image.now }
     ensures { out.new ≡ recovered af key.now image.now offset (length out.old) stripes }
 {
-    let mut sector = [0; SECTOR];
-    recover_by(af, key, image, offset, stripes, &mut sector, out);
+    let mut sectors = [0; PAIR];
+    recover_by(af, key, image, offset, stripes, &mut sectors, out);
 }

@@ -1,2 +1,4 @@
+pub mod ChainLemmas
 pub mod LaneLemmas
+pub mod PairLemmas
 pub mod WordLemmas

@@ -1,2 +1,3 @@
 pub mod Chains
 pub mod Lanes
+pub mod Pairs

@@ -1,15 +1,20 @@
-//! SHA-256 and SHA-1 (FIPS 180-4) of several blocks side by side, one in each lane of a vector, and
-//! the chains of digests that they make: the iterations of PBKDF2.
+//! SHA-256 and SHA-1 (FIPS 180-4) of several blocks side by side, one in each lane of a vector,
+//! SHA-512 and SHA-384 of one block, and the chains of digests that they make: the iterations of
+//! PBKDF2.
 //!
 //! SHA-256 processes two blocks side by side. SHA-1 processes as many as there are lanes: four, or
-//! one alone by the same code. Nothing here allocates memory.
+//! one alone by the same code. SHA-512 and SHA-384 use lanes for the words of the schedule alone.
+//! Nothing here allocates memory.
 #![tactic(auto)]
 
 mod block1;
 mod block256;
+mod block512;
 pub mod chains1;
 pub mod chains256;
+pub mod chains512;
 mod constants;
 mod iterations1;
 mod iterations256;
+mod iterations512;
 mod words;

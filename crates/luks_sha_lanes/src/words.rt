@@ -2,6 +2,7 @@
 
 ghost use Rattle.std.specs.Prelude.{◌≡◌, ◌+◌, ◌≤◌, [], ◌∷◌, length};
 ghost use Rattle.sha2.specs.Sha256.{word_at};
+ghost use Rattle.sha2.specs.Sha512.{word_at as word64_at};
 
 /// The word at byte `i`, with its most significant byte first.
 pub(crate) fn load_be(bytes: &[u8], i: usize) -> u32
@@ -9,6 +10,23 @@ pub(crate) fn load_be(bytes: &[u8], i: usize) -> u32
     ensures { result ≡ word_at bytes.now i }
 {
     u32::from_be_bytes([bytes[i], bytes[i + 1], bytes[i + 2], bytes[i + 3]])
+}
+
+/// The word of 64 bits at byte `i`, with its most significant byte first.
+pub(crate) fn load_be64(bytes: &[u8], i: usize) -> u64
+    requires { i + 8 ≤ length bytes.now }
+    ensures { result ≡ word64_at bytes.now i }
+{
+    u64::from_be_bytes([
+        bytes[i],
+        bytes[i + 1],
+        bytes[i + 2],
+        bytes[i + 3],
+        bytes[i + 4],
+        bytes[i + 5],
+        bytes[i + 6],
+        bytes[i + 7],
+    ])
 }
 
 /// The array of these values, of any type. Arrays of vectors of `N` lanes are made here: the prover

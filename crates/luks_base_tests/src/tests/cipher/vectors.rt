@@ -3,10 +3,11 @@
 
 use super::aes_vectors::{BATCH_128, BATCH_192, BATCH_256, EXAMPLES, KNOWN_ANSWERS};
 use super::cipher::Cipher;
-use super::mode_vectors::{CHAINS, DIGESTS, SECTORS, WORKED};
+use super::mode_vectors::{CHAINS, DECRYPTED, DIGESTS, SECTORS, WORKED};
 use super::xts_vectors::{LARGE_NUMBERS, NIST, SHORT};
 use super::{assert_in, bytes, counted};
 use luks_aes_batch::BatchKey;
+use luks_cipher::{Mode, SectorCipher};
 use sha2::{Digest, Sha256};
 use std::process::Abort;
 
@@ -94,6 +95,36 @@ fn sectors_of_batches_and_blocks_have_their_digests(rt: HostRuntime) {
     }
 }
 
+// Asserts that the line's sectors are decrypted to ones with the digest.
+fn check_decrypted(rt: &(impl Abort + AllocGlobal), line: &str) {
+    let key = bytes(rt, KEY);
+    let key_length = word(rt, line, 1)
+        .parse::<usize>()
+        .expect(rt, "a length")
+        .min(key.len());
+    let mode = Mode::from_name(word(rt, line, 0)).expect(rt, "a mode");
+    let cipher = SectorCipher::new(mode, &key[..key_length]).expect(rt, "a key of the mode");
+    let first = word(rt, line, 2).parse::<u64>().expect(rt, "a number");
+    let size = word(rt, line, 3).parse::<usize>().expect(rt, "a length");
+    let all = word(rt, line, 4).parse::<usize>().expect(rt, "a length");
+    let mut sectors = counted(rt, all, 7, 1);
+    assert!(rt; size % 512 == 0 && 512 <= size && size <= 4096 && sectors.len() % size == 0);
+    cipher.decrypt_units(first, size, &mut sectors);
+    let digest = Sha256::digest(&sectors);
+    assert_in(
+        rt,
+        line,
+        bytes(rt, word(rt, line, 5)).as_slice() == digest.as_slice(),
+    );
+}
+
+#[test]
+fn sectors_that_follow_one_another_are_decrypted(rt: HostRuntime) {
+    for line in DECRYPTED.lines() {
+        check_decrypted(&rt, line);
+    }
+}
+
 // Checks the decryption of 32 blocks at once, and of the first of them alone.
 fn check_batch(rt: &(impl Abort + AllocGlobal), key: &[u8], encrypted: &str, plain: &[u8]) {
     let key = BatchKey::new(key).expect(rt, "a key of AES");
@@ -101,7 +132,7 @@ fn check_batch(rt: &(impl Abort + AllocGlobal), key: &[u8], encrypted: &str, pla
     hex::decode_to_slice(encrypted, &mut batch).expect(rt, "a batch");
     let mut block = [0; 16];
     block.copy_from_slice(&batch[..16]);
-    key.decrypt_batch(&mut batch);
+    key.decrypt_batch(&mut batch, &[0; 512], &[0; 512]);
     assert_in(rt, encrypted, batch.as_slice() == plain);
     key.key().decrypt_block(&mut block);
     assert_in(rt, encrypted, plain.starts_with(&block));

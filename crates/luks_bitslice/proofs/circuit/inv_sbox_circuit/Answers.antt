@@ -1,5 +1,5 @@
 use Rattle.luks_bitslice.proofs.GateLemmas.{planes_have_tables, xor_table, and_table, or_table, andn_table}
-use Rattle.luks_bitslice.proofs.GateLemmas.{represented_inv_sub_bytes}
+use Rattle.luks_bitslice.proofs.GateLemmas.{held_inv_sub_bytes}
 use Rattle.luks_bitslice.proofs.circuit.inv_sbox_circuit.Goals as goal
 
 pub returns : goal.returns
@@ -111,4 +111,4 @@ returns c = λ y is.
     let z47 = xor_table z37 z46 c.xor-z47.ensures in
     let y3 = xor_table z38 z40 c.xor-y3.ensures in
     let y0 = xor_table z34 z47 c.xor-y0.ensures in
-    represented_inv_sub_bytes y is.bytes y0 y1 y2 y3 y4 y5 y6 y7
+    held_inv_sub_bytes y is.bytes y0 y1 y2 y3 y4 y5 y6 y7

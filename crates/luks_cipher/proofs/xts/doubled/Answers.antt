@@ -6,4 +6,5 @@ use Rattle.luks_cipher.proofs.xts.doubled.Goals as goal
 pub returns : goal.returns
 returns c =
     let tweak = c.args.tweak in
-    doubled_lanes tweak c.fits-tweak.0 (below_from_Fits w8 tweak c.fits-tweak.1) _ _ refl refl
+    doubled_lanes tweak c.fits-tweak.0 (below_from_Fits w8 tweak c.fits-tweak.1) _ _ _ _ _ _ _ refl refl refl refl
+    refl refl refl

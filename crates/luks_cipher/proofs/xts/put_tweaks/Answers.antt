@@ -1,4 +1,4 @@
-use Rattle.std.proofs.Common.{◌≡◌, length, ap, arith, ◌∙◌, add-one, refl}
+use Rattle.std.proofs.Common.{◌≡◌, ◌/◌, length, ap, arith, ◌∙◌, add-one, refl}
 use Rattle.std.proofs.lemmas.Simd.{put_chunk_whole, length-put_chunk}
 use Rattle.luks_cipher.specs.Xts.{doubled, tweak_after, block_at}
 use Rattle.luks_cipher.proofs.UnitLemmas.{done_none, done_more, done_all, tweak_len, doubled_len}
@@ -24,10 +24,12 @@ loop-n-preserved c =
 
 pub returns : goal.returns
 returns c =
-    let last : c.loop-n.n ≡ 32 = omega arith in
-    let all = done_all _ c.args.tweaks.now c.loop-n.tweaks c.loop-n.n 32 c.loop-n.invariant.done (omega arith) last in
+    let count = length c.args.tweaks.now / 16 in
+    let last : c.loop-n.n ≡ count = omega arith in
+    let all = done_all _ c.args.tweaks.now c.loop-n.tweaks c.loop-n.n count c.loop-n.invariant.done (omega arith)
+    last in
     record {
       value = λ n low. ap (λ x. block_at x n) all
-          ∙ joined_at (tweak_after c.args.tweak) 32 n (λ j below. tweak_len c.args.tweak j c.fits-tweak.0) low;
+          ∙ joined_at (tweak_after c.args.tweak) count n (λ j below. tweak_len c.args.tweak j c.fits-tweak.0) low;
       next = c.loop-n.invariant.next_tweak ∙ ap (tweak_after c.args.tweak) last;
     }

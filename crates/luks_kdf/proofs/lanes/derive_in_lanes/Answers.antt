@@ -36,8 +36,10 @@ fill-preserved g c =
     piece_begins (length before) group c.div_ceil-count.result c.fill.i (rw is_group (some_in_group h w known))
     c.div_ceil-count.ensures c.fill-test.true in
     let is_number = ap (λ (n : ℕ). n * c.fill.i + 1) c.WIDTH-in-fill.ensures in
-    let key = c.derive_group.ensures.key pass c.new-keyed.ensures.inner c.new-keyed.ensures.outer
-    c.key_blocks-blocks.ensures.inner c.key_blocks-blocks.ensures.outer in (
+    let blocks = c.key_blocks-blocks.ensures in
+    let keyed = c.after-keyed.ensures in
+    let key = c.derive_group.ensures.key pass (keyed.inner pass blocks.inner) (keyed.outer pass blocks.outer)
+    blocks.inner blocks.outer in (
       cut_step (group_at t w) group (λ k. length-group_at t (digest_len h) each w k ∙ sym is_group) before
           c.fill.out c.derive_group.new.out c.fill.i c.min-end.result inside c.fill.auto.out c.fill.invariant.0
           c.min-end.ensures (λ old. group_from h pass salt iterations w c.fill.i _ _ _ is_number key),

@@ -1,5 +1,5 @@
 use Rattle.std.proofs.Common.{refl}
-use Rattle.luks_sha_lanes.proofs.WordLemmas.{padded_words1}
+use Rattle.luks_sha_lanes.proofs.ChainLemmas.{padded_words1}
 use Rattle.luks_sha_lanes.proofs.iterations1.digest_block.Goals as goal
 
 pub returns : goal.returns

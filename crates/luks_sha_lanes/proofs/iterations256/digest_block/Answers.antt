@@ -1,5 +1,5 @@
 use Rattle.std.proofs.Common.{refl}
-use Rattle.luks_sha_lanes.proofs.WordLemmas.{padded_twice, padded_words256}
+use Rattle.luks_sha_lanes.proofs.ChainLemmas.{padded_twice, padded_words256}
 use Rattle.luks_sha_lanes.proofs.iterations256.digest_block.Goals as goal
 
 pub returns-clause-twice : goal.returns-clause-twice

@@ -1,0 +1,3 @@
+pub mod FloatLemmas
+pub mod LineLemmas
+pub mod NumberLemmas

@@ -1,0 +1,8 @@
+pub mod Audit
+pub mod Audit1
+pub mod Audit2
+pub mod Findings
+pub mod Image
+pub mod Line
+pub mod Policy
+pub mod Tree

@@ -1,0 +1,78 @@
+-- The lines that are printed: an object as JSON, or its members in columns with tabs between them.
+use Rattle.std.specs.Prelude.{ℕ, ◌++◌, List, [], ◌∷◌, Option, Some, None, codes, flat_map}
+use Rattle.json.specs.Print.{escape}
+use Rattle.luks_audit.specs.Tree.{empty_object, with_fields}
+use Rattle.luks_audit.specs.declared.line.Format.{Format}
+use Rattle.luks_audit.specs.declared.line.Format.TheVariants.{Json, Tsv}
+use Rattle.serde_json.specs.Data.{Data, null, string, boolean, number, array, object}
+use Rattle.serde_json.specs.Find.{get}
+use Rattle.serde_json.specs.Written.{compact_text}
+
+-- the columns after the first one, which is the file
+abbrev pub place_columns : List (List ℕ)
+place_columns = codes "offset" ∷ codes "error" ∷ codes "version" ∷ codes "uuid" ∷ codes "label" ∷ []
+
+abbrev pub header_columns : List (List ℕ)
+header_columns =
+    codes "subsystem" ∷ codes "header" ∷ codes "other_header" ∷ codes "cipher" ∷ codes "key_bytes" ∷ []
+
+abbrev pub segment_columns : List (List ℕ)
+segment_columns =
+    codes "sector_size" ∷ codes "segment_offset" ∷ codes "segment_size" ∷ codes "requirements" ∷ codes "slots" ∷ []
+
+abbrev pub list_columns : List (List ℕ)
+list_columns = codes "digests" ∷ codes "tokens" ∷ codes "findings" ∷ codes "weak" ∷ []
+
+-- what a member has in its column: nothing if it is null, a text as it stands in JSON but without quotation marks, and
+-- any other value as JSON. JSON escapes tabs and newlines
+unfoldable pub cell_text : Data → List ℕ
+cell_text null = []
+cell_text (string text) = escape text
+cell_text (boolean b) = compact_text (boolean b)
+cell_text (number n) = compact_text (number n)
+cell_text (array values) = compact_text (array values)
+cell_text (object members) = compact_text (object members)
+
+-- the column of a member that may be missing
+abbrev pub cell_in : Option Data → List ℕ
+cell_in None = []
+cell_in (Some value) = cell_text value
+
+unfoldable pub column_of : Data → List ℕ → List ℕ
+column_of value name = cell_in (get name value)
+
+-- a column after a tab
+unfoldable pub tabbed_of : Data → List ℕ → List ℕ
+tabbed_of value name = 9 ∷ column_of value name
+
+-- these columns, each after a tab
+abbrev pub columns_of : Data → List (List ℕ) → List ℕ
+columns_of value [] = []
+columns_of value (name ∷ names) = tabbed_of value name ++ columns_of value names
+
+-- the columns of an object, but for the file
+unfoldable pub cells_of : Data → List ℕ
+cells_of value =
+    columns_of value place_columns ++ columns_of value header_columns ++ columns_of value segment_columns
+    ++ columns_of value list_columns
+
+-- the line of an object
+unfoldable pub line_text : Format → Data → List ℕ
+line_text Json value = compact_text value ++ 10 ∷ []
+line_text Tsv value = column_of value (codes "file") ++ cells_of value ++ 10 ∷ []
+
+-- the names of columns, each after a tab
+abbrev pub tabbed_names : List (List ℕ) → List ℕ
+tabbed_names names = flat_map (λ name. 9 ∷ name) names
+
+-- the line before all others: the names of the columns
+unfoldable pub head_of : Format → List ℕ
+head_of Json = []
+head_of Tsv =
+    codes "file" ++ tabbed_names place_columns ++ tabbed_names header_columns ++ tabbed_names segment_columns
+    ++ tabbed_names list_columns ++ 10 ∷ []
+
+-- the object of an image without a header, or of one that could not be read
+unfoldable pub error_value : List ℕ → List ℕ → Data
+error_value file error =
+    with_fields ((codes "file", string file) ∷ (codes "error", string error) ∷ []) empty_object

@@ -1,0 +1,4 @@
+//! The runs of `luksrd-audit`, over images that a host opens and a sink.
+#![tactic(auto)]
+
+pub mod run;

@@ -1,0 +1,5 @@
+//! Tests, by what is tested.
+
+mod fixture;
+mod runs;
+mod weak;

@@ -1,0 +1,67 @@
+//! The command line.
+
+use clap::{Arg, ArgAction, ArgMatches, Command, value_parser};
+use luks_audit::image::Policy;
+use luks_audit::line::Format;
+use std::alloc::{AllocError, Global};
+
+/// What the arguments request.
+#[derive(Drop)]
+pub struct Request<'r, 'a> {
+    /// How headers are audited and printed.
+    pub policy: Policy,
+    /// The names of the images, in their order.
+    pub files: &'r [&'a str],
+}
+
+/// The command line as `clap` reads it.
+pub fn command<'a>(alloc: Global) -> Result<Command<'a>, AllocError> {
+    let command = Command::new(alloc, "luksrd-audit")
+        .no_binary_name(true)
+        .version("1.1.0")
+        .about("Lists what is in LUKS headers, and what is weak about them, as JSON.");
+    with_images(alloc, with_options(alloc, command)?)
+}
+
+// The command with its options.
+fn with_options<'a>(alloc: Global, command: Command<'a>) -> Result<Command<'a>, AllocError> {
+    let minimum = Arg::new(alloc, "min-iterations")
+        .long("min-iterations")
+        .value_name("N")
+        .value_parser(value_parser!(u32))
+        .help("Fewer iterations of PBKDF2 are weak, in place of OWASP's figures");
+    let tsv = Arg::new(alloc, "tsv")
+        .long("tsv")
+        .action(ArgAction::SetTrue)
+        .help("Prints columns with tabs between them, and their names first");
+    command.arg(minimum)?.arg(tsv)
+}
+
+// The command with its images.
+fn with_images<'a>(alloc: Global, command: Command<'a>) -> Result<Command<'a>, AllocError> {
+    let images = Arg::new(alloc, "IMAGE")
+        .required(true)
+        .num_args(1..)
+        .help("Image files or devices; - is standard input");
+    command.arg(images)
+}
+
+/// The request of parsed arguments, or `None` if standard input is named more than once.
+pub fn request_in<'r, 'a>(matches: &'r ArgMatches<'a>) -> Option<Request<'r, 'a>> {
+    let files = matches.get_strs("IMAGE")?;
+    if files.iter().filter(|name| **name == "-").count() > 1 {
+        return None;
+    }
+    let format = if matches.get_flag("tsv") {
+        Format::Tsv
+    } else {
+        Format::Json
+    };
+    Some(Request {
+        policy: Policy {
+            minimum: matches.get_one::<u32>("min-iterations"),
+            format,
+        },
+        files,
+    })
+}

@@ -1,0 +1,112 @@
+//! `luksrd-audit`: reads its arguments, audits the images, and reports how that ended.
+//!
+//! What a run writes is specified by `run` of `luks_audit_run`; only calls of the system and the
+//! command line are here.
+#![tactic(auto)]
+
+mod arguments;
+mod descriptors;
+mod images;
+mod target;
+
+use arguments::{Request, command, request_in};
+use clap::ArgMatches;
+use descriptors::stand_in;
+use images::HostImages;
+use luks_audit_run::run::{Ending, run};
+use luks_host::output::{RawFlush, RetryingWriter};
+use luks_io::adapters::WriteSink;
+use std::env;
+use std::io::{BufWriter, ErrorKind};
+use std::process::ExitCode;
+
+/// The capacity in bytes of the buffer for the output.
+const BUFFER: usize = 65536;
+
+/// The exit status if the arguments are not understood, as that of `clap`.
+const USAGE: u8 = 2;
+
+fn main(rt: HostRuntime) -> ExitCode {
+    let _stand_ins = [stand_in(&rt), stand_in(&rt), stand_in(&rt)];
+    let args = match env::args(&rt) {
+        Ok(args) => args,
+        Err(e) if e.kind() == ErrorKind::OutOfMemory => return end(&rt, Ending::OutOfMemory),
+        Err(_) => return misused(&rt, "an argument is not UTF-8"),
+    };
+    let Ok(words) = args.skip(1).collect::<Vec<String>>(rt.alloc()) else {
+        return end(&rt, Ending::OutOfMemory);
+    };
+    obey(&rt, words.as_slice())
+}
+
+/// Does what these arguments request.
+fn obey(rt: &HostRuntime, words: &[String]) -> ExitCode {
+    let Ok(command) = command(rt.alloc()) else {
+        return end(rt, Ending::OutOfMemory);
+    };
+    match command.try_get_matches_from(words) {
+        Ok(matches) => audit_requested(rt, &matches),
+        Err(error) => show(rt, &error),
+    }
+}
+
+/// Audits the images that parsed arguments name.
+fn audit_requested(rt: &HostRuntime, matches: &ArgMatches<'_>) -> ExitCode {
+    match request_in(matches) {
+        Some(request) => audit(rt, &request),
+        None => misused(rt, "standard input is named twice"),
+    }
+}
+
+/// Prints what `clap` reports: a fault of the arguments, the help or the version.
+fn show(rt: &HostRuntime, error: &clap::Error) -> ExitCode {
+    if error.kind() == clap::error::ErrorKind::OutOfMemory {
+        return end(rt, Ending::OutOfMemory);
+    }
+    if error.print(rt).is_err() {
+        return end(rt, Ending::WriteFailed);
+    }
+    ExitCode::from(if error.exit_code() == 0 { 0 } else { USAGE })
+}
+
+/// Audits the requested images.
+fn audit(rt: &HostRuntime, request: &Request<'_, '_>) -> ExitCode {
+    let Ok(writer) = BufWriter::with_capacity(rt.alloc(), BUFFER, RetryingWriter::new(rt.stdout()))
+    else {
+        return end(rt, Ending::OutOfMemory);
+    };
+    let mut out = WriteSink::new(writer);
+    let mut host = HostImages::new(rt);
+    let ending = run(
+        rt.alloc(),
+        request.policy,
+        request.files,
+        &mut host,
+        &mut out,
+    );
+    if out.into_inner().flush_once() {
+        end(rt, ending)
+    } else {
+        end(rt, Ending::WriteFailed)
+    }
+}
+
+/// Reports arguments that are not understood.
+fn misused(rt: &HostRuntime, message: &str) -> ExitCode {
+    let _ = eprintln!(rt; "luksrd-audit: {message}");
+    ExitCode::from(USAGE)
+}
+
+/// Prints a message if the run was aborted, and returns the exit status.
+fn end(rt: &HostRuntime, ending: Ending) -> ExitCode {
+    match ending {
+        Ending::Done(_) => {}
+        Ending::OutOfMemory => {
+            let _ = eprintln!(rt; "luksrd-audit: out of memory");
+        }
+        Ending::WriteFailed => {
+            let _ = eprintln!(rt; "luksrd-audit: write failed");
+        }
+    }
+    ExitCode::from(ending.status())
+}

@@ -1,0 +1,242 @@
+#!/usr/bin/env bash
+# Compares the fields that luksrd-audit lists with what cryptsetup reports: luksDump for LUKS1, the JSON metadata and luksDump for LUKS2.
+# Runs the recipes of docs/AUDIT.md. The first argument is the built luksrd, the second the built luksrd-audit.
+audit=$(realpath "${2:?the built luksrd-audit}")
+pages=$(realpath "$(dirname "$0")/../docs")
+# shellcheck source=interop/common.sh
+. "$(dirname "$0")/common.sh"
+
+printf 'a passphrase' >pass
+printf 'another one' >pass2
+fast=(--pbkdf pbkdf2 --pbkdf-force-iterations 1000)
+
+# listed IMAGE: the object of an image, with sorted names, without what is judged
+listed() { "$audit" "$1" | jq -S 'del(.file, .findings, .weak) | .slots |= map(del(.state, .reason, .can_try))'; }
+
+# object1 IMAGE: what cryptsetup's luksDump prints of a LUKS1 header, as that object
+object1() {
+    theirs1 "$1" | python3 -c '
+import json, re, sys
+lines = [line.split(": ", 1) if ": " in line else (re.match(r"(Slot \d+) (.*)", line).groups()) for line in sys.stdin.read().splitlines()]
+f = dict(lines)
+bits = int(f["Key bytes"]); cipher = f["Cipher"]; hash = f["Hash"]
+def slot(n, text):
+    got = dict(re.findall(r"(\w+)=(\S+)", text))
+    stripes = int(got["stripes"])
+    size = (bits * stripes + 511) // 512 * 512
+    return dict(number=n, priority=1, key_bytes=bits, kdf="pbkdf2", hash=hash, iterations=int(got["iterations"]), time=None, memory=None,
+                threads=None, af_hash=hash, stripes=stripes, area_cipher=cipher, area_key_bytes=bits,
+                area_offset=int(got["offset"]) * 512, area_size=size)
+slots = [slot(int(k.split()[1]), v) for k, v in f.items() if k.startswith("Slot ") and v.startswith("ENABLED")]
+print(json.dumps(dict(version=1, offset=0, uuid=f["UUID"], label=None, subsystem=None, header=None, other_header=None, cipher=cipher,
+    key_bytes=bits, sector_size=512, segment_offset=int(f["Payload offset"]) * 512, segment_size="dynamic", requirements=[],
+    slots=slots, tokens=[], digests=[dict(number=0, type="pbkdf2", hash=hash, iterations=int(f["MK iterations"]), bytes=20,
+    keyslots=[], segments=[])])))' | jq -S .
+}
+
+# object2 IMAGE ROLE OTHER: what cryptsetup prints of a LUKS2 header, as that object
+object2() {
+    cp "$1" copy
+    { cryptsetup luksDump copy >fields && cryptsetup luksDump --dump-json-metadata copy >metadata; } 2>err || { cat err; exit 1; }
+    python3 - "$2" "$3" <<'PYTHON' | jq -S .
+import base64, json, re, sys
+fields = dict(re.findall(r'^([A-Z][a-z A-Z]*):\s+(.*)$', open('fields').read(), re.M))
+tree = json.load(open('metadata'))
+s = tree['segments']['0']
+number = lambda text: text if text == 'dynamic' else int(text)
+def slot(n):
+    k = tree['keyslots'][n]; kdf = k['kdf']; af = k['af']; area = k['area']
+    return dict(number=int(n), priority=k.get('priority', 1), key_bytes=k['key_size'], kdf=kdf['type'], hash=kdf.get('hash'),
+                iterations=kdf.get('iterations'), time=kdf.get('time'), memory=kdf.get('memory'), threads=kdf.get('cpus'),
+                af_hash=af['hash'], stripes=af['stripes'], area_cipher=area['encryption'], area_key_bytes=area['key_size'],
+                area_offset=int(area['offset']), area_size=int(area['size']))
+def digest(n):
+    d = tree['digests'][n]
+    return dict(number=int(n), type=d['type'], hash=d['hash'], iterations=d['iterations'], bytes=len(base64.b64decode(d['digest'])),
+                keyslots=d['keyslots'], segments=d['segments'])
+def token(n):
+    t = tree['tokens'][n]
+    return dict(number=int(n), type=t['type'], keyslots=t['keyslots'])
+order = lambda name: sorted(tree[name], key=int)
+print(json.dumps(dict(version=2, offset=0, uuid=fields['UUID'], label=fields['Label'].replace('(no label)', ''),
+    subsystem=fields['Subsystem'].replace('(no subsystem)', ''), header=sys.argv[1], other_header=sys.argv[2] or None,
+    cipher=s['encryption'], key_bytes=tree['keyslots'][order('keyslots')[0]]['key_size'] if tree['keyslots'] else None,
+    sector_size=s['sector_size'], segment_offset=int(s['offset']), segment_size=number(s['size']),
+    requirements=tree['config'].get('requirements', {}).get('mandatory', []), slots=[slot(n) for n in order('keyslots')],
+    digests=[digest(n) for n in order('digests')], tokens=[token(n) for n in order('tokens')])))
+PYTHON
+}
+
+# agree1 IMAGE: the object of a LUKS1 image, but for slots that are not in use, is what cryptsetup reports
+agree1() {
+    same "$1" "$("$audit" "$1" | jq -S 'del(.file, .findings, .weak) | .slots |= map(select(.state != "disabled") | del(.state, .reason, .can_try))')" \
+        "$(object1 "$1")"
+    same "$1: eight slots" "$("$audit" "$1" | jq '.slots | length')" 8
+}
+
+# agree2 IMAGE ROLE [OTHER]: the object of a LUKS2 image is what cryptsetup reports
+agree2() { same "$1" "$(listed "$1")" "$(object2 "$1" "$2" "${3-}")"; }
+
+# weak IMAGE STATUS NAME..: the names and places of weaknesses, and the exit status
+weak() {
+    local image=$1 status=$2
+    shift 2
+    "$audit" "$image" >out
+    echo $? >status
+    same "$image: weak" "$(jq -r '.weak[] | .place + " " + .name' out)" "$(printf '%s\n' "$@")"
+    same "$image: status" "$(cat status)" "$status"
+}
+
+# LUKS1: hash functions, also one that luksrd does not know, and modes
+for hash in sha1 sha224 sha256 sha384 sha512 ripemd160; do
+    format1 "$hash" aes-xts-plain64 "$hash" 512
+    agree1 "$hash"
+done
+format1 cbc aes-cbc-essiv:sha256 sha256 128
+agree1 cbc
+format1 plain aes-xts-plain sha256 512
+agree1 plain
+
+weak sha1 1 'slot 0 iterations' 'slot 0 sha1' 'slot 5 iterations' 'slot 5 sha1' 'digest 0 sha1'
+weak ripemd160 1 'slot 0 iterations' 'slot 5 iterations'
+weak cbc 1 'segment cbc' 'segment short-key' 'slot 0 iterations' 'slot 0 cbc' 'slot 0 short-key' 'slot 5 iterations' 'slot 5 cbc' 'slot 5 short-key'
+
+# OWASP's figures, and a minimum of one's own
+# iterations HASH COUNT STATUS: a LUKS1 volume with this many iterations is weak or not
+iterations() {
+    truncate -s 3M "$1 $2"
+    cryptsetup -q luksFormat --type luks1 --pbkdf-force-iterations "$2" --hash "$1" --key-size 512 --key-file pass "$1 $2" || exit 1
+    same "$1 with $2" "$("$audit" "$1 $2" | jq -c '[.weak[] | select(.name == "iterations") | .place]'; echo "${PIPESTATUS[0]}")" "$3"
+}
+iterations sha512 209999 '["slot 0"]
+1'
+iterations sha512 210000 '[]
+0'
+iterations sha256 599999 '["slot 0"]
+1'
+iterations sha256 600000 '[]
+0'
+same 'a lower minimum' "$("$audit" --min-iterations 599999 'sha256 599999' | jq -c .weak; echo "${PIPESTATUS[0]}")" '[]
+0'
+same 'a higher minimum' "$("$audit" --min-iterations=600001 'sha256 600000' | jq -r '.weak[].name'; echo "${PIPESTATUS[0]}")" 'iterations
+1'
+
+# LUKS2: lengths of headers, hash functions, ciphers, sectors
+# format IMAGE OPTION..: a volume with the passphrase in pass (slot 0)
+format() {
+    local image=$1
+    shift
+    truncate -s 20M "$image"
+    cryptsetup -q luksFormat --type luks2 --key-file pass "$@" "$image" >out 2>err || { cat err; exit 1; }
+}
+for size in 16 64 1024 4096; do
+    format "of $size KiB" "${fast[@]}" --luks2-metadata-size "${size}k" --luks2-keyslots-size 1m
+    agree2 "of $size KiB" primary
+done
+for hash in sha1 sha224 sha256 sha384 sha512 ripemd160; do
+    format "2 $hash" "${fast[@]}" --hash "$hash"
+    agree2 "2 $hash" primary
+done
+for sealed in 'aes-xts-plain64 512 512' 'aes-xts-plain64 256 4096' 'aes-cbc-essiv:sha256 128 512'; do
+    read -r cipher bits sector <<<"$sealed"
+    format "$sealed" "${fast[@]}" --cipher "$cipher" --key-size "$bits" --sector-size "$sector"
+    agree2 "$sealed" primary
+done
+weak 'aes-cbc-essiv:sha256 128 512' 1 'segment cbc' 'segment short-key' 'slot 0 iterations' 'slot 0 cbc' 'slot 0 short-key'
+weak '2 sha1' 1 'slot 0 iterations' 'slot 0 sha1' 'digest 0 sha1'
+
+# labels, tokens, several slots, priorities, Argon2
+format several "${fast[@]}" --label 'a "label"' --subsystem 'a subsystem'
+cryptsetup -q luksAddKey "${fast[@]}" --key-slot 10 --key-file pass several pass2 || exit 1
+cryptsetup -q luksAddKey --pbkdf argon2id --pbkdf-force-iterations 4 --pbkdf-memory 65536 --pbkdf-parallel 1 --key-slot 2 --key-file pass several pass2 || exit 1
+cryptsetup -q luksAddKey --pbkdf argon2i --pbkdf-force-iterations 4 --pbkdf-memory 65535 --pbkdf-parallel 1 --key-slot 31 --key-file pass several pass2 || exit 1
+cryptsetup -q config --priority prefer --key-slot 10 several || exit 1
+cryptsetup -q config --priority ignore --key-slot 2 several || exit 1
+printf '{"type":"mine\\t\\"","keyslots":["0","10"]}' | cryptsetup -q token import --token-id 3 --json-file - several || exit 1
+agree2 several primary
+weak several 1 'slot 0 iterations' 'slot 10 iterations' 'slot 31 argon2-memory'
+same 'states' "$("$audit" several | jq -c '[.slots[] | [.number, .state, .reason, .can_try]]')" \
+    '[[0,"usable",null,true],[2,"skipped","argon2id",false],[10,"usable",null,true],[31,"skipped","argon2i",false]]'
+
+# a volume in the middle of being encrypted has a requirement and several segments
+cp 'aes-xts-plain64 512 512' unfinished
+if cryptsetup -q reencrypt --encrypt --init-only --type luks2 --reduce-device-size 4M --key-file pass "${fast[@]}" unfinished >err 2>&1; then
+    same 'requirements' "$("$audit" unfinished | jq -c .requirements)" \
+        "$(cp unfinished copy; cryptsetup luksDump --dump-json-metadata copy | jq -c .config.requirements.mandatory)"
+fi
+
+# a primary header that is wiped, a secondary one that is, and neither
+cp several 'primary wiped'
+dd if=/dev/zero of='primary wiped' bs=4096 count=1 conv=notrunc status=none
+agree2 'primary wiped' secondary 'not valid'
+same 'findings' "$("$audit" 'primary wiped' | jq -c .findings)" '["primary header: not valid"]'
+cp several 'secondary wiped'
+dd if=/dev/zero of='secondary wiped' bs=4096 count=1 seek=4 conv=notrunc status=none
+same 'other header' "$("$audit" 'secondary wiped' | jq -c '[.header, .other_header]')" '["primary","not valid"]'
+
+# several images, one of them missing, and one without a header
+truncate -s 1M empty
+"$audit" several missing empty sha1 - <cbc >out 2>err
+echo $? >status
+same 'each image has a line' "$(jq -c '[.file, .error, .version]' out)" '["several",null,2]
+["missing","cannot be opened",null]
+["empty","no LUKS header",null]
+["sha1",null,1]
+["-",null,1]'
+same 'an image that is not read' "$(cat status) $(cat err)" '4 '
+same 'columns' "$("$audit" --tsv several missing empty | awk -F'\t' '{ print NF, $1, $3, $4 }')" '20 file error version
+20 several  2
+20 missing cannot be opened 
+20 empty no LUKS header '
+same 'findings are those of luksCheck' "$("$program" luksCheck 'primary wiped' 2>/dev/null)" "$("$audit" 'primary wiped' | jq -r '.findings[]')"
+same 'columns that hold JSON' "$("$audit" --tsv several | tail -n 1 | cut -f 18 | jq -c '[.[].keyslots]')" "$("$audit" several | jq -c '[.tokens[].keyslots]')"
+same 'the end of a full device' "$("$audit" several 2>&1 >/dev/full; echo $?)" 'luksrd-audit: write failed
+6'
+same 'a closed output' "$("$audit" several 2>&1 >&-; echo $?)" 'luksrd-audit: write failed
+6'
+same 'a folder' "$("$audit" .; echo $?)" '{"error":"cannot be opened","file":"."}
+4'
+cp sha1 target
+size=$(stat -c %s target)
+# shellcheck disable=SC2094
+"$audit" target >>target
+same 'an image that the output goes to' "$(tail -c "+$((size + 1))" target)" '{"error":"cannot be opened","file":"target"}'
+same 'a name that is not UTF-8' "$("$audit" several $'a\377' 2>&1; echo $?)" 'luksrd-audit: an argument is not UTF-8
+2'
+same 'a slot that is disabled has not too few iterations' "$("$audit" sha256 | jq -c '[.slots[] | select(.state != "disabled" and .kdf == "pbkdf2" and .iterations < 600000) | .number]')" '[0,5]'
+same 'help' "$("$audit" --help | head -n 1; echo "${PIPESTATUS[0]}")" 'Lists what is in LUKS headers, and what is weak about them, as JSON.
+0'
+same 'no image' "$("$audit" >/dev/null 2>&1; echo $?)" 2
+same 'standard input twice' "$("$audit" - - </dev/null >/dev/null 2>&1; echo $?)" 2
+
+# a header whose texts are hostile can forge no field
+cp sha1 hostile
+printf 'x","weak":[],"y":"\n\t\\\0' | dd of=hostile bs=1 seek=168 conv=notrunc status=none
+same 'a hostile text' "$("$audit" hostile | jq -c '[.uuid, (.weak | length)]')" '["x\",\"weak\":[],\"y\":\"\\x0a\\x09\\x5c",5]'
+same 'a hostile text in a column' "$("$audit" --tsv hostile | wc -l)" 2
+
+# the recipes, as they are written there: a folder with two images, and a disk with a header at its start and another one after a MiB
+mkdir bin images
+ln -s "$audit" bin/luksrd-audit
+cp sha1 images/a.img
+cp 'primary wiped' images/b.img
+cp several disk.img
+dd if=sha1 of=disk.img bs=1M seek=1 count=1 conv=notrunc status=none
+sed -n '/^## Recipes/,/^## What/s/^    //p' "$pages/AUDIT.md" >recipes
+same 'the recipes' "$(PATH=$work/bin:$PATH bash recipes 2>&1 | sed 's/^{.*"version":1,.*/LUKS1/')" \
+    $'images/a.img\t1\t-\tslot 0 iterations, slot 0 sha1, slot 5 iterations, slot 5 sha1, digest 0 sha1
+images/b.img\t2\t-\tslot 0 iterations, slot 10 iterations, slot 31 argon2-memory
+["images/a.img",0,1000]
+["images/a.img",5,1300]
+["images/b.img",0,1000]
+["images/b.img",10,1000]
+images/b.img
+[0,10]
+LUKS1'
+
+# the man page
+same 'what man says of the page' "$(man --warnings -l "$pages/luksrd-audit.1" 2>&1 >/dev/null)" ''
+same 'what mandoc says of it' "$(mandoc -Tlint -Wwarning "$pages/luksrd-audit.1" 2>&1)" ''
+same 'the version' "$("$audit" --version)" "luksrd-audit $(sed -n 's/^\.Os luksrd //p' "$pages/luksrd-audit.1")"
+
+finish
