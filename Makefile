@@ -65,7 +65,7 @@ CFLAGS ?= -O2
 # the library's file, and the two names that lead to it
 SHARED_NAMES = libluksrd.so.$(VERSION) libluksrd.so.$(INTERFACE) libluksrd.so
 
-.PHONY: all demo check scripts program-scripts audit-scripts c-scripts tool-scripts v3-scripts test bench library nbdkit tools toolchain built
+.PHONY: all demo check scripts program-scripts audit-scripts c-scripts tool-scripts v3-scripts v3-tool-scripts test bench library nbdkit tools toolchain built
 .PHONY: install install-program install-audit install-library install-shared install-plugin library-built runs-here uninstall deb
 
 all: $(PROGRAM) $(AUDIT)
@@ -144,7 +144,7 @@ demo: toolchain
 toolchain:
 	@command -v rt >/dev/null || { echo "rt is missing: put the Rattle toolchain on the path" >&2; exit 1; }
 
-check: $(PROGRAM_V2) $(PROGRAM_V3) $(AUDIT) $(TOOLS) library nbdkit scripts v3-scripts
+check: $(PROGRAM_V2) $(PROGRAM_V3) $(AUDIT) $(TOOLS_V2) $(TOOLS_V3) library nbdkit scripts v3-scripts v3-tool-scripts
 	tests/impostors.sh $(PROGRAM_V2)
 
 # The programs, the library and the plugin are used as they are. Four scripts run side by side; the
@@ -156,10 +156,10 @@ C_SCRIPTS := test-package test-library test-processors interop-nbd interop-recip
 TOOL_SCRIPTS := interop-sealed interop-keys
 AUDIT_SCRIPTS := interop-audit
 ALL_SCRIPTS := $(PROGRAM_SCRIPTS) $(AUDIT_SCRIPTS) $(C_SCRIPTS) $(TOOL_SCRIPTS)
-# Those that are run once more with the program for x86-64-v3, in a minute of processor time. Four
-# more would take several: they try failing calls, scarce memory, detached headers and generated
-# ones; tests/processors.sh gives some of these to both programs. The rest runs no such code.
-V3_SCRIPTS := $(filter-out $(addprefix test-,names counts faults memory hostile install completions) interop-detached,$(PROGRAM_SCRIPTS))
+# Those that are run once more with the program for x86-64-v3, and with its tools: all but those that read only the
+# sources, and those that take both programs.
+V3_TOOL_SCRIPTS := $(TOOL_SCRIPTS)
+V3_SCRIPTS := $(filter-out $(addprefix test-,names counts package processors) $(V3_TOOL_SCRIPTS),$(ALL_SCRIPTS))
 
 .PHONY: $(ALL_SCRIPTS)
 
@@ -172,13 +172,15 @@ scripts program-scripts audit-scripts c-scripts tool-scripts:
 	tests/packages
 	+$(MAKE) -k -j 4 --output-sync=target --no-print-directory $(REQUESTED)
 
-# The loader knows whether this processor can run it; on an older one these scripts are skipped.
-v3-scripts:
+# The loader knows whether this processor can run them; on an older one these scripts are skipped.
+v3-scripts: REQUESTED = $(V3_SCRIPTS)
+v3-tool-scripts: REQUESTED = $(V3_TOOL_SCRIPTS)
+v3-scripts v3-tool-scripts:
 	tests/packages
 	@if /lib64/ld-linux-x86-64.so.2 --help | grep '^  x86-64-v3 (supported' >/dev/null; then \
-	    $(MAKE) -k -j 4 --output-sync=target --no-print-directory PROGRAM="$(PROGRAM_V3)" $(V3_SCRIPTS); \
+	    $(MAKE) -k -j 4 --output-sync=target --no-print-directory PROGRAM="$(PROGRAM_V3)" TOOLS="$(TOOLS_V3)" $(REQUESTED); \
 	else \
-	    echo 'SKIPPED the scripts with luksrd for x86-64-v3: this processor is older'; \
+	    echo 'SKIPPED $@: this processor is older'; \
 	fi
 
 test-names test-counts: test-%:

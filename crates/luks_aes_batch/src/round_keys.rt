@@ -6,7 +6,7 @@ ghost use Rattle.luks_aes.specs.Field.{◌⊕◌};
 ghost use Rattle.luks_aes.specs.Aes.{cell, state_of, rounds_of, key_expansion};
 ghost use Rattle.luks_aes.specs.Bytes.{IsBytes};
 ghost use Rattle.luks_bitslice.specs.BitPlanes.{IsBitPlane};
-ghost use Rattle.luks_aes_batch.specs.Words.{AreRowsOf, GroupHolds};
+ghost use Rattle.luks_aes_batch.specs.Words.{AreRowsOf, GroupsHold};
 ghost use Rattle.luks_aes_batch.specs.RoundKeys.{HasRoundKey, HasInvMixedKey};
 ghost use Rattle.luks_aes_batch.specs.RoundKeys.{HasInvMixedKeys, IsBatchKey};
 
@@ -20,8 +20,8 @@ const MAX_INNER_KEYS: usize = 13;
 // The circuit of the inverse S-box expects bytes with this constant XORed into them.
 const CONSTANT: u8 = 0x63;
 
-/// A round key, bitsliced for one group, and the same for each.
-type RoundKey = BitslicedState<4>;
+/// A round key, bitsliced for two groups, and the same for each.
+type RoundKey = BitslicedState<8>;
 
 /// The round keys: the first, those between, with round key n at index n - 1, and the last. All but
 /// the last have 0x63 XORed into each byte.
@@ -54,23 +54,24 @@ fn row_word(block: [u8; 16], r: usize, j: u8) -> u64
     high * 0x1_0000_0000 + low
 }
 
-// Bit plane `j` of 16 equal blocks.
-fn equal_plane(block: [u8; 16], j: u8) -> BitPlane<4>
+// Bit plane `j` of 32 equal blocks.
+fn equal_plane(block: [u8; 16], j: u8) -> BitPlane<8>
     requires { j < 8 }
-    ensures { AreRowsOf (λ r q. cell block r (q / 16)) j 4 result.words 0 }
+    ensures first { AreRowsOf (λ r q. cell block r (q / 16)) j 8 result.words 0 }
+    ensures second { AreRowsOf (λ r q. cell block r (q / 16)) j 8 result.words 1 }
 {
     let row_0 = row_word(block, 0, j);
     let row_1 = row_word(block, 1, j);
     let row_2 = row_word(block, 2, j);
     let row_3 = row_word(block, 3, j);
     BitPlane {
-        words: [row_0, row_1, row_2, row_3],
+        words: [row_0, row_0, row_1, row_1, row_2, row_2, row_3, row_3],
     }
 }
 
-// The bitsliced states of 16 equal blocks.
+// The bitsliced states of 32 equal blocks.
 fn equal_blocks(block: [u8; 16]) -> RoundKey
-    ensures { GroupHolds (λ r q. cell block r (q / 16)) 0 result }
+    ensures { GroupsHold (λ g r q. cell block r (q / 16)) result }
 {
     BitslicedState {
         plane_0: equal_plane(block, 0),
@@ -142,7 +143,7 @@ impl RoundKeys {
 
     /// Round key `n` + 1.
     #[inline(always)]
-    pub fn between(&self, n: usize) -> &BitslicedState<4>
+    pub fn between(&self, n: usize) -> &BitslicedState<8>
         requires { n < MAX_INNER_KEYS }
         ensures { (w : List ℕ) (end : ℕ) → HasInvMixedKeys w self.now.between end → n + 1 < end
             → HasInvMixedKey w (n + 1) 0x63 result.now }

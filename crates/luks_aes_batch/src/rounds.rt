@@ -13,7 +13,7 @@ use crate::state::BitslicedState;
 impl<const WORDS: usize> BitslicedState<WORDS> {
     /// AddRoundKey before the first round, and InvShiftRows of the first round.
     #[inline(always)]
-    pub fn start_rounds(&mut self, key: &BitslicedState<4>)
+    pub fn start_rounds(&mut self, key: &BitslicedState<8>)
         requires whole { WORDS % 4 ≡ 0 }
         ensures { (s : ℕ → List ℕ) (w : List ℕ) (n : ℕ) → ((m : ℕ) → IsBytes (s m)) → IsBytes w
             → RepresentStates s 0 self.old → HasRoundKey w n 0x63 key.now
@@ -25,7 +25,7 @@ impl<const WORDS: usize> BitslicedState<WORDS> {
 
     /// One of the equal rounds.
     #[inline(always)]
-    pub fn inv_round(&mut self, key: &BitslicedState<4>)
+    pub fn inv_round(&mut self, key: &BitslicedState<8>)
         requires whole { WORDS % 4 ≡ 0 }
         ensures { (t : ℕ → List ℕ) (w : List ℕ) (n : ℕ) → ((m : ℕ) → IsBytes (t m)) → IsBytes w
             → RepresentRotated t self.old → HasInvMixedKey w n 0x63 key.now
@@ -39,7 +39,7 @@ impl<const WORDS: usize> BitslicedState<WORDS> {
 
     /// The last round, without InvMixColumns.
     #[inline(always)]
-    pub fn end_rounds(&mut self, key: &BitslicedState<4>)
+    pub fn end_rounds(&mut self, key: &BitslicedState<8>)
         requires whole { WORDS % 4 ≡ 0 }
         ensures { (t : ℕ → List ℕ) (w : List ℕ) (n : ℕ) → ((m : ℕ) → IsBytes (t m)) → IsBytes w
             → RepresentRotated t self.old → HasRoundKey w n 0 key.now

@@ -9,7 +9,7 @@ returns-clause-plane g c = λ y z j is key.
     let at : c.args.g + 0 ≡ c.args.g = omega arith in
     let n = g.row.WORDS in
     let old = c.rows-rows.ensures in
-    let other = c.first_rows.ensures in
+    let other = c.rows.ensures in
     let new = c.put_rows.ensures in
     let low : 0 < 1 = omega arith in
     subst (λ (i : ℕ). AreRowsOf (λ r q. y r q ⊕ z r q) j n c.put_rows.new.self.words i) at
