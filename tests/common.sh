@@ -136,9 +136,10 @@ usage: luksrd isLuks [--header FILE] IMAGE
 TEXT
 )
 
-# scarce HEX ARGUMENT..: with less memory than a run with these arguments needs, it reports that and writes nothing; otherwise it writes these bytes
+# scarce HEX ARGUMENT..: with less memory than a run with these arguments needs, it reports that and writes nothing; otherwise it writes these
+# bytes. This is one check: how many runs it takes depends on the program's size.
 scarce() {
-    local output=$1 starved=0 kib
+    local output=$1 starved=0 before=$passed failures=$failed kib
     shift
     for kib in $(seq 2000 20 20000); do
         (ulimit -v "$kib"; exec "$program" "$@") >out 2>err
@@ -156,6 +157,7 @@ scarce() {
         esac
     done
     [ "$starved" -gt 0 ] || { failed=$((failed + 1)); echo "FAILED: no run of $1 was out of memory"; }
+    passed=$((before + (failed == failures)))
 }
 
 # finish: the counts, and whether all was as expected; a script of which no check was made fails

@@ -68,13 +68,15 @@ def commands(name, header_len, held, text):
     yield ["luksCat", *KEY, "--header", name, name], held, (0, read(text), b"")
 
 def grow(arguments, first, last, held, wanted):
-    """Runs a command in growing space."""
-    starved, succeeded = 0, False
+    """Runs a command in growing space. That is one check: how many runs it takes depends on the program's size."""
+    starved, succeeded, wrong = 0, False, []
     for space in range(first, last + 1, max(PAGE, (last - first) // STEPS // PAGE * PAGE)):
         ended = run(arguments, space)
         succeeded = succeeded or ended == wanted
         starved += ended == OUT_OF_MEMORY
-        check(ended == wanted or ended == OUT_OF_MEMORY and not succeeded, arguments, "in", space, "bytes:", ended[0], ended[1][:40], ended[2][:80])
+        if ended != wanted and (ended != OUT_OF_MEMORY or succeeded):
+            wrong.append((space, ended[0], ended[1][:40], ended[2][:80]))
+    check(not wrong, arguments, "in spaces of these bytes:", wrong[:3])
     check(starved > 0 or held < SLACK, arguments, "was never out of memory")
     ended = run(arguments, last)
     check(ended == wanted, arguments, "holds more than", held, "bytes and", SLACK, "for the rest:", ended[0], ended[2][:80])

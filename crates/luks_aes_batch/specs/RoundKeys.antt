@@ -1,4 +1,5 @@
--- The round keys of the equivalent inverse cipher (FIPS 197, 5.3.5), bitsliced for two groups of blocks, the same for both.
+-- The round keys of the equivalent inverse cipher (FIPS 197, 5.3.5), bitsliced for two groups of blocks,
+-- the same for both.
 use Rattle.std.specs.Prelude.{◌≡◌, ℕ, ◌+◌, ◌/◌, ◌<◌, List, slice_get, Some}
 use Rattle.luks_aes.specs.Field.{◌⊕◌}
 use Rattle.luks_aes.specs.Aes.{key_expansion, rounds_of}
