@@ -151,7 +151,7 @@ check: $(PROGRAM_V2) $(PROGRAM_V3) $(AUDIT) $(TOOLS_V2) $(TOOLS_V3) library nbdk
 # output of each comes when it has ended. Some need the tools, or what is built from C.
 TESTS := stripes volumes devices pipes faults interruptions install memory hostile completions
 INTEROP := headers headers2 volumes volumes2 detached filesystems
-PROGRAM_SCRIPTS := test-names test-counts $(TESTS:%=test-%) $(INTEROP:%=interop-%)
+PROGRAM_SCRIPTS := test-names test-counts test-headline $(TESTS:%=test-%) $(INTEROP:%=interop-%)
 C_SCRIPTS := test-package test-library test-processors interop-nbd interop-recipes
 TOOL_SCRIPTS := interop-sealed interop-keys
 AUDIT_SCRIPTS := interop-audit
@@ -159,7 +159,7 @@ ALL_SCRIPTS := $(PROGRAM_SCRIPTS) $(AUDIT_SCRIPTS) $(C_SCRIPTS) $(TOOL_SCRIPTS)
 # Those that are run once more with the program for x86-64-v3, and with its tools: all but those that read only the
 # sources, and those that take both programs.
 V3_TOOL_SCRIPTS := $(TOOL_SCRIPTS)
-V3_SCRIPTS := $(filter-out $(addprefix test-,names counts package processors) $(V3_TOOL_SCRIPTS),$(ALL_SCRIPTS))
+V3_SCRIPTS := $(filter-out $(addprefix test-,names counts headline package processors) $(V3_TOOL_SCRIPTS),$(ALL_SCRIPTS))
 
 .PHONY: $(ALL_SCRIPTS)
 
@@ -185,6 +185,9 @@ v3-scripts v3-tool-scripts:
 
 test-names test-counts: test-%:
 	tests/$*
+
+test-headline:
+	docs/headline --check
 
 $(TESTS:%=test-%): test-%:
 	tests/$*.sh $(PROGRAM)
