@@ -63,13 +63,16 @@ impl BatchKey {
     }
 
     /// The key with these 16, 24 or 32 bytes.
+    #[inline(never)]
     pub fn expanded(key: &[u8]) -> BatchKey
         requires { is_aes_key_length (length key.now) ≡ true }
         ensures { result ≡ key.now }
     {
         let key = AesKey::expanded(key);
-        let round_keys = RoundKeys::new(&key);
-        BatchKey { key, round_keys }
+        BatchKey {
+            round_keys: RoundKeys::new(&key),
+            key,
+        }
     }
 
     /// The key for single blocks.

@@ -125,7 +125,9 @@ fn fill(key: &AesKey, round_keys: &mut [RoundKey; MAX_INNER_KEYS])
 }
 
 impl RoundKeys {
-    /// The round keys of the key.
+    /// The round keys of the key. (Functions that make keys are not inlined into one another: all
+    /// copies of a key would be on the stack at once.)
+    #[inline(never)]
     pub fn new(key: &AesKey) -> RoundKeys
         ensures { IsBatchKey key.now result.first result.between result.last }
     {
