@@ -5,7 +5,7 @@ use Rattle.std.specs.Prelude.{slice_index}
 use Rattle.std.specs.Int.{bit_at}
 use Rattle.luks_aes.proofs.Bytes.{each_below_4, each_below_8}
 use Rattle.luks_bitslice.specs.BitPlanes.{IsBitPlane, HoldBytes}
-use Rattle.luks_aes_batch.specs.Words.{words_at, AreRows, AreRowsOf, GroupHolds, GroupsHold, SameGroup}
+use Rattle.luks_aes_batch.specs.Words.{words_at, AreRows, AreRowsOf, GroupHolds, SameGroup}
 use Rattle.luks_aes_batch.specs.Mixing.{AreBytes}
 use Rattle.luks_aes_batch.specs.declared.state.BitslicedState.{BitslicedState}
 
@@ -82,20 +82,6 @@ from_planes {n} y g x all (p0, p1, p2, p3, p4, p5, p6, p7) = record {
 }
 
 -- ---- groups
-
-pub of_two_groups : (y : ℕ → ℕ → ℕ → ℕ) (x : BitslicedState 8) → GroupHolds (y 0) 0 x → GroupHolds (y 1) 1 x
-    → GroupsHold y x
-of_two_groups y x first second = record {
-  at = λ g low.
-      elim (cases_lt g 1) [
-        | inl below ↦
-            let e : 0 ≡ g = omega (arith, below) in
-            subst (λ (k : ℕ). GroupHolds (y k) k x) e first
-        | inr above ↦
-            let e : 1 ≡ g = omega (arith, above, low) in
-            subst (λ (k : ℕ). GroupHolds (y k) k x) e second
-      ];
-}
 
 pub group_same : {n : ℕ} {y : ℕ → ℕ → ℕ} {g : ℕ} {w x : BitslicedState n} → SameGroup g w x → GroupHolds y g x
     → GroupHolds y g w

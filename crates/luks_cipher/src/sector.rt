@@ -55,46 +55,46 @@ fn number_block(number: u64) -> [u8; 16]
     u128::from(number).to_le_bytes()
 }
 
-// The keys of each mode, by functions that are not inlined: their copies of keys would all be on
-// the stack at once.
+// The cipher of each mode, by functions that are not inlined, so that the stack has fewer copies of
+// keys at once.
 #[inline(never)]
-fn xts_plain64(key: &[u8]) -> Keys
+fn xts_plain64(key: &[u8]) -> SectorCipher
     requires { is_mode_key_length Mode.XtsPlain64 (length key.now) ≡ true }
-    ensures mode { keys_mode result ≡ Mode.XtsPlain64 }
-    ensures bytes { key_bytes_of result ≡ key.now }
-    ensures valid { IsSectorKey result }
+    ensures { result ≡ (Mode.XtsPlain64, key.now) }
 {
-    Keys::XtsPlain64(XtsKey::expanded(key))
+    SectorCipher {
+        keys: Keys::XtsPlain64(XtsKey::expanded(key)),
+    }
 }
 
 #[inline(never)]
-fn xts_plain(key: &[u8]) -> Keys
+fn xts_plain(key: &[u8]) -> SectorCipher
     requires { is_mode_key_length Mode.XtsPlain (length key.now) ≡ true }
-    ensures mode { keys_mode result ≡ Mode.XtsPlain }
-    ensures bytes { key_bytes_of result ≡ key.now }
-    ensures valid { IsSectorKey result }
+    ensures { result ≡ (Mode.XtsPlain, key.now) }
 {
-    Keys::XtsPlain(XtsKey::expanded(key))
+    SectorCipher {
+        keys: Keys::XtsPlain(XtsKey::expanded(key)),
+    }
 }
 
 #[inline(never)]
-fn cbc_essiv_sha256(key: &[u8]) -> Keys
+fn cbc_essiv_sha256(key: &[u8]) -> SectorCipher
     requires { is_mode_key_length Mode.CbcEssivSha256 (length key.now) ≡ true }
-    ensures mode { keys_mode result ≡ Mode.CbcEssivSha256 }
-    ensures bytes { key_bytes_of result ≡ key.now }
-    ensures valid { IsSectorKey result }
+    ensures { result ≡ (Mode.CbcEssivSha256, key.now) }
 {
-    Keys::CbcEssivSha256(BatchKey::expanded(key), iv_key(key))
+    SectorCipher {
+        keys: Keys::CbcEssivSha256(BatchKey::expanded(key), iv_key(key)),
+    }
 }
 
 #[inline(never)]
-fn cbc_plain64(key: &[u8]) -> Keys
+fn cbc_plain64(key: &[u8]) -> SectorCipher
     requires { is_mode_key_length Mode.CbcPlain64 (length key.now) ≡ true }
-    ensures mode { keys_mode result ≡ Mode.CbcPlain64 }
-    ensures bytes { key_bytes_of result ≡ key.now }
-    ensures valid { IsSectorKey result }
+    ensures { result ≡ (Mode.CbcPlain64, key.now) }
 {
-    Keys::CbcPlain64(BatchKey::expanded(key))
+    SectorCipher {
+        keys: Keys::CbcPlain64(BatchKey::expanded(key)),
+    }
 }
 
 impl SectorCipher {
@@ -116,13 +116,12 @@ impl SectorCipher {
         requires { is_mode_key_length mode (length key.now) ≡ true }
         ensures { result ≡ (mode, key.now) }
     {
-        let keys = match mode {
+        match mode {
             Mode::XtsPlain64 => xts_plain64(key),
             Mode::XtsPlain => xts_plain(key),
             Mode::CbcEssivSha256 => cbc_essiv_sha256(key),
             Mode::CbcPlain64 => cbc_plain64(key),
-        };
-        SectorCipher { keys }
+        }
     }
 
     /// Encrypts the sector of this unit number in place, in the cipher's mode: a data unit of XTS

@@ -17,4 +17,5 @@ returns-clause-plane g c = λ y z j is key.
     (c.keyed.ensures 0 y z j low
     (as_rows (old.row_0 0 low) (old.row_1 0 low) (old.row_2 0 low) (old.row_3 0 low)
     (subst (λ (i : ℕ). AreRowsOf y j n c.args.self.now.words i) (sym at) is))
-    (as_rows (other.row_0 0 low) (other.row_1 0 low) (other.row_2 0 low) (other.row_3 0 low) key)))
+    (as_rows (other.row_0 0 low) (other.row_1 0 low) (other.row_2 0 low) (other.row_3 0 low)
+    (subst (λ (i : ℕ). AreRowsOf z j 16 c.args.key.now.words i) (sym at) key))))

@@ -1,20 +1,16 @@
-use Rattle.std.proofs.Common.{◌≡◌, ◌+◌, ℕ, arith, sym, subst}
 use Rattle.luks_aes.specs.Field.{◌⊕◌}
 use Rattle.luks_aes.specs.Columns.{inv_mixed_row}
-use Rattle.luks_aes_batch.specs.Words.{AreRowsOf}
 use Rattle.luks_aes_batch.proofs.MixLemmas.{as_rows}
 use Rattle.luks_aes_batch.proofs.planes.BitPlane.inv_mix_columns.Goals as goal
 
 pub returns-clause-plane : goal.returns-clause-plane
 returns-clause-plane g c = λ l y z j low all is key doubled.
-    let at : 0 + l ≡ l = omega arith in
     let old = c.rows-rows.ensures in
     let other = c.rows.ensures in
     let new = c.put_rows.ensures in
     let mixed = c.inv_mixed-mixed.ensures.rows l y j low all
     (as_rows (old.row_0 l low) (old.row_1 l low) (old.row_2 l low) (old.row_3 l low) is) doubled in
     let keyed = c.keyed-keyed.ensures l (inv_mixed_row y) z j low mixed
-    (as_rows (other.row_0 l low) (other.row_1 l low) (other.row_2 l low) (other.row_3 l low)
-    (subst (λ (i : ℕ). AreRowsOf z j 8 c.args.key.now.words i) (sym at) key)) in
+    (as_rows (other.row_0 l low) (other.row_1 l low) (other.row_2 l low) (other.row_3 l low) key) in
     as_rows (new.row_0 l low) (new.row_1 l low) (new.row_2 l low) (new.row_3 l low)
     (c.inv_shifted.ensures l (λ r q. inv_mixed_row y r q ⊕ z r q) j low keyed)

@@ -1,4 +1,4 @@
-use Rattle.std.proofs.Common.{arith}
+use Rattle.std.proofs.Common.{◌+◌, arith}
 use Rattle.luks_bitslice.specs.BitPlanes.{rotated_index}
 use Rattle.luks_aes_batch.specs.Mixing.{mixed_and_shifted}
 use Rattle.luks_aes_batch.proofs.MixLemmas.{row_byte, moved_bits, doubled_from}
@@ -7,7 +7,7 @@ use Rattle.luks_aes_batch.proofs.state.BitslicedState.inv_mix_columns_of.Goals a
 
 pub returns-clause-here : goal.returns-clause-here
 returns-clause-here g c = λ l y z low holds key.
-    let same = key.at l (omega arith) in
+    let same = key.at (c.args.g + l) (omega arith) in
     let all = group_bytes y holds in
     let keys = group_bytes z same in
     let (p0, p1, p2, p3, p4, p5, p6, p7) = in_planes y _ _ holds in
