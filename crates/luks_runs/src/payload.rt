@@ -18,9 +18,7 @@ use luks_payload::state::{State, Step};
 use luks_report::message::Message;
 
 /// A pump for the payload of an image whose first bytes are loaded: those of them that are in the
-/// payload are forwarded first. (It is not inlined, so that the stack has fewer copies of the cipher
-/// at once.)
-#[inline(never)]
+/// payload are forwarded first.
 fn pump_after<'a>(segment: Segment, cipher: SectorCipher, loaded: &'a [u8]) -> Pump<'a>
     ensures segment { result.segment ≡ segment }
     ensures cipher { result.cipher ≡ cipher }
