@@ -161,19 +161,21 @@ rotated_same s t x same holds = subst (λ (f : ℕ → List ℕ). RepresentRotat
 
 -- ---- round keys
 
--- a block with k XORed into each of its bytes, the same for each block of the group
-pub block_represented : (block xored : List ℕ) (k : ℕ) (f : ℕ → ℕ → ℕ) (x : BitslicedState 4)
+-- a block with k XORed into each of its bytes, the same for each block
+pub block_represented : (block xored : List ℕ) (k : ℕ) (f : ℕ → ℕ → ℕ) (x : BitslicedState 16)
     → xored ≡ state_of (λ r c. cell block r c ⊕ k) → ((r c : ℕ) → r < 4 → c < 4 → cell block r c ≡ f r c)
     → ((r c : ℕ) → f r c ⊕ k < 256)
-    → GroupHolds (λ r q. cell xored r (q / 16)) 0 x → GroupHolds (λ r q. f r (q / 16) ⊕ k) 0 x
-block_represented block xored k f x is same bytes holds =
-    group_also (λ r q. f r (q / 16) ⊕ k) holds (λ r q low. bytes r (q / 16))
-    (λ r q low inside.
-    ap (λ s. cell s r (q / 16)) is
-    ∙ cell_of (λ r c. cell block r c ⊕ k) r (q / 16) low (omega arith)
-    ∙ ap (λ x. x ⊕ k) (same r (q / 16) low (omega arith)))
+    → GroupsHold (λ g r q. cell xored r (q / 16)) x → GroupsHold (λ g r q. f r (q / 16) ⊕ k) x
+block_represented block xored k f x is same bytes holds = record {
+  at = λ g group.
+      group_also (λ r q. f r (q / 16) ⊕ k) (holds.at g group) (λ r q low. bytes r (q / 16))
+      (λ r q low inside.
+      ap (λ s. cell s r (q / 16)) is
+      ∙ cell_of (λ r c. cell block r c ⊕ k) r (q / 16) low (omega arith)
+      ∙ ap (λ x. x ⊕ k) (same r (q / 16) low (omega arith)));
+}
 
-pub keys_more : (w : List ℕ) (all : List (BitslicedState 4)) (n : ℕ) (key : BitslicedState 4)
+pub keys_more : (w : List ℕ) (all : List (BitslicedState 16)) (n : ℕ) (key : BitslicedState 16)
     → HasInvMixedKeys w all (n + 1) → n < length all
     → HasInvMixedKey w (n + 1) 0x63 key → HasInvMixedKeys w (set all n key) (n + 1 + 1)
 keys_more w all n key before capacity here = record {
@@ -186,7 +188,7 @@ keys_more w all n key before capacity here = record {
         | inr above ↦
             let index : m ≡ n = omega arith in
             let is : key ≡ found = sym (get_or-set_at all n m key found index capacity) ∙ got in
-            subst (λ (x : BitslicedState 4). HasInvMixedKey w (m + 1) 0x63 x) is
+            subst (λ (x : BitslicedState 16). HasInvMixedKey w (m + 1) 0x63 x) is
             (subst (λ (x : ℕ). HasInvMixedKey w (x + 1) 0x63 key) (sym index) here)
       ];
 }

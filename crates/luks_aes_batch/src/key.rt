@@ -7,16 +7,20 @@ ghost use Rattle.luks_aes.specs.Bytes.{IsBytes};
 ghost use Rattle.luks_aes_batch.specs.Blocks.{block_in, xored_blocks, masked_block, RepresentStates};
 ghost use Rattle.luks_aes_batch.specs.RoundKeys.{IsBatchKey};
 
-use crate::round_keys::RoundKeys;
+use crate::round_keys::{CONSTANT, MAX_INNER_KEYS, RoundKey, fill, inner_key, plain_round_key};
 use crate::state::BitslicedState;
 use luks_aes::AesKey;
 use std::marker::Model;
 
-/// A key of AES-128, AES-192 or AES-256 (FIPS 197). Contracts see it as its bytes.
+/// A key of AES-128, AES-192 or AES-256 (FIPS 197), with its bitsliced round keys: the first, those
+/// between, with round key n at index n - 1, and the last. All but the last have 0x63 XORed into
+/// each byte. Contracts see it as its bytes.
 #[derive(Drop)]
 pub struct BatchKey {
     key: AesKey,
-    round_keys: RoundKeys,
+    first: RoundKey,
+    between: [RoundKey; MAX_INNER_KEYS],
+    last: RoundKey,
 }
 
 impl Model for BatchKey {
@@ -25,7 +29,7 @@ impl Model for BatchKey {
     ghost view = { λ k. k.key };
 
     ghost invariant = { λ k.
-        IsBatchKey k.key k.round_keys.first k.round_keys.between k.round_keys.last };
+        IsBatchKey k.key k.first k.between k.last };
 }
 
 // The inverse cipher on each state.
@@ -33,21 +37,24 @@ impl Model for BatchKey {
 fn decrypt_states<const WORDS: usize>(
     state: &mut BitslicedState<WORDS>,
     rounds: usize,
-    keys: &RoundKeys,
+    first: &RoundKey,
+    between: &[RoundKey; MAX_INNER_KEYS],
+    last: &RoundKey,
 )
     requires whole { WORDS % 4 ≡ 0 }
+    requires most { WORDS ≤ 16 }
     requires some_rounds { 1 ≤ rounds }
     requires few_rounds { rounds ≤ 14 }
     ensures { (key : List ℕ) (s : ℕ → List ℕ)
-        → IsBatchKey key keys.now.first keys.now.between keys.now.last
+        → IsBatchKey key first.now between.now last.now
         → rounds ≡ rounds_of key → IsBytes key → ((m : ℕ) → IsBytes (s m))
         → RepresentStates s 0 state.old → RepresentStates (λ m. decrypted key (s m)) 0 state.new }
 {
-    state.start_rounds(&keys.first);
+    state.start_rounds(first);
     for round in (1..rounds).rev() {
-        state.inv_round(keys.between(round - 1));
+        state.inv_round(inner_key(between, round - 1));
     }
-    state.end_rounds(&keys.last);
+    state.end_rounds(last);
 }
 
 impl BatchKey {
@@ -62,14 +69,25 @@ impl BatchKey {
         }
     }
 
-    /// The key with these 16, 24 or 32 bytes.
+    /// The key with these 16, 24 or 32 bytes. (It is inlined, so that the stack has one copy of the
+    /// round keys less at once.)
+    #[inline(always)]
     pub fn expanded(key: &[u8]) -> BatchKey
         requires { is_aes_key_length (length key.now) ≡ true }
         ensures { result ≡ key.now }
     {
         let key = AesKey::expanded(key);
-        let round_keys = RoundKeys::new(&key);
-        BatchKey { key, round_keys }
+        let rounds = key.rounds();
+        let first = plain_round_key(&key, rounds, CONSTANT);
+        let last = plain_round_key(&key, 0, 0);
+        let mut between = [last; MAX_INNER_KEYS];
+        fill(&key, &mut between);
+        BatchKey {
+            key,
+            first,
+            between,
+            last,
+        }
     }
 
     /// The key for single blocks.
@@ -84,6 +102,7 @@ impl BatchKey {
     #[inline(always)]
     fn decrypt<const WORDS: usize>(&self, batch: &mut [u8], before: &[u8], after: &[u8])
         requires whole { WORDS % 4 ≡ 0 }
+        requires most { WORDS ≤ 16 }
         requires batch { length batch.old ≡ 64 * WORDS }
         requires before { length before.now ≡ 64 * WORDS }
         requires after { length after.now ≡ 64 * WORDS }
@@ -95,7 +114,7 @@ impl BatchKey {
         let rounds = self.key.rounds();
         let mut state = BitslicedState::<WORDS>::zero();
         state.pack(batch, before);
-        decrypt_states(&mut state, rounds, &self.round_keys);
+        decrypt_states(&mut state, rounds, &self.first, &self.between, &self.last);
         state.unpack(after, batch);
     }
 

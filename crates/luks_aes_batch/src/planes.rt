@@ -80,41 +80,14 @@ impl<const WORDS: usize> BitPlane<WORDS> {
         rows.row_3.store(&mut self.words, groups * 3 + g);
     }
 
-    /// The rows of the first group, each word in each place.
-    #[inline(always)]
-    pub fn first_rows<L: Lane>(&self) -> Rows<L>
-        requires whole { WORDS % 4 ≡ 0 }
-        requires some { 4 ≤ WORDS }
-        ensures row_0 { (l : ℕ) → l < L.count
-            → L.word result.row_0 l ≡ slice_index self.now.words (WORDS / 4 * 0 + 0) }
-        ensures row_1 { (l : ℕ) → l < L.count
-            → L.word result.row_1 l ≡ slice_index self.now.words (WORDS / 4 * 1 + 0) }
-        ensures row_2 { (l : ℕ) → l < L.count
-            → L.word result.row_2 l ≡ slice_index self.now.words (WORDS / 4 * 2 + 0) }
-        ensures row_3 { (l : ℕ) → l < L.count
-            → L.word result.row_3 l ≡ slice_index self.now.words (WORDS / 4 * 3 + 0) }
-    {
-        self.is_whole();
-        let groups = WORDS / 4;
-        let row_0 = L::splat(self.words[0]);
-        let row_1 = L::splat(self.words[groups]);
-        let row_2 = L::splat(self.words[groups * 2]);
-        let row_3 = L::splat(self.words[groups * 3]);
-        Rows {
-            row_0,
-            row_1,
-            row_2,
-            row_3,
-        }
-    }
-
     /// AddRoundKey (FIPS 197, 5.1.4) on one group.
     #[inline(always)]
-    pub fn add_key(&mut self, key: &BitPlane<4>, g: usize)
+    pub fn add_key(&mut self, key: &BitPlane<16>, g: usize)
         requires whole { WORDS % 4 ≡ 0 }
+        requires most { WORDS ≤ 16 }
         requires inside { g < WORDS / 4 }
         ensures plane { (y z : ℕ → ℕ → ℕ) (j : ℕ) → AreRowsOf y j WORDS self.old.words g
-            → AreRowsOf z j 4 key.now.words 0
+            → AreRowsOf z j 16 key.now.words g
             → AreRowsOf (λ r q. y r q ⊕ z r q) j WORDS self.new.words g }
         ensures below { (r i : ℕ) → r < 4 → i < g
             → slice_index self.new.words (WORDS / 4 * r + i)
@@ -124,7 +97,7 @@ impl<const WORDS: usize> BitPlane<WORDS> {
             ≡ slice_index self.old.words (WORDS / 4 * r + i) }
     {
         let rows: Rows<u64> = self.rows(g);
-        self.put_rows(g, rows.keyed(key.first_rows()));
+        self.put_rows(g, rows.keyed(key.rows(g)));
     }
 
     /// InvShiftRows (5.3.1) on one group.
@@ -150,14 +123,15 @@ impl<const WORDS: usize> BitPlane<WORDS> {
     #[inline(always)]
     pub fn inv_mix_columns<L: Lane>(
         &mut self,
-        key: &BitPlane<4>,
+        key: &BitPlane<16>,
         g: usize,
         doubled: SharedValues<L>,
     ) -> SharedValues<L>
         requires whole { WORDS % 4 ≡ 0 }
         requires inside { g + L.count ≤ WORDS / 4 }
+        requires most { WORDS ≤ 16 }
         ensures plane { (l : ℕ) (y z : ℕ → ℕ → ℕ) (j : ℕ) → l < L.count → AreBytes y
-            → AreRowsOf y j WORDS self.old.words (g + l) → AreRowsOf z j 4 key.now.words 0
+            → AreRowsOf y j WORDS self.old.words (g + l) → AreRowsOf z j 16 key.now.words (g + l)
             → AreDoubled y j (L.word doubled.all l) (L.word doubled.even l) (L.word doubled.step l)
             → AreRowsOf (mixed_and_shifted y z) j WORDS self.new.words (g + l) }
         ensures shared { (l : ℕ) (y : ℕ → ℕ → ℕ) (j : ℕ) → l < L.count
@@ -173,7 +147,7 @@ impl<const WORDS: usize> BitPlane<WORDS> {
     {
         let rows: Rows<L> = self.rows(g);
         let mixed = rows.inv_mixed(doubled);
-        let keyed = mixed.rows.keyed(key.first_rows());
+        let keyed = mixed.rows.keyed(key.rows(g));
         self.put_rows(g, keyed.inv_shifted());
         mixed.shared
     }

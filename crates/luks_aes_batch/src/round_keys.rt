@@ -6,31 +6,22 @@ ghost use Rattle.luks_aes.specs.Field.{◌⊕◌};
 ghost use Rattle.luks_aes.specs.Aes.{cell, state_of, rounds_of, key_expansion};
 ghost use Rattle.luks_aes.specs.Bytes.{IsBytes};
 ghost use Rattle.luks_bitslice.specs.BitPlanes.{IsBitPlane};
-ghost use Rattle.luks_aes_batch.specs.Words.{AreRowsOf, GroupHolds};
+ghost use Rattle.luks_aes_batch.specs.Words.{AreRowsOf, GroupsHold};
 ghost use Rattle.luks_aes_batch.specs.RoundKeys.{HasRoundKey, HasInvMixedKey};
-ghost use Rattle.luks_aes_batch.specs.RoundKeys.{HasInvMixedKeys, IsBatchKey};
+ghost use Rattle.luks_aes_batch.specs.RoundKeys.{HasInvMixedKeys};
 
 use crate::planes::BitPlane;
 use crate::state::BitslicedState;
 use luks_aes::AesKey;
 
-// The maximum number of round keys between the first and the last.
-const MAX_INNER_KEYS: usize = 13;
+/// The maximum number of round keys between the first and the last.
+pub const MAX_INNER_KEYS: usize = 13;
 
-// The circuit of the inverse S-box expects bytes with this constant XORed into them.
-const CONSTANT: u8 = 0x63;
+/// The circuit of the inverse S-box expects bytes with this constant XORed into them.
+pub const CONSTANT: u8 = 0x63;
 
-/// A round key, bitsliced for one group, and the same for each.
-type RoundKey = BitslicedState<4>;
-
-/// The round keys: the first, those between, with round key n at index n - 1, and the last. All but
-/// the last have 0x63 XORed into each byte.
-#[derive(Drop)]
-pub struct RoundKeys {
-    pub first: RoundKey,
-    pub between: [RoundKey; MAX_INNER_KEYS],
-    pub last: RoundKey,
-}
+/// A round key, bitsliced for four groups, and the same for each.
+pub type RoundKey = BitslicedState<16>;
 
 // Bit `j` of the byte, 16 times.
 #[inline(always)]
@@ -54,23 +45,23 @@ fn row_word(block: [u8; 16], r: usize, j: u8) -> u64
     high * 0x1_0000_0000 + low
 }
 
-// Bit plane `j` of 16 equal blocks.
-fn equal_plane(block: [u8; 16], j: u8) -> BitPlane<4>
+// Bit plane `j` of 64 equal blocks.
+fn equal_plane(block: [u8; 16], j: u8) -> BitPlane<16>
     requires { j < 8 }
-    ensures { AreRowsOf (λ r q. cell block r (q / 16)) j 4 result.words 0 }
+    ensures { (g : ℕ) → g < 4 → AreRowsOf (λ r q. cell block r (q / 16)) j 16 result.words g }
 {
-    let row_0 = row_word(block, 0, j);
-    let row_1 = row_word(block, 1, j);
-    let row_2 = row_word(block, 2, j);
-    let row_3 = row_word(block, 3, j);
+    let a = row_word(block, 0, j);
+    let b = row_word(block, 1, j);
+    let c = row_word(block, 2, j);
+    let d = row_word(block, 3, j);
     BitPlane {
-        words: [row_0, row_1, row_2, row_3],
+        words: [a, a, a, a, b, b, b, b, c, c, c, c, d, d, d, d],
     }
 }
 
-// The bitsliced states of 16 equal blocks.
+// The bitsliced states of 64 equal blocks.
 fn equal_blocks(block: [u8; 16]) -> RoundKey
-    ensures { GroupHolds (λ r q. cell block r (q / 16)) 0 result }
+    ensures { GroupsHold (λ g r q. cell block r (q / 16)) result }
 {
     BitslicedState {
         plane_0: equal_plane(block, 0),
@@ -95,8 +86,8 @@ fn block_xor_number(block: [u8; 16], number: u8) -> [u8; 16]
     xored
 }
 
-// Round key `n`, with a number XORed into each byte.
-fn plain_round_key(key: &AesKey, n: usize, number: u8) -> RoundKey
+/// Round key `n`, with a number XORed into each byte.
+pub fn plain_round_key(key: &AesKey, n: usize, number: u8) -> RoundKey
     requires bytes { IsBytes key.now }
     requires some { n ≤ rounds_of key.now }
     ensures { HasRoundKey (key_expansion key.now) n number result }
@@ -113,8 +104,9 @@ fn inv_mixed_round_key(key: &AesKey, n: usize) -> RoundKey
     equal_blocks(block_xor_number(key.inv_mixed_round_key(n), CONSTANT))
 }
 
-// Fills in the round keys between the first and the last.
-fn fill(key: &AesKey, round_keys: &mut [RoundKey; MAX_INNER_KEYS])
+/// Fills in the round keys between the first and the last, round key n at index n - 1. Each has
+/// 0x63 XORed into each byte.
+pub fn fill(key: &AesKey, round_keys: &mut [RoundKey; MAX_INNER_KEYS])
     ensures { HasInvMixedKeys (key_expansion key.now) round_keys.new (rounds_of key.now) }
 {
     let rounds = key.rounds();
@@ -123,33 +115,15 @@ fn fill(key: &AesKey, round_keys: &mut [RoundKey; MAX_INNER_KEYS])
     }
 }
 
-impl RoundKeys {
-    /// The round keys of the key.
-    pub fn new(key: &AesKey) -> RoundKeys
-        ensures { IsBatchKey key.now result.first result.between result.last }
-    {
-        let rounds = key.rounds();
-        let first = plain_round_key(key, rounds, CONSTANT);
-        let last = plain_round_key(key, 0, 0);
-        let mut between = [last; MAX_INNER_KEYS];
-        fill(key, &mut between);
-        RoundKeys {
-            first,
-            between,
-            last,
-        }
-    }
-
-    /// Round key `n` + 1.
-    #[inline(always)]
-    pub fn between(&self, n: usize) -> &BitslicedState<4>
-        requires { n < MAX_INNER_KEYS }
-        ensures { (w : List ℕ) (end : ℕ) → HasInvMixedKeys w self.now.between end → n + 1 < end
-            → HasInvMixedKey w (n + 1) 0x63 result.now }
-    {
-        match self.between.get(n) {
-            Some(key) => key,
-            None => unreachable!(),
-        }
+/// Round key `n` + 1, one of those between the first and the last.
+#[inline(always)]
+pub fn inner_key(keys: &[RoundKey; MAX_INNER_KEYS], n: usize) -> &RoundKey
+    requires { n < MAX_INNER_KEYS }
+    ensures { (w : List ℕ) (end : ℕ) → HasInvMixedKeys w keys.now end → n + 1 < end
+        → HasInvMixedKey w (n + 1) 0x63 result.now }
+{
+    match keys.get(n) {
+        Some(key) => key,
+        None => unreachable!(),
     }
 }

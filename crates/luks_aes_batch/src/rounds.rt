@@ -8,13 +8,15 @@ ghost use Rattle.luks_aes.specs.Bytes.{IsBytes};
 ghost use Rattle.luks_aes_batch.specs.Blocks.{RepresentStates, RepresentRotated};
 ghost use Rattle.luks_aes_batch.specs.RoundKeys.{HasRoundKey, HasInvMixedKey};
 
+use crate::round_keys::RoundKey;
 use crate::state::BitslicedState;
 
 impl<const WORDS: usize> BitslicedState<WORDS> {
     /// AddRoundKey before the first round, and InvShiftRows of the first round.
     #[inline(always)]
-    pub fn start_rounds(&mut self, key: &BitslicedState<4>)
+    pub fn start_rounds(&mut self, key: &RoundKey)
         requires whole { WORDS % 4 ≡ 0 }
+        requires most { WORDS ≤ 16 }
         ensures { (s : ℕ → List ℕ) (w : List ℕ) (n : ℕ) → ((m : ℕ) → IsBytes (s m)) → IsBytes w
             → RepresentStates s 0 self.old → HasRoundKey w n 0x63 key.now
             → RepresentRotated (λ m. add_round_key (s m) w n) self.new }
@@ -25,8 +27,9 @@ impl<const WORDS: usize> BitslicedState<WORDS> {
 
     /// One of the equal rounds.
     #[inline(always)]
-    pub fn inv_round(&mut self, key: &BitslicedState<4>)
+    pub fn inv_round(&mut self, key: &RoundKey)
         requires whole { WORDS % 4 ≡ 0 }
+        requires most { WORDS ≤ 16 }
         ensures { (t : ℕ → List ℕ) (w : List ℕ) (n : ℕ) → ((m : ℕ) → IsBytes (t m)) → IsBytes w
             → RepresentRotated t self.old → HasInvMixedKey w n 0x63 key.now
             → RepresentRotated
@@ -39,8 +42,9 @@ impl<const WORDS: usize> BitslicedState<WORDS> {
 
     /// The last round, without InvMixColumns.
     #[inline(always)]
-    pub fn end_rounds(&mut self, key: &BitslicedState<4>)
+    pub fn end_rounds(&mut self, key: &RoundKey)
         requires whole { WORDS % 4 ≡ 0 }
+        requires most { WORDS ≤ 16 }
         ensures { (t : ℕ → List ℕ) (w : List ℕ) (n : ℕ) → ((m : ℕ) → IsBytes (t m)) → IsBytes w
             → RepresentRotated t self.old → HasRoundKey w n 0 key.now
             → RepresentStates (λ m. add_round_key (inv_sub_bytes (inv_shift_rows (t m))) w n) 0

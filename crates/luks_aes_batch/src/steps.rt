@@ -7,6 +7,7 @@ ghost use Rattle.luks_aes_batch.specs.Words.{GroupHolds, GroupsHold, SameGroup};
 ghost use Rattle.luks_aes_batch.specs.Mixing.{AreShared, mixed_and_shifted};
 
 use crate::mixing::SharedValues;
+use crate::round_keys::RoundKey;
 use crate::state::BitslicedState;
 use luks_bitslice::Lane;
 use std::simd::prelude::*;
@@ -14,10 +15,11 @@ use std::simd::prelude::*;
 impl<const WORDS: usize> BitslicedState<WORDS> {
     // AddRoundKey on one group.
     #[inline(always)]
-    fn add_key_to(&mut self, key: &BitslicedState<4>, g: usize)
+    fn add_key_to(&mut self, key: &RoundKey, g: usize)
         requires whole { WORDS % 4 ≡ 0 }
+        requires most { WORDS ≤ 16 }
         requires inside { g < WORDS / 4 }
-        ensures here { (y z : ℕ → ℕ → ℕ) → GroupHolds y g self.old → GroupHolds z 0 key.now
+        ensures here { (y z : ℕ → ℕ → ℕ) → GroupHolds y g self.old → GroupsHold (λ g. z) key.now
             → GroupHolds (λ r q. y r q ⊕ z r q) g self.new }
         ensures below { (i : ℕ) → i < g → SameGroup i self.new self.old }
         ensures above { (i : ℕ) → g + 1 ≤ i → i < WORDS / 4 → SameGroup i self.new self.old }
@@ -34,10 +36,11 @@ impl<const WORDS: usize> BitslicedState<WORDS> {
 
     /// AddRoundKey (5.1.4).
     #[inline(always)]
-    pub fn add_key(&mut self, key: &BitslicedState<4>)
+    pub fn add_key(&mut self, key: &RoundKey)
         requires whole { WORDS % 4 ≡ 0 }
+        requires most { WORDS ≤ 16 }
         ensures { (y : ℕ → ℕ → ℕ → ℕ) (z : ℕ → ℕ → ℕ) → GroupsHold y self.old
-            → GroupHolds z 0 key.now → GroupsHold (λ g r q. y g r q ⊕ z r q) self.new }
+            → GroupsHold (λ g. z) key.now → GroupsHold (λ g r q. y g r q ⊕ z r q) self.new }
     {
         for g in 0..WORDS / 4 {
             self.add_key_to(key, g);
@@ -92,11 +95,12 @@ impl<const WORDS: usize> BitslicedState<WORDS> {
 
     // InvMixColumns, AddRoundKey and InvShiftRows from group `g` on.
     #[inline(always)]
-    fn inv_mix_columns_of<L: Lane>(&mut self, key: &BitslicedState<4>, g: usize)
+    fn inv_mix_columns_of<L: Lane>(&mut self, key: &RoundKey, g: usize)
         requires whole { WORDS % 4 ≡ 0 }
+        requires most { WORDS ≤ 16 }
         requires inside { g + L.count ≤ WORDS / 4 }
         ensures here { (l : ℕ) (y z : ℕ → ℕ → ℕ) → l < L.count → GroupHolds y (g + l) self.old
-            → GroupHolds z 0 key.now
+            → GroupsHold (λ g. z) key.now
             → GroupHolds (mixed_and_shifted y z) (g + l) self.new }
         ensures below { (i : ℕ) → i < g → SameGroup i self.new self.old }
         ensures above { (i : ℕ) → g + L.count ≤ i → i < WORDS / 4
@@ -120,10 +124,11 @@ impl<const WORDS: usize> BitslicedState<WORDS> {
     /// InvShiftRows. (Vectors of two words are faster for 32 blocks. For 64 the compiler makes
     /// vectors of the words, as wide as the processor has them.)
     #[inline(always)]
-    pub fn inv_mix_columns(&mut self, key: &BitslicedState<4>)
+    pub fn inv_mix_columns(&mut self, key: &RoundKey)
         requires whole { WORDS % 4 ≡ 0 }
+        requires most { WORDS ≤ 16 }
         ensures { (y : ℕ → ℕ → ℕ → ℕ) (z : ℕ → ℕ → ℕ) → GroupsHold y self.old
-            → GroupHolds z 0 key.now → GroupsHold (λ g. mixed_and_shifted (y g) z) self.new }
+            → GroupsHold (λ g. z) key.now → GroupsHold (λ g. mixed_and_shifted (y g) z) self.new }
     {
         if WORDS == 8 {
             self.inv_mix_columns_of::<u64x2>(key, 0);

@@ -26,10 +26,6 @@ pub trait Lane: Copy + Drop {
         requires { at + count ≤ length words.now }
         ensures { (l : ℕ) → l < count → word result l ≡ slice_index words.now (at + l) };
 
-    /// The same word, in each place.
-    fn splat(bits: u64) -> Self
-        ensures { (l : ℕ) → l < count → word result l ≡ bits };
-
     /// Writes the words, from position `at` on.
     fn store(self, words: &mut [u64], at: usize)
         requires { at + count ≤ length words.old }
@@ -60,11 +56,6 @@ impl Lane for u64 {
     }
 
     #[inline(always)]
-    fn splat(bits: u64) -> Self {
-        bits
-    }
-
-    #[inline(always)]
     fn store(self, words: &mut [u64], at: usize) {
         words[at] = self;
     }
@@ -92,11 +83,6 @@ impl Lane for u64x2 {
     #[inline(always)]
     fn load(words: &[u64], at: usize) -> Self {
         u64x2::from_slice(&words[at..])
-    }
-
-    #[inline(always)]
-    fn splat(bits: u64) -> Self {
-        u64x2::from_array([bits, bits])
     }
 
     #[inline(always)]

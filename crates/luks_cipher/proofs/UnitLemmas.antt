@@ -408,7 +408,8 @@ doubled_lanes tweak long bytes low high a b c d carried is_low is_high is_a is_b
     let parts : low + 2 ^ 64 * high ≡ n = omega arith in
     let lower : low ≡ a + 2 ^ 32 * b = omega (arith, is_low, is_a, is_b) in
     let upper : high ≡ c + 2 ^ 32 * d = omega (arith, is_high, is_c, is_d, fits) in
-    let both = carries_of_halves a b c d (omega (arith, is_a)) (omega (arith, is_b)) (omega (arith, is_c)) (omega (arith, is_d)) in
+    let both = carries_of_halves a b c d (omega (arith, is_a)) (omega (arith, is_b)) (omega (arith, is_c))
+    (omega (arith, is_d)) in
     let sum : number_l (2 ^ 32) (carries a b c d) ≡ high / 2 ^ 63 * 0x87 + 2 ^ 64 * (low / 2 ^ 63) =
     rw (lower, upper) both in
     let whole : carried ≡ high / 2 ^ 63 * 0x87 + 2 ^ 64 * (low / 2 ^ 63) =

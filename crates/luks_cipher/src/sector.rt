@@ -55,6 +55,48 @@ fn number_block(number: u64) -> [u8; 16]
     u128::from(number).to_le_bytes()
 }
 
+// The cipher of each mode, by functions that are not inlined, so that the stack has the copies of
+// one mode's keys alone.
+#[inline(never)]
+fn xts_plain64(key: &[u8]) -> SectorCipher
+    requires { is_mode_key_length Mode.XtsPlain64 (length key.now) ≡ true }
+    ensures { result ≡ (Mode.XtsPlain64, key.now) }
+{
+    SectorCipher {
+        keys: Keys::XtsPlain64(XtsKey::expanded(key)),
+    }
+}
+
+#[inline(never)]
+fn xts_plain(key: &[u8]) -> SectorCipher
+    requires { is_mode_key_length Mode.XtsPlain (length key.now) ≡ true }
+    ensures { result ≡ (Mode.XtsPlain, key.now) }
+{
+    SectorCipher {
+        keys: Keys::XtsPlain(XtsKey::expanded(key)),
+    }
+}
+
+#[inline(never)]
+fn cbc_essiv_sha256(key: &[u8]) -> SectorCipher
+    requires { is_mode_key_length Mode.CbcEssivSha256 (length key.now) ≡ true }
+    ensures { result ≡ (Mode.CbcEssivSha256, key.now) }
+{
+    SectorCipher {
+        keys: Keys::CbcEssivSha256(BatchKey::expanded(key), iv_key(key)),
+    }
+}
+
+#[inline(never)]
+fn cbc_plain64(key: &[u8]) -> SectorCipher
+    requires { is_mode_key_length Mode.CbcPlain64 (length key.now) ≡ true }
+    ensures { result ≡ (Mode.CbcPlain64, key.now) }
+{
+    SectorCipher {
+        keys: Keys::CbcPlain64(BatchKey::expanded(key)),
+    }
+}
+
 impl SectorCipher {
     /// The cipher of this mode and key: 32 or 64 bytes for XTS, 16 or 32 for CBC; `None` for any
     /// other length.
@@ -74,13 +116,12 @@ impl SectorCipher {
         requires { is_mode_key_length mode (length key.now) ≡ true }
         ensures { result ≡ (mode, key.now) }
     {
-        let keys = match mode {
-            Mode::XtsPlain64 => Keys::XtsPlain64(XtsKey::expanded(key)),
-            Mode::XtsPlain => Keys::XtsPlain(XtsKey::expanded(key)),
-            Mode::CbcEssivSha256 => Keys::CbcEssivSha256(BatchKey::expanded(key), iv_key(key)),
-            Mode::CbcPlain64 => Keys::CbcPlain64(BatchKey::expanded(key)),
-        };
-        SectorCipher { keys }
+        match mode {
+            Mode::XtsPlain64 => xts_plain64(key),
+            Mode::XtsPlain => xts_plain(key),
+            Mode::CbcEssivSha256 => cbc_essiv_sha256(key),
+            Mode::CbcPlain64 => cbc_plain64(key),
+        }
     }
 
     /// Encrypts the sector of this unit number in place, in the cipher's mode: a data unit of XTS

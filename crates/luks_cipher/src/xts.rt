@@ -77,7 +77,8 @@ impl XtsKey {
         }
     }
 
-    /// The key with these 32 or 64 bytes.
+    /// The key with these 32 or 64 bytes. (It is inlined for the same reason as that of a batch key.)
+    #[inline(always)]
     pub fn expanded(key: &[u8]) -> XtsKey
         requires { is_xts_key_length (length key.now) ≡ true }
         ensures { result ≡ key.now }

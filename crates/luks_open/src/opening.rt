@@ -52,10 +52,9 @@ fn candidate(slot: &Slot, image: &[u8], pass: &[u8], work: &mut Work) -> Option<
         slot.parts.area_key_bytes as usize,
         work,
     );
-    let cipher = SectorCipher::expanded(mode, area_key.as_slice());
     Some(Key::recovered(
         af,
-        &cipher,
+        &SectorCipher::expanded(mode, area_key.as_slice()),
         image,
         slot.parts.area_offset as usize,
         slot.parts.key_bytes as usize,

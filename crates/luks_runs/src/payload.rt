@@ -18,7 +18,9 @@ use luks_payload::state::{State, Step};
 use luks_report::message::Message;
 
 /// A pump for the payload of an image whose first bytes are loaded: those of them that are in the
-/// payload are forwarded first.
+/// payload are forwarded first. (It is not inlined, so that the stack has one copy of the cipher
+/// less at once.)
+#[inline(never)]
 fn pump_after<'a>(segment: Segment, cipher: SectorCipher, loaded: &'a [u8]) -> Pump<'a>
     ensures segment { result.segment ≡ segment }
     ensures cipher { result.cipher ≡ cipher }

@@ -31,14 +31,14 @@ loop-round-preserved g c =
           let w = key_expansion key in
           let words = expansion_bytes key bytes in
           let index : round - 1 - 1 + 1 ≡ round - 1 = omega arith in
-          let between = c.between.ensures w (rounds_of key) is.between_keys (omega (arith, rounds)) in
+          let between = c.inner_key.ensures w (rounds_of key) is.between_keys (omega (arith, rounds)) in
           rotated_same _ _ _
           (λ m. inv_round_after (s m) w _ nr (nr - round) (nr - (round - 1)) (round - 1) refl (omega arith)
           (omega arith))
           (c.inv_round.ensures _ w (round - 1)
           (λ m. (inv_after_state (s m) w nr (nr - round) (all m) words).bytes) words
           (l.invariant.hold key s is rounds bytes all hold)
-          (subst (λ (n : ℕ). HasInvMixedKey w n 0x63 c.between.result.now) index between));
+          (subst (λ (n : ℕ). HasInvMixedKey w n 0x63 c.inner_key.result.now) index between));
     }
 
 pub returns : goal.returns

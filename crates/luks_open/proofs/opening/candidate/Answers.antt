@@ -6,8 +6,8 @@ use Rattle.luks_kdf.proofs.Pbkdf2Lemmas.{length-derived_key}
 use Rattle.luks_open.proofs.opening.candidate.Goals as goal
 
 -- the key of the key material has a length that its mode allows
-pub expanded-cipher-requires : goal.expanded-cipher-requires
-expanded-cipher-requires c =
+pub expanded-requires : goal.expanded-requires
+expanded-requires c =
     let len : length c.as_slice-2.result.now ≡ c.args.slot.now.parts.area_key_bytes =
     ap length (c.as_slice-2.ensures ∙ c.derived-area_key.ensures.key) ∙ length-derived_key _ _ _ _ _ in
     let same : c.requires.area.0 ≡ c.in_ok-mode.mode =

@@ -6,7 +6,7 @@ use Rattle.luks_aes_batch.proofs.planes.BitPlane.inv_mix_columns.Goals as goal
 pub returns-clause-plane : goal.returns-clause-plane
 returns-clause-plane g c = λ l y z j low all is key doubled.
     let old = c.rows-rows.ensures in
-    let other = c.first_rows.ensures in
+    let other = c.rows.ensures in
     let new = c.put_rows.ensures in
     let mixed = c.inv_mixed-mixed.ensures.rows l y j low all
     (as_rows (old.row_0 l low) (old.row_1 l low) (old.row_2 l low) (old.row_3 l low) is) doubled in

@@ -1,3 +1,4 @@
+use Rattle.std.proofs.Common.{arith}
 use Rattle.luks_aes.specs.Field.{◌⊕◌}
 use Rattle.luks_aes.proofs.ColumnLemmas.{xor_byte}
 use Rattle.luks_aes_batch.proofs.WordLemmas.{group_bytes, in_planes, from_planes}
@@ -5,11 +6,12 @@ use Rattle.luks_aes_batch.proofs.state.BitslicedState.add_key_to.Goals as goal
 
 pub returns-clause-here : goal.returns-clause-here
 returns-clause-here g c = λ y z holds key.
+    let same = key.at c.args.g (omega arith) in
     let (p0, p1, p2, p3, p4, p5, p6, p7) = in_planes y _ _ holds in
-    let (k0, k1, k2, k3, k4, k5, k6, k7) = in_planes z _ _ key in
+    let (k0, k1, k2, k3, k4, k5, k6, k7) = in_planes z _ _ same in
     from_planes (λ r q. y r q ⊕ z r q) _ _
     (record {
-      at = λ r q low. xor_byte (y r q) (z r q) ((group_bytes y holds).at r q low) ((group_bytes z key).at r q low);
+      at = λ r q low. xor_byte (y r q) (z r q) ((group_bytes y holds).at r q low) ((group_bytes z same).at r q low);
     }) (
       c.add_key.ensures.plane y z 0 p0 k0,
       c.add_key-2.ensures.plane y z 1 p1 k1,

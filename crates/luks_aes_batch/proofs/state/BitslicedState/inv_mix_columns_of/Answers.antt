@@ -1,3 +1,4 @@
+use Rattle.std.proofs.Common.{◌+◌, arith}
 use Rattle.luks_bitslice.specs.BitPlanes.{rotated_index}
 use Rattle.luks_aes_batch.specs.Mixing.{mixed_and_shifted}
 use Rattle.luks_aes_batch.proofs.MixLemmas.{row_byte, moved_bits, doubled_from}
@@ -6,10 +7,11 @@ use Rattle.luks_aes_batch.proofs.state.BitslicedState.inv_mix_columns_of.Goals a
 
 pub returns-clause-here : goal.returns-clause-here
 returns-clause-here g c = λ l y z low holds key.
+    let same = key.at (c.args.g + l) (omega arith) in
     let all = group_bytes y holds in
-    let keys = group_bytes z key in
+    let keys = group_bytes z same in
     let (p0, p1, p2, p3, p4, p5, p6, p7) = in_planes y _ _ holds in
-    let (k0, k1, k2, k3, k4, k5, k6, k7) = in_planes z _ _ key in
+    let (k0, k1, k2, k3, k4, k5, k6, k7) = in_planes z _ _ same in
     let top = c.top_shared_values-top.ensures l y low holds in
     let doubled_0 = doubled_from y 7 0 moved_bits.0 all top in
     let shared_0 = c.inv_mix_columns-shared_0.ensures.shared l y 0 low p0 doubled_0 in
