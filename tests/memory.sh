@@ -1,7 +1,8 @@
 #!/usr/bin/env bash
 # Runs the built program in growing address space, from the least that it starts in. Each run ends as it would without a limit, or, as long
 # as the command has not succeeded yet, with status 3, `out of memory` and no output. In the space of a start, of the bytes that the command
-# has to hold, and of SLACK, it succeeds: so nothing is held twice, and no buffer is larger than what it is for.
+# has to hold, and of SLACK, it succeeds: so nothing is held twice, and no buffer is larger than what it is for. Before that it runs each
+# command on as little stack as a process may have then.
 # shellcheck source=tests/inputs.sh
 . "$(dirname "$0")/inputs.sh"
 gzip -dc "$sample/volume2.img.gz" >volume2
@@ -36,6 +37,8 @@ python3 - "$program" <<'PYTHON'
 import resource, subprocess, sys
 program = sys.argv[1]
 PAGE, STEPS, SLACK = 4096, 100, 256 << 10
+# If the address space is scarce, a process has 128 KiB of stack, less the up to 8 that the kernel skips at random.
+STACK, STACK_RUNS = 116 << 10, 20
 OUT_OF_MEMORY, FINDINGS = (3, b"", b"luksrd: out of memory\n"), b"luksrd: the header has findings\n"
 KEY, TRIES = ["--key-file", "pass"], b"Key slot 0 opens the volume.\n"
 passed = failed = 0
@@ -44,6 +47,12 @@ def run(arguments, space=resource.RLIM_INFINITY):
     """How a run ends in so much address space."""
     limit = lambda: resource.setrlimit(resource.RLIMIT_AS, (space, space))
     ran = subprocess.run([program, *arguments], stdin=subprocess.DEVNULL, capture_output=True, preexec_fn=limit)
+    return ran.returncode, ran.stdout, ran.stderr
+
+def run_on_small_stack(arguments):
+    """How a run ends on a stack of STACK bytes, on which its environment would stand too."""
+    limit = lambda: resource.setrlimit(resource.RLIMIT_STACK, (STACK, STACK))
+    ran = subprocess.run([program, *arguments], stdin=subprocess.DEVNULL, capture_output=True, env={}, preexec_fn=limit)
     return ran.returncode, ran.stdout, ran.stderr
 
 def check(good, *message):
@@ -88,6 +97,9 @@ cases = [*commands("volume", 592, 260096, "plain.txt"), *commands("volume2", 327
 for arguments, _, wanted in cases:
     ended = run(arguments)
     check(ended == wanted, arguments, "without a limit:", ended[0], ended[1][:40], ended[2][:80])
+    ends = [run_on_small_stack(arguments) for _ in range(STACK_RUNS)]
+    others = [ended for ended in ends if ended != wanted]
+    check(not others, arguments, "on a stack of", STACK, "bytes:", len(others), "of", STACK_RUNS, "runs end otherwise", others[:1])
 if not failed:
     spaces = range(0, 100_000_000, PAGE)
     # (below that the loader ends the run, or the kernel does)

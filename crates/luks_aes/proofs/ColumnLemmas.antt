@@ -14,7 +14,7 @@ use Rattle.luks_aes.specs.Aes.{encrypted}
 use Rattle.luks_aes.specs.Bytes.{IsBytes}
 use Rattle.luks_aes.specs.Columns.{bytes_of_words, matrix_column, column_product, IsColumnTable}
 use Rattle.luks_aes.specs.declared.sbox.TheConstants.{SBOX, INV_SBOX}
-use Rattle.luks_aes.specs.declared.mixing.TheConstants.{MIXED, INV_MIXED}
+use Rattle.luks_aes.specs.declared.mixing.TheConstants.{MIXED_0, MIXED_1, MIXED_2, MIXED_3, INV_MIXED}
 use Rattle.luks_aes.proofs.Bytes.{same_below, sbox_entry, inv_sbox_entry, below_256}
 
 -- ---- elements of the field
@@ -204,9 +204,21 @@ column_table k entries box f first second third fourth entry = record {
       ∙ ap (matrix_column k 0) (entry b low);
 }
 
-pub mixed_table : IsColumnTable (2 ∷ 3 ∷ 1 ∷ 1 ∷ []) sbox MIXED
+pub mixed_0_table : IsColumnTable (2 ∷ 3 ∷ 1 ∷ 1 ∷ []) sbox MIXED_0
 unfolding ◌•◌ product_of_bits times_x
-mixed_table = column_table (2 ∷ 3 ∷ 1 ∷ 1 ∷ []) MIXED SBOX sbox refl refl refl refl sbox_entry
+mixed_0_table = column_table (2 ∷ 3 ∷ 1 ∷ 1 ∷ []) MIXED_0 SBOX sbox refl refl refl refl sbox_entry
+
+pub mixed_1_table : IsColumnTable (3 ∷ 1 ∷ 1 ∷ 2 ∷ []) sbox MIXED_1
+unfolding ◌•◌ product_of_bits times_x
+mixed_1_table = column_table (3 ∷ 1 ∷ 1 ∷ 2 ∷ []) MIXED_1 SBOX sbox refl refl refl refl sbox_entry
+
+pub mixed_2_table : IsColumnTable (1 ∷ 1 ∷ 2 ∷ 3 ∷ []) sbox MIXED_2
+unfolding ◌•◌ product_of_bits times_x
+mixed_2_table = column_table (1 ∷ 1 ∷ 2 ∷ 3 ∷ []) MIXED_2 SBOX sbox refl refl refl refl sbox_entry
+
+pub mixed_3_table : IsColumnTable (1 ∷ 2 ∷ 3 ∷ 1 ∷ []) sbox MIXED_3
+unfolding ◌•◌ product_of_bits times_x
+mixed_3_table = column_table (1 ∷ 2 ∷ 3 ∷ 1 ∷ []) MIXED_3 SBOX sbox refl refl refl refl sbox_entry
 
 pub inv_mixed_table : IsColumnTable (14 ∷ 11 ∷ 13 ∷ 9 ∷ []) inv_sbox INV_MIXED
 unfolding ◌•◌ product_of_bits times_x
@@ -283,25 +295,31 @@ from_third p q r s = same_from_bits _ _ (λ i. simp bit_at_xor (omega arith))
 from_fourth : (p q r s : ℕ) → ((p ⊕ q) ⊕ r) ⊕ s ≡ ((s ⊕ p) ⊕ q) ⊕ r
 from_fourth p q r s = same_from_bits _ _ (λ i. simp bit_at_xor (omega arith))
 
+-- the columns of a matrix, times p, q, r and s
+pub columns_summed : (a : List ℕ) (k l m n p q r s : ℕ) → to_le_bytes w32 k ≡ matrix_column a 0 p
+    → to_le_bytes w32 l ≡ matrix_column a 1 q → to_le_bytes w32 m ≡ matrix_column a 2 r
+    → to_le_bytes w32 n ≡ matrix_column a 3 s
+    → to_le_bytes w32 (bit_xor (bit_xor (bit_xor k l) m) n) ≡ column_product a (p ∷ q ∷ r ∷ s ∷ [])
+unfolding word_xor
+columns_summed a k l m n p q r s first second third fourth =
+    bytes_of_xor (bit_xor (bit_xor k l) m) n
+    ∙ ap (λ w. word_xor w (to_le_bytes w32 n)) (bytes_of_xor (bit_xor k l) m)
+    ∙ ap (λ w. word_xor (word_xor w (to_le_bytes w32 m)) (to_le_bytes w32 n)) (bytes_of_xor k l)
+    ∙ (λ i. word_xor (word_xor (word_xor (first i) (second i)) (third i)) (fourth i))
+    ∙ (λ i. (((slice_index a 0 • p ⊕ slice_index a 1 • q) ⊕ slice_index a 2 • r) ⊕ slice_index a 3 • s)
+    ∷ from_second (slice_index a 3 • p) (slice_index a 0 • q) (slice_index a 1 • r) (slice_index a 2 • s) i
+    ∷ from_third (slice_index a 2 • p) (slice_index a 3 • q) (slice_index a 0 • r) (slice_index a 1 • s) i
+    ∷ from_fourth (slice_index a 1 • p) (slice_index a 2 • q) (slice_index a 3 • r) (slice_index a 0 • s) i ∷ [])
+
 -- the first column times p, and three more entries that are rotated to the next columns
 pub columns_xored : (a : List ℕ) (k l m n p q r s : ℕ) {x y z : ℕ} → l < 2 ^ 32 → m < 2 ^ 32 → n < 2 ^ 32
     → to_le_bytes w32 k ≡ matrix_column a 0 p → to_le_bytes w32 l ≡ matrix_column a 0 q
     → to_le_bytes w32 m ≡ matrix_column a 0 r → to_le_bytes w32 n ≡ matrix_column a 0 s
     → x ≡ rotate_left w32 l 8 → y ≡ rotate_left w32 m 16 → z ≡ rotate_left w32 n 24
     → to_le_bytes w32 (bit_xor (bit_xor (bit_xor k x) y) z) ≡ column_product a (p ∷ q ∷ r ∷ s ∷ [])
-unfolding word_xor
 columns_xored a k l m n p q r s {x} {y} {z} l_fits m_fits n_fits first at_l at_m at_n is_x is_y is_z =
-    let second = ap (to_le_bytes w32) is_x ∙ column_1 a l q l_fits at_l in
-    let third = ap (to_le_bytes w32) is_y ∙ column_2 a m r m_fits at_m in
-    let fourth = ap (to_le_bytes w32) is_z ∙ column_3 a n s n_fits at_n in
-    bytes_of_xor (bit_xor (bit_xor k x) y) z
-    ∙ ap (λ w. word_xor w (to_le_bytes w32 z)) (bytes_of_xor (bit_xor k x) y)
-    ∙ ap (λ w. word_xor (word_xor w (to_le_bytes w32 y)) (to_le_bytes w32 z)) (bytes_of_xor k x)
-    ∙ (λ i. word_xor (word_xor (word_xor (first i) (second i)) (third i)) (fourth i))
-    ∙ (λ i. (((slice_index a 0 • p ⊕ slice_index a 1 • q) ⊕ slice_index a 2 • r) ⊕ slice_index a 3 • s)
-    ∷ from_second (slice_index a 3 • p) (slice_index a 0 • q) (slice_index a 1 • r) (slice_index a 2 • s) i
-    ∷ from_third (slice_index a 2 • p) (slice_index a 3 • q) (slice_index a 0 • r) (slice_index a 1 • s) i
-    ∷ from_fourth (slice_index a 1 • p) (slice_index a 2 • q) (slice_index a 3 • r) (slice_index a 0 • s) i ∷ [])
+    columns_summed a k x y z p q r s first (ap (to_le_bytes w32) is_x ∙ column_1 a l q l_fits at_l)
+    (ap (to_le_bytes w32) is_y ∙ column_2 a m r m_fits at_m) (ap (to_le_bytes w32) is_z ∙ column_3 a n s n_fits at_n)
 
 -- ---- states
 
