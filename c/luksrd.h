@@ -1,10 +1,28 @@
 /*
  * luksrd.h: any part of the plaintext of a LUKS1 or LUKS2 volume, from C.
  *
- * A volume is opened from the first bytes of its image, or of its detached header. After that the
- * caller reads whole sectors of the payload, from byte `offset` of the image on, and decrypts them
- * in place: sector n of the payload begins at byte `offset + n * sector_size` of the image, and
- * becomes the bytes from `n * sector_size` on of what `luksrd luksCat` writes.
+ * luksrd_open opens a volume from the first bytes of its image, or of its detached header, and
+ * luksrd_prepare expands its key once. After that any range of the plaintext is read in steps, at
+ * most three of them: luksrd_plan says which bytes of the image the next step reads, the caller
+ * reads them, and luksrd_finish decrypts them.
+ *
+ *     while (len > 0) {
+ *       struct luksrd_step step;
+ *       uint8_t sector[LUKSRD_SECTOR_BYTES];
+ *       if (luksrd_plan(&cipher, image_len, offset, len, &step))
+ *         return failed;
+ *       uint8_t *bytes = step.read_len == step.count ? to : sector;
+ *       if (pread(fd, bytes, step.read_len, step.read_offset) != (ssize_t)step.read_len ||
+ *           luksrd_finish(&cipher, &step, bytes, step.read_len))
+ *         return failed;
+ *       if (bytes == sector)
+ *         memcpy(to, sector, step.count);
+ *       to += step.count, offset += step.count, len -= step.count;
+ *     }
+ *
+ * Sector n of the payload begins at byte `offset + n * sector_size` of the image, and holds the
+ * bytes from `n * sector_size` on of what `luksrd luksCat` writes. luksrd_decrypt decrypts sectors
+ * that the caller has read in another way.
  *
  * Rules for the caller, in every function:
  *   - no pointer is NULL, not even one to no bytes;
@@ -12,9 +30,9 @@
  *     type, aligned as its type is;
  *   - memory that is passed does not overlap, and no other thread changes it until the call returns.
  *
- * No function keeps state, so threads may call all of them at once, with the same volume too. Only
- * luksrd_open allocates memory, by malloc, realloc and free. It may not be called from a signal
- * handler, nor from the forked child of a process with threads.
+ * No function keeps state, so threads may call all of them at once, with the same volume and cipher
+ * too. Only luksrd_open allocates memory, by malloc, realloc and free. It may not be called from a
+ * signal handler, nor from the forked child of a process with threads.
  */
 #ifndef LUKSRD_H
 #define LUKSRD_H
@@ -26,12 +44,23 @@
 extern "C" {
 #endif
 
+#ifdef __GNUC__
+#define LUKSRD_NONNULL __attribute__((nonnull))
+#define LUKSRD_CHECKED __attribute__((nonnull, warn_unused_result))
+#else
+#define LUKSRD_NONNULL
+#define LUKSRD_CHECKED
+#endif
+
 /* The number of first bytes of an image or of a detached header that decide everything about opening:
  * with them the outcome is the same as with all its bytes. A shorter one is passed whole. */
 #define LUKSRD_HEADER_BYTES 33554432
 
 /* The longest passphrase in bytes, which is also that of a key file. */
 #define LUKSRD_PASSPHRASE_BYTES 8388608
+
+/* The length of the longest sector in bytes. */
+#define LUKSRD_SECTOR_BYTES 4096
 
 /* What a function returns. The codes 1 to 11 are refusals of `luksrd luksCat`. */
 enum luksrd_code {
@@ -54,17 +83,21 @@ enum luksrd_code {
   LUKSRD_ENDS_BEFORE_SEGMENT = 14, /* before the end of a payload of fixed size */
 
   /* a call that no caller should make */
-  LUKSRD_BAD_OPTIONS = 15, /* a key slot number above 31 */
+  LUKSRD_BAD_OPTIONS = 15, /* a key slot number above 31, or options of another version */
   LUKSRD_BAD_VOLUME = 16,  /* a struct without an open volume */
-  LUKSRD_BAD_RANGE = 17    /* no whole sectors, or sector numbers that are too large */
+  LUKSRD_BAD_RANGE = 17    /* no whole sectors, sector numbers that are too large, or a range that
+                            * ends past the plaintext */
 };
 
-/* How a volume is opened. All zero: an attached header, every key slot, no limit. */
+/* How a volume is opened. `{ .size = sizeof(struct luksrd_options) }` is an attached header, every
+ * key slot, and no limit. */
 struct luksrd_options {
+  uint32_t size;           /* sizeof(struct luksrd_options) */
   uint32_t detached;       /* not 0: the bytes are those of a detached header */
   uint32_t has_key_slot;   /* not 0: only key slot number `key_slot` is tried */
   uint32_t key_slot;       /* 0 to 31 */
   uint32_t max_iterations; /* the limit of PBKDF2 iterations of a key slot or a digest; 0: no limit */
+  uint32_t reserved[11];   /* 0 */
 };
 
 /* How a payload is encrypted: the last part of `aes-..` in a header. */
@@ -76,7 +109,11 @@ enum luksrd_mode {
 };
 
 /* An open volume. It belongs to the caller, has no pointers and may be copied. It contains the
- * volume key: wipe it (explicit_bzero) when it is no longer needed. */
+ * volume key: wipe it (luksrd_wipe) when it is no longer needed.
+ *
+ * If the volume key is known, the caller can fill the struct by hand, without a passphrase and even
+ * without a header: each field as stated here, all others 0. luksrd_prepare refuses a struct whose
+ * fields do not go together. */
 struct luksrd_volume {
   uint64_t offset;      /* the first byte of the payload in its image */
   uint64_t size;        /* the payload's length in bytes, if has_size is 1; else 0 */
@@ -90,13 +127,35 @@ struct luksrd_volume {
   uint8_t key[64];      /* the volume key; the bytes past key_size are 0 */
 };
 
+/* What decryption needs of an open volume: its expanded keys, and where its payload is. It belongs to
+ * the caller, has no pointers and may be copied. It contains keys: wipe it (luksrd_wipe) when it is
+ * no longer needed. luksrd_prepare fills it; its contents are the library's own.
+ *
+ * Any bytes in it are safe to pass. With those that luksrd_prepare filled in, the plaintext is that
+ * of the volume. With others a call is refused, or gives bytes that mean nothing. */
+struct luksrd_cipher {
+  uint64_t words[2048]; /* 16384 bytes */
+};
+
+/* A step of reading a range of the plaintext: the bytes of the image to read, which are whole sectors,
+ * and which of them the range gets. Either these are whole sectors of the range (`skip` is 0, and
+ * `count` is `read_len`), so that they can be read to their place, or they are one sector of which the
+ * range gets a part, so that LUKSRD_SECTOR_BYTES are enough for it. */
+struct luksrd_step {
+  uint64_t read_offset;  /* the first byte of the image to read */
+  uint64_t read_len;     /* how many bytes to read */
+  uint64_t first_sector; /* the number of the sector that begins there */
+  uint64_t skip;         /* how many of the bytes come before the range */
+  uint64_t count;        /* how many bytes of the range the step gives; 0 if the range is empty */
+};
+
 /* A message: the exit status of `luksrd luksCat`, and the line that it prints on standard
- * error, without its newline. The text is not ended by a zero byte: print it by "%.*s". */
+ * error, without its newline. */
 struct luksrd_message {
-  uint32_t status;    /* 0: success; 1: refused; 2: no key; 3: out of memory; 4: the image is
-                       * not as it has to be */
-  uint32_t len;       /* the text's length in bytes, at most 1016; 0 if the status is 0 */
-  uint8_t text[1016]; /* the text; the bytes past `len` are 0 */
+  uint32_t status; /* 0: success; 1: refused; 2: no key; 3: out of memory; 4: the image is not as it
+                    * has to be */
+  uint32_t len;    /* the text's length in bytes, at most 1015; 0 if the status is 0 */
+  char text[1016]; /* the text; the bytes past `len`, at least one, are 0 */
 };
 
 /* Opens a volume by a passphrase.
@@ -107,19 +166,20 @@ struct luksrd_message {
  *
  * Returns LUKSRD_OK: the volume is filled and the message is empty. Or returns, with a volume that
  * is all zero:
- *   - LUKSRD_BAD_OPTIONS, exactly if has_key_slot is not 0 and key_slot is above 31. The message is
- *     that of luksrd_status_text;
+ *   - LUKSRD_BAD_OPTIONS, exactly if has_key_slot is not 0 and key_slot is above 31, `size` is not
+ *     sizeof(struct luksrd_options), or a byte of `reserved` is not 0. The message is that of
+ *     luksrd_status_text;
  *   - a code from 1 to 11, with the message of `luksrd luksCat`.
  * The time is that of PBKDF2, which the header decides: seconds and more, if it has many iterations
  * and no limit is given. */
 uint32_t luksrd_open(const uint8_t *header, size_t header_len, const uint8_t *passphrase,
                      size_t passphrase_len, const struct luksrd_options *options,
-                     struct luksrd_volume *volume, struct luksrd_message *message);
+                     struct luksrd_volume *volume, struct luksrd_message *message) LUKSRD_CHECKED;
 
 /* The length in bytes of a volume's plaintext, if its payload's image has `image_len` bytes: its whole
  * sectors, a multiple of the sector size. 0 if `sector_size` is none of its four values, as in a
  * struct that luksrd_open has set to zero. */
-uint64_t luksrd_len(const struct luksrd_volume *volume, uint64_t image_len);
+uint64_t luksrd_len(const struct luksrd_volume *volume, uint64_t image_len) LUKSRD_CHECKED;
 
 /* How the payload ends in an image of `image_len` bytes.
  *
@@ -131,7 +191,36 @@ uint64_t luksrd_len(const struct luksrd_volume *volume, uint64_t image_len);
  * Returns LUKSRD_BAD_VOLUME, with 0 in `bytes` and the message of luksrd_status_text, exactly if
  * `sector_size` is none of its four values, as in a struct that luksrd_open has set to zero. */
 uint32_t luksrd_ending(const struct luksrd_volume *volume, uint64_t image_len, uint64_t *bytes,
-                       struct luksrd_message *message);
+                       struct luksrd_message *message) LUKSRD_CHECKED;
+
+/* Expands a volume's keys. This is done once: no other function does it.
+ *
+ * Returns LUKSRD_OK. Or returns LUKSRD_BAD_VOLUME, with a cipher that is all zero, exactly if
+ * `sector_size` or `mode` is none of its values, `has_size` is 1 and `size` is not a multiple of the
+ * sector size, or `key_size` is not a key length of the mode: 32 or 64 for XTS, 16 or 32 for CBC. A
+ * struct that luksrd_open has filled is never refused. */
+uint32_t luksrd_prepare(const struct luksrd_volume *volume, struct luksrd_cipher *cipher)
+    LUKSRD_CHECKED;
+
+/* The next step of reading the `len` bytes of the plaintext from byte `offset` on, if the payload's
+ * image has `image_len` bytes. No byte outside the sectors of the range is read. Each step gives at
+ * least one byte, if `len` is not 0, and a range has at most three steps.
+ *
+ * Returns LUKSRD_OK. Or returns, with a step that is all zero:
+ *   - LUKSRD_BAD_VOLUME for a cipher of which no segment can be read, as one that is all zero;
+ *   - LUKSRD_BAD_RANGE, exactly if the range ends past the plaintext, whose length is luksrd_len. */
+uint32_t luksrd_plan(const struct luksrd_cipher *cipher, uint64_t image_len, uint64_t offset,
+                     uint64_t len, struct luksrd_step *step) LUKSRD_CHECKED;
+
+/* Decrypts the bytes that a step reads, and moves the part that the range gets to their beginning:
+ * the first `step->count` of the bytes are those of the range. What is after them is not said.
+ *
+ * A caller that read fewer bytes than the step names must not pass the rest.
+ *
+ * Returns LUKSRD_OK. Or returns, with the bytes unchanged, what luksrd_decrypt returns for these bytes
+ * and `step->first_sector`, or LUKSRD_BAD_RANGE if `step->skip + step->count` is above `len`. */
+uint32_t luksrd_finish(const struct luksrd_cipher *cipher, const struct luksrd_step *step,
+                       uint8_t *bytes, size_t len) LUKSRD_CHECKED;
 
 /* Decrypts whole sectors in place, from sector `first_sector` of the payload on.
  *
@@ -139,24 +228,61 @@ uint32_t luksrd_ending(const struct luksrd_volume *volume, uint64_t image_len, u
  * that read fewer bytes than it wanted must not pass the rest.
  *
  * Returns LUKSRD_OK. Or returns, with the bytes unchanged:
- *   - LUKSRD_BAD_VOLUME, if `sector_size` or `mode` is none of its values, `has_size` is 1 and
- *     `size` is not a multiple of the sector size, or `key_size` is not a key length of the mode:
- *     32 or 64 for XTS, 16 or 32 for CBC. A struct that luksrd_open has filled is never refused;
- *   - otherwise LUKSRD_BAD_RANGE, if `len` is not a multiple of the sector size, or
+ *   - LUKSRD_BAD_VOLUME for a cipher of which no segment and no keys can be read, as one that is all
+ *     zero. A struct that luksrd_prepare has filled is never refused;
+ *   - otherwise LUKSRD_BAD_RANGE, exactly if `len` is not a multiple of the sector size, or
  *     `first_sector + len / sector_size` is above 2^64 - 1. */
-uint32_t luksrd_decrypt(const struct luksrd_volume *volume, uint64_t first_sector, uint8_t *bytes,
-                        size_t len);
+uint32_t luksrd_decrypt(const struct luksrd_cipher *cipher, uint64_t first_sector, uint8_t *bytes,
+                        size_t len) LUKSRD_CHECKED;
+
+/* Fills the bytes with zeros, also if nothing reads them afterwards. */
+void luksrd_wipe(void *bytes, size_t len) LUKSRD_NONNULL;
 
 /* The status and the sentence of a code alone, without slot numbers, reasons and counts of bytes.
  * LUKSRD_OK has status 0 and an empty sentence. A number that is not a code has status 1 and the
  * sentence "luksrd: no such code". */
-void luksrd_status_text(uint32_t code, struct luksrd_message *message);
+void luksrd_status_text(uint32_t code, struct luksrd_message *message) LUKSRD_NONNULL;
 
 /* The version of this header. */
-#define LUKSRD_VERSION 0x010100
+#define LUKSRD_VERSION 0x010200
 
 /* The version of the library, as LUKSRD_VERSION: major * 65536 + minor * 256 + patch. */
 uint32_t luksrd_version(void);
+
+/* The size of each struct and the offset of each field, which never change while the shared library
+ * has the same name. */
+#if defined(__STDC_VERSION__) && __STDC_VERSION__ >= 201112L
+_Static_assert(sizeof(struct luksrd_options) == 64, "layout");
+_Static_assert(offsetof(struct luksrd_options, size) == 0, "layout");
+_Static_assert(offsetof(struct luksrd_options, detached) == 4, "layout");
+_Static_assert(offsetof(struct luksrd_options, has_key_slot) == 8, "layout");
+_Static_assert(offsetof(struct luksrd_options, key_slot) == 12, "layout");
+_Static_assert(offsetof(struct luksrd_options, max_iterations) == 16, "layout");
+_Static_assert(offsetof(struct luksrd_options, reserved) == 20, "layout");
+_Static_assert(sizeof(struct luksrd_volume) == 112, "layout");
+_Static_assert(offsetof(struct luksrd_volume, offset) == 0, "layout");
+_Static_assert(offsetof(struct luksrd_volume, size) == 8, "layout");
+_Static_assert(offsetof(struct luksrd_volume, iv_tweak) == 16, "layout");
+_Static_assert(offsetof(struct luksrd_volume, has_size) == 24, "layout");
+_Static_assert(offsetof(struct luksrd_volume, sector_size) == 28, "layout");
+_Static_assert(offsetof(struct luksrd_volume, mode) == 32, "layout");
+_Static_assert(offsetof(struct luksrd_volume, key_size) == 36, "layout");
+_Static_assert(offsetof(struct luksrd_volume, key_slot) == 40, "layout");
+_Static_assert(offsetof(struct luksrd_volume, reserved) == 44, "layout");
+_Static_assert(offsetof(struct luksrd_volume, key) == 48, "layout");
+_Static_assert(sizeof(struct luksrd_cipher) == 16384, "layout");
+_Static_assert(offsetof(struct luksrd_cipher, words) == 0, "layout");
+_Static_assert(sizeof(struct luksrd_step) == 40, "layout");
+_Static_assert(offsetof(struct luksrd_step, read_offset) == 0, "layout");
+_Static_assert(offsetof(struct luksrd_step, read_len) == 8, "layout");
+_Static_assert(offsetof(struct luksrd_step, first_sector) == 16, "layout");
+_Static_assert(offsetof(struct luksrd_step, skip) == 24, "layout");
+_Static_assert(offsetof(struct luksrd_step, count) == 32, "layout");
+_Static_assert(sizeof(struct luksrd_message) == 1024, "layout");
+_Static_assert(offsetof(struct luksrd_message, status) == 0, "layout");
+_Static_assert(offsetof(struct luksrd_message, len) == 4, "layout");
+_Static_assert(offsetof(struct luksrd_message, text) == 8, "layout");
+#endif
 
 #ifdef __cplusplus
 }

@@ -1,11 +1,13 @@
 -- Parts of a plaintext: sectors that are decrypted one after the other, and ranges that are joined from smaller ones.
 use Rattle.std.proofs.Common.{◌≡◌, ℕ, ◌+◌, ◌-◌, ◌*◌, ◌/◌, ◌%◌, ◌<◌, ◌≤◌, List, ◌++◌, length, take, drop}
 use Rattle.std.proofs.Common.{◌^◌, arith, refl, sym, ap, ◌∙◌}
-use Rattle.std.proofs.Common.{length-append, Option, None, Some, Result, Ok, Err, Bool, subst}
-use Rattle.std.proofs.lemmas.List.{drop-drop, drop_at}
+use Rattle.std.proofs.Common.{length-append, length-drop, Option, None, Some, Result, Ok, Err, Bool, subst}
+use Rattle.std.proofs.lemmas.List.{drop-drop, drop_at, length-take-le, take-take}
+use Rattle.std.proofs.lemmas.Slice.{take-put_mid}
+use borrow.Rule.Slice.PartMut.{put_mid}
 use Rattle.std.proofs.Math.Nat.{div-mul_cancel, dvd_of_mod-eq-zero, mod-add-div'}
 use Rattle.std.specs.Prelude.{OnOk}
-use Rattle.std.proofs.Math.Seq.{take-add}
+use Rattle.std.proofs.Math.Seq.{take-add, take-append-add}
 use Rattle.luks_io.specs.Devices.{IfKnown}
 use Rattle.luks_cipher.proofs.UnitLemmas.{joined_more}
 use Rattle.luks_cipher.proofs.UnitsUndone.{joined_same}
@@ -17,8 +19,10 @@ use Rattle.luks_payload.specs.Plain.{unit_number, unit_plain, payload_bytes}
 use Rattle.luks_payload.proofs.ForwardingLemmas.{two_parts}
 use Rattle.luks_payload.proofs.SectorLemmas.{one_more_fits}
 use Rattle.luks_runs.proofs.PayloadLemmas.{joined_length, plain_len, sector_size, take_whole}
-use Rattle.luks_access.proofs.FailingLemmas.{fails_more, fails_stored}
-use Rattle.luks_access.specs.Sectors.{AreStored, FailsInRange, FailsWithin, IsRangeOf, ReadsRange, plain_at, plain_in}
+use Rattle.luks_access.proofs.FailingLemmas.{fails_more, few_sectors, some_sector, step_fails}
+use Rattle.luks_access.specs.Steps.{IsStep}
+use Rattle.luks_access.specs.declared.step.ReadStep.{ReadStep}
+use Rattle.luks_access.specs.Sectors.{AreStored, FailsInRange, FailsWithin, IsAt, IsRangeOf, ReadsRange, plain_at, plain_in}
 use Rattle.luks_access.specs.Sectors.{plaintext_len, range_fault, sector_in}
 use Rattle.luks_access.specs.declared.image.ReadAtFault.{ReadAtFault}
 use Rattle.luks_access.specs.declared.image.ReadAtFault.TheVariants.{Failed, Ended}
@@ -102,15 +106,23 @@ range_joined plain a b offset first second =
 
 -- ---- parts that were read
 
--- a part of a sector that was read whole is a range of the plaintext
-pub part_read : (plain unit bytes : List ℕ) (offset skip n : ℕ) → IsRangeOf plain (offset - skip) unit → skip ≤ offset
-    → skip + n ≤ length unit → length bytes ≡ n → bytes ≡ take (skip + n - skip) (drop skip unit)
-    → IsRangeOf plain offset bytes
-part_read plain unit bytes offset skip n whole before inside long are =
-    let count : skip + n - skip ≡ length bytes = omega arith in
-    are ∙ (ap (λ k. take k (drop skip unit)) count ∙ (ap (λ l. take (length bytes) (drop skip l)) whole
-    ∙ (at_prefix skip (length bytes) (length unit) (drop (offset - skip) plain) (omega arith)
-    ∙ ap (take (length bytes)) (drop-drop skip (offset - skip) plain ∙ ap (λ k. drop k plain) (omega arith)))))
+-- the bytes after the first `skip` of a range are a range, wherever they are moved to
+pub front_read : (plain unit bytes : List ℕ) (start skip n : ℕ) → IsRangeOf plain start unit → skip + n ≤ length unit
+    → take n bytes ≡ take n (drop skip unit) → IsRangeOf plain (start + skip) (take n bytes)
+front_read plain unit bytes start skip n whole inside are =
+    let long : length (take n bytes) ≡ n =
+    ap length are ∙ length-take-le n (drop skip unit) (omega (arith, length-drop skip unit)) in
+    are ∙ (ap (λ l. take n (drop skip l)) whole
+    ∙ (at_prefix skip n (length unit) (drop start plain) inside
+    ∙ (ap (take n) (drop-drop skip start plain ∙ ap (λ k. drop k plain) (omega arith))
+    ∙ ap (λ k. take k (drop (start + skip) plain)) (sym long))))
+
+-- a buffer whose bytes after the first n were read
+pub read_on : (buf b : List ℕ) (n m : ℕ) → n ≤ length buf → length b ≡ length buf - n → m ≤ length b
+    → take (n + m) (put_mid n (length buf - n) buf b) ≡ take (n + m) (take n buf ++ b)
+read_on buf b n m inside long few =
+    sym (take-take (n + m) (n + length b) (put_mid n (length buf - n) buf b) (omega arith))
+    ∙ ap (take (n + m)) (take-put_mid n (length buf - n) buf b (n + length b) refl inside)
 
 -- a plaintext is as long as all whole sectors of the payload
 pub plaintext_length : (s : Segment) (cipher : Cipher) (image : List ℕ) (image_len len : ℕ) → length image ≡ image_len
@@ -129,33 +141,70 @@ payload_within (Some size) len = omega arith
 abbrev pub read_answer : ReadAtFault → Result (Unit {0}) ReadAtFault
 read_answer fault = Err fault
 
-module _ (s : Segment) (cipher : Cipher) (len : ℕ) (image : Option (List ℕ)) (fails : ℕ → Bool) (offset : ℕ) where
-  -- the first n bytes of a buffer were read, and then the rest was read, or reading it failed
-  pub reads_rest : (n : ℕ) (a rest b : List ℕ) (result : Result (Unit {0}) RangeFault) → length a ≡ n
-      → ReadsRange s cipher len image fails offset (Ok tt) a
-      → ReadsRange s cipher len image fails (offset + n) result b → ReadsRange s cipher len image fails offset result
-      (take n (a ++ rest) ++ (b ++ drop (length (a ++ rest) - n) (drop n (a ++ rest))))
-  reads_rest n a rest b (Ok _) long first second = λ known there all.
-      let behind = subst (λ (k : ℕ). IsRangeOf (plain_of s cipher known) (offset + k) b) (sym long)
-      (second known there all) in
-      subst (IsRangeOf (plain_of s cipher known) offset) (sym (two_parts a rest b n long))
-      (range_joined (plain_of s cipher known) a b offset (first known there all) behind)
-  reads_rest n a rest b (Err PastEnd) long first second = second
-  reads_rest n a rest b (Err Read) long first second =
-      let count = ap length (two_parts a rest b n long) ∙ length-append a b in
-      fails_more s fails (offset + n) (length b) offset _ (omega arith) (omega (arith, count, long)) second
-  reads_rest n a rest b (Err Shorter) long first second = second
+module _ (s : Segment) (cipher : Cipher) (len : ℕ) (image : Option (List ℕ)) (fails : ℕ → Bool) where
+  -- where reading a part of a range failed, reading the range did
+  pub reads_more : (offset offset' : ℕ) (fault : RangeFault) (a b : List ℕ) → offset' ≤ offset
+      → offset + length a ≤ offset' + length b → ReadsRange s cipher len image fails offset (Err fault) a
+      → ReadsRange s cipher len image fails offset' (Err fault) b
+  reads_more offset offset' PastEnd a b from to reads = reads
+  reads_more offset offset' Read a b from to reads =
+      fails_more s fails offset (length a) offset' (length b) from to reads
+  reads_more offset offset' Shorter a b from to reads = reads
 
-  -- reading whole sectors failed: one of them, if a read failed. An image does not end before a part of its plaintext
-  pub stops_stored : (fault : ReadAtFault) (bytes : List ℕ) → 0 < length bytes → offset + length bytes ≤ len
-      → (read_answer fault ≡ Err Failed → FailsWithin fails (s.offset + offset) (length bytes))
-      → (read_answer fault ≡ Err Ended → IfKnown image (λ known. length known < s.offset + offset + length bytes))
-      → ReadsRange s cipher len image fails offset (Err (range_fault fault)) bytes
-  stops_stored Failed bytes some inside failed ended = fails_stored s fails offset (length bytes) (failed refl)
-  stops_stored Ended bytes some inside failed ended = λ known is all.
-      let stored = length known - s.offset in
-      let whole = mod-add-div' (payload_bytes s.size stored) (sector_len s) in
-      omega (arith, ended refl known is, inside, some, all, payload_within s.size stored, whole)
+  module _ (offset count : ℕ) (step : ReadStep) (is : IsStep s len offset count step) where
+    -- the sectors that a step reads are whole
+    sectors_read : step.read_len / sector_len s * sector_len s ≡ step.read_len
+    sectors_read = div-mul_cancel (sector_len s) (dvd_of_mod-eq-zero (sector_len s) is.whole)
+
+    -- the range begins after the bytes that are skipped
+    starts : step.first_sector * sector_len s + step.skip ≡ offset
+    starts =
+        omega (arith, ap (λ n. n * sector_len s) is.first, is.skip, mod-add-div' offset (sector_len s))
+
+    -- the bytes of a step are whole sectors of an image whose plaintext has this length
+    pub step_stored : (known bytes : List ℕ) → plaintext_len s known ≡ len → length bytes ≡ step.read_len
+        → IsAt known step.read_offset bytes → AreStored s known step.first_sector bytes
+    step_stored known bytes all long at = record {
+      there = subst (λ (k : ℕ). IsRangeOf known k bytes) is.start at.same;
+      within =
+          let same = ap (λ n. n / sector_len s * sector_len s) long in
+          few_sectors step.first_sector (length bytes / sector_len s) (sectors_of s known) (sector_len s)
+          (omega (arith, all, is.inside, sectors_read, same, some_sector s fails));
+    }
+
+    -- what a step gives of sectors that an image stores is a range of its plaintext
+    pub step_reads : (known bytes : List ℕ)
+        → IsRangeOf (plain_of s cipher known) (step.first_sector * sector_len s + step.skip) bytes
+        → IsRangeOf (plain_of s cipher known) offset bytes
+    step_reads known bytes reads = subst (λ (k : ℕ). IsRangeOf (plain_of s cipher known) k bytes) starts reads
+
+    -- reading a step failed: one of its sectors, if a read failed. An image does not end before a part of its plaintext
+    pub step_stops : (fault : ReadAtFault) (bytes given : List ℕ) → length bytes ≡ step.read_len
+        → length given ≡ step.count
+        → (read_answer fault ≡ Err Failed → FailsWithin fails step.read_offset (length bytes))
+        → (read_answer fault ≡ Err Ended → IfKnown image (λ known. length known < step.read_offset + length bytes))
+        → ReadsRange s cipher len image fails offset (Err (range_fault fault)) given
+    step_stops Failed bytes given long gives failed ended =
+        subst (FailsInRange s fails offset) (sym gives)
+        (step_fails s fails len offset count step is (subst (FailsWithin fails step.read_offset) long (failed refl)))
+    step_stops Ended bytes given long gives failed ended = λ known there all.
+        let stored = length known - s.offset in
+        let whole = mod-add-div' (payload_bytes s.size stored) (sector_len s) in
+        omega (arith, ended refl known there, is.start, is.inside, is.some, is.within, long, all,
+        payload_within s.size stored, whole)
+
+module _ (s : Segment) (cipher : Cipher) (len : ℕ) (image : Option (List ℕ)) (fails : ℕ → Bool) (offset : ℕ) where
+  -- the first bytes of a buffer were read, and then the next of them
+  pub reads_next : (a b : List ℕ) (n m : ℕ) → length a ≡ n → length (take m b) ≡ m
+      → ReadsRange s cipher len image fails offset (Ok tt) a
+      → ReadsRange s cipher len image fails (offset + n) (Ok tt) (take m b)
+      → ReadsRange s cipher len image fails offset (Ok tt) (take (n + m) (a ++ b))
+  reads_next a b n m long given first second = λ known there all.
+      let behind = subst (λ (k : ℕ). IsRangeOf (plain_of s cipher known) (offset + k) (take m b)) (sym long)
+      (second known there all) in
+      subst (IsRangeOf (plain_of s cipher known) offset)
+      (sym (ap (λ k. take (k + m) (a ++ b)) (sym long) ∙ take-append-add a b m))
+      (range_joined (plain_of s cipher known) a (take m b) offset (first known there all) behind)
 
   -- if `len` is the length of the image's plaintext, a range was read, or the image did not become shorter
   module _ (bytes : List ℕ) (image_len : ℕ) (counted : IfKnown image (λ known. image_len ≡ length known))

@@ -16,4 +16,5 @@ pub mod options;
 pub mod range;
 pub mod sectors;
 pub mod source;
+pub mod step;
 pub mod volume;

@@ -2,11 +2,12 @@
 
 ghost use Rattle.std.specs.Prelude.{◌≡◌, ◌+◌, ◌*◌, ◌-◌, ◌/◌, ◌%◌, ◌<◌, ◌≤◌, ◌^◌, List, ℕ, Err};
 ghost use Rattle.std.specs.Prelude.{if◌then◌else◌, length, nat_lt};
+ghost use Rattle.luks_cipher.specs.Expanded.{AreExpanded};
 ghost use Rattle.luks_verdict.specs.SectorSize.{bytes_of};
 ghost use Rattle.luks_payload.specs.Plain.{ending_of_len, sector_len, payload_bytes};
 ghost use Rattle.luks_access.specs.Sectors.{AreStored, plain_at, plain_in};
 
-use luks_cipher::SectorCipher;
+use luks_cipher::ExpandedKeys;
 use luks_header::segment::Segment;
 use luks_payload::fault::VolumeFault;
 use luks_payload::sector::unit_number;
@@ -57,16 +58,19 @@ pub fn payload_ending(
     }
 }
 
-/// Decrypts whole sectors in place, the first of which is sector `first` of the payload. If an
-/// image stores them, they become that part of its plaintext.
-pub fn decrypt_sectors(segment: &Segment, cipher: &SectorCipher, first: u64, bytes: &mut [u8])
-    requires whole { length bytes.old % sector_len segment.now ≡ 0 }
-    requires numbers { first + length bytes.old / sector_len segment.now < 2 ^ 64 }
-    ensures value { bytes.new ≡ plain_in segment.now cipher.now first bytes.old }
-    ensures plain { (image : List ℕ) → AreStored segment.now image first bytes.old
-        → bytes.new ≡ plain_at segment.now cipher.now image (first * sector_len segment.now)
+/// Decrypts whole sectors in place, the first of which is sector `first` of the payload, by the key
+/// that these keys were expanded from. If an image stores the sectors, they become that part of its
+/// plaintext. With other keys the bytes are not determined.
+pub fn decrypt_sectors(segment: &Segment, keys: &ExpandedKeys, first: u64, bytes: &mut [u8])
+    requires { length bytes.old % sector_len segment.now ≡ 0 }
+    ensures value { (key : List ℕ) → AreExpanded key segment.now.mode keys.now
+        → bytes.new ≡ plain_in segment.now (segment.now.mode, key) first bytes.old }
+    ensures plain { (key image : List ℕ) → AreExpanded key segment.now.mode keys.now
+        → AreStored segment.now image first bytes.old
+        → bytes.new
+        ≡ plain_at segment.now (segment.now.mode, key) image (first * sector_len segment.now)
         (length bytes.old) }
 {
     let number = unit_number(segment, first);
-    cipher.decrypt_units(number, segment.sector_size.bytes(), bytes);
+    keys.decrypt_units(segment.mode, number, segment.sector_size.bytes(), bytes);
 }

@@ -1,7 +1,8 @@
 //! Open volumes.
 
 ghost use Rattle.std.specs.Prelude.{◌≡◌, ◌≢◌, ◌+◌, ◌-◌, ◌%◌, ◌^◌, ◌<◌, ◌≤◌, ◌⊎◌, Bool, List, ℕ, Err};
-ghost use Rattle.std.specs.Prelude.{[], IfErr, IfOk, OnOk, is_err, length, nat_le, replicate, true};
+ghost use Rattle.std.specs.Prelude.{[], IfErr, IfOk, OnOk, is_err, length, replicate, true};
+ghost use Rattle.luks_cipher.specs.Expanded.{AreExpanded};
 ghost use Rattle.luks_runs.specs.KeyFile.{max_key_file_len};
 ghost use Rattle.luks_io.specs.Counts.{Reads};
 ghost use Rattle.luks_io.specs.Devices.{IfKnown};
@@ -20,7 +21,8 @@ use crate::options::Options;
 use crate::range::Plaintext;
 use crate::sectors::{payload_ending, plaintext_len};
 use crate::source::ImageSource;
-use luks_cipher::SectorCipher;
+use crate::step::is_within;
+use luks_cipher::ExpandedKeys;
 use luks_header::segment::Segment;
 use luks_io::source::Source;
 use luks_kdf::Work;
@@ -42,18 +44,18 @@ pub const MAX_PASSPHRASE_LEN: usize = 8_388_608;
 #[derive(Drop)]
 pub struct Volume {
     unlocked: UnlockedVolume,
-    cipher: SectorCipher,
+    keys: ExpandedKeys,
 }
 
 impl Model for Volume {
-    ghost use Rattle.std.specs.Prelude.{◌≡◌};
+    ghost use Rattle.luks_cipher.specs.Expanded.{AreExpanded};
     ghost use Rattle.luks_unlock.specs.declared.unlocked.UnlockedVolume.{UnlockedVolume};
 
     ghost Value = { UnlockedVolume };
 
     ghost view = { λ v. v.unlocked };
 
-    ghost invariant = { λ v. v.cipher ≡ (v.unlocked.segment.mode, v.unlocked.key) };
+    ghost invariant = { λ v. AreExpanded v.unlocked.key v.unlocked.segment.mode v.keys };
 }
 
 /// Tries the key slots of a volume that was found, unless the passphrase is too long. The volume is
@@ -110,8 +112,8 @@ impl Volume {
     {
         let found = find_volume(alloc, options.location, options.slots, source)?;
         let unlocked = unlock(options.slots, found, source, pass, &mut Work::new(0))?;
-        let cipher = unlocked.cipher();
-        Ok(Volume { unlocked, cipher })
+        let keys = ExpandedKeys::new(unlocked.segment.mode, unlocked.key.as_slice());
+        Ok(Volume { unlocked, keys })
     }
 
     /// Opens a volume by a passphrase, as [`Volume::open_from`] does, from its image or its
@@ -150,6 +152,13 @@ impl Volume {
         ensures { result.now ≡ self.now.key }
     {
         self.unlocked.key.as_slice()
+    }
+
+    /// The expanded volume key.
+    pub fn keys(&self) -> &ExpandedKeys
+        ensures { AreExpanded self.now.key self.now.segment.mode result.now }
+    {
+        &self.keys
     }
 
     /// The length in bytes of the plaintext in an image of this length: all whole sectors.
@@ -207,8 +216,7 @@ impl Volume {
             return Err(RangeFault::PastEnd);
         }
         let plaintext = Plaintext {
-            segment: &self.unlocked.segment,
-            cipher: &self.cipher,
+            volume: self,
             image,
             len,
         };
@@ -217,15 +225,5 @@ impl Volume {
             buf.fill(0);
         }
         answer
-    }
-}
-
-/// Whether `count` bytes from this offset on are within a plaintext of `len` bytes.
-fn is_within(len: u64, offset: u64, count: usize) -> bool
-    ensures { result ≡ nat_le (offset + count) len }
-{
-    match offset.checked_add(count as u64) {
-        Some(end) => end <= len,
-        None => false,
     }
 }

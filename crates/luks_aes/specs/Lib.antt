@@ -3,3 +3,4 @@ pub mod Field
 pub mod Aes
 pub mod Schedule
 pub mod Columns
+pub mod KeySchedule

@@ -9,9 +9,11 @@ mod cipher;
 mod columns;
 mod field;
 mod inv_mixed;
+pub mod key_schedule;
 mod mixing;
 mod sbox;
 mod schedule;
 mod state;
 
 pub use aes::AesKey;
+pub use key_schedule::KeySchedule;

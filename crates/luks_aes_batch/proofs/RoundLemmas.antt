@@ -22,6 +22,7 @@ use Rattle.luks_aes_batch.specs.Words.{words_at, GroupHolds, GroupsHold}
 use Rattle.luks_aes_batch.specs.Blocks.{RepresentStates, RepresentRotated, state_byte, block_in, xored_blocks}
 use Rattle.luks_aes_batch.specs.Mixing.{mixed_and_shifted}
 use Rattle.luks_aes_batch.specs.RoundKeys.{HasInvMixedKey, HasInvMixedKeys}
+use Rattle.luks_aes_batch.specs.declared.round_key.RoundKey.{RoundKey}
 use Rattle.luks_aes_batch.specs.declared.state.BitslicedState.{BitslicedState}
 use Rattle.luks_aes_batch.proofs.WordLemmas.{held_also}
 
@@ -175,7 +176,7 @@ block_represented block xored k f x is same bytes holds = record {
       ∙ ap (λ x. x ⊕ k) (same r (q / 16) low (omega arith)));
 }
 
-pub keys_more : (w : List ℕ) (all : List (BitslicedState 16)) (n : ℕ) (key : BitslicedState 16)
+pub keys_more : (w : List ℕ) (all : List RoundKey) (n : ℕ) (key : RoundKey)
     → HasInvMixedKeys w all (n + 1) → n < length all
     → HasInvMixedKey w (n + 1) 0x63 key → HasInvMixedKeys w (set all n key) (n + 1 + 1)
 keys_more w all n key before capacity here = record {
@@ -188,7 +189,7 @@ keys_more w all n key before capacity here = record {
         | inr above ↦
             let index : m ≡ n = omega arith in
             let is : key ≡ found = sym (get_or-set_at all n m key found index capacity) ∙ got in
-            subst (λ (x : BitslicedState 16). HasInvMixedKey w (m + 1) 0x63 x) is
+            subst (λ (x : RoundKey). HasInvMixedKey w (m + 1) 0x63 x) is
             (subst (λ (x : ℕ). HasInvMixedKey w (x + 1) 0x63 key) (sym index) here)
       ];
 }

@@ -7,20 +7,17 @@ ghost use Rattle.luks_aes.specs.Bytes.{IsBytes};
 ghost use Rattle.luks_aes_batch.specs.Blocks.{block_in, xored_blocks, masked_block, RepresentStates};
 ghost use Rattle.luks_aes_batch.specs.RoundKeys.{IsBatchKey};
 
-use crate::round_keys::{CONSTANT, MAX_INNER_KEYS, RoundKey, fill, inner_key, plain_round_key};
+use crate::round_keys::{CONSTANT, MAX_INNER_KEYS, RoundKeys, fill, inner_key, plain_round_key};
 use crate::state::BitslicedState;
 use luks_aes::AesKey;
 use std::marker::Model;
 
-/// A key of AES-128, AES-192 or AES-256 (FIPS 197), with its bitsliced round keys: the first, those
-/// between, with round key n at index n - 1, and the last. All but the last have 0x63 XORed into
-/// each byte. Contracts see it as its bytes.
+/// A key of AES-128, AES-192 or AES-256 (FIPS 197), with its bitsliced round keys. Contracts see it
+/// as its bytes.
 #[derive(Drop)]
 pub struct BatchKey {
     key: AesKey,
-    first: RoundKey,
-    between: [RoundKey; MAX_INNER_KEYS],
-    last: RoundKey,
+    round_keys: RoundKeys,
 }
 
 impl Model for BatchKey {
@@ -28,8 +25,7 @@ impl Model for BatchKey {
 
     ghost view = { λ k. k.key };
 
-    ghost invariant = { λ k.
-        IsBatchKey k.key k.first k.between k.last };
+    ghost invariant = { λ k. IsBatchKey k.key k.round_keys };
 }
 
 // The inverse cipher on each state.
@@ -37,24 +33,98 @@ impl Model for BatchKey {
 fn decrypt_states<const WORDS: usize>(
     state: &mut BitslicedState<WORDS>,
     rounds: usize,
-    first: &RoundKey,
-    between: &[RoundKey; MAX_INNER_KEYS],
-    last: &RoundKey,
+    keys: &RoundKeys,
 )
     requires whole { WORDS % 4 ≡ 0 }
     requires most { WORDS ≤ 16 }
     requires some_rounds { 1 ≤ rounds }
     requires few_rounds { rounds ≤ 14 }
     ensures { (key : List ℕ) (s : ℕ → List ℕ)
-        → IsBatchKey key first.now between.now last.now
+        → IsBatchKey key keys.now
         → rounds ≡ rounds_of key → IsBytes key → ((m : ℕ) → IsBytes (s m))
         → RepresentStates s 0 state.old → RepresentStates (λ m. decrypted key (s m)) 0 state.new }
 {
-    state.start_rounds(first);
+    state.start_rounds(&keys.first);
     for round in (1..rounds).rev() {
-        state.inv_round(inner_key(between, round - 1));
+        state.inv_round(inner_key(&keys.between, round - 1));
     }
-    state.end_rounds(last);
+    state.end_rounds(&keys.last);
+}
+
+impl RoundKeys {
+    /// The round keys of the key. (It is inlined, so that the stack has one copy of them less at
+    /// once.)
+    #[inline(always)]
+    pub fn expanded(key: &AesKey) -> RoundKeys
+        ensures { IsBatchKey key.now result }
+    {
+        let rounds = key.rounds();
+        let first = plain_round_key(key, rounds, CONSTANT);
+        let last = plain_round_key(key, 0, 0);
+        let mut between = [last; MAX_INNER_KEYS];
+        fill(key, &mut between);
+        RoundKeys {
+            rounds: rounds as u64,
+            first,
+            between,
+            last,
+        }
+    }
+
+    // The number of rounds, or that with the longest key if it is none.
+    fn rounds(&self) -> usize
+        ensures least { 1 ≤ result }
+        ensures most { result ≤ 14 }
+        ensures value { (key : List ℕ) → IsBatchKey key self.now → result ≡ rounds_of key }
+    {
+        if 1 <= self.rounds && self.rounds <= 14 {
+            self.rounds as usize
+        } else {
+            14
+        }
+    }
+
+    // Decrypts each block of a batch in place, XORed with that of the mask `before`, and XORs that
+    // of the mask `after` into the result.
+    #[inline(always)]
+    fn decrypt<const WORDS: usize>(&self, batch: &mut [u8], before: &[u8], after: &[u8])
+        requires whole { WORDS % 4 ≡ 0 }
+        requires most { WORDS ≤ 16 }
+        requires batch { length batch.old ≡ 64 * WORDS }
+        requires before { length before.now ≡ 64 * WORDS }
+        requires after { length after.now ≡ 64 * WORDS }
+        ensures { (key : List ℕ) (m : ℕ) → IsBatchKey key self.now → m < 4 * WORDS
+            → block_in batch.new m
+            ≡ xored_blocks (decrypted key (masked_block batch.old before.now m))
+            (block_in after.now m) }
+    {
+        let rounds = self.rounds();
+        let mut state = BitslicedState::<WORDS>::zero();
+        state.pack(batch, before);
+        decrypt_states(&mut state, rounds, self);
+        state.unpack(after, batch);
+    }
+
+    /// Decrypts each block of a batch of 32 or 64 in place (FIPS 197, 5.3) under the key whose
+    /// round keys these are, if they are. The block is XORed with that of the mask `before` first,
+    /// and the result with that of the mask `after`.
+    pub fn decrypt_batch(&self, batch: &mut [u8], before: &[u8], after: &[u8])
+        requires whole { length batch.old % 512 ≡ 0 }
+        requires least { 512 ≤ length batch.old }
+        requires most { length batch.old ≤ 1024 }
+        requires before { length before.now ≡ length batch.old }
+        requires after { length after.now ≡ length batch.old }
+        ensures { (key : List ℕ) (m : ℕ) → IsBatchKey key self.now → 16 * m < length batch.old
+            → block_in batch.new m
+            ≡ xored_blocks (decrypted key (masked_block batch.old before.now m))
+            (block_in after.now m) }
+    {
+        if batch.len() == 512 {
+            self.decrypt::<8>(batch, before, after);
+        } else {
+            self.decrypt::<16>(batch, before, after);
+        }
+    }
 }
 
 impl BatchKey {
@@ -77,17 +147,15 @@ impl BatchKey {
         ensures { result ≡ key.now }
     {
         let key = AesKey::expanded(key);
-        let rounds = key.rounds();
-        let first = plain_round_key(&key, rounds, CONSTANT);
-        let last = plain_round_key(&key, 0, 0);
-        let mut between = [last; MAX_INNER_KEYS];
-        fill(&key, &mut between);
-        BatchKey {
-            key,
-            first,
-            between,
-            last,
-        }
+        let round_keys = RoundKeys::expanded(&key);
+        BatchKey { key, round_keys }
+    }
+
+    /// The round keys.
+    pub fn round_keys(&self) -> &RoundKeys
+        ensures { IsBatchKey self.now result.now }
+    {
+        &self.round_keys
     }
 
     /// The key for single blocks.
@@ -95,27 +163,6 @@ impl BatchKey {
         ensures { result.now ≡ self.now }
     {
         &self.key
-    }
-
-    // Decrypts each block of a batch in place, XORed with that of the mask `before`, and XORs that
-    // of the mask `after` into the result.
-    #[inline(always)]
-    fn decrypt<const WORDS: usize>(&self, batch: &mut [u8], before: &[u8], after: &[u8])
-        requires whole { WORDS % 4 ≡ 0 }
-        requires most { WORDS ≤ 16 }
-        requires batch { length batch.old ≡ 64 * WORDS }
-        requires before { length before.now ≡ 64 * WORDS }
-        requires after { length after.now ≡ 64 * WORDS }
-        ensures { (m : ℕ) → m < 4 * WORDS
-            → block_in batch.new m
-            ≡ xored_blocks (decrypted self.now (masked_block batch.old before.now m))
-            (block_in after.now m) }
-    {
-        let rounds = self.key.rounds();
-        let mut state = BitslicedState::<WORDS>::zero();
-        state.pack(batch, before);
-        decrypt_states(&mut state, rounds, &self.first, &self.between, &self.last);
-        state.unpack(after, batch);
     }
 
     /// Decrypts each block of a batch of 32 or 64 in place (FIPS 197, 5.3). The block is XORed with
@@ -131,10 +178,6 @@ impl BatchKey {
             ≡ xored_blocks (decrypted self.now (masked_block batch.old before.now m))
             (block_in after.now m) }
     {
-        if batch.len() == 512 {
-            self.decrypt::<8>(batch, before, after);
-        } else {
-            self.decrypt::<16>(batch, before, after);
-        }
+        self.round_keys.decrypt_batch(batch, before, after);
     }
 }

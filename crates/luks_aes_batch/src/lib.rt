@@ -10,9 +10,12 @@ mod key;
 mod mixing;
 mod packing;
 mod planes;
+mod round_key;
 mod round_keys;
 mod rounds;
 mod state;
 mod steps;
 
 pub use key::BatchKey;
+pub use round_key::{KeyPlane, RoundKey};
+pub use round_keys::RoundKeys;

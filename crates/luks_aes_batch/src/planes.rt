@@ -7,6 +7,7 @@ ghost use Rattle.luks_aes_batch.specs.Words.{AreRowsOf};
 ghost use Rattle.luks_aes_batch.specs.Mixing.{AreBytes, AreShared, AreDoubled, mixed_and_shifted};
 
 use crate::mixing::{Rows, SharedValues};
+use crate::round_key::KeyPlane;
 use luks_bitslice::Lane;
 
 /// One bit of each byte of a batch, in words of 64 bits. `specs/Words.antt` says which byte a bit
@@ -82,7 +83,7 @@ impl<const WORDS: usize> BitPlane<WORDS> {
 
     /// AddRoundKey (FIPS 197, 5.1.4) on one group.
     #[inline(always)]
-    pub fn add_key(&mut self, key: &BitPlane<16>, g: usize)
+    pub fn add_key(&mut self, key: &KeyPlane, g: usize)
         requires whole { WORDS % 4 ≡ 0 }
         requires most { WORDS ≤ 16 }
         requires inside { g < WORDS / 4 }
@@ -123,7 +124,7 @@ impl<const WORDS: usize> BitPlane<WORDS> {
     #[inline(always)]
     pub fn inv_mix_columns<L: Lane>(
         &mut self,
-        key: &BitPlane<16>,
+        key: &KeyPlane,
         g: usize,
         doubled: SharedValues<L>,
     ) -> SharedValues<L>

@@ -8,10 +8,9 @@ ghost use Rattle.luks_aes.specs.Bytes.{IsBytes};
 ghost use Rattle.luks_bitslice.specs.BitPlanes.{IsBitPlane};
 ghost use Rattle.luks_aes_batch.specs.Words.{AreRowsOf, GroupsHold};
 ghost use Rattle.luks_aes_batch.specs.RoundKeys.{HasRoundKey, HasInvMixedKey};
-ghost use Rattle.luks_aes_batch.specs.RoundKeys.{HasInvMixedKeys};
+ghost use Rattle.luks_aes_batch.specs.RoundKeys.{HasInvMixedKeys, state_of_key};
 
-use crate::planes::BitPlane;
-use crate::state::BitslicedState;
+use crate::round_key::{KeyPlane, RoundKey};
 use luks_aes::AesKey;
 
 /// The maximum number of round keys between the first and the last.
@@ -20,8 +19,21 @@ pub const MAX_INNER_KEYS: usize = 13;
 /// The circuit of the inverse S-box expects bytes with this constant XORed into them.
 pub const CONSTANT: u8 = 0x63;
 
-/// A round key, bitsliced for four groups, and the same for each.
-pub type RoundKey = BitslicedState<16>;
+/// The round keys for decryption: the first, those between, with round key n at index n - 1, and
+/// the last. All but the last have 0x63 XORed into each byte. They are plain numbers, of any values:
+/// only those that [`RoundKeys::expanded`] gives are the round keys of a key.
+#[repr(C)]
+#[derive(Drop)]
+pub struct RoundKeys {
+    /// The number of rounds.
+    pub rounds: u64,
+    /// The first round key.
+    pub first: RoundKey,
+    /// Those between.
+    pub between: [RoundKey; 13],
+    /// The last one.
+    pub last: RoundKey,
+}
 
 // Bit `j` of the byte, 16 times.
 #[inline(always)]
@@ -46,7 +58,7 @@ fn row_word(block: [u8; 16], r: usize, j: u8) -> u64
 }
 
 // Bit plane `j` of 64 equal blocks.
-fn equal_plane(block: [u8; 16], j: u8) -> BitPlane<16>
+fn equal_plane(block: [u8; 16], j: u8) -> KeyPlane
     requires { j < 8 }
     ensures { (g : ℕ) → g < 4 → AreRowsOf (λ r q. cell block r (q / 16)) j 16 result.words g }
 {
@@ -54,16 +66,16 @@ fn equal_plane(block: [u8; 16], j: u8) -> BitPlane<16>
     let b = row_word(block, 1, j);
     let c = row_word(block, 2, j);
     let d = row_word(block, 3, j);
-    BitPlane {
+    KeyPlane {
         words: [a, a, a, a, b, b, b, b, c, c, c, c, d, d, d, d],
     }
 }
 
 // The bitsliced states of 64 equal blocks.
 fn equal_blocks(block: [u8; 16]) -> RoundKey
-    ensures { GroupsHold (λ g r q. cell block r (q / 16)) result }
+    ensures { GroupsHold (λ g r q. cell block r (q / 16)) (state_of_key result) }
 {
-    BitslicedState {
+    RoundKey {
         plane_0: equal_plane(block, 0),
         plane_1: equal_plane(block, 1),
         plane_2: equal_plane(block, 2),

@@ -8,7 +8,7 @@ ghost use Rattle.luks_aes.specs.Bytes.{IsBytes};
 ghost use Rattle.luks_aes_batch.specs.Blocks.{RepresentStates, RepresentRotated};
 ghost use Rattle.luks_aes_batch.specs.RoundKeys.{HasRoundKey, HasInvMixedKey};
 
-use crate::round_keys::RoundKey;
+use crate::round_key::RoundKey;
 use crate::state::BitslicedState;
 
 impl<const WORDS: usize> BitslicedState<WORDS> {

@@ -4,10 +4,11 @@ ghost use Rattle.std.specs.Prelude.{◌≡◌, ◌+◌, ◌/◌, ◌%◌, ◌<�
 ghost use Rattle.luks_aes.specs.Field.{◌⊕◌};
 ghost use Rattle.luks_bitslice.specs.BitPlanes.{rotated_index};
 ghost use Rattle.luks_aes_batch.specs.Words.{GroupHolds, GroupsHold, SameGroup};
+ghost use Rattle.luks_aes_batch.specs.RoundKeys.{state_of_key};
 ghost use Rattle.luks_aes_batch.specs.Mixing.{AreShared, mixed_and_shifted};
 
 use crate::mixing::SharedValues;
-use crate::round_keys::RoundKey;
+use crate::round_key::RoundKey;
 use crate::state::BitslicedState;
 use luks_bitslice::Lane;
 use std::simd::prelude::*;
@@ -19,7 +20,7 @@ impl<const WORDS: usize> BitslicedState<WORDS> {
         requires whole { WORDS % 4 ≡ 0 }
         requires most { WORDS ≤ 16 }
         requires inside { g < WORDS / 4 }
-        ensures here { (y z : ℕ → ℕ → ℕ) → GroupHolds y g self.old → GroupsHold (λ g. z) key.now
+        ensures here { (y z : ℕ → ℕ → ℕ) → GroupHolds y g self.old → GroupsHold (λ g. z) (state_of_key key.now)
             → GroupHolds (λ r q. y r q ⊕ z r q) g self.new }
         ensures below { (i : ℕ) → i < g → SameGroup i self.new self.old }
         ensures above { (i : ℕ) → g + 1 ≤ i → i < WORDS / 4 → SameGroup i self.new self.old }
@@ -40,7 +41,7 @@ impl<const WORDS: usize> BitslicedState<WORDS> {
         requires whole { WORDS % 4 ≡ 0 }
         requires most { WORDS ≤ 16 }
         ensures { (y : ℕ → ℕ → ℕ → ℕ) (z : ℕ → ℕ → ℕ) → GroupsHold y self.old
-            → GroupsHold (λ g. z) key.now → GroupsHold (λ g r q. y g r q ⊕ z r q) self.new }
+            → GroupsHold (λ g. z) (state_of_key key.now) → GroupsHold (λ g r q. y g r q ⊕ z r q) self.new }
     {
         for g in 0..WORDS / 4 {
             self.add_key_to(key, g);
@@ -100,7 +101,7 @@ impl<const WORDS: usize> BitslicedState<WORDS> {
         requires most { WORDS ≤ 16 }
         requires inside { g + L.count ≤ WORDS / 4 }
         ensures here { (l : ℕ) (y z : ℕ → ℕ → ℕ) → l < L.count → GroupHolds y (g + l) self.old
-            → GroupsHold (λ g. z) key.now
+            → GroupsHold (λ g. z) (state_of_key key.now)
             → GroupHolds (mixed_and_shifted y z) (g + l) self.new }
         ensures below { (i : ℕ) → i < g → SameGroup i self.new self.old }
         ensures above { (i : ℕ) → g + L.count ≤ i → i < WORDS / 4
@@ -128,7 +129,7 @@ impl<const WORDS: usize> BitslicedState<WORDS> {
         requires whole { WORDS % 4 ≡ 0 }
         requires most { WORDS ≤ 16 }
         ensures { (y : ℕ → ℕ → ℕ → ℕ) (z : ℕ → ℕ → ℕ) → GroupsHold y self.old
-            → GroupsHold (λ g. z) key.now → GroupsHold (λ g. mixed_and_shifted (y g) z) self.new }
+            → GroupsHold (λ g. z) (state_of_key key.now) → GroupsHold (λ g. mixed_and_shifted (y g) z) self.new }
     {
         if WORDS == 8 {
             self.inv_mix_columns_of::<u64x2>(key, 0);

@@ -2,7 +2,7 @@
 -- 32 blocks.
 use Rattle.std.proofs.Common.{◌≡◌, ℕ, zero, suc, ◌+◌, ◌-◌, ◌*◌, ◌/◌, ◌%◌, ◌^◌, ◌<◌, ◌≤◌, List, [], ◌∷◌, ◌++◌, length}
 use Rattle.std.proofs.Common.{take, drop, arith, length-append, append_assoc, refl, sym, ap, ◌∙◌, inl, inr, ltb}
-use Rattle.std.proofs.Common.{true, false, slice_index, length-drop, length-take, replicate}
+use Rattle.std.proofs.Common.{true, false, slice_index, length-drop, length-take, replicate, subst}
 use Rattle.std.proofs.Math.ListN.{get_or-eq_default}
 use Rattle.std.specs.Int.{w128, to_le_bytes, from_le_bytes}
 use Rattle.std.specs.Int.Bits.{bit_xor, xor_zero_r, xor_shifted}
@@ -20,6 +20,8 @@ use Rattle.luks_aes.specs.Aes.{cell, encrypted, decrypted}
 use Rattle.luks_aes.specs.Bytes.{IsBytes}
 use Rattle.luks_aes.proofs.Undone.{whole_state}
 use Rattle.luks_aes.proofs.MixingLemmas.{same_cells}
+use Rattle.luks_aes_batch.specs.RoundKeys.{IsBatchKey}
+use Rattle.luks_aes_batch.specs.declared.round_keys.RoundKeys.{RoundKeys}
 use Rattle.luks_cipher.specs.Xts.{data_key, tweak_key, doubled_number, doubled, tweak_of, block_at, joined, block_xor}
 use Rattle.luks_cipher.specs.Xts.{block_encrypted, block_decrypted, tweak_after}
 use Rattle.luks_cipher.specs.Cbc.{block_before}
@@ -42,6 +44,10 @@ module _ (a b key : List ℕ) (same : length a ≡ length b) (whole : a ++ b ≡
       → block_xor (decrypted a (block_xor piece tweak)) tweak ≡ block_decrypted key tweak piece
   unfolding block_decrypted
   piece_decrypted tweak piece = rw (halves.0) refl
+
+  -- round keys of the first half are those for the data
+  pub data_keys_of : (keys : RoundKeys) → IsBatchKey a keys → IsBatchKey (data_key key) keys
+  data_keys_of keys is = subst (λ (k : List ℕ). IsBatchKey k keys) (sym halves.0) is
 
 -- ---- XORs of blocks
 

@@ -4,12 +4,13 @@ ghost use Rattle.std.specs.Prelude.{◌≡◌, ◌+◌, ◌*◌, ◌/◌, ◌%�
 ghost use Rattle.std.specs.Prelude.{slice_index};
 ghost use Rattle.luks_aes.specs.Aes.{encrypted, decrypted};
 ghost use Rattle.luks_aes.specs.Bytes.{IsBytes};
+ghost use Rattle.luks_aes_batch.specs.RoundKeys.{IsBatchKey};
 ghost use Rattle.luks_cipher.specs.Xts.{block_xor, block_at, joined};
 ghost use Rattle.luks_cipher.specs.Cbc.{block_before, cbc_encrypted, cbc_decrypted};
 
 use crate::block::{batch_size, block_of, block_xor};
 use luks_aes::AesKey;
-use luks_aes_batch::BatchKey;
+use luks_aes_batch::{BatchKey, RoundKeys};
 use std::simd::prelude::*;
 
 // The elements of a key are bytes, as `AesKey::rounds` ensures.
@@ -58,7 +59,7 @@ fn put_chain(before: [u8; 16], batch: &[u8], chain: &mut [u8])
 
 // Decrypts a batch as `decrypt_batch` below does, with a mask of zeros and a buffer for the chain.
 fn decrypt_by(
-    key: &BatchKey,
+    keys: &RoundKeys,
     before: [u8; 16],
     zeros: &[u8],
     chain: &mut [u8],
@@ -70,34 +71,54 @@ fn decrypt_by(
     requires zeros { (i : ℕ) → slice_index zeros.now i ≡ 0 }
     requires size { length zeros.now ≡ length batch.old }
     requires capacity { length chain.old ≡ length batch.old + 16 }
-    ensures value { batch.new
+    ensures value { (key : List ℕ) → IsBatchKey key keys.now
+        → batch.new
         ≡ joined
-        (λ n. block_xor (decrypted key.now (block_at batch.old n))
+        (λ n. block_xor (decrypted key (block_at batch.old n))
         (block_before before batch.old n)) (length batch.old / 16) }
     ensures next { result ≡ block_before before batch.old (length batch.old / 16) }
 {
     let len = batch.len();
     put_chain(before, batch, chain);
-    key.decrypt_batch(batch, zeros, &chain[..len]);
+    keys.decrypt_batch(batch, zeros, &chain[..len]);
     block_of(&chain[len..len + 16])
 }
 
 // Decrypts a batch of 32 or 64 blocks of a chain, and returns the last cipher block for the next
 // batch.
-fn decrypt_batch(key: &BatchKey, before: [u8; 16], batch: &mut [u8]) -> [u8; 16]
+fn decrypt_batch(keys: &RoundKeys, before: [u8; 16], batch: &mut [u8]) -> [u8; 16]
     requires whole { length batch.old % 512 ≡ 0 }
     requires least { 512 ≤ length batch.old }
     requires most { length batch.old ≤ 1024 }
-    ensures value { batch.new
+    ensures value { (key : List ℕ) → IsBatchKey key keys.now
+        → batch.new
         ≡ joined
-        (λ n. block_xor (decrypted key.now (block_at batch.old n))
+        (λ n. block_xor (decrypted key (block_at batch.old n))
         (block_before before batch.old n)) (length batch.old / 16) }
     ensures next { result ≡ block_before before batch.old (length batch.old / 16) }
 {
     let len = batch.len();
     let zeros = [0; 1024];
     let mut chain = [0; 1040];
-    decrypt_by(key, before, &zeros[..len], &mut chain[..len + 16], batch)
+    decrypt_by(keys, before, &zeros[..len], &mut chain[..len + 16], batch)
+}
+
+/// Decrypts a data unit of whole batches in place by CBC (NIST SP 800-38A, 6.2) under the IV and the
+/// key whose round keys these are, if they are.
+pub(crate) fn decrypt_batches(keys: &RoundKeys, iv: [u8; 16], unit: &mut [u8])
+    requires { length unit.old % 512 ≡ 0 }
+    ensures { (key : List ℕ) → IsBatchKey key keys.now
+        → unit.new ≡ cbc_decrypted key iv unit.old }
+{
+    let mut before = iv;
+    let blocks = unit.len() / 16;
+    let mut done = 0;
+    'batches: while blocks - done >= 32 {
+        let count = batch_size(blocks - done);
+        let next = decrypt_batch(keys, before, &mut unit[16 * done..16 * done + 16 * count]);
+        before = next;
+        done += count;
+    }
 }
 
 /// Encrypts the data unit, whole blocks of 16 bytes, in place by CBC under the key and the IV (NIST
@@ -127,13 +148,14 @@ pub fn decrypt_chain(key: &BatchKey, iv: [u8; 16], unit: &mut [u8])
     ensures undone { cbc_encrypted key.now iv unit.new ≡ unit.old }
 {
     let block_key = key.key();
+    let keys = key.round_keys();
     holds_bytes(block_key);
     let mut before = iv;
     let blocks = unit.len() / 16;
     let mut done = 0;
     'batches: while blocks - done >= 32 {
         let count = batch_size(blocks - done);
-        let next = decrypt_batch(key, before, &mut unit[16 * done..16 * done + 16 * count]);
+        let next = decrypt_batch(keys, before, &mut unit[16 * done..16 * done + 16 * count]);
         before = next;
         done += count;
     }
@@ -146,7 +168,7 @@ pub fn decrypt_chain(key: &BatchKey, iv: [u8; 16], unit: &mut [u8])
 // Decrypts two data units as `decrypt_pair` below does, with a mask of zeros and a buffer for the
 // blocks before theirs and one block more.
 fn decrypt_pair_by(
-    key: &BatchKey,
+    keys: &RoundKeys,
     iv: [u8; 16],
     next_iv: [u8; 16],
     zeros: &[u8],
@@ -157,13 +179,33 @@ fn decrypt_pair_by(
     requires zeros { (i : ℕ) → slice_index zeros.now i ≡ 0 }
     requires size { length zeros.now ≡ 1024 }
     requires capacity { length chains.old ≡ 1040 }
-    ensures { pair.new
-        ≡ cbc_decrypted key.now iv (take 512 pair.old)
-        ++ cbc_decrypted key.now next_iv (drop 512 pair.old) }
+    ensures { (key : List ℕ) → IsBatchKey key keys.now
+        → pair.new
+        ≡ cbc_decrypted key iv (take 512 pair.old)
+        ++ cbc_decrypted key next_iv (drop 512 pair.old) }
 {
     put_chain(iv, &pair[..512], &mut chains[..528]);
     put_chain(next_iv, &pair[512..1024], &mut chains[512..1040]);
-    key.decrypt_batch(pair, zeros, &chains[..1024]);
+    keys.decrypt_batch(pair, zeros, &chains[..1024]);
+}
+
+/// Decrypts two data units of 512 bytes in place, each a chain with its own IV, under the key whose
+/// round keys these are, if they are.
+pub(crate) fn decrypt_both(
+    keys: &RoundKeys,
+    iv: [u8; 16],
+    next_iv: [u8; 16],
+    pair: &mut [u8],
+)
+    requires { length pair.old ≡ 1024 }
+    ensures { (key : List ℕ) → IsBatchKey key keys.now
+        → pair.new
+        ≡ cbc_decrypted key iv (take 512 pair.old)
+        ++ cbc_decrypted key next_iv (drop 512 pair.old) }
+{
+    let zeros = [0; 1024];
+    let mut chains = [0; 1040];
+    decrypt_pair_by(keys, iv, next_iv, &zeros, &mut chains, pair);
 }
 
 /// Decrypts two data units of 512 bytes in place, each a chain with its own IV.
@@ -173,7 +215,5 @@ pub fn decrypt_pair(key: &BatchKey, iv: [u8; 16], next_iv: [u8; 16], pair: &mut 
         ≡ cbc_decrypted key.now iv (take 512 pair.old)
         ++ cbc_decrypted key.now next_iv (drop 512 pair.old) }
 {
-    let zeros = [0; 1024];
-    let mut chains = [0; 1040];
-    decrypt_pair_by(key, iv, next_iv, &zeros, &mut chains, pair);
+    decrypt_both(key.round_keys(), iv, next_iv, pair);
 }

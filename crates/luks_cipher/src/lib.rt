@@ -7,10 +7,13 @@
 
 mod block;
 pub mod cbc;
+mod expanded;
 mod mode;
 mod sector;
+mod units;
 mod xts;
 
+pub use expanded::ExpandedKeys;
 pub use luks_aes::AesKey;
 pub use mode::Mode;
 pub use sector::SectorCipher;

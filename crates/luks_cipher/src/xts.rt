@@ -2,14 +2,15 @@
 
 ghost use Rattle.std.specs.Prelude.{◌≡◌, ◌+◌, ◌*◌, ◌/◌, ◌%◌, ◌<◌, ◌≤◌, List, ℕ, ◌++◌, length};
 ghost use Rattle.std.specs.Prelude.{take, drop, Some, None, if◌then◌else◌, true};
-ghost use Rattle.luks_cipher.specs.Xts.{doubled, tweak_of, block_at, joined};
+ghost use Rattle.luks_aes_batch.specs.RoundKeys.{IsBatchKey};
+ghost use Rattle.luks_cipher.specs.Xts.{data_key, doubled, tweak_of, block_at, joined};
 ghost use Rattle.luks_cipher.specs.Xts.{block_encrypted, block_decrypted, xts_encrypted};
 ghost use Rattle.luks_cipher.specs.Xts.{xts_decrypted, is_xts_key_length, tweak_after, IsKeyPair};
 ghost use Rattle.luks_aes.specs.Bytes.{IsBytes};
 
 use crate::block::{batch_size, block_of, xor_vector};
 use luks_aes::AesKey;
-use luks_aes_batch::BatchKey;
+use luks_aes_batch::{BatchKey, RoundKeys};
 use std::marker::Model;
 use std::simd::prelude::*;
 
@@ -40,6 +41,79 @@ fn put_tweaks(tweak: u8x16, tweaks: &mut [u8]) -> u8x16
         last = next;
     }
     last
+}
+
+// Decrypts each block of a batch of 32 or 64 under its tweak. The round keys are those for the data.
+fn decrypt_under(keys: &RoundKeys, tweaks: &[u8], batch: &mut [u8])
+    requires whole { length batch.old % 512 ≡ 0 }
+    requires least { 512 ≤ length batch.old }
+    requires most { length batch.old ≤ 1024 }
+    requires tweaks { length tweaks.now ≡ length batch.old }
+    ensures { (key : List ℕ) (n : ℕ) → IsBatchKey (data_key key) keys.now
+        → 16 * n < length batch.old
+        → block_at batch.new n
+        ≡ block_decrypted key (block_at tweaks.now n) (block_at batch.old n) }
+{
+    keys.decrypt_batch(batch, tweaks, tweaks);
+}
+
+// Decrypts a batch of 32 or 64 blocks, the first of them under `tweak`, and returns the tweak of
+// the block after them. The buffer for their tweaks is as long as the batch.
+fn decrypt_batch(
+    keys: &RoundKeys,
+    tweak: u8x16,
+    tweaks: &mut [u8],
+    batch: &mut [u8],
+) -> u8x16
+    requires whole { length batch.old % 512 ≡ 0 }
+    requires least { 512 ≤ length batch.old }
+    requires most { length batch.old ≤ 1024 }
+    requires capacity { length tweaks.old ≡ length batch.old }
+    ensures value { (key : List ℕ) → IsBatchKey (data_key key) keys.now
+        → batch.new
+        ≡ joined (λ n. block_decrypted key (tweak_after tweak n) (block_at batch.old n))
+        (length batch.old / 16) }
+    ensures next { result ≡ tweak_after tweak (length batch.old / 16) }
+{
+    let next = put_tweaks(tweak, tweaks);
+    decrypt_under(keys, tweaks, batch);
+    next
+}
+
+/// Decrypts a data unit of whole batches in place (IEEE 1619, 5.4.2), with the tweak of its first
+/// block, under the key whose round keys for the data these are, if they are.
+pub(crate) fn decrypt_batches(keys: &RoundKeys, first_tweak: u8x16, unit: &mut [u8])
+    requires { length unit.old % 512 ≡ 0 }
+    ensures { (key : List ℕ) (number : ℕ) → IsBatchKey (data_key key) keys.now
+        → first_tweak ≡ tweak_of key number 0 → unit.new ≡ xts_decrypted key number unit.old }
+{
+    let mut tweak = first_tweak;
+    let blocks = unit.len() / 16;
+    let mut tweaks = [0; 1024];
+    let mut done = 0;
+    'batches: while blocks - done >= 32 {
+        let count = batch_size(blocks - done);
+        let batch = &mut unit[16 * done..16 * done + 16 * count];
+        let next = decrypt_batch(keys, tweak, &mut tweaks[..16 * count], batch);
+        tweak = next;
+        done += count;
+    }
+}
+
+/// Decrypts two data units of 512 bytes in place, with the tweak of the first block of each, under
+/// the key whose round keys for the data these are, if they are.
+pub(crate) fn decrypt_both(keys: &RoundKeys, first: u8x16, second: u8x16, units: &mut [u8])
+    requires { length units.old ≡ 1024 }
+    ensures { (key : List ℕ) (m n : ℕ) → IsBatchKey (data_key key) keys.now
+        → first ≡ tweak_of key m 0 → second ≡ tweak_of key n 0
+        → units.new
+        ≡ xts_decrypted key m (take 512 units.old) ++ xts_decrypted key n (drop 512 units.old) }
+{
+    let mut tweaks = [0; 1024];
+    let (low, high) = tweaks.split_at_mut(512);
+    put_tweaks(first, low);
+    put_tweaks(second, high);
+    decrypt_under(keys, &tweaks, units);
 }
 
 // Whether a key can have this number of bytes.
@@ -124,37 +198,6 @@ impl XtsKey {
         xor_vector(tweak, piece);
     }
 
-    // Decrypts each block of a batch of 32 or 64 under its tweak.
-    fn decrypt_under(&self, tweaks: &[u8], batch: &mut [u8])
-        requires whole { length batch.old % 512 ≡ 0 }
-        requires least { 512 ≤ length batch.old }
-        requires most { length batch.old ≤ 1024 }
-        requires tweaks { length tweaks.now ≡ length batch.old }
-        ensures { (n : ℕ) → 16 * n < length batch.old
-            → block_at batch.new n
-            ≡ block_decrypted self.now (block_at tweaks.now n) (block_at batch.old n) }
-    {
-        self.data_key.decrypt_batch(batch, tweaks, tweaks);
-    }
-
-    // Decrypts a batch of 32 or 64 blocks, the first of them under `tweak`, and returns the tweak
-    // of the block after them. The buffer for their tweaks is as long as the batch.
-    fn decrypt_batch(&self, tweak: u8x16, tweaks: &mut [u8], batch: &mut [u8]) -> u8x16
-        requires whole { length batch.old % 512 ≡ 0 }
-        requires least { 512 ≤ length batch.old }
-        requires most { length batch.old ≤ 1024 }
-        requires capacity { length tweaks.old ≡ length batch.old }
-        ensures value { batch.new
-            ≡ joined
-            (λ n. block_decrypted self.now (tweak_after tweak n) (block_at batch.old n))
-            (length batch.old / 16) }
-        ensures next { result ≡ tweak_after tweak (length batch.old / 16) }
-    {
-        let next = put_tweaks(tweak, tweaks);
-        self.decrypt_under(tweaks, batch);
-        next
-    }
-
     /// Encrypts the data unit of this number in place (IEEE 1619, 5.3.2). Its length is a multiple
     /// of 16 bytes, from 16 to 4096.
     pub fn encrypt_unit(&self, number: u64, unit: &mut [u8])
@@ -186,13 +229,14 @@ impl XtsKey {
         ensures undone { xts_encrypted self.now number unit.new ≡ unit.old }
     {
         let mut tweak = self.first_tweak(number);
+        let keys = self.data_key.round_keys();
         let blocks = unit.len() / 16;
         let mut tweaks = [0; 1024];
         let mut done = 0;
         'batches: while blocks - done >= 32 {
             let count = batch_size(blocks - done);
             let batch = &mut unit[16 * done..16 * done + 16 * count];
-            let next = self.decrypt_batch(tweak, &mut tweaks[..16 * count], batch);
+            let next = decrypt_batch(keys, tweak, &mut tweaks[..16 * count], batch);
             tweak = next;
             done += count;
         }
@@ -210,10 +254,8 @@ impl XtsKey {
             ≡ xts_decrypted self.now first (take 512 units.old)
             ++ xts_decrypted self.now second (drop 512 units.old) }
     {
-        let mut tweaks = [0; 1024];
-        let (low, high) = tweaks.split_at_mut(512);
-        put_tweaks(self.first_tweak(first), low);
-        put_tweaks(self.first_tweak(second), high);
-        self.decrypt_under(&tweaks, units);
+        let first_tweak = self.first_tweak(first);
+        let second_tweak = self.first_tweak(second);
+        decrypt_both(self.data_key.round_keys(), first_tweak, second_tweak, units);
     }
 }

@@ -9,7 +9,7 @@ use Rattle.luks_aes_batch.proofs.key.decrypt_states.Given as goal
 abbrev pub invariant-loop-round : goal.invariant-loop-round
 invariant-loop-round g l = record {
   some : 1 ≤ l.round;
-  hold : (key : List ℕ) (s : ℕ → List ℕ) → IsBatchKey key l.first l.between l.last
+  hold : (key : List ℕ) (s : ℕ → List ℕ) → IsBatchKey key l.keys
       → l.rounds ≡ rounds_of key → IsBytes key → ((m : ℕ) → IsBytes (s m)) → RepresentStates s 0 l.fn.state
       → RepresentRotated (λ m. inv_state_after (s m) l.rounds (key_expansion key) (l.rounds - l.round)) l.state;
 }

@@ -7,13 +7,12 @@ use Rattle.luks_cipher.proofs.cbc.decrypt_by.Goals as goal
 
 pub returns-clause-value : goal.returns-clause-value
 unfolding block_xor
-returns-clause-value c =
+returns-clause-value c key is =
     let old = c.args.batch.now in
     let chain = c.put_chain.new.chain in
-    let key = c.args.key.now in
     from_blocks _ (λ n. block_xor (decrypted key (block_at old n)) (block_before c.args.before old n))
     (length old / 16) (omega arith)
-    (λ n low. c.decrypt_batch.ensures n (omega arith)
+    (λ n low. c.decrypt_batch.ensures key n is (omega arith)
     ∙ (λ i. block_xor (decrypted key (zero_mask old c.args.zeros.now n (omega arith) c.requires.zeros i))
     (block_of_part chain n (length old) (omega arith) i))
     ∙ ap (block_xor (decrypted key (block_at old n))) (c.put_chain.ensures n (omega arith)))

@@ -9,8 +9,7 @@ use Rattle.luks_cipher.proofs.cbc.decrypt_pair_by.Goals as goal
 
 pub returns : goal.returns
 unfolding cbc_decrypted block_xor
-returns c =
-    let key = c.args.key.now in
+returns c key is =
     let pair = c.args.pair.now in
     let low = c.put_chain.new.chain in
     let high = c.put_chain-2.new.chain in
@@ -22,7 +21,7 @@ returns c =
     both_done (λ (before block : List ℕ). block_xor (decrypted key block) before)
     (block_before c.args.iv (take 512 pair)) (block_before c.args.next_iv (drop 512 pair)) pair
     c.decrypt_batch.new.batch (take 512 low ++ high) c.requires.pair (omega arith)
-    (λ n few. c.decrypt_batch.ensures n few
+    (λ n few. c.decrypt_batch.ensures key n is few
     ∙ (λ i. block_xor (decrypted key (zero_mask pair c.args.zeros.now n (omega arith) c.requires.zeros i))
     ((block_of_part _ n 1024 (omega arith) ∙ ap (λ x. block_at x n) chains) i)))
     (λ j few. first_of_both (take 512 low) high j front few ∙ block_of_part low j 512 (omega arith)

@@ -1,6 +1,7 @@
 use Rattle.std.proofs.Common.{◌∙◌, ℕ, arith, refl}
 use Rattle.luks_aes.specs.Field.{◌⊕◌}
 use Rattle.luks_aes_batch.specs.Words.{GroupHolds, GroupsHold}
+use Rattle.luks_aes_batch.specs.RoundKeys.{state_of_key}
 use Rattle.luks_aes_batch.proofs.WordLemmas.{group_same, one_more_group}
 use Rattle.luks_aes_batch.proofs.state.BitslicedState.add_key.Goals as goal
 
@@ -14,7 +15,7 @@ loop-g-preserved g c =
     let step = c.add_key_to.ensures in
     record {
       done = one_more_group
-          (λ i x. (y z : ℕ → ℕ → ℕ) → GroupHolds y i c.args.self.now → GroupsHold (λ g. z) c.args.key.now
+          (λ i x. (y z : ℕ → ℕ → ℕ) → GroupHolds y i c.args.self.now → GroupsHold (λ g. z) (state_of_key c.args.key.now)
           → GroupHolds (λ r q. y r q ⊕ z r q) i x)
           i _ _
           (λ k same done y z holds key. group_same same (done y z holds key)) step.below before.done

@@ -1,6 +1,7 @@
 use Rattle.std.proofs.Common.{◌≡◌, ◌∙◌, ℕ, ◌+◌, ◌<◌, arith, refl, subst, sym}
 use Rattle.luks_aes_batch.specs.Mixing.{mixed_and_shifted}
 use Rattle.luks_aes_batch.specs.Words.{GroupHolds, GroupsHold}
+use Rattle.luks_aes_batch.specs.RoundKeys.{state_of_key}
 use Rattle.luks_aes_batch.proofs.WordLemmas.{group_same, one_more_group}
 use Rattle.luks_aes_batch.proofs.state.BitslicedState.inv_mix_columns.Goals as goal
 
@@ -14,7 +15,7 @@ loop-g-preserved g c =
     let step = c.inv_mix_columns_of-in-loop-g.ensures in
     record {
       done = one_more_group
-          (λ i x. (y z : ℕ → ℕ → ℕ) → GroupHolds y i c.args.self.now → GroupsHold (λ g. z) c.args.key.now
+          (λ i x. (y z : ℕ → ℕ → ℕ) → GroupHolds y i c.args.self.now → GroupsHold (λ g. z) (state_of_key c.args.key.now)
           → GroupHolds (mixed_and_shifted y z) i x)
           i _ _
           (λ k same done y z holds key. group_same same (done y z holds key)) step.below before.done

@@ -1,6 +1,6 @@
 use Rattle.std.proofs.Common.{◌≡◌, ◌/◌, length, ap, add-one, arith, ◌∙◌, rules}
 use Rattle.luks_cipher.specs.Xts.{doubled, tweak_after, tweak_of, xts_encrypted, xts_decrypted}
-use Rattle.luks_cipher.proofs.UnitLemmas.{done_none, done_all, progress_next, progress_batch, tweak_more}
+use Rattle.luks_cipher.proofs.UnitLemmas.{data_keys_of, done_none, done_all, progress_next, progress_batch, tweak_more}
 use Rattle.luks_cipher.proofs.UnitsUndone.{xts_decrypted-xts_encrypted, xts_encrypted-xts_decrypted}
 use Rattle.luks_cipher.proofs.xts.XtsKey.decrypt_unit.Goals as goal
 
@@ -22,7 +22,9 @@ batches-preserved c =
     record {
       few = omega arith;
       progress = progress_batch _ _ (tweak_after c.batches.tweak) _ _ c.decrypt_batch-next.new.batch _ _ done count _
-          before (omega arith) (omega arith) (omega arith) c.decrypt_batch-next.ensures.value
+          before (omega arith) (omega arith) (omega arith) (c.decrypt_batch-next.ensures.value c.args.self.now
+          (data_keys_of c.self.inside.data_key c.self.inside.tweak_key c.args.self.now c.self.invariant.same_length
+          c.self.view_is _ c.round_keys-keys.ensures))
           c.decrypt_batch-next.ensures.next
           (λ n few. ap (λ t. tweak_after t n) before.next ∙ tweak_more c.args.self.now c.args.number done n);
     }
