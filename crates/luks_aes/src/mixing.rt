@@ -181,7 +181,8 @@ static INV_MIXED: [u32; 256] = [
     0x7101a839, 0xdeb30c08, 0x9ce4b4d8, 0x90c15664, 0x6184cb7b, 0x70b632d5, 0x745c6c48, 0x4257b8d0,
 ];
 
-// The S-box, then each column of MixColumns' matrix, as tables: each entry is the definition's value.
+// The S-box, then each column of MixColumns' matrix, as tables: each entry is the definition's
+// value.
 #[derive(Drop)]
 struct Mixing {
     column_0: &'static [u32; 256],

@@ -4,7 +4,8 @@ ghost use Rattle.std.specs.Prelude.{◌≡◌, ◌*◌, ◌<◌, ◌≤◌, ◌%
 ghost use Rattle.std.specs.Prelude.{if◌then◌else◌};
 ghost use Rattle.luks_aes.specs.Aes.{decrypted, is_aes_key_length, rounds_of};
 ghost use Rattle.luks_aes.specs.Bytes.{IsBytes};
-ghost use Rattle.luks_aes_batch.specs.Blocks.{block_in, xored_blocks, masked_block, RepresentStates};
+ghost use Rattle.luks_aes_batch.specs.Blocks.{block_in, xored_blocks, masked_block};
+ghost use Rattle.luks_aes_batch.specs.Blocks.{RepresentStates};
 ghost use Rattle.luks_aes_batch.specs.RoundKeys.{IsBatchKey};
 
 use crate::round_keys::{CONSTANT, MAX_INNER_KEYS, RoundKeys, fill, inner_key, plain_round_key};

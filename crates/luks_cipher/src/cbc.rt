@@ -1,6 +1,7 @@
 //! CBC (NIST SP 800-38A, 6.2) over data units of whole blocks.
 
-ghost use Rattle.std.specs.Prelude.{◌≡◌, ◌+◌, ◌*◌, ◌/◌, ◌%◌, ◌≤◌, ◌++◌, List, length, take, drop, ℕ};
+ghost use Rattle.std.specs.Prelude.{◌≡◌, ◌+◌, ◌*◌, ◌/◌, ◌%◌, ◌≤◌, ◌++◌, List, ℕ, length};
+ghost use Rattle.std.specs.Prelude.{take, drop};
 ghost use Rattle.std.specs.Prelude.{slice_index};
 ghost use Rattle.luks_aes.specs.Aes.{encrypted, decrypted};
 ghost use Rattle.luks_aes.specs.Bytes.{IsBytes};
@@ -103,8 +104,8 @@ fn decrypt_batch(keys: &RoundKeys, before: [u8; 16], batch: &mut [u8]) -> [u8; 1
     decrypt_by(keys, before, &zeros[..len], &mut chain[..len + 16], batch)
 }
 
-/// Decrypts a data unit of whole batches in place by CBC (NIST SP 800-38A, 6.2) under the IV and the
-/// key whose round keys these are, if they are.
+/// Decrypts a data unit of whole batches in place by CBC (NIST SP 800-38A, 6.2) under the IV and
+/// the key whose round keys these are, if they are.
 pub(crate) fn decrypt_batches(keys: &RoundKeys, iv: [u8; 16], unit: &mut [u8])
     requires { length unit.old % 512 ≡ 0 }
     ensures { (key : List ℕ) → IsBatchKey key keys.now
@@ -191,12 +192,7 @@ fn decrypt_pair_by(
 
 /// Decrypts two data units of 512 bytes in place, each a chain with its own IV, under the key whose
 /// round keys these are, if they are.
-pub(crate) fn decrypt_both(
-    keys: &RoundKeys,
-    iv: [u8; 16],
-    next_iv: [u8; 16],
-    pair: &mut [u8],
-)
+pub(crate) fn decrypt_both(keys: &RoundKeys, iv: [u8; 16], next_iv: [u8; 16], pair: &mut [u8])
     requires { length pair.old ≡ 1024 }
     ensures { (key : List ℕ) → IsBatchKey key keys.now
         → pair.new

@@ -72,7 +72,7 @@ impl ExpandedKeys {
         }
     }
 
-    /// Decrypts sectors as [`SectorCipher::decrypt_units`](crate::SectorCipher::decrypt_units) does,
+    /// Decrypts sectors as [`decrypt_units`](crate::SectorCipher::decrypt_units) of a cipher does,
     /// by the cipher of this mode whose keys these are, if they are.
     pub fn decrypt_units(&self, mode: Mode, first: u64, size: usize, units: &mut [u8])
         requires multiple { size % 512 ≡ 0 }
