@@ -6,6 +6,7 @@
 # make check      runs the built program on files and pipes, and beside cryptsetup and qemu-img: all of `make test` but the gate
 # make test       what CI runs: the gate, which proves everything, tries each must-fail edit and runs the tests, and beside it the same
 #                 scripts on the program that it builds; it prints the processor time that each crate took
+# make pages      writes the pages that are made from the sources: docs/HEADLINE.md and docs/proofs/
 # make bench      measures key derivation, decryption and whole volumes beside other implementations, and memory
 # make library    builds the library for C: out/libluksrd.a, out/libluksrd.so and out/luksrd.pc, and the same for x86-64-v3 in
 #                 out/glibc-hwcaps, which the loader takes if the processor can run it
@@ -65,7 +66,7 @@ CFLAGS ?= -O2
 # the library's file, and the two names that lead to it
 SHARED_NAMES = libluksrd.so.$(VERSION) libluksrd.so.$(INTERFACE) libluksrd.so
 
-.PHONY: all demo check scripts program-scripts audit-scripts c-scripts tool-scripts v3-scripts v3-tool-scripts test bench library nbdkit tools toolchain built
+.PHONY: all demo check scripts program-scripts audit-scripts c-scripts tool-scripts v3-scripts v3-tool-scripts test pages bench library nbdkit tools toolchain built
 .PHONY: install install-program install-audit install-library install-shared install-plugin library-built runs-here uninstall deb
 
 all: $(PROGRAM) $(AUDIT)
@@ -151,7 +152,8 @@ check: $(PROGRAM_V2) $(PROGRAM_V3) $(AUDIT) $(TOOLS_V2) $(TOOLS_V3) library nbdk
 # output of each comes when it has ended. Some need the tools, or what is built from C.
 TESTS := stripes volumes devices pipes faults interruptions install memory hostile completions
 INTEROP := headers headers2 volumes volumes2 detached filesystems
-PROGRAM_SCRIPTS := test-names test-counts test-headline $(TESTS:%=test-%) $(INTEROP:%=interop-%)
+SOURCE_SCRIPTS := test-names test-counts test-headline test-contracts
+PROGRAM_SCRIPTS := $(SOURCE_SCRIPTS) $(TESTS:%=test-%) $(INTEROP:%=interop-%)
 C_SCRIPTS := test-package test-library test-processors interop-nbd interop-recipes
 TOOL_SCRIPTS := interop-sealed interop-keys
 AUDIT_SCRIPTS := interop-audit
@@ -159,7 +161,7 @@ ALL_SCRIPTS := $(PROGRAM_SCRIPTS) $(AUDIT_SCRIPTS) $(C_SCRIPTS) $(TOOL_SCRIPTS)
 # Those that are run once more with the program for x86-64-v3, and with its tools: all but those that read only the
 # sources, and those that take both programs.
 V3_TOOL_SCRIPTS := $(TOOL_SCRIPTS)
-V3_SCRIPTS := $(filter-out $(addprefix test-,names counts headline package processors) $(V3_TOOL_SCRIPTS),$(ALL_SCRIPTS))
+V3_SCRIPTS := $(filter-out $(SOURCE_SCRIPTS) test-package test-processors $(V3_TOOL_SCRIPTS),$(ALL_SCRIPTS))
 
 .PHONY: $(ALL_SCRIPTS)
 
@@ -186,8 +188,13 @@ v3-scripts v3-tool-scripts:
 test-names test-counts: test-%:
 	tests/$*
 
-test-headline:
-	docs/headline --check
+# They fail if a page is not as the script makes it from the sources.
+test-headline test-contracts: test-%:
+	docs/$* --check
+
+pages:
+	docs/headline
+	docs/contracts
 
 $(TESTS:%=test-%): test-%:
 	tests/$*.sh $(PROGRAM)

@@ -46,7 +46,7 @@ export work sources
 
 # listed VARIABLE: the scripts in a list of the Makefile, but those that read only the sources
 listed() {
-    make -s -C "$sources" -f Makefile -f - listed <<<$'listed:\n\t@printf \'%s\\n\' $('"$1)" | grep -vxE 'test-(names|counts|headline)'
+    make -s -C "$sources" -f Makefile -f - listed <<<$'listed:\n\t@printf \'%s\\n\' $('"$1)" | grep -vxE 'test-(names|counts|headline|contracts)'
 }
 for impostor in true false sleep; do
     for target in $(listed ALL_SCRIPTS); do printf '%s\0' "$target" $impostor "$work/$impostor"; done
