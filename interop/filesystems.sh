@@ -1,6 +1,7 @@
 #!/usr/bin/env bash
-# Reads file systems out of volumes, without mounting any: luksrd's output is compared with the file system that was sealed, checked by that file system's own checker,
-# read file by file with GRUB's reader, and compared with what nbdkit (for LUKS1) and GRUB (for both versions) read from the same volume.
+# Reads file systems out of volumes, without mounting any: luksrd's output is compared with the file system that was
+# sealed, checked by that file system's own checker, read file by file with GRUB's reader, and compared with what
+# nbdkit (for LUKS1) and GRUB (for both versions) read from the same volume.
 # shellcheck source=interop/common.sh
 . "$(dirname "$0")/common.sh"
 
@@ -24,13 +25,15 @@ checked() {
     echo $?
 }
 
-# grub IMAGE ARGUMENT..: GRUB's reader over an image, which asks for the passphrase if the image is a volume; it has no terminal, so it reads standard input
+# grub IMAGE ARGUMENT..: GRUB's reader over an image, which asks for the passphrase if the image is a volume; it has
+# no terminal, so it reads standard input
 grub() {
     setsid -w grub-fstest -C "$work/$1" "${@:2}" <line >err 2>&1
     echo $?
 }
 
-# reads IMAGE NAME: luksrd gives the file system of this kind whole, and with the files that were put into it; GRUB reads the same from the volume
+# reads IMAGE NAME: luksrd gives the file system of this kind whole, and with the files that were put into it; GRUB
+# reads the same from the volume
 reads() {
     local file size
     size=$(stat -c %s "$2")

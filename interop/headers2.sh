@@ -44,7 +44,8 @@ for hash in sha1 sha224 sha256 sha384 sha512; do
     agree "$hash" primary 16384
     clean "$hash"
 done
-for sealed in 'aes-xts-plain64 512 512' 'aes-xts-plain64 512 1024' 'aes-xts-plain64 256 2048' 'aes-xts-plain64 512 4096' 'aes-xts-plain 512 512' \
+for sealed in 'aes-xts-plain64 512 512' 'aes-xts-plain64 512 1024' 'aes-xts-plain64 256 2048' \
+    'aes-xts-plain64 512 4096' 'aes-xts-plain 512 512' \
     'aes-cbc-essiv:sha256 256 512' 'aes-cbc-plain64 128 512'; do
     read -r cipher bits sector <<<"$sealed"
     format "$sealed" "${fast[@]}" --cipher "$cipher" --key-size "$bits" --sector-size "$sector"
@@ -56,8 +57,10 @@ done
 format several "${fast[@]}" --label 'a label' --subsystem 'a subsystem'
 cryptsetup -q luksAddKey "${fast[@]}" --key-file pass several pass2 || exit 1
 cryptsetup -q luksAddKey "${fast[@]}" --key-slot 10 --key-file pass several pass2 || exit 1
-cryptsetup -q luksAddKey --pbkdf argon2id --pbkdf-force-iterations 4 --pbkdf-memory 32 --pbkdf-parallel 1 --key-slot 2 --key-file pass several pass2 || exit 1
-cryptsetup -q luksAddKey --pbkdf argon2i --pbkdf-force-iterations 4 --pbkdf-memory 32 --pbkdf-parallel 1 --key-slot 31 --key-file pass several pass2 || exit 1
+cryptsetup -q luksAddKey --pbkdf argon2id --pbkdf-force-iterations 4 --pbkdf-memory 32 --pbkdf-parallel 1 --key-slot 2 \
+    --key-file pass several pass2 || exit 1
+cryptsetup -q luksAddKey --pbkdf argon2i --pbkdf-force-iterations 4 --pbkdf-memory 32 --pbkdf-parallel 1 --key-slot 31 \
+    --key-file pass several pass2 || exit 1
 cryptsetup -q config --key-slot 1 --priority prefer several || exit 1
 cryptsetup -q config --key-slot 10 --priority ignore several || exit 1
 cryptsetup token add --key-description luksrd --key-slot 0 several || exit 1
@@ -71,7 +74,8 @@ cryptsetup -q luksHeaderBackup --header-backup-file backup several || exit 1
 same 'a header backup: luksDump' "$(reported luksDump backup)" "$(theirs2 primary 16384 several)
 0"
 
-# Damaged headers. cryptsetup repairs what it reads, so it gets copies; the expected text is what it reports about the undamaged one.
+# Damaged headers. cryptsetup repairs what it reads, so it gets copies; the expected text is what it reports about the
+# undamaged one.
 cp several damaged
 dd if=/dev/zero of=damaged bs=512 count=1 conv=notrunc status=none
 same 'a damaged primary header: luksDump' "$(reported luksDump damaged)" "$(theirs2 secondary 16384 several)
@@ -86,7 +90,8 @@ same 'a damaged secondary header: luksDump' "$(reported luksDump damaged)" "$(th
 same 'a damaged secondary header: luksCheck' "$(reported luksCheck damaged)" 'secondary header: not valid
 luksrd: the header has findings
 1'
-# The brace that the primary header's metadata start with: most bytes after it are random, and would sometimes be the one written here.
+# The brace that the primary header's metadata start with: most bytes after it are random, and would sometimes be the
+# one written here.
 printf x | dd of=damaged bs=1 seek=4096 conv=notrunc status=none
 for command in luksUUID luksDump luksCheck; do
     same "both headers damaged: $command" "$(reported "$command" damaged)" 'luksrd: not a LUKS image

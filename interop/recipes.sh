@@ -1,7 +1,8 @@
 #!/usr/bin/env bash
 # Runs README's recipes and the examples of the man pages as they are written there, in bash and in zsh, on volumes of
-# cryptsetup and qemu-img: they write the plain text, all files that they make are private, and no image changes, not even one
-# with a damaged secondary header. Mounting is left out. nbdkit loads the plugin from where it is built (the second argument).
+# cryptsetup and qemu-img: they write the plain text, all files that they make are private, and no image changes, not
+# even one with a damaged secondary header. Mounting is left out. nbdkit loads the plugin from where it is built (the
+# second argument).
 readme=$(realpath "$(dirname "$0")/../README.md")
 pages=$(realpath "$(dirname "$0")/../docs")
 plugin=$(realpath "${2:?the built plugin}")
@@ -50,8 +51,9 @@ begins() {
     esac
 }
 
-# cooks FOLDER NEEDED TEXT..: runs these recipes in a folder with images, in each shell, with links to the other files that
-# they need; no image changes. PAGE:TEXT is an example of a man page. Left out is what needs root, a disk or a terminal.
+# cooks FOLDER NEEDED TEXT..: runs these recipes in a folder with images, in each shell, with links to the other files
+# that they need; no image changes. PAGE:TEXT is an example of a man page. Left out is what needs root, a disk or a
+# terminal.
 cooks() {
     local folder=$1 needed=$2 shell text
     shift 2
@@ -71,7 +73,8 @@ cooks() {
     for shell in bash 'zsh -o interactive_comments'; do
         (cd "$folder" && $shell ../script <../typed) >"$folder, ${shell%% *}" 2>&1
         mv "$folder/rescue" "rescue $folder, ${shell%% *}"
-        same "$folder in $shell: files that others may read" "$(find "rescue $folder, ${shell%% *}" -type f -perm /077 ! -name plain.pid)" ''
+        same "$folder in $shell: files that others may read" "$(find "rescue $folder, ${shell%% *}" -type f -perm /077 \
+            ! -name plain.pid)" ''
         same "$folder in $shell: the images" "$(cd "$folder" && sha256sum -- *)" "$(cat before)"
     done
 }
@@ -81,7 +84,8 @@ cooks() {
 gives() {
     local shell
     for shell in bash zsh; do
-        same "$1 in $shell: $2" "$(head -c "$(stat -c %s "$3")" "rescue $1, $shell/$2" | sha256sum)" "$(sha256sum <"$3")"
+        same "$1 in $shell: $2" "$(head -c "$(stat -c %s "$3")" "rescue $1, $shell/$2" | sha256sum)" \
+            "$(sha256sum <"$3")"
     done
 }
 
@@ -143,10 +147,12 @@ cooks served '' nbdkit-luksrd-plugin.1:'Copy the plaintext out' nbdkit-luksrd-pl
     nbdkit-luksrd-plugin.1:'Serve a volume to tools'
 gives served plain.img plain
 for shell in bash zsh; do
-    same "served in $shell: plain.qcow2" "$(qemu-img compare "rescue served, $shell/plain.qcow2" plain)" 'Images are identical.'
+    same "served in $shell: plain.qcow2" "$(qemu-img compare "rescue served, $shell/plain.qcow2" plain)" \
+        'Images are identical.'
     for folder in served scratch; do
         server=$(cat "rescue served, $shell/$folder/plain.pid")
-        same "served in $shell: the server in $folder" "$([ -n "$server" ] && wait_until $$ has_ended "$server"; echo $?)" 0
+        same "served in $shell: the server in $folder" "$([ -n "$server" ] && wait_until $$ has_ended "$server";
+            echo $?)" 0
     done
 done
 says served 'is_read_only: false'
@@ -215,7 +221,8 @@ gives any window window
 says any '16777216 bytes'
 says any 'start=       18432, size=       12288'
 for shell in bash zsh; do
-    same "any in $shell: plain.qcow2" "$(qemu-img compare "rescue any, $shell/plain.qcow2" plain)" 'Images are identical.'
+    same "any in $shell: plain.qcow2" "$(qemu-img compare "rescue any, $shell/plain.qcow2" plain)" \
+        'Images are identical.'
 done
 mkdir second
 printf 'label: gpt\nstart=2048, size=2048\nstart=4096, size=16384\n' | sfdisk -q plain >err 2>&1
@@ -274,7 +281,8 @@ same 'a slot of priority 0 by its number' "$(reported testPassphrase --key-slot 
     'Key slot 1 opens the volume.
 0'
 cryptsetup config --priority ignore --key-slot 0 whole_volume
-same 'slots of priority 0 alone' "$(reported testPassphrase --key-file pass whole_volume)" 'luksrd: no key slot can be tried
+same 'slots of priority 0 alone' "$(reported testPassphrase --key-file pass whole_volume)" \
+    'luksrd: no key slot can be tried
 1'
 cp -r backup backup_page
 cooks backup_page backup luksrd.1:'Decrypt a volume whose header is damaged'
@@ -284,18 +292,21 @@ gives backup_page plain.img plain
 mkdir argon2
 cp plain argon2/disk.img
 truncate -s +4M argon2/disk.img
-cryptsetup -q reencrypt --encrypt --type luks2 --reduce-device-size 4M --force-offline-reencrypt --luks2-metadata-size 16k \
+cryptsetup -q reencrypt --encrypt --type luks2 --reduce-device-size 4M --force-offline-reencrypt \
+    --luks2-metadata-size 16k \
     --luks2-keyslots-size 1m "${by_argon2[@]}" --key-file pass argon2/disk.img >err 2>&1 || { cat err; exit 1; }
 if command -v systemd-cryptenroll >err; then
     cp argon2/disk.img recovered
     systemd-cryptenroll --unlock-key-file=pass --recovery-key recovered 2>err | tr -d '\n' >recovery_key
-    same 'a recovery key of systemd' "$(reported testPassphrase --key-file recovery_key recovered)" 'Key slot 1 opens the volume.
+    same 'a recovery key of systemd' "$(reported testPassphrase --key-file recovery_key recovered)" \
+        'Key slot 1 opens the volume.
 0'
 else
     skip 'a recovery key of systemd' 'there is no systemd-cryptenroll'
 fi
 damaged argon2/disk.img
-same 'a volume of Argon2' "$(reported testPassphrase --key-file pass argon2/disk.img)" 'luksrd: no key slot can be tried; skipped: 0 (argon2id)
+same 'a volume of Argon2' "$(reported testPassphrase --key-file pass argon2/disk.img)" \
+    'luksrd: no key slot can be tried; skipped: 0 (argon2id)
 1'
 cooks argon2 '' 'Argon2 key slots only'
 gives argon2 plain.img plain

@@ -1,9 +1,11 @@
 #!/usr/bin/env bash
-# Compares what luksrd reads from LUKS2 volumes with the plain bytes that cryptsetup encrypted into them, and with what cryptsetup reports about their key slots.
+# Compares what luksrd reads from LUKS2 volumes with the plain bytes that cryptsetup encrypted into them, and with
+# what cryptsetup reports about their key slots.
 # shellcheck source=interop/common.sh
 . "$(dirname "$0")/common.sh"
 
-# gives IMAGE SOURCE KEY: the payload of the image, read from a file or as a pipe (-), begins with the plain bytes, and the run succeeds
+# gives IMAGE SOURCE KEY: the payload of the image, read from a file or as a pipe (-), begins with the plain bytes,
+# and the run succeeds
 gives() {
     if [ "$2" = - ]; then
         dd if="$1" bs=777 status=none | "$program" luksCat --key-file "$3" - >payload 2>message
@@ -46,7 +48,8 @@ printf 'a wrong one' >wrong
 head -c 300032 /dev/urandom >plain
 truncate -s 303104 plain
 
-for sealed in 'xts-plain64 256' 'xts-plain64 512' 'xts-plain 512' 'cbc-essiv:sha256 128' 'cbc-essiv:sha256 256' 'cbc-plain64 128' 'cbc-plain64 256'; do
+for sealed in 'xts-plain64 256' 'xts-plain64 512' 'xts-plain 512' 'cbc-essiv:sha256 128' 'cbc-essiv:sha256 256' \
+    'cbc-plain64 128' 'cbc-plain64 256'; do
     for sector in 512 4096; do
         seal "$sealed $sector" "aes-${sealed% *}" "${sealed#* }" --sector-size "$sector"
         opens "$sealed $sector"
@@ -63,12 +66,15 @@ done
 
 # key slots by number, by priority, and with a limit
 seal slots aes-xts-plain64 512
-same 'slot 1 by its number' "$(reported testPassphrase --key-slot 1 --key-file pass2 slots)" 'Key slot 1 opens the volume.
+same 'slot 1 by its number' "$(reported testPassphrase --key-slot 1 --key-file pass2 slots)" \
+    'Key slot 1 opens the volume.
 0'
 same 'slot 1 with the passphrase of slot 0' "$(reported testPassphrase --key-slot 1 --key-file pass slots)" "$no_key"
-same 'a slot that is not there' "$(reported testPassphrase --key-slot 7 --key-file pass slots)" 'luksrd: key slot 7 is not there
+same 'a slot that is not there' "$(reported testPassphrase --key-slot 7 --key-file pass slots)" \
+    'luksrd: key slot 7 is not there
 1'
-same 'a limit that slot 0 meets' "$(reported testPassphrase --max-iterations 1000 --key-file pass slots)" 'Key slot 0 opens the volume.
+same 'a limit that slot 0 meets' "$(reported testPassphrase --max-iterations 1000 --key-file pass slots)" \
+    'Key slot 0 opens the volume.
 0'
 same 'a limit that no slot meets' "$(reported testPassphrase --max-iterations 999 --key-file pass slots)" \
     'luksrd: no key slot can be tried; skipped: 0 (iterations), 1 (iterations)
@@ -77,8 +83,10 @@ cryptsetup -q config --priority ignore --key-slot 0 slots
 same 'a slot that is to be ignored' "$(reported testPassphrase --key-file pass slots)" "$no_key"
 same 'unless it is named' "$(reported testPassphrase --key-slot 0 --key-file pass slots)" 'Key slot 0 opens the volume.
 0'
-cryptsetup -q luksConvertKey --key-slot 1 --pbkdf argon2id --pbkdf-memory 32 --pbkdf-parallel 1 --pbkdf-force-iterations 4 --key-file pass2 slots
-same 'Argon2 alone' "$(reported testPassphrase --key-file pass2 slots)" 'luksrd: no key slot can be tried; skipped: 1 (argon2id)
+cryptsetup -q luksConvertKey --key-slot 1 --pbkdf argon2id --pbkdf-memory 32 --pbkdf-parallel 1 \
+    --pbkdf-force-iterations 4 --key-file pass2 slots
+same 'Argon2 alone' "$(reported testPassphrase --key-file pass2 slots)" \
+    'luksrd: no key slot can be tried; skipped: 1 (argon2id)
 1'
 
 # one header is damaged

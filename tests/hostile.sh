@@ -1,7 +1,7 @@
 #!/usr/bin/env bash
-# Runs the built program over damaged and generated headers of both versions: first runs whose status, output and message are known, one at least for each
-# status, then generated ones, of which a third at least reach the key slots and go on to the payload (tests/hostile.py). SEED gives the same again, and RUNS
-# another number of them.
+# Runs the built program over damaged and generated headers of both versions: first runs whose status, output and
+# message are known, one at least for each status, then generated ones, of which a third at least reach the key slots
+# and go on to the payload (tests/hostile.py). SEED gives the same again, and RUNS another number of them.
 sample=$(realpath "$(dirname "$0")/../sample")
 generator=$(realpath "$(dirname "$0")/hostile.py")
 # shellcheck source=interop/common.sh
@@ -36,7 +36,8 @@ known 'its findings' 1 "$(lines 'primary header: not valid')" 'luksrd: the heade
 damaged volume upper 8 'AES'
 known 'a cipher that is not read' 1 '' 'luksrd: segment refused: encryption' luksCat --key-file pass upper
 damaged volume zero 212 '\0\0\0\0'
-known 'a slot of no iterations' 1 '' 'luksrd: no key slot can be tried; skipped: 0 (iterations)' luksCat --key-file pass zero
+known 'a slot of no iterations' 1 '' 'luksrd: no key slot can be tried; skipped: 0 (iterations)' luksCat \
+    --key-file pass zero
 known 'a wrong passphrase' 2 '' 'luksrd: no key opens the volume' luksCat --key-file wrong volume
 damaged volume digest 112 '\377\377'
 known 'a damaged digest' 2 '' 'luksrd: no key opens the volume' testPassphrase --key-file pass digest
@@ -46,7 +47,8 @@ known 'no LUKS header' 1 '' '' isLuks magic
 head -c 591 volume >short
 known 'a header that is too short' 4 '' 'luksrd: image ends inside the header or a key area' luksUUID short
 
-# nested BYTES: a LUKS2 header of 1 MiB, whose JSON text is an object with an array of so many bytes, nested a hundred deep
+# nested BYTES: a LUKS2 header of 1 MiB, whose JSON text is an object with an array of so many bytes, nested a hundred
+# deep
 nested() {
     python3 - "$1" <<'PYTHON'
 import hashlib, struct, sys
@@ -72,7 +74,8 @@ for arguments in 'luksDump volume' 'luksCat --key-file pass volume'; do
     expect "$arguments to a full device" 6 '' 'luksrd: write failed'
 done
 
-# volumes of cryptsetup and qemu-img, with few iterations and small key areas; each has the same plain text, and two slots for pass2
+# volumes of cryptsetup and qemu-img, with few iterations and small key areas; each has the same plain text, and two
+# slots for pass2
 printf 'a passphrase' >pass
 printf 'another one' >pass2
 head -c 16384 /dev/urandom >plain

@@ -1,13 +1,15 @@
 #!/usr/bin/env bash
-# Runs the built program in growing address space, from the least that it starts in. Each run ends as it would without a limit, or, as long
-# as the command has not succeeded yet, with status 3, `out of memory` and no output. In the space of a start, of the bytes that the command
-# has to hold, and of SLACK, it succeeds: so nothing is held twice, and no buffer is larger than what it is for.
+# Runs the built program in growing address space, from the least that it starts in. Each run ends as it would without
+# a limit, or, as long as the command has not succeeded yet, with status 3, `out of memory` and no output. In the
+# space of a start, of the bytes that the command has to hold, and of SLACK, it succeeds: so nothing is held twice,
+# and no buffer is larger than what it is for.
 # shellcheck source=tests/inputs.sh
 . "$(dirname "$0")/inputs.sh"
 gzip -dc "$sample/volume2.img.gz" >volume2
 cp "$sample/plain.txt" "$sample/plain2.txt" .
 
-# volumes like volume2 with headers of 4 MiB: both valid, and only the second one; with a key area that ends where the last one may; and no volume
+# volumes like volume2 with headers of 4 MiB: both valid, and only the second one; with a key area that ends where the
+# last one may; and no volume
 python3 - <<'PYTHON'
 import hashlib
 whole, SMALL, LARGE, LIMIT = open("volume2", "rb").read(), 16384, 4 << 20, 32 << 20

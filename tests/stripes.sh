@@ -1,5 +1,6 @@
 #!/usr/bin/env bash
-# Runs the built program's stripe commands on files and on pipes, as a user would, and compares output, message and status.
+# Runs the built program's stripe commands on files and on pipes, as a user would, and compares output, message and
+# status.
 # shellcheck source=tests/common.sh
 . "$(dirname "$0")/common.sh"
 
@@ -81,7 +82,8 @@ cp rest out
 expect 'the rest of the pipe' 0 7468652072657374 ''
 
 # arguments
-for line in '' 'afSplit' 'luksrd' '--help' '-h' 'help' '--version' 'afMerge --hash sha256 --stripes 4001 --key-bytes 32 stripes' \
+for line in '' 'afSplit' 'luksrd' '--help' '-h' 'help' '--version' \
+    'afMerge --hash sha256 --stripes 4001 --key-bytes 32 stripes' \
     'afMerge --hash sha3 --stripes 1 --key-bytes 32 stripes' 'afSplit --hash sha256 --stripes 2 --random - -' \
     'luksCat --key-file - -' 'afMerge --hash sha256 --stripes +1 --key-bytes 32 stripes'; do
     # shellcheck disable=SC2086
