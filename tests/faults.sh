@@ -39,7 +39,10 @@ mkfifo fifo
 
 # whole FILE: writes the bytes of a file into a pipe that holds all of them, at once
 whole() {
-    exec python3 -c 'import fcntl, os, sys; fcntl.fcntl(1, 1031, 1 << 20); os.write(1, open(sys.argv[1], "rb").read())' "$1" 2>/dev/null
+    exec python3 -c '
+import fcntl, os, sys
+fcntl.fcntl(1, 1031, 1 << 20)
+os.write(1, open(sys.argv[1], "rb").read())' "$1" 2>/dev/null
 }
 
 # offer KIND FILE: an input of this kind that has these bytes: $offered is its name for the program, and $shown how

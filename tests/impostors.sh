@@ -24,7 +24,8 @@ static int configure(const char *name, const char *value) { $2; }
 static void *start(int is_read_only) { return NBDKIT_HANDLE_NOT_NEEDED; }
 static int64_t size(void *handle) { return 0; }
 static int serve(void *handle, void *bytes, uint32_t count, uint64_t offset, uint32_t flags) { return -1; }
-static struct nbdkit_plugin plugin = { .name = "impostor", .config = configure, .open = start, .get_size = size, .pread = serve };
+static struct nbdkit_plugin plugin = {
+    .name = "impostor", .config = configure, .open = start, .get_size = size, .pread = serve };
 NBDKIT_REGISTER_PLUGIN(plugin)
 TEXT
 }

@@ -17,7 +17,8 @@ area, payload = whole[32768:98304], whole[1048576:]
 
 def header(at, size, area_offset):
     old = whole[SMALL if at else 0 :][:SMALL]
-    text = old.replace(b'"offset":"32768"', b'"offset":"%d"' % area_offset).replace(b'"1048576"', b'"%d"' % (area_offset + len(area)))
+    text = old.replace(b'"offset":"32768"', b'"offset":"%d"' % area_offset)
+    text = text.replace(b'"1048576"', b'"%d"' % (area_offset + len(area)))
     text = bytearray((text + bytes(size))[:size])
     text[8:16], text[256:264], text[448:512] = size.to_bytes(8, "big"), at.to_bytes(8, "big"), bytes(64)
     text[448:480] = hashlib.sha256(text).digest()
@@ -60,11 +61,13 @@ def read(name, start=0, end=None):
 
 def commands(name, header_len, held, text):
     """Each command over a volume: its arguments, the bytes of the image that it holds, and how it ends."""
-    uuid = read(name, 168 + 4096 * 1024 * (name == "second"), 208 + 4096 * 1024 * (name == "second")).rstrip(b"\0") + b"\n"
+    start = 4096 * 1024 * (name == "second")
+    uuid = read(name, start + 168, start + 208).rstrip(b"\0") + b"\n"
     yield ["isLuks", name], header_len, (0, b"", b"")
     yield ["luksUUID", name], header_len, (0, uuid, b"")
     yield ["luksDump", name], header_len, (0, run(["luksDump", name])[1], b"")
-    yield ["luksCheck", name], header_len, (1, b"primary header: not valid\n", FINDINGS) if name == "second" else (0, b"clean\n", b"")
+    check_of_second = 1, b"primary header: not valid\n", FINDINGS
+    yield ["luksCheck", name], header_len, check_of_second if name == "second" else (0, b"clean\n", b"")
     yield ["testPassphrase", *KEY, name], held, (0, TRIES, b"")
     yield ["luksCat", *KEY, name], held, (0, read(text), b"")
     yield ["luksCat", *KEY, "--header", name, name], held, (0, read(text), b"")
@@ -81,10 +84,12 @@ def grow(arguments, first, last, held, wanted):
     check(not wrong, arguments, "in spaces of these bytes:", wrong[:3])
     check(starved > 0 or held < SLACK, arguments, "was never out of memory")
     ended = run(arguments, last)
-    check(ended == wanted, arguments, "holds more than", held, "bytes and", SLACK, "for the rest:", ended[0], ended[2][:80])
+    check(ended == wanted, arguments, "holds more than", held, "bytes and", SLACK, "for the rest:", ended[0],
+          ended[2][:80])
 
 cases = [*commands("volume", 592, 260096, "plain.txt"), *commands("volume2", 32768, 98304, "plain2.txt"),
-         *commands("large", 8 << 20, (8 << 20) + 65536, "plain2.txt"), *commands("second", 8 << 20, (8 << 20) + 65536, "plain2.txt"),
+         *commands("large", 8 << 20, (8 << 20) + 65536, "plain2.txt"),
+         *commands("second", 8 << 20, (8 << 20) + 65536, "plain2.txt"),
          *commands("far", 32768, 32 << 20, "plain2.txt"), (["isLuks", "zeros"], (4 << 20) + 4096, (1, b"", b"")),
          (["luksUUID", "zeros"], (4 << 20) + 4096, (4, b"", b"luksrd: not a LUKS image\n"))]
 for arguments, _, wanted in cases:

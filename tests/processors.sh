@@ -114,7 +114,10 @@ tells() {
     expect "$name" "$2" "$wanted" "$3"
 }
 # refusal LEVEL OTHER: what the kit has a program for this level say on an older processor
-refusal() { echo "this machine lacks a feature of $1, which this program was built for: run it on another machine, or build it with --cpu $2"; }
+refusal() {
+    echo "this machine lacks a feature of $1, which this program was built for:" \
+        "run it on another machine, or build it with --cpu $2"
+}
 tells core2duo 127 "$(refusal x86-64-v2 x86-64)" "$program"
 tells Westmere 127 "$(refusal x86-64-v3 x86-64)" "$program_v3"
 tells Westmere 0 '' "$program"
