@@ -69,16 +69,16 @@ print(json.dumps(dict(version=2, offset=0, uuid=fields['UUID'], label=fields['La
 PYTHON
 }
 
-# agree1 IMAGE: the object of a LUKS1 image, but for slots that are not in use, is what cryptsetup reports
-agree1() {
+# lists_as_cryptsetup1 IMAGE: the object of a LUKS1 image, but for slots that are not in use, is what cryptsetup reports
+lists_as_cryptsetup1() {
     same "$1" "$("$audit" "$1" | jq -S \
         'del(.file, .findings, .weak) | .slots |= map(select(.state != "disabled") | del(.state, .reason, .can_try))')" \
         "$(object1 "$1")"
     same "$1: eight slots" "$("$audit" "$1" | jq '.slots | length')" 8
 }
 
-# agree2 IMAGE ROLE [OTHER]: the object of a LUKS2 image is what cryptsetup reports
-agree2() { same "$1" "$(listed "$1")" "$(object2 "$1" "$2" "${3-}")"; }
+# lists_as_cryptsetup2 IMAGE ROLE [OTHER]: the object of a LUKS2 image is what cryptsetup reports
+lists_as_cryptsetup2() { same "$1" "$(listed "$1")" "$(object2 "$1" "$2" "${3-}")"; }
 
 # weak IMAGE STATUS NAME..: the names and places of weaknesses, and the exit status
 weak() {
@@ -93,12 +93,12 @@ weak() {
 # LUKS1: hash functions, also one that luksrd does not know, and modes
 for hash in sha1 sha224 sha256 sha384 sha512 ripemd160; do
     format1 "$hash" aes-xts-plain64 "$hash" 512
-    agree1 "$hash"
+    lists_as_cryptsetup1 "$hash"
 done
 format1 cbc aes-cbc-essiv:sha256 sha256 128
-agree1 cbc
+lists_as_cryptsetup1 cbc
 format1 plain aes-xts-plain sha256 512
-agree1 plain
+lists_as_cryptsetup1 plain
 
 weak sha1 1 'slot 0 iterations' 'slot 0 sha1' 'slot 5 iterations' 'slot 5 sha1' 'digest 0 sha1'
 weak ripemd160 1 'slot 0 iterations' 'slot 5 iterations'
@@ -138,16 +138,16 @@ format() {
 }
 for size in 16 64 1024 4096; do
     format "of $size KiB" "${fast[@]}" --luks2-metadata-size "${size}k" --luks2-keyslots-size 1m
-    agree2 "of $size KiB" primary
+    lists_as_cryptsetup2 "of $size KiB" primary
 done
 for hash in sha1 sha224 sha256 sha384 sha512 ripemd160; do
     format "2 $hash" "${fast[@]}" --hash "$hash"
-    agree2 "2 $hash" primary
+    lists_as_cryptsetup2 "2 $hash" primary
 done
 for sealed in 'aes-xts-plain64 512 512' 'aes-xts-plain64 256 4096' 'aes-cbc-essiv:sha256 128 512'; do
     read -r cipher bits sector <<<"$sealed"
     format "$sealed" "${fast[@]}" --cipher "$cipher" --key-size "$bits" --sector-size "$sector"
-    agree2 "$sealed" primary
+    lists_as_cryptsetup2 "$sealed" primary
 done
 weak 'aes-cbc-essiv:sha256 128 512' 1 'segment cbc' 'segment short-key' 'slot 0 iterations' 'slot 0 cbc' \
     'slot 0 short-key'
@@ -164,7 +164,7 @@ cryptsetup -q config --priority prefer --key-slot 10 several || exit 1
 cryptsetup -q config --priority ignore --key-slot 2 several || exit 1
 printf '{"type":"mine\\t\\"","keyslots":["0","10"]}' | cryptsetup -q token import --token-id 3 --json-file - \
     several || exit 1
-agree2 several primary
+lists_as_cryptsetup2 several primary
 weak several 1 'slot 0 iterations' 'slot 10 iterations' 'slot 31 argon2-memory'
 same 'states' "$("$audit" several | jq -c '[.slots[] | [.number, .state, .reason, .can_try]]')" \
     '[[0,"usable",null,true],[2,"skipped","argon2id",false],[10,"usable",null,true],[31,"skipped","argon2i",false]]'
@@ -180,7 +180,7 @@ fi
 # a primary header that is wiped, a secondary one that is, and neither
 cp several 'primary wiped'
 dd if=/dev/zero of='primary wiped' bs=4096 count=1 conv=notrunc status=none
-agree2 'primary wiped' secondary 'not valid'
+lists_as_cryptsetup2 'primary wiped' secondary 'not valid'
 same 'findings' "$("$audit" 'primary wiped' | jq -c .findings)" '["primary header: not valid"]'
 cp several 'secondary wiped'
 dd if=/dev/zero of='secondary wiped' bs=4096 count=1 seek=4 conv=notrunc status=none

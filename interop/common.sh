@@ -85,6 +85,11 @@ for n in sorted(tree['digests'], key=int):
 PYTHON
 }
 
+# run_cryptsetup ARGUMENT..: cryptsetup with these arguments; its messages are shown if it fails
+run_cryptsetup() {
+    cryptsetup -q "$@" >err 2>&1 || { cat err >&2; exit 1; }
+}
+
 # format1 IMAGE CIPHER HASH KEY_BITS OPTION..: a volume of 3 MiB with the passphrases in pass (slot 0) and pass2 (slot
 # 5); slot 1 is killed
 format1() {
@@ -128,13 +133,10 @@ seal() {
     shift 3
     cp plain "$image"
     truncate -s +4M "$image"
-    cryptsetup -q reencrypt --encrypt --type luks2 --reduce-device-size 4M --force-offline-reencrypt \
-        --luks2-metadata-size 16k \
-        --luks2-keyslots-size 1m --cipher "$cipher" --key-size "$bits" --pbkdf pbkdf2 --pbkdf-force-iterations 1000 \
-        --key-file pass "$@" \
-        "$image" >err 2>&1 || { cat err >&2; exit 1; }
-    cryptsetup -q luksAddKey --pbkdf pbkdf2 --pbkdf-force-iterations 1200 --hash sha512 --key-file pass "$image" \
-        pass2 >err 2>&1 || { cat err >&2; exit 1; }
+    run_cryptsetup reencrypt --encrypt --type luks2 --reduce-device-size 4M --force-offline-reencrypt \
+        --luks2-metadata-size 16k --luks2-keyslots-size 1m --cipher "$cipher" --key-size "$bits" \
+        --pbkdf pbkdf2 --pbkdf-force-iterations 1000 --key-file pass "$@" "$image"
+    run_cryptsetup luksAddKey --pbkdf pbkdf2 --pbkdf-force-iterations 1200 --hash sha512 --key-file pass "$image" pass2
 }
 
 # start_of2 IMAGE: where the payload of a LUKS2 volume starts, as cryptsetup reports for a copy, since it repairs a

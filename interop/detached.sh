@@ -16,13 +16,9 @@ of_luks1=(--type luks1 --pbkdf-force-iterations 1000 --key-file pass)
 of_luks2=(--type luks2 --luks2-metadata-size 16k --luks2-keyslots-size 1m --pbkdf pbkdf2 --pbkdf-force-iterations 1000
     --key-file pass)
 
-# quietly ARGUMENT..: cryptsetup with these arguments; its messages are shown if it fails
-quietly() {
-    cryptsetup -q "$@" >err 2>&1 || { cat err >&2; exit 1; }
-}
-
-# reads PLAIN HEADER IMAGE KEY: luksCat gives these plain bytes, from files and with each of its inputs from a pipe
-reads() {
+# reads_detached PLAIN HEADER IMAGE KEY: luksCat gives these plain bytes, from files and with each of its inputs from
+# a pipe
+reads_detached() {
     local wanted header=$2 image=$3 key=$4 name="$3 by $2, $4"
     wanted=$(sum_of "$1" 0)
     same "$name" "$(sums luksCat --key-file "$key" --header "$header" "$image")" "$wanted"
@@ -38,9 +34,9 @@ reads() {
 0"
 }
 
-# agree HEADER IMAGE PLAIN DUMP: luksrd reports the same about the header as cryptsetup, and gives the plain bytes for
-# either passphrase, and for no other
-agree() {
+# matches_cryptsetup HEADER IMAGE PLAIN DUMP: luksrd reports the same about the header as cryptsetup, and gives the
+# plain bytes for either passphrase, and for no other
+matches_cryptsetup() {
     local header=$1 image=$2 key
     same "$header: isLuks" "$(reported isLuks --header "$header" "$image")" 0
     same "$header: luksUUID" "$(reported luksUUID --header "$header" "$image")" \
@@ -54,16 +50,16 @@ agree() {
     same "$header: luksCheck" "$(reported luksCheck --header "$header" "$image")" 'clean
 0'
     for key in pass pass2; do
-        reads "$3" "$header" "$image" "$key"
+        reads_detached "$3" "$header" "$image" "$key"
     done
     same "$header: a wrong passphrase" "$(reported luksCat --key-file wrong --header "$header" "$image")" "$no_key"
     same "$header: testPassphrase of a wrong one" "$(reported testPassphrase --key-file wrong --header "$header" \
         "$image")" "$no_key"
 }
 
-# agree1 and agree2 HEADER IMAGE PLAIN: the same for LUKS1, and for LUKS2
-agree1() { agree "$@" "$(theirs1 --header "$1" "$2")"; }
-agree2() { agree "$@" "$(theirs2 primary 16384 --header "$1" "$2")"; }
+# matches_cryptsetup1 and matches_cryptsetup2 HEADER IMAGE PLAIN: the same for LUKS1, and for LUKS2
+matches_cryptsetup1() { matches_cryptsetup "$@" "$(theirs1 --header "$1" "$2")"; }
+matches_cryptsetup2() { matches_cryptsetup "$@" "$(theirs2 primary 16384 --header "$1" "$2")"; }
 
 # replace_start FILE IMAGE START: the image with as many bytes of the file as it has before its payload, in place of
 # those
@@ -76,7 +72,7 @@ replace_start() {
 # the image is lost
 rescued() {
     local version=$1 image=$2 lost
-    quietly luksHeaderBackup --header-backup-file "backup of $image" "$image"
+    run_cryptsetup luksHeaderBackup --header-backup-file "backup of $image" "$image"
     same "$image by its backup" "$(sums luksCat --key-file pass --header "backup of $image" "$image")" \
         "$(sum_of "$4" 0)"
     replace_start /dev/zero "$image" "$3" >"$image, zeros"
@@ -84,20 +80,20 @@ rescued() {
     for lost in zeros noise; do
         same "$image, $lost: no header is left" "$(reported luksCat --key-file pass "$image, $lost")" "$no_luks
 4"
-        "agree$version" "backup of $image" "$image, $lost" "$4"
+        "matches_cryptsetup$version" "backup of $image" "$image, $lost" "$4"
     done
 }
 
 # add_key HEADER OPTION..: the passphrase in pass2 opens it too
 add_key() {
-    quietly luksAddKey --pbkdf-force-iterations 1200 --key-file pass "${@:2}" "$1" pass2
+    run_cryptsetup luksAddKey --pbkdf-force-iterations 1200 --key-file pass "${@:2}" "$1" pass2
 }
 
 # decrypted HEADER IMAGE: cryptsetup decrypts a copy of the image, under a copy of its LUKS2 header
 decrypted() {
     cp "$1" copy_header
     cp "$2" copy
-    quietly reencrypt --decrypt --force-offline-reencrypt --header copy_header --key-file pass copy
+    run_cryptsetup reencrypt --decrypt --force-offline-reencrypt --header copy_header --key-file pass copy
     cat copy
 }
 
@@ -106,7 +102,7 @@ decrypted() {
 detached1() {
     local name=$1
     cp noise "$name"
-    quietly luksFormat "${of_luks1[@]}" --cipher "$2" --key-size "$3" --header "$name.header" "${@:4}" "$name"
+    run_cryptsetup luksFormat "${of_luks1[@]}" --cipher "$2" --key-size "$3" --header "$name.header" "${@:4}" "$name"
     add_key "$name.header" --key-slot 5
 }
 
@@ -114,7 +110,7 @@ detached1() {
 detached2() {
     local name=$1
     cp noise "$name"
-    quietly luksFormat "${of_luks2[@]}" --cipher "$2" --key-size "$3" --header "$name.header" "${@:4}" "$name"
+    run_cryptsetup luksFormat "${of_luks2[@]}" --cipher "$2" --key-size "$3" --header "$name.header" "${@:4}" "$name"
     add_key "$name.header" --pbkdf pbkdf2
 }
 
@@ -122,7 +118,7 @@ detached2() {
 sealed2() {
     local name=$1
     cp plain "$name"
-    quietly reencrypt --encrypt "${of_luks2[@]}" --force-offline-reencrypt --cipher "$2" --key-size "$3" \
+    run_cryptsetup reencrypt --encrypt "${of_luks2[@]}" --force-offline-reencrypt --cipher "$2" --key-size "$3" \
         --header "$name.header" "${@:4}" "$name"
     add_key "$name.header" --pbkdf pbkdf2
 }
@@ -131,9 +127,10 @@ sealed2() {
 # decrypts no such image
 moved() {
     local name=$1
-    quietly luksDump --dump-volume-key --volume-key-file volume_key --key-file pass "$name.header"
+    run_cryptsetup luksDump --dump-volume-key --volume-key-file volume_key --key-file pass "$name.header"
     (head -c 4M /dev/urandom; cat "$name") >"$name, moved"
-    quietly luksFormat "${@:2}" --offset 8192 --volume-key-file volume_key --header "$name, moved.header" "$name, moved"
+    run_cryptsetup luksFormat "${@:2}" --offset 8192 --volume-key-file volume_key --header "$name, moved.header" \
+        "$name, moved"
     rm volume_key
 }
 
@@ -212,10 +209,10 @@ for sealed in 'xts-plain64 256' 'xts-plain64 512' 'xts-plain 256' 'xts-plain 512
     name="detached1 $sealed"
     detached1 "$name" "aes-${sealed% *}" "${sealed#* }"
     cp "$name.header" "$name.converted"
-    quietly convert --type luks2 "$name.converted"
+    run_cryptsetup convert --type luks2 "$name.converted"
     decrypted "$name.converted" "$name" >theirs
-    agree1 "$name.header" "$name" theirs
-    agree2 "$name.converted" "$name" theirs
+    matches_cryptsetup1 "$name.header" "$name" theirs
+    matches_cryptsetup2 "$name.converted" "$name" theirs
 done
 
 # LUKS2, likewise: for existing bytes, and for plain ones that are encrypted
@@ -225,32 +222,32 @@ for sealed in 'xts-plain64 256' 'xts-plain64 512' 'xts-plain 512' 'cbc-essiv:sha
         name="detached2 $sealed $sector"
         detached2 "$name" "aes-${sealed% *}" "${sealed#* }" --sector-size "$sector"
         decrypted "$name.header" "$name" >theirs
-        agree2 "$name.header" "$name" theirs
+        matches_cryptsetup2 "$name.header" "$name" theirs
         name="sealed2 $sealed $sector"
         sealed2 "$name" "aes-${sealed% *}" "${sealed#* }" --sector-size "$sector"
         decrypted "$name.header" "$name" >theirs
         same "$name: cryptsetup gives it back" "$(sha256sum <theirs)" "$(sha256sum <plain)"
-        agree2 "$name.header" "$name" plain
+        matches_cryptsetup2 "$name.header" "$name" plain
     done
-    quietly luksHeaderBackup --header-backup-file "$name.backup" "$name.header"
-    agree2 "$name.backup" "$name" plain
+    run_cryptsetup luksHeaderBackup --header-backup-file "$name.backup" "$name.header"
+    matches_cryptsetup2 "$name.backup" "$name" plain
 done
 
 # a payload that starts at a later offset
 for sealed in 256 512; do
     detached1 "further1 $sealed" aes-xts-plain64 "$sealed"
     cp "further1 $sealed.header" converted
-    quietly convert --type luks2 converted
+    run_cryptsetup convert --type luks2 converted
     decrypted converted "further1 $sealed" >theirs
     moved "further1 $sealed" "${of_luks1[@]}" --cipher aes-xts-plain64 --key-size "$sealed"
     add_key "further1 $sealed, moved.header" --key-slot 5
-    agree1 "further1 $sealed, moved.header" "further1 $sealed, moved" theirs
+    matches_cryptsetup1 "further1 $sealed, moved.header" "further1 $sealed, moved" theirs
     for sector in 512 4096; do
         name="further2 $sealed $sector"
         sealed2 "$name" aes-xts-plain64 "$sealed" --sector-size "$sector"
         moved "$name" "${of_luks2[@]}" --cipher aes-xts-plain64 --key-size "$sealed" --sector-size "$sector"
         add_key "$name, moved.header" --pbkdf pbkdf2
-        agree2 "$name, moved.header" "$name, moved" plain
+        matches_cryptsetup2 "$name, moved.header" "$name, moved" plain
     done
 done
 
@@ -329,30 +326,30 @@ same 'a detached header as the image, without --header' "$(reported luksCat --ke
 cp "$image2" image
 cp "$image2.header" header
 : >in
-# refused INPUT ARGUMENT..: these arguments are refused, since this input is missing
-refused() {
+# refuses_missing INPUT ARGUMENT..: these arguments are refused, since this input is missing
+refuses_missing() {
     local missing=$1
     shift
     same "$*" "$(reported "$@")" "luksrd: cannot open $missing
 4"
 }
 for command in isLuks luksUUID luksDump luksCheck; do
-    refused gone $command --header header gone
-    refused gone $command --header lost gone
-    refused lost $command --header lost image
+    refuses_missing gone $command --header header gone
+    refuses_missing gone $command --header lost gone
+    refuses_missing lost $command --header lost image
     run $command --header - -
     expect "usage: $command --header - -" 1 '' "$usage"
     run $command --header header --header header image
     expect "usage: $command with two headers" 1 '' "$usage"
 done
 for command in testPassphrase luksCat; do
-    refused gone $command --key-file pass --header header gone
-    refused gone $command --key-file pass --header lost gone
-    refused gone $command --key-file missing --header header gone
-    refused gone $command --key-file missing --header lost gone
-    refused lost $command --key-file pass --header lost image
-    refused lost $command --key-file missing --header lost image
-    refused missing $command --key-file missing --header header image
+    refuses_missing gone $command --key-file pass --header header gone
+    refuses_missing gone $command --key-file pass --header lost gone
+    refuses_missing gone $command --key-file missing --header header gone
+    refuses_missing gone $command --key-file missing --header lost gone
+    refuses_missing lost $command --key-file pass --header lost image
+    refuses_missing lost $command --key-file missing --header lost image
+    refuses_missing missing $command --key-file missing --header header image
     for line in '--key-file - --header - image' '--key-file - --header header -' '--key-file pass --header - -' \
         '--key-file - --header - -' \
         '--key-file=- --header=- image' '--key-file pass --header - -- -' \

@@ -32,9 +32,9 @@ grub() {
     echo $?
 }
 
-# reads IMAGE NAME: luksrd gives the file system of this kind whole, and with the files that were put into it; GRUB
-# reads the same from the volume
-reads() {
+# reads_file_system IMAGE NAME: luksrd gives the file system of this kind whole, and with the files that were put into
+# it; GRUB reads_file_system the same from the volume
+reads_file_system() {
     local file size
     size=$(stat -c %s "$2")
     "$program" luksCat --key-file pass "$1" >whole 2>message
@@ -76,7 +76,7 @@ one() {
     cp "$1" plain
     format1 "$1 in LUKS1 by $2-$3" "aes-$2" sha256 "$3"
     fill "$1 in LUKS1 by $2-$3"
-    reads "$1 in LUKS1 by $2-$3" "$1"
+    reads_file_system "$1 in LUKS1 by $2-$3" "$1"
     # nbdkit 1.32 crashes on ESSIV
     [[ $2 = *essiv* ]] || nbdkit_reads "$1 in LUKS1 by $2-$3"
 }
@@ -85,7 +85,7 @@ one() {
 two() {
     cp "$1" plain
     seal "$1 in LUKS2 by $2-$3 in sectors of $4" "aes-$2" "$3" --sector-size "$4"
-    reads "$1 in LUKS2 by $2-$3 in sectors of $4" "$1"
+    reads_file_system "$1 in LUKS2 by $2-$3 in sectors of $4" "$1"
 }
 
 for kind in ext4 vfat xfs; do

@@ -47,31 +47,26 @@ serves() {
     same "$1, the library for all processors" "$? $(cat said) $(sha256sum <copy)" "0  $(sha256sum <text)"
 }
 
-# says NAME MESSAGE: this is among the last messages
-says() {
+# plugin_says NAME MESSAGE: this is among the last messages
+plugin_says() {
     case $(cat said) in
     *"$2"*) passed=$((passed + 1)) ;;
     *) same "$1: what is said" "$(cat said)" "$2" ;;
     esac
 }
 
-# refused NAME MESSAGE PARAMETER..: the volume is not served, and this is among the messages
-refused() {
+# not_served NAME MESSAGE PARAMETER..: the volume is not served, and this is among the messages
+not_served() {
     served 'echo it is served' "${@:3}"
     same "$1: status" $? 1
-    says "$1" "$2"
+    plugin_says "$1" "$2"
 }
 
-# opens NAME PARAMETER..: the volume is served with the text
-opens() {
+# serves_text NAME PARAMETER..: the volume is served with the text
+serves_text() {
     served 'nbdcopy "$uri" copy' "${@:2}"
     same "$1: status" $? 0
     same "$1: what is served" "$(sha256sum <copy)" "$(sha256sum <text)"
-}
-
-# quietly ARGUMENT..: cryptsetup with these arguments; its messages are shown if it fails
-quietly() {
-    cryptsetup -q "$@" >err 2>&1 || { cat err >&2; exit 1; }
 }
 
 # changed IMAGE MEMBER=TEXT..: replaces these members of the segment of a LUKS2 volume, in both headers, and
@@ -137,35 +132,37 @@ done
 # a detached header, from a file and from a pipe: cryptsetup encrypts under a LUKS2 header, and decrypts under a LUKS1
 # header that it has converted
 cp plain detached2
-quietly reencrypt --encrypt --type luks2 --force-offline-reencrypt --luks2-metadata-size 16k --luks2-keyslots-size 1m \
+run_cryptsetup reencrypt --encrypt --type luks2 --force-offline-reencrypt --luks2-metadata-size 16k \
+    --luks2-keyslots-size 1m \
     --cipher aes-xts-plain64 --key-size 512 \
     --pbkdf pbkdf2 --pbkdf-force-iterations 1000 --key-file pass --header header2 detached2
 cp plain encrypted2
 head -c 303104 /dev/urandom >detached1
-quietly luksFormat --type luks1 --pbkdf-force-iterations 1000 --key-file pass --cipher aes-xts-plain64 --key-size 512 \
+run_cryptsetup luksFormat --type luks1 --pbkdf-force-iterations 1000 --key-file pass --cipher aes-xts-plain64 \
+    --key-size 512 \
     --header header1 detached1
 cp header1 converted
-quietly convert --type luks2 converted
+run_cryptsetup convert --type luks2 converted
 cp detached1 encrypted1
-quietly reencrypt --decrypt --force-offline-reencrypt --header converted --key-file pass encrypted1
+run_cryptsetup reencrypt --decrypt --force-offline-reencrypt --header converted --key-file pass encrypted1
 for image in detached1 detached2; do
     text $image pass --header "header${image#detached}"
     same "$image: what luksCat says" "$(cat text.err)" ''
     same "$image: what was encrypted" "$(sha256sum <text)" "$(sha256sum <"encrypted${image#detached}")"
-    opens "$image" $image header="header${image#detached}" key-file=pass
-    opens "$image, header from a pipe" $image header=<(cat "header${image#detached}") key-file=pass
+    serves_text "$image" $image header="header${image#detached}" key-file=pass
+    serves_text "$image, header from a pipe" $image header=<(cat "header${image#detached}") key-file=pass
 done
-refused 'a detached header as an image' 'luksrd: segment refused: offset' header2 key-file=pass
-refused 'a detached image without its header' 'detached2: luksrd: not a LUKS image' detached2 key-file=pass
-refused 'header and image the wrong way round' 'luksrd: not a LUKS image' header2 header=detached2 key-file=pass
+not_served 'a detached header as an image' 'luksrd: segment refused: offset' header2 key-file=pass
+not_served 'a detached image without its header' 'detached2: luksrd: not a LUKS image' detached2 key-file=pass
+not_served 'header and image the wrong way round' 'luksrd: not a LUKS image' header2 header=detached2 key-file=pass
 
 # the passphrase: from a file, a pipe, a descriptor, the command line and a terminal
 text "$volume1" pass
 same 'a passphrase' "$(sha256sum <text)" "$(head -c 300032 plain | sha256sum)"
-opens 'a key file from a pipe' "$volume1" key-file=<(cat pass)
-opens 'a passphrase from the command line' "$volume1" passphrase='a passphrase'
-opens 'a passphrase from a file' "$volume1" passphrase=+pass
-opens 'a passphrase from a descriptor' "$volume1" passphrase=-9 9<pass
+serves_text 'a key file from a pipe' "$volume1" key-file=<(cat pass)
+serves_text 'a passphrase from the command line' "$volume1" passphrase='a passphrase'
+serves_text 'a passphrase from a file' "$volume1" passphrase=+pass
+serves_text 'a passphrase from a descriptor' "$volume1" passphrase=-9 9<pass
 timeout "$patience" /usr/bin/python3 "$here/clients.py" asks 'a passphrase' nbdkit -U - "$plugin" "$volume1" \
     passphrase=- --run 'nbdcopy "$uri" copy' >said 2>&1
 same 'a passphrase from a terminal: status' $? 0
@@ -174,23 +171,24 @@ timeout "$patience" /usr/bin/python3 "$here/clients.py" asks 'a wrong one' nbdki
     passphrase=- --run 'echo it is served' >said 2>&1
 same 'a wrong passphrase from a terminal' $? 1
 printf 'a passphrase\n' >newline
-refused 'a newline after the passphrase' 'luksrd: no key opens the volume' "$volume1" key-file=newline
+not_served 'a newline after the passphrase' 'luksrd: no key opens the volume' "$volume1" key-file=newline
 
 # key slots
-opens 'slot 5 by its number' "$volume1" key-file=pass2 key-slot=5
-opens 'slot 5 as luksrd reads numbers' "$volume1" key-file=pass2 key-slot=0000000005
-opens 'a limit that slot 0 meets' "$volume1" key-file=pass max-iterations=1000
-opens 'no limit that counts' "$volume1" key-file=pass max-iterations=4294967295
-refused 'another slot' 'luksrd: no key opens the volume' "$volume1" key-file=pass key-slot=5
-refused 'a slot that is not there' 'luksrd: key slot 8 is not there' "$volume1" key-file=pass key-slot=8
-refused 'a slot that is disabled' 'luksrd: key slot 1 is disabled' "$volume1" key-file=pass key-slot=1
-refused 'a limit that no slot meets' 'luksrd: no key slot can be tried; skipped: 0 (iterations), 5 (iterations)' \
+serves_text 'slot 5 by its number' "$volume1" key-file=pass2 key-slot=5
+serves_text 'slot 5 as luksrd reads numbers' "$volume1" key-file=pass2 key-slot=0000000005
+serves_text 'a limit that slot 0 meets' "$volume1" key-file=pass max-iterations=1000
+serves_text 'no limit that counts' "$volume1" key-file=pass max-iterations=4294967295
+not_served 'another slot' 'luksrd: no key opens the volume' "$volume1" key-file=pass key-slot=5
+not_served 'a slot that is not there' 'luksrd: key slot 8 is not there' "$volume1" key-file=pass key-slot=8
+not_served 'a slot that is disabled' 'luksrd: key slot 1 is disabled' "$volume1" key-file=pass key-slot=1
+not_served 'a limit that no slot meets' 'luksrd: no key slot can be tried; skipped: 0 (iterations), 5 (iterations)' \
     "$volume1" key-file=pass max-iterations=999
 cp "$volume2" argon2
-quietly luksConvertKey --key-slot 1 --pbkdf argon2id --pbkdf-memory 32 --pbkdf-parallel 1 --pbkdf-force-iterations 4 \
+run_cryptsetup luksConvertKey --key-slot 1 --pbkdf argon2id --pbkdf-memory 32 --pbkdf-parallel 1 \
+    --pbkdf-force-iterations 4 \
     --key-file pass2 argon2
 serves 'Argon2 beside PBKDF2' argon2 pass
-refused 'a passphrase by Argon2' 'luksrd: no key opens the volume; skipped: 1 (argon2id)' argon2 key-file=pass2
+not_served 'a passphrase by Argon2' 'luksrd: no key opens the volume; skipped: 1 (argon2id)' argon2 key-file=pass2
 
 # truncated images: whole sectors are served, and a message says how the image ends
 # truncated NAME IMAGE BYTES SERVED MESSAGE
@@ -202,8 +200,8 @@ truncated() {
     same "$1: status" $? 0
     same "$1: what is served" "$(sha256sum <copy)" "$(sha256sum <text)"
     if [ -n "$5" ]; then
-        says "$1" "shorter: $5"
-        says "$1, how much" "shorter: only its whole sectors are served: $4 bytes"
+        plugin_says "$1" "shorter: $5"
+        plugin_says "$1, how much" "shorter: only its whole sectors are served: $4 bytes"
     else
         same "$1: what is said" "$(cat said)" ''
     fi
@@ -221,49 +219,50 @@ truncated 'truncated inside a sector of 4096' "$volume2" $(($(start_of2 "$volume
 truncated 'truncated of fixed size' 'of fixed size' $(($(start_of2 'of fixed size') + 8192 + 700)) 8192 \
     'luksrd: image ends 191812 bytes before the segment does'
 head -c 20000 "$volume1" >shorter
-refused 'truncated inside a key area' 'shorter: luksrd: image ends inside the header or a key area' shorter \
+not_served 'truncated inside a key area' 'shorter: luksrd: image ends inside the header or a key area' shorter \
     key-file=pass
 
 # an image that is truncated while it is served
 cp "$volume1" image
 text image pass
 compared shrinks 'truncated while it is served' image image key-file=pass
-says 'truncated while it is served' 'image: reading '
-says 'why' ': the image has become shorter'
+plugin_says 'truncated while it is served' 'image: reading '
+plugin_says 'why' ': the image has become shorter'
 
 # what is not served
-refused 'a wrong passphrase' "$volume1: luksrd: no key opens the volume" "$volume1" key-file=wrong
-refused 'no LUKS' 'plain: luksrd: not a LUKS image' plain key-file=pass
-refused 'no image' 'luksrd: cannot open absent: No such file or directory' absent key-file=pass
-refused 'no header' 'luksrd: cannot open absent: No such file or directory' "$volume1" header=absent key-file=pass
-refused 'no key file' 'luksrd: cannot open absent: No such file or directory' "$volume1" key-file=absent
-refused 'a folder' 'luksrd: cannot open .: Is a directory' . key-file=pass
-refused 'a folder for a header' 'luksrd: cannot open .: Is a directory' "$volume1" header=. key-file=pass
-refused 'a folder for a key file' 'luksrd: cannot open .: Is a directory' "$volume1" key-file=.
+not_served 'a wrong passphrase' "$volume1: luksrd: no key opens the volume" "$volume1" key-file=wrong
+not_served 'no LUKS' 'plain: luksrd: not a LUKS image' plain key-file=pass
+not_served 'no image' 'luksrd: cannot open absent: No such file or directory' absent key-file=pass
+not_served 'no header' 'luksrd: cannot open absent: No such file or directory' "$volume1" header=absent key-file=pass
+not_served 'no key file' 'luksrd: cannot open absent: No such file or directory' "$volume1" key-file=absent
+not_served 'a folder' 'luksrd: cannot open .: Is a directory' . key-file=pass
+not_served 'a folder for a header' 'luksrd: cannot open .: Is a directory' "$volume1" header=. key-file=pass
+not_served 'a folder for a key file' 'luksrd: cannot open .: Is a directory' "$volume1" key-file=.
 mkfifo pipe
-refused 'a pipe' 'luksrd: cannot open pipe: neither a regular file nor a block device' pipe key-file=pass
-refused 'a device of characters' 'luksrd: cannot open /dev/null: neither a regular file nor a block device' /dev/null \
+not_served 'a pipe' 'luksrd: cannot open pipe: neither a regular file nor a block device' pipe key-file=pass
+not_served 'a device of characters' 'luksrd: cannot open /dev/null: neither a regular file nor a block device' \
+    /dev/null \
     key-file=pass
 head -c 8388609 /dev/zero >long
-refused 'a key file that is too long' 'luksrd: key file is longer than 8388608 bytes' "$volume1" key-file=long
-refused 'a key file without end' 'luksrd: key file is longer than 8388608 bytes' "$volume1" key-file=/dev/zero
+not_served 'a key file that is too long' 'luksrd: key file is longer than 8388608 bytes' "$volume1" key-file=long
+not_served 'a key file without end' 'luksrd: key file is longer than 8388608 bytes' "$volume1" key-file=/dev/zero
 head -c 8388608 /dev/zero >longest
-refused 'the longest key file' 'luksrd: no key opens the volume' "$volume1" key-file=longest
+not_served 'the longest key file' 'luksrd: no key opens the volume' "$volume1" key-file=longest
 for number in '' 32 -1 +1 ' 1' 1x 0x1 00000000001 4294967296; do
-    refused "key slot '$number'" "key-slot=$number: not a number from 0 to 31" "$volume1" key-file=pass \
+    not_served "key slot '$number'" "key-slot=$number: not a number from 0 to 31" "$volume1" key-file=pass \
         key-slot="$number"
 done
 for number in '' 0 -1 1x 4294967296 00000000001; do
-    refused "limit '$number'" "max-iterations=$number: not a number from 1 to 4294967295" "$volume1" key-file=pass \
+    not_served "limit '$number'" "max-iterations=$number: not a number from 1 to 4294967295" "$volume1" key-file=pass \
         max-iterations="$number"
 done
-refused 'no image that is named' 'file=IMAGE is needed' key-file=pass
-refused 'no passphrase' 'key-file=FILE or passphrase=PASSPHRASE is needed' "$volume1"
-refused 'a key file and a passphrase' 'key-file= and passphrase= do not go together' "$volume1" key-file=pass \
+not_served 'no image that is named' 'file=IMAGE is needed' key-file=pass
+not_served 'no passphrase' 'key-file=FILE or passphrase=PASSPHRASE is needed' "$volume1"
+not_served 'a key file and a passphrase' 'key-file= and passphrase= do not go together' "$volume1" key-file=pass \
     passphrase=+pass
-refused 'an unknown parameter' "unknown parameter 'keyfile'" "$volume1" keyfile=pass
+not_served 'an unknown parameter' "unknown parameter 'keyfile'" "$volume1" keyfile=pass
 for twice in file=pipe header=pipe key-file=pass key-slot=5 max-iterations=9 passphrase=+pass; do
-    refused "$twice twice" "${twice%%=*}= is given twice" "$twice" "$twice"
+    not_served "$twice twice" "${twice%%=*}= is given twice" "$twice" "$twice"
 done
 
 # what it reports about itself
@@ -292,8 +291,8 @@ same 'qemu-img compares with another' $? 1
 # While the volume is served, its passphrase is not in memory; the volume key is, which shows that it would be found.
 head -c 40 /dev/urandom | od -An -v -tx1 | tr -d ' \n' >secret
 cp "$volume1" remembered
-quietly luksAddKey --pbkdf-force-iterations 1000 --key-file pass remembered secret
-quietly luksDump --dump-volume-key --volume-key-file volume_key --key-file pass remembered
+run_cryptsetup luksAddKey --pbkdf-force-iterations 1000 --key-file pass remembered secret
+run_cryptsetup luksDump --dump-volume-key --volume-key-file volume_key --key-file pass remembered
 for parameter in key-file=secret passphrase=+secret; do
     nbdkit -f -U socket -P pid "$plugin" remembered $parameter >said 2>&1 &
     server=$!
@@ -310,7 +309,7 @@ done
 # a block device
 if device=$(losetup -f --show "$volume1" 2>err); then
     text "$volume1" pass
-    opens 'a block device' "$device" key-file=pass
+    serves_text 'a block device' "$device" key-file=pass
     losetup -d "$device"
 else
     skip 'a block device that is served' 'no loop device can be made here'

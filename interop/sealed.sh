@@ -27,8 +27,7 @@ for offset in (0, size):
     bytes_[offset + 448:offset + 480] = hashlib.sha256(bytes_[offset:offset + size]).digest()
 open(sys.argv[1], 'wb').write(bytes_)
 PYTHON
-    cryptsetup -q reencrypt --decrypt --force-offline-reencrypt --header header --key-file one copy >err 2>&1 ||
-        { cat err >&2; exit 1; }
+    run_cryptsetup reencrypt --decrypt --force-offline-reencrypt --header header --key-file one copy
     cat copy
 }
 

@@ -4,9 +4,9 @@
 # shellcheck source=interop/common.sh
 . "$(dirname "$0")/common.sh"
 
-# gives IMAGE SOURCE KEY: the payload of the image, read from a file or as a pipe (-), begins with the plain bytes,
-# and the run succeeds
-gives() {
+# payload_begins IMAGE SOURCE KEY: the payload of the image, read from a file or as a pipe (-), begins with the plain
+# bytes, and the run succeeds
+payload_begins() {
     if [ "$2" = - ]; then
         dd if="$1" bs=777 status=none | "$program" luksCat --key-file "$3" - >payload 2>message
     else
@@ -24,9 +24,9 @@ opens() {
     for key in pass pass2; do
         same "$1, $key: testPassphrase" "$(reported testPassphrase --key-file "$key" "$1")" "$(slot_of "$1" "$key")
 0"
-        gives "$1" file "$key"
+        payload_begins "$1" file "$key"
     done
-    gives "$1" - pass
+    payload_begins "$1" - pass
     same "$1: a wrong passphrase" "$(reported luksCat --key-file wrong "$1")" "$no_key"
 }
 
@@ -35,8 +35,8 @@ damage() {
     printf 'X' | dd of="$1" bs=1 seek="$2" conv=notrunc status=none
 }
 
-# cut IMAGE BYTES MESSAGE: the image truncated to BYTES bytes gives this message
-cut() {
+# truncated_gives IMAGE BYTES MESSAGE: the image truncated to BYTES bytes gives this message
+truncated_gives() {
     head -c "$2" "$1" >shorter
     same "$1 cut to $2 bytes" "$(reported luksCat --key-file pass2 shorter)" "$3
 4"
@@ -94,22 +94,22 @@ seal damaged aes-xts-plain64 512
 cp damaged second
 cp damaged past
 damage damaged 600
-gives damaged file pass
-gives damaged - pass
+payload_begins damaged file pass
+payload_begins damaged - pass
 damage second 20000
-gives second file pass2
+payload_begins second file pass2
 
 # a header that claims to have 4,194,304 bytes: the search for the other one reads past the payload's start
 printf '\0\0\0\0\0\100\0\0' | dd of=past bs=1 seek=8 conv=notrunc status=none
-gives past file pass
-gives past - pass2
+payload_begins past file pass
+payload_begins past - pass2
 
 # truncated images
 start=$(start_of2 second)
 in_area='luksrd: image ends inside the header or a key area'
-cut second 16383 'luksrd: not a LUKS image'
-cut second 16384 "$in_area"
-cut second 40000 "$in_area"
-cut second $((start - 1)) 'luksrd: image ends before the payload'
-cut second $((start + 100)) 'luksrd: image ends inside a sector: 100 bytes left over'
+truncated_gives second 16383 'luksrd: not a LUKS image'
+truncated_gives second 16384 "$in_area"
+truncated_gives second 40000 "$in_area"
+truncated_gives second $((start - 1)) 'luksrd: image ends before the payload'
+truncated_gives second $((start + 100)) 'luksrd: image ends inside a sector: 100 bytes left over'
 finish

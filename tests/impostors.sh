@@ -48,15 +48,16 @@ tried() {
 export -f tried
 export work sources
 
-# listed VARIABLE: the scripts in a list of the Makefile, but those that read only the sources
-listed() {
+# scripts_in VARIABLE: the scripts in a list of the Makefile, but those that read only the sources
+scripts_in() {
     make -s -C "$sources" -f Makefile -f - listed <<<$'listed:\n\t@printf \'%s\\n\' $('"$1)" |
         grep -vxE 'test-(names|counts|headline|contracts)'
 }
 for impostor in true false sleep; do
-    for target in $(listed ALL_SCRIPTS); do printf '%s\0' "$target" $impostor "$work/$impostor"; done
+    for target in $(scripts_in ALL_SCRIPTS); do printf '%s\0' "$target" $impostor "$work/$impostor"; done
     [ "$is_real" = 1 ] || continue
-    for target in $(listed AUDIT_SCRIPTS) $(listed C_SCRIPTS) $(listed TOOL_SCRIPTS); do printf '%s\0' "$target" \
+    for target in $(scripts_in AUDIT_SCRIPTS) $(scripts_in C_SCRIPTS) $(scripts_in TOOL_SCRIPTS); do printf '%s\0' \
+        "$target" \
         $impostor "$program"; done
 done | xargs -0 -n 3 -P 4 bash -c 'tried "$@"' bash
 

@@ -11,19 +11,19 @@ shared_v3=$(realpath "${4:?the same for x86-64-v3}")
 # shellcheck source=tests/common.sh
 . "$(dirname "$0")/common.sh"
 
-# compiled NAME ARGUMENT..: the program in C, with these arguments for the compiler
-compiled() {
+# compile_checked NAME ARGUMENT..: the program in C, with these arguments for the compiler
+compile_checked() {
     gcc -std=c11 -D_GNU_SOURCE -Wall -Wextra -Werror -O1 -g -o "$1" "$sources/tests/library.c" "${@:2}" -lpthread ||
         exit 1
 }
-compiled checked -I"$sources/c" "$library"
-compiled sanitized -I"$sources/c" "$library" -fsanitize=address,undefined -fno-sanitize-recover=all
+compile_checked checked -I"$sources/c" "$library"
+compile_checked sanitized -I"$sources/c" "$library" -fsanitize=address,undefined -fno-sanitize-recover=all
 # as it is installed, with the shared library and the flags of pkg-config
 make -s -C "$sources" install-library LIBRARY="$library" SHARED="$shared" SHARED_V3="$shared_v3" \
     PREFIX="$work/installed" >log 2>&1 || { cat log; exit 1; }
 export PKG_CONFIG_PATH=$work/installed/lib/pkgconfig LD_LIBRARY_PATH=$work/installed/lib
 read -ra flags <<<"$(pkg-config --cflags --libs luksrd)"
-compiled shared "${flags[@]}"
+compile_checked shared "${flags[@]}"
 # a folder for each library alone
 mkdir x86-64-v2 x86-64-v3
 cp "$shared" x86-64-v2/libluksrd.so.1
@@ -35,8 +35,9 @@ else
     skip 'the library for x86-64-v3' 'this processor is older'
 fi
 
-# reads NAME IMAGE HEADER KEY ARGUMENT..: the program with these arguments has the output and the messages of luksCat
-reads() {
+# program_reads NAME IMAGE HEADER KEY ARGUMENT..: the program with these arguments has the output and the messages of
+# luksCat
+program_reads() {
     local name=$1 status
     "${@:5}" "$2" "$3" "$4" >given 2>said
     status=$?
@@ -44,19 +45,21 @@ reads() {
     same "$name: the text" "$(sha256sum <given)" "$(sha256sum <text)"
 }
 
-# agree NAME IMAGE HEADER KEY: all programs do
-agree() {
+# all_programs_read NAME IMAGE HEADER KEY: all programs do
+all_programs_read() {
     local header=() status processor
     [ "$3" = - ] || header=(--header "$3")
     "$program" luksCat --key-file "$4" "${header[@]}" "$2" >text 2>said
     status=$?
     wanted="$status $(cat said)"
-    reads "$1, AddressSanitizer" "${@:2}" ./sanitized
-    reads "$1, valgrind" "${@:2}" valgrind -q --error-exitcode=98 --leak-check=full --errors-for-leak-kinds=definite \
+    program_reads "$1, AddressSanitizer" "${@:2}" ./sanitized
+    program_reads "$1, valgrind" "${@:2}" valgrind -q --error-exitcode=98 --leak-check=full \
+        --errors-for-leak-kinds=definite \
         ./checked
     for processor in "${processors[@]}"; do
-        reads "$1, shared, $processor" "${@:2}" env LD_LIBRARY_PATH="$work/$processor" ./shared
-        reads "$1, Python, $processor" "${@:2}" python3 "$sources/tests/library.py" "$work/$processor/libluksrd.so.1"
+        program_reads "$1, shared, $processor" "${@:2}" env LD_LIBRARY_PATH="$work/$processor" ./shared
+        program_reads "$1, Python, $processor" "${@:2}" python3 "$sources/tests/library.py" \
+            "$work/$processor/libluksrd.so.1"
     done
 }
 
@@ -69,24 +72,24 @@ for sample in volume volume2; do
     start=$("$program" luksDump $sample |
         sed -n 's/^Payload offset: \([0-9]*\)$/\1 * 512/p; s/^Segment 0: offset=\([0-9]*\) .*/\1/p')
     start=$((start))
-    agree "$sample" $sample - pass
+    all_programs_read "$sample" $sample - pass
     same "$sample: what was encrypted" "$(head -c 60 text)" "$(head -c 60 "$sources/sample/plain${sample#volume}.txt")"
     for bytes in 0 1 700; do
         head -c $((start + bytes)) $sample >shorter
-        agree "$sample, $bytes bytes of its payload" shorter - pass
+        all_programs_read "$sample, $bytes bytes of its payload" shorter - pass
     done
     head -c $((start - 1)) $sample >shorter
-    agree "$sample without its payload" shorter - pass
-    agree "$sample with a detached header" $sample $sample pass
-    agree "$sample, an empty image with a detached header" empty $sample pass
-    agree "$sample, a wrong passphrase" $sample - wrong
-    agree "$sample, no passphrase" $sample - empty
+    all_programs_read "$sample without its payload" shorter - pass
+    all_programs_read "$sample with a detached header" $sample $sample pass
+    all_programs_read "$sample, an empty image with a detached header" empty $sample pass
+    all_programs_read "$sample, a wrong passphrase" $sample - wrong
+    all_programs_read "$sample, no passphrase" $sample - empty
 done
-agree 'a passphrase that is too long' volume - long
-agree 'no LUKS' pass - pass
-agree 'nothing' empty - pass
+all_programs_read 'a passphrase that is too long' volume - long
+all_programs_read 'no LUKS' pass - pass
+all_programs_read 'nothing' empty - pass
 head -c 20000 volume >shorter
-agree 'truncated inside a key area' shorter - pass
+all_programs_read 'truncated inside a key area' shorter - pass
 
 # each field of a volume, as cryptsetup and the change below made it: a payload of 12 GiB in sectors of 4,096 bytes,
 # of which the image has the first five, from the second page of the payload on. The expected lengths are worked out
@@ -153,7 +156,7 @@ offset=528384 size=12884901888 iv_tweak=8 has_size=1 sector_size=4096 mode=1 key
 18446744073709551615: len=12884901888 code=0 bytes=0 status=0 
 TEXT
 fields 'a fixed size' wanted
-agree 'a fixed size' fixed - pass5
+all_programs_read 'a fixed size' fixed - pass5
 same 'a fixed size: what was encrypted' "$(sha256sum <text)" "$(tail -c +4097 plain | sha256sum)"
 
 set_segment fixed size=dynamic

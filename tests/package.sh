@@ -166,8 +166,8 @@ for processor in x86-64-v2 x86-64-v3; do
     fi
 done
 
-# serves PLUGIN: the plugin of this name gives the sample volume's plain text
-serves() {
+# serves_sample PLUGIN: the plugin of this name gives the sample volume's plain text
+serves_sample() {
     gzip -dc "$sources/sample/volume.img.gz" >volume
     # shellcheck disable=SC2016
     nbdkit -U - "$1" volume key-file=pass --run 'nbdcopy "$uri" copy' >out 2>err
@@ -175,12 +175,12 @@ serves() {
     expect "$1 serves the sample volume" 0 '' ''
     same "$1: its text" "$(sha256sum <copy)" "$(sha256sum <"$sources/sample/plain.txt")"
 }
-LD_LIBRARY_PATH=$work/libluksrd1$libraries serves "$work/nbdkit-plugin-luksrd$plugins/nbdkit-luksrd-plugin.so"
+LD_LIBRARY_PATH=$work/libluksrd1$libraries serves_sample "$work/nbdkit-plugin-luksrd$plugins/nbdkit-luksrd-plugin.so"
 
-# put ARGUMENT..: make with these arguments, and with what is built but for luksrd-audit, of which no package is made
-# (tests/install.sh has it)
+# make_built ARGUMENT..: make with these arguments, and with what is built but for luksrd-audit, of which no package
+# is made (tests/install.sh has it)
 built=(PROGRAM="$program" AUDIT=absent LIBRARY="$library" SHARED="$shared" SHARED_V3="$shared_v3" PLUGIN="$plugin")
-put() {
+make_built() {
     make -s -C "$sources" "${built[@]}" "$@" >log 2>&1
 }
 
@@ -207,23 +207,23 @@ name=nbdkit-luksrd-plugin.so
 below() {
     printf "./${1:+$1/}%s\n" "${@:2}" | LC_ALL=C sort
 }
-put install LIBRARY=absent PLUGIN=absent DESTDIR="$work/there"
+make_built install LIBRARY=absent PLUGIN=absent DESTDIR="$work/there"
 same 'make install of the program alone' "$? $(files there)" "0 $(below usr/local "${program_files[@]}")"
-put install DESTDIR="$work/there" PLUGINS=/usr/plugins
+make_built install DESTDIR="$work/there" PLUGINS=/usr/plugins
 same 'make install of the library and the plugin too' "$? $(files there)" \
     "0 $(below usr "${program_files[@]/#/local/}" "${library_files[@]/#/local/}" "local/$page" "plugins/$name")"
 same 'both libraries' "$(cmp "there/usr/local/lib/libluksrd.so.$version" "$shared" 2>&1;
     cmp there/usr/local/lib/glibc-hwcaps/x86-64-v3/libluksrd.so.1 "$shared_v3" 2>&1)" ''
-put uninstall DESTDIR="$work/there" PLUGINS=/usr/plugins
+make_built uninstall DESTDIR="$work/there" PLUGINS=/usr/plugins
 same 'make uninstall' "$? $(files there)" '0 '
 same 'folders of libraries' "$(find there -name 'glibc-hwcaps')" ''
 
 # `make install CPU=x86-64-v3` puts that program in its place, after it has run
 if runs_v3; then
-    put install CPU=x86-64-v3 PROGRAM="$program_v3" LIBRARY=absent PLUGIN=absent DESTDIR="$work/there"
+    make_built install CPU=x86-64-v3 PROGRAM="$program_v3" LIBRARY=absent PLUGIN=absent DESTDIR="$work/there"
     same 'make install for x86-64-v3' "$? $(files there)" "0 $(below usr/local "${program_files[@]}")"
     same 'which program that is' "$(cmp there/usr/local/bin/luksrd "$program_v3" 2>&1)" ''
-    put uninstall DESTDIR="$work/there"
+    make_built uninstall DESTDIR="$work/there"
     same 'make uninstall for x86-64-v3' "$? $(files there)" '0 '
 else
     skip 'make install for x86-64-v3' 'this processor is older'
@@ -243,10 +243,10 @@ luksrd for x86-64-v3 does not run here: nothing is installed'
 done
 same 'what these install' "$(files "$nothing")" ''
 for prefix in /usr /usr/local/; do
-    PATH=$work/tools:$PATH put install-plugin DESTDIR="$work/there" PREFIX="$prefix"
+    PATH=$work/tools:$PATH make_built install-plugin DESTDIR="$work/there" PREFIX="$prefix"
     same "the plugin for $prefix" "$? $(files there)" "0 $(below '' "nbdkit/plugins/$name" \
         "$(realpath -ms "$prefix/$page" | cut -c 2-)")"
-    PATH=$work/tools:$PATH put uninstall DESTDIR="$work/there" PREFIX="$prefix"
+    PATH=$work/tools:$PATH make_built uninstall DESTDIR="$work/there" PREFIX="$prefix"
     same "the plugin for $prefix, uninstalled" "$? $(files there)" '0 '
 done
 
@@ -281,7 +281,7 @@ if another test -r tree/Makefile; then
         "0 $(below '' "${program_files[@]}" "${library_files[@]}" "$page" "lib/nbdkit/plugins/$name")"
     same "nbdkit's own folder" "$(ls -la --full-time "$plugins")" "$plugins_before"
     works "$work/own/it/bin/luksrd" "$work/own/it/share/bash-completion/completions/luksrd"
-    serves "$work/own/it/lib/nbdkit/plugins/$name"
+    serves_sample "$work/own/it/lib/nbdkit/plugins/$name"
     put_by_another uninstall PREFIX="$work/own/it"
     same 'make uninstall by another user' "$? $(files own/it)" '0 '
     same "luksrd's own folder" "$(find own/it -name luksrd)" ''
@@ -297,10 +297,10 @@ mkdir nbdkit
 sed -i "s|/nbdkit|$work/nbdkit|; s|/plugins||" tools/pkg-config
 same "nbdkit's folder, as make asks for it" "$(PATH=$work/tools:$PATH pkg-config nbdkit --variable=plugindir)" \
     "$work/nbdkit"
-PATH=$work/tools:$PATH put install PREFIX="$work/own/root"
+PATH=$work/tools:$PATH make_built install PREFIX="$work/own/root"
 same 'make install into another PREFIX' "$? $(files nbdkit)" "0 ./$name"
 same "the plugin in nbdkit's folder" "$(wc -c <"nbdkit/$name")" 0
-PATH=$work/tools:$PATH put uninstall PREFIX="$work/own/root"
+PATH=$work/tools:$PATH make_built uninstall PREFIX="$work/own/root"
 same 'make uninstall of another PREFIX' "$? $(files own/root)$(files nbdkit)" "0 ./$name"
 
 # `ldconfig` runs for a folder that it knows, as root, and if the files are in place
@@ -320,13 +320,13 @@ notes() {
     same "$1" "$? $(wc -l <notes)" "0 $2"
 }
 if [ "$(id -u)" = 0 ]; then
-    notes 'ldconfig for a folder that it knows' 1 put install-library PREFIX="$work/known"
-    notes 'ldconfig after make uninstall' 1 put uninstall PREFIX="$work/known"
+    notes 'ldconfig for a folder that it knows' 1 make_built install-library PREFIX="$work/known"
+    notes 'ldconfig after make uninstall' 1 make_built uninstall PREFIX="$work/known"
 else
     skip 'ldconfig for a folder that it knows' 'not root'
 fi
-notes 'ldconfig for any other folder' 0 put install-library PREFIX="$work/own/root"
-notes 'ldconfig for a folder below DESTDIR' 0 put install-library PREFIX="$work/known" DESTDIR="$work/there"
+notes 'ldconfig for any other folder' 0 make_built install-library PREFIX="$work/own/root"
+notes 'ldconfig for a folder below DESTDIR' 0 make_built install-library PREFIX="$work/known" DESTDIR="$work/there"
 if another test -r tree/Makefile; then
     notes 'ldconfig by another user' 0 put_by_another install-library PREFIX="$work/own"
 fi
@@ -345,11 +345,11 @@ fi
 loads() {
     python3 -c 'import ctypes; print(hex(ctypes.CDLL("libluksrd.so.1").luksrd_version()))' 2>&1 | tail -n 1
 }
-trap 'put uninstall PLUGINS=; rm -rf "$work"' EXIT
-put install-library
+trap 'make_built uninstall PLUGINS=; rm -rf "$work"' EXIT
+make_built install-library
 same 'make install of the library' "$? $(loads)" "0 $(sed -n 's/^#define LUKSRD_VERSION 0x0*/0x/p' \
     "$sources/c/luksrd.h")"
-put uninstall PLUGINS=
+make_built uninstall PLUGINS=
 same 'make uninstall of the library' "$? $(loads | grep -c 'cannot open shared object file')" '0 1'
 same 'what is left of the library' "$(find /usr/local -name '*luksrd*'; ldconfig -p | grep luksrd)" ''
 
@@ -366,14 +366,14 @@ same 'the library that is installed' "$(loads)" "$(sed -n 's/^#define LUKSRD_VER
 same 'what ldconfig knows' "$(ldconfig -p | sed -n 's/^\tlibluksrd\.so\.1 (.*) => //p' | sed 's|^/lib/|/usr/lib/|' |
     sort)" "$libraries/glibc-hwcaps/x86-64-v3/libluksrd.so.1
 $libraries/libluksrd.so.1"
-serves luksrd
+serves_sample luksrd
 same 'zsh finds its completion' \
     "$(zsh -fc 'autoload -Uz compinit; compinit -D -u; print -r -- $_comps[luksrd]')" _luksrd
 same "make install over a package's plugin" "$(lacking "$PATH" install "${built[@]}" DESTDIR= PREFIX="$work/own/late" \
     PLUGINS="$plugins")" \
     "the package nbdkit-plugin-luksrd has $plugins/$name: run apt-get remove nbdkit-plugin-luksrd, or give a PREFIX"
 same 'what that installs' "$(files own/late)" ''
-put uninstall PREFIX=/usr
+make_built uninstall PREFIX=/usr
 same "make uninstall of packages' files" "$? $(chosen)" '0 /usr/libexec/luksrd/x86-64-v2/luksrd'
 dpkg -L "${packages[@]}" | grep luksrd >paths
 same 'nothing is changed' "$(dpkg -V "${packages[@]}" | grep -vE '/usr/share/(doc|man)/')" ''

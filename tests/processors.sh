@@ -41,8 +41,8 @@ written() {
         "0 $(sha256sum <"$2")"
 }
 
-# reads IMAGE PLAIN: every command on this volume, and its payload from a pipe and truncated
-reads() {
+# both_read IMAGE PLAIN: every command on this volume, and its payload from a pipe and truncated
+both_read() {
     local command
     cp "$1" in
     for command in isLuks luksUUID luksDump luksCheck; do alike "$1, $command" $command "$1"; done
@@ -61,8 +61,9 @@ reads() {
     : >in
 }
 
-# damaged IMAGE COUNT: copies with one other byte each among the first 32768, at places that follow from the count
-damaged() {
+# damaged_copies IMAGE COUNT: copies with one other byte each among the first 32768, at places that follow from the
+# count
+damaged_copies() {
     local count at
     for ((count = 0; count < $2; count++)); do
         at=$((count * 7919 % 32768))
@@ -83,17 +84,17 @@ for sealed in 'xts-plain64 512' 'xts-plain64 256' 'xts-plain 512' 'cbc-essiv:sha
     hashes=("${hashes[@]:1}" "${hashes[0]}")
     format1 "luks1 $sealed" "aes-${sealed% *}" "${hashes[0]}" "${sealed#* }"
     fill "luks1 $sealed"
-    reads "luks1 $sealed" plain
+    both_read "luks1 $sealed" plain
 done
-damaged 'luks1 xts-plain64 512' 100
+damaged_copies 'luks1 xts-plain64 512' 100
 truncate -s 303104 plain
 for sealed in 'xts-plain64 512 512' 'xts-plain64 256 1024' 'xts-plain64 512 2048' 'xts-plain64 512 4096' \
     'xts-plain 512 512' 'cbc-essiv:sha256 256 4096' 'cbc-plain64 128 512'; do
     read -r cipher bits sector <<<"$sealed"
     seal "luks2 $sealed" "aes-$cipher" "$bits" --sector-size "$sector"
-    reads "luks2 $sealed" plain
+    both_read "luks2 $sealed" plain
 done
-damaged 'luks2 xts-plain64 512 4096' 100
+damaged_copies 'luks2 xts-plain64 512 4096' 100
 head -c 64 plain >key
 head -c $((199 * 64)) /dev/urandom >random
 for hash in sha1 sha224 sha256 sha384 sha512; do
@@ -127,18 +128,18 @@ tells Haswell 0 '' "$program_v3"
 # The plugin and a program in C, as they are installed: below a PREFIX, whose library the plugin finds from its own
 # folder and the program by the folder that it names; and in a system of its own, whose loader finds the library by
 # ldconfig's cache.
-put() {
+install_both() {
     make -s -C "$sources" install-library install-plugin LIBRARY="$shared" SHARED="$shared" SHARED_V3="$shared_v3" \
         PLUGIN="$plugin" "$@" >log 2>&1 || { cat log; exit 1; }
 }
-put PREFIX="$work/own"
-put PREFIX=/usr/local PLUGINS=/plugins DESTDIR="$work/system"
-compiled() {
+install_both PREFIX="$work/own"
+install_both PREFIX=/usr/local PLUGINS=/plugins DESTDIR="$work/system"
+compile_installed() {
     gcc -std=c11 -D_GNU_SOURCE -o "$1" "$sources/tests/library.c" -I"$sources/c" -L"$work/own/lib" -lluksrd \
         -lpthread "${@:2}" || exit 1
 }
-compiled by_folder -Wl,-rpath,"$work/own/lib"
-compiled by_cache
+compile_installed by_folder -Wl,-rpath,"$work/own/lib"
+compile_installed by_cache
 for file in /lib64/ld-linux-x86-64.so.2 /lib/x86_64-linux-gnu/libc.so.6; do
     install -D "$file" "system$file"
 done

@@ -115,7 +115,6 @@ scarce "$numbers" afMerge --hash sha256 --stripes 1 --key-bytes 32 stripes
 
 # the program ends if its reader closes the pipe
 head -c 512 /dev/zero >key512
-# shellcheck disable=SC2016
 timeout "$patience" bash -c '
     "$0" afSplit --hash sha512 --stripes 4000 --random /dev/zero key512 2>err; echo $? >status' "$program" |
     head -c 10 >out
