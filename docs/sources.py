@@ -1,4 +1,5 @@
-"""Shared by the scripts that make pages: the definitions of specs/ and the types in Rust, by crate, with the comments above them."""
+"""Shared by the scripts that make pages: the definitions of specs/ and the types in Rust, by crate,
+with the comments above them."""
 import pathlib
 import re
 import sys
@@ -6,15 +7,19 @@ import sys
 TOP = pathlib.Path(__file__).resolve().parents[1]
 
 NAME = re.compile(r"[^\W\d][\w']*|[^\s\w(){}\[\],.;:→λ=←_'\"]+")
-START = re.compile(r"^(?:(?:abbrev|unfoldable|pub|data|record) )*([^\W\d][\w']*|◌\S+◌)(?= *[:({]| *$)")
+START = re.compile(
+    r"^(?:(?:abbrev|unfoldable|pub|data|record) )*([^\W\d][\w']*|◌\S+◌)(?= *[:({]| *$)"
+)
 RUST = re.compile(r"^pub (?:struct|enum) (\w+)", re.MULTILINE)
 
 
 class Definition:
-    """A definition of specs/, or a type in Rust: its text, with the comment above it, and the names that it uses."""
+    """A definition of specs/, or a type in Rust: its text, with the comment above it, and the names
+    that it uses."""
 
     def __init__(self, crate, place, name, comment, lines, imports):
-        self.crate, self.place, self.name, self.comment, self.lines, self.imports = crate, place, name, comment, lines, imports
+        self.crate, self.place, self.name = crate, place, name
+        self.comment, self.lines, self.imports = comment, lines, imports
 
     def uses(self):
         return dict.fromkeys(NAME.findall("\n".join(self.lines)))
@@ -45,7 +50,8 @@ def definitions_of(crate, path):
             name = START.match(block[0]) if block else None
             if name:
                 above = [line for line in comment if not line.startswith("-- ----")]
-                found[name[1].strip("◌")] = Definition(crate, path.name, name[1], above, block, imports)
+                definition = Definition(crate, path.name, name[1], above, block, imports)
+                found[name[1].strip("◌")] = definition
             comment, block = [], []
     return found
 
@@ -54,7 +60,9 @@ def types_of(crate, path):
     """The public types of a file in Rust, by their names, without their code."""
     text, found = path.read_text(), {}
     for item in RUST.finditer(text):
-        end = text.index("\n}", item.start()) + 2 if re.match(r"[^;\n]*\{$", text[item.start():].split("\n")[0]) else text.index("\n", item.start())
+        end = text.index("\n", item.start())
+        if re.match(r"[^;\n]*\{$", text[item.start() : end]):
+            end = text.index("\n}", item.start()) + 2
         above = text[: item.start()].split("\n")[:-1]
         comment = []
         while above and above[-1].startswith(("///", "#[")):
@@ -67,7 +75,7 @@ def types_of(crate, path):
 
 
 def all_definitions():
-    """Those of all crates: by crate, module and name for specs/, and by crate and name for types."""
+    """Those of all crates: by crate, module and name for specs/, by crate and name for types."""
     found, types = {}, {}
     for crate in sorted((TOP / "crates").iterdir()):
         for path in sorted(crate.glob("specs/**/*.antt")):
@@ -92,15 +100,16 @@ def crates_in_order():
 
 
 def write_pages(pages, script, folder=None):
-    """Writes the pages, each text by its path, and removes what else is in the folder. With --check it does nothing, and fails if that would change any."""
+    """Writes the pages, each text by its path, and removes everything else from the folder. With
+    --check it writes and removes nothing, and fails if it would have to."""
     others = set(folder.iterdir()) - pages.keys() if folder else set()
+    changed = {path for path, text in pages.items() if not path.exists() or path.read_text() != text}
     if sys.argv[1:] == ["--check"]:
-        stale = [path for path, text in pages.items() if not path.exists() or path.read_text() != text]
-        if stale or others:
-            sys.exit(f"{' '.join(str(path.relative_to(TOP)) for path in sorted([*stale, *others]))}: stale, run make pages")
-        print(f"{script}: {len(pages)} pages are as the sources are")
-        return
+        for path in sorted(changed | others):
+            print(f"{path.relative_to(TOP)} is stale: run make pages")
+        print(f"{script}: {len(pages)} made, {len(changed | others)} stale")
+        sys.exit(bool(changed or others))
     for path in others:
         path.unlink()
-    for path, text in pages.items():
-        path.write_text(text)
+    for path in changed:
+        path.write_text(pages[path])
