@@ -3,12 +3,15 @@
 #                 With CPU=x86-64-v3 it builds out/x86-64-v3/luksrd over the same proofs, for processors of that level
 #                 (AVX2), in place of the first; luksrd-audit is built for x86-64-v2 alone
 # make demo       reads both sample volumes with a program that is built without proofs
-# make check      runs the built program on files and pipes, and beside cryptsetup and qemu-img: all of `make test` but the gate
-# make test       what CI runs: the gate, which proves everything, tries each must-fail edit and runs the tests, and beside it the same
-#                 scripts on the program that it builds; it prints the processor time that each crate took
+# make check      runs the built program on files and pipes, and beside cryptsetup and qemu-img: all of `make test` but
+#                 the gate
+# make test       what CI runs: the gate, which proves everything, tries each must-fail edit and runs the tests, and
+#                 beside it the same scripts on the program that it builds; it prints the processor time that each crate
+#                 took
+# make pages      writes the pages that are made from the sources: docs/HEADLINE.md and docs/proofs/
 # make bench      measures key derivation, decryption and whole volumes beside other implementations, and memory
-# make library    builds the library for C: out/libluksrd.a, out/libluksrd.so and out/luksrd.pc, and the same for x86-64-v3 in
-#                 out/glibc-hwcaps, which the loader takes if the processor can run it
+# make library    builds the library for C: out/libluksrd.a, out/libluksrd.so and out/luksrd.pc, and the same for
+#                 x86-64-v3 in out/glibc-hwcaps, which the loader takes if the processor can run it
 # make nbdkit     builds the plugin for nbdkit, out/nbdkit-luksrd-plugin.so, and the library, which it loads
 # make install    puts the program, its man page, its completions, README.md and FORMATS.md below PREFIX
 #                 (/usr/local if it is not given), in DESTDIR if that is given; the library too if it
@@ -52,7 +55,8 @@ LIBRARY_DEB ?= out/libluksrd$(INTERFACE)_$(VERSION)_amd64.deb
 PREFIX ?= /usr/local
 ZSH_FUNCTIONS ?= $(PREFIX)/share/zsh/site-functions
 # nbdkit finds plugins by name in its own folder alone, but only root may write there
-PLUGINS ?= $(if $(filter-out /usr /usr/local,$(PREFIX:/=)),$(PREFIX)/lib/nbdkit/plugins,$(shell pkg-config nbdkit --variable=plugindir 2>/dev/null))
+PLUGINS ?= $(if $(filter-out /usr /usr/local,$(PREFIX:/=)),$(PREFIX)/lib/nbdkit/plugins,$(shell \
+    pkg-config nbdkit --variable=plugindir 2>/dev/null))
 BINARIES = $(DESTDIR)$(PREFIX)/bin
 PAGES = $(DESTDIR)$(PREFIX)/share/man/man1
 DOCUMENTS = $(DESTDIR)$(PREFIX)/share/doc/luksrd
@@ -65,8 +69,9 @@ CFLAGS ?= -O2
 # the library's file, and the two names that lead to it
 SHARED_NAMES = libluksrd.so.$(VERSION) libluksrd.so.$(INTERFACE) libluksrd.so
 
-.PHONY: all demo check scripts program-scripts audit-scripts c-scripts tool-scripts v3-scripts v3-tool-scripts test bench library nbdkit tools toolchain built
-.PHONY: install install-program install-audit install-library install-shared install-plugin library-built runs-here uninstall deb
+.PHONY: all demo check scripts program-scripts audit-scripts c-scripts tool-scripts v3-scripts v3-tool-scripts test
+.PHONY: pages bench library nbdkit tools toolchain built library-built runs-here install install-program install-audit
+.PHONY: install-library install-shared install-plugin uninstall deb
 
 all: $(PROGRAM) $(AUDIT)
 
@@ -115,7 +120,8 @@ link_shared = $(CC) -shared -o $(1) -Wl,-soname,libluksrd.so.$(INTERFACE) -Wl,-z
 
 out/libluksrd.so: $(LIBRARY)
 	$(call link_shared,out/$(word 1,$(SHARED_NAMES)))
-	cd out && ln -sf $(word 1,$(SHARED_NAMES)) $(word 2,$(SHARED_NAMES)) && ln -sf $(word 2,$(SHARED_NAMES)) $(word 3,$(SHARED_NAMES))
+	cd out && ln -sf $(word 1,$(SHARED_NAMES)) $(word 2,$(SHARED_NAMES))
+	cd out && ln -sf $(word 2,$(SHARED_NAMES)) $(word 3,$(SHARED_NAMES))
 
 out/$(HWCAPS)/libluksrd.so.$(INTERFACE): out/x86-64-v3/libluksrd.a
 	mkdir -p $(@D)
@@ -151,7 +157,8 @@ check: $(PROGRAM_V2) $(PROGRAM_V3) $(AUDIT) $(TOOLS_V2) $(TOOLS_V3) library nbdk
 # output of each comes when it has ended. Some need the tools, or what is built from C.
 TESTS := stripes volumes devices pipes faults interruptions install memory hostile completions
 INTEROP := headers headers2 volumes volumes2 detached filesystems
-PROGRAM_SCRIPTS := test-names test-counts test-headline $(TESTS:%=test-%) $(INTEROP:%=interop-%)
+SOURCE_SCRIPTS := test-names test-counts test-headline test-contracts
+PROGRAM_SCRIPTS := $(SOURCE_SCRIPTS) $(TESTS:%=test-%) $(INTEROP:%=interop-%)
 C_SCRIPTS := test-package test-library test-processors interop-nbd interop-recipes
 TOOL_SCRIPTS := interop-sealed interop-keys
 AUDIT_SCRIPTS := interop-audit
@@ -159,7 +166,7 @@ ALL_SCRIPTS := $(PROGRAM_SCRIPTS) $(AUDIT_SCRIPTS) $(C_SCRIPTS) $(TOOL_SCRIPTS)
 # Those that are run once more with the program for x86-64-v3, and with its tools: all but those that read only the
 # sources, and those that take both programs.
 V3_TOOL_SCRIPTS := $(TOOL_SCRIPTS)
-V3_SCRIPTS := $(filter-out $(addprefix test-,names counts headline package processors) $(V3_TOOL_SCRIPTS),$(ALL_SCRIPTS))
+V3_SCRIPTS := $(filter-out $(SOURCE_SCRIPTS) test-package test-processors $(V3_TOOL_SCRIPTS),$(ALL_SCRIPTS))
 
 .PHONY: $(ALL_SCRIPTS)
 
@@ -178,7 +185,8 @@ v3-tool-scripts: REQUESTED = $(V3_TOOL_SCRIPTS)
 v3-scripts v3-tool-scripts:
 	tests/packages
 	@if /lib64/ld-linux-x86-64.so.2 --help | grep '^  x86-64-v3 (supported' >/dev/null; then \
-	    $(MAKE) -k -j 4 --output-sync=target --no-print-directory PROGRAM="$(PROGRAM_V3)" TOOLS="$(TOOLS_V3)" $(REQUESTED); \
+	    $(MAKE) -k -j 4 --output-sync=target --no-print-directory PROGRAM="$(PROGRAM_V3)" TOOLS="$(TOOLS_V3)" \
+	        $(REQUESTED); \
 	else \
 	    echo 'SKIPPED $@: this processor is older'; \
 	fi
@@ -186,8 +194,13 @@ v3-scripts v3-tool-scripts:
 test-names test-counts: test-%:
 	tests/$*
 
-test-headline:
-	docs/headline --check
+# They fail if a page is not as the script makes it from the sources.
+test-headline test-contracts: test-%:
+	docs/$* --check
+
+pages:
+	docs/headline
+	docs/contracts
 
 $(TESTS:%=test-%): test-%:
 	tests/$*.sh $(PROGRAM)
@@ -229,9 +242,11 @@ bench: all
 	bench/plot
 
 # What is already built is installed as it is, so this needs no toolchain.
-# $(call check_built,FILE,COMMAND): stops if this program is not built, or if a build for another processor was cut off in its place
+# $(call check_built,FILE,COMMAND): stops if this program is not built, or if a build for another processor was cut off
+# in its place
 check_built = test -f "$(1)" -a -x "$(1)" || { echo "luksrd is not built: run $(2) first" >&2; exit 1; }; \
-    test ! -d "$$(dirname "$(1)")/aside" || { echo "a build for another processor was cut off: run $(2) first" >&2; exit 1; }
+    test ! -d "$$(dirname "$(1)")/aside" || \
+    { echo "a build for another processor was cut off: run $(2) first" >&2; exit 1; }
 # how the program for this processor is made
 MAKE_IT = make$(if $(filter-out x86-64-v2,$(CPU)), CPU=$(CPU))
 
@@ -244,7 +259,8 @@ runs-here: built
 	    { echo "luksrd for $(CPU) does not run here: nothing is installed" >&2; exit 1; }
 
 # The plugin comes before the program: if its folder is not known or not writable, nothing is installed.
-install: built $(if $(filter-out x86-64-v2,$(CPU)),runs-here) $(if $(wildcard $(PLUGIN)),library-built install-plugin) install-program \
+install: built $(if $(filter-out x86-64-v2,$(CPU)),runs-here) \
+    $(if $(wildcard $(PLUGIN)),library-built install-plugin) install-program \
     $(if $(wildcard $(AUDIT)),install-audit) \
     $(if $(wildcard $(PLUGIN) $(LIBRARY)),install-library)
 
@@ -272,7 +288,8 @@ note_library = if [ -z "$(DESTDIR)" ] && [ "$$(id -u)" = 0 ] && PATH=$$PATH:/usr
     ldconfig -vNX 2>/dev/null | grep "^$(LIBRARIES):" >/dev/null; then ldconfig; fi
 
 library-built:
-	@test -f "$(LIBRARY)" -a -f "$(SHARED)" -a -f "$(SHARED_V3)" || { echo "the library is not built: run make library first" >&2; exit 1; }
+	@test -f "$(LIBRARY)" -a -f "$(SHARED)" -a -f "$(SHARED_V3)" || \
+	    { echo "the library is not built: run make library first" >&2; exit 1; }
 
 # what programs load: for all processors, and for x86-64-v3
 install-shared: | $(if $(filter-out x86-64-v2,$(CPU)),runs-here)
@@ -295,8 +312,10 @@ packaged = { dpkg-query -S "$(1)" | sed 's/: .*//'; readlink "$(1)" | grep '^/et
 
 install-plugin: | $(if $(filter-out x86-64-v2,$(CPU)),runs-here)
 	@test -f "$(PLUGIN)" || { echo "the plugin is not built: run make nbdkit first" >&2; exit 1; }
-	@test -n "$(PLUGINS)" || { echo "nbdkit's folder is not known: run apt-get install nbdkit-plugin-dev pkg-config" >&2; exit 1; }
-	@name=$$($(call packaged,$(PLUGIN_FILE))); [ -z "$$name" ] || { echo "the package $$name has $(PLUGIN_FILE): run apt-get remove $$name, or give a PREFIX" >&2; exit 1; }
+	@test -n "$(PLUGINS)" || \
+	    { echo "nbdkit's folder is not known: run apt-get install nbdkit-plugin-dev pkg-config" >&2; exit 1; }
+	@name=$$($(call packaged,$(PLUGIN_FILE))); [ -z "$$name" ] || { echo \
+	    "the package $$name has $(PLUGIN_FILE): run apt-get remove $$name, or give a PREFIX" >&2; exit 1; }
 	install -d "$(DESTDIR)$(PLUGINS)" "$(PAGES)"
 	install -m 644 "$(PLUGIN)" "$(PLUGIN_FILE)"
 	install -m 644 docs/nbdkit-luksrd-plugin.1 "$(PAGES)/nbdkit-luksrd-plugin.1"
@@ -305,13 +324,15 @@ INSTALLED = "$(BINARIES)/luksrd" "$(PAGES)/luksrd.1" "$(DOCUMENTS)/README.md" "$
     "$(BASH_COMPLETIONS)/luksrd" "$(ZSH_COMPLETIONS)/_luksrd" \
     "$(BINARIES)/luksrd-audit" "$(PAGES)/luksrd-audit.1" "$(DOCUMENTS)/AUDIT.md" \
     "$(BASH_COMPLETIONS)/luksrd-audit" "$(ZSH_COMPLETIONS)/_luksrd-audit" \
-    "$(HEADERS)/luksrd.h" "$(LIBRARIES)/libluksrd.a" $(SHARED_NAMES:%="$(LIBRARIES)/%") "$(LIBRARIES)/pkgconfig/luksrd.pc" \
+    "$(HEADERS)/luksrd.h" "$(LIBRARIES)/libluksrd.a" $(SHARED_NAMES:%="$(LIBRARIES)/%") \
+    "$(LIBRARIES)/pkgconfig/luksrd.pc" \
     "$(LIBRARIES)/$(HWCAPS)/$(word 2,$(SHARED_NAMES))" \
     "$(PAGES)/nbdkit-luksrd-plugin.1" $(if $(PLUGINS),"$(PLUGIN_FILE)")
 
 uninstall:
 	@for file in $(INSTALLED); do \
-	    [ ! -e "$$file" ] && [ ! -L "$$file" ] || [ -n "$$($(call packaged,$$file))" ] || { echo "rm $$file"; rm "$$file" || exit; }; \
+	    [ ! -e "$$file" ] && [ ! -L "$$file" ] || [ -n "$$($(call packaged,$$file))" ] || \
+	        { echo "rm $$file"; rm "$$file" || exit; }; \
 	done
 	@for folder in "$(DOCUMENTS)" "$(LIBRARIES)/$(HWCAPS)" "$(LIBRARIES)/glibc-hwcaps"; do \
 	    [ ! -d "$$folder" ] || rmdir --ignore-fail-on-non-empty "$$folder"; \
@@ -322,10 +343,12 @@ uninstall:
 deb:
 	@$(call check_built,$(PROGRAM_V2),make)
 	@$(call check_built,$(PROGRAM_V3),make CPU=x86-64-v3)
-	@$(if $(wildcard $(PLUGIN)),test -f "$(SHARED)" -a -f "$(SHARED_V3)" || { echo "the library is not built: run make library first" >&2; exit 1; })
+	@$(if $(wildcard $(PLUGIN)),test -f "$(SHARED)" -a -f "$(SHARED_V3)" || \
+	    { echo "the library is not built: run make library first" >&2; exit 1; })
 	packaging/deb luksrd "$(VERSION)" "$(DEB)" "$(PROGRAM_V2)" "$(PROGRAM_V3)"
 	@echo "$(DEB)"
-	$(if $(wildcard $(PLUGIN)),packaging/deb libluksrd$(INTERFACE) "$(VERSION)" "$(LIBRARY_DEB)" "$(SHARED)" "$(SHARED_V3)")
+	$(if $(wildcard $(PLUGIN)),packaging/deb libluksrd$(INTERFACE) "$(VERSION)" "$(LIBRARY_DEB)" "$(SHARED)" \
+	    "$(SHARED_V3)")
 	@$(if $(wildcard $(PLUGIN)),echo "$(LIBRARY_DEB)")
 	$(if $(wildcard $(PLUGIN)),packaging/deb nbdkit-plugin-luksrd "$(VERSION)" "$(PLUGIN_DEB)" "$(PLUGIN)")
 	@$(if $(wildcard $(PLUGIN)),echo "$(PLUGIN_DEB)")

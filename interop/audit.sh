@@ -1,6 +1,7 @@
 #!/usr/bin/env bash
-# Compares the fields that luksrd-audit lists with what cryptsetup reports: luksDump for LUKS1, the JSON metadata and luksDump for LUKS2.
-# Runs the recipes of docs/AUDIT.md. The first argument is the built luksrd, the second the built luksrd-audit.
+# Compares the fields that luksrd-audit lists with what cryptsetup reports: luksDump for LUKS1, the JSON metadata and
+# luksDump for LUKS2. Runs the recipes of docs/AUDIT.md. The first argument is the built luksrd, the second the built
+# luksrd-audit.
 audit=$(realpath "${2:?the built luksrd-audit}")
 pages=$(realpath "$(dirname "$0")/../docs")
 # shellcheck source=interop/common.sh
@@ -37,7 +38,8 @@ print(json.dumps(dict(version=1, offset=0, uuid=f["UUID"], label=None, subsystem
 # object2 IMAGE ROLE OTHER: what cryptsetup prints of a LUKS2 header, as that object
 object2() {
     cp "$1" copy
-    { cryptsetup luksDump copy >fields && cryptsetup luksDump --dump-json-metadata copy >metadata; } 2>err || { cat err; exit 1; }
+    { cryptsetup luksDump copy >fields && cryptsetup luksDump --dump-json-metadata copy >metadata; } 2>err ||
+        { cat err; exit 1; }
     python3 - "$2" "$3" <<'PYTHON' | jq -S .
 import base64, json, re, sys
 fields = dict(re.findall(r'^([A-Z][a-z A-Z]*):\s+(.*)$', open('fields').read(), re.M))
@@ -67,15 +69,16 @@ print(json.dumps(dict(version=2, offset=0, uuid=fields['UUID'], label=fields['La
 PYTHON
 }
 
-# agree1 IMAGE: the object of a LUKS1 image, but for slots that are not in use, is what cryptsetup reports
-agree1() {
-    same "$1" "$("$audit" "$1" | jq -S 'del(.file, .findings, .weak) | .slots |= map(select(.state != "disabled") | del(.state, .reason, .can_try))')" \
+# lists_as_cryptsetup1 IMAGE: the object of a LUKS1 image, but for slots that are not in use, is what cryptsetup reports
+lists_as_cryptsetup1() {
+    same "$1" "$("$audit" "$1" | jq -S \
+        'del(.file, .findings, .weak) | .slots |= map(select(.state != "disabled") | del(.state, .reason, .can_try))')" \
         "$(object1 "$1")"
     same "$1: eight slots" "$("$audit" "$1" | jq '.slots | length')" 8
 }
 
-# agree2 IMAGE ROLE [OTHER]: the object of a LUKS2 image is what cryptsetup reports
-agree2() { same "$1" "$(listed "$1")" "$(object2 "$1" "$2" "${3-}")"; }
+# lists_as_cryptsetup2 IMAGE ROLE [OTHER]: the object of a LUKS2 image is what cryptsetup reports
+lists_as_cryptsetup2() { same "$1" "$(listed "$1")" "$(object2 "$1" "$2" "${3-}")"; }
 
 # weak IMAGE STATUS NAME..: the names and places of weaknesses, and the exit status
 weak() {
@@ -90,23 +93,26 @@ weak() {
 # LUKS1: hash functions, also one that luksrd does not know, and modes
 for hash in sha1 sha224 sha256 sha384 sha512 ripemd160; do
     format1 "$hash" aes-xts-plain64 "$hash" 512
-    agree1 "$hash"
+    lists_as_cryptsetup1 "$hash"
 done
 format1 cbc aes-cbc-essiv:sha256 sha256 128
-agree1 cbc
+lists_as_cryptsetup1 cbc
 format1 plain aes-xts-plain sha256 512
-agree1 plain
+lists_as_cryptsetup1 plain
 
 weak sha1 1 'slot 0 iterations' 'slot 0 sha1' 'slot 5 iterations' 'slot 5 sha1' 'digest 0 sha1'
 weak ripemd160 1 'slot 0 iterations' 'slot 5 iterations'
-weak cbc 1 'segment cbc' 'segment short-key' 'slot 0 iterations' 'slot 0 cbc' 'slot 0 short-key' 'slot 5 iterations' 'slot 5 cbc' 'slot 5 short-key'
+weak cbc 1 'segment cbc' 'segment short-key' 'slot 0 iterations' 'slot 0 cbc' 'slot 0 short-key' 'slot 5 iterations' \
+    'slot 5 cbc' 'slot 5 short-key'
 
 # OWASP's figures, and a minimum of one's own
 # iterations HASH COUNT STATUS: a LUKS1 volume with this many iterations is weak or not
 iterations() {
     truncate -s 3M "$1 $2"
-    cryptsetup -q luksFormat --type luks1 --pbkdf-force-iterations "$2" --hash "$1" --key-size 512 --key-file pass "$1 $2" || exit 1
-    same "$1 with $2" "$("$audit" "$1 $2" | jq -c '[.weak[] | select(.name == "iterations") | .place]'; echo "${PIPESTATUS[0]}")" "$3"
+    cryptsetup -q luksFormat --type luks1 --pbkdf-force-iterations "$2" --hash "$1" --key-size 512 --key-file pass \
+        "$1 $2" || exit 1
+    same "$1 with $2" "$("$audit" "$1 $2" | jq -c '[.weak[] | select(.name == "iterations") | .place]';
+        echo "${PIPESTATUS[0]}")" "$3"
 }
 iterations sha512 209999 '["slot 0"]
 1'
@@ -118,7 +124,8 @@ iterations sha256 600000 '[]
 0'
 same 'a lower minimum' "$("$audit" --min-iterations 599999 'sha256 599999' | jq -c .weak; echo "${PIPESTATUS[0]}")" '[]
 0'
-same 'a higher minimum' "$("$audit" --min-iterations=600001 'sha256 600000' | jq -r '.weak[].name'; echo "${PIPESTATUS[0]}")" 'iterations
+same 'a higher minimum' "$("$audit" --min-iterations=600001 'sha256 600000' | jq -r '.weak[].name';
+    echo "${PIPESTATUS[0]}")" 'iterations
 1'
 
 # LUKS2: lengths of headers, hash functions, ciphers, sectors
@@ -131,36 +138,41 @@ format() {
 }
 for size in 16 64 1024 4096; do
     format "of $size KiB" "${fast[@]}" --luks2-metadata-size "${size}k" --luks2-keyslots-size 1m
-    agree2 "of $size KiB" primary
+    lists_as_cryptsetup2 "of $size KiB" primary
 done
 for hash in sha1 sha224 sha256 sha384 sha512 ripemd160; do
     format "2 $hash" "${fast[@]}" --hash "$hash"
-    agree2 "2 $hash" primary
+    lists_as_cryptsetup2 "2 $hash" primary
 done
 for sealed in 'aes-xts-plain64 512 512' 'aes-xts-plain64 256 4096' 'aes-cbc-essiv:sha256 128 512'; do
     read -r cipher bits sector <<<"$sealed"
     format "$sealed" "${fast[@]}" --cipher "$cipher" --key-size "$bits" --sector-size "$sector"
-    agree2 "$sealed" primary
+    lists_as_cryptsetup2 "$sealed" primary
 done
-weak 'aes-cbc-essiv:sha256 128 512' 1 'segment cbc' 'segment short-key' 'slot 0 iterations' 'slot 0 cbc' 'slot 0 short-key'
+weak 'aes-cbc-essiv:sha256 128 512' 1 'segment cbc' 'segment short-key' 'slot 0 iterations' 'slot 0 cbc' \
+    'slot 0 short-key'
 weak '2 sha1' 1 'slot 0 iterations' 'slot 0 sha1' 'digest 0 sha1'
 
 # labels, tokens, several slots, priorities, Argon2
 format several "${fast[@]}" --label 'a "label"' --subsystem 'a subsystem'
 cryptsetup -q luksAddKey "${fast[@]}" --key-slot 10 --key-file pass several pass2 || exit 1
-cryptsetup -q luksAddKey --pbkdf argon2id --pbkdf-force-iterations 4 --pbkdf-memory 65536 --pbkdf-parallel 1 --key-slot 2 --key-file pass several pass2 || exit 1
-cryptsetup -q luksAddKey --pbkdf argon2i --pbkdf-force-iterations 4 --pbkdf-memory 65535 --pbkdf-parallel 1 --key-slot 31 --key-file pass several pass2 || exit 1
+cryptsetup -q luksAddKey --pbkdf argon2id --pbkdf-force-iterations 4 --pbkdf-memory 65536 --pbkdf-parallel 1 \
+    --key-slot 2 --key-file pass several pass2 || exit 1
+cryptsetup -q luksAddKey --pbkdf argon2i --pbkdf-force-iterations 4 --pbkdf-memory 65535 --pbkdf-parallel 1 \
+    --key-slot 31 --key-file pass several pass2 || exit 1
 cryptsetup -q config --priority prefer --key-slot 10 several || exit 1
 cryptsetup -q config --priority ignore --key-slot 2 several || exit 1
-printf '{"type":"mine\\t\\"","keyslots":["0","10"]}' | cryptsetup -q token import --token-id 3 --json-file - several || exit 1
-agree2 several primary
+printf '{"type":"mine\\t\\"","keyslots":["0","10"]}' | cryptsetup -q token import --token-id 3 --json-file - \
+    several || exit 1
+lists_as_cryptsetup2 several primary
 weak several 1 'slot 0 iterations' 'slot 10 iterations' 'slot 31 argon2-memory'
 same 'states' "$("$audit" several | jq -c '[.slots[] | [.number, .state, .reason, .can_try]]')" \
     '[[0,"usable",null,true],[2,"skipped","argon2id",false],[10,"usable",null,true],[31,"skipped","argon2i",false]]'
 
 # a volume in the middle of being encrypted has a requirement and several segments
 cp 'aes-xts-plain64 512 512' unfinished
-if cryptsetup -q reencrypt --encrypt --init-only --type luks2 --reduce-device-size 4M --key-file pass "${fast[@]}" unfinished >err 2>&1; then
+if cryptsetup -q reencrypt --encrypt --init-only --type luks2 --reduce-device-size 4M --key-file pass "${fast[@]}" \
+    unfinished >err 2>&1; then
     same 'requirements' "$("$audit" unfinished | jq -c .requirements)" \
         "$(cp unfinished copy; cryptsetup luksDump --dump-json-metadata copy | jq -c .config.requirements.mandatory)"
 fi
@@ -168,7 +180,7 @@ fi
 # a primary header that is wiped, a secondary one that is, and neither
 cp several 'primary wiped'
 dd if=/dev/zero of='primary wiped' bs=4096 count=1 conv=notrunc status=none
-agree2 'primary wiped' secondary 'not valid'
+lists_as_cryptsetup2 'primary wiped' secondary 'not valid'
 same 'findings' "$("$audit" 'primary wiped' | jq -c .findings)" '["primary header: not valid"]'
 cp several 'secondary wiped'
 dd if=/dev/zero of='secondary wiped' bs=4096 count=1 seek=4 conv=notrunc status=none
@@ -188,8 +200,10 @@ same 'columns' "$("$audit" --tsv several missing empty | awk -F'\t' '{ print NF,
 20 several  2
 20 missing cannot be opened 
 20 empty no LUKS header '
-same 'findings are those of luksCheck' "$("$program" luksCheck 'primary wiped' 2>/dev/null)" "$("$audit" 'primary wiped' | jq -r '.findings[]')"
-same 'columns that hold JSON' "$("$audit" --tsv several | tail -n 1 | cut -f 18 | jq -c '[.[].keyslots]')" "$("$audit" several | jq -c '[.tokens[].keyslots]')"
+same 'findings are those of luksCheck' "$("$program" luksCheck 'primary wiped' 2>/dev/null)" \
+    "$("$audit" 'primary wiped' | jq -r '.findings[]')"
+same 'columns that hold JSON' "$("$audit" --tsv several | tail -n 1 | cut -f 18 | jq -c '[.[].keyslots]')" \
+    "$("$audit" several | jq -c '[.tokens[].keyslots]')"
 same 'the end of a full device' "$("$audit" several 2>&1 >/dev/full; echo $?)" 'luksrd-audit: write failed
 6'
 same 'a closed output' "$("$audit" several 2>&1 >&-; echo $?)" 'luksrd-audit: write failed
@@ -200,11 +214,14 @@ cp sha1 target
 size=$(stat -c %s target)
 # shellcheck disable=SC2094
 "$audit" target >>target
-same 'an image that the output goes to' "$(tail -c "+$((size + 1))" target)" '{"error":"cannot be opened","file":"target"}'
+same 'an image that the output goes to' "$(tail -c "+$((size + 1))" target)" \
+    '{"error":"cannot be opened","file":"target"}'
 same 'a name that is not UTF-8' "$("$audit" several $'a\377' 2>&1; echo $?)" 'luksrd-audit: an argument is not UTF-8
 2'
-same 'a slot that is disabled has not too few iterations' "$("$audit" sha256 | jq -c '[.slots[] | select(.state != "disabled" and .kdf == "pbkdf2" and .iterations < 600000) | .number]')" '[0,5]'
-same 'help' "$("$audit" --help | head -n 1; echo "${PIPESTATUS[0]}")" 'Lists what is in LUKS headers, and what is weak about them, as JSON.
+same 'a slot that is disabled has not too few iterations' "$("$audit" sha256 |
+    jq -c '[.slots[] | select(.state != "disabled" and .kdf == "pbkdf2" and .iterations < 600000) | .number]')" '[0,5]'
+same 'help' "$("$audit" --help | head -n 1; echo "${PIPESTATUS[0]}")" \
+    'Lists what is in LUKS headers, and what is weak about them, as JSON.
 0'
 same 'no image' "$("$audit" >/dev/null 2>&1; echo $?)" 2
 same 'standard input twice' "$("$audit" - - </dev/null >/dev/null 2>&1; echo $?)" 2
@@ -212,10 +229,12 @@ same 'standard input twice' "$("$audit" - - </dev/null >/dev/null 2>&1; echo $?)
 # a header whose texts are hostile can forge no field
 cp sha1 hostile
 printf 'x","weak":[],"y":"\n\t\\\0' | dd of=hostile bs=1 seek=168 conv=notrunc status=none
-same 'a hostile text' "$("$audit" hostile | jq -c '[.uuid, (.weak | length)]')" '["x\",\"weak\":[],\"y\":\"\\x0a\\x09\\x5c",5]'
+same 'a hostile text' "$("$audit" hostile | jq -c '[.uuid, (.weak | length)]')" \
+    '["x\",\"weak\":[],\"y\":\"\\x0a\\x09\\x5c",5]'
 same 'a hostile text in a column' "$("$audit" --tsv hostile | wc -l)" 2
 
-# the recipes, as they are written there: a folder with two images, and a disk with a header at its start and another one after a MiB
+# the recipes, as they are written there: a folder with two images, and a disk with a header at its start and another
+# one after a MiB
 mkdir bin images
 ln -s "$audit" bin/luksrd-audit
 cp sha1 images/a.img

@@ -1,5 +1,6 @@
 # shellcheck shell=bash
-# Shared by the scripts that compare luksrd with cryptsetup and qemu-img: how volumes are made, and what cryptsetup reports about them, worded as luksrd does.
+# Shared by the scripts that compare luksrd with cryptsetup and qemu-img: how volumes are made, and what cryptsetup
+# reports about them, worded as luksrd does.
 # shellcheck source=tests/common.sh
 . "$(dirname "${BASH_SOURCE[0]}")/../tests/common.sh"
 
@@ -13,13 +14,15 @@ sums() {
     echo "${PIPESTATUS[0]} $(cat message)"
 }
 
-# sum_of FILE STATUS [MESSAGE]: what `sums` prints for a run that writes these bytes and ends with this status and message
+# sum_of FILE STATUS [MESSAGE]: what `sums` prints for a run that writes these bytes and ends with this status and
+# message
 sum_of() {
     sha256sum <"$1"
     echo "$2 ${3-}"
 }
 
-# theirs1 ARGUMENT..: cryptsetup's dump of a LUKS1 header, by its luksDump with these arguments, in the lines of luksrd's dump
+# theirs1 ARGUMENT..: cryptsetup's dump of a LUKS1 header, by its luksDump with these arguments, in the lines of
+# luksrd's dump
 theirs1() {
     cryptsetup luksDump "$@" | tr '\t' ' ' | awk '
         function rest(n,   s, i) { s = ""; for (i = n; i <= NF; i++) s = s $i; return s }
@@ -49,7 +52,8 @@ theirs1() {
         END { flush() }'
 }
 
-# theirs2 ROLE SIZE ARGUMENT..: the dump of a LUKS2 header as luksrd words it, made from what cryptsetup's luksDump prints with these arguments
+# theirs2 ROLE SIZE ARGUMENT..: the dump of a LUKS2 header as luksrd words it, made from what cryptsetup's luksDump
+# prints with these arguments
 theirs2() {
     local role=$1 size=$2
     shift 2
@@ -81,12 +85,19 @@ for n in sorted(tree['digests'], key=int):
 PYTHON
 }
 
-# format1 IMAGE CIPHER HASH KEY_BITS OPTION..: a volume of 3 MiB with the passphrases in pass (slot 0) and pass2 (slot 5); slot 1 is killed
+# run_cryptsetup ARGUMENT..: cryptsetup with these arguments; its messages are shown if it fails
+run_cryptsetup() {
+    cryptsetup -q "$@" >err 2>&1 || { cat err >&2; exit 1; }
+}
+
+# format1 IMAGE CIPHER HASH KEY_BITS OPTION..: a volume of 3 MiB with the passphrases in pass (slot 0) and pass2 (slot
+# 5); slot 1 is killed
 format1() {
     local image=$1 cipher=$2 hash=$3 bits=$4
     shift 4
     truncate -s 3M "$image"
-    cryptsetup -q luksFormat --type luks1 --pbkdf-force-iterations 1000 --hash "$hash" --key-size "$bits" --cipher "$cipher" \
+    cryptsetup -q luksFormat --type luks1 --pbkdf-force-iterations 1000 --hash "$hash" --key-size "$bits" \
+        --cipher "$cipher" \
         --key-file pass "$@" "$image" || exit 1
     cryptsetup -q luksAddKey --pbkdf-force-iterations 1200 --key-file pass "$image" pass2 || exit 1
     cryptsetup -q luksAddKey --pbkdf-force-iterations 1300 --key-slot 5 --key-file pass "$image" pass2 || exit 1
@@ -115,19 +126,21 @@ fill() {
         --target-image-opts "driver=luks,key-secret=s,file.driver=file,file.filename=$1" || exit 1
 }
 
-# seal IMAGE CIPHER KEY_BITS OPTION..: cryptsetup encrypts plain as LUKS2; the passphrase in pass opens slot 0, the one in pass2 slot 1
+# seal IMAGE CIPHER KEY_BITS OPTION..: cryptsetup encrypts plain as LUKS2; the passphrase in pass opens slot 0, the
+# one in pass2 slot 1
 seal() {
     local image=$1 cipher=$2 bits=$3
     shift 3
     cp plain "$image"
     truncate -s +4M "$image"
-    cryptsetup -q reencrypt --encrypt --type luks2 --reduce-device-size 4M --force-offline-reencrypt --luks2-metadata-size 16k \
-        --luks2-keyslots-size 1m --cipher "$cipher" --key-size "$bits" --pbkdf pbkdf2 --pbkdf-force-iterations 1000 --key-file pass "$@" \
-        "$image" >err 2>&1 || { cat err >&2; exit 1; }
-    cryptsetup -q luksAddKey --pbkdf pbkdf2 --pbkdf-force-iterations 1200 --hash sha512 --key-file pass "$image" pass2 >err 2>&1 || { cat err >&2; exit 1; }
+    run_cryptsetup reencrypt --encrypt --type luks2 --reduce-device-size 4M --force-offline-reencrypt \
+        --luks2-metadata-size 16k --luks2-keyslots-size 1m --cipher "$cipher" --key-size "$bits" \
+        --pbkdf pbkdf2 --pbkdf-force-iterations 1000 --key-file pass "$@" "$image"
+    run_cryptsetup luksAddKey --pbkdf pbkdf2 --pbkdf-force-iterations 1200 --hash sha512 --key-file pass "$image" pass2
 }
 
-# start_of2 IMAGE: where the payload of a LUKS2 volume starts, as cryptsetup reports for a copy, since it repairs a damaged header that it reads
+# start_of2 IMAGE: where the payload of a LUKS2 volume starts, as cryptsetup reports for a copy, since it repairs a
+# damaged header that it reads
 start_of2() {
     cp "$1" copy
     cryptsetup luksDump copy | awk '/offset: .*bytes/ { print $2; exit }'

@@ -1,6 +1,7 @@
 #!/usr/bin/env bash
-# Reads file systems out of volumes, without mounting any: luksrd's output is compared with the file system that was sealed, checked by that file system's own checker,
-# read file by file with GRUB's reader, and compared with what nbdkit (for LUKS1) and GRUB (for both versions) read from the same volume.
+# Reads file systems out of volumes, without mounting any: luksrd's output is compared with the file system that was
+# sealed, checked by that file system's own checker, read file by file with GRUB's reader, and compared with what
+# nbdkit (for LUKS1) and GRUB (for both versions) read from the same volume.
 # shellcheck source=interop/common.sh
 . "$(dirname "$0")/common.sh"
 
@@ -24,14 +25,16 @@ checked() {
     echo $?
 }
 
-# grub IMAGE ARGUMENT..: GRUB's reader over an image, which asks for the passphrase if the image is a volume; it has no terminal, so it reads standard input
+# grub IMAGE ARGUMENT..: GRUB's reader over an image, which asks for the passphrase if the image is a volume; it has
+# no terminal, so it reads standard input
 grub() {
     setsid -w grub-fstest -C "$work/$1" "${@:2}" <line >err 2>&1
     echo $?
 }
 
-# reads IMAGE NAME: luksrd gives the file system of this kind whole, and with the files that were put into it; GRUB reads the same from the volume
-reads() {
+# reads_file_system IMAGE NAME: luksrd gives the file system of this kind whole, and with the files that were put into
+# it; GRUB reads_file_system the same from the volume
+reads_file_system() {
     local file size
     size=$(stat -c %s "$2")
     "$program" luksCat --key-file pass "$1" >whole 2>message
@@ -73,7 +76,7 @@ one() {
     cp "$1" plain
     format1 "$1 in LUKS1 by $2-$3" "aes-$2" sha256 "$3"
     fill "$1 in LUKS1 by $2-$3"
-    reads "$1 in LUKS1 by $2-$3" "$1"
+    reads_file_system "$1 in LUKS1 by $2-$3" "$1"
     # nbdkit 1.32 crashes on ESSIV
     [[ $2 = *essiv* ]] || nbdkit_reads "$1 in LUKS1 by $2-$3"
 }
@@ -82,7 +85,7 @@ one() {
 two() {
     cp "$1" plain
     seal "$1 in LUKS2 by $2-$3 in sectors of $4" "aes-$2" "$3" --sector-size "$4"
-    reads "$1 in LUKS2 by $2-$3 in sectors of $4" "$1"
+    reads_file_system "$1 in LUKS2 by $2-$3 in sectors of $4" "$1"
 }
 
 for kind in ext4 vfat xfs; do

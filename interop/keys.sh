@@ -1,6 +1,7 @@
 #!/usr/bin/env bash
-# Compares the keys that luks_kdf derives with those of Python's hashlib (OpenSSL): each length from 1 to 512 bytes, with 1, 2, 3 and 1000
-# iterations, by all five hash functions. The second argument is the program that derives them, `luksrd_tools`.
+# Compares the keys that luks_kdf derives with those of Python's hashlib (OpenSSL): each length from 1 to 512 bytes,
+# with 1, 2, 3 and 1000 iterations, by all five hash functions. The second argument is the program that derives them,
+# `luksrd_tools`.
 tools=$(realpath "${2:?the program that derives keys}")
 # shellcheck source=tests/common.sh
 . "$(dirname "$0")/../tests/common.sh"
@@ -18,7 +19,8 @@ size = hashlib.new(name).digest_size
 for length in range(1, 513):
     print(iterations * -(-length // size), key[:length].hex())
 PYTHON
-        same "$hash, $iterations iterations: keys of 1 to 512 bytes, and their work" "$(cut -d ' ' -f 1,3 derived | diff - theirs | head -n 2)" ""
+        same "$hash, $iterations iterations: keys of 1 to 512 bytes, and their work" \
+            "$(cut -d ' ' -f 1,3 derived | diff - theirs | head -n 2)" ""
     done
 done
 finish

@@ -1,7 +1,8 @@
 #!/usr/bin/env bash
 # Runs README's recipes and the examples of the man pages as they are written there, in bash and in zsh, on volumes of
-# cryptsetup and qemu-img: they write the plain text, all files that they make are private, and no image changes, not even one
-# with a damaged secondary header. Mounting is left out. nbdkit loads the plugin from where it is built (the second argument).
+# cryptsetup and qemu-img: they write the plain text, all files that they make are private, and no image changes, not
+# even one with a damaged secondary header. Mounting is left out. nbdkit loads the plugin from where it is built (the
+# second argument).
 readme=$(realpath "$(dirname "$0")/../README.md")
 pages=$(realpath "$(dirname "$0")/../docs")
 plugin=$(realpath "${2:?the built plugin}")
@@ -50,8 +51,9 @@ begins() {
     esac
 }
 
-# cooks FOLDER NEEDED TEXT..: runs these recipes in a folder with images, in each shell, with links to the other files that
-# they need; no image changes. PAGE:TEXT is an example of a man page. Left out is what needs root, a disk or a terminal.
+# cooks FOLDER NEEDED TEXT..: runs these recipes in a folder with images, in each shell, with links to the other files
+# that they need; no image changes. PAGE:TEXT is an example of a man page. Left out is what needs root, a disk or a
+# terminal.
 cooks() {
     local folder=$1 needed=$2 shell text
     shift 2
@@ -71,22 +73,24 @@ cooks() {
     for shell in bash 'zsh -o interactive_comments'; do
         (cd "$folder" && $shell ../script <../typed) >"$folder, ${shell%% *}" 2>&1
         mv "$folder/rescue" "rescue $folder, ${shell%% *}"
-        same "$folder in $shell: files that others may read" "$(find "rescue $folder, ${shell%% *}" -type f -perm /077 ! -name plain.pid)" ''
+        same "$folder in $shell: files that others may read" "$(find "rescue $folder, ${shell%% *}" -type f -perm /077 \
+            ! -name plain.pid)" ''
         same "$folder in $shell: the images" "$(cd "$folder" && sha256sum -- *)" "$(cat before)"
     done
 }
 
-# gives FOLDER FILE WANTED: in both shells the recipes left this file, which begins with these bytes (a volume that
-# cryptsetup encrypts has more than the requested ones)
-gives() {
+# recipes_give FOLDER FILE WANTED: in both shells the recipes left this file, which begins with these bytes (a volume
+# that cryptsetup encrypts has more than the requested ones)
+recipes_give() {
     local shell
     for shell in bash zsh; do
-        same "$1 in $shell: $2" "$(head -c "$(stat -c %s "$3")" "rescue $1, $shell/$2" | sha256sum)" "$(sha256sum <"$3")"
+        same "$1 in $shell: $2" "$(head -c "$(stat -c %s "$3")" "rescue $1, $shell/$2" | sha256sum)" \
+            "$(sha256sum <"$3")"
     done
 }
 
-# says FOLDER TEXT: in both shells this is among what the recipes printed, or all of it
-says() {
+# recipes_say FOLDER TEXT: in both shells this is among what the recipes printed, or all of it
+recipes_say() {
     local shell
     for shell in bash zsh; do
         case $(cat "$1, $shell") in
@@ -99,8 +103,8 @@ says() {
 # has_ended PID: this process, which is no child, has ended
 has_ended() { ! kill -0 "$1" 2>err; }
 
-# damaged IMAGE: its secondary header has another byte
-damaged() {
+# damage_secondary IMAGE: its secondary header has another byte
+damage_secondary() {
     printf '\377' | dd of="$1" bs=1 seek=$((16384 + 5000)) conv=notrunc status=none
 }
 
@@ -119,10 +123,10 @@ format1 volume/disk.img aes-xts-plain64 sha256 512
 fill volume/disk.img
 zstd -q volume/disk.img -o volume/disk.img.zst
 cooks volume disk.img.zst 'Rescue and migration' 'The first bytes alone' 'Look into the file system' 'At the end'
-for image in plain.img plain2.img plain3.img plain4.img; do gives volume $image plain; done
+for image in plain.img plain2.img plain3.img plain4.img; do recipes_give volume $image plain; done
 head -c 1M plain >first
-gives volume first first
-says volume 'luksrd: write failed'
+recipes_give volume first first
+recipes_say volume 'luksrd: write failed'
 for shell in bash zsh; do
     same "volume in $shell: the key file" "$(ls "rescue volume, $shell/pass" 2>err)" ''
 done
@@ -134,25 +138,27 @@ cp volume/disk.img page/NAME
 cp volume/disk.img served
 cooks page 'disk.img.zst NAME' luksrd.1:'Decrypt a volume into a file' luksrd.1:'Decrypt the first bytes alone' \
     luksrd.1:'Read a file whose name' luksrd.1:'Check a header from a stranger'
-for image in plain.img plain3.img plain4.img; do gives page $image plain; done
-gives page first first
-says page "clean
+for image in plain.img plain3.img plain4.img; do recipes_give page $image plain; done
+recipes_give page first first
+recipes_say page "clean
 Key slot 0 opens the volume."
-says page "UUID: $("$program" luksUUID page/NAME)"
+recipes_say page "UUID: $("$program" luksUUID page/NAME)"
 cooks served '' nbdkit-luksrd-plugin.1:'Copy the plaintext out' nbdkit-luksrd-plugin.1:'Serve a volume on a socket' \
     nbdkit-luksrd-plugin.1:'Serve a volume to tools'
-gives served plain.img plain
+recipes_give served plain.img plain
 for shell in bash zsh; do
-    same "served in $shell: plain.qcow2" "$(qemu-img compare "rescue served, $shell/plain.qcow2" plain)" 'Images are identical.'
+    same "served in $shell: plain.qcow2" "$(qemu-img compare "rescue served, $shell/plain.qcow2" plain)" \
+        'Images are identical.'
     for folder in served scratch; do
         server=$(cat "rescue served, $shell/$folder/plain.pid")
-        same "served in $shell: the server in $folder" "$([ -n "$server" ] && wait_until $$ has_ended "$server"; echo $?)" 0
+        same "served in $shell: the server in $folder" "$([ -n "$server" ] && wait_until $$ has_ended "$server";
+            echo $?)" 0
     done
 done
-says served 'is_read_only: false'
-says volume 'Key slot 0 opens the volume.'
-says volume 'TYPE="ext4"'
-says volume ' inside'
+recipes_say served 'is_read_only: false'
+recipes_say volume 'Key slot 0 opens the volume.'
+recipes_say volume 'TYPE="ext4"'
+recipes_say volume ' inside'
 
 # the same volume as a file over a scratch copy, which is repaired; its image is not
 damaged_plain() {
@@ -176,8 +182,8 @@ if has_fuse; then
     fill fuse/disk.img
     cp whole_plain plain
     cooks fuse '' 'As a file, by FUSE'
-    says fuse ' inside'
-    says fuse 'FILE SYSTEM WAS MODIFIED'
+    recipes_say fuse ' inside'
+    recipes_say fuse 'FILE SYSTEM WAS MODIFIED'
     cp plain whole_plain
     cp tree plain
     seal volume2 aes-xts-plain64 512
@@ -186,15 +192,15 @@ if has_fuse; then
     printf 'label: gpt\nstart=2048, size=4096\nstart=6144\n' | sfdisk -q whole/whole.img
     dd if=volume2 of=whole/whole.img bs=512 seek=6144 conv=notrunc status=none
     cooks whole whole.img 'A whole disk (isLuks of it says no)'
-    gives whole fstab files/etc/fstab
-    says whole 'whole.img2 : start=        6144,'
-    says whole 'Key slot 0 opens the volume.'
+    recipes_give whole fstab files/etc/fstab
+    recipes_say whole 'whole.img2 : start=        6144,'
+    recipes_say whole 'Key slot 0 opens the volume.'
     cp -r whole whole_page
     cooks whole_page whole.img luksrd.1:'Show partition 2'
-    gives whole_page part.plain tree
+    recipes_give whole_page part.plain tree
     cp -r whole whole_plugin
     cooks whole_plugin whole.img nbdkit-luksrd-plugin.1:'Copy one file out of a volume that'
-    gives whole_plugin fstab2 files/etc/fstab
+    recipes_give whole_plugin fstab2 files/etc/fstab
 else
     skip 'recipes by FUSE' 'nothing can be mounted by FUSE'
 fi
@@ -208,14 +214,15 @@ dd if=tree of=plain bs=512 seek=2048 conv=notrunc status=none
 format1 any/disk.img aes-xts-plain64 sha256 512
 fill any/disk.img
 cooks any '' 'Any part of a volume' 'A partition, a window of'
-gives any fstab files/etc/fstab
-gives any part.img tree
+recipes_give any fstab files/etc/fstab
+recipes_give any part.img tree
 tail -c +1048577 plain | head -c 4M >window
-gives any window window
-says any '16777216 bytes'
-says any 'start=       18432, size=       12288'
+recipes_give any window window
+recipes_say any '16777216 bytes'
+recipes_say any 'start=       18432, size=       12288'
 for shell in bash zsh; do
-    same "any in $shell: plain.qcow2" "$(qemu-img compare "rescue any, $shell/plain.qcow2" plain)" 'Images are identical.'
+    same "any in $shell: plain.qcow2" "$(qemu-img compare "rescue any, $shell/plain.qcow2" plain)" \
+        'Images are identical.'
 done
 mkdir second
 printf 'label: gpt\nstart=2048, size=2048\nstart=4096, size=16384\n' | sfdisk -q plain >err 2>&1
@@ -223,7 +230,7 @@ dd if=tree of=plain bs=512 seek=4096 conv=notrunc status=none
 format1 second/disk.img aes-xts-plain64 sha256 512
 fill second/disk.img
 cooks second '' nbdkit-luksrd-plugin.1:'Copy one file out of the ext4'
-gives second fstab files/etc/fstab
+recipes_give second fstab files/etc/fstab
 mv whole_plain plain
 
 # a partition of a whole disk, with the length that README gives
@@ -235,11 +242,11 @@ dd if=partition/disk.img of=partition/whole.img bs=512 seek=2048 conv=notrunc st
 same 'the partition' "$(stat -c %s partition/disk.img)" $((24576 * 512))
 same 'isLuks of a whole disk' "$(reported isLuks partition/whole.img)" 1
 cooks partition whole.img 'A partition of a whole disk without FUSE'
-gives partition plain.img plain
+recipes_give partition plain.img plain
 cp -r partition partition_page
 cooks partition_page whole.img luksrd.1:'Do the same without FUSE'
-gives partition_page plain.img plain
-says partition 'start=        2048, size=       24576'
+recipes_give partition_page plain.img plain
+recipes_say partition 'start=        2048, size=       24576'
 
 # a detached header
 mkdir detached
@@ -247,7 +254,7 @@ cp plain detached/disk.img
 cryptsetup -q reencrypt --encrypt --type luks2 --force-offline-reencrypt --pbkdf pbkdf2 --pbkdf-force-iterations 1000 \
     --key-file pass --header detached/disk.header detached/disk.img >err 2>&1 || { cat err; exit 1; }
 cooks detached disk.header 'A detached header'
-gives detached plain.img plain
+recipes_give detached plain.img plain
 
 # a damaged header, and a backup of it
 mkdir backup
@@ -255,10 +262,10 @@ seal backup/disk.img aes-xts-plain64 512
 cryptsetup luksHeaderBackup --header-backup-file backup/backup backup/disk.img
 dd if=/dev/urandom of=backup/disk.img bs=1M count=1 conv=notrunc status=none
 cooks backup backup 'A damaged header'
-gives backup plain.img plain
-says backup "clean
+recipes_give backup plain.img plain
+recipes_say backup "clean
 Key slot 0 opens the volume."
-says backup 'TYPE="ext4"'
+recipes_say backup 'TYPE="ext4"'
 # what the documents warn of: the backup as the image, image and header exchanged, image and key file exchanged
 seal whole_volume aes-xts-plain64 512
 cryptsetup luksHeaderBackup --header-backup-file its_header whole_volume
@@ -274,34 +281,38 @@ same 'a slot of priority 0 by its number' "$(reported testPassphrase --key-slot 
     'Key slot 1 opens the volume.
 0'
 cryptsetup config --priority ignore --key-slot 0 whole_volume
-same 'slots of priority 0 alone' "$(reported testPassphrase --key-file pass whole_volume)" 'luksrd: no key slot can be tried
+same 'slots of priority 0 alone' "$(reported testPassphrase --key-file pass whole_volume)" \
+    'luksrd: no key slot can be tried
 1'
 cp -r backup backup_page
 cooks backup_page backup luksrd.1:'Decrypt a volume whose header is damaged'
-gives backup_page plain.img plain
+recipes_give backup_page plain.img plain
 
 # key slots of Argon2 only, and a damaged secondary header
 mkdir argon2
 cp plain argon2/disk.img
 truncate -s +4M argon2/disk.img
-cryptsetup -q reencrypt --encrypt --type luks2 --reduce-device-size 4M --force-offline-reencrypt --luks2-metadata-size 16k \
+cryptsetup -q reencrypt --encrypt --type luks2 --reduce-device-size 4M --force-offline-reencrypt \
+    --luks2-metadata-size 16k \
     --luks2-keyslots-size 1m "${by_argon2[@]}" --key-file pass argon2/disk.img >err 2>&1 || { cat err; exit 1; }
 if command -v systemd-cryptenroll >err; then
     cp argon2/disk.img recovered
     systemd-cryptenroll --unlock-key-file=pass --recovery-key recovered 2>err | tr -d '\n' >recovery_key
-    same 'a recovery key of systemd' "$(reported testPassphrase --key-file recovery_key recovered)" 'Key slot 1 opens the volume.
+    same 'a recovery key of systemd' "$(reported testPassphrase --key-file recovery_key recovered)" \
+        'Key slot 1 opens the volume.
 0'
 else
     skip 'a recovery key of systemd' 'there is no systemd-cryptenroll'
 fi
-damaged argon2/disk.img
-same 'a volume of Argon2' "$(reported testPassphrase --key-file pass argon2/disk.img)" 'luksrd: no key slot can be tried; skipped: 0 (argon2id)
+damage_secondary argon2/disk.img
+same 'a volume of Argon2' "$(reported testPassphrase --key-file pass argon2/disk.img)" \
+    'luksrd: no key slot can be tried; skipped: 0 (argon2id)
 1'
 cooks argon2 '' 'Argon2 key slots only'
-gives argon2 plain.img plain
+recipes_give argon2 plain.img plain
 cp -r argon2 argon2_page
 cooks argon2_page '' luksrd.1:'Decrypt a LUKS2 volume that has key slots by Argon2'
-gives argon2_page plain.img plain
+recipes_give argon2_page plain.img plain
 
 # images of all kinds
 mkdir audit
@@ -309,7 +320,7 @@ cp volume/disk.img audit/1.img
 cp backup/disk.img audit/2.img
 cp partition/disk.img audit/3.img
 cryptsetup -q luksAddKey "${by_argon2[@]}" --key-file pass audit/3.img pass2
-damaged audit/3.img
+damage_secondary audit/3.img
 cp partition/whole.img audit/4.img
 head -c 500 volume/disk.img >audit/5.img
 cp volume/disk.img audit/6.img
@@ -317,7 +328,7 @@ printf '\377\377\377\377' | dd of=audit/6.img bs=1 seek=212 conv=notrunc status=
 : >audit/disk.img
 cooks audit '' 'Audit images'
 uuid1=$("$program" luksUUID audit/1.img)
-says audit "../1.img:
+recipes_say audit "../1.img:
 Version: 1
 UUID: $uuid1
 clean
@@ -349,8 +360,8 @@ mkdir stripes
 head -c 64 /dev/urandom >stripes/key
 printf 'what follows' >stripes/more
 cooks stripes 'key more' 'Split a key of 64 bytes'
-gives stripes key.again stripes/key
-gives stripes key2 stripes/key
-gives stripes more.again stripes/more
+recipes_give stripes key.again stripes/key
+recipes_give stripes key2 stripes/key
+recipes_give stripes more.again stripes/more
 
 finish

@@ -1,6 +1,6 @@
 #!/usr/bin/env bash
-# Checks that cryptsetup and qemu-img open and read volumes that the library seals, as luksrd does. The second argument is the program
-# that seals them, `luksrd_tools`.
+# Checks that cryptsetup and qemu-img open and read volumes that the library seals, as luksrd does. The second
+# argument is the program that seals them, `luksrd_tools`.
 tools=$(realpath "${2:?the program that seals volumes}")
 # shellcheck source=interop/common.sh
 . "$(dirname "$0")/common.sh"
@@ -27,7 +27,7 @@ for offset in (0, size):
     bytes_[offset + 448:offset + 480] = hashlib.sha256(bytes_[offset:offset + size]).digest()
 open(sys.argv[1], 'wb').write(bytes_)
 PYTHON
-    cryptsetup -q reencrypt --decrypt --force-offline-reencrypt --header header --key-file one copy >err 2>&1 || { cat err >&2; exit 1; }
+    run_cryptsetup reencrypt --decrypt --force-offline-reencrypt --header header --key-file one copy
     cat copy
 }
 
@@ -61,7 +61,8 @@ for mode in xts-plain64 xts-plain cbc-essiv:sha256 cbc-plain64; do
     done
 done
 for mode in xts-plain64 cbc-essiv:sha256 cbc-plain64; do
-    qemu-img convert -O raw --object secret,id=s,file=two --image-opts "driver=luks,key-secret=s,file.driver=file,file.filename=luks1 $mode" theirs
+    qemu-img convert -O raw --object secret,id=s,file=two \
+        --image-opts "driver=luks,key-secret=s,file.driver=file,file.filename=luks1 $mode" theirs
     same "luks1 $mode: qemu-img reads the same" "$(sha256sum <theirs)" "$(sha256sum <plain)"
 done
 

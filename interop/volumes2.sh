@@ -1,10 +1,12 @@
 #!/usr/bin/env bash
-# Compares what luksrd reads from LUKS2 volumes with the plain bytes that cryptsetup encrypted into them, and with what cryptsetup reports about their key slots.
+# Compares what luksrd reads from LUKS2 volumes with the plain bytes that cryptsetup encrypted into them, and with
+# what cryptsetup reports about their key slots.
 # shellcheck source=interop/common.sh
 . "$(dirname "$0")/common.sh"
 
-# gives IMAGE SOURCE KEY: the payload of the image, read from a file or as a pipe (-), begins with the plain bytes, and the run succeeds
-gives() {
+# payload_begins IMAGE SOURCE KEY: the payload of the image, read from a file or as a pipe (-), begins with the plain
+# bytes, and the run succeeds
+payload_begins() {
     if [ "$2" = - ]; then
         dd if="$1" bs=777 status=none | "$program" luksCat --key-file "$3" - >payload 2>message
     else
@@ -22,9 +24,9 @@ opens() {
     for key in pass pass2; do
         same "$1, $key: testPassphrase" "$(reported testPassphrase --key-file "$key" "$1")" "$(slot_of "$1" "$key")
 0"
-        gives "$1" file "$key"
+        payload_begins "$1" file "$key"
     done
-    gives "$1" - pass
+    payload_begins "$1" - pass
     same "$1: a wrong passphrase" "$(reported luksCat --key-file wrong "$1")" "$no_key"
 }
 
@@ -33,8 +35,8 @@ damage() {
     printf 'X' | dd of="$1" bs=1 seek="$2" conv=notrunc status=none
 }
 
-# cut IMAGE BYTES MESSAGE: the image truncated to BYTES bytes gives this message
-cut() {
+# truncated_gives IMAGE BYTES MESSAGE: the image truncated to BYTES bytes gives this message
+truncated_gives() {
     head -c "$2" "$1" >shorter
     same "$1 cut to $2 bytes" "$(reported luksCat --key-file pass2 shorter)" "$3
 4"
@@ -46,7 +48,8 @@ printf 'a wrong one' >wrong
 head -c 300032 /dev/urandom >plain
 truncate -s 303104 plain
 
-for sealed in 'xts-plain64 256' 'xts-plain64 512' 'xts-plain 512' 'cbc-essiv:sha256 128' 'cbc-essiv:sha256 256' 'cbc-plain64 128' 'cbc-plain64 256'; do
+for sealed in 'xts-plain64 256' 'xts-plain64 512' 'xts-plain 512' 'cbc-essiv:sha256 128' 'cbc-essiv:sha256 256' \
+    'cbc-plain64 128' 'cbc-plain64 256'; do
     for sector in 512 4096; do
         seal "$sealed $sector" "aes-${sealed% *}" "${sealed#* }" --sector-size "$sector"
         opens "$sealed $sector"
@@ -63,12 +66,15 @@ done
 
 # key slots by number, by priority, and with a limit
 seal slots aes-xts-plain64 512
-same 'slot 1 by its number' "$(reported testPassphrase --key-slot 1 --key-file pass2 slots)" 'Key slot 1 opens the volume.
+same 'slot 1 by its number' "$(reported testPassphrase --key-slot 1 --key-file pass2 slots)" \
+    'Key slot 1 opens the volume.
 0'
 same 'slot 1 with the passphrase of slot 0' "$(reported testPassphrase --key-slot 1 --key-file pass slots)" "$no_key"
-same 'a slot that is not there' "$(reported testPassphrase --key-slot 7 --key-file pass slots)" 'luksrd: key slot 7 is not there
+same 'a slot that is not there' "$(reported testPassphrase --key-slot 7 --key-file pass slots)" \
+    'luksrd: key slot 7 is not there
 1'
-same 'a limit that slot 0 meets' "$(reported testPassphrase --max-iterations 1000 --key-file pass slots)" 'Key slot 0 opens the volume.
+same 'a limit that slot 0 meets' "$(reported testPassphrase --max-iterations 1000 --key-file pass slots)" \
+    'Key slot 0 opens the volume.
 0'
 same 'a limit that no slot meets' "$(reported testPassphrase --max-iterations 999 --key-file pass slots)" \
     'luksrd: no key slot can be tried; skipped: 0 (iterations), 1 (iterations)
@@ -77,8 +83,10 @@ cryptsetup -q config --priority ignore --key-slot 0 slots
 same 'a slot that is to be ignored' "$(reported testPassphrase --key-file pass slots)" "$no_key"
 same 'unless it is named' "$(reported testPassphrase --key-slot 0 --key-file pass slots)" 'Key slot 0 opens the volume.
 0'
-cryptsetup -q luksConvertKey --key-slot 1 --pbkdf argon2id --pbkdf-memory 32 --pbkdf-parallel 1 --pbkdf-force-iterations 4 --key-file pass2 slots
-same 'Argon2 alone' "$(reported testPassphrase --key-file pass2 slots)" 'luksrd: no key slot can be tried; skipped: 1 (argon2id)
+cryptsetup -q luksConvertKey --key-slot 1 --pbkdf argon2id --pbkdf-memory 32 --pbkdf-parallel 1 \
+    --pbkdf-force-iterations 4 --key-file pass2 slots
+same 'Argon2 alone' "$(reported testPassphrase --key-file pass2 slots)" \
+    'luksrd: no key slot can be tried; skipped: 1 (argon2id)
 1'
 
 # one header is damaged
@@ -86,22 +94,22 @@ seal damaged aes-xts-plain64 512
 cp damaged second
 cp damaged past
 damage damaged 600
-gives damaged file pass
-gives damaged - pass
+payload_begins damaged file pass
+payload_begins damaged - pass
 damage second 20000
-gives second file pass2
+payload_begins second file pass2
 
 # a header that claims to have 4,194,304 bytes: the search for the other one reads past the payload's start
 printf '\0\0\0\0\0\100\0\0' | dd of=past bs=1 seek=8 conv=notrunc status=none
-gives past file pass
-gives past - pass2
+payload_begins past file pass
+payload_begins past - pass2
 
 # truncated images
 start=$(start_of2 second)
 in_area='luksrd: image ends inside the header or a key area'
-cut second 16383 'luksrd: not a LUKS image'
-cut second 16384 "$in_area"
-cut second 40000 "$in_area"
-cut second $((start - 1)) 'luksrd: image ends before the payload'
-cut second $((start + 100)) 'luksrd: image ends inside a sector: 100 bytes left over'
+truncated_gives second 16383 'luksrd: not a LUKS image'
+truncated_gives second 16384 "$in_area"
+truncated_gives second 40000 "$in_area"
+truncated_gives second $((start - 1)) 'luksrd: image ends before the payload'
+truncated_gives second $((start + 100)) 'luksrd: image ends inside a sector: 100 bytes left over'
 finish

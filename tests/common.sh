@@ -1,6 +1,6 @@
 # shellcheck shell=bash
-# Shared by the scripts that run the built program: a folder to work in, and how a run is compared. The first argument is the program.
-# Images are plain files; no device mapper and no kernel cryptography is used.
+# Shared by the scripts that run the built program: a folder to work in, and how a run is compared. The first argument
+# is the program. Images are plain files; no device mapper and no kernel cryptography is used.
 set -u
 # the options of the make that calls this script are not for those that it calls
 unset MAKEFLAGS
@@ -20,8 +20,9 @@ end_children() {
     done
 }
 
-# This process ends a script that hangs, and what it started, again and again, since a command of which one part is killed goes on to the
-# next. It ends when the script does. (A trap for that fails in bash 5.2 if it comes while a command substitution is parsed.)
+# This process ends a script that hangs, and what it started, again and again, since a command of which one part is
+# killed goes on to the next. It ends when the script does. (A trap for that fails in bash 5.2 if it comes while a
+# command substitution is parsed.)
 {
     while [ "$SECONDS" -lt "$limit" ]; do
         sleep 1
@@ -40,7 +41,8 @@ work=$(mktemp -d)
 trap 'rm -rf "$work"' EXIT
 cd "$work" || exit 1
 
-# wait_until PID COMMAND..: waits until the command succeeds. It fails if it still does not when this process has ended, or hangs.
+# wait_until PID COMMAND..: waits until the command succeeds. It fails if it still does not when this process has
+# ended, or hangs.
 wait_until() {
     local pid=$1 deadline=$((SECONDS + patience))
     shift
@@ -53,7 +55,8 @@ wait_until() {
     done
 }
 
-# ended PID: waits until this process, which the script started, has ended, and gives its status; if it hangs, it is killed
+# ended PID: waits until this process, which the script started, has ended, and gives its status; if it hangs, it is
+# killed
 ended() {
     wait_until "$1" false || kill -KILL "$1" 2>/dev/null
     wait "$1"
@@ -102,14 +105,16 @@ reported() {
 
 # slot_of IMAGE KEY_FILE OPTION..: the key slot that cryptsetup opens, worded as luksrd does
 slot_of() {
-    cryptsetup open --test-passphrase --verbose --key-file "$2" "${@:3}" "$1" 2>&1 | sed -n 's/^Key slot \([0-9]*\) unlocked\.$/Key slot \1 opens the volume./p'
+    cryptsetup open --test-passphrase --verbose --key-file "$2" "${@:3}" "$1" 2>&1 |
+        sed -n 's/^Key slot \([0-9]*\) unlocked\.$/Key slot \1 opens the volume./p'
 }
 
-# sealed_by_qemu OPTIONS IMAGE: qemu-img makes a LUKS volume of 1 MiB. It times its own key derivation by the processor's clock, and gives up
-# if that clock has not advanced; so it is tried again.
+# sealed_by_qemu OPTIONS IMAGE: qemu-img makes a LUKS volume of 1 MiB. It times its own key derivation by the
+# processor's clock, and gives up if that clock has not advanced; so it is tried again.
 sealed_by_qemu() {
     for _ in $(seq 50); do
-        qemu-img create -q -f luks --object secret,id=s,file=pass -o "key-secret=s,iter-time=10$1" "$2" 1M 2>qemu.err && return
+        qemu-img create -q -f luks --object secret,id=s,file=pass -o "key-secret=s,iter-time=10$1" "$2" \
+            1M 2>qemu.err && return
     done
     cat qemu.err
     exit 1
@@ -136,8 +141,8 @@ usage: luksrd isLuks [--header FILE] IMAGE
 TEXT
 )
 
-# scarce HEX ARGUMENT..: with less memory than a run with these arguments needs, it reports that and writes nothing; otherwise it writes these
-# bytes. This is one check: how many runs it takes depends on the program's size.
+# scarce HEX ARGUMENT..: with less memory than a run with these arguments needs, it reports that and writes nothing;
+# otherwise it writes these bytes. This is one check: how many runs it takes depends on the program's size.
 scarce() {
     local output=$1 starved=0 before=$passed failures=$failed kib
     shift

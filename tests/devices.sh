@@ -1,13 +1,14 @@
 #!/usr/bin/env bash
-# Runs the built program on files and devices as a shell passes them: files and block devices that are their own output, folders, closed
-# descriptors, file systems, an empty /dev, and full devices.
+# Runs the built program on files and devices as a shell passes them: files and block devices that are their own
+# output, folders, closed descriptors, file systems, an empty /dev, and full devices.
 # shellcheck source=tests/inputs.sh
 . "$(dirname "$0")/inputs.sh"
 
 opens=$(printf 'Key slot 0 opens the volume.\n' >line; hex line)
 printf 'another one' >wrong
 
-# into NAME MESSAGE FILE ARGUMENT..: a run that writes into a file or a device ends with this message and leaves it unchanged
+# into NAME MESSAGE FILE ARGUMENT..: a run that writes into a file or a device ends with this message and leaves it
+# unchanged
 into() {
     local name=$1 message=$2 file=$3 before
     shift 3
@@ -38,7 +39,8 @@ ln volume link
 onto 'another name of the image' 'luksrd: cannot open link' volume luksCat --key-file pass link
 onto 'a header' 'luksrd: cannot open header' header luksCat --key-file pass --header header volume
 onto 'a header that is dumped' 'luksrd: cannot open header' header luksDump --header header volume
-onto 'an image with a header of its own' 'luksrd: cannot open volume' volume luksCat --key-file pass --header header volume
+onto 'an image with a header of its own' 'luksrd: cannot open volume' volume luksCat --key-file pass --header header \
+    volume
 cp volume in
 onto 'standard input' 'luksrd: cannot open -' in luksCat --key-file pass -
 onto 'a header from standard input' 'luksrd: cannot open -' in luksCat --key-file pass --header - volume
@@ -58,7 +60,8 @@ if loop mapped && image=$device && loop mapped && other=$device && loop blank &&
     into 'another node of a device onto it' 'luksrd: cannot open node' "$image" luksCat --key-file pass node
     into 'a loop device onto its file' "luksrd: cannot open $image" mapped luksCat --key-file pass "$image"
     into 'a file onto its loop device' 'luksrd: cannot open mapped' "$image" luksCat --key-file pass mapped
-    into 'a loop device onto another one over its file' "luksrd: cannot open $image" "$other" luksCat --key-file pass "$image"
+    into 'a loop device onto another one over its file' "luksrd: cannot open $image" "$other" luksCat --key-file pass \
+        "$image"
     into 'a key file onto its loop device' 'luksrd: cannot open mapped' "$image" luksCat --key-file mapped volume
     into 'a header onto its loop device' 'luksrd: cannot open mapped' "$image" luksDump --header mapped volume
     "$program" luksCat --key-file pass "$image" 1<>"$target" 2>err
@@ -76,9 +79,11 @@ for blank in ' ' $'\t' $'\n' $'\n\n'; do
     named="mapped$blank"
     cp volume "$named"
     if loop "$named"; then
-        into "a loop device onto its file, named $(printf %q "$named")" "luksrd: cannot open $device" "$named" luksCat --key-file pass "$device"
+        into "a loop device onto its file, named $(printf %q "$named")" "luksrd: cannot open $device" "$named" luksCat \
+            --key-file pass "$device"
         # the message is compared without the newlines at its end, which the shell drops from what a command prints
-        into "the file $(printf %q "$named") onto its loop device" "$(echo "luksrd: cannot open $named")" "$device" luksCat --key-file pass "$named"
+        into "the file $(printf %q "$named") onto its loop device" "$(echo "luksrd: cannot open $named")" "$device" \
+            luksCat --key-file pass "$named"
         release_loops
     else
         skip "a loop device over a file named $(printf %q "$named")" 'no loop device can be made here'
@@ -131,8 +136,10 @@ closed() {
 }
 head -c 64 /dev/zero >key
 for command in 'luksUUID volume' 'luksDump volume' 'luksCheck volume' 'testPassphrase --key-file pass volume' \
-    'luksCat --key-file pass volume' 'luksDump --header header volume' 'luksCat --key-file pass --header header volume' \
-    'afSplit --hash sha256 --stripes 2 --random volume key' 'afMerge --hash sha256 --stripes 1 --key-bytes 64 volume'; do
+    'luksCat --key-file pass volume' 'luksDump --header header volume' \
+    'luksCat --key-file pass --header header volume' \
+    'afSplit --hash sha256 --stripes 2 --random volume key' \
+    'afMerge --hash sha256 --stripes 1 --key-bytes 64 volume'; do
     # shellcheck disable=SC2086
     closed $command
     expect "no standard output for $command" 6 '' 'luksrd: write failed'
@@ -227,7 +234,8 @@ expect 'nothing to write, and a full device' 2 '' 'luksrd: no key opens the volu
 full luksCat --key-file pass short
 expect 'a truncated key area, and a full device' 4 '' 'luksrd: image ends inside the header or a key area'
 
-# unprintable NAME STATUS HEX ARGUMENT..: a run whose message cannot be printed ends with its status, and its output stays
+# unprintable NAME STATUS HEX ARGUMENT..: a run whose message cannot be printed ends with its status, and its output
+# stays
 unprintable() {
     local name=$1 status=$2 output=$3
     shift 3

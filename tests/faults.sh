@@ -1,6 +1,6 @@
 #!/usr/bin/env bash
-# Runs the built program with a read that fails, by strace if a program may be traced: for each input of a run, for each kind of input, and
-# for the first, the middle and the last read of it. No read that fails is an end.
+# Runs the built program with a read that fails, by strace if a program may be traced: for each input of a run, for
+# each kind of input, and for the first, the middle and the last read of it. No read that fails is an end.
 # shellcheck source=tests/inputs.sh
 . "$(dirname "$0")/inputs.sh"
 
@@ -10,15 +10,18 @@ if ! strace -qq -o trace true; then
     exit
 fi
 
-# Two volumes of 400 sectors right after the only key area: what follows fits into a pipe, so that the writer waits for nobody, and each read
-# of a run gets what it gets in any other one. The passphrase of the first fills many sectors, so that it is read from a device too.
+# Two volumes of 400 sectors right after the only key area: what follows fits into a pipe, so that the writer waits
+# for nobody, and each read of a run gets what it gets in any other one. The passphrase of the first fills many
+# sectors, so that it is read from a device too.
 head -c 144K /dev/urandom | base64 -w 0 >long
 truncate -s 2M full
-cryptsetup -q luksFormat --type luks1 --hash sha256 --key-size 256 --cipher aes-xts-plain64 --pbkdf-force-iterations 1000 --align-payload 1 \
+cryptsetup -q luksFormat --type luks1 --hash sha256 --key-size 256 --cipher aes-xts-plain64 \
+    --pbkdf-force-iterations 1000 --align-payload 1 \
     --key-file long full || exit 1
 truncate -s $((2056 * 512)) full
 truncate -s +200k full
-qemu-img convert -O raw --object secret,id=s,file=long --image-opts driver=luks,key-secret=s,file.driver=file,file.filename=full text1 || exit 1
+qemu-img convert -O raw --object secret,id=s,file=long \
+    --image-opts driver=luks,key-secret=s,file.driver=file,file.filename=full text1 || exit 1
 start1=$((8 * 512 + 32 * 4000))
 head -c $start1 full >header1
 bytes "$(printf %08x $((start1 / 512)))" | dd of=header1 bs=1 seek=104 conv=notrunc status=none
@@ -36,10 +39,14 @@ mkfifo fifo
 
 # whole FILE: writes the bytes of a file into a pipe that holds all of them, at once
 whole() {
-    exec python3 -c 'import fcntl, os, sys; fcntl.fcntl(1, 1031, 1 << 20); os.write(1, open(sys.argv[1], "rb").read())' "$1" 2>/dev/null
+    exec python3 -c '
+import fcntl, os, sys
+fcntl.fcntl(1, 1031, 1 << 20)
+os.write(1, open(sys.argv[1], "rb").read())' "$1" 2>/dev/null
 }
 
-# offer KIND FILE: an input of this kind that has these bytes: $offered is its name for the program, and $shown how strace shows it
+# offer KIND FILE: an input of this kind that has these bytes: $offered is its name for the program, and $shown how
+# strace shows it
 offer() {
     case $1 in
     file) offered=$2 shown="<$work/$2>" ;;
@@ -49,7 +56,8 @@ offer() {
     esac
 }
 
-# traced KIND FILE COMMAND OPTION..: a run over the input that was offered, @ in the command, with its reads in the file trace
+# traced KIND FILE COMMAND OPTION..: a run over the input that was offered, @ in the command, with its reads in the
+# file trace
 traced() {
     local kind=$1 file=$2 writer='' arguments
     read -ra arguments <<<"${3//@/$offered}"
@@ -75,11 +83,12 @@ consumed() {
     awk -v shown="$shown" 'index($0, shown) { if (/INJECTED/) { print bytes + 0; exit } bytes += $NF }' trace
 }
 
-# fails NAME KIND FILE OUTPUT UNIT START COMMAND CALL: in a run whose read number CALL fails, one of the input's, the output is the units of
-# the file OUTPUT that are whole in what was read, if they begin at byte START of the input
+# fails NAME KIND FILE OUTPUT UNIT START COMMAND CALL: in a run whose read number CALL fails, one of the input's, the
+# output is the units of the file OUTPUT that are whole in what was read, if they begin at byte START of the input
 fails() {
     local name=$1 output=$4 unit=$5 start=$6 got
-    # the call's number may differ from that of the run before, if the program is started in another way than that one was
+    # the call's number may differ from that of the run before, if the program is started in another way than that one
+    # was
     for _ in 1 2 3 4 5; do
         traced "$2" "$3" "$7" -e inject=read:error=EIO:when="$8"
         got=$(consumed)
@@ -92,7 +101,8 @@ luksrd: read failed
 $(sha256sum <wanted)"
 }
 
-# input KIND NAME FILE OUTPUT UNIT START COMMAND: a run over an input of this kind succeeds, and with one read that fails it does not
+# input KIND NAME FILE OUTPUT UNIT START COMMAND: a run over an input of this kind succeeds, and with one read that
+# fails it does not
 input() {
     local kind=$1 called="$2 as a $1" calls last which
     offer "$kind" "$3" || { skip "$called" 'no loop device can be made here'; return; }
@@ -111,7 +121,8 @@ $(sha256sum <"$4")"
     release_loops
 }
 
-# an input | its bytes | what of the output comes from it, the bytes in one unit of that, where they begin in the input | the command
+# an input | its bytes | what of the output comes from it, the bytes in one unit of that, where they begin in the
+# input | the command
 while IFS='|' read -r row; do
     for kind in file fifo pipe device; do
         IFS='|' read -r name file output unit start command <<<"$row"
@@ -138,13 +149,16 @@ the random file of afSplit|random|random|512|0|afSplit --hash sha256 --stripes 4
 the stripes of afMerge|stripes|nothing|1|0|afMerge --hash sha256 --stripes 400 --key-bytes 512 @
 TABLE
 
-# two faults at once: of what was written to a full device nothing is there, and a message that cannot be printed changes no status
+# two faults at once: of what was written to a full device nothing is there, and a message that cannot be printed
+# changes no status
 offer file image1
 traced file image1 'luksCat --key-file long @'
 last=$(grep -nF "$shown" trace | tail -n 1 | cut -d: -f1)
-strace -qq -y -o trace -e trace=read -e inject=read:error=EIO:when="$last" "$program" luksCat --key-file long image1 >/dev/full 2>err
+strace -qq -y -o trace -e trace=read -e inject=read:error=EIO:when="$last" "$program" luksCat --key-file long \
+    image1 >/dev/full 2>err
 same 'a read that fails, and a full device' "$? $(cat err)" '6 luksrd: write failed'
-strace -qq -y -o trace -e trace=read -e inject=read:error=EIO:when="$last" "$program" luksCat --key-file long image1 >out 2>/dev/full
+strace -qq -y -o trace -e trace=read -e inject=read:error=EIO:when="$last" "$program" luksCat --key-file long \
+    image1 >out 2>/dev/full
 same 'a read that fails, and the message cannot be printed' "$? $(sha256sum <out)" "6 $(sha256sum <text1)"
 
 finish

@@ -1,7 +1,7 @@
 #!/usr/bin/env bash
-# Runs the built program over damaged and generated headers of both versions: first runs whose status, output and message are known, one at least for each
-# status, then generated ones, of which a third at least reach the key slots and go on to the payload (tests/hostile.py). SEED gives the same again, and RUNS
-# another number of them.
+# Runs the built program over damaged and generated headers of both versions: first runs whose status, output and
+# message are known, one at least for each status, then generated ones, of which a third at least reach the key slots
+# and go on to the payload (tests/hostile.py). SEED gives the same again, and RUNS another number of them.
 sample=$(realpath "$(dirname "$0")/../sample")
 generator=$(realpath "$(dirname "$0")/hostile.py")
 # shellcheck source=interop/common.sh
@@ -16,8 +16,8 @@ printf 'a wrong one' >wrong
 # lines TEXT: these lines as hexadecimal digits
 lines() { printf '%s\n' "$1" | od -An -v -tx1 | tr -d ' \n'; }
 
-# damaged FROM TO OFFSET BYTES: a copy with other bytes
-damaged() {
+# damaged_copy FROM TO OFFSET BYTES: a copy with other bytes
+damaged_copy() {
     cp "$1" "$2"
     printf '%b' "$4" | dd of="$2" bs=1 seek="$3" conv=notrunc status=none
 }
@@ -30,23 +30,25 @@ known() {
 
 known 'a LUKS1 volume' 0 "$(hex "$sample/plain.txt")" '' luksCat --key-file pass volume
 known 'its UUID' 0 "$(lines "$(cryptsetup luksUUID volume)")" '' luksUUID volume
-damaged volume2 second 5000 '\377'
+damaged_copy volume2 second 5000 '\377'
 known 'a LUKS2 volume with a damaged primary header' 0 "$(hex "$sample/plain2.txt")" '' luksCat --key-file pass second
 known 'its findings' 1 "$(lines 'primary header: not valid')" 'luksrd: the header has findings' luksCheck second
-damaged volume upper 8 'AES'
+damaged_copy volume upper 8 'AES'
 known 'a cipher that is not read' 1 '' 'luksrd: segment refused: encryption' luksCat --key-file pass upper
-damaged volume zero 212 '\0\0\0\0'
-known 'a slot of no iterations' 1 '' 'luksrd: no key slot can be tried; skipped: 0 (iterations)' luksCat --key-file pass zero
+damaged_copy volume zero 212 '\0\0\0\0'
+known 'a slot of no iterations' 1 '' 'luksrd: no key slot can be tried; skipped: 0 (iterations)' luksCat \
+    --key-file pass zero
 known 'a wrong passphrase' 2 '' 'luksrd: no key opens the volume' luksCat --key-file wrong volume
-damaged volume digest 112 '\377\377'
+damaged_copy volume digest 112 '\377\377'
 known 'a damaged digest' 2 '' 'luksrd: no key opens the volume' testPassphrase --key-file pass digest
-damaged volume magic 0 'l'
+damaged_copy volume magic 0 'l'
 known 'another magic' 4 '' 'luksrd: not a LUKS image' luksDump magic
 known 'no LUKS header' 1 '' '' isLuks magic
 head -c 591 volume >short
 known 'a header that is too short' 4 '' 'luksrd: image ends inside the header or a key area' luksUUID short
 
-# nested BYTES: a LUKS2 header of 1 MiB, whose JSON text is an object with an array of so many bytes, nested a hundred deep
+# nested BYTES: a LUKS2 header of 1 MiB, whose JSON text is an object with an array of so many bytes, nested a hundred
+# deep
 nested() {
     python3 - "$1" <<'PYTHON'
 import hashlib, struct, sys
@@ -72,7 +74,8 @@ for arguments in 'luksDump volume' 'luksCat --key-file pass volume'; do
     expect "$arguments to a full device" 6 '' 'luksrd: write failed'
 done
 
-# volumes of cryptsetup and qemu-img, with few iterations and small key areas; each has the same plain text, and two slots for pass2
+# volumes of cryptsetup and qemu-img, with few iterations and small key areas; each has the same plain text, and two
+# slots for pass2
 printf 'a passphrase' >pass
 printf 'another one' >pass2
 head -c 16384 /dev/urandom >plain

@@ -1,6 +1,7 @@
 #!/usr/bin/env bash
-# Runs each other script with impostors in the place of what it tries, the programs, the tools, the plugin and the libraries: /bin/true, /bin/false, and one that sleeps and
-# never reads its input. Given a program, the scripts that try more are also run with it and impostors of the rest. No script passes, and none hangs.
+# Runs each other script with impostors in the place of what it tries, the programs, the tools, the plugin and the
+# libraries: /bin/true, /bin/false, and one that sleeps and never reads its input. Given a program, the scripts that
+# try more are also run with it and impostors of the rest. No script passes, and none hangs.
 sources=$(realpath "$(dirname "$0")/..")
 is_real=$#
 [ "$is_real" = 1 ] || set -- /bin/true
@@ -23,7 +24,8 @@ static int configure(const char *name, const char *value) { $2; }
 static void *start(int is_read_only) { return NBDKIT_HANDLE_NOT_NEEDED; }
 static int64_t size(void *handle) { return 0; }
 static int serve(void *handle, void *bytes, uint32_t count, uint64_t offset, uint32_t flags) { return -1; }
-static struct nbdkit_plugin plugin = { .name = "impostor", .config = configure, .open = start, .get_size = size, .pread = serve };
+static struct nbdkit_plugin plugin = {
+    .name = "impostor", .config = configure, .open = start, .get_size = size, .pread = serve };
 NBDKIT_REGISTER_PLUGIN(plugin)
 TEXT
 }
@@ -31,12 +33,14 @@ plugin true 'return 0'
 plugin false 'return -1'
 plugin sleep 'for (;;) sleep(1000)'
 
-# tried TARGET IMPOSTOR PROGRAM: how this script ends, in a file of its own. It may take long, unless it can only hang. Packages are installed by one script at a time.
+# tried TARGET IMPOSTOR PROGRAM: how this script ends, in a file of its own. It may take long, unless it can only
+# hang. Packages are installed by one script at a time.
 tried() {
     local seconds=100 name="$1, $2, program ${3##*/}"
     [ "$2" != sleep ] || seconds=1
     [ "$1" != test-package ] || { exec 9>lock && flock 9; }
-    PATIENCE=$seconds RUNS=500 make -s -C "$sources" "$1" PROGRAM="$3" PROGRAM_V2="$3" PROGRAM_V3="$work/$2" AUDIT="$work/$2" TOOLS="$work/$2" PLUGIN="$work/$2.so" \
+    PATIENCE=$seconds RUNS=500 make -s -C "$sources" "$1" PROGRAM="$3" PROGRAM_V2="$3" PROGRAM_V3="$work/$2" \
+        AUDIT="$work/$2" TOOLS="$work/$2" PLUGIN="$work/$2.so" \
         LIBRARY="$work/$2" SHARED="$work/$2" SHARED_V3="$work/$2" \
         >"said by $name" 2>&1 </dev/null
     echo "$? $(grep -c '^FAILED: no end' "said by $name")" >"end of $name"
@@ -44,14 +48,17 @@ tried() {
 export -f tried
 export work sources
 
-# listed VARIABLE: the scripts in a list of the Makefile, but those that read only the sources
-listed() {
-    make -s -C "$sources" -f Makefile -f - listed <<<$'listed:\n\t@printf \'%s\\n\' $('"$1)" | grep -vxE 'test-(names|counts|headline)'
+# scripts_in VARIABLE: the scripts in a list of the Makefile, but those that read only the sources
+scripts_in() {
+    make -s -C "$sources" -f Makefile -f - listed <<<$'listed:\n\t@printf \'%s\\n\' $('"$1)" |
+        grep -vxE 'test-(names|counts|headline|contracts)'
 }
 for impostor in true false sleep; do
-    for target in $(listed ALL_SCRIPTS); do printf '%s\0' "$target" $impostor "$work/$impostor"; done
+    for target in $(scripts_in ALL_SCRIPTS); do printf '%s\0' "$target" $impostor "$work/$impostor"; done
     [ "$is_real" = 1 ] || continue
-    for target in $(listed AUDIT_SCRIPTS) $(listed C_SCRIPTS) $(listed TOOL_SCRIPTS); do printf '%s\0' "$target" $impostor "$program"; done
+    for target in $(scripts_in AUDIT_SCRIPTS) $(scripts_in C_SCRIPTS) $(scripts_in TOOL_SCRIPTS); do printf '%s\0' \
+        "$target" \
+        $impostor "$program"; done
 done | xargs -0 -n 3 -P 4 bash -c 'tried "$@"' bash
 
 for end in 'end of '*; do

@@ -1,6 +1,6 @@
 # shellcheck shell=bash
-# Shared by the scripts that run the built program on files, pipes and devices: the sample volumes, their text by other readers, and loop
-# devices, which end with the script.
+# Shared by the scripts that run the built program on files, pipes and devices: the sample volumes, their text by
+# other readers, and loop devices, which end with the script.
 sample=$(realpath "$(dirname "${BASH_SOURCE[0]}")/../sample")
 # shellcheck source=tests/common.sh
 . "$(dirname "${BASH_SOURCE[0]}")/common.sh"
@@ -14,15 +14,18 @@ area_end=$((8 * 512 + 64 * 4000))
 head -c $area_end volume >header
 : >in
 
-# extended_luks2: makes the sample LUKS2 volume with 400 more sectors in the file dynamic, and its plain bytes, by GRUB, in the file whole
+# extended_luks2: makes the sample LUKS2 volume with 400 more sectors in the file dynamic, and its plain bytes, by
+# GRUB, in the file whole
 extended_luks2() {
     gzip -dc "$sample/volume2.img.gz" >dynamic
     truncate -s +200k dynamic
     { cat pass; echo; } >line
-    setsid -w grub-fstest -C "$work/dynamic" cp "(crypto0)0+$((($(stat -c %s dynamic) - 1048576) / 512))" whole <line >grub 2>&1 || cat grub
+    setsid -w grub-fstest -C "$work/dynamic" cp "(crypto0)0+$((($(stat -c %s dynamic) - 1048576) / 512))" \
+        whole <line >grub 2>&1 || cat grub
 }
 
-# edited IMAGE OLD NEW: a LUKS2 image with headers of 16 KiB, in whose JSON text OLD is replaced by NEW; both checksums are made again
+# edited IMAGE OLD NEW: a LUKS2 image with headers of 16 KiB, in whose JSON text OLD is replaced by NEW; both
+# checksums are made again
 edited() {
     python3 - "$@" <<'PYTHON'
 import hashlib, sys

@@ -1,5 +1,6 @@
 #!/usr/bin/env bash
-# Installs the built program by make below a folder with a space in its name, compares what is there, and removes it again.
+# Installs the built program by make below a folder with a space in its name, compares what is there, and removes it
+# again.
 sources=$(realpath "$(dirname "$0")/..")
 # shellcheck source=tests/common.sh
 . "$(dirname "$0")/common.sh"
@@ -7,7 +8,8 @@ sources=$(realpath "$(dirname "$0")/..")
 mkdir 'a folder'
 # only how it is installed is tried, so any program does
 cp "$program" built-audit
-make -s -C "$sources" install LIBRARY=absent PLUGIN=absent DESTDIR="$work/a folder" PREFIX=/usr PROGRAM="$program" AUDIT="$work/built-audit"
+make -s -C "$sources" install LIBRARY=absent PLUGIN=absent DESTDIR="$work/a folder" PREFIX=/usr PROGRAM="$program" \
+    AUDIT="$work/built-audit"
 find 'a folder' -type f -printf '%m %P\n' | LC_ALL=C sort >files
 same 'what is installed, and its modes' "$(cat files)" \
     '644 usr/share/bash-completion/completions/luksrd
@@ -25,7 +27,8 @@ for file in bin/luksrd:"$program" share/man/man1/luksrd.1:"$sources/docs/luksrd.
     share/bash-completion/completions/luksrd:"$sources/completions/luksrd.bash" \
     share/doc/luksrd/FORMATS.md:"$sources/docs/FORMATS.md" share/doc/luksrd/README.md:"$sources/README.md" \
     share/zsh/site-functions/_luksrd:"$sources/completions/_luksrd" \
-    bin/luksrd-audit:"$program" share/man/man1/luksrd-audit.1:"$sources/docs/luksrd-audit.1" share/doc/luksrd/AUDIT.md:"$sources/docs/AUDIT.md" \
+    bin/luksrd-audit:"$program" share/man/man1/luksrd-audit.1:"$sources/docs/luksrd-audit.1" \
+    share/doc/luksrd/AUDIT.md:"$sources/docs/AUDIT.md" \
     share/bash-completion/completions/luksrd-audit:"$sources/completions/luksrd-audit.bash" \
     share/zsh/site-functions/_luksrd-audit:"$sources/completions/_luksrd-audit"; do
     same "what is installed as ${file%%:*}" "$(cmp "a folder/usr/${file%%:*}" "${file#*:}" 2>&1)" ''

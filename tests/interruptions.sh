@@ -1,5 +1,6 @@
 #!/usr/bin/env bash
-# Runs the built program with calls on files that are interrupted or fail, by strace if a program may be traced, and counts its reads of a pipe.
+# Runs the built program with calls on files that are interrupted or fail, by strace if a program may be traced, and
+# counts its reads of a pipe.
 # shellcheck source=tests/inputs.sh
 . "$(dirname "$0")/inputs.sh"
 

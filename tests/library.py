@@ -1,5 +1,6 @@
 #!/usr/bin/env python3
-"""luksrd.h from Python by ctypes: library.py LIBRARY IMAGE HEADER PASSPHRASE writes the plain text as tests/library.c does, in pieces."""
+"""luksrd.h from Python by ctypes: library.py LIBRARY IMAGE HEADER PASSPHRASE writes the plain text as tests/library.c
+does, in pieces."""
 
 import ctypes
 import sys
@@ -25,11 +26,13 @@ PIECE = 12
 
 def load(path):
     library = ctypes.CDLL(path)
-    library.luksrd_open.argtypes = [ctypes.c_char_p, ctypes.c_size_t, ctypes.c_char_p, ctypes.c_size_t, ctypes.POINTER(Options),
+    library.luksrd_open.argtypes = [ctypes.c_char_p, ctypes.c_size_t, ctypes.c_char_p, ctypes.c_size_t,
+                                    ctypes.POINTER(Options),
                                     ctypes.POINTER(Volume), ctypes.POINTER(Message)]
     library.luksrd_len.argtypes = [ctypes.POINTER(Volume), ctypes.c_uint64]
     library.luksrd_len.restype = ctypes.c_uint64
-    library.luksrd_ending.argtypes = [ctypes.POINTER(Volume), ctypes.c_uint64, ctypes.POINTER(ctypes.c_uint64), ctypes.POINTER(Message)]
+    library.luksrd_ending.argtypes = [ctypes.POINTER(Volume), ctypes.c_uint64, ctypes.POINTER(ctypes.c_uint64),
+                                      ctypes.POINTER(Message)]
     library.luksrd_decrypt.argtypes = [ctypes.POINTER(Volume), ctypes.c_uint64, ctypes.c_char_p, ctypes.c_size_t]
     for name in ("open", "ending", "decrypt", "version"):
         getattr(library, f"luksrd_{name}").restype = ctypes.c_uint32
@@ -53,7 +56,8 @@ def main():
     is_detached = sys.argv[3] != "-"
     header = (contents(sys.argv[3]) if is_detached else image)[:HEADER_BYTES]
     volume, message, ending = Volume(), Message(), ctypes.c_uint64()
-    if library.luksrd_open(header, len(header), passphrase, len(passphrase), Options(detached=is_detached), volume, message):
+    if library.luksrd_open(header, len(header), passphrase, len(passphrase), Options(detached=is_detached), volume,
+                           message):
         end_with(message)
     for first in range(0, library.luksrd_len(volume, len(image)) // volume.sector_size, PIECE):
         start = volume.offset + first * volume.sector_size

@@ -1,7 +1,9 @@
 #!/usr/bin/env bash
-# Runs small programs over luksrd.h, one in C that is built with AddressSanitizer and also run under valgrind, and one in Python by ctypes: each writes what luksCat
-# does, with the same messages, for both sample volumes and for volumes that are truncated, detached or not opened: with the library for all processors, and with that for
-# x86-64-v3. The one in C also prints each field of a volume that is made here. What luksrd.h declares is compared with what the library's source does.
+# Runs small programs over luksrd.h, one in C that is built with AddressSanitizer and also run under valgrind, and one
+# in Python by ctypes: each writes what luksCat does, with the same messages, for both sample volumes and for volumes
+# that are truncated, detached or not opened: with the library for all processors, and with that for x86-64-v3. The
+# one in C also prints each field of a volume that is made here. What luksrd.h declares is compared with what the
+# library's source does.
 sources=$(realpath "$(dirname "$0")/..")
 library=$(realpath "${2:?the built library}")
 shared=$(realpath "${3:?the same as a shared one}")
@@ -9,17 +11,19 @@ shared_v3=$(realpath "${4:?the same for x86-64-v3}")
 # shellcheck source=tests/common.sh
 . "$(dirname "$0")/common.sh"
 
-# compiled NAME ARGUMENT..: the program in C, with these arguments for the compiler
-compiled() {
-    gcc -std=c11 -D_GNU_SOURCE -Wall -Wextra -Werror -O1 -g -o "$1" "$sources/tests/library.c" "${@:2}" -lpthread || exit 1
+# compile_checked NAME ARGUMENT..: the program in C, with these arguments for the compiler
+compile_checked() {
+    gcc -std=c11 -D_GNU_SOURCE -Wall -Wextra -Werror -O1 -g -o "$1" "$sources/tests/library.c" "${@:2}" -lpthread ||
+        exit 1
 }
-compiled checked -I"$sources/c" "$library"
-compiled sanitized -I"$sources/c" "$library" -fsanitize=address,undefined -fno-sanitize-recover=all
+compile_checked checked -I"$sources/c" "$library"
+compile_checked sanitized -I"$sources/c" "$library" -fsanitize=address,undefined -fno-sanitize-recover=all
 # as it is installed, with the shared library and the flags of pkg-config
-make -s -C "$sources" install-library LIBRARY="$library" SHARED="$shared" SHARED_V3="$shared_v3" PREFIX="$work/installed" >log 2>&1 || { cat log; exit 1; }
+make -s -C "$sources" install-library LIBRARY="$library" SHARED="$shared" SHARED_V3="$shared_v3" \
+    PREFIX="$work/installed" >log 2>&1 || { cat log; exit 1; }
 export PKG_CONFIG_PATH=$work/installed/lib/pkgconfig LD_LIBRARY_PATH=$work/installed/lib
 read -ra flags <<<"$(pkg-config --cflags --libs luksrd)"
-compiled shared "${flags[@]}"
+compile_checked shared "${flags[@]}"
 # a folder for each library alone
 mkdir x86-64-v2 x86-64-v3
 cp "$shared" x86-64-v2/libluksrd.so.1
@@ -31,8 +35,9 @@ else
     skip 'the library for x86-64-v3' 'this processor is older'
 fi
 
-# reads NAME IMAGE HEADER KEY ARGUMENT..: the program with these arguments has the output and the messages of luksCat
-reads() {
+# program_reads NAME IMAGE HEADER KEY ARGUMENT..: the program with these arguments has the output and the messages of
+# luksCat
+program_reads() {
     local name=$1 status
     "${@:5}" "$2" "$3" "$4" >given 2>said
     status=$?
@@ -40,18 +45,21 @@ reads() {
     same "$name: the text" "$(sha256sum <given)" "$(sha256sum <text)"
 }
 
-# agree NAME IMAGE HEADER KEY: all programs do
-agree() {
+# all_programs_read NAME IMAGE HEADER KEY: all programs do
+all_programs_read() {
     local header=() status processor
     [ "$3" = - ] || header=(--header "$3")
     "$program" luksCat --key-file "$4" "${header[@]}" "$2" >text 2>said
     status=$?
     wanted="$status $(cat said)"
-    reads "$1, AddressSanitizer" "${@:2}" ./sanitized
-    reads "$1, valgrind" "${@:2}" valgrind -q --error-exitcode=98 --leak-check=full --errors-for-leak-kinds=definite ./checked
+    program_reads "$1, AddressSanitizer" "${@:2}" ./sanitized
+    program_reads "$1, valgrind" "${@:2}" valgrind -q --error-exitcode=98 --leak-check=full \
+        --errors-for-leak-kinds=definite \
+        ./checked
     for processor in "${processors[@]}"; do
-        reads "$1, shared, $processor" "${@:2}" env LD_LIBRARY_PATH="$work/$processor" ./shared
-        reads "$1, Python, $processor" "${@:2}" python3 "$sources/tests/library.py" "$work/$processor/libluksrd.so.1"
+        program_reads "$1, shared, $processor" "${@:2}" env LD_LIBRARY_PATH="$work/$processor" ./shared
+        program_reads "$1, Python, $processor" "${@:2}" python3 "$sources/tests/library.py" \
+            "$work/$processor/libluksrd.so.1"
     done
 }
 
@@ -61,29 +69,31 @@ printf 'a wrong one' >wrong
 head -c 8388609 /dev/zero >long
 for sample in volume volume2; do
     gzip -dc "$sources/sample/$sample.img.gz" >$sample
-    start=$("$program" luksDump $sample | sed -n 's/^Payload offset: \([0-9]*\)$/\1 * 512/p; s/^Segment 0: offset=\([0-9]*\) .*/\1/p')
+    start=$("$program" luksDump $sample |
+        sed -n 's/^Payload offset: \([0-9]*\)$/\1 * 512/p; s/^Segment 0: offset=\([0-9]*\) .*/\1/p')
     start=$((start))
-    agree "$sample" $sample - pass
+    all_programs_read "$sample" $sample - pass
     same "$sample: what was encrypted" "$(head -c 60 text)" "$(head -c 60 "$sources/sample/plain${sample#volume}.txt")"
     for bytes in 0 1 700; do
         head -c $((start + bytes)) $sample >shorter
-        agree "$sample, $bytes bytes of its payload" shorter - pass
+        all_programs_read "$sample, $bytes bytes of its payload" shorter - pass
     done
     head -c $((start - 1)) $sample >shorter
-    agree "$sample without its payload" shorter - pass
-    agree "$sample with a detached header" $sample $sample pass
-    agree "$sample, an empty image with a detached header" empty $sample pass
-    agree "$sample, a wrong passphrase" $sample - wrong
-    agree "$sample, no passphrase" $sample - empty
+    all_programs_read "$sample without its payload" shorter - pass
+    all_programs_read "$sample with a detached header" $sample $sample pass
+    all_programs_read "$sample, an empty image with a detached header" empty $sample pass
+    all_programs_read "$sample, a wrong passphrase" $sample - wrong
+    all_programs_read "$sample, no passphrase" $sample - empty
 done
-agree 'a passphrase that is too long' volume - long
-agree 'no LUKS' pass - pass
-agree 'nothing' empty - pass
+all_programs_read 'a passphrase that is too long' volume - long
+all_programs_read 'no LUKS' pass - pass
+all_programs_read 'nothing' empty - pass
 head -c 20000 volume >shorter
-agree 'truncated inside a key area' shorter - pass
+all_programs_read 'truncated inside a key area' shorter - pass
 
-# each field of a volume, as cryptsetup and the change below made it: a payload of 12 GiB in sectors of 4,096 bytes, of which the image has the first five, from the
-# second page of the payload on. The expected lengths are worked out from these numbers
+# each field of a volume, as cryptsetup and the change below made it: a payload of 12 GiB in sectors of 4,096 bytes,
+# of which the image has the first five, from the second page of the payload on. The expected lengths are worked out
+# from these numbers
 set_segment() {
     python3 - "$@" <<'PYTHON'
 import hashlib, json, sys
@@ -107,11 +117,13 @@ options=(--pbkdf pbkdf2 --pbkdf-force-iterations 1000 --hash sha256 --key-file p
 head -c 24576 /dev/urandom >plain
 cp plain fixed
 truncate -s +1M fixed
-cryptsetup -q reencrypt --encrypt --type luks2 --reduce-device-size 1M --force-offline-reencrypt --luks2-metadata-size 16k --luks2-keyslots-size 256k \
+cryptsetup -q reencrypt --encrypt --type luks2 --reduce-device-size 1M --force-offline-reencrypt \
+    --luks2-metadata-size 16k --luks2-keyslots-size 256k \
     --cipher aes-xts-plain64 --key-size 256 --sector-size 4096 "${options[@]}" fixed >log 2>&1 || { cat log; exit 1; }
 printf 'of slot 5' >pass5
 cryptsetup -q luksAddKey --key-slot 5 "${options[@]}" fixed pass5 || exit 1
-key=$(cryptsetup -q luksDump --dump-volume-key --key-file pass fixed | sed -n '/^MK dump:/,$p' | sed 's/^MK dump://' | tr -cd '0-9a-f')
+key=$(cryptsetup -q luksDump --dump-volume-key --key-file pass fixed | sed -n '/^MK dump:/,$p' | sed 's/^MK dump://' |
+    tr -cd '0-9a-f')
 same 'the length of the key' ${#key} 64
 printf -v zeros '%064d' 0
 lengths() {
@@ -124,7 +136,8 @@ fields() {
     read -ra lengths <<<"$(lengths "$2" | tr '\n' ' ')"
     same "$1, AddressSanitizer" "$(./sanitized fields fixed pass5 "${lengths[@]}" 2>&1; echo $?)" "$(cat "$2"; echo 0)"
     for processor in "${processors[@]}"; do
-        same "$1, shared, $processor" "$(LD_LIBRARY_PATH=$work/$processor ./shared fields fixed pass5 "${lengths[@]}" 2>&1; echo $?)" "$(cat "$2"; echo 0)"
+        same "$1, shared, $processor" "$(LD_LIBRARY_PATH=$work/$processor ./shared fields fixed pass5 \
+            "${lengths[@]}" 2>&1; echo $?)" "$(cat "$2"; echo 0)"
     done
 }
 
@@ -143,7 +156,7 @@ offset=528384 size=12884901888 iv_tweak=8 has_size=1 sector_size=4096 mode=1 key
 18446744073709551615: len=12884901888 code=0 bytes=0 status=0 
 TEXT
 fields 'a fixed size' wanted
-agree 'a fixed size' fixed - pass5
+all_programs_read 'a fixed size' fixed - pass5
 same 'a fixed size: what was encrypted' "$(sha256sum <text)" "$(tail -c +4097 plain | sha256sum)"
 
 set_segment fixed size=dynamic
@@ -167,7 +180,8 @@ block() {
     sed -n "/^\`\`\`$1\$/,/^\`\`\`\$/p" "$sources/docs/LIBRARY.md" | sed '1d;$d'
 }
 example=$sources/crates/example_read
-same 'the example in Rattle' "$(sed -n '/^\/\/\/ The 512 bytes of the first sector/,/^}/p' "$example/src/main.rt")" "$(block rust)"
+same 'the example in Rattle' "$(sed -n '/^\/\/\/ The 512 bytes of the first sector/,/^}/p' "$example/src/main.rt")" \
+    "$(block rust)"
 block c >first.c
 gcc -std=c11 -D_GNU_SOURCE -Wall -Wextra -Werror -o first first.c "${flags[@]}" || exit 1
 cp "$example/data/disk.img" .
@@ -176,15 +190,20 @@ same 'the example in C' "$? $(cat said)" '0 '
 same 'what it writes' "$(sha256sum <given)" "$(sha256sum <"$example/stdout")"
 
 # it has the version of the program, and exports only the names of luksrd.h
-same 'its version' "$(pkg-config --modversion luksrd)" "$(make -s -C "$sources" -f Makefile -f - version <<<$'version:\n\t@echo $(VERSION)')"
-same "its header's version" "$(sed -n 's/^#define LUKSRD_VERSION 0x\(..\)\(..\)\(..\)$/\1 \2 \3/p' "$sources/c/luksrd.h" | { read -r major minor patch; echo "$((16#$major)).$((16#$minor)).$((16#$patch))"; })" "$(pkg-config --modversion luksrd)"
+same 'its version' "$(pkg-config --modversion luksrd)" "$(make -s -C "$sources" -f Makefile -f - \
+    version <<<$'version:\n\t@echo $(VERSION)')"
+same "its header's version" "$(sed -n 's/^#define LUKSRD_VERSION 0x\(..\)\(..\)\(..\)$/\1 \2 \3/p' \
+    "$sources/c/luksrd.h" | { read -r major minor patch; echo "$((16#$major)).$((16#$minor)).$((16#$patch))"; })" \
+    "$(pkg-config --modversion luksrd)"
 exported='luksrd_decrypt luksrd_ending luksrd_len luksrd_open luksrd_status_text luksrd_version '
 for file in "$shared" "$shared_v3"; do
-    same "what ${file##*/} exports" "$(nm -D --defined-only "$file" | awk '{ print $3 }' | sort | tr '\n' ' ')" "$exported"
+    same "what ${file##*/} exports" "$(nm -D --defined-only "$file" | awk '{ print $3 }' | sort | tr '\n' ' ')" \
+        "$exported"
     same "relocations in the code of ${file##*/}" "$(readelf -d "$file" | grep -c TEXTREL)" 0
     same "the name of ${file##*/}" "$(readelf -d "$file" | sed -n 's/.*soname: \[\(.*\)\]/\1/p')" libluksrd.so.1
 done
-same 'what the archive exports' "$(nm -g --defined-only "$library" 2>&1 | awk 'NF == 3 { print $3 }' | sort | tr '\n' ' ')" "$exported"
+same 'what the archive exports' "$(nm -g --defined-only "$library" 2>&1 | awk 'NF == 3 { print $3 }' | sort |
+    tr '\n' ' ')" "$exported"
 same 'they are built for different processors' "$(cmp -s "$shared" "$shared_v3"; echo $?)" 1
 make -s -C "$sources" uninstall PREFIX="$work/installed" PLUGINS= >log 2>&1
 same 'what is left of it' "$(find installed ! -type d)" ''

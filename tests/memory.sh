@@ -1,14 +1,16 @@
 #!/usr/bin/env bash
-# Runs the built program in growing address space, from the least that it starts in. Each run ends as it would without a limit, or, as long
-# as the command has not succeeded yet, with status 3, `out of memory` and no output. In the space of a start, of the bytes that the command
-# has to hold, and of SLACK, it succeeds: so nothing is held twice, and no buffer is larger than what it is for. Before that it runs each
-# command on as little stack as a process may have then.
+# Runs the built program in growing address space, from the least that it starts in. Each run ends as it would without
+# a limit, or, as long as the command has not succeeded yet, with status 3, `out of memory` and no output. In the
+# space of a start, of the bytes that the command has to hold, and of SLACK, it succeeds: so nothing is held twice,
+# and no buffer is larger than what it is for. Before that it runs each command on as little stack as a process may
+# have then.
 # shellcheck source=tests/inputs.sh
 . "$(dirname "$0")/inputs.sh"
 gzip -dc "$sample/volume2.img.gz" >volume2
 cp "$sample/plain.txt" "$sample/plain2.txt" .
 
-# volumes like volume2 with headers of 4 MiB: both valid, and only the second one; with a key area that ends where the last one may; and no volume
+# volumes like volume2 with headers of 4 MiB: both valid, and only the second one; with a key area that ends where the
+# last one may; and no volume
 python3 - <<'PYTHON'
 import hashlib
 whole, SMALL, LARGE, LIMIT = open("volume2", "rb").read(), 16384, 4 << 20, 32 << 20
@@ -16,7 +18,8 @@ area, payload = whole[32768:98304], whole[1048576:]
 
 def header(at, size, area_offset):
     old = whole[SMALL if at else 0 :][:SMALL]
-    text = old.replace(b'"offset":"32768"', b'"offset":"%d"' % area_offset).replace(b'"1048576"', b'"%d"' % (area_offset + len(area)))
+    text = old.replace(b'"offset":"32768"', b'"offset":"%d"' % area_offset)
+    text = text.replace(b'"1048576"', b'"%d"' % (area_offset + len(area)))
     text = bytearray((text + bytes(size))[:size])
     text[8:16], text[256:264], text[448:512] = size.to_bytes(8, "big"), at.to_bytes(8, "big"), bytes(64)
     text[448:480] = hashlib.sha256(text).digest()
@@ -67,11 +70,13 @@ def read(name, start=0, end=None):
 
 def commands(name, header_len, held, text):
     """Each command over a volume: its arguments, the bytes of the image that it holds, and how it ends."""
-    uuid = read(name, 168 + 4096 * 1024 * (name == "second"), 208 + 4096 * 1024 * (name == "second")).rstrip(b"\0") + b"\n"
+    start = 4096 * 1024 * (name == "second")
+    uuid = read(name, start + 168, start + 208).rstrip(b"\0") + b"\n"
     yield ["isLuks", name], header_len, (0, b"", b"")
     yield ["luksUUID", name], header_len, (0, uuid, b"")
     yield ["luksDump", name], header_len, (0, run(["luksDump", name])[1], b"")
-    yield ["luksCheck", name], header_len, (1, b"primary header: not valid\n", FINDINGS) if name == "second" else (0, b"clean\n", b"")
+    check_of_second = 1, b"primary header: not valid\n", FINDINGS
+    yield ["luksCheck", name], header_len, check_of_second if name == "second" else (0, b"clean\n", b"")
     yield ["testPassphrase", *KEY, name], held, (0, TRIES, b"")
     yield ["luksCat", *KEY, name], held, (0, read(text), b"")
     yield ["luksCat", *KEY, "--header", name, name], held, (0, read(text), b"")
@@ -88,10 +93,12 @@ def grow(arguments, first, last, held, wanted):
     check(not wrong, arguments, "in spaces of these bytes:", wrong[:3])
     check(starved > 0 or held < SLACK, arguments, "was never out of memory")
     ended = run(arguments, last)
-    check(ended == wanted, arguments, "holds more than", held, "bytes and", SLACK, "for the rest:", ended[0], ended[2][:80])
+    check(ended == wanted, arguments, "holds more than", held, "bytes and", SLACK, "for the rest:", ended[0],
+          ended[2][:80])
 
 cases = [*commands("volume", 592, 260096, "plain.txt"), *commands("volume2", 32768, 98304, "plain2.txt"),
-         *commands("large", 8 << 20, (8 << 20) + 65536, "plain2.txt"), *commands("second", 8 << 20, (8 << 20) + 65536, "plain2.txt"),
+         *commands("large", 8 << 20, (8 << 20) + 65536, "plain2.txt"),
+         *commands("second", 8 << 20, (8 << 20) + 65536, "plain2.txt"),
          *commands("far", 32768, 32 << 20, "plain2.txt"), (["isLuks", "zeros"], (4 << 20) + 4096, (1, b"", b"")),
          (["luksUUID", "zeros"], (4 << 20) + 4096, (4, b"", b"luksrd: not a LUKS image\n"))]
 for arguments, _, wanted in cases:
@@ -99,7 +106,7 @@ for arguments, _, wanted in cases:
     check(ended == wanted, arguments, "without a limit:", ended[0], ended[1][:40], ended[2][:80])
     ends = [run_on_small_stack(arguments) for _ in range(STACK_RUNS)]
     others = [ended for ended in ends if ended != wanted]
-    check(not others, arguments, "on a stack of", STACK, "bytes:", len(others), "of", STACK_RUNS, "runs end otherwise", others[:1])
+    check(not others, arguments, "on a stack of", STACK, "bytes:", len(others), "of", STACK_RUNS, "runs differ", others[:1])
 if not failed:
     spaces = range(0, 100_000_000, PAGE)
     # (below that the loader ends the run, or the kernel does)

@@ -1,7 +1,8 @@
 #!/usr/bin/env bash
-# Makes Debian packages of the built program, the built library and the built plugin, and looks into them; installs by make, as root and as
-# another user, into folders of its own. As root, and if luksrd is not installed, dpkg also installs the packages, and make the library into
-# /usr/local: they run from there, the administrator chooses between the programs for both processors, and all of it is removed again.
+# Makes Debian packages of the built program, the built library and the built plugin, and looks into them; installs by
+# make, as root and as another user, into folders of its own. As root, and if luksrd is not installed, dpkg also
+# installs the packages, and make the library into /usr/local: they run from there, the administrator chooses between
+# the programs for both processors, and all of it is removed again.
 sources=$(realpath "$(dirname "$0")/..")
 plugin=$(realpath "${2:?the built plugin}")
 library=$(realpath "${3:?the built library}")
@@ -14,7 +15,8 @@ export LC_ALL=C
 
 # made FILE FILE FILE: `make deb` of the program, the library and the plugin into these files
 made() {
-    make -s -C "$sources" deb PROGRAM_V2="$program" PROGRAM_V3="$program_v3" DEB="$1" SHARED="$shared" SHARED_V3="$shared_v3" LIBRARY_DEB="$2" \
+    make -s -C "$sources" deb PROGRAM_V2="$program" PROGRAM_V3="$program_v3" DEB="$1" SHARED="$shared" \
+        SHARED_V3="$shared_v3" LIBRARY_DEB="$2" \
         PLUGIN="$plugin" PLUGIN_DEB="$3"
 }
 
@@ -28,29 +30,36 @@ lacking() {
 }
 same 'install of no program' "$(lacking "$PATH" install PROGRAM=absent DESTDIR="$nothing")" \
     'luksrd is not built: run make first'
-same 'install of no program for x86-64-v3' "$(lacking "$PATH" install CPU=x86-64-v3 PROGRAM_V3=absent DESTDIR="$nothing")" \
+same 'install of no program for x86-64-v3' "$(lacking "$PATH" install CPU=x86-64-v3 PROGRAM_V3=absent \
+    DESTDIR="$nothing")" \
     'luksrd is not built: run make CPU=x86-64-v3 first'
-same 'a package of no program' "$(lacking "$PATH" deb PROGRAM_V2=absent PROGRAM_V3="$program_v3" DEB="$nothing/luksrd.deb")" \
+same 'a package of no program' "$(lacking "$PATH" deb PROGRAM_V2=absent PROGRAM_V3="$program_v3" \
+    DEB="$nothing/luksrd.deb")" \
     'luksrd is not built: run make first'
-same 'a package of no program for x86-64-v3' "$(lacking "$PATH" deb PROGRAM_V2="$program" PROGRAM_V3=absent DEB="$nothing/luksrd.deb")" \
+same 'a package of no program for x86-64-v3' "$(lacking "$PATH" deb PROGRAM_V2="$program" PROGRAM_V3=absent \
+    DEB="$nothing/luksrd.deb")" \
     'luksrd is not built: run make CPU=x86-64-v3 first'
 same 'a package of the plugin, and no library' \
-    "$(lacking "$PATH" deb PROGRAM_V2="$program" PROGRAM_V3="$program_v3" DEB="$nothing/luksrd.deb" PLUGIN="$plugin" SHARED=absent)" \
+    "$(lacking "$PATH" deb PROGRAM_V2="$program" PROGRAM_V3="$program_v3" DEB="$nothing/luksrd.deb" PLUGIN="$plugin" \
+    SHARED=absent)" \
     'the library is not built: run make library first'
-same 'a processor that there is not' "$(make -s -C "$sources" install CPU=x86-64-v9 DESTDIR="$nothing" 2>&1 | sed 's/.*\*\*\* //')" 'CPU is x86-64-v2 or x86-64-v3.  Stop.'
+same 'a processor that there is not' "$(make -s -C "$sources" install CPU=x86-64-v9 DESTDIR="$nothing" 2>&1 |
+    sed 's/.*\*\*\* //')" 'CPU is x86-64-v2 or x86-64-v3.  Stop.'
 same 'install of no library' "$(lacking "$PATH" install-library LIBRARY=absent DESTDIR="$nothing")" \
     'the library is not built: run make library first'
 same 'install of the library without that for x86-64-v3' \
     "$(lacking "$PATH" install-library LIBRARY="$library" SHARED="$shared" SHARED_V3=absent DESTDIR="$nothing")" \
     'the library is not built: run make library first'
 same 'install of the plugin and no library' \
-    "$(lacking "$PATH" install PROGRAM="$program" PLUGIN="$plugin" PLUGINS=/plugins LIBRARY=absent DESTDIR="$nothing")" \
+    "$(lacking "$PATH" install PROGRAM="$program" PLUGIN="$plugin" PLUGINS=/plugins LIBRARY=absent \
+    DESTDIR="$nothing")" \
     'the library is not built: run make library first'
 same 'install of no plugin' "$(lacking "$PATH" install-plugin PLUGIN=absent DESTDIR="$nothing")" \
     'the plugin is not built: run make nbdkit first'
 same 'nothing is made' "$(ls "$nothing")" ''
 same 'a demo with no toolchain' "$(lacking "$nothing" demo)" 'rt is missing: put the Rattle toolchain on the path'
-same 'a package with no tools' "$(PATH=$nothing "$BASH" "$sources/packaging/deb" luksrd 1.1.0 luksrd.deb "$program" "$program_v3" 2>&1)" \
+same 'a package with no tools' "$(PATH=$nothing "$BASH" "$sources/packaging/deb" luksrd 1.1.0 luksrd.deb "$program" \
+    "$program_v3" 2>&1)" \
     'strip is missing: run apt-get install binutils'
 same 'a package that there is not' "$("$sources/packaging/deb" other 1.1.0 luksrd.deb "$program" 2>&1)" \
     'there is no package other'
@@ -66,7 +75,8 @@ same 'the package made again' "$(cmp "$program_package" again 2>&1)" ''
 same "the library's package made again" "$(cmp "$library_package" 'library again' 2>&1)" ''
 same "the plugin's package made again" "$(cmp "$plugin_package" 'plugin again' 2>&1)" ''
 
-# holds NAME FILE PAGE LISTED: what is in a package, and that it has one version; it is unpacked into the folder of its name. The library has no PAGE
+# holds NAME FILE PAGE LISTED: what is in a package, and that it has one version; it is unpacked into the folder of
+# its name. The library has no PAGE
 version=$(make -s -C "$sources" -f Makefile -f - version <<<$'version:\n\t@echo $(VERSION)')
 same 'a version of three numbers' "$(grep -cxE '[0-9]+\.[0-9]+\.[0-9]+' <<<"$version")" 1
 holds() {
@@ -84,12 +94,15 @@ holds() {
     dpkg -e "$package" control
     same "$name: the checksums" "$(cd "$name" && md5sum -c --quiet ../control/md5sums 2>&1)" ''
     same "$name: each file has one" "$(wc -l <control/md5sums)" "$(find "$name" -type f | wc -l)"
-    same "$name: the newest change" "$(zcat "$papers/changelog.gz" | head -1)" "luksrd ($version) stable; urgency=medium"
+    same "$name: the newest change" "$(zcat "$papers/changelog.gz" | head -1)" \
+        "luksrd ($version) stable; urgency=medium"
     same "$name: the same released changes" "$(zcat "$papers/changelog.gz" | grep -c '^  \*')" \
         "$(sed -n '/^## [0-9]/,$p' "$sources/CHANGELOG.md" | grep -c '^-')"
-    same "$name: their words" "$(zcat "$papers/changelog.gz" | grep -vE '^(luksrd \(|  \[ | -- )' | sed 's/^  \* //' | tr -s ' \n' ' ')" \
+    same "$name: their words" "$(zcat "$papers/changelog.gz" | grep -vE '^(luksrd \(|  \[ | -- )' | sed 's/^  \* //' |
+        tr -s ' \n' ' ')" \
         "$(sed -n '/^## [0-9]/,$p' "$sources/CHANGELOG.md" | grep -v '^#' | sed 's/^- //' | tr -s ' \n' ' ')"
-    same "$name: lines of its changes that are too long" "$(zcat "$papers/changelog.gz" | grep -v '^ -- ' | awk 'length > 80')" ''
+    same "$name: lines of its changes that are too long" "$(zcat "$papers/changelog.gz" | grep -v '^ -- ' |
+        awk 'length > 80')" ''
     [ -n "$page" ] || return 0
     same "$name: the man page" "$(zcat "$name/usr/share/man/man1/$page.gz")" "$(cat "$sources/docs/$page")"
     same "$name: the version of the man page" "$(grep '^\.Os' "$sources/docs/$page")" ".Os luksrd $version"
@@ -114,16 +127,21 @@ lrwxrwxrwx root/root .$libraries/libluksrd.so.1"
 same 'what depends on the library' "$(cat control/shlibs)" "libluksrd 1 libluksrd1 (>= $version)"
 same 'what the library triggers' "$(cat control/triggers)" 'activate-noawait ldconfig'
 plugins=$(pkg-config nbdkit --variable=plugindir)
-holds nbdkit-plugin-luksrd "$plugin_package" nbdkit-luksrd-plugin.1 "-rw-r--r-- root/root .$plugins/nbdkit-luksrd-plugin.so
+holds nbdkit-plugin-luksrd "$plugin_package" nbdkit-luksrd-plugin.1 \
+    "-rw-r--r-- root/root .$plugins/nbdkit-luksrd-plugin.so
 -rw-r--r-- root/root ./usr/share/doc/nbdkit-plugin-luksrd/changelog.gz
 -rw-r--r-- root/root ./usr/share/doc/nbdkit-plugin-luksrd/copyright
 -rw-r--r-- root/root ./usr/share/man/man1/nbdkit-luksrd-plugin.1.gz"
 same 'the plugin depends on nbdkit' "$(dpkg -f "$plugin_package" Depends | grep -c ', nbdkit (>= ')" 1
-same 'the plugin depends on the library' "$(dpkg -f "$plugin_package" Depends | grep -cF ", libluksrd1 (>= $version)")" 1
+same 'the plugin depends on the library' "$(dpkg -f "$plugin_package" Depends |
+    grep -cF ", libluksrd1 (>= $version)")" 1
 # what a binary says of itself: its name, the libraries that it loads, and its own folders for them
-dynamic() { readelf -d "$1" | sed -n 's/.*(\(SONAME\|NEEDED\|RUNPATH\|RPATH\)).*\[\(.*\)\]$/\1 \2/p' | grep -v 'NEEDED libc\.so'; }
-same 'the packaged plugin loads the library' "$(dynamic "nbdkit-plugin-luksrd$plugins/nbdkit-luksrd-plugin.so")" 'NEEDED libluksrd.so.1'
-same 'the names of the packaged library' "$(dynamic "libluksrd1$libraries/libluksrd.so.1"; dynamic "libluksrd1$libraries/glibc-hwcaps/x86-64-v3/libluksrd.so.1")" \
+dynamic() { readelf -d "$1" | sed -n 's/.*(\(SONAME\|NEEDED\|RUNPATH\|RPATH\)).*\[\(.*\)\]$/\1 \2/p' |
+    grep -v 'NEEDED libc\.so'; }
+same 'the packaged plugin loads the library' "$(dynamic "nbdkit-plugin-luksrd$plugins/nbdkit-luksrd-plugin.so")" \
+    'NEEDED libluksrd.so.1'
+same 'the names of the packaged library' "$(dynamic "libluksrd1$libraries/libluksrd.so.1";
+    dynamic "libluksrd1$libraries/glibc-hwcaps/x86-64-v3/libluksrd.so.1")" \
     'SONAME libluksrd.so.1
 SONAME libluksrd.so.1'
 
@@ -141,14 +159,15 @@ works() {
 }
 for processor in x86-64-v2 x86-64-v3; do
     if [ $processor = x86-64-v2 ] || runs_v3; then
-        works "$work/luksrd/usr/libexec/luksrd/$processor/luksrd" "$work/luksrd/usr/share/bash-completion/completions/luksrd"
+        works "$work/luksrd/usr/libexec/luksrd/$processor/luksrd" \
+            "$work/luksrd/usr/share/bash-completion/completions/luksrd"
     else
         skip "the packaged program for $processor" 'this processor is older'
     fi
 done
 
-# serves PLUGIN: the plugin of this name gives the sample volume's plain text
-serves() {
+# serves_sample PLUGIN: the plugin of this name gives the sample volume's plain text
+serves_sample() {
     gzip -dc "$sources/sample/volume.img.gz" >volume
     # shellcheck disable=SC2016
     nbdkit -U - "$1" volume key-file=pass --run 'nbdcopy "$uri" copy' >out 2>err
@@ -156,11 +175,12 @@ serves() {
     expect "$1 serves the sample volume" 0 '' ''
     same "$1: its text" "$(sha256sum <copy)" "$(sha256sum <"$sources/sample/plain.txt")"
 }
-LD_LIBRARY_PATH=$work/libluksrd1$libraries serves "$work/nbdkit-plugin-luksrd$plugins/nbdkit-luksrd-plugin.so"
+LD_LIBRARY_PATH=$work/libluksrd1$libraries serves_sample "$work/nbdkit-plugin-luksrd$plugins/nbdkit-luksrd-plugin.so"
 
-# put ARGUMENT..: make with these arguments, and with what is built but for luksrd-audit, of which no package is made (tests/install.sh has it)
+# make_built ARGUMENT..: make with these arguments, and with what is built but for luksrd-audit, of which no package
+# is made (tests/install.sh has it)
 built=(PROGRAM="$program" AUDIT=absent LIBRARY="$library" SHARED="$shared" SHARED_V3="$shared_v3" PLUGIN="$plugin")
-put() {
+make_built() {
     make -s -C "$sources" "${built[@]}" "$@" >log 2>&1
 }
 
@@ -176,31 +196,34 @@ cat >tools/pkg-config <<TEXT
 echo /nbdkit/plugins
 TEXT
 chmod +x tools/pkg-config
-program_files=(bin/luksrd share/bash-completion/completions/luksrd share/doc/luksrd/FORMATS.md share/doc/luksrd/README.md
+program_files=(bin/luksrd share/bash-completion/completions/luksrd share/doc/luksrd/FORMATS.md
+    share/doc/luksrd/README.md
     share/man/man1/luksrd.1 share/zsh/site-functions/_luksrd)
-library_files=(include/luksrd.h lib/glibc-hwcaps/x86-64-v3/libluksrd.so.1 lib/libluksrd.a lib/libluksrd.so lib/libluksrd.so.1 "lib/libluksrd.so.$version" lib/pkgconfig/luksrd.pc)
+library_files=(include/luksrd.h lib/glibc-hwcaps/x86-64-v3/libluksrd.so.1 lib/libluksrd.a lib/libluksrd.so
+    lib/libluksrd.so.1 "lib/libluksrd.so.$version" lib/pkgconfig/luksrd.pc)
 page=share/man/man1/nbdkit-luksrd-plugin.1
 name=nbdkit-luksrd-plugin.so
 # below PREFIX PATH..: as `files` lists them
 below() {
     printf "./${1:+$1/}%s\n" "${@:2}" | LC_ALL=C sort
 }
-put install LIBRARY=absent PLUGIN=absent DESTDIR="$work/there"
+make_built install LIBRARY=absent PLUGIN=absent DESTDIR="$work/there"
 same 'make install of the program alone' "$? $(files there)" "0 $(below usr/local "${program_files[@]}")"
-put install DESTDIR="$work/there" PLUGINS=/usr/plugins
+make_built install DESTDIR="$work/there" PLUGINS=/usr/plugins
 same 'make install of the library and the plugin too' "$? $(files there)" \
     "0 $(below usr "${program_files[@]/#/local/}" "${library_files[@]/#/local/}" "local/$page" "plugins/$name")"
-same 'both libraries' "$(cmp "there/usr/local/lib/libluksrd.so.$version" "$shared" 2>&1; cmp there/usr/local/lib/glibc-hwcaps/x86-64-v3/libluksrd.so.1 "$shared_v3" 2>&1)" ''
-put uninstall DESTDIR="$work/there" PLUGINS=/usr/plugins
+same 'both libraries' "$(cmp "there/usr/local/lib/libluksrd.so.$version" "$shared" 2>&1;
+    cmp there/usr/local/lib/glibc-hwcaps/x86-64-v3/libluksrd.so.1 "$shared_v3" 2>&1)" ''
+make_built uninstall DESTDIR="$work/there" PLUGINS=/usr/plugins
 same 'make uninstall' "$? $(files there)" '0 '
 same 'folders of libraries' "$(find there -name 'glibc-hwcaps')" ''
 
 # `make install CPU=x86-64-v3` puts that program in its place, after it has run
 if runs_v3; then
-    put install CPU=x86-64-v3 PROGRAM="$program_v3" LIBRARY=absent PLUGIN=absent DESTDIR="$work/there"
+    make_built install CPU=x86-64-v3 PROGRAM="$program_v3" LIBRARY=absent PLUGIN=absent DESTDIR="$work/there"
     same 'make install for x86-64-v3' "$? $(files there)" "0 $(below usr/local "${program_files[@]}")"
     same 'which program that is' "$(cmp there/usr/local/bin/luksrd "$program_v3" 2>&1)" ''
-    put uninstall DESTDIR="$work/there"
+    make_built uninstall DESTDIR="$work/there"
     same 'make uninstall for x86-64-v3' "$? $(files there)" '0 '
 else
     skip 'make install for x86-64-v3' 'this processor is older'
@@ -209,18 +232,21 @@ printf '#!/bin/sh\necho "it needs AVX2" >&2\nexit 127\n' >refusing
 chmod +x refusing
 for target in install install-program; do
     same "make $target of a program that the processor refuses" \
-        "$(lacking "$PATH" $target "${built[@]}" CPU=x86-64-v3 PROGRAM="$work/refusing" DESTDIR="$nothing" PLUGINS=/plugins)" \
+        "$(lacking "$PATH" $target "${built[@]}" CPU=x86-64-v3 PROGRAM="$work/refusing" DESTDIR="$nothing" \
+        PLUGINS=/plugins)" \
         'it needs AVX2
 luksrd for x86-64-v3 does not run here: nothing is installed'
     same "make $target of a program that does nothing" \
-        "$(lacking "$PATH" $target "${built[@]}" CPU=x86-64-v3 PROGRAM="$(type -P true)" DESTDIR="$nothing" PLUGINS=/plugins)" \
+        "$(lacking "$PATH" $target "${built[@]}" CPU=x86-64-v3 PROGRAM="$(type -P true)" DESTDIR="$nothing" \
+        PLUGINS=/plugins)" \
         'luksrd for x86-64-v3 does not run here: nothing is installed'
 done
 same 'what these install' "$(files "$nothing")" ''
 for prefix in /usr /usr/local/; do
-    PATH=$work/tools:$PATH put install-plugin DESTDIR="$work/there" PREFIX="$prefix"
-    same "the plugin for $prefix" "$? $(files there)" "0 $(below '' "nbdkit/plugins/$name" "$(realpath -ms "$prefix/$page" | cut -c 2-)")"
-    PATH=$work/tools:$PATH put uninstall DESTDIR="$work/there" PREFIX="$prefix"
+    PATH=$work/tools:$PATH make_built install-plugin DESTDIR="$work/there" PREFIX="$prefix"
+    same "the plugin for $prefix" "$? $(files there)" "0 $(below '' "nbdkit/plugins/$name" \
+        "$(realpath -ms "$prefix/$page" | cut -c 2-)")"
+    PATH=$work/tools:$PATH make_built uninstall DESTDIR="$work/there" PREFIX="$prefix"
     same "the plugin for $prefix, uninstalled" "$? $(files there)" '0 '
 done
 
@@ -234,7 +260,8 @@ another() {
 }
 # put_by_another FOLDER ARGUMENT..: make as this user, with the tree and what is built as this user can read them
 put_by_another() {
-    another make -s -C "$work/tree" PROGRAM=../built/luksrd LIBRARY=../built/libluksrd.a SHARED=../built/libluksrd.so SHARED_V3=../built/v3.so \
+    another make -s -C "$work/tree" PROGRAM=../built/luksrd LIBRARY=../built/libluksrd.a SHARED=../built/libluksrd.so \
+        SHARED_V3=../built/v3.so \
         PLUGIN="../built/$name" "$@" >log 2>&1
 }
 mkdir tree built own
@@ -254,7 +281,7 @@ if another test -r tree/Makefile; then
         "0 $(below '' "${program_files[@]}" "${library_files[@]}" "$page" "lib/nbdkit/plugins/$name")"
     same "nbdkit's own folder" "$(ls -la --full-time "$plugins")" "$plugins_before"
     works "$work/own/it/bin/luksrd" "$work/own/it/share/bash-completion/completions/luksrd"
-    serves "$work/own/it/lib/nbdkit/plugins/$name"
+    serves_sample "$work/own/it/lib/nbdkit/plugins/$name"
     put_by_another uninstall PREFIX="$work/own/it"
     same 'make uninstall by another user' "$? $(files own/it)" '0 '
     same "luksrd's own folder" "$(find own/it -name luksrd)" ''
@@ -268,11 +295,12 @@ fi
 mkdir nbdkit
 : >"nbdkit/$name"
 sed -i "s|/nbdkit|$work/nbdkit|; s|/plugins||" tools/pkg-config
-same "nbdkit's folder, as make asks for it" "$(PATH=$work/tools:$PATH pkg-config nbdkit --variable=plugindir)" "$work/nbdkit"
-PATH=$work/tools:$PATH put install PREFIX="$work/own/root"
+same "nbdkit's folder, as make asks for it" "$(PATH=$work/tools:$PATH pkg-config nbdkit --variable=plugindir)" \
+    "$work/nbdkit"
+PATH=$work/tools:$PATH make_built install PREFIX="$work/own/root"
 same 'make install into another PREFIX' "$? $(files nbdkit)" "0 ./$name"
 same "the plugin in nbdkit's folder" "$(wc -c <"nbdkit/$name")" 0
-PATH=$work/tools:$PATH put uninstall PREFIX="$work/own/root"
+PATH=$work/tools:$PATH make_built uninstall PREFIX="$work/own/root"
 same 'make uninstall of another PREFIX' "$? $(files own/root)$(files nbdkit)" "0 ./$name"
 
 # `ldconfig` runs for a folder that it knows, as root, and if the files are in place
@@ -292,20 +320,22 @@ notes() {
     same "$1" "$? $(wc -l <notes)" "0 $2"
 }
 if [ "$(id -u)" = 0 ]; then
-    notes 'ldconfig for a folder that it knows' 1 put install-library PREFIX="$work/known"
-    notes 'ldconfig after make uninstall' 1 put uninstall PREFIX="$work/known"
+    notes 'ldconfig for a folder that it knows' 1 make_built install-library PREFIX="$work/known"
+    notes 'ldconfig after make uninstall' 1 make_built uninstall PREFIX="$work/known"
 else
     skip 'ldconfig for a folder that it knows' 'not root'
 fi
-notes 'ldconfig for any other folder' 0 put install-library PREFIX="$work/own/root"
-notes 'ldconfig for a folder below DESTDIR' 0 put install-library PREFIX="$work/known" DESTDIR="$work/there"
+notes 'ldconfig for any other folder' 0 make_built install-library PREFIX="$work/own/root"
+notes 'ldconfig for a folder below DESTDIR' 0 make_built install-library PREFIX="$work/known" DESTDIR="$work/there"
 if another test -r tree/Makefile; then
     notes 'ldconfig by another user' 0 put_by_another install-library PREFIX="$work/own"
 fi
 
 packages=(luksrd libluksrd1 nbdkit-plugin-luksrd)
-if [ "$(id -u)" != 0 ] || dpkg -s luksrd >log 2>&1 || dpkg -s libluksrd1 >log 2>&1 || dpkg -s nbdkit-plugin-luksrd >log 2>&1 ||
-    [ -n "$(find /usr/bin /usr/libexec /usr/local /usr/include /usr/lib/pkgconfig "$libraries" /etc/alternatives -name '*luksrd*' -print -quit 2>/dev/null)" ]; then
+if [ "$(id -u)" != 0 ] || dpkg -s luksrd >log 2>&1 || dpkg -s libluksrd1 >log 2>&1 ||
+    dpkg -s nbdkit-plugin-luksrd >log 2>&1 ||
+    [ -n "$(find /usr/bin /usr/libexec /usr/local /usr/include /usr/lib/pkgconfig "$libraries" /etc/alternatives \
+    -name '*luksrd*' -print -quit 2>/dev/null)" ]; then
     skip 'packages that are installed' 'not root, or luksrd is installed'
     finish
     exit
@@ -315,10 +345,11 @@ fi
 loads() {
     python3 -c 'import ctypes; print(hex(ctypes.CDLL("libluksrd.so.1").luksrd_version()))' 2>&1 | tail -n 1
 }
-trap 'put uninstall PLUGINS=; rm -rf "$work"' EXIT
-put install-library
-same 'make install of the library' "$? $(loads)" "0 $(sed -n 's/^#define LUKSRD_VERSION 0x0*/0x/p' "$sources/c/luksrd.h")"
-put uninstall PLUGINS=
+trap 'make_built uninstall PLUGINS=; rm -rf "$work"' EXIT
+make_built install-library
+same 'make install of the library' "$? $(loads)" "0 $(sed -n 's/^#define LUKSRD_VERSION 0x0*/0x/p' \
+    "$sources/c/luksrd.h")"
+make_built uninstall PLUGINS=
 same 'make uninstall of the library' "$? $(loads | grep -c 'cannot open shared object file')" '0 1'
 same 'what is left of the library' "$(find /usr/local -name '*luksrd*'; ldconfig -p | grep luksrd)" ''
 
@@ -332,15 +363,17 @@ same 'they install' $? 0
 works /usr/bin/luksrd /usr/share/bash-completion/completions/luksrd
 same 'the program that is installed' "$(chosen)" /usr/libexec/luksrd/x86-64-v2/luksrd
 same 'the library that is installed' "$(loads)" "$(sed -n 's/^#define LUKSRD_VERSION 0x0*/0x/p' "$sources/c/luksrd.h")"
-same 'what ldconfig knows' "$(ldconfig -p | sed -n 's/^\tlibluksrd\.so\.1 (.*) => //p' | sed 's|^/lib/|/usr/lib/|' | sort)" "$libraries/glibc-hwcaps/x86-64-v3/libluksrd.so.1
+same 'what ldconfig knows' "$(ldconfig -p | sed -n 's/^\tlibluksrd\.so\.1 (.*) => //p' | sed 's|^/lib/|/usr/lib/|' |
+    sort)" "$libraries/glibc-hwcaps/x86-64-v3/libluksrd.so.1
 $libraries/libluksrd.so.1"
-serves luksrd
+serves_sample luksrd
 same 'zsh finds its completion' \
     "$(zsh -fc 'autoload -Uz compinit; compinit -D -u; print -r -- $_comps[luksrd]')" _luksrd
-same "make install over a package's plugin" "$(lacking "$PATH" install "${built[@]}" DESTDIR= PREFIX="$work/own/late" PLUGINS="$plugins")" \
+same "make install over a package's plugin" "$(lacking "$PATH" install "${built[@]}" DESTDIR= PREFIX="$work/own/late" \
+    PLUGINS="$plugins")" \
     "the package nbdkit-plugin-luksrd has $plugins/$name: run apt-get remove nbdkit-plugin-luksrd, or give a PREFIX"
 same 'what that installs' "$(files own/late)" ''
-put uninstall PREFIX=/usr
+make_built uninstall PREFIX=/usr
 same "make uninstall of packages' files" "$? $(chosen)" '0 /usr/libexec/luksrd/x86-64-v2/luksrd'
 dpkg -L "${packages[@]}" | grep luksrd >paths
 same 'nothing is changed' "$(dpkg -V "${packages[@]}" | grep -vE '/usr/share/(doc|man)/')" ''
@@ -361,7 +394,8 @@ same 'no choice' "$? $(chosen)" '0 /usr/libexec/luksrd/x86-64-v2/luksrd'
 update-alternatives --set luksrd /usr/libexec/luksrd/x86-64-v3/luksrd >log 2>&1
 dpkg -r "${packages[@]}" >log 2>&1
 same 'they go' $? 0
-same 'what is left' "$(xargs -d '\n' ls -d <paths 2>/dev/null; ls -d /usr/bin/luksrd /etc/alternatives/luksrd /var/lib/dpkg/alternatives/luksrd 2>/dev/null)" ''
+same 'what is left' "$(xargs -d '\n' ls -d <paths 2>/dev/null;
+    ls -d /usr/bin/luksrd /etc/alternatives/luksrd /var/lib/dpkg/alternatives/luksrd 2>/dev/null)" ''
 same 'what ldconfig knows then' "$(ldconfig -p | grep luksrd)" ''
 same 'what dpkg knows of them' "$(dpkg -l "${packages[@]}" 2>/dev/null | grep luksrd)" ''
 trap 'rm -rf "$work"' EXIT

@@ -7,13 +7,14 @@ opens=$(printf 'Key slot 0 opens the volume.\n' >line; hex line)
 printf 'another one' >wrong
 mkfifo pipe
 
-# consumes BYTES ARGUMENT..: a run over a named pipe, into which an image and more are written, consumes this number of its bytes. The image is
-# larger than a pipe, so that the writer is still there when the run begins.
+# consumes BYTES ARGUMENT..: a run over a named pipe, into which an image and more are written, consumes this number
+# of its bytes. The image is larger than a pipe, so that the writer is still there when the run begins.
 piped=volume
 consumes() {
     local count=$1 writer
     shift
-    # Both ends open at once through 3. Only the writer keeps its end, so that what the run leaves can be read until the writer has ended.
+    # Both ends open at once through 3. Only the writer keeps its end, so that what the run leaves can be read until
+    # the writer has ended.
     # shellcheck disable=SC2094
     exec 3<>pipe 4<pipe 5>pipe
     { cat "$piped"; printf 'the rest'; } >&5 3>&- 4<&- 5>&- 2>/dev/null &
@@ -23,7 +24,8 @@ consumes() {
     cat <&4 >rest
     ended "$writer"
     exec 4<&-
-    same "$*: the rest of the pipe after $count bytes" "$(sha256sum <rest)" "$( { tail -c +$((count + 1)) "$piped"; printf 'the rest'; } | sha256sum)"
+    same "$*: the rest of the pipe after $count bytes" "$(sha256sum <rest)" \
+        "$( { tail -c +$((count + 1)) "$piped"; printf 'the rest'; } | sha256sum)"
 }
 consumes $area_end testPassphrase --key-file pass pipe
 expect 'a named pipe' 0 "$opens" ''

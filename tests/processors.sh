@@ -1,8 +1,9 @@
 #!/usr/bin/env bash
-# Compares luksrd for x86-64-v2 (the first argument) with luksrd for x86-64-v3 (the last): on volumes of every mode, hash function and sector size, whole, truncated and
-# damaged, and on stripes, both write the same bytes, report the same and end alike. Then processors that qemu imitates: which programs they run, what they lack, and which
-# of both libraries the loader takes, from a folder that a program, the plugin or LD_LIBRARY_PATH names, and by ldconfig's cache. Last, that neither build takes the place
-# of the other, with a kit that only notes what it should build.
+# Compares luksrd for x86-64-v2 (the first argument) with luksrd for x86-64-v3 (the last): on volumes of every mode,
+# hash function and sector size, whole, truncated and damaged, and on stripes, both write the same bytes, report the
+# same and end alike. Then processors that qemu imitates: which programs they run, what they lack, and which of both
+# libraries the loader takes, from a folder that a program, the plugin or LD_LIBRARY_PATH names, and by ldconfig's
+# cache. Last, that neither build takes the place of the other, with a kit that only notes what it should build.
 sources=$(realpath "$(dirname "$0")/..")
 plugin=$(realpath "${2:?the built plugin}")
 shared=$(realpath "${3:?the built library as a shared one}")
@@ -11,7 +12,8 @@ program_v3=$(realpath "${5:?the program for x86-64-v3}")
 # shellcheck source=interop/common.sh
 . "$(dirname "$0")/../interop/common.sh"
 
-# on PROCESSOR COMMAND..: runs a command on a processor that qemu imitates; what qemu cannot imitate of it, and says so, is not used
+# on PROCESSOR COMMAND..: runs a command on a processor that qemu imitates; what qemu cannot imitate of it, and says
+# so, is not used
 on() {
     local status
     timeout "$patience" qemu-x86_64 -cpu "$@" 2>emulated
@@ -29,16 +31,18 @@ alike() {
     "$program" "${@:2}" <in >out2 2>err2
     echo $? >status2
     native_v3 "${@:2}" <in >out3 2>err3
-    same "$1: status, message and output" "$? $(cat err3) $(sha256sum <out3)" "$(cat status2) $(cat err2) $(sha256sum <out2)"
+    same "$1: status, message and output" "$? $(cat err3) $(sha256sum <out3)" \
+        "$(cat status2) $(cat err2) $(sha256sum <out2)"
 }
 
 # written NAME FILE: the last run wrote what begins with these bytes, and nothing went wrong
 written() {
-    same "$1: what is written" "$(cat status2 err2) $(head -c "$(stat -c %s "$2")" out2 | sha256sum)" "0 $(sha256sum <"$2")"
+    same "$1: what is written" "$(cat status2 err2) $(head -c "$(stat -c %s "$2")" out2 | sha256sum)" \
+        "0 $(sha256sum <"$2")"
 }
 
-# reads IMAGE PLAIN: every command on this volume, and its payload from a pipe and truncated
-reads() {
+# both_read IMAGE PLAIN: every command on this volume, and its payload from a pipe and truncated
+both_read() {
     local command
     cp "$1" in
     for command in isLuks luksUUID luksDump luksCheck; do alike "$1, $command" $command "$1"; done
@@ -57,8 +61,9 @@ reads() {
     : >in
 }
 
-# damaged IMAGE COUNT: copies with one other byte each among the first 32768, at places that follow from the count
-damaged() {
+# damaged_copies IMAGE COUNT: copies with one other byte each among the first 32768, at places that follow from the
+# count
+damaged_copies() {
     local count at
     for ((count = 0; count < $2; count++)); do
         at=$((count * 7919 % 32768))
@@ -74,20 +79,22 @@ printf 'a wrong one' >wrong
 : >in
 head -c 300032 /dev/urandom >plain
 hashes=(sha1 sha256 sha512)
-for sealed in 'xts-plain64 512' 'xts-plain64 256' 'xts-plain 512' 'cbc-essiv:sha256 128' 'cbc-essiv:sha256 256' 'cbc-plain64 256'; do
+for sealed in 'xts-plain64 512' 'xts-plain64 256' 'xts-plain 512' 'cbc-essiv:sha256 128' 'cbc-essiv:sha256 256' \
+    'cbc-plain64 256'; do
     hashes=("${hashes[@]:1}" "${hashes[0]}")
     format1 "luks1 $sealed" "aes-${sealed% *}" "${hashes[0]}" "${sealed#* }"
     fill "luks1 $sealed"
-    reads "luks1 $sealed" plain
+    both_read "luks1 $sealed" plain
 done
-damaged 'luks1 xts-plain64 512' 100
+damaged_copies 'luks1 xts-plain64 512' 100
 truncate -s 303104 plain
-for sealed in 'xts-plain64 512 512' 'xts-plain64 256 1024' 'xts-plain64 512 2048' 'xts-plain64 512 4096' 'xts-plain 512 512' 'cbc-essiv:sha256 256 4096' 'cbc-plain64 128 512'; do
+for sealed in 'xts-plain64 512 512' 'xts-plain64 256 1024' 'xts-plain64 512 2048' 'xts-plain64 512 4096' \
+    'xts-plain 512 512' 'cbc-essiv:sha256 256 4096' 'cbc-plain64 128 512'; do
     read -r cipher bits sector <<<"$sealed"
     seal "luks2 $sealed" "aes-$cipher" "$bits" --sector-size "$sector"
-    reads "luks2 $sealed" plain
+    both_read "luks2 $sealed" plain
 done
-damaged 'luks2 xts-plain64 512 4096' 100
+damaged_copies 'luks2 xts-plain64 512 4096' 100
 head -c 64 plain >key
 head -c $((199 * 64)) /dev/urandom >random
 for hash in sha1 sha224 sha256 sha384 sha512; do
@@ -108,25 +115,31 @@ tells() {
     expect "$name" "$2" "$wanted" "$3"
 }
 # refusal LEVEL OTHER: what the kit has a program for this level say on an older processor
-refusal() { echo "this machine lacks a feature of $1, which this program was built for: run it on another machine, or build it with --cpu $2"; }
+refusal() {
+    echo "this machine lacks a feature of $1, which this program was built for:" \
+        "run it on another machine, or build it with --cpu $2"
+}
 tells core2duo 127 "$(refusal x86-64-v2 x86-64)" "$program"
 tells Westmere 127 "$(refusal x86-64-v3 x86-64)" "$program_v3"
 tells Westmere 0 '' "$program"
 tells Haswell 0 '' "$program"
 tells Haswell 0 '' "$program_v3"
 
-# The plugin and a program in C, as they are installed: below a PREFIX, whose library the plugin finds from its own folder and the program by the
-# folder that it names; and in a system of its own, whose loader finds the library by ldconfig's cache.
-put() {
-    make -s -C "$sources" install-library install-plugin LIBRARY="$shared" SHARED="$shared" SHARED_V3="$shared_v3" PLUGIN="$plugin" "$@" >log 2>&1 || { cat log; exit 1; }
+# The plugin and a program in C, as they are installed: below a PREFIX, whose library the plugin finds from its own
+# folder and the program by the folder that it names; and in a system of its own, whose loader finds the library by
+# ldconfig's cache.
+install_both() {
+    make -s -C "$sources" install-library install-plugin LIBRARY="$shared" SHARED="$shared" SHARED_V3="$shared_v3" \
+        PLUGIN="$plugin" "$@" >log 2>&1 || { cat log; exit 1; }
 }
-put PREFIX="$work/own"
-put PREFIX=/usr/local PLUGINS=/plugins DESTDIR="$work/system"
-compiled() {
-    gcc -std=c11 -D_GNU_SOURCE -o "$1" "$sources/tests/library.c" -I"$sources/c" -L"$work/own/lib" -lluksrd -lpthread "${@:2}" || exit 1
+install_both PREFIX="$work/own"
+install_both PREFIX=/usr/local PLUGINS=/plugins DESTDIR="$work/system"
+compile_installed() {
+    gcc -std=c11 -D_GNU_SOURCE -o "$1" "$sources/tests/library.c" -I"$sources/c" -L"$work/own/lib" -lluksrd \
+        -lpthread "${@:2}" || exit 1
 }
-compiled by_folder -Wl,-rpath,"$work/own/lib"
-compiled by_cache
+compile_installed by_folder -Wl,-rpath,"$work/own/lib"
+compile_installed by_cache
 for file in /lib64/ld-linux-x86-64.so.2 /lib/x86_64-linux-gnu/libc.so.6; do
     install -D "$file" "system$file"
 done
@@ -142,28 +155,38 @@ nbdkit=$(command -v nbdkit)
 for processor in Haswell:glibc-hwcaps/x86-64-v3/libluksrd.so.1 Westmere:libluksrd.so.1; do
     library=${processor#*:}
     processor=${processor%:*}
-    same "$processor, a program that names a folder" "$(taken "$processor" ./by_folder volume - "$sources/sample/passphrase")" "$work/own/lib/$library"
-    same "$processor, a program that names a folder: the text" "$(sha256sum <out)" "$(sha256sum <"$sources/sample/plain.txt")"
-    same "$processor, a program and the cache" "$(taken "$processor" -L "$work/system" ./by_cache volume - "$sources/sample/passphrase")" "/usr/local/lib/$library"
+    same "$processor, a program that names a folder" "$(taken "$processor" ./by_folder volume - \
+        "$sources/sample/passphrase")" "$work/own/lib/$library"
+    same "$processor, a program that names a folder: the text" "$(sha256sum <out)" \
+        "$(sha256sum <"$sources/sample/plain.txt")"
+    same "$processor, a program and the cache" "$(taken "$processor" -L "$work/system" ./by_cache volume - \
+        "$sources/sample/passphrase")" "/usr/local/lib/$library"
     same "$processor, a program and the cache: the text" "$(sha256sum <out)" "$(sha256sum <"$sources/sample/plain.txt")"
     same "$processor, a program and LD_LIBRARY_PATH" \
-        "$(taken "$processor" -E LD_LIBRARY_PATH="$work/own/lib" ./by_cache volume - "$sources/sample/passphrase")" "$work/own/lib/$library"
-    same "$processor, the plugin below a PREFIX" "$(taken "$processor" "$nbdkit" own/lib/nbdkit/plugins/nbdkit-luksrd-plugin.so --dump-plugin | xargs realpath -s)" \
+        "$(taken "$processor" -E LD_LIBRARY_PATH="$work/own/lib" ./by_cache volume - "$sources/sample/passphrase")" \
+        "$work/own/lib/$library"
+    same "$processor, the plugin below a PREFIX" "$(taken "$processor" "$nbdkit" \
+        own/lib/nbdkit/plugins/nbdkit-luksrd-plugin.so --dump-plugin | xargs realpath -s)" \
         "$work/own/lib/$library"
     same "$processor, the plugin below a PREFIX: what it reports" "$(grep -c '^luksrd_library_version=' out)" 1
-    same "$processor, the plugin and the cache" "$(taken "$processor" -L "$work/system" "$nbdkit" "$work/system/plugins/nbdkit-luksrd-plugin.so" --dump-plugin)" "/usr/local/lib/$library"
+    same "$processor, the plugin and the cache" "$(taken "$processor" -L "$work/system" "$nbdkit" \
+        "$work/system/plugins/nbdkit-luksrd-plugin.so" --dump-plugin)" "/usr/local/lib/$library"
     same "$processor, the plugin and the cache: what it reports" "$(grep -c '^luksrd_library_version=' out)" 1
 done
-# past the loader, an older processor does not know the instructions of the library for x86-64-v3: the program ends by signal 4
+# past the loader, an older processor does not know the instructions of the library for x86-64-v3: the program ends by
+# signal 4
 mkdir alone
 cp "$shared_v3" alone/libluksrd.so.1
 for end in Haswell:0 Westmere:132; do
     same "${end%:*}, the library for x86-64-v3 alone" \
-        "$(ulimit -c 0; on "${end%:*}" -E LD_LIBRARY_PATH="$work/alone" ./by_cache volume - "$sources/sample/passphrase" >out 2>err; echo $?)" "${end#*:}"
+        "$(ulimit -c 0; on "${end%:*}" -E LD_LIBRARY_PATH="$work/alone" ./by_cache volume - \
+        "$sources/sample/passphrase" >out 2>err; echo $?)" "${end#*:}"
 done
-same 'the plugin that is built' "$(taken Haswell "$nbdkit" "$plugin" --dump-plugin)" "$(dirname "$plugin")/glibc-hwcaps/x86-64-v3/libluksrd.so.1"
+same 'the plugin that is built' "$(taken Haswell "$nbdkit" "$plugin" --dump-plugin)" \
+    "$(dirname "$plugin")/glibc-hwcaps/x86-64-v3/libluksrd.so.1"
 
-# Builds, with a kit that writes what it should build. The file `orders` says how it ends: with which status, or not before the file `go` is there.
+# Builds, with a kit that writes what it should build. The file `orders` says how it ends: with which status, or not
+# before the file `go` is there.
 mkdir tools tree
 cat >tools/rt <<TEXT
 #!/bin/sh
@@ -208,7 +231,8 @@ same 'a build for x86-64-v2' "$(builds)" '0 x86-64-v2 note of x86-64-v2 x86-64-v
 same 'a second build for x86-64-v3' "$(builds CPU=x86-64-v3)" '0 x86-64-v2 note of x86-64-v2 x86-64-v3 '
 same 'a second build for x86-64-v2' "$(builds)" '0 x86-64-v2 note of x86-64-v2 x86-64-v3 '
 same 'both at once' "$(builds -j 2 $base $fast)" '0 x86-64-v2 note of x86-64-v2 x86-64-v3 '
-same 'the archives, both at once' "$(builds -j 2 crates/luks_c/out/libluks_c.a out/x86-64-v3/libluks_c.a)" '0 x86-64-v2 note of x86-64-v2 x86-64-v3 '
+same 'the archives, both at once' "$(builds -j 2 crates/luks_c/out/libluks_c.a out/x86-64-v3/libluks_c.a)" \
+    '0 x86-64-v2 note of x86-64-v2 x86-64-v3 '
 same 'which archives' "$(cd tree && cat crates/luks_c/out/libluks_c.a out/x86-64-v3/libluks_c.a)" 'x86-64-v2
 x86-64-v3'
 same 'the tools' "$(builds tools; builds tools CPU=x86-64-v3)" '0 x86-64-v2 note of x86-64-v2 x86-64-v3 
@@ -231,10 +255,12 @@ for signal in TERM KILL; do
     kill -$signal $build
     ended $build 2>err
     : >go
-    [ $signal = KILL ] || same 'a build that is ended' "$(cat tree/$base tree/$base.stamp; find tree -name aside)" 'x86-64-v2
+    [ $signal = KILL ] || same 'a build that is ended' "$(cat tree/$base tree/$base.stamp; find tree -name aside)" \
+        'x86-64-v2
 note of x86-64-v2'
 done
-same 'an installation after a build that is cut off' "$(make -s -C tree install DESTDIR="$work/nothing" 2>&1 | sed '/^make.*\*\*\*/d'; ls nothing 2>/dev/null)" \
+same 'an installation after a build that is cut off' "$(make -s -C tree install DESTDIR="$work/nothing" 2>&1 |
+    sed '/^make.*\*\*\*/d'; ls nothing 2>/dev/null)" \
     'a build for another processor was cut off: run make first'
 echo 0 >orders
 same 'the build after that for x86-64-v3' "$(builds CPU=x86-64-v3)" '0 x86-64-v2 note of x86-64-v2 x86-64-v3 '

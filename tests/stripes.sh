@@ -1,5 +1,6 @@
 #!/usr/bin/env bash
-# Runs the built program's stripe commands on files and on pipes, as a user would, and compares output, message and status.
+# Runs the built program's stripe commands on files and on pipes, as a user would, and compares output, message and
+# status.
 # shellcheck source=tests/common.sh
 . "$(dirname "$0")/common.sh"
 
@@ -81,7 +82,8 @@ cp rest out
 expect 'the rest of the pipe' 0 7468652072657374 ''
 
 # arguments
-for line in '' 'afSplit' 'luksrd' '--help' '-h' 'help' '--version' 'afMerge --hash sha256 --stripes 4001 --key-bytes 32 stripes' \
+for line in '' 'afSplit' 'luksrd' '--help' '-h' 'help' '--version' \
+    'afMerge --hash sha256 --stripes 4001 --key-bytes 32 stripes' \
     'afMerge --hash sha3 --stripes 1 --key-bytes 32 stripes' 'afSplit --hash sha256 --stripes 2 --random - -' \
     'luksCat --key-file - -' 'afMerge --hash sha256 --stripes +1 --key-bytes 32 stripes'; do
     # shellcheck disable=SC2086
@@ -113,7 +115,9 @@ scarce "$numbers" afMerge --hash sha256 --stripes 1 --key-bytes 32 stripes
 
 # the program ends if its reader closes the pipe
 head -c 512 /dev/zero >key512
-timeout "$patience" bash -c '"$0" afSplit --hash sha512 --stripes 4000 --random /dev/zero key512 2>err; echo $? >status' "$program" | head -c 10 >out
+timeout "$patience" bash -c '
+    "$0" afSplit --hash sha512 --stripes 4000 --random /dev/zero key512 2>err; echo $? >status' "$program" |
+    head -c 10 >out
 expect 'a reader that goes away' 6 00000000000000000000 'luksrd: write failed'
 
 finish

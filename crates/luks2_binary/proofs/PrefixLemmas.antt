@@ -115,7 +115,7 @@ loaded_by old new end (Err fault) loads already memory ended = record {
   only = loads.only;
 }
 
--- the source gave some of the bytes that it knew, and all of them if its end was hit
+-- the source gave some of the bytes that it knew, and all of them if EOF was hit
 gave_by : (end : ℕ) (old new known : List ℕ) (left' : Option (List ℕ)) (answer : Result Bool HeaderFault)
     → Loads end old new answer → ConsumesUpTo (end - length old) old new known left' answer
     → (count : ℕ) × ConsumedOnto old new known left' count × (loading_hits_end answer ≡ true → length known ≤ count)
@@ -146,7 +146,7 @@ same_fault : (answer : Result Bool HeaderFault) → is_read_fault (without_value
 same_fault (Ok whole) = refl
 same_fault (Err fault) = refl
 
--- a call loaded further bytes of an image whose end was not hit
+-- a call loaded further bytes of an image on which EOF was not hit
 pub loads_by : (old new : HeaderAreaModel) (end : ℕ) (answer : Result Bool HeaderFault) (left left' : Option (List ℕ))
     (counts counts' : ReadCounts) → old.ended ≡ false → Loads end old.bytes new.bytes answer
     → IfKnown left (λ known. ConsumesUpTo (end - length old.bytes) old.bytes new.bytes known left' answer)
@@ -186,7 +186,7 @@ reads_join failed' false true true n n1 n2 s s1 first rests then = record {
 reads_join failed' false true false n n1 n2 s s1 first rests then = absurd (let wrong = s1 refl in cc)
 reads_join failed' false false e2 n n1 n2 s s1 first rests then = reads_more failed' e2 n n1 n2 first then
 
--- if the end was not hit after a call, it was not hit before it
+-- if EOF was not hit after a call, it was not hit before it
 not_ended : (ended ended' : Bool) → (ended ≡ true → ended' ≡ true) → ended' ≡ false → ended ≡ false
 not_ended true ended' stays unended = absurd (let wrong = stays refl in cc)
 not_ended false ended' stays unended = refl
@@ -283,14 +283,14 @@ prefix_of_itself loaded ended = record {
 
 -- ---- the answer of the search
 
--- if the image's end was hit, no bytes remain in its source
+-- if EOF was hit on the image, no bytes remain in its source
 pub nothing_behind : (image : List ℕ) (area : HeaderAreaModel) (left : Option (List ℕ))
     → LoadedPrefixOf image area left → area.ended ≡ true → left ≡ Some []
 nothing_behind image area left holds is =
     holds.behind ∙ ap Some (drop_all (length area.bytes) image (omega (arith, ap length (holds.prefix.ends is))))
 
 module _ (image : List ℕ) (old new : HeaderAreaModel) (prefix : IsPrefixOf new.bytes new.ended image) where
-  -- the image's end was hit exactly if the image has fewer bytes than are to be read
+  -- EOF was hit on the image exactly if the image has fewer bytes than are to be read
   pub hits_end : (end : ℕ) → LoadedFor end (Ok tt) old new → old.ended ≡ false → new.ended ≡ nat_lt (length image) end
   hits_end end loaded unended = by new.ended refl where
     by : (b : Bool) → new.ended ≡ b → new.ended ≡ nat_lt (length image) end

@@ -10,7 +10,7 @@ use Rattle.luks2_binary.specs.declared.header.Header2.{Header2}
 use Rattle.luks2_binary.specs.Choice2.{header2_of, is_valid, size_at}
 use Rattle.luks2_binary.specs.ReadLen2.{header2_read_len, probe2_len}
 
--- the loaded bytes are the start of the image, and all of it if its end was hit
+-- the loaded bytes are the start of the image, and all of it if EOF was hit
 pub record IsPrefixOf (loaded : List ℕ) (ended : Bool) (image : List ℕ) : Type 0 where
   pub begins : take (length loaded) image ≡ loaded
   pub within : length loaded ≤ length image
@@ -34,14 +34,14 @@ abbrev pub without_value : {T : Type 0} → Result T HeaderFault → Result (Uni
 without_value (Ok _) = Ok tt
 without_value (Err fault) = Err fault
 
--- an image was loaded as far as it is to be read: no further (`within`), and no less (`complete`) unless its end was
--- hit before (`end_hit`)
+-- an image was loaded as far as it is to be read: no further (`within`), and no less (`complete`) unless EOF was hit
+-- before (`end_hit`)
 pub record LoadedWhole (end : ℕ) (old new : HeaderAreaModel) : Type 0 where
   pub within : length new.bytes ≤ max (length old.bytes) end
   pub complete : new.ended ≡ false → end ≤ length new.bytes
   pub end_hit : old.ended ≡ false → new.ended ≡ true → length new.bytes < end
 
--- a read failed or memory ran out (`only`) before that: the image's end was not hit (`before_end`), and memory ran out
+-- a read failed or memory ran out (`only`) before that: EOF was not hit on the image (`before_end`), and memory ran out
 -- only while more was to be read (`stopped_below`)
 pub record LoadedInPart (end : ℕ) (fault : HeaderFault) (old new : HeaderAreaModel) : Type 0 where
   pub within : length new.bytes ≤ max (length old.bytes) end
@@ -55,7 +55,7 @@ LoadedFor end (Ok _) old new = LoadedWhole end old new
 LoadedFor end (Err fault) old new = LoadedInPart end fault old new
 
 -- further bytes of an image may have been loaded, also before a read that failed; the source counts its reads. After
--- the image's end was hit, nothing more is loaded, and the source is not read again. `probe` is how far an image is to
+-- EOF was hit on the image, nothing more is loaded, and the source is not read again. `probe` is how far an image is to
 -- be read
 pub record LoadsMore (probe : List ℕ → ℕ) (answer : Result (Unit {0}) HeaderFault) (failed' : Bool)
     (old new : HeaderAreaModel) (left left' : Option (List ℕ)) (counts counts' : ReadCounts) : Type 0 where

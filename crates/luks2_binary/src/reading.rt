@@ -14,8 +14,7 @@ use luks_area::area::HeaderArea;
 use luks_area::fault::HeaderFault;
 use luks_io::source::Source;
 
-// Loads `end` bytes of the image in all, if it has them. The source is not read again after the
-// image's end was hit.
+// Loads `end` bytes of the image in all, if it has them. The source is not read again after EOF.
 fn grow<S: Source>(area: &mut HeaderArea, source: &mut S, end: usize) -> Result<(), HeaderFault>
     requires { end ≤ max_loaded_len }
     ensures loads { LoadsMore (λ _. end) (without_value result) (is_read_fault result)
@@ -90,15 +89,13 @@ fn choose<S: Source>(area: &mut HeaderArea, source: &mut S) -> Result<Option<Hea
 /// Finds the LUKS2 header of an image whose first bytes are loaded, and loads as much of the image
 /// as that requires (LUKS2 On-Disk Format Specification 1.1, section 2).
 ///
-/// The image is one that does not start as LUKS1. The source is not touched if the image's end was
-/// hit before.
+/// The image is one that does not start as LUKS1. The source is not touched if EOF was hit before.
 ///
 /// # Errors
 ///
 /// [`HeaderFault::NotLuks`] for an image without a valid header. After [`HeaderFault::Read`] and
 /// [`HeaderFault::Memory`] the area has the bytes that were consumed before, and no more than are
-/// read for the header; after `Memory` it has fewer than were to be read, and the image's end was
-/// not hit.
+/// read for the header; after `Memory` it has fewer than were to be read, and EOF was not hit.
 pub fn read_header2<S: Source>(
     area: &mut HeaderArea,
     source: &mut S,

@@ -9,7 +9,7 @@ use Rattle.luks_area.specs.declared.fault.HeaderFault.TheVariants.{Read, Memory}
 abbrev pub max_loaded_len : ℕ
 max_loaded_len = 33554432
 
--- the start of an image: the loaded bytes, and whether the image's end was hit after them
+-- the start of an image: the loaded bytes, and whether EOF was hit after them
 pub record HeaderAreaModel : Type 0 where
   pub bytes : List ℕ
   pub ended : Bool

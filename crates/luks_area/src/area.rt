@@ -14,8 +14,8 @@ use std::marker::Model;
 
 /// The first bytes of an image, at most [`HeaderArea::MAX_LEN`] of them.
 ///
-/// An area keeps the allocator that it was made with. A clause sees the bytes, and whether the
-/// image's end was hit after them.
+/// An area keeps the allocator that it was made with. A clause sees the bytes, and whether EOF was
+/// hit after them.
 #[derive(Drop)]
 pub struct HeaderArea {
     bytes: Vec<u8>,
@@ -55,7 +55,7 @@ impl HeaderArea {
         self.bytes.as_slice()
     }
 
-    /// Whether the image's end was hit after the bytes.
+    /// Whether EOF was hit after the bytes.
     pub fn has_ended(&self) -> bool
         ensures { result ≡ self.now.ended }
     {

@@ -263,7 +263,7 @@ pub calls_of_is_luks : (message : Message) {ended : Bool} {image image' secret :
 calls_of_is_luks WriteFailed only reads = absurd only
 calls_of_is_luks message only reads = calls_of_image message reads (no_writes _)
 
--- the start of the image was read before; if that hit the image's end, the image was not read again
+-- the start of the image was read before; if that hit EOF on the image, the image was not read again
 pub reads_before : {failed ended : Bool} {image image' image'' secret secret' : ReadCounts}
     → Reads false ended image image' → (ended ≡ true → image'' ≡ image')
     → CountsReads ReadsOnce failed image' image'' secret secret'

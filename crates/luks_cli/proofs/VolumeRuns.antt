@@ -116,7 +116,7 @@ module _ (on_opened : OnOpened) (named : Option ℕ) (v : Volume) (image secret 
 
 -- ---- how many evaluations of HMAC a run needs
 
--- if the key file was not read, its end was not hit, and no key slot was tried
+-- if the key file was not read, EOF was not hit, and no key slot was tried
 pub end_not_hit : (secret : List ℕ) (left : Option (List ℕ)) (message : Message) → NoKeyFileRead secret left message
     → (hits_key_file_eof message ≡ false) × (ends_untried message ≡ true)
 end_not_hit secret left KeyFileLength stop = (refl, refl)

@@ -149,7 +149,7 @@ UnlockEffect named segment order pass area area' rest left secret' result =
 abbrev pub ConsumedAtLeast : List ℕ → Option (List ℕ) → ℕ → Type 0
 ConsumedAtLeast known left least = (count : ℕ) × (least ≤ count) × ConsumedExactly known left count
 
--- the key slots of the image's volume were tried: the end of the key file was hit, and all bytes of the image were
+-- the key slots of the image's volume were tried: EOF was hit on the key file, and all bytes of the image were
 -- consumed that opening the volume needs
 pub record TriesVolume (location : HeaderLocation) (slots : SlotChoice) (image : List ℕ) (image' : Option (List ℕ))
     (secret secret' : ReadCounts) (volume : Volume) : Type 0 where
@@ -164,7 +164,7 @@ CountsTried location slots image passphrase image' secret secret' work work' =
     (volume : Volume) × TriesVolume location slots image image' secret secret' volume
     × (work' ≡ capped (work + work_of volume.order image passphrase))
 
--- no key slot was tried: the end of the key file was not hit, or not all bytes were consumed that opening the image's
+-- no key slot was tried: EOF was not hit on the key file, or not all bytes were consumed that opening the image's
 -- volume needs. The image has no volume, or the message may come before a key slot is tried
 pub record EndsUntried (location : HeaderLocation) (slots : SlotChoice) (image : List ℕ) (message : Message)
     (image' : Option (List ℕ)) (secret secret' : ReadCounts) : Type 0 where

@@ -38,8 +38,8 @@ mod volumes;
 /// for that.)
 ///
 /// No device is called needlessly: no read goes into a buffer without capacity or follows one that
-/// failed or hit the end, and no write is empty or follows one that failed. The end of each input
-/// is hit at most once. No command but `luksCat` allows read-ahead: every other command consumes
+/// failed or hit EOF, and no write is empty or follows one that failed. EOF is hit at most once on
+/// each input. No command but `luksCat` allows read-ahead: every other command consumes
 /// just what it requests, also from a pipe. A run of `luksCat` that ends before it has found a key
 /// allows none. (After a failed read, both inputs must know their bytes for that.) If both inputs
 /// know their bytes, `luksCat` allows it up to the payload's end, and at no moment further.
@@ -47,7 +47,7 @@ mod volumes;
 /// allowed.
 ///
 /// The report's work is what trying the key slots costs if they were tried, whatever happened
-/// afterwards, and 0 if they were not: then the end of the key file was not hit, or not all key
+/// afterwards, and 0 if they were not: then EOF was not hit on the key file, or not all key
 /// material was read. (The image and the key file must know their bytes for that.)
 ///
 /// `luksCat` writes the plaintext of an honestly sealed volume if the passphrase has at most

@@ -198,7 +198,7 @@ module _ (area : HeaderAreaModel) (image : List ℕ) (left : Option (List ℕ))
   loaded_len : length area.bytes ≡ min 592 (length image)
   loaded_len = ap length consumption.1 ∙ length-take-le (min 592 (length image)) image (omega arith)
 
-  -- an image of fewer than 592 bytes was loaded whole, and its end was hit: it has no header if its bytes have none
+  -- an image of fewer than 592 bytes was loaded whole, and EOF was hit: it has no header if its bytes have none
   pub short_read : (fault : HeaderFault) (whole : Bool) (ends ends' : ℕ)
       → (IsTrue whole ↔ (592 ≤ length area.bytes)) → whole ≡ false
       → (length area.bytes < 592 → header_of area.bytes ≡ Err fault) → ends' ≡ counted (not whole) ends
@@ -218,7 +218,7 @@ module _ (area : HeaderAreaModel) (image : List ℕ) (left : Option (List ℕ))
         ),
       )
 
-  -- the first bytes of an image were loaded, and its end was not hit
+  -- the first bytes of an image were loaded, and EOF was not hit
   pub first_loaded : area.ended ≡ false → LoadedPrefixOf image area left
   first_loaded unended = record {
     prefix = record {
@@ -263,7 +263,7 @@ whole_read image area left header holds read =
       subst (ConsumedExactly image left) read.1 consumed,
     )
 
--- no header was read with the bytes after the first ones, which did not hit the image's end
+-- no header was read with the bytes after the first ones, which did not hit EOF on the image
 pub rest_reading_aborted : (image : List ℕ) (left : Option (List ℕ)) (whole : Bool) (ends before ends' : ℕ)
     (fault : HeaderFault) → whole ≡ true → before ≡ counted (not whole) ends
     → ReadsNoHeader image left before ends' fault → ReadsNoHeader image left ends ends' fault
@@ -286,7 +286,7 @@ module _ (image : List ℕ) (other : is_luks1 image ≡ false) where
 
 module _ (image : List ℕ) (old new : HeaderAreaModel) (other : is_luks1 image ≡ false) (unended : old.ended ≡ false)
     (prefix : IsPrefixOf new.bytes new.ended image) where
-  -- the image's end was hit if the image falls short
+  -- EOF was hit on the image if the image falls short
   ended_short : LoadedFor (probe2_len image) (Ok tt) old new → new.ended ≡ falls_short image
   ended_short loaded =
       hits_end image old new prefix (probe2_len image) loaded unended

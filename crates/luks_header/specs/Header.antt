@@ -61,12 +61,12 @@ probe_len image = if is_luks1 image then header1_len else probe2_len image
 abbrev pub falls_short : List ℕ → Bool
 falls_short image = nat_lt (length image) (probe_len image)
 
--- the bytes that are read for the header were consumed, and the image's end was hit if the image falls short
+-- the bytes that are read for the header were consumed, and EOF was hit on the image if the image falls short
 abbrev pub ConsumedHeaderLen : List ℕ → Option (List ℕ) → ℕ → ℕ → Type 0
 ConsumedHeaderLen image left ends ends' = ConsumedExactly image left (header_read_len image)
     × (ends' ≡ counted (falls_short image) ends)
 
--- some of the image's bytes were consumed, none if it is LUKS1, and its end was not hit: the search was not finished
+-- some of the image's bytes were consumed, none if it is LUKS1, and EOF was not hit: the search was not finished
 abbrev pub ConsumedBeforeProbe : List ℕ → Option (List ℕ) → ℕ → ℕ → Type 0
 ConsumedBeforeProbe image left ends ends' = ConsumedFewer image left (probe_len image) × (ends' ≡ ends)
     × (is_luks1 image ≡ true → ConsumedExactly image left 0)
@@ -83,7 +83,7 @@ ReadsNoHeader image left ends ends' Memory =
     ConsumedBeforeProbe image left ends ends' ⊎ (HasHeader2 image × ConsumedHeaderLen image left ends ends')
 ReadsNoHeader image left ends ends' fault = (header_of image ≡ Err fault) × ConsumedHeaderLen image left ends ends'
 
--- the image has this header, as many of its bytes are loaded as are read for it, and its end was hit if it falls short
+-- the image has this header, as many of its bytes are loaded as are read for it, and EOF was hit if it falls short
 abbrev pub IsRead : List ℕ → HeaderAreaModel → Header → Type 0
 IsRead image area header =
     (header_of image ≡ Ok header) × (length area.bytes ≡ header_read_len image) × (area.ended ≡ falls_short image)

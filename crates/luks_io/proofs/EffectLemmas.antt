@@ -149,7 +149,7 @@ appended-all (Some old) (Some new) xs at all p known is = let whole = take_all a
 pub no_reads : (a : ReadCounts) → Reads false false a a
 no_reads a = record { failures = refl; ends = refl; needed = λ live. refl; reached = refl }
 
--- reads that neither failed nor hit the end, and further ones after them, count as one run of reads
+-- reads that neither failed nor hit EOF, and further ones after them, count as one run of reads
 pub reads_more : (failed ended : Bool) (a b c : ReadCounts) → Reads false false a b → Reads failed ended b c
     → Reads failed ended a c
 reads_more failed ended a b c first then = record {

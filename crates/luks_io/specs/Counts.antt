@@ -7,7 +7,7 @@ use Rattle.luks_io.specs.declared.counts.ReadCounts.{ReadCounts}
 use Rattle.luks_io.specs.declared.counts.WriteCounts.{WriteCounts}
 use Rattle.luks_io.specs.declared.source.ReadFault.{ReadFault}
 
--- no caller needs this read: the buffer has no capacity, or a read before it failed or hit the end
+-- no caller needs this read: the buffer has no capacity, or a read before it failed or hit EOF
 abbrev pub is_needless_read : ReadCounts → ℕ → Bool
 is_needless_read counts capacity = capacity == 0 || (nat_lt 0 counts.failures || nat_lt 0 counts.ends)
 
@@ -59,7 +59,7 @@ after_forward None count counts = counts
 abbrev pub ahead_of : ReadCounts → ℕ
 ahead_of counts = counts.reached - counts.consumed
 
--- no read has failed or hit the end so far
+-- no read has failed or hit EOF so far
 pub record IsLive (counts : ReadCounts) : Type 0 where
   pub failed : counts.failures ≡ 0
   pub ended : counts.ends ≡ 0
@@ -83,7 +83,7 @@ after_write answer len counts = record {
 abbrev pub WritesAsNeeded : WriteCounts → WriteCounts → Type 0
 WritesAsNeeded before after = before.failures ≡ 0 → after.needless ≡ before.needless
 
--- what the reads of a part of a run add to the counts of a source: a failure if one failed, an end if one hit the end,
+-- what the reads of a part of a run add to the counts of a source: a failure if one failed, an end if one hit EOF,
 -- and nothing needless. No read-ahead is allowed
 pub record Reads (failed ended : Bool) (before after : ReadCounts) : Type 0 where
   pub failures : after.failures ≡ counted failed before.failures
@@ -101,7 +101,7 @@ abbrev pub got_in : Result ℕ ReadFault → ℕ
 got_in (Ok count) = count
 got_in (Err fault) = fault.got
 
--- the remaining bytes of a reader, by how often it has hit its end: none after the first time
+-- the remaining bytes of a reader, by how often it has hit EOF: none after the first time
 abbrev pub left_of : ℕ → Option (List ℕ) → Option (List ℕ)
 left_of zero remaining = remaining
 left_of (suc _) remaining = Some []

@@ -53,12 +53,12 @@ abbrev pub counted : Bool → ℕ → ℕ
 counted true count = saturating_inc count
 counted false count = count
 
--- a read hit the end: it gave no bytes to a buffer of `capacity` bytes, and `capacity` is not 0
+-- a read hit EOF: it gave no bytes to a buffer of `capacity` bytes, and `capacity` is not 0
 abbrev pub is_end : {E : Type 0} → Result ℕ E → ℕ → Bool
 is_end (Ok count) capacity = count == 0 && nat_lt 0 capacity
 is_end (Err _) capacity = false
 
--- fewer bytes were read than were requested, and no read failed: the end was hit
+-- fewer bytes were read than were requested, and no read failed: EOF was hit
 abbrev pub is_short_read : {E : Type 0} → Result ℕ E → ℕ → Bool
 is_short_read (Ok count) requested = nat_lt count requested
 is_short_read (Err _) requested = false

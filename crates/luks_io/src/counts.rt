@@ -13,10 +13,10 @@ use crate::DeviceFault;
 pub struct ReadCounts {
     /// Reads that failed.
     pub failures: u64,
-    /// Reads that hit the end: they gave nothing to a buffer with capacity.
+    /// Reads that hit EOF: they gave nothing to a buffer with capacity.
     pub ends: u64,
     /// Reads that no caller needs: into a buffer without capacity, or after a read that failed or
-    /// hit the end.
+    /// hit EOF.
     pub needless: u64,
     /// How many bytes were consumed: the position in the source.
     pub consumed: u64,
@@ -135,7 +135,7 @@ fn count_if(count: &mut u64, is: bool)
     }
 }
 
-/// Whether a read into a buffer of `capacity` bytes hit the end.
+/// Whether a read into a buffer of `capacity` bytes hit EOF.
 fn hits_end(answer: &Result<usize, DeviceFault>, capacity: usize) -> bool
     ensures { result ≡ is_end answer.now capacity }
 {

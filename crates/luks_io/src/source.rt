@@ -18,7 +18,7 @@ pub trait Source {
     /// The remaining bytes, if the source knows them.
     ghost to_come: { Self → Option (List ℕ) };
 
-    /// How many reads have failed, how many have hit the end, and how many were needless; how many
+    /// How many reads have failed, how many have hit EOF, and how many were needless; how many
     /// bytes were consumed, and the greatest position up to which read-ahead was allowed.
     ghost counts: { Self → ReadCounts };
 
@@ -66,7 +66,7 @@ pub struct ReadFault {
 }
 
 /// Fills the buffer with the next bytes of the source, and returns how many there were: fewer than
-/// the buffer's length only if the source has ended. One read, the last, hits that end.
+/// the buffer's length only if the source has ended. One read, the last, hits EOF.
 ///
 /// # Errors
 ///

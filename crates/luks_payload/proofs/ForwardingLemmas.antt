@@ -15,12 +15,12 @@ use Rattle.luks_payload.specs.Plain.{unit_plain}
 use Rattle.luks_payload.specs.declared.fault.VolumeFault.TheVariants.{Write}
 use borrow.Rule.Slice.PartMut.{put_mid}
 
--- if all requested bytes were read, no end was hit
+-- if all requested bytes were read, EOF was not hit
 pub whole_reads : (got requested : ℕ) (a b : ReadCounts) → requested ≤ got → Reads false (nat_lt got requested) a b
     → Reads false false a b
 whole_reads got requested a b all reads = rw (le-ltb got requested all) at reads
 
--- if fewer bytes were read, the end was hit
+-- if fewer bytes were read, EOF was hit
 pub short_reads : (got requested : ℕ) (a b : ReadCounts) → got < requested → Reads false (nat_lt got requested) a b
     → Reads false true a b
 short_reads got requested a b few reads = rw (lt-ltb got requested few) at reads

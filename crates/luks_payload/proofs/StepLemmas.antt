@@ -137,7 +137,7 @@ module _ (s : Segment) (image : List ℕ) (count : ℕ) where
           consumption = rw (ends.2, same) positioned.consumption;
         }
 
--- the image ends in a sector: a step may give this answer, and hit the end if it gives it
+-- the image ends in a sector: a step may give this answer, and hit EOF if it gives it
 module _ (s : Segment) (count more : ℕ) (answer : Result Step VolumeFault) (below : count < max_sectors s)
     (is : answer ≡ ending_of_len s.size (sector_len s) (count * sector_len s + more)) where
   pub may_be_torn : more < sector_len s → MayAnswer InPayload s count answer

@@ -23,7 +23,7 @@ abbrev pub is_pump_write_failure : {T : Type 0} → Result T VolumeFault → Boo
 is_pump_write_failure (Err Write) = true
 is_pump_write_failure _ = false
 
--- whether such a call hit the end of the image before the payload
+-- whether such a call hit EOF on the image before the payload
 abbrev pub is_cut_before_payload : {T : Type 0} → Result T VolumeFault → Bool
 is_cut_before_payload (Err CutBeforePayload) = true
 is_cut_before_payload _ = false
@@ -190,7 +190,7 @@ MayAnswer state s count (Err Read) = Unit {0}
 MayAnswer state s count (Err Write) = Unit {0}
 MayAnswer state s count ending = EndsAt s count ending
 
--- whether a step after `count` sectors hit the end of its source; it did not if a limit ended the payload
+-- whether a step after `count` sectors hit EOF; it did not if a limit ended the payload
 abbrev pub hits_eof_at : Segment → ℕ → Result Step VolumeFault → Bool
 hits_eof_at s count (Ok End) = nat_lt count (max_sectors s)
 hits_eof_at s count (Err CutBeforePayload) = true

@@ -18,7 +18,7 @@ pub struct FlakySource<'a> {
     piece: usize,
     failing: u64,
     calls: u64,
-    /// How many calls failed, hit the end, and were needless; how many bytes were consumed, and up
+    /// How many calls failed, hit EOF, and were needless; how many bytes were consumed, and up
     /// to which position read-ahead was allowed.
     pub counts: ReadCounts,
 }
@@ -159,7 +159,7 @@ impl Sink for FlakySink {
 pub struct BrokenSource<'a> {
     left: &'a [u8],
     given: usize,
-    /// How many calls failed, hit the end, and were needless; how many bytes were consumed, and up
+    /// How many calls failed, hit EOF, and were needless; how many bytes were consumed, and up
     /// to which position read-ahead was allowed.
     pub counts: ReadCounts,
 }

@@ -56,7 +56,7 @@ none_after_end area [] left most there none =
     rw zero (record { within = omega arith; left = there }, sym (append-nil area))
 none_after_end area (b ∷ bytes) left most there none = absurd (cc)
 
--- no bytes remain of an image whose end was hit
+-- no bytes remain of an image on which EOF was hit
 pub none_remain : (area : HeaderAreaModel) (left left' : Option (List ℕ)) (counts counts' : ReadCounts)
     (known rest : List ℕ) → LoadedFrom area left left' counts counts' → left ≡ Some known → left' ≡ Some rest
     → area.ended ≡ true → rest ≡ []
@@ -65,7 +65,7 @@ none_remain area left left' counts counts' known rest loaded knows there ended =
 
 -- ---- counts of reads
 
--- if the first reads hit the end and the others changed no count, all of them together hit the end
+-- if the first reads hit EOF and the others changed no count, all of them together hit EOF
 reads_after_end : (failed ended : Bool) (a b c : ReadCounts) → Reads false true a b → c ≡ b → Reads failed ended b c
     → Reads failed true a c
 reads_after_end failed ended a b c first kept next = record {
@@ -81,7 +81,7 @@ pub reads_on : (failed ended ended' : Bool) (a b c : ReadCounts) → Reads false
 reads_on failed true ended' a b c first kept next = (true, reads_after_end failed ended' a b c first (kept refl) next)
 reads_on failed false ended' a b c first kept next = (ended', reads_more failed ended' a b c first next)
 
--- if the further reads did not hit the end, the run hit it if and only if the first reads did
+-- if the further reads did not hit EOF, the run hit it if and only if the first reads did
 pub reads_within : (failed ended : Bool) (a b c : ReadCounts) → Reads false ended a b → (ended ≡ true → c ≡ b)
     → Reads failed false b c → Reads failed ended a c
 reads_within failed true a b c first kept next = reads_after_end failed false a b c first (kept refl) next

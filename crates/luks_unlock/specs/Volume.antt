@@ -219,7 +219,7 @@ CountsTrials order area pass message work work' =
     ((key_material_end order.entries ≤ length area) × (work' ≡ capped (work + work_of order area pass)))
     ⊎ ((length area < key_material_end order.entries) × (ends_untried message ≡ true) × (work' ≡ work))
 
--- trying the key slots hit the image's end only if the message is that the image ended
+-- trying the key slots hit EOF on the image only if the message is that the image ended
 abbrev pub HitsMaterialEof : Message → Bool → Type 0
 HitsMaterialEof Cut ended = Unit {0}
 HitsMaterialEof _ ended = ended ≡ false

@@ -19,7 +19,7 @@ use luks_report::message::Message;
 use luks_request::command::SlotChoice;
 
 /// Tries the key slots of a volume under a passphrase, after reading on in the image up to the end
-/// of the last key material. Nothing is read if the end of the image was hit before. If all key
+/// of the last key material. Nothing is read if EOF was hit on the image before. If all key
 /// material was loaded, the slots were tried, and the count of work is raised by what that costs,
 /// once; otherwise the count stays. `image` is the image with an attached header, or the file of a
 /// detached one.
@@ -66,7 +66,7 @@ pub fn try_slots<I: Source>(
     }
 }
 
-/// Whether the end of the image was hit before `end` bytes of it were loaded.
+/// Whether EOF was hit on the image before `end` bytes of it were loaded.
 fn is_cut(area: &HeaderArea, end: usize) -> bool
     ensures cut { result ≡ true
         → (area.now.ended ≡ true) × (length area.now.bytes < end) }

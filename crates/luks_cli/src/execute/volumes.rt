@@ -231,7 +231,7 @@ pub(super) fn cat<I: Source, K: Source, O: Sink>(
     let unlocked = unlock(alloc, HeaderLocation::Attached, slots, image, secret, work)?;
     let loaded = unlocked.area.as_slice();
     if unlocked.area.has_ended() {
-        // The image's end was hit: all of it is loaded, and it is not read again.
+        // EOF was hit on the image: all of it is loaded, and it is not read again.
         return write_plain(&unlocked.volume, loaded, &mut MemSource::new(&[]), out);
     }
     write_plain(&unlocked.volume, loaded, image, out)

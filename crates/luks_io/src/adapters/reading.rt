@@ -96,7 +96,7 @@ impl<D: RawReader> Source for ReadSource<D> {
     ghost counts = { λ s. s.counts };
 
     /// Reads the next bytes: the first answer of the reader that is not an interruption is
-    /// returned, and counted as one read. A reader that has hit its end is not called.
+    /// returned, and counted as one read. A reader that has hit EOF is not called.
     fn read(&mut self, buf: &mut [u8]) -> Result<usize, DeviceFault>
         ensures bound { ReadsAtMost result buf.new }
         ensures bytes { ReadConsumes (⟦<ReadSource<D> as Source>⟧.to_come self.old)

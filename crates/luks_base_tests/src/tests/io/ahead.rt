@@ -142,7 +142,7 @@ fn requests_what_is_allowed_at_once(rt: HostRuntime) {
     }
 }
 
-// Checks that all bytes come in pieces of this size, and how often the end is hit.
+// Checks that all bytes come in pieces of this size, and how often EOF is hit.
 fn check_bytes(
     rt: &(impl Abort + AllocGlobal),
     allowed: u64,

@@ -108,7 +108,7 @@ fn run<'a>(
     }
 }
 
-// No read of the source was needless: none was empty or came after the end was hit, and none came
+// No read of the source was needless: none was empty or came after EOF was hit, and none came
 // after the failed read.
 fn reads_as_needed(way: Way, source: &FlakySource<'_>) -> bool {
     let last = source.counts.failures == 0 || source.calls() == way.call.saturating_add(1);
@@ -228,7 +228,7 @@ pub(super) fn check_pieces(
     check_whole(rt, way, trial, &run(rt, command, trial, way))
 }
 
-/// The image ends before its key areas. That is reported, and its end was hit once.
+/// The image ends before its key areas. That is reported, and EOF was hit once.
 pub(super) fn check_truncated(
     rt: &(impl Abort + AllocGlobal),
     command: &Command<'_>,

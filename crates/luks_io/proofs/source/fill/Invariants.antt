@@ -3,7 +3,7 @@ use Rattle.std.specs.Io.KnownBytes.{Consumes}
 use Rattle.luks_io.specs.Counts.{Reads}
 use Rattle.luks_io.proofs.source.fill.Given as goal
 
--- the bytes so far are at the start, no read has failed or hit the end, and none was needless
+-- the bytes so far are at the start, no read has failed or hit EOF, and none was needless
 abbrev pub invariant-loop-at : goal.invariant-loop-at
 invariant-loop-at g l = record {
   within : l.at ≤ length l.buf;

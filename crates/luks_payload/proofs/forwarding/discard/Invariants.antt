@@ -3,7 +3,7 @@ use Rattle.luks_io.specs.Devices.{ConsumedExactly, IfKnown}
 use Rattle.luks_io.specs.Counts.{Reads}
 use Rattle.luks_payload.proofs.forwarding.discard.Given as goal
 
--- the bytes so far were discarded, no read has failed or hit the end, and none was needless
+-- the bytes so far were discarded, no read has failed or hit EOF, and none was needless
 abbrev pub invariant-pieces : goal.invariant-pieces
 invariant-pieces g l = record {
   reads : Reads false false (g.S.Source.counts l.initial.source) (g.S.Source.counts l.source);

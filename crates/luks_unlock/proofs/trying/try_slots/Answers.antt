@@ -80,7 +80,7 @@ returns-in-Err-clause-run g c = rw c.of_opening.ensures (λ rest there nothing.
       ),
     ))
 
--- the image's end was hit before, and not all key areas are loaded
+-- EOF was hit on the image before, and not all key areas are loaded
 pub returns-then-is_cut-clause-run : goal.returns-then-is_cut-clause-run
 returns-then-is_cut-clause-run g c rest there nothing =
     let cut = c.is_cut.ensures.cut c.if-is_cut.true in
@@ -89,7 +89,7 @@ returns-then-is_cut-clause-run g c rest there nothing =
       inl (refl, rw c.held_end-end.ensures.value at cut.1),
     )
 
--- the image's end was hit before, and all key areas are loaded
+-- EOF was hit on the image before, and all key areas are loaded
 pub returns-in_err-extend_to-clause-ended : goal.returns-in_err-extend_to-clause-ended
 returns-in_err-extend_to-clause-ended g c ended =
     (c.extend_to.ensures.already (c.is_cut.ensures.whole c.if-is_cut.false ended)).2

@@ -41,7 +41,7 @@ returns-in_err-unlocked-clause-calls g c =
     (calls_unopened _ _ stop.only
     (reads_without_payload Attached c.args.slots _ _ _ _ _ _ _ _ stop.counts))
 
--- ---- the image's end was hit: its payload is forwarded from memory
+-- ---- EOF was hit on the image: its payload is forwarded from memory
 
 pub returns-then-has_ended-clause-run : goal.returns-then-has_ended-clause-run
 returns-then-has_ended-clause-run g c known is pass has counted =
