@@ -20,8 +20,8 @@ pub const MAX_INNER_KEYS: usize = 13;
 pub const CONSTANT: u8 = 0x63;
 
 /// The round keys for decryption: the first, those between, with round key n at index n - 1, and
-/// the last. All but the last have 0x63 XORed into each byte. They are plain numbers, of any values:
-/// only those that [`RoundKeys::expanded`] gives are the round keys of a key.
+/// the last. All but the last have 0x63 XORed into each byte. They are plain numbers, of any
+/// values: only those that [`RoundKeys::expanded`] gives are the round keys of a key.
 #[repr(C)]
 #[derive(Drop)]
 pub struct RoundKeys {

@@ -20,7 +20,8 @@ impl<const WORDS: usize> BitslicedState<WORDS> {
         requires whole { WORDS % 4 ≡ 0 }
         requires most { WORDS ≤ 16 }
         requires inside { g < WORDS / 4 }
-        ensures here { (y z : ℕ → ℕ → ℕ) → GroupHolds y g self.old → GroupsHold (λ g. z) (state_of_key key.now)
+        ensures here { (y z : ℕ → ℕ → ℕ) → GroupHolds y g self.old
+            → GroupsHold (λ g. z) (state_of_key key.now)
             → GroupHolds (λ r q. y r q ⊕ z r q) g self.new }
         ensures below { (i : ℕ) → i < g → SameGroup i self.new self.old }
         ensures above { (i : ℕ) → g + 1 ≤ i → i < WORDS / 4 → SameGroup i self.new self.old }
@@ -41,7 +42,8 @@ impl<const WORDS: usize> BitslicedState<WORDS> {
         requires whole { WORDS % 4 ≡ 0 }
         requires most { WORDS ≤ 16 }
         ensures { (y : ℕ → ℕ → ℕ → ℕ) (z : ℕ → ℕ → ℕ) → GroupsHold y self.old
-            → GroupsHold (λ g. z) (state_of_key key.now) → GroupsHold (λ g r q. y g r q ⊕ z r q) self.new }
+            → GroupsHold (λ g. z) (state_of_key key.now)
+            → GroupsHold (λ g r q. y g r q ⊕ z r q) self.new }
     {
         for g in 0..WORDS / 4 {
             self.add_key_to(key, g);
@@ -129,7 +131,8 @@ impl<const WORDS: usize> BitslicedState<WORDS> {
         requires whole { WORDS % 4 ≡ 0 }
         requires most { WORDS ≤ 16 }
         ensures { (y : ℕ → ℕ → ℕ → ℕ) (z : ℕ → ℕ → ℕ) → GroupsHold y self.old
-            → GroupsHold (λ g. z) (state_of_key key.now) → GroupsHold (λ g. mixed_and_shifted (y g) z) self.new }
+            → GroupsHold (λ g. z) (state_of_key key.now)
+            → GroupsHold (λ g. mixed_and_shifted (y g) z) self.new }
     {
         if WORDS == 8 {
             self.inv_mix_columns_of::<u64x2>(key, 0);

@@ -103,8 +103,8 @@ fn decrypt_batch(keys: &RoundKeys, before: [u8; 16], batch: &mut [u8]) -> [u8; 1
     decrypt_by(keys, before, &zeros[..len], &mut chain[..len + 16], batch)
 }
 
-/// Decrypts a data unit of whole batches in place by CBC (NIST SP 800-38A, 6.2) under the IV and the
-/// key whose round keys these are, if they are.
+/// Decrypts a data unit of whole batches in place by CBC (NIST SP 800-38A, 6.2) under the IV and
+/// the key whose round keys these are, if they are.
 pub(crate) fn decrypt_batches(keys: &RoundKeys, iv: [u8; 16], unit: &mut [u8])
     requires { length unit.old % 512 ≡ 0 }
     ensures { (key : List ℕ) → IsBatchKey key keys.now
@@ -191,12 +191,7 @@ fn decrypt_pair_by(
 
 /// Decrypts two data units of 512 bytes in place, each a chain with its own IV, under the key whose
 /// round keys these are, if they are.
-pub(crate) fn decrypt_both(
-    keys: &RoundKeys,
-    iv: [u8; 16],
-    next_iv: [u8; 16],
-    pair: &mut [u8],
-)
+pub(crate) fn decrypt_both(keys: &RoundKeys, iv: [u8; 16], next_iv: [u8; 16], pair: &mut [u8])
     requires { length pair.old ≡ 1024 }
     ensures { (key : List ℕ) → IsBatchKey key keys.now
         → pair.new

@@ -72,8 +72,8 @@ impl ExpandedKeys {
         }
     }
 
-    /// Decrypts sectors as [`SectorCipher::decrypt_units`](crate::SectorCipher::decrypt_units) does,
-    /// by the cipher of this mode whose keys these are, if they are.
+    /// Decrypts sectors as [`decrypt_units`](crate::SectorCipher::decrypt_units) of a sector cipher
+    /// does, by the cipher of this mode whose keys these are, if they are.
     pub fn decrypt_units(&self, mode: Mode, first: u64, size: usize, units: &mut [u8])
         requires multiple { size % 512 ≡ 0 }
         requires shortest { 512 ≤ size }

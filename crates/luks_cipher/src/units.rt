@@ -8,9 +8,8 @@ ghost use Rattle.luks_aes.specs.KeySchedule.{IsScheduleOf};
 ghost use Rattle.luks_cipher.specs.Expanded.{AreKeysOf};
 ghost use Rattle.luks_cipher.specs.Sector.{sector_decrypted, units_decrypted};
 
-use crate::cbc;
 use crate::mode::Mode;
-use crate::xts;
+use crate::{cbc, xts};
 use luks_aes::KeySchedule;
 use luks_aes_batch::RoundKeys;
 use std::simd::prelude::*;
@@ -45,7 +44,8 @@ impl<'a> UnitKeys<'a> {
     // Decrypts a data unit of XTS (IEEE 1619, 5.4.2).
     fn decrypt_xts(&self, number: u64, unit: &mut [u8])
         requires { length unit.old % 512 ≡ 0 }
-        ensures { (key : List ℕ) → AreKeysOf key Mode.XtsPlain64 self.now.data.now self.now.number.now
+        ensures { (key : List ℕ)
+            → AreKeysOf key Mode.XtsPlain64 self.now.data.now self.now.number.now
             → unit.new ≡ sector_decrypted Mode.XtsPlain64 key number unit.old }
     {
         let tweak = u8x16::from_array(encrypted_number(self.number, number));
@@ -55,7 +55,8 @@ impl<'a> UnitKeys<'a> {
     // Decrypts two data units of XTS of 512 bytes.
     fn decrypt_xts_pair(&self, first: u64, second: u64, pair: &mut [u8])
         requires { length pair.old ≡ 1024 }
-        ensures { (key : List ℕ) → AreKeysOf key Mode.XtsPlain64 self.now.data.now self.now.number.now
+        ensures { (key : List ℕ)
+            → AreKeysOf key Mode.XtsPlain64 self.now.data.now self.now.number.now
             → pair.new
             ≡ sector_decrypted Mode.XtsPlain64 key first (take 512 pair.old)
             ++ sector_decrypted Mode.XtsPlain64 key second (drop 512 pair.old) }

@@ -43,7 +43,8 @@ fn put_tweaks(tweak: u8x16, tweaks: &mut [u8]) -> u8x16
     last
 }
 
-// Decrypts each block of a batch of 32 or 64 under its tweak. The round keys are those for the data.
+// Decrypts each block of a batch of 32 or 64 under its tweak. The round keys are those for the
+// data.
 fn decrypt_under(keys: &RoundKeys, tweaks: &[u8], batch: &mut [u8])
     requires whole { length batch.old % 512 ≡ 0 }
     requires least { 512 ≤ length batch.old }
@@ -59,12 +60,7 @@ fn decrypt_under(keys: &RoundKeys, tweaks: &[u8], batch: &mut [u8])
 
 // Decrypts a batch of 32 or 64 blocks, the first of them under `tweak`, and returns the tweak of
 // the block after them. The buffer for their tweaks is as long as the batch.
-fn decrypt_batch(
-    keys: &RoundKeys,
-    tweak: u8x16,
-    tweaks: &mut [u8],
-    batch: &mut [u8],
-) -> u8x16
+fn decrypt_batch(keys: &RoundKeys, tweak: u8x16, tweaks: &mut [u8], batch: &mut [u8]) -> u8x16
     requires whole { length batch.old % 512 ≡ 0 }
     requires least { 512 ≤ length batch.old }
     requires most { length batch.old ≤ 1024 }

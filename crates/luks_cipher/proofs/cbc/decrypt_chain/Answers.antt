@@ -28,7 +28,7 @@ batches-preserved c =
       iv = c.batches.invariant.iv;
       progress = progress_batch _ _ (block_before c.batches.before _) _ _ c.decrypt_batch-next.new.batch _ _ done
           count _
-          before (omega arith) (omega arith) (omega arith) 
+          before (omega arith) (omega arith) (omega arith)
           (c.decrypt_batch-next.ensures.value c.args.key.now c.round_keys-keys.ensures)
           c.decrypt_batch-next.ensures.next
           (λ n few. before_same c.args.iv c.batches.before unit _ done count n before.next same few);
