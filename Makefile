@@ -30,8 +30,8 @@ CPU := x86-64-v2
 ifeq ($(filter $(CPU),x86-64-v2 x86-64-v3),)
     $(error CPU is x86-64-v2 or x86-64-v3)
 endif
-VERSION := 1.1.0
-INTERFACE := 1
+VERSION := 1.2.0
+INTERFACE := 2
 # where the loader looks for libraries for x86-64-v3, below each folder with libraries
 HWCAPS := glibc-hwcaps/x86-64-v3
 
@@ -115,15 +115,16 @@ out/libluksrd.a out/x86-64-v3/libluksrd.a:
 	ar rcsD $@ $(@D)/luksrd.o
 
 # $(call link_shared,FILE): the archive as a shared library
-link_shared = $(CC) -shared -o $(1) -Wl,-soname,libluksrd.so.$(INTERFACE) -Wl,-z,defs,-z,relro,-z,now,-z,noexecstack \
+link_shared = $(CC) -shared -o $(1) -Wl,-soname,libluksrd.so.$(INTERFACE) -Wl,--version-script=c/luksrd.map \
+    -Wl,-z,defs,-z,relro,-z,now,-z,noexecstack \
     -Wl,--whole-archive $< -Wl,--no-whole-archive $(LDLIBS)
 
-out/libluksrd.so: $(LIBRARY)
+out/libluksrd.so: $(LIBRARY) c/luksrd.map
 	$(call link_shared,out/$(word 1,$(SHARED_NAMES)))
 	cd out && ln -sf $(word 1,$(SHARED_NAMES)) $(word 2,$(SHARED_NAMES))
 	cd out && ln -sf $(word 2,$(SHARED_NAMES)) $(word 3,$(SHARED_NAMES))
 
-out/$(HWCAPS)/libluksrd.so.$(INTERFACE): out/x86-64-v3/libluksrd.a
+out/$(HWCAPS)/libluksrd.so.$(INTERFACE): out/x86-64-v3/libluksrd.a c/luksrd.map
 	mkdir -p $(@D)
 	$(call link_shared,$@)
 

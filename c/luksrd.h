@@ -28,7 +28,8 @@
  *   - no pointer is NULL, not even one to no bytes;
  *   - a pointer with a length points to that many bytes; any other points to one whole value of its
  *     type, aligned as its type is;
- *   - memory that is passed does not overlap, and no other thread changes it until the call returns.
+ *   - memory that is passed does not overlap, and no other thread changes it until the call
+ *     returns.
  *
  * No function keeps state, so threads may call all of them at once, with the same volume and cipher
  * too. Only luksrd_open allocates memory, by malloc, realloc and free. It may not be called from a
@@ -52,8 +53,9 @@ extern "C" {
 #define LUKSRD_CHECKED
 #endif
 
-/* The number of first bytes of an image or of a detached header that decide everything about opening:
- * with them the outcome is the same as with all its bytes. A shorter one is passed whole. */
+/* The number of first bytes of an image or of a detached header that decide everything about
+ * opening: with them the outcome is the same as with all its bytes. A shorter one is passed
+ * whole. */
 #define LUKSRD_HEADER_BYTES 33554432
 
 /* The longest passphrase in bytes, which is also that of a key file. */
@@ -96,8 +98,8 @@ struct luksrd_options {
   uint32_t detached;       /* not 0: the bytes are those of a detached header */
   uint32_t has_key_slot;   /* not 0: only key slot number `key_slot` is tried */
   uint32_t key_slot;       /* 0 to 31 */
-  uint32_t max_iterations; /* the limit of PBKDF2 iterations of a key slot or a digest; 0: no limit */
-  uint32_t reserved[11];   /* 0 */
+  uint32_t max_iterations; /* the limit of PBKDF2 iterations of a slot or a digest; 0: no limit */
+  uint8_t reserved[44];    /* 0 */
 };
 
 /* How a payload is encrypted: the last part of `aes-..` in a header. */
@@ -127,9 +129,9 @@ struct luksrd_volume {
   uint8_t key[64];      /* the volume key; the bytes past key_size are 0 */
 };
 
-/* What decryption needs of an open volume: its expanded keys, and where its payload is. It belongs to
- * the caller, has no pointers and may be copied. It contains keys: wipe it (luksrd_wipe) when it is
- * no longer needed. luksrd_prepare fills it; its contents are the library's own.
+/* What decryption needs of an open volume: its expanded keys, and where its payload is. It belongs
+ * to the caller, has no pointers and may be copied. It contains keys: wipe it (luksrd_wipe) when it
+ * is no longer needed. luksrd_prepare fills it; its contents are the library's own.
  *
  * Any bytes in it are safe to pass. With those that luksrd_prepare filled in, the plaintext is that
  * of the volume. With others a call is refused, or gives bytes that mean nothing. */
@@ -137,10 +139,10 @@ struct luksrd_cipher {
   uint64_t words[2048]; /* 16384 bytes */
 };
 
-/* A step of reading a range of the plaintext: the bytes of the image to read, which are whole sectors,
- * and which of them the range gets. Either these are whole sectors of the range (`skip` is 0, and
- * `count` is `read_len`), so that they can be read to their place, or they are one sector of which the
- * range gets a part, so that LUKSRD_SECTOR_BYTES are enough for it. */
+/* A step of reading a range of the plaintext: the bytes of the image to read, which are whole
+ * sectors, and which of them the range gets. Either these are whole sectors of the range (`skip` is
+ * 0, and `count` is `read_len`), so that they can be read to their place, or they are one sector of
+ * which the range gets a part, so that LUKSRD_SECTOR_BYTES are enough for it. */
 struct luksrd_step {
   uint64_t read_offset;  /* the first byte of the image to read */
   uint64_t read_len;     /* how many bytes to read */
@@ -176,9 +178,9 @@ uint32_t luksrd_open(const uint8_t *header, size_t header_len, const uint8_t *pa
                      size_t passphrase_len, const struct luksrd_options *options,
                      struct luksrd_volume *volume, struct luksrd_message *message) LUKSRD_CHECKED;
 
-/* The length in bytes of a volume's plaintext, if its payload's image has `image_len` bytes: its whole
- * sectors, a multiple of the sector size. 0 if `sector_size` is none of its four values, as in a
- * struct that luksrd_open has set to zero. */
+/* The length in bytes of a volume's plaintext, if its payload's image has `image_len` bytes: its
+ * whole sectors, a multiple of the sector size. 0 if `sector_size` is none of its four values, as
+ * in a struct that luksrd_open has set to zero. */
 uint64_t luksrd_len(const struct luksrd_volume *volume, uint64_t image_len) LUKSRD_CHECKED;
 
 /* How the payload ends in an image of `image_len` bytes.
@@ -196,9 +198,9 @@ uint32_t luksrd_ending(const struct luksrd_volume *volume, uint64_t image_len, u
 /* Expands a volume's keys. This is done once: no other function does it.
  *
  * Returns LUKSRD_OK. Or returns LUKSRD_BAD_VOLUME, with a cipher that is all zero, exactly if
- * `sector_size` or `mode` is none of its values, `has_size` is 1 and `size` is not a multiple of the
- * sector size, or `key_size` is not a key length of the mode: 32 or 64 for XTS, 16 or 32 for CBC. A
- * struct that luksrd_open has filled is never refused. */
+ * `sector_size` or `mode` is none of its values, `has_size` is 1 and `size` is not a multiple of
+ * the sector size, or `key_size` is not a key length of the mode: 32 or 64 for XTS, 16 or 32 for
+ * CBC. A struct that luksrd_open has filled is never refused. */
 uint32_t luksrd_prepare(const struct luksrd_volume *volume, struct luksrd_cipher *cipher)
     LUKSRD_CHECKED;
 
@@ -208,7 +210,8 @@ uint32_t luksrd_prepare(const struct luksrd_volume *volume, struct luksrd_cipher
  *
  * Returns LUKSRD_OK. Or returns, with a step that is all zero:
  *   - LUKSRD_BAD_VOLUME for a cipher of which no segment can be read, as one that is all zero;
- *   - LUKSRD_BAD_RANGE, exactly if the range ends past the plaintext, whose length is luksrd_len. */
+ *   - otherwise LUKSRD_BAD_RANGE, exactly if the range ends past the plaintext, whose length is
+ *     luksrd_len. */
 uint32_t luksrd_plan(const struct luksrd_cipher *cipher, uint64_t image_len, uint64_t offset,
                      uint64_t len, struct luksrd_step *step) LUKSRD_CHECKED;
 
@@ -217,8 +220,9 @@ uint32_t luksrd_plan(const struct luksrd_cipher *cipher, uint64_t image_len, uin
  *
  * A caller that read fewer bytes than the step names must not pass the rest.
  *
- * Returns LUKSRD_OK. Or returns, with the bytes unchanged, what luksrd_decrypt returns for these bytes
- * and `step->first_sector`, or LUKSRD_BAD_RANGE if `step->skip + step->count` is above `len`. */
+ * Returns LUKSRD_OK. Or returns, with the bytes unchanged, what luksrd_decrypt returns for these
+ * bytes and `step->first_sector`, or LUKSRD_BAD_RANGE if `step->skip + step->count` is above
+ * `len`. */
 uint32_t luksrd_finish(const struct luksrd_cipher *cipher, const struct luksrd_step *step,
                        uint8_t *bytes, size_t len) LUKSRD_CHECKED;
 
@@ -228,8 +232,8 @@ uint32_t luksrd_finish(const struct luksrd_cipher *cipher, const struct luksrd_s
  * that read fewer bytes than it wanted must not pass the rest.
  *
  * Returns LUKSRD_OK. Or returns, with the bytes unchanged:
- *   - LUKSRD_BAD_VOLUME for a cipher of which no segment and no keys can be read, as one that is all
- *     zero. A struct that luksrd_prepare has filled is never refused;
+ *   - LUKSRD_BAD_VOLUME for a cipher of which no segment can be read, as one that is all zero. A
+ *     struct that luksrd_prepare has filled is never refused;
  *   - otherwise LUKSRD_BAD_RANGE, exactly if `len` is not a multiple of the sector size, or
  *     `first_sector + len / sector_size` is above 2^64 - 1. */
 uint32_t luksrd_decrypt(const struct luksrd_cipher *cipher, uint64_t first_sector, uint8_t *bytes,

@@ -11,7 +11,7 @@ here=$(realpath "$(dirname "$0")")
 . "$(dirname "$0")/common.sh"
 
 # the library for all processors, which plugins in this folder load, or others if the loader looks here first
-cp "$shared" libluksrd.so.1
+cp "$shared" libluksrd.so.2
 
 # text IMAGE KEY OPTION..: what luksCat writes for the volume, in the file text
 text() {

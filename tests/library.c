@@ -4,8 +4,8 @@
  *
  * writes the plain text of a volume to standard output and luksrd's sentence to standard error, and
  * ends with luksrd's status. HEADER is - if it is not detached. On the way it reads each sector by
- * itself from several threads at once, and makes the calls that are refused; each argument is in
- * memory of exactly its length.
+ * itself, and ranges by steps, from several threads at once, passes structs with any bytes, and
+ * makes the calls that are refused; each argument is in memory of exactly its length.
  *
  *     library fields IMAGE PASSPHRASE LENGTH..
  *
@@ -21,15 +21,18 @@
 #include <string.h>
 
 #define THREADS 4
+#define RANGES 200
+#define GARBAGE 300
 
 struct bytes {
   uint8_t *at;
   size_t len;
 };
 
-/* A volume, its image and its plain text. */
+/* A volume, its expanded keys, its image and its plain text. */
 struct job {
   const struct luksrd_volume *volume;
+  const struct luksrd_cipher *cipher;
   struct bytes image;
   struct bytes plain;
 };
@@ -66,7 +69,7 @@ static struct bytes contents(const char *name)
 static void end_with(const struct luksrd_message *message)
 {
   if (message->len > 0)
-    fprintf(stderr, "%.*s\n", (int)message->len, (const char *)message->text);
+    fprintf(stderr, "%s\n", message->text);
   fflush(stdout);
   exit((int)message->status);
 }
@@ -87,10 +90,65 @@ static void *read_sectors(void *argument)
   const uint32_t size = job->volume->sector_size;
   for (uint64_t i = 0; i * size < job->plain.len; i++) {
     struct bytes sector = copy_of(job->image.at + job->volume->offset + i * size, size);
-    must(luksrd_decrypt(job->volume, i, sector.at, size) == LUKSRD_OK, "a sector");
+    must(luksrd_decrypt(job->cipher, i, sector.at, size) == LUKSRD_OK, "a sector");
     must(memcmp(sector.at, job->plain.at + i * size, size) == 0, "a sector's bytes");
     free(sector.at);
   }
+  return NULL;
+}
+
+/* The next number of a sequence that is the same in each run. */
+static uint64_t next_number(uint64_t *state)
+{
+  *state = *state * 6364136223846793005u + 1442695040888963407u;
+  return *state >> 33;
+}
+
+/* The bytes that a step names, in memory of exactly their length. All of them are in sectors that
+ * the range is in. */
+static struct bytes stored_for(const struct job *job, const struct luksrd_step *step,
+                               uint64_t offset, uint64_t len)
+{
+  const uint32_t size = job->volume->sector_size;
+  const uint64_t start = job->volume->offset;
+  must(step->read_len > 0 && step->read_len % size == 0, "whole sectors");
+  must(step->read_offset == start + step->first_sector * size, "the place of the first sector");
+  must(step->read_offset >= start + offset / size * size, "no sector before the range");
+  must(step->read_offset + step->read_len <= start + (offset + len + size - 1) / size * size,
+       "no sector after the range");
+  must(step->read_len == step->count || step->read_len == size, "where the bytes are read to");
+  return copy_of(job->image.at + step->read_offset, step->read_len);
+}
+
+/* A range, read by steps, is its part of the plain text. */
+static void read_range(const struct job *job, uint64_t offset, uint64_t len)
+{
+  int steps = 0;
+  while (len > 0) {
+    struct luksrd_step step;
+    must(luksrd_plan(job->cipher, job->image.len, offset, len, &step) == LUKSRD_OK, "a plan");
+    struct bytes bytes = stored_for(job, &step, offset, len);
+    must(luksrd_finish(job->cipher, &step, bytes.at, bytes.len) == LUKSRD_OK, "a step");
+    must(step.count > 0 && step.count <= len && ++steps <= 3, "the length of a step");
+    must(memcmp(bytes.at, job->plain.at + offset, step.count) == 0, "a step's bytes");
+    free(bytes.at);
+    offset += step.count;
+    len -= step.count;
+  }
+}
+
+static void *read_ranges(void *argument)
+{
+  const struct job *job = argument;
+  uint64_t state = 1;
+  for (int i = 0; i < RANGES; i++) {
+    const uint64_t offset = next_number(&state) % (job->plain.len + 1);
+    uint64_t len = next_number(&state) % (job->plain.len - offset + 1);
+    if (i % 2)
+      len %= 9000;
+    read_range(job, offset, len);
+  }
+  read_range(job, 0, job->plain.len);
   return NULL;
 }
 
@@ -98,24 +156,83 @@ static void read_by_threads(struct job *job)
 {
   pthread_t threads[THREADS];
   for (int i = 0; i < THREADS; i++)
-    must(pthread_create(&threads[i], NULL, read_sectors, job) == 0, "a thread");
+    must(pthread_create(&threads[i], NULL, i % 2 ? read_ranges : read_sectors, job) == 0,
+         "a thread");
   for (int i = 0; i < THREADS; i++)
     pthread_join(threads[i], NULL);
+}
+
+/* Structs with any bytes, also with a sector size and a mode that are right, are refused or give
+ * bytes; nothing else is touched (which AddressSanitizer and valgrind see). */
+static void pass_garbage(const struct job *job)
+{
+  static struct luksrd_cipher cipher;
+  static struct luksrd_volume volume;
+  uint64_t state = 2;
+  for (int i = 0; i < GARBAGE; i++) {
+    struct luksrd_step step;
+    uint8_t *at = (uint8_t *)&cipher;
+    cipher = *job->cipher;
+    const size_t from = i % 3 ? sizeof volume : 0, to = i % 3 == 1 ? sizeof cipher : from + 300;
+    for (size_t j = from; j < to; j++)
+      at[j] = (uint8_t)(i < 20 ? 255 : next_number(&state));
+    struct bytes bytes = copy_of(job->image.at, job->image.len < 8192 ? job->image.len : 8192);
+    (void)!luksrd_decrypt(&cipher, next_number(&state), bytes.at, bytes.len);
+    if (luksrd_plan(&cipher, job->image.len, next_number(&state) % 9000, 5000, &step) != LUKSRD_OK)
+      must(all_zero(&step, sizeof step), "a step that is refused");
+    for (size_t j = 0; j < sizeof step; j++)
+      ((uint8_t *)&step)[j] = (uint8_t)next_number(&state);
+    step.skip %= 9000;
+    step.count %= 9000;
+    (void)!luksrd_finish(&cipher, &step, bytes.at, bytes.len);
+    free(bytes.at);
+    for (size_t j = 0; j < sizeof volume; j++)
+      ((uint8_t *)&volume)[j] = (uint8_t)next_number(&state);
+    if (luksrd_prepare(&volume, &cipher) != LUKSRD_OK)
+      must(all_zero(&cipher, sizeof cipher), "a volume that is refused");
+  }
 }
 
 /* Calls that no caller should make are refused, and change nothing. */
 static void make_bad_calls(const struct job *job)
 {
-  const struct luksrd_volume none = { 0 }, *volume = job->volume;
-  const uint32_t size = volume->sector_size;
+  static const struct luksrd_cipher no_cipher;
+  static struct luksrd_cipher made;
+  const struct luksrd_volume none = { 0 };
+  struct luksrd_volume wrong = *job->volume;
+  const struct luksrd_cipher *cipher = job->cipher;
+  const uint32_t size = job->volume->sector_size;
   struct luksrd_message message;
+  struct luksrd_step step;
   uint64_t bytes;
   struct bytes two = copy_of(job->image.at, 2 * (size_t)size);
-  must(luksrd_decrypt(volume, 0, two.at, size + 1) == LUKSRD_BAD_RANGE, "a part of a sector");
-  must(luksrd_decrypt(volume, UINT64_MAX, two.at, two.len) == LUKSRD_BAD_RANGE, "the last sector");
-  must(luksrd_decrypt(&none, 0, two.at, size) == LUKSRD_BAD_VOLUME, "no volume");
+  must(luksrd_decrypt(cipher, 0, two.at, size + 1) == LUKSRD_BAD_RANGE, "a part of a sector");
+  must(luksrd_decrypt(cipher, UINT64_MAX, two.at, two.len) == LUKSRD_BAD_RANGE, "the last sector");
+  must(luksrd_decrypt(&no_cipher, 0, two.at, size) == LUKSRD_BAD_VOLUME, "no cipher");
+  step = (struct luksrd_step){ .read_len = two.len, .skip = size, .count = size + 1 };
+  must(luksrd_finish(cipher, &step, two.at, two.len) == LUKSRD_BAD_RANGE, "a count too large");
+  step.skip = UINT64_MAX;
+  must(luksrd_finish(cipher, &step, two.at, two.len) == LUKSRD_BAD_RANGE, "a skip too large");
+  step.skip = step.count = 0;
+  must(luksrd_finish(cipher, &step, two.at, size - 1) == LUKSRD_BAD_RANGE, "a part for a step");
+  must(luksrd_finish(&no_cipher, &step, two.at, size) == LUKSRD_BAD_VOLUME, "a step of no cipher");
   must(memcmp(two.at, job->image.at, two.len) == 0, "the bytes of refused calls");
-  must(luksrd_decrypt(volume, 7, two.at, 0) == LUKSRD_OK, "no sector");
+  must(luksrd_decrypt(cipher, 7, two.at, 0) == LUKSRD_OK, "no sector");
+  must(luksrd_plan(cipher, job->image.len, 1, job->plain.len, &step) == LUKSRD_BAD_RANGE &&
+           all_zero(&step, sizeof step),
+       "a range past the end");
+  must(luksrd_plan(cipher, job->image.len, UINT64_MAX, 2, &step) == LUKSRD_BAD_RANGE, "a sum");
+  must(luksrd_plan(&no_cipher, job->image.len, 0, 0, &step) == LUKSRD_BAD_VOLUME,
+       "a plan of no cipher");
+  must(luksrd_plan(cipher, job->image.len, job->plain.len, 0, &step) == LUKSRD_OK &&
+           all_zero(&step, sizeof step),
+       "no bytes");
+  wrong.key_size = 48;
+  must(luksrd_prepare(&wrong, &made) == LUKSRD_BAD_VOLUME, "no length of a key");
+  must(luksrd_prepare(&none, &made) == LUKSRD_BAD_VOLUME && all_zero(&made, sizeof made),
+       "no volume");
+  luksrd_wipe(two.at, two.len);
+  must(all_zero(two.at, two.len), "bytes that are wiped");
   must(luksrd_len(&none, UINT64_MAX) == 0, "the length of no volume");
   must(luksrd_ending(&none, 0, &bytes, &message) == LUKSRD_BAD_VOLUME, "the ending of no volume");
   free(two.at);
@@ -125,7 +242,8 @@ static void make_bad_calls(const struct job *job)
 static void check_message(const struct luksrd_message *message)
 {
   must(message->status >= 1 && message->status <= 4, "a message's status");
-  must(message->len > 8 && message->len <= sizeof message->text, "a message's length");
+  must(message->len > 8 && message->len < sizeof message->text, "a message's length");
+  must(strlen(message->text) == message->len, "a message's end");
   must(memcmp(message->text, "luksrd: ", 8) == 0, "a message's prefix");
   must(all_zero(message->text + message->len, sizeof message->text - message->len),
        "the bytes after a message");
@@ -153,12 +271,15 @@ static void open_volume(struct bytes header, struct bytes passphrase,
                         struct luksrd_options *options, struct luksrd_volume *volume)
 {
   struct luksrd_message message;
-  options->has_key_slot = 1;
-  options->key_slot = 32;
-  must(luksrd_open(header.at, header.len, passphrase.at, passphrase.len, options, volume,
-                   &message) == LUKSRD_BAD_OPTIONS,
-       "slot 32");
-  options->has_key_slot = options->key_slot = 0;
+  struct luksrd_options wrong[3] = { *options, *options, *options };
+  wrong[0].has_key_slot = 1;
+  wrong[0].key_slot = 32;
+  wrong[1].size--;
+  wrong[2].reserved[43] = 1;
+  for (int i = 0; i < 3; i++)
+    must(luksrd_open(header.at, header.len, passphrase.at, passphrase.len, &wrong[i], volume,
+                     &message) == LUKSRD_BAD_OPTIONS,
+         "options");
   memset(volume, 255, sizeof *volume);
   if (luksrd_open(header.at, header.len, passphrase.at, passphrase.len, options, volume,
                   &message) != LUKSRD_OK) {
@@ -174,10 +295,14 @@ static void open_volume(struct bytes header, struct bytes passphrase,
 /* Reads the volume in all ways, and writes it. */
 static void read_volume(struct job *job)
 {
+  static struct luksrd_cipher cipher;
   const size_t len = luksrd_len(job->volume, job->image.len);
   job->plain = copy_of(job->image.at + (len > 0 ? job->volume->offset : 0), len);
-  must(luksrd_decrypt(job->volume, 0, job->plain.at, len) == LUKSRD_OK, "all sectors");
+  must(luksrd_prepare(job->volume, &cipher) == LUKSRD_OK, "the keys");
+  job->cipher = &cipher;
+  must(luksrd_decrypt(&cipher, 0, job->plain.at, len) == LUKSRD_OK, "all sectors");
   read_by_threads(job);
+  pass_garbage(job);
   if (job->image.len >= 2 * (size_t)job->volume->sector_size)
     make_bad_calls(job);
   must(fwrite(job->plain.at, 1, len, stdout) == len, "the output");
@@ -202,9 +327,8 @@ static void print_ending(const struct luksrd_volume *volume, uint64_t image_len)
   struct luksrd_message message;
   uint64_t bytes = UINT64_MAX;
   const uint32_t code = luksrd_ending(volume, image_len, &bytes, &message);
-  printf("%" PRIu64 ": len=%" PRIu64 " code=%" PRIu32 " bytes=%" PRIu64 " status=%" PRIu32 " %.*s\n",
-         image_len, luksrd_len(volume, image_len), code, bytes, message.status, (int)message.len,
-         (const char *)message.text);
+  printf("%" PRIu64 ": len=%" PRIu64 " code=%" PRIu32 " bytes=%" PRIu64 " status=%" PRIu32 " %s\n",
+         image_len, luksrd_len(volume, image_len), code, bytes, message.status, message.text);
 }
 
 /* The image's or the header's first bytes, which are all that opening needs. */
@@ -218,7 +342,7 @@ static struct bytes header_in(const char *name)
 
 static int print_volume(int lengths, char **argv)
 {
-  struct luksrd_options options = { 0 };
+  struct luksrd_options options = { .size = sizeof options };
   struct luksrd_volume volume;
   struct bytes header = header_in(argv[0]), passphrase = contents(argv[1]);
   open_volume(header, passphrase, &options, &volume);
@@ -238,7 +362,7 @@ int main(int argc, char **argv)
   must(argc == 4, "the arguments");
   read_texts();
 
-  struct luksrd_options options = { .detached = strcmp(argv[2], "-") != 0 };
+  struct luksrd_options options = { .size = sizeof options, .detached = strcmp(argv[2], "-") != 0 };
   struct luksrd_volume volume;
   struct job job = { .volume = &volume, .image = contents(argv[1]) };
   struct bytes passphrase = contents(argv[3]);
@@ -248,7 +372,7 @@ int main(int argc, char **argv)
 
   struct luksrd_message message;
   uint64_t bytes;
-  luksrd_ending(&volume, job.image.len, &bytes, &message);
+  (void)!luksrd_ending(&volume, job.image.len, &bytes, &message);
   free(job.plain.at);
   free(job.image.at);
   free(header.at);

@@ -26,8 +26,8 @@ read -ra flags <<<"$(pkg-config --cflags --libs luksrd)"
 compile_checked shared "${flags[@]}"
 # a folder for each library alone
 mkdir x86-64-v2 x86-64-v3
-cp "$shared" x86-64-v2/libluksrd.so.1
-cp "$shared_v3" x86-64-v3/libluksrd.so.1
+cp "$shared" x86-64-v2/libluksrd.so.2
+cp "$shared_v3" x86-64-v3/libluksrd.so.2
 processors=(x86-64-v2)
 if runs_v3; then
     processors+=(x86-64-v3)
@@ -59,7 +59,7 @@ all_programs_read() {
     for processor in "${processors[@]}"; do
         program_reads "$1, shared, $processor" "${@:2}" env LD_LIBRARY_PATH="$work/$processor" ./shared
         program_reads "$1, Python, $processor" "${@:2}" python3 "$sources/tests/library.py" \
-            "$work/$processor/libluksrd.so.1"
+            "$work/$processor/libluksrd.so.2"
     done
 }
 
@@ -195,12 +195,13 @@ same 'its version' "$(pkg-config --modversion luksrd)" "$(make -s -C "$sources" 
 same "its header's version" "$(sed -n 's/^#define LUKSRD_VERSION 0x\(..\)\(..\)\(..\)$/\1 \2 \3/p' \
     "$sources/c/luksrd.h" | { read -r major minor patch; echo "$((16#$major)).$((16#$minor)).$((16#$patch))"; })" \
     "$(pkg-config --modversion luksrd)"
-exported='luksrd_decrypt luksrd_ending luksrd_len luksrd_open luksrd_status_text luksrd_version '
+exported='luksrd_decrypt luksrd_ending luksrd_finish luksrd_len luksrd_open luksrd_plan luksrd_prepare '
+exported+='luksrd_status_text luksrd_version luksrd_wipe '
 for file in "$shared" "$shared_v3"; do
     same "what ${file##*/} exports" "$(nm -D --defined-only "$file" | awk '{ print $3 }' | sort | tr '\n' ' ')" \
-        "$exported"
+        "LUKSRD_2 ${exported// /@@LUKSRD_2 }"
     same "relocations in the code of ${file##*/}" "$(readelf -d "$file" | grep -c TEXTREL)" 0
-    same "the name of ${file##*/}" "$(readelf -d "$file" | sed -n 's/.*soname: \[\(.*\)\]/\1/p')" libluksrd.so.1
+    same "the name of ${file##*/}" "$(readelf -d "$file" | sed -n 's/.*soname: \[\(.*\)\]/\1/p')" libluksrd.so.2
 done
 same 'what the archive exports' "$(nm -g --defined-only "$library" 2>&1 | awk 'NF == 3 { print $3 }' | sort |
     tr '\n' ' ')" "$exported"

@@ -65,7 +65,7 @@ same 'a package that there is not' "$("$sources/packaging/deb" other 1.1.0 luksr
     'there is no package other'
 
 program_package="$work/a folder/luksrd.deb"
-library_package="$work/a folder/libluksrd1.deb"
+library_package="$work/a folder/libluksrd2.deb"
 plugin_package="$work/a folder/nbdkit-plugin-luksrd.deb"
 same 'what make says' "$(made "$program_package" "$library_package" "$plugin_package" 2>&1)" "$program_package
 $library_package
@@ -119,12 +119,12 @@ holds luksrd "$program_package" luksrd.1 '-rwxr-xr-x root/root ./usr/libexec/luk
 -rw-r--r-- root/root ./usr/share/man/man1/luksrd.1.gz
 -rw-r--r-- root/root ./usr/share/zsh/vendor-completions/_luksrd'
 libraries=/usr/lib/x86_64-linux-gnu
-holds libluksrd1 "$library_package" '' "-rw-r--r-- root/root .$libraries/glibc-hwcaps/x86-64-v3/libluksrd.so.1
+holds libluksrd2 "$library_package" '' "-rw-r--r-- root/root .$libraries/glibc-hwcaps/x86-64-v3/libluksrd.so.2
 -rw-r--r-- root/root .$libraries/libluksrd.so.$version
--rw-r--r-- root/root ./usr/share/doc/libluksrd1/changelog.gz
--rw-r--r-- root/root ./usr/share/doc/libluksrd1/copyright
-lrwxrwxrwx root/root .$libraries/libluksrd.so.1"
-same 'what depends on the library' "$(cat control/shlibs)" "libluksrd 1 libluksrd1 (>= $version)"
+-rw-r--r-- root/root ./usr/share/doc/libluksrd2/changelog.gz
+-rw-r--r-- root/root ./usr/share/doc/libluksrd2/copyright
+lrwxrwxrwx root/root .$libraries/libluksrd.so.2"
+same 'what depends on the library' "$(cat control/shlibs)" "libluksrd 2 libluksrd2 (>= $version)"
 same 'what the library triggers' "$(cat control/triggers)" 'activate-noawait ldconfig'
 plugins=$(pkg-config nbdkit --variable=plugindir)
 holds nbdkit-plugin-luksrd "$plugin_package" nbdkit-luksrd-plugin.1 \
@@ -134,16 +134,16 @@ holds nbdkit-plugin-luksrd "$plugin_package" nbdkit-luksrd-plugin.1 \
 -rw-r--r-- root/root ./usr/share/man/man1/nbdkit-luksrd-plugin.1.gz"
 same 'the plugin depends on nbdkit' "$(dpkg -f "$plugin_package" Depends | grep -c ', nbdkit (>= ')" 1
 same 'the plugin depends on the library' "$(dpkg -f "$plugin_package" Depends |
-    grep -cF ", libluksrd1 (>= $version)")" 1
+    grep -cF ", libluksrd2 (>= $version)")" 1
 # what a binary says of itself: its name, the libraries that it loads, and its own folders for them
 dynamic() { readelf -d "$1" | sed -n 's/.*(\(SONAME\|NEEDED\|RUNPATH\|RPATH\)).*\[\(.*\)\]$/\1 \2/p' |
     grep -v 'NEEDED libc\.so'; }
 same 'the packaged plugin loads the library' "$(dynamic "nbdkit-plugin-luksrd$plugins/nbdkit-luksrd-plugin.so")" \
-    'NEEDED libluksrd.so.1'
-same 'the names of the packaged library' "$(dynamic "libluksrd1$libraries/libluksrd.so.1";
-    dynamic "libluksrd1$libraries/glibc-hwcaps/x86-64-v3/libluksrd.so.1")" \
-    'SONAME libluksrd.so.1
-SONAME libluksrd.so.1'
+    'NEEDED libluksrd.so.2'
+same 'the names of the packaged library' "$(dynamic "libluksrd2$libraries/libluksrd.so.2";
+    dynamic "libluksrd2$libraries/glibc-hwcaps/x86-64-v3/libluksrd.so.2")" \
+    'SONAME libluksrd.so.2
+SONAME libluksrd.so.2'
 
 # works PROGRAM COMPLETION: both behave like those that they were made from
 works() {
@@ -175,7 +175,7 @@ serves_sample() {
     expect "$1 serves the sample volume" 0 '' ''
     same "$1: its text" "$(sha256sum <copy)" "$(sha256sum <"$sources/sample/plain.txt")"
 }
-LD_LIBRARY_PATH=$work/libluksrd1$libraries serves_sample "$work/nbdkit-plugin-luksrd$plugins/nbdkit-luksrd-plugin.so"
+LD_LIBRARY_PATH=$work/libluksrd2$libraries serves_sample "$work/nbdkit-plugin-luksrd$plugins/nbdkit-luksrd-plugin.so"
 
 # make_built ARGUMENT..: make with these arguments, and with what is built but for luksrd-audit, of which no package
 # is made (tests/install.sh has it)
@@ -199,8 +199,8 @@ chmod +x tools/pkg-config
 program_files=(bin/luksrd share/bash-completion/completions/luksrd share/doc/luksrd/FORMATS.md
     share/doc/luksrd/README.md
     share/man/man1/luksrd.1 share/zsh/site-functions/_luksrd)
-library_files=(include/luksrd.h lib/glibc-hwcaps/x86-64-v3/libluksrd.so.1 lib/libluksrd.a lib/libluksrd.so
-    lib/libluksrd.so.1 "lib/libluksrd.so.$version" lib/pkgconfig/luksrd.pc)
+library_files=(include/luksrd.h lib/glibc-hwcaps/x86-64-v3/libluksrd.so.2 lib/libluksrd.a lib/libluksrd.so
+    lib/libluksrd.so.2 "lib/libluksrd.so.$version" lib/pkgconfig/luksrd.pc)
 page=share/man/man1/nbdkit-luksrd-plugin.1
 name=nbdkit-luksrd-plugin.so
 # below PREFIX PATH..: as `files` lists them
@@ -213,7 +213,7 @@ make_built install DESTDIR="$work/there" PLUGINS=/usr/plugins
 same 'make install of the library and the plugin too' "$? $(files there)" \
     "0 $(below usr "${program_files[@]/#/local/}" "${library_files[@]/#/local/}" "local/$page" "plugins/$name")"
 same 'both libraries' "$(cmp "there/usr/local/lib/libluksrd.so.$version" "$shared" 2>&1;
-    cmp there/usr/local/lib/glibc-hwcaps/x86-64-v3/libluksrd.so.1 "$shared_v3" 2>&1)" ''
+    cmp there/usr/local/lib/glibc-hwcaps/x86-64-v3/libluksrd.so.2 "$shared_v3" 2>&1)" ''
 make_built uninstall DESTDIR="$work/there" PLUGINS=/usr/plugins
 same 'make uninstall' "$? $(files there)" '0 '
 same 'folders of libraries' "$(find there -name 'glibc-hwcaps')" ''
@@ -331,8 +331,8 @@ if another test -r tree/Makefile; then
     notes 'ldconfig by another user' 0 put_by_another install-library PREFIX="$work/own"
 fi
 
-packages=(luksrd libluksrd1 nbdkit-plugin-luksrd)
-if [ "$(id -u)" != 0 ] || dpkg -s luksrd >log 2>&1 || dpkg -s libluksrd1 >log 2>&1 ||
+packages=(luksrd libluksrd2 nbdkit-plugin-luksrd)
+if [ "$(id -u)" != 0 ] || dpkg -s luksrd >log 2>&1 || dpkg -s libluksrd2 >log 2>&1 ||
     dpkg -s nbdkit-plugin-luksrd >log 2>&1 ||
     [ -n "$(find /usr/bin /usr/libexec /usr/local /usr/include /usr/lib/pkgconfig "$libraries" /etc/alternatives \
     -name '*luksrd*' -print -quit 2>/dev/null)" ]; then
@@ -343,7 +343,7 @@ fi
 
 # the library is found by its name
 loads() {
-    python3 -c 'import ctypes; print(hex(ctypes.CDLL("libluksrd.so.1").luksrd_version()))' 2>&1 | tail -n 1
+    python3 -c 'import ctypes; print(hex(ctypes.CDLL("libluksrd.so.2").luksrd_version()))' 2>&1 | tail -n 1
 }
 trap 'make_built uninstall PLUGINS=; rm -rf "$work"' EXIT
 make_built install-library
@@ -364,8 +364,8 @@ works /usr/bin/luksrd /usr/share/bash-completion/completions/luksrd
 same 'the program that is installed' "$(chosen)" /usr/libexec/luksrd/x86-64-v2/luksrd
 same 'the library that is installed' "$(loads)" "$(sed -n 's/^#define LUKSRD_VERSION 0x0*/0x/p' "$sources/c/luksrd.h")"
 same 'what ldconfig knows' "$(ldconfig -p | sed -n 's/^\tlibluksrd\.so\.1 (.*) => //p' | sed 's|^/lib/|/usr/lib/|' |
-    sort)" "$libraries/glibc-hwcaps/x86-64-v3/libluksrd.so.1
-$libraries/libluksrd.so.1"
+    sort)" "$libraries/glibc-hwcaps/x86-64-v3/libluksrd.so.2
+$libraries/libluksrd.so.2"
 serves_sample luksrd
 same 'zsh finds its completion' \
     "$(zsh -fc 'autoload -Uz compinit; compinit -D -u; print -r -- $_comps[luksrd]')" _luksrd

@@ -152,7 +152,7 @@ taken() {
     on "$1" -E LD_DEBUG=files "${@:2}" 2>&1 >out | sed -n 's/.*calling init: \(.*libluksrd.*\)/\1/p'
 }
 nbdkit=$(command -v nbdkit)
-for processor in Haswell:glibc-hwcaps/x86-64-v3/libluksrd.so.1 Westmere:libluksrd.so.1; do
+for processor in Haswell:glibc-hwcaps/x86-64-v3/libluksrd.so.2 Westmere:libluksrd.so.2; do
     library=${processor#*:}
     processor=${processor%:*}
     same "$processor, a program that names a folder" "$(taken "$processor" ./by_folder volume - \
@@ -176,14 +176,14 @@ done
 # past the loader, an older processor does not know the instructions of the library for x86-64-v3: the program ends by
 # signal 4
 mkdir alone
-cp "$shared_v3" alone/libluksrd.so.1
+cp "$shared_v3" alone/libluksrd.so.2
 for end in Haswell:0 Westmere:132; do
     same "${end%:*}, the library for x86-64-v3 alone" \
         "$(ulimit -c 0; on "${end%:*}" -E LD_LIBRARY_PATH="$work/alone" ./by_cache volume - \
         "$sources/sample/passphrase" >out 2>err; echo $?)" "${end#*:}"
 done
 same 'the plugin that is built' "$(taken Haswell "$nbdkit" "$plugin" --dump-plugin)" \
-    "$(dirname "$plugin")/glibc-hwcaps/x86-64-v3/libluksrd.so.1"
+    "$(dirname "$plugin")/glibc-hwcaps/x86-64-v3/libluksrd.so.2"
 
 # Builds, with a kit that writes what it should build. The file `orders` says how it ends: with which status, or not
 # before the file `go` is there.

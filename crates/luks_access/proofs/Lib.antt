@@ -2,3 +2,4 @@ pub mod ConsumedLemmas
 pub mod FailingLemmas
 pub mod OpeningLemmas
 pub mod RangeLemmas
+pub mod StepLemmas

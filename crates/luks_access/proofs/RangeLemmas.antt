@@ -157,7 +157,7 @@ module _ (s : Segment) (cipher : Cipher) (len : ℕ) (image : Option (List ℕ))
     sectors_read = div-mul_cancel (sector_len s) (dvd_of_mod-eq-zero (sector_len s) is.whole)
 
     -- the range begins after the bytes that are skipped
-    starts : step.first_sector * sector_len s + step.skip ≡ offset
+    pub starts : step.first_sector * sector_len s + step.skip ≡ offset
     starts =
         omega (arith, ap (λ n. n * sector_len s) is.first, is.skip, mod-add-div' offset (sector_len s))
 
@@ -190,8 +190,18 @@ module _ (s : Segment) (cipher : Cipher) (len : ℕ) (image : Option (List ℕ))
     step_stops Ended bytes given long gives failed ended = λ known there all.
         let stored = length known - s.offset in
         let whole = mod-add-div' (payload_bytes s.size stored) (sector_len s) in
-        omega (arith, ended refl known there, is.start, is.inside, is.some, is.within, long, all,
-        payload_within s.size stored, whole)
+        omega (
+          arith,
+          ended refl known there,
+          is.start,
+          is.inside,
+          is.some,
+          is.within,
+          long,
+          all,
+          payload_within s.size stored,
+          whole,
+        )
 
 module _ (s : Segment) (cipher : Cipher) (len : ℕ) (image : Option (List ℕ)) (fails : ℕ → Bool) (offset : ℕ) where
   -- the first bytes of a buffer were read, and then the next of them

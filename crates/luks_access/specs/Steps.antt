@@ -1,7 +1,9 @@
 -- Steps of reading a range of a plaintext.
-use Rattle.std.specs.Prelude.{ℕ, ◌≡◌, ◌+◌, ◌*◌, ◌/◌, ◌%◌, ◌<◌, ◌≤◌, ◌⊎◌}
+use Rattle.std.specs.Prelude.{ℕ, ◌≡◌, ◌+◌, ◌-◌, ◌*◌, ◌/◌, ◌%◌, ◌<◌, ◌≤◌, ◌⊎◌, List, [], ◌∷◌, ◌++◌, length, take, drop}
+use Rattle.luks_cipher.specs.Sector.{Cipher}
 use Rattle.luks_verdict.specs.declared.segment.Segment.{Segment}
 use Rattle.luks_payload.specs.Plain.{sector_len, sector_start}
+use Rattle.luks_access.specs.Sectors.{IsAt, plain_at, plain_in, plaintext_len}
 use Rattle.luks_access.specs.declared.step.ReadStep.{ReadStep}
 
 -- sector i of the payload has one of `count` bytes of the plaintext, from this offset on: it begins before their end,
@@ -42,3 +44,39 @@ pub record ReadsNothing (step : ReadStep) : Type 0 where
 pub record IsNextStep (s : Segment) (len offset count : ℕ) (step : ReadStep) : Type 0 where
   pub next : 0 < count → IsStep s len offset count step
   pub done : count ≡ 0 → ReadsNothing step
+
+-- ---- whole runs of steps
+
+-- a step that was done: the bytes that were read for it, and those that it gave
+pub record StepDone : Type 0 where
+  pub step : ReadStep
+  pub stored : List ℕ
+  pub given : List ℕ
+
+-- the step was done over this image: the bytes are those that it names, and it gave those of their plaintext that the
+-- range gets
+pub record IsDoneOver (s : Segment) (cipher : Cipher) (image : List ℕ) (done : StepDone) : Type 0 where
+  pub long : length done.stored ≡ done.step.read_len
+  pub at : IsAt image done.step.read_offset done.stored
+  pub gives : done.given
+      ≡ take done.step.count (drop done.step.skip (plain_in s cipher done.step.first_sector done.stored))
+
+-- these steps, one after the other, read `count` bytes of a plaintext of `len` bytes from this offset on, until none is
+-- left
+abbrev pub AreSteps : Segment → Cipher → List ℕ → ℕ → ℕ → ℕ → List StepDone → Type 0
+AreSteps s cipher image len offset count [] = count ≡ 0
+AreSteps s cipher image len offset count (done ∷ rest) =
+    IsStep s len offset count done.step × IsDoneOver s cipher image done
+    × AreSteps s cipher image len (offset + done.step.count) (count - done.step.count) rest
+
+-- all bytes that they gave
+abbrev pub given_by : List StepDone → List ℕ
+given_by [] = []
+given_by (done ∷ rest) = done.given ++ given_by rest
+
+-- whoever reads the bytes that each step names, until the range is done, has that range of the plaintext
+abbrev pub StepsReadRange : Type 0
+StepsReadRange =
+    (s : Segment) (cipher : Cipher) (image : List ℕ) (offset count : ℕ) (steps : List StepDone)
+    → AreSteps s cipher image (plaintext_len s image) offset count steps
+    → given_by steps ≡ plain_at s cipher image offset count

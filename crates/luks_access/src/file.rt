@@ -19,6 +19,16 @@ impl FileImage {
         let len = file.seek(SeekFrom::End(0))?;
         Ok(FileImage { file, len })
     }
+
+    /// Whether the file still has this many bytes. One that is truncated while it is read may give
+    /// zeros from its last page, so its length is checked after the read. A block device has no
+    /// length here.
+    fn reaches(&self, end: u64) -> bool {
+        match self.file.metadata() {
+            Ok(found) => !found.is_file() || found.len() >= end,
+            Err(_) => false,
+        }
+    }
 }
 
 impl ReadAt for FileImage {
@@ -37,7 +47,8 @@ impl ReadAt for FileImage {
             return Ok(());
         }
         match self.file.read_exact_at(buf, offset) {
-            Ok(()) => Ok(()),
+            Ok(()) if self.reaches(offset.saturating_add(buf.len() as u64)) => Ok(()),
+            Ok(()) => Err(ReadAtFault::Ended),
             Err(error) if error.kind() == ErrorKind::UnexpectedEof => Err(ReadAtFault::Ended),
             Err(_) => Err(ReadAtFault::Failed),
         }

@@ -1,6 +1,7 @@
 //! Reading a range of a plaintext, step by step: the sectors that overlap it, and no others.
 
-ghost use Rattle.std.specs.Prelude.{◌≡◌, ◌+◌, ◌%◌, ◌<◌, ◌≤◌, ◌^◌, ◌⊎◌, ℕ, Err, IfErr, IfOk, Ok, length, take};
+ghost use Rattle.std.specs.Prelude.{◌≡◌, ◌+◌, ◌%◌, ◌<◌, ◌≤◌, ◌^◌, ◌⊎◌, ℕ, Err};
+ghost use Rattle.std.specs.Prelude.{IfErr, IfOk, Ok, length, take};
 ghost use Rattle.luks_payload.specs.Plain.{sector_len};
 ghost use Rattle.luks_access.specs.Opens.{cipher_of};
 ghost use Rattle.luks_access.specs.Sectors.{ReadsRange};

@@ -1,12 +1,12 @@
 //! Steps of reading a range of a plaintext: which bytes of the image each of them reads, and how
 //! these become bytes of the range.
 
-ghost use Rattle.std.specs.Prelude.{◌≡◌, ◌+◌, ◌-◌, ◌*◌, ◌%◌, ◌<◌, ◌≤◌, ◌^◌, ◌⊎◌, List, ℕ, MatchOption};
-ghost use Rattle.std.specs.Prelude.{drop, length, nat_le, take};
+ghost use Rattle.std.specs.Prelude.{◌≡◌, ◌+◌, ◌-◌, ◌*◌, ◌%◌, ◌<◌, ◌≤◌, ◌^◌, ◌⊎◌, List, ℕ};
+ghost use Rattle.std.specs.Prelude.{MatchOption, drop, length, nat_le, take};
 ghost use Rattle.luks_cipher.specs.Expanded.{AreExpanded};
 ghost use Rattle.luks_payload.specs.Plain.{plain_of, sector_len};
 ghost use Rattle.luks_access.specs.Sectors.{AreStored, IsRangeOf, plain_in};
-ghost use Rattle.luks_access.specs.Steps.{IsNextStep, IsStep};
+ghost use Rattle.luks_access.specs.Steps.{IsNextStep, IsStep, StepsReadRange};
 
 use crate::sectors::decrypt_sectors;
 use luks_cipher::ExpandedKeys;
@@ -28,8 +28,8 @@ pub struct ReadStep {
     pub count: usize,
 }
 
-/// How many bytes a step reads, and how many of them the range gets, if it begins `skip` bytes after
-/// the start of a sector of `size` bytes: all whole sectors, or a part of the first one.
+/// How many bytes a step reads, and how many of them the range gets, if it begins `skip` bytes
+/// after the start of a sector of `size` bytes: all whole sectors, or a part of the first one.
 fn lengths(size: usize, skip: usize, count: usize) -> (usize, usize)
     requires inside { skip < size }
     requires some { 0 < count }
@@ -137,3 +137,9 @@ pub fn finish(segment: &Segment, keys: &ExpandedKeys, step: &ReadStep, bytes: &m
     decrypt_sectors(segment, keys, step.first_sector, bytes);
     move_to_front(bytes, step.skip, step.count);
 }
+
+/// Whoever reads the bytes that each step of a range names, and decrypts them as [`finish`] does,
+/// has that range of the plaintext when none is left.
+pub fn steps_read_range()
+    ensures { StepsReadRange }
+{}

@@ -1,10 +1,10 @@
 -- The codes and the structs of `c/luksrd.h`, field by field, how a volume is read back, and what the functions answer.
 use Rattle.std.specs.Prelude.{ℕ, ◌≡◌, ◌-◌, ◌==◌, if◌then◌else◌, drop, length, replicate, take, Option, None, Some, []}
-use Rattle.std.specs.Prelude.{Bool, List, codes, false, min, nat_lt, unwrap_or, ◌≢◌, ◌+◌, ◌*◌, ◌/◌, ◌%◌, ◌^◌, Result, Ok}
+use Rattle.std.specs.Prelude.{Bool, List, ◌&&◌, bytes_eq, codes, false, min, nat_lt, true, unwrap_or, ◌≢◌, ◌+◌, ◌*◌, ◌/◌, ◌%◌, ◌^◌, Result, Ok}
 use Rattle.std.specs.Prelude.{Err}
 use Rattle.luks_access.specs.declared.options.Options.{Options}
 use Rattle.luks_unlock.specs.declared.unlocked.UnlockedVolume.{UnlockedVolume}
-use Rattle.luks_cipher.specs.Sector.{Cipher, is_mode_key_length}
+use Rattle.luks_cipher.specs.Sector.{Cipher}
 use Rattle.luks_cipher.specs.declared.mode.Mode.{Mode}
 use Rattle.luks_cipher.specs.declared.mode.Mode.TheVariants.{XtsPlain64, XtsPlain, CbcEssivSha256, CbcPlain64}
 use Rattle.luks_verdict.specs.Segment.{segment_from}
@@ -69,15 +69,15 @@ sentence_for code =
     else if code == 12 then (4, codes "luksrd: image ends before the payload")
     else if code == 13 then (4, codes "luksrd: image ends inside a sector")
     else if code == 14 then (4, codes "luksrd: image ends before the segment does")
-    else if code == 15 then (1, codes "luksrd: key slot number is above 31")
+    else if code == 15 then (1, codes "luksrd: key slot number is above 31, or options of another version")
     else if code == 16 then (1, codes "luksrd: not an open volume")
-    else if code == 17 then (1, codes "luksrd: not whole sectors of a volume")
+    else if code == 17 then (1, codes "luksrd: not whole sectors, or not a range of the plaintext")
     else (1, codes "luksrd: no such code")
 
 -- the struct holds this status and this text, as much of the text as fits, and zeros after it
 pub record StoresText (c : LuksrdMessage) (status : ℕ) (text : List ℕ) : Type 0 where
   pub is_status : c.status ≡ status
-  pub is_len : c.len ≡ min 1016 (length text)
+  pub is_len : c.len ≡ min 1015 (length text)
   pub is_text : take c.len c.text ≡ take c.len text
   pub is_rest : drop c.len c.text ≡ replicate (1016 - c.len) 0
 
@@ -97,6 +97,14 @@ named_in c = if c.has_key_slot == 0 then None else Some c.key_slot
 -- the options name a key slot by a number above 31
 abbrev pub names_no_slot : LuksrdOptions → Bool
 names_no_slot c = if c.has_key_slot == 0 then false else nat_lt 31 c.key_slot
+
+-- the struct has its size, and zeros in the reserved part
+abbrev pub is_of_this_version : LuksrdOptions → Bool
+is_of_this_version c = c.size == 64 && bytes_eq c.reserved (replicate 44 0)
+
+-- the options name a key slot by a number above 31, or are of another version
+abbrev pub are_bad : LuksrdOptions → Bool
+are_bad c = if is_of_this_version c then names_no_slot c else true
 
 -- the limit on iterations; 0 means no limit
 abbrev pub limit_in : LuksrdOptions → Option ℕ
@@ -171,9 +179,13 @@ segment_in c = segment_from record {
   mode = mode_in c.mode;
 }
 
+-- the volume key
+abbrev pub key_in : LuksrdVolume → List ℕ
+key_in c = take c.key_size c.key
+
 -- the cipher, in this mode
 abbrev pub cipher_in : LuksrdVolume → Mode → Cipher
-cipher_in c mode = (mode, take c.key_size c.key)
+cipher_in c mode = (mode, key_in c)
 
 -- the length of the plaintext in an image of `image_len` bytes: all whole sectors of this size. 0 if there is no sector
 -- size
@@ -259,12 +271,11 @@ is_range size first len = if len % bytes_of size == 0 then nat_lt (first + len /
 abbrev pub range_code : SectorSize → ℕ → ℕ → ℕ
 range_code size first len = if is_range size first len then 0 else 17
 
--- the same for this segment, if there is one, and its mode has keys of this length
-abbrev pub segment_code : Option Segment → ℕ → ℕ → ℕ → ℕ
-segment_code None key_size first len = 16
-segment_code (Some s) key_size first len =
-    if is_mode_key_length s.mode key_size then range_code s.sector_size first len else 16
+-- the same for this segment, if there is one
+abbrev pub segment_code : Option Segment → ℕ → ℕ → ℕ
+segment_code None first len = 16
+segment_code (Some s) first len = range_code s.sector_size first len
 
 -- the code of decrypting `len` bytes from sector `first` on, whatever the struct holds
 abbrev pub decrypt_code : LuksrdVolume → ℕ → ℕ → ℕ
-decrypt_code c first len = segment_code (segment_in c) c.key_size first len
+decrypt_code c first len = segment_code (segment_in c) first len

@@ -8,13 +8,14 @@ use luks_access::Message;
 /// Success.
 pub(crate) const OK: u32 = 0;
 
-/// The options name a key slot by a number above 31.
+/// The options name a key slot by a number above 31, or are of another version.
 pub(crate) const BAD_OPTIONS: u32 = 15;
 
 /// The struct holds no open volume.
 pub(crate) const BAD_VOLUME: u32 = 16;
 
-/// The bytes are not whole sectors, or the sector numbers are too large.
+/// The bytes are not whole sectors, the sector numbers are too large, or the range ends past the
+/// plaintext.
 pub(crate) const BAD_RANGE: u32 = 17;
 
 /// The number of success, a refusal or an ending. Any other message gets that of "out of memory".
@@ -61,9 +62,15 @@ pub(crate) fn sentence(code: u32) -> (u32, &'static str)
         12 => (4, "luksrd: image ends before the payload"),
         13 => (4, "luksrd: image ends inside a sector"),
         14 => (4, "luksrd: image ends before the segment does"),
-        15 => (1, "luksrd: key slot number is above 31"),
+        15 => (
+            1,
+            "luksrd: key slot number is above 31, or options of another version",
+        ),
         16 => (1, "luksrd: not an open volume"),
-        17 => (1, "luksrd: not whole sectors of a volume"),
+        17 => (
+            1,
+            "luksrd: not whole sectors, or not a range of the plaintext",
+        ),
         _ => (1, "luksrd: no such code"),
     }
 }

@@ -5,35 +5,43 @@
 #![tactic(auto)]
 
 ghost use Rattle.std.specs.Prelude.{◌≡◌, ◌≢◌, ◌+◌, ◌*◌, ◌/◌, ◌%◌, ◌^◌, ◌<◌, List, ℕ, length};
+ghost use Rattle.std.specs.Prelude.{replicate, take};
 ghost use Rattle.std.specs.Prelude.{true};
 ghost use Rattle.luks_access.specs.Opens.{cipher_of, plaintext_of};
-ghost use Rattle.luks_access.specs.Sectors.{AreStored, plain_at};
+ghost use Rattle.luks_access.specs.Sectors.{AreStored, IsRangeOf, plain_at};
 ghost use Rattle.luks_unlock.specs.declared.unlocked.UnlockedVolume.{UnlockedVolume};
 ghost use Rattle.luks_payload.specs.Plain.{ending_of, sector_len};
 ghost use Rattle.luks_verdict.specs.SectorSize.{bytes_of};
 ghost use Rattle.luks_c.specs.Stored.{DecryptsAs, EndsAs, EndsIn, IsCleared, Opened, Refused};
 ghost use Rattle.luks_c.specs.Stored.{Stores, StoresCode, decrypt_code, fault_bytes, is_range};
-ghost use Rattle.luks_c.specs.Stored.{names_no_slot, plaintext_len_in};
+ghost use Rattle.luks_c.specs.Stored.{are_bad, plaintext_len_in};
+ghost use Rattle.luks_c.specs.Steps.{Finishes, IsNoCipher, IsNoStep, IsPrepared, Plans};
+ghost use Rattle.luks_c.specs.Steps.{finish_code, plan_code, prepare_code};
 
+use crate::cipher::LuksrdCipher;
 use crate::code::{BAD_OPTIONS, BAD_RANGE, BAD_VOLUME, OK, code_of, sentence};
 use crate::message::LuksrdMessage;
 use crate::options::{LuksrdOptions, options_in};
+use crate::step::LuksrdStep;
 use crate::volume::LuksrdVolume;
 use luks_access::Message;
 use luks_access::sectors::{decrypt_sectors, payload_ending, plaintext_len};
+use luks_access::step::{finish, plan};
 use luks_access::volume::Volume;
 use luks_io::memory::MemSource;
 use luks_payload::fault::VolumeFault;
 use luks_verdict::sector_size::SectorSize;
 use std::alloc::Global;
 
+pub mod cipher;
 mod code;
 pub mod message;
 pub mod options;
+pub mod step;
 pub mod volume;
 
 /// The version of this library: major * 65536 + minor * 256 + patch.
-const VERSION: u32 = 0x0001_0100;
+const VERSION: u32 = 0x0001_0200;
 
 /// Opens a volume by a passphrase, from the first bytes of its image or of its detached header.
 ///
@@ -52,9 +60,9 @@ pub extern "C" fn luksrd_open(
     ensures refuses { result ≢ 0 → result ≢ 15
         → Refused options.now header.now passphrase.now result message.new }
     ensures cleared { result ≢ 0 → IsCleared volume.new }
-    ensures bad_slot { names_no_slot options.now ≡ true
+    ensures bad { are_bad options.now ≡ true
         → (result ≡ 15) × StoresCode message.new 15 }
-    ensures bad_options { result ≡ 15 → names_no_slot options.now ≡ true }
+    ensures bad_options { result ≡ 15 → are_bad options.now ≡ true }
 {
     let Some(options) = options_in(options) else {
         volume.clear();
@@ -124,7 +132,7 @@ pub extern "C" fn luksrd_ending(
             OK
         }
         Err(fault) => {
-            *bytes = bytes_of(fault);
+            *bytes = fault_bytes(fault);
             let ending = Message::from(fault);
             message.set(&ending);
             code_of(&ending)
@@ -133,7 +141,7 @@ pub extern "C" fn luksrd_ending(
 }
 
 /// The number of bytes in an ending's message.
-fn bytes_of(fault: VolumeFault) -> u64
+fn fault_bytes(fault: VolumeFault) -> u64
     ensures { result ≡ fault_bytes fault }
 {
     match fault {
@@ -153,29 +161,115 @@ fn is_range(sector_size: SectorSize, first: u64, len: usize) -> bool
     len % size == 0 && (len / size) as u64 <= u64::MAX - first
 }
 
+/// Expands the keys of a volume. If the code is not 0, the struct is all zero.
+#[unsafe(no_mangle)]
+pub extern "C" fn luksrd_prepare(volume: &LuksrdVolume, cipher: &mut LuksrdCipher) -> u32
+    ensures code { result ≡ prepare_code volume.now }
+    ensures volume { result ≡ 0 → cipher.new.volume ≡ volume.now }
+    ensures prepared { result ≡ 0 → IsPrepared cipher.new }
+    ensures cleared { result ≢ 0 → IsNoCipher cipher.new }
+{
+    let Some(segment) = volume::segment(volume) else {
+        cipher.clear();
+        return BAD_VOLUME;
+    };
+    let Some(key) = volume::key(volume, segment.mode) else {
+        cipher.clear();
+        return BAD_VOLUME;
+    };
+    cipher.store(volume, segment.mode, key);
+    OK
+}
+
+/// The next step of reading `len` bytes of the plaintext from `offset` on. If the code is not 0,
+/// the struct is all zero.
+#[unsafe(no_mangle)]
+pub extern "C" fn luksrd_plan(
+    cipher: &LuksrdCipher,
+    image_len: u64,
+    offset: u64,
+    len: u64,
+    step: &mut LuksrdStep,
+) -> u32
+    ensures code { result ≡ plan_code cipher.now.volume image_len offset len }
+    ensures plans { result ≡ 0 → Plans cipher.now.volume image_len offset len step.new }
+    ensures cleared { result ≢ 0 → IsNoStep step.new }
+{
+    let Some(segment) = volume::segment(&cipher.volume) else {
+        step.clear();
+        return BAD_VOLUME;
+    };
+    let all = plaintext_len(segment.offset, segment.size, segment.sector_size, image_len);
+    match plan(&segment, all, offset, len as usize) {
+        Some(next) => {
+            step.store(&next);
+            OK
+        }
+        None => {
+            step.clear();
+            BAD_RANGE
+        }
+    }
+}
+
+/// Decrypts the bytes that a step has read, and moves those that the range gets to their beginning.
+/// If the code is not 0, the bytes are as they were.
+#[unsafe(no_mangle)]
+pub extern "C" fn luksrd_finish(cipher: &LuksrdCipher, step: &LuksrdStep, bytes: &mut [u8]) -> u32
+    ensures value { result ≡ 0 → IsPrepared cipher.now
+        → Finishes cipher.now.volume step.now bytes.old bytes.new }
+    ensures stored { result ≡ 0 → IsPrepared cipher.now
+        → (v : UnlockedVolume) (image : List ℕ) → Stores cipher.now.volume v
+        → AreStored v.segment image step.now.first_sector bytes.old
+        → IsRangeOf (plaintext_of v image)
+        (step.now.first_sector * sector_len v.segment + step.now.skip)
+        (take step.now.count bytes.new) }
+    ensures kept { result ≢ 0 → bytes.new ≡ bytes.old }
+    ensures code { result ≡ finish_code cipher.now.volume step.now (length bytes.old) }
+{
+    let Some(segment) = volume::segment(&cipher.volume) else {
+        return BAD_VOLUME;
+    };
+    if !is_range(segment.sector_size, step.first_sector, bytes.len()) {
+        return BAD_RANGE;
+    }
+    if !step.is_within(bytes.len()) {
+        return BAD_RANGE;
+    }
+    finish(&segment, &cipher.keys, &step.stored(), bytes);
+    OK
+}
+
 /// Decrypts whole sectors in place, the first of which has this number. If the code is not 0, the
 /// bytes are as they were.
 #[unsafe(no_mangle)]
-pub extern "C" fn luksrd_decrypt(volume: &LuksrdVolume, first_sector: u64, bytes: &mut [u8]) -> u32
-    ensures value { result ≡ 0 → DecryptsAs volume.now first_sector bytes.old bytes.new }
-    ensures stored { result ≡ 0 → (v : UnlockedVolume) (image : List ℕ) → Stores volume.now v
+pub extern "C" fn luksrd_decrypt(cipher: &LuksrdCipher, first_sector: u64, bytes: &mut [u8]) -> u32
+    ensures value { result ≡ 0 → IsPrepared cipher.now
+        → DecryptsAs cipher.now.volume first_sector bytes.old bytes.new }
+    ensures stored { result ≡ 0 → IsPrepared cipher.now
+        → (v : UnlockedVolume) (image : List ℕ) → Stores cipher.now.volume v
         → AreStored v.segment image first_sector bytes.old
         → bytes.new ≡ plain_at v.segment (cipher_of v) image
         (first_sector * sector_len v.segment) (length bytes.old) }
     ensures kept { result ≢ 0 → bytes.new ≡ bytes.old }
-    ensures code { result ≡ decrypt_code volume.now first_sector (length bytes.old) }
+    ensures code { result ≡ decrypt_code cipher.now.volume first_sector (length bytes.old) }
 {
-    let Some(segment) = volume::segment(volume) else {
-        return BAD_VOLUME;
-    };
-    let Some(cipher) = volume::cipher(volume, segment.mode) else {
+    let Some(segment) = volume::segment(&cipher.volume) else {
         return BAD_VOLUME;
     };
     if !is_range(segment.sector_size, first_sector, bytes.len()) {
         return BAD_RANGE;
     }
-    decrypt_sectors(&segment, &cipher, first_sector, bytes);
+    decrypt_sectors(&segment, &cipher.keys, first_sector, bytes);
     OK
+}
+
+/// Fills the bytes with zeros.
+#[unsafe(no_mangle)]
+pub extern "C" fn luksrd_wipe(bytes: &mut [u8])
+    ensures { bytes.new ≡ replicate (length bytes.old) 0 }
+{
+    bytes.fill(0);
 }
 
 /// The status and the sentence of a number alone.
@@ -189,7 +283,7 @@ pub extern "C" fn luksrd_status_text(code: u32, message: &mut LuksrdMessage)
 /// The version of this library.
 #[unsafe(no_mangle)]
 pub extern "C" fn luksrd_version() -> u32
-    ensures { result ≡ 1 * 65536 + 1 * 256 }
+    ensures { result ≡ 1 * 65536 + 2 * 256 }
 {
     VERSION
 }

@@ -1,12 +1,12 @@
 //! The messages of luksrd, as C keeps them.
 
-ghost use Rattle.std.specs.Prelude.{◌≡◌, ◌-◌, drop, length, min, replicate, take};
+ghost use Rattle.std.specs.Prelude.{◌≡◌, ◌+◌, ◌-◌, drop, length, min, replicate, take};
 ghost use Rattle.luks_c.specs.Stored.{StoresMessage, StoresText};
 
 use luks_access::Message;
 
-/// The capacity for a sentence in bytes: more than any sentence needs.
-const CAPACITY: usize = 1016;
+/// The length of the longest sentence in bytes: more than any sentence needs. A zero follows it.
+const CAPACITY: usize = 1015;
 
 /// The exit status of `luksrd luksCat`, and the line that it prints, without its newline.
 #[repr(C)]
@@ -15,18 +15,18 @@ pub struct LuksrdMessage {
     pub status: u32,
     /// The length of the text in bytes.
     pub len: u32,
-    /// The text, and zeros after it.
+    /// The text, and zeros after it, at least one.
     pub text: [u8; 1016],
 }
 
 // Writes as much of a text as fits, and zeros after it. Returns how many bytes of it were written.
 fn write_text(buf: &mut [u8], text: &[u8]) -> u32
-    requires { length buf.old ≡ CAPACITY }
+    requires { length buf.old ≡ CAPACITY + 1 }
     ensures count { result ≡ min CAPACITY (length text.now) }
     ensures text { take result buf.new ≡ take result text.now }
-    ensures rest { drop result buf.new ≡ replicate (CAPACITY - result) 0 }
+    ensures rest { drop result buf.new ≡ replicate (CAPACITY + 1 - result) 0 }
 {
-    let len = text.len().min(buf.len());
+    let len = text.len().min(CAPACITY);
     buf.fill(0);
     buf[..len].copy_from_slice(&text[..len]);
     len as u32

@@ -1,7 +1,8 @@
 //! How a volume is opened, as C passes it.
 
 ghost use Rattle.std.specs.Prelude.{◌≡◌, IfSome, MatchOption, false, true};
-ghost use Rattle.luks_c.specs.Stored.{AreOptions, limit_in, named_in, names_no_slot};
+ghost use Rattle.luks_c.specs.Stored.{AreOptions, are_bad, is_of_this_version, limit_in, named_in};
+ghost use Rattle.luks_c.specs.Stored.{names_no_slot};
 
 use luks_access::options::Options;
 use luks_access::{HeaderLocation, SlotChoice};
@@ -9,6 +10,8 @@ use luks_access::{HeaderLocation, SlotChoice};
 /// How a volume is opened.
 #[repr(C)]
 pub struct LuksrdOptions {
+    /// The size of this struct in bytes.
+    pub size: u32,
     /// Not 0: the bytes are those of a detached header.
     pub detached: u32,
     /// Not 0: only the key slot of number `key_slot` is tried.
@@ -17,6 +20,15 @@ pub struct LuksrdOptions {
     pub key_slot: u32,
     /// The maximum number of iterations of a key slot and of a digest, or 0 for no limit.
     pub max_iterations: u32,
+    /// Always 0.
+    pub reserved: [u8; 44],
+}
+
+// Whether the struct is of this version: it has its size, and zeros in the reserved part.
+fn is_of_this_version(options: &LuksrdOptions) -> bool
+    ensures { result ≡ is_of_this_version options.now }
+{
+    options.size == 64 && options.reserved.as_slice() == [0; 44].as_slice()
 }
 
 // The key slot that is named, if any is, or `None` if its number is above 31.
@@ -45,12 +57,16 @@ fn max_iterations(options: &LuksrdOptions) -> Option<u32>
     }
 }
 
-/// The options that C passes, or `None` if they name a key slot by a number above 31.
+/// The options that C passes, or `None` if they name a key slot by a number above 31 or are of
+/// another version.
 pub(crate) fn options_in(options: &LuksrdOptions) -> Option<Options>
-    ensures named { MatchOption result (names_no_slot options.now ≡ true)
-        (λ _. names_no_slot options.now ≡ false) }
+    ensures named { MatchOption result (are_bad options.now ≡ true)
+        (λ _. are_bad options.now ≡ false) }
     ensures made { IfSome result (λ made. AreOptions options.now made) }
 {
+    if !is_of_this_version(options) {
+        return None;
+    }
     let named = named_slot(options)?;
     let location = if options.detached == 0 {
         HeaderLocation::Attached

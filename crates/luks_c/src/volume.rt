@@ -4,11 +4,11 @@ ghost use Rattle.std.specs.Prelude.{◌≡◌, ◌-◌, ◌≤◌, MatchOption, 
 ghost use Rattle.std.specs.Prelude.{replicate, take, true};
 ghost use Rattle.luks_cipher.specs.Sector.{is_mode_key_length};
 ghost use Rattle.luks_verdict.specs.SectorSize.{sector_size_with};
-ghost use Rattle.luks_c.specs.Stored.{Filled, IsCleared, cipher_in, mode_in, mode_number};
+ghost use Rattle.luks_c.specs.Stored.{Filled, IsCleared, key_in, mode_in, mode_number};
 ghost use Rattle.luks_c.specs.Stored.{segment_in, size_stored_in};
 
 use luks_access::volume::Volume;
-use luks_cipher::{Mode, SectorCipher};
+use luks_cipher::Mode;
 use luks_header::segment::{Segment, SegmentParts};
 use luks_verdict::sector_size::SectorSize;
 
@@ -17,6 +17,7 @@ const CAPACITY: usize = 64;
 
 /// An open volume. All of it is plain numbers.
 #[repr(C)]
+#[derive(Clone, Copy)]
 pub struct LuksrdVolume {
     /// The offset of the payload in its image, in bytes.
     pub offset: u64,
@@ -102,17 +103,17 @@ pub(crate) fn segment(volume: &LuksrdVolume) -> Option<Segment>
     })
 }
 
-/// Its cipher, in this mode.
-pub(crate) fn cipher(volume: &LuksrdVolume, mode: Mode) -> Option<SectorCipher>
+/// Its key, if this mode has keys of its length.
+pub(crate) fn key(volume: &LuksrdVolume, mode: Mode) -> Option<&[u8]>
     ensures { MatchOption result (is_mode_key_length mode volume.now.key_size ≡ false)
-        (λ cipher. (is_mode_key_length mode volume.now.key_size ≡ true)
-        × (cipher ≡ cipher_in volume.now mode)) }
+        (λ key. (is_mode_key_length mode volume.now.key_size ≡ true)
+        × (length key.now ≡ volume.now.key_size) × (key.now ≡ key_in volume.now)) }
 {
     let len = volume.key_size as usize;
-    if len > CAPACITY {
+    if len > CAPACITY || !mode.has_key_length(len) {
         return None;
     }
-    SectorCipher::new(mode, &volume.key[..len])
+    Some(&volume.key[..len])
 }
 
 // Writes a key, and zeros after it. Returns its length.

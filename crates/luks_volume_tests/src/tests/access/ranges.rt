@@ -6,7 +6,6 @@ use crate::tests::shared::assert_of;
 use luks_access::fault::RangeFault;
 use luks_access::sectors::decrypt_sectors;
 use luks_access::volume::Volume;
-use luks_cipher::SectorCipher;
 use luks_seal_fixtures::bytes::at;
 use luks_verdict::sector_size::SectorSize;
 use std::process::Abort;
@@ -149,10 +148,8 @@ fn only_the_sectors_of_a_range_are_read(rt: HostRuntime) {
 fn decrypt(volume: &Volume, bytes: &mut [u8]) {
     let segment = volume.segment();
     let size = segment.sector_size.bytes();
-    if let Some(cipher) = SectorCipher::new(segment.mode, volume.key()) {
-        if bytes.len() % size == 0 && bytes.len() / size < 100 {
-            decrypt_sectors(&segment, &cipher, 2, bytes);
-        }
+    if bytes.len() % size == 0 {
+        decrypt_sectors(&segment, volume.keys(), 2, bytes);
     }
 }
 

@@ -41,8 +41,13 @@ returns-in-Err g c =
     reads_more plain.volume.now.segment (cipher_of plain.volume.now) plain.len (g.I.ReadAt.image plain.image.now)
     (g.I.ReadAt.fails plain.image.now) (c.args.offset + done) c.args.offset c.in-Err.fault new
     (put_mid done left buf new) (omega arith)
-    (omega (arith, same_len_mid done left buf new c.read_next.auto.buf, c.read_next.auto.buf,
-    length-take left (drop done buf), length-drop done buf))
+    (omega (
+      arith,
+      same_len_mid done left buf new c.read_next.auto.buf,
+      c.read_next.auto.buf,
+      length-take left (drop done buf),
+      length-drop done buf,
+    ))
     c.in-Err.ensures.err
 
 pub returns : goal.returns

@@ -1,0 +1,19 @@
+use Rattle.std.proofs.Common.{◌∙◌, List, ℕ, ap, subst, sym}
+use Rattle.std.proofs.lemmas.Option.{same_Some}
+use Rattle.luks_cipher.specs.Expanded.{AreExpanded}
+use Rattle.luks_verdict.specs.declared.segment.Segment.{Segment}
+use Rattle.luks_c.specs.Stored.{key_in, segment_in}
+use Rattle.luks_c.specs.declared.volume.LuksrdVolume.{LuksrdVolume}
+use Rattle.luks_c.proofs.luksrd_prepare.Goals as goal
+
+pub returns-clause-prepared : goal.returns-clause-prepared
+returns-clause-prepared c done = record {
+  keys = λ s there.
+      let segment = c.in-Some.segment in
+      let new = c.store.new.self in
+      let same = same_Some segment s (c.in-Some.ensures ∙ (ap segment_in (sym c.store.ensures.volume) ∙ there)) in
+      let key = subst (λ (k : List ℕ). AreExpanded k segment.mode new.keys) c.in-Some-key.ensures.2 c.store.ensures.keys
+      in
+      subst (λ (w : LuksrdVolume). AreExpanded (key_in w) s.mode new.keys) (sym c.store.ensures.volume)
+      (subst (λ (t : Segment). AreExpanded (key_in c.args.volume.now) t.mode new.keys) same key);
+}
