@@ -12,17 +12,19 @@
 # make bench      measures key derivation, decryption and whole volumes beside other implementations, and memory
 # make library    builds the library for C: out/libluksrd.a, out/libluksrd.so and out/luksrd.pc, and the same for
 #                 x86-64-v3 in out/glibc-hwcaps, which the loader takes if the processor can run it
-# make nbdkit     builds the plugin for nbdkit, out/nbdkit-luksrd-plugin.so, and the library, which it loads
+# make nbdkit     builds the plugin for nbdkit, out/nbdkit-luksrd-plugin.so, the filter,
+#                 out/nbdkit-luksrd-filter.so, for the installed version of nbdkit, and the library, which both load
 # make install    puts the program, its man page, its completions, README.md and FORMATS.md below PREFIX
-#                 (/usr/local if it is not given), in DESTDIR if that is given; the library too if it
-#                 is built, and the plugin if it is built: for /usr and /usr/local in nbdkit's own
-#                 folder, for any other PREFIX in lib/nbdkit/plugins below it, or in PLUGINS if that
-#                 is given; luksrd-audit, its man page, its completions and AUDIT.md too, if it is built. With
-#                 CPU=x86-64-v3 it installs the luksrd for that, if it runs here
+#                 (/usr/local if it is not given), in DESTDIR if that is given; the library and its module for Python
+#                 too if it is built, and the plugin and the filter if they are built: for /usr and /usr/local in
+#                 nbdkit's own folders, for any other PREFIX in lib/nbdkit/plugins and lib/nbdkit/filters below it, or in
+#                 PLUGINS and FILTERS if these are given; luksrd-audit, its man page, its completions and AUDIT.md too,
+#                 if it is built. With CPU=x86-64-v3 it installs the luksrd for that, if it runs here
 # make uninstall  removes them again, except what a Debian package has put there
-# make deb        makes a Debian package of the program as it is built for both processors, in DEB, and if the plugin is
-#                 built, one of that in PLUGIN_DEB and one of the library, which it loads, in LIBRARY_DEB. No package
-#                 has luksrd-audit
+# make deb        makes a Debian package of the program as it is built for both processors, in DEB; if the plugin is
+#                 built, one of that in PLUGIN_DEB, if the filter is built, one of that in FILTER_DEB, and with any of
+#                 these one of the library, which they load, in LIBRARY_DEB, and one of the module for Python in PYTHON_DEB.
+#                 No package has luksrd-audit
 
 # What the program is built for and installed for; the library is always built for both. (Some
 # systems have a CPU in the environment, so this is not ?=.)
@@ -49,14 +51,23 @@ LIBRARY := out/libluksrd.a
 SHARED := out/libluksrd.so
 SHARED_V3 := out/$(HWCAPS)/libluksrd.so.$(INTERFACE)
 PLUGIN := out/nbdkit-luksrd-plugin.so
+FILTER := out/nbdkit-luksrd-filter.so
 DEB ?= out/luksrd_$(VERSION)_amd64.deb
 PLUGIN_DEB ?= out/nbdkit-plugin-luksrd_$(VERSION)_amd64.deb
+FILTER_DEB ?= out/nbdkit-filter-luksrd_$(VERSION)_amd64.deb
 LIBRARY_DEB ?= out/libluksrd$(INTERFACE)_$(VERSION)_amd64.deb
+PYTHON_DEB ?= out/python3-luksrd_$(VERSION)_all.deb
 PREFIX ?= /usr/local
 ZSH_FUNCTIONS ?= $(PREFIX)/share/zsh/site-functions
-# nbdkit finds plugins by name in its own folder alone, but only root may write there
-PLUGINS ?= $(if $(filter-out /usr /usr/local,$(PREFIX:/=)),$(PREFIX)/lib/nbdkit/plugins,$(shell \
-    pkg-config nbdkit --variable=plugindir 2>/dev/null))
+# nbdkit finds plugins and filters by name in its own folders alone, but only root may write there
+nbdkit_folder = $(if $(filter-out /usr /usr/local,$(PREFIX:/=)),$(PREFIX)/lib/nbdkit/$(1)s,$(shell \
+    pkg-config nbdkit --variable=$(1)dir 2>/dev/null))
+PLUGINS ?= $(call nbdkit_folder,plugin)
+FILTERS ?= $(call nbdkit_folder,filter)
+# Debian's Python looks in a folder of its own version below /usr/local
+python_folder = $(filter /usr/local/%,$(shell \
+    /usr/bin/python3 -c 'import site; print(*site.getsitepackages())' 2>/dev/null))
+MODULES ?= $(firstword $(if $(filter /usr/local,$(PREFIX:/=)),$(python_folder)) $(PREFIX)/lib/python3/dist-packages)
 BINARIES = $(DESTDIR)$(PREFIX)/bin
 PAGES = $(DESTDIR)$(PREFIX)/share/man/man1
 DOCUMENTS = $(DESTDIR)$(PREFIX)/share/doc/luksrd
@@ -65,13 +76,15 @@ ZSH_COMPLETIONS = $(DESTDIR)$(ZSH_FUNCTIONS)
 LIBRARIES = $(DESTDIR)$(PREFIX)/lib
 HEADERS = $(DESTDIR)$(PREFIX)/include
 PLUGIN_FILE = $(DESTDIR)$(PLUGINS)/nbdkit-luksrd-plugin.so
+FILTER_FILE = $(DESTDIR)$(FILTERS)/nbdkit-luksrd-filter.so
+MODULE_FILE = $(DESTDIR)$(MODULES)/luksrd.py
 CFLAGS ?= -O2
 # the library's file, and the two names that lead to it
 SHARED_NAMES = libluksrd.so.$(VERSION) libluksrd.so.$(INTERFACE) libluksrd.so
 
 .PHONY: all demo check scripts program-scripts audit-scripts c-scripts tool-scripts v3-scripts v3-tool-scripts test
-.PHONY: pages bench library nbdkit tools toolchain built library-built runs-here install install-program install-audit
-.PHONY: install-library install-shared install-plugin uninstall deb
+.PHONY: pages bench library nbdkit tools toolchain built library-built nbdkit-folders runs-here install install-program
+.PHONY: install-audit install-library install-shared install-plugin install-filter install-python uninstall deb
 
 all: $(PROGRAM) $(AUDIT)
 
@@ -135,15 +148,29 @@ out/luksrd.pc: c/luksrd.pc.in FORCE
 	mkdir -p out
 	$(call package_config,$@)
 
-nbdkit: $(PLUGIN) $(SHARED_V3)
+nbdkit: $(PLUGIN) $(FILTER) $(SHARED_V3)
+	@echo "$(FILTER) is for nbdkit $$(cat out/nbdkit.version), and for no other version"
 
-# It loads the library from its own folder, as in out/, or from two folders above that, as for
+# They load the library from their own folder, as in out/, or from two folders above that, as for
 # lib/nbdkit/plugins below a PREFIX; otherwise the loader has to know the library.
-$(PLUGIN): $(wildcard nbdkit/*.[ch]) c/luksrd.h $(SHARED)
-	mkdir -p "$(dir $@)"
+NBDKIT_PARTS := nbdkit/input.c nbdkit/parameters.c nbdkit/volume.c
+NBDKIT_HEADERS := $(wildcard nbdkit/*.h) c/luksrd.h
+# $(call link_nbdkit,FILE,SOURCES)
+link_nbdkit = mkdir -p "$(dir $(1))" && \
 	$(CC) $(CFLAGS) -std=c11 -D_GNU_SOURCE -DVERSION='"$(VERSION)"' -Wall -Wextra -Werror -fPIC -fvisibility=hidden -Ic \
 	    $$(pkg-config nbdkit --cflags) -shared -Wl,-z,relro,-z,now,-z,noexecstack \
-	    -Wl,--enable-new-dtags,-rpath,'$$ORIGIN:$$ORIGIN/../..' $(LDFLAGS) -o "$@" nbdkit/*.c "$(SHARED)" $(LDLIBS)
+	    -Wl,--enable-new-dtags,-rpath,'$$ORIGIN:$$ORIGIN/../..' $(LDFLAGS) -o "$(1)" $(2) "$(SHARED)" $(LDLIBS) -lpthread
+
+$(PLUGIN): nbdkit/plugin.c $(NBDKIT_PARTS) $(NBDKIT_HEADERS) $(SHARED)
+	$(call link_nbdkit,$@,nbdkit/plugin.c $(NBDKIT_PARTS))
+
+# nbdkit loads no filter that was built for another version of it.
+$(FILTER): nbdkit/filter.c nbdkit/below.c $(NBDKIT_PARTS) $(NBDKIT_HEADERS) $(SHARED) out/nbdkit.version
+	$(call link_nbdkit,$@,nbdkit/filter.c nbdkit/below.c $(NBDKIT_PARTS))
+
+out/nbdkit.version: FORCE
+	@mkdir -p out && pkg-config nbdkit --modversion >$@.new
+	@if cmp -s $@.new $@; then rm $@.new; else mv $@.new $@; fi
 
 demo: toolchain
 	@tests/demo
@@ -160,7 +187,7 @@ TESTS := stripes volumes devices pipes faults interruptions install memory hosti
 INTEROP := headers headers2 volumes volumes2 detached filesystems
 SOURCE_SCRIPTS := test-names test-counts test-headline test-contracts
 PROGRAM_SCRIPTS := $(SOURCE_SCRIPTS) $(TESTS:%=test-%) $(INTEROP:%=interop-%)
-C_SCRIPTS := test-package test-library test-processors interop-nbd interop-recipes
+C_SCRIPTS := test-package test-library test-processors interop-nbd interop-filter interop-python interop-recipes
 TOOL_SCRIPTS := interop-sealed interop-keys
 AUDIT_SCRIPTS := interop-audit
 ALL_SCRIPTS := $(PROGRAM_SCRIPTS) $(AUDIT_SCRIPTS) $(C_SCRIPTS) $(TOOL_SCRIPTS)
@@ -213,19 +240,22 @@ $(TOOL_SCRIPTS): interop-%:
 	interop/$*.sh $(PROGRAM) $(TOOLS)
 
 test-package:
-	tests/package.sh $(PROGRAM_V2) $(PLUGIN) $(LIBRARY) $(SHARED) $(SHARED_V3) $(PROGRAM_V3)
+	tests/package.sh $(PROGRAM_V2) $(PLUGIN) $(LIBRARY) $(SHARED) $(SHARED_V3) $(PROGRAM_V3) $(FILTER)
 
 test-processors:
 	tests/processors.sh $(PROGRAM_V2) $(PLUGIN) $(SHARED) $(SHARED_V3) $(PROGRAM_V3)
 
-interop-nbd:
-	interop/nbd.sh $(PROGRAM) $(PLUGIN) $(SHARED)
+interop-nbd interop-filter: interop-%:
+	interop/$*.sh $(PROGRAM) $(PLUGIN) $(SHARED) $(FILTER)
+
+interop-python:
+	interop/python.sh $(PROGRAM) $(SHARED)
 
 interop-audit:
 	interop/audit.sh $(PROGRAM) $(AUDIT)
 
 interop-recipes:
-	interop/recipes.sh $(PROGRAM) $(PLUGIN)
+	interop/recipes.sh $(PROGRAM) $(PLUGIN) $(FILTER)
 
 test-library:
 	tests/library.sh $(PROGRAM) $(LIBRARY) $(SHARED) $(SHARED_V3)
@@ -259,11 +289,12 @@ runs-here: built
 	@"$(PROGRAM)" $(merge_a_stripe) crates/luksrd/data/stripes | cmp -s - crates/luksrd/data/stripes || \
 	    { echo "luksrd for $(CPU) does not run here: nothing is installed" >&2; exit 1; }
 
-# The plugin comes before the program: if its folder is not known or not writable, nothing is installed.
+# Plugin and filter come before the program: if their folders are not known or not writable, nothing is installed.
 install: built $(if $(filter-out x86-64-v2,$(CPU)),runs-here) \
-    $(if $(wildcard $(PLUGIN)),library-built install-plugin) install-program \
+    $(if $(wildcard $(PLUGIN) $(FILTER)),library-built nbdkit-folders) \
+    $(if $(wildcard $(PLUGIN)),install-plugin) $(if $(wildcard $(FILTER)),install-filter) install-program \
     $(if $(wildcard $(AUDIT)),install-audit) \
-    $(if $(wildcard $(PLUGIN) $(LIBRARY)),install-library)
+    $(if $(wildcard $(PLUGIN) $(FILTER) $(LIBRARY)),install-library install-python)
 
 install-audit:
 	@test -f "$(AUDIT)" -a -x "$(AUDIT)" || { echo "luksrd-audit is not built: run make first" >&2; exit 1; }
@@ -311,15 +342,35 @@ install-library: library-built install-shared
 # update-alternatives that it is
 packaged = { dpkg-query -S "$(1)" | sed 's/: .*//'; readlink "$(1)" | grep '^/etc/alternatives/'; } 2>/dev/null
 
+nbdkit-folders:
+	@for folder in $(if $(wildcard $(PLUGIN)),"$(PLUGINS)") $(if $(wildcard $(FILTER)),"$(FILTERS)"); do \
+	    [ -z "$$folder" ] || { install -d "$(DESTDIR)$$folder" && test -w "$(DESTDIR)$$folder"; } || \
+	        { echo "$(DESTDIR)$$folder cannot be written to: nothing is installed" >&2; exit 1; }; \
+	done
+
+# $(call install_nbdkit,plugin or filter,FILE,FOLDER,INSTALLED FILE)
+define install_nbdkit
+@test -f "$(2)" || { echo "the $(1) is not built: run make nbdkit first" >&2; exit 1; }
+@test -n "$(3)" || \
+    { echo "nbdkit's folder is not known: run apt-get install nbdkit-plugin-dev pkg-config" >&2; exit 1; }
+@name=$$($(call packaged,$(4))); [ -z "$$name" ] || \
+    { echo "the package $$name has $(4): run apt-get remove $$name, or give a PREFIX" >&2; exit 1; }
+install -d "$(DESTDIR)$(3)" "$(PAGES)"
+install -m 644 "$(2)" "$(4)"
+install -m 644 docs/nbdkit-luksrd-$(1).1 "$(PAGES)/nbdkit-luksrd-$(1).1"
+endef
+
 install-plugin: | $(if $(filter-out x86-64-v2,$(CPU)),runs-here)
-	@test -f "$(PLUGIN)" || { echo "the plugin is not built: run make nbdkit first" >&2; exit 1; }
-	@test -n "$(PLUGINS)" || \
-	    { echo "nbdkit's folder is not known: run apt-get install nbdkit-plugin-dev pkg-config" >&2; exit 1; }
-	@name=$$($(call packaged,$(PLUGIN_FILE))); [ -z "$$name" ] || { echo \
-	    "the package $$name has $(PLUGIN_FILE): run apt-get remove $$name, or give a PREFIX" >&2; exit 1; }
-	install -d "$(DESTDIR)$(PLUGINS)" "$(PAGES)"
-	install -m 644 "$(PLUGIN)" "$(PLUGIN_FILE)"
-	install -m 644 docs/nbdkit-luksrd-plugin.1 "$(PAGES)/nbdkit-luksrd-plugin.1"
+	$(call install_nbdkit,plugin,$(PLUGIN),$(PLUGINS),$(PLUGIN_FILE))
+
+install-filter: | $(if $(filter-out x86-64-v2,$(CPU)),runs-here)
+	$(call install_nbdkit,filter,$(FILTER),$(FILTERS),$(FILTER_FILE))
+
+install-python: | $(if $(filter-out x86-64-v2,$(CPU)),runs-here)
+	@name=$$($(call packaged,$(MODULE_FILE))); [ -z "$$name" ] || \
+	    { echo "the package $$name has $(MODULE_FILE): run apt-get remove $$name, or give a PREFIX" >&2; exit 1; }
+	install -d "$(DESTDIR)$(MODULES)"
+	install -m 644 python/luksrd.py "$(MODULE_FILE)"
 
 INSTALLED = "$(BINARIES)/luksrd" "$(PAGES)/luksrd.1" "$(DOCUMENTS)/README.md" "$(DOCUMENTS)/FORMATS.md" \
     "$(BASH_COMPLETIONS)/luksrd" "$(ZSH_COMPLETIONS)/_luksrd" \
@@ -328,14 +379,17 @@ INSTALLED = "$(BINARIES)/luksrd" "$(PAGES)/luksrd.1" "$(DOCUMENTS)/README.md" "$
     "$(HEADERS)/luksrd.h" "$(LIBRARIES)/libluksrd.a" $(SHARED_NAMES:%="$(LIBRARIES)/%") \
     "$(LIBRARIES)/pkgconfig/luksrd.pc" \
     "$(LIBRARIES)/$(HWCAPS)/$(word 2,$(SHARED_NAMES))" \
-    "$(PAGES)/nbdkit-luksrd-plugin.1" $(if $(PLUGINS),"$(PLUGIN_FILE)")
+    "$(PAGES)/nbdkit-luksrd-plugin.1" $(if $(PLUGINS),"$(PLUGIN_FILE)") \
+    "$(PAGES)/nbdkit-luksrd-filter.1" $(if $(FILTERS),"$(FILTER_FILE)") \
+    "$(MODULE_FILE)" $(patsubst %,"%",$(wildcard $(DESTDIR)$(MODULES)/__pycache__/luksrd.*.pyc))
 
 uninstall:
 	@for file in $(INSTALLED); do \
 	    [ ! -e "$$file" ] && [ ! -L "$$file" ] || [ -n "$$($(call packaged,$$file))" ] || \
 	        { echo "rm $$file"; rm "$$file" || exit; }; \
 	done
-	@for folder in "$(DOCUMENTS)" "$(LIBRARIES)/$(HWCAPS)" "$(LIBRARIES)/glibc-hwcaps"; do \
+	@for folder in "$(DOCUMENTS)" "$(LIBRARIES)/$(HWCAPS)" "$(LIBRARIES)/glibc-hwcaps" \
+	    "$(DESTDIR)$(MODULES)/__pycache__"; do \
 	    [ ! -d "$$folder" ] || rmdir --ignore-fail-on-non-empty "$$folder"; \
 	done
 	@$(note_library)
@@ -344,12 +398,16 @@ uninstall:
 deb:
 	@$(call check_built,$(PROGRAM_V2),make)
 	@$(call check_built,$(PROGRAM_V3),make CPU=x86-64-v3)
-	@$(if $(wildcard $(PLUGIN)),test -f "$(SHARED)" -a -f "$(SHARED_V3)" || \
+	@$(if $(wildcard $(PLUGIN) $(FILTER)),test -f "$(SHARED)" -a -f "$(SHARED_V3)" || \
 	    { echo "the library is not built: run make library first" >&2; exit 1; })
 	packaging/deb luksrd "$(VERSION)" "$(DEB)" "$(PROGRAM_V2)" "$(PROGRAM_V3)"
 	@echo "$(DEB)"
-	$(if $(wildcard $(PLUGIN)),packaging/deb libluksrd$(INTERFACE) "$(VERSION)" "$(LIBRARY_DEB)" "$(SHARED)" \
-	    "$(SHARED_V3)")
-	@$(if $(wildcard $(PLUGIN)),echo "$(LIBRARY_DEB)")
+	$(if $(wildcard $(PLUGIN) $(FILTER)),packaging/deb libluksrd$(INTERFACE) "$(VERSION)" "$(LIBRARY_DEB)" \
+	    "$(SHARED)" "$(SHARED_V3)")
+	@$(if $(wildcard $(PLUGIN) $(FILTER)),echo "$(LIBRARY_DEB)")
+	$(if $(wildcard $(PLUGIN) $(FILTER)),packaging/deb python3-luksrd "$(VERSION)" "$(PYTHON_DEB)" python/luksrd.py)
+	@$(if $(wildcard $(PLUGIN) $(FILTER)),echo "$(PYTHON_DEB)")
 	$(if $(wildcard $(PLUGIN)),packaging/deb nbdkit-plugin-luksrd "$(VERSION)" "$(PLUGIN_DEB)" "$(PLUGIN)")
 	@$(if $(wildcard $(PLUGIN)),echo "$(PLUGIN_DEB)")
+	$(if $(wildcard $(FILTER)),packaging/deb nbdkit-filter-luksrd "$(VERSION)" "$(FILTER_DEB)" "$(FILTER)")
+	@$(if $(wildcard $(FILTER)),echo "$(FILTER_DEB)")

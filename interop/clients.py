@@ -3,8 +3,13 @@
 
     clients.py ranges URI TEXT COUNT    reads COUNT ranges from 8 connections at once, and compares them with the text
     clients.py shrinks URI TEXT IMAGE   the same while the image becomes shorter, piece by piece
+    clients.py shorter URI TEXT IMAGE   the same at once: what is still there is read, and what is gone is not
+    clients.py caches URI TEXT          announces what it reads, and then reads it
+    clients.py fails URI TEXT FILE      reads nothing while the file is there, and all once it is gone
+    clients.py side-by-side URI TEXT GO reads the first bytes while a read of the last ones waits until the file GO is there
     clients.py asks ANSWER COMMAND..    runs a command on a terminal of its own, and types an answer
-    clients.py finds TEXT PID..         how often the text is in the memory of these processes
+    clients.py finds SECRET PID         whether a piece of the secret, 16 bytes, is in the memory of this process: `everywhere`, `arguments` (there alone) or `nowhere`
+    clients.py at-once URI COUNT        so many connections at the same time, which all get the same size
 """
 
 import concurrent.futures
@@ -20,6 +25,9 @@ import nbd
 
 CONNECTIONS = 8
 MAX_COUNT = 70000
+
+# The length of a piece of a secret that is looked for. What frees memory may write over a part of it.
+PIECE = 16
 
 
 def connected(uri):
@@ -42,7 +50,7 @@ def some_range(chance, size):
     """A range: at either end, past the end, within a sector or over several, at a sector's edge or anywhere."""
     count = chance.choice((1, 2, 511, 512, 513, 4095, 4096, 4097, chance.randrange(1, 600), chance.randrange(1, MAX_COUNT)))
     offset = chance.choice((0, chance.randrange(0, 600), size - min(count, size), size - chance.randrange(0, 600), size, size + 1,
-                            size + 2 ** 40, chance.randrange(0, size), chance.randrange(0, size) // 512 * 512))
+                            size + 2 ** 40, chance.randrange(0, size + 1), chance.randrange(0, size + 1) // 512 * 512))
     return count, max(0, offset)
 
 
@@ -98,6 +106,59 @@ def read_shrinking(uri, text, image):
     return problems
 
 
+def read_shorter(uri, text, image):
+    """After the image has lost its last 2000 bytes, those are not read, and the first ones are."""
+    handle = connected(uri)
+    if read(handle, 2000, len(text) - 2000) != text[-2000:]:
+        yield "the last bytes, while they are there"
+    os.truncate(image, os.stat(image).st_size - 2000)
+    if read(handle, 2000, len(text) - 2000) != errno.EIO:
+        yield "the last bytes, when they are gone"
+    if read(handle, 1000, 100) != text[100:1100]:
+        yield "the first bytes"
+
+
+def read_cached(uri, text):
+    """What is announced is not changed by that."""
+    handle = connected(uri)
+    for offset in range(0, len(text), 65536):
+        count = min(65536, len(text) - offset)
+        handle.cache(count, offset)
+        if read(handle, count, offset) != text[offset:offset + count]:
+            yield f"{count} bytes at {offset}"
+
+
+def read_failing(uri, text, file):
+    """A read that fails gives no bytes, and the next one is not affected."""
+    handle = connected(uri)
+    for count in (512, 700, 70000):
+        with open(file, "wb"):
+            pass
+        if read(handle, count, 0) != errno.EIO:
+            yield f"{count} bytes that cannot be read"
+        os.remove(file)
+        if read(handle, count, 0) != text[:count]:
+            yield f"{count} bytes that can be read"
+
+
+def read_side_by_side(uri, text, go):
+    """While one read waits, two other connections and the first one itself read."""
+    handle = connected(uri)
+    waiting = nbd.Buffer(1000)
+    cookie = handle.aio_pread(waiting, len(text) - 1000)
+    for other in (connected(uri), handle, connected(uri)):
+        if read(other, 5000, 300) != text[300:5300]:
+            yield "the first bytes, while a read of the last ones waits"
+    if handle.aio_command_completed(cookie):
+        yield "the read did not wait"
+    with open(go, "wb"):
+        pass
+    while not handle.aio_command_completed(cookie):
+        handle.poll(-1)
+    if bytes(waiting.to_bytearray()) != text[-1000:]:
+        yield "the last bytes"
+
+
 def ask(answer, command):
     """Runs the command with a terminal, types the answer once it asks for a password, and ends as it does."""
     child, terminal = pty.fork()
@@ -117,17 +178,48 @@ def ask(answer, command):
     return os.waitstatus_to_exitcode(os.waitpid(child, 0)[1])
 
 
-def find(text, process):
-    """How often the text is in the memory that the process may write to."""
-    count = 0
+def places(piece, memory, start):
+    """Where in the memory, which starts at this address, the piece is."""
+    found = memory.find(piece)
+    while found >= 0:
+        yield start + found
+        found = memory.find(piece, found + 1)
+
+
+def find(secret, process):
+    """Where pieces of the secret are in the memory that the process may write to."""
+    pieces = [secret[first:first + PIECE] for first in range(0, len(secret) - PIECE + 1, PIECE)]
+    with open(f"/proc/{process}/stat", "rb") as stat:
+        # (fields 48 and 49; the second is a name in brackets)
+        first, end = (int(digits) for digits in stat.read().rsplit(b")", 1)[1].split()[45:47])
+    found = set()
     with open(f"/proc/{process}/maps") as maps, open(f"/proc/{process}/mem", "rb", 0) as memory:
         for line in maps:
             addresses, rights, *_ = line.split()
             if rights.startswith("rw"):
-                start, end = (int(digits, 16) for digits in addresses.split("-"))
+                start, stop = (int(digits, 16) for digits in addresses.split("-"))
                 memory.seek(start)
-                count += memory.read(end - start).count(text)
-    return count
+                content = memory.read(stop - start)
+                found |= {first <= place < end for piece in pieces for place in places(piece, content, start)}
+    return "everywhere" if False in found else "arguments" if found else "nowhere"
+
+
+def open_at_once(uri, count):
+    """All connections that are made at the same time get the same size."""
+    gate = threading.Barrier(count)
+
+    def work(_):
+        gate.wait()
+        return connected(uri).get_size()
+
+    with concurrent.futures.ThreadPoolExecutor(count) as threads:
+        sizes = set(threads.map(work, range(count)))
+    return [] if len(sizes) == 1 else [f"the sizes {sizes}"]
+
+
+def contents(path):
+    with open(path, "rb") as file:
+        return file.read()
 
 
 def main():
@@ -135,13 +227,15 @@ def main():
     if what == "asks":
         sys.exit(ask(arguments[0], arguments[1:]))
     if what == "finds":
-        with open(arguments[0], "rb") as file:
-            text = file.read()
-        print(*(find(text, process) for process in arguments[1:]))
+        print(find(contents(arguments[0]), arguments[1]))
         return
-    with open(arguments[1], "rb") as file:
-        text = file.read()
-    problems = read_ranges(arguments[0], text, int(arguments[2])) if what == "ranges" else read_shrinking(arguments[0], text, arguments[2])
+    if what == "at-once":
+        problems = open_at_once(arguments[0], int(arguments[1]))
+    else:
+        reads = {"ranges": read_ranges, "shrinks": read_shrinking, "shorter": read_shorter, "caches": read_cached, "fails": read_failing,
+                 "side-by-side": read_side_by_side}[what]
+        extra = [int(arguments[2])] if what == "ranges" else [name for name in arguments[2:] if name]
+        problems = list(reads(arguments[0], contents(arguments[1]), *extra))
     print("\n".join(problems[:5]) or "all the same")
 
 

@@ -1,11 +1,13 @@
 #!/usr/bin/env bash
 # Runs README's recipes and the examples of the man pages as they are written there, in bash and in zsh, on volumes of
 # cryptsetup and qemu-img: they write the plain text, all files that they make are private, and no image changes, not
-# even one with a damaged secondary header. Mounting is left out. nbdkit loads the plugin from where it is built (the
-# second argument).
+# even one with a damaged secondary header. Mounting is left out. nbdkit loads the plugin and the filter from where they
+# are built (the second and the third argument).
 readme=$(realpath "$(dirname "$0")/../README.md")
 pages=$(realpath "$(dirname "$0")/../docs")
 plugin=$(realpath "${2:?the built plugin}")
+filter=$(realpath "${3:?the built filter}")
+here=$(realpath "$(dirname "$0")")
 # shellcheck source=interop/common.sh
 . "$(dirname "$0")/common.sh"
 ln -s "$program" luksrd
@@ -14,6 +16,7 @@ cat >nbdkit <<TEXT
 #!/usr/bin/env bash
 for argument; do
     [ "\$argument" != luksrd ] || argument=$plugin
+    [ "\$argument" != --filter=luksrd ] || argument=--filter=$filter
     arguments+=("\$argument")
 done
 exec $theirs "\${arguments[@]}"
@@ -174,8 +177,40 @@ mkdir -p files/etc
 echo '/dev/sda1 / ext4 defaults 0 1' >files/etc/fstab
 truncate -s 8M tree
 mke2fs -q -t ext4 -d files tree
+# one file out of a whole disk, and all of its second partition; from a copy by xz, as qcow2, and from a server of this script's own
+mkdir whole
+cp plain whole_plain
+cp tree plain
+seal volume2 aes-xts-plain64 512
+cp whole_plain plain
+truncate -s 16M whole/whole.img
+printf 'label: gpt\nstart=2048, size=4096\nstart=6144\n' | sfdisk -q whole/whole.img
+dd if=volume2 of=whole/whole.img bs=512 seek=6144 conv=notrunc status=none
+xz -k --block-size=1M whole/whole.img
+qemu-img convert -f raw -O qcow2 whole/whole.img whole/whole.qcow2
+/usr/bin/python3 "$here/ranges.py" whole >port &
+files=$!
+wait_until $files test -s port
+url=http://127.0.0.1:$(cat port)/whole.img
+export url
+cp -r whole whole_page
+cp volume2 whole/disk.img
+cooks whole 'whole.img whole.img.xz whole.qcow2' 'A whole disk (isLuks of it says no)' 'The same file out of xz'
+for file in fstab fstab2 fstab3 fstab4; do recipes_give whole $file files/etc/fstab; done
+recipes_give whole plain.img tree
+recipes_say whole 'whole.img2 : start=        6144,'
+qemu-img convert -f raw -O qcow2 volume2 whole_page/disk.qcow2
+url=${url%/*}/disk.img
+cooks whole_page 'whole.img whole.img.xz disk.qcow2' nbdkit-luksrd-filter.1:'Copy one file out of the ext4' nbdkit-luksrd-filter.1:'The same if the disk' \
+    nbdkit-luksrd-filter.1:'Copy the plaintext of a volume in a qcow2' nbdkit-luksrd-filter.1:'Print a volume'
+for file in fstab2 fstab3; do recipes_give whole_page $file files/etc/fstab; done
+recipes_give whole_page plain.img tree
+recipes_say whole_page 'export-size: '
+kill $files
+ended $files
+
 if has_fuse; then
-    mkdir fuse whole
+    mkdir fuse
     cp plain whole_plain
     damaged_plain
     format1 fuse/disk.img aes-xts-plain64 sha256 512
@@ -184,23 +219,10 @@ if has_fuse; then
     cooks fuse '' 'As a file, by FUSE'
     recipes_say fuse ' inside'
     recipes_say fuse 'FILE SYSTEM WAS MODIFIED'
-    cp plain whole_plain
-    cp tree plain
-    seal volume2 aes-xts-plain64 512
-    cp whole_plain plain
-    truncate -s 16M whole/whole.img
-    printf 'label: gpt\nstart=2048, size=4096\nstart=6144\n' | sfdisk -q whole/whole.img
-    dd if=volume2 of=whole/whole.img bs=512 seek=6144 conv=notrunc status=none
-    cooks whole whole.img 'A whole disk (isLuks of it says no)'
-    recipes_give whole fstab files/etc/fstab
-    recipes_say whole 'whole.img2 : start=        6144,'
-    recipes_say whole 'Key slot 0 opens the volume.'
-    cp -r whole whole_page
-    cooks whole_page whole.img luksrd.1:'Show partition 2'
-    recipes_give whole_page part.plain tree
-    cp -r whole whole_plugin
-    cooks whole_plugin whole.img nbdkit-luksrd-plugin.1:'Copy one file out of a volume that'
-    recipes_give whole_plugin fstab2 files/etc/fstab
+    mkdir whole_fuse
+    cp whole/whole.img whole_fuse
+    cooks whole_fuse whole.img luksrd.1:'Show partition 2'
+    recipes_give whole_fuse part.plain tree
 else
     skip 'recipes by FUSE' 'nothing can be mounted by FUSE'
 fi
@@ -241,7 +263,7 @@ echo 'start=2048, size=24576' | sfdisk -q partition/whole.img
 dd if=partition/disk.img of=partition/whole.img bs=512 seek=2048 conv=notrunc status=none
 same 'the partition' "$(stat -c %s partition/disk.img)" $((24576 * 512))
 same 'isLuks of a whole disk' "$(reported isLuks partition/whole.img)" 1
-cooks partition whole.img 'A partition of a whole disk without FUSE'
+cooks partition whole.img 'A partition of a whole disk without nbdkit'
 recipes_give partition plain.img plain
 cp -r partition partition_page
 cooks partition_page whole.img luksrd.1:'Do the same without FUSE'

@@ -2,12 +2,32 @@
 
 #include <errno.h>
 #include <fcntl.h>
+#include <stdlib.h>
 #include <string.h>
 #include <sys/stat.h>
 #include <unistd.h>
 
 #define NBDKIT_API_VERSION 2
 #include <nbdkit-plugin.h>
+
+void wipe(struct bytes *bytes)
+{
+  if (bytes->at)
+    explicit_bzero(bytes->at, bytes->len);
+  free(bytes->at);
+  *bytes = (struct bytes){ 0 };
+}
+
+int allocate(struct bytes *bytes, size_t len)
+{
+  bytes->at = malloc(len > 0 ? len : 1);
+  if (!bytes->at) {
+    nbdkit_error("luksrd: out of memory");
+    return -1;
+  }
+  bytes->len = len;
+  return 0;
+}
 
 /* Reports that a file cannot be opened, and closes it if it was opened. Returns -1. */
 static int refuse(const char *name, int fd, const char *why)
@@ -52,7 +72,9 @@ int open_image(const char *name, uint64_t *len)
   return fd;
 }
 
-ssize_t read_next(int fd, uint8_t *to, size_t size)
+/* Reads the next `size` bytes, or fewer only if the file ends. Returns their number; or -1, and
+ * errno says why. */
+static ssize_t read_next(int fd, uint8_t *to, size_t size)
 {
   size_t got = 0;
   while (got < size) {
@@ -67,8 +89,23 @@ ssize_t read_next(int fd, uint8_t *to, size_t size)
   return (ssize_t)got;
 }
 
-/* Whether a file still has this many bytes. A file that is truncated while it is read may give zeros
- * from its last page, so its length is checked after the read. A block device has no length here. */
+int read_first(const char *name, int fd, size_t max, struct bytes *bytes)
+{
+  if (allocate(bytes, max) < 0)
+    return -1;
+  const ssize_t got = read_next(fd, bytes->at, max);
+  if (got < 0) {
+    /* all bytes are wiped later: it is unknown what was read before that */
+    nbdkit_error("%s: luksrd: read failed: %s", name, strerror(errno));
+    return -1;
+  }
+  bytes->len = (size_t)got;
+  return 0;
+}
+
+/* Whether a file still has this many bytes. A file that is truncated while it is read may give
+ * zeros from its last page, so its length is checked after the read. A block device has no length
+ * here. */
 static bool reaches(int fd, uint64_t end)
 {
   struct stat found;

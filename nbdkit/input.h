@@ -1,4 +1,4 @@
-/* The files that the plugin reads: opening them, and reading all requested bytes. */
+/* What is read: files, from their first byte on or at offsets, and bytes that hold a secret. */
 #ifndef LUKSRD_NBDKIT_INPUT_H
 #define LUKSRD_NBDKIT_INPUT_H
 
@@ -6,6 +6,18 @@
 #include <stddef.h>
 #include <stdint.h>
 #include <sys/types.h>
+
+/* Bytes on the heap, or none. */
+struct bytes {
+  uint8_t *at;
+  size_t len;
+};
+
+/* Wipes and frees bytes. */
+void wipe(struct bytes *bytes);
+
+/* Makes room for this many bytes. Returns 0, or -1 and reports that there is no memory. */
+int allocate(struct bytes *bytes, size_t len);
 
 /* Opens a file to be read once, from its first byte on; it may be a pipe. Returns its descriptor,
  * or -1 and reports why. A folder cannot be opened. */
@@ -15,9 +27,8 @@ int open_stream(const char *name);
  * and puts its length in bytes there, or -1 and reports why. */
 int open_image(const char *name, uint64_t *len);
 
-/* Reads the next `size` bytes, or fewer only if the file ends. Returns their number; or -1, and errno
- * says why. */
-ssize_t read_next(int fd, uint8_t *to, size_t size);
+/* Reads all of a file, or its first `max` bytes. Returns 0, or -1 and reports why not. */
+int read_first(const char *name, int fd, size_t max, struct bytes *bytes);
 
 /* Reads exactly `size` bytes from `offset` on. Returns whether it did; if not, errno says why, and
  * is 0 if the file ends before them. */

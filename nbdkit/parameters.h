@@ -1,22 +1,42 @@
-/* The parameters of the plugin. */
+/* The parameters that the plugin and the filter share. */
 #ifndef LUKSRD_NBDKIT_PARAMETERS_H
 #define LUKSRD_NBDKIT_PARAMETERS_H
 
-#include "luksrd.h"
+#include "input.h"
+
+#include <stdbool.h>
+#include <stdint.h>
 
 struct parameters {
-  char *file;       /* the image */
-  char *header;     /* its detached header, or NULL */
+  char *header;     /* the file with the detached header, or NULL */
   char *key_file;   /* the file whose bytes are the passphrase, or NULL */
   char *passphrase; /* the passphrase, or NULL; one of the two is given */
-  struct luksrd_options options;
+  bool has_key_slot;
+  uint32_t key_slot;       /* the only key slot to try, if there is one */
+  uint32_t max_iterations; /* the limit of iterations, or 0 */
 };
 
-/* Reads one parameter. Returns 0, or -1 and reports why not. */
+/* The help on them, after that on the plugin's own. */
+#define PARAMETERS_HELP                                                                 \
+  "key-file=FILE         The file whose bytes are the passphrase, all of them.\n"       \
+  "passphrase=PASSPHRASE The passphrase: - asks for it, +FILE and -FD read it.\n"       \
+  "header=FILE           The detached header.\n"                                        \
+  "key-slot=N            Try this key slot alone, 0 to 31.\n"                           \
+  "max-iterations=N      Skip key slots that ask for more iterations of PBKDF2."
+
+/* Reads one parameter. Returns 0; -1, and reports why not; or 1 if it is none of these. */
 int take_parameter(struct parameters *parameters, const char *key, const char *value);
+
+/* Stores the name of a file. Returns 0, or -1 and reports why not. */
+int take_name(const char *key, const char *value, char **name);
 
 /* Returns 0 if all parameters that a volume needs are given, or -1 and reports what is missing. */
 int check_parameters(const struct parameters *parameters);
+
+/* Moves the passphrase out of the parameters, or reads it from the key file's descriptor, up to one
+ * byte more than the longest one, so that luksrd_open refuses a longer one. Returns 0, or -1 and
+ * reports why not. */
+int get_passphrase(struct parameters *parameters, int key_file, struct bytes *passphrase);
 
 /* Wipes and frees the passphrase. */
 void forget_passphrase(struct parameters *parameters);

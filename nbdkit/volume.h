@@ -1,29 +1,62 @@
-/* An open volume, and any part of its plaintext. */
+/* An open volume, and any part of its plaintext. Only this file calls luksrd's library. */
 #ifndef LUKSRD_NBDKIT_VOLUME_H
 #define LUKSRD_NBDKIT_VOLUME_H
 
 #include "luksrd.h"
+#include "input.h"
 #include "parameters.h"
 
+#include <stdbool.h>
 #include <stdint.h>
+
+/* How many first bytes of an image, or of a detached header, a volume is opened from. */
+#define MAX_HEADER LUKSRD_HEADER_BYTES
+
+/* The longest passphrase. */
+#define MAX_PASSPHRASE LUKSRD_PASSPHRASE_BYTES
 
 /* It does not change after it is opened, so threads may read it at the same time. */
 struct volume {
-  const char *name; /* of the image */
-  int fd;           /* of the image, or -1 */
-  uint64_t len;     /* the number of bytes of plaintext that are served: whole sectors */
+  const char *name; /* of the image, or NULL if it has none */
   struct luksrd_volume opened;
 };
 
-/* Opens the volume that the parameters name, and wipes their passphrase in any case. Returns 0, or
- * -1 and reports why not. */
-int open_volume(struct volume *volume, struct parameters *parameters);
+/* An image that is read at offsets, whoever reads it. */
+struct image {
+  uint64_t len; /* in bytes */
+  /* Reads exactly `size` bytes from `offset` on, which are within the image. Returns whether it
+   * did; if not, errno says why, and is 0 if the image has become shorter. */
+  bool (*read)(void *from, uint8_t *to, size_t size, uint64_t offset);
+  void *from;
+};
+
+/* The end of an attempt to open a volume: it is open; it is refused, and will be; or, if memory was
+ * short or a read failed, it may open later. */
+enum outcome { OPENED, REFUSED, TRY_LATER };
+
+/* Tries a passphrase on a header, the detached one if the parameters name one. If it does not open,
+ * reports why not. */
+enum outcome unlock(struct volume *volume, const struct bytes *header,
+                    const struct bytes *passphrase, const struct parameters *parameters);
+
+/* The length of the plaintext that is served, whole sectors, if the image has this length. */
+uint64_t plain_len(const struct volume *volume, uint64_t image_len);
+
+/* The first byte of the payload in the image. */
+uint64_t payload_offset(const struct volume *volume);
+
+/* Reports an incomplete image: it is served all the same, as far as it goes. */
+void report_ending(const struct volume *volume, uint64_t image_len);
 
 /* Puts `count` bytes of plaintext from `offset` on, which are within the volume, into the buffer.
  * Returns 0; or -1 and reports why not, and then the buffer is zeroed. */
-int read_plain(const struct volume *volume, uint8_t *to, uint32_t count, uint64_t offset);
+int read_plain(const struct volume *volume, const struct image *image, uint8_t *to, uint32_t count,
+               uint64_t offset);
 
-/* Wipes the key and closes the image. */
+/* Wipes the key. */
 void close_volume(struct volume *volume);
+
+/* Prints the version of the library, and which volumes it opens, as lines of NAME=VALUE. */
+void print_library(void);
 
 #endif

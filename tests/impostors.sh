@@ -1,6 +1,6 @@
 #!/usr/bin/env bash
-# Runs each other script with impostors in the place of what it tries, the programs, the tools, the plugin and the
-# libraries: /bin/true, /bin/false, and one that sleeps and never reads its input. Given a program, the scripts that
+# Runs each other script with impostors in the place of what it tries, the programs, the tools, plugin and filter, and
+# the libraries: /bin/true, /bin/false, and one that sleeps and never reads its input. Given a program, the scripts that
 # try more are also run with it and impostors of the rest. No script passes, and none hangs.
 sources=$(realpath "$(dirname "$0")/..")
 is_real=$#
@@ -29,9 +29,27 @@ static struct nbdkit_plugin plugin = {
 NBDKIT_REGISTER_PLUGIN(plugin)
 TEXT
 }
-plugin true 'return 0'
-plugin false 'return -1'
-plugin sleep 'for (;;) sleep(1000)'
+# filter NAME CODE: a filter, NAME.filter.so, that does this with each parameter that could be its own, and changes nothing
+filter() {
+    gcc -shared -fPIC -o "$1.filter.so" -x c - <<TEXT || exit 1
+#include <string.h>
+#include <unistd.h>
+#include <nbdkit-filter.h>
+static int configure(nbdkit_next_config *next, nbdkit_backend *below, const char *name, const char *value)
+{
+  if (strcmp(name, "file") == 0)
+    return next(below, name, value);
+  $2;
+}
+static struct nbdkit_filter filter = { .name = "impostor", .config = configure };
+NBDKIT_REGISTER_FILTER(filter)
+TEXT
+}
+for make in plugin filter; do
+    $make true 'return 0'
+    $make false 'return -1'
+    $make sleep 'for (;;) sleep(1000)'
+done
 
 # tried TARGET IMPOSTOR PROGRAM: how this script ends, in a file of its own. It may take long, unless it can only
 # hang. Packages are installed by one script at a time.
@@ -40,7 +58,7 @@ tried() {
     [ "$2" != sleep ] || seconds=1
     [ "$1" != test-package ] || { exec 9>lock && flock 9; }
     PATIENCE=$seconds RUNS=500 make -s -C "$sources" "$1" PROGRAM="$3" PROGRAM_V2="$3" PROGRAM_V3="$work/$2" \
-        AUDIT="$work/$2" TOOLS="$work/$2" PLUGIN="$work/$2.so" \
+        AUDIT="$work/$2" TOOLS="$work/$2" PLUGIN="$work/$2.so" FILTER="$work/$2.filter.so" \
         LIBRARY="$work/$2" SHARED="$work/$2" SHARED_V3="$work/$2" \
         >"said by $name" 2>&1 </dev/null
     echo "$? $(grep -c '^FAILED: no end' "said by $name")" >"end of $name"

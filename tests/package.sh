@@ -1,23 +1,22 @@
 #!/usr/bin/env bash
-# Makes Debian packages of the built program, the built library and the built plugin, and looks into them; installs by
-# make, as root and as another user, into folders of its own. As root, and if luksrd is not installed, dpkg also
-# installs the packages, and make the library into /usr/local: they run from there, the administrator chooses between
-# the programs for both processors, and all of it is removed again.
+# Makes Debian packages of the built program, the built library with its module for Python, and the built plugin and filter, and looks into them; installs by make, as root and as
+# another user, into folders of its own. As root, and if luksrd is not installed, dpkg also installs the packages, and make the library into
+# /usr/local: they run from there, the administrator chooses between the programs for both processors, and all of it is removed again.
 sources=$(realpath "$(dirname "$0")/..")
 plugin=$(realpath "${2:?the built plugin}")
 library=$(realpath "${3:?the built library}")
 shared=$(realpath "${4:?the same as a shared one}")
 shared_v3=$(realpath "${5:?the same for x86-64-v3}")
 program_v3=$(realpath "${6:?the program for x86-64-v3}")
+filter=$(realpath "${7:?the built filter}")
 # shellcheck source=tests/common.sh
 . "$(dirname "$0")/common.sh"
 export LC_ALL=C
 
-# made FILE FILE FILE: `make deb` of the program, the library and the plugin into these files
+# made FILE FILE FILE FILE FILE: `make deb` of the program, the library, the module for Python, the plugin and the filter into these files
 made() {
-    make -s -C "$sources" deb PROGRAM_V2="$program" PROGRAM_V3="$program_v3" DEB="$1" SHARED="$shared" \
-        SHARED_V3="$shared_v3" LIBRARY_DEB="$2" \
-        PLUGIN="$plugin" PLUGIN_DEB="$3"
+    make -s -C "$sources" deb PROGRAM_V2="$program" PROGRAM_V3="$program_v3" DEB="$1" SHARED="$shared" SHARED_V3="$shared_v3" LIBRARY_DEB="$2" PYTHON_DEB="$3" \
+        PLUGIN="$plugin" PLUGIN_DEB="$4" FILTER="$filter" FILTER_DEB="$5"
 }
 
 # what is missing, and which command makes it
@@ -51,9 +50,15 @@ same 'install of the library without that for x86-64-v3' \
     "$(lacking "$PATH" install-library LIBRARY="$library" SHARED="$shared" SHARED_V3=absent DESTDIR="$nothing")" \
     'the library is not built: run make library first'
 same 'install of the plugin and no library' \
-    "$(lacking "$PATH" install PROGRAM="$program" PLUGIN="$plugin" PLUGINS=/plugins LIBRARY=absent \
-    DESTDIR="$nothing")" \
+    "$(lacking "$PATH" install PROGRAM="$program" PLUGIN="$plugin" FILTER=absent PLUGINS=/plugins LIBRARY=absent DESTDIR="$nothing")" \
     'the library is not built: run make library first'
+same 'install of the filter and no library' \
+    "$(lacking "$PATH" install PROGRAM="$program" PLUGIN=absent FILTER="$filter" FILTERS=/filters LIBRARY=absent DESTDIR="$nothing")" \
+    'the library is not built: run make library first'
+same 'install of no filter' "$(lacking "$PATH" install-filter FILTER=absent DESTDIR="$nothing")" \
+    'the filter is not built: run make nbdkit first'
+same 'a package of a filter for another nbdkit' "$("$sources/packaging/deb" nbdkit-filter-luksrd 1.1.0 "$nothing/filter.deb" "$plugin" 2>&1)" \
+    "$plugin is not for nbdkit $(pkg-config nbdkit --modversion): run make nbdkit first"
 same 'install of no plugin' "$(lacking "$PATH" install-plugin PLUGIN=absent DESTDIR="$nothing")" \
     'the plugin is not built: run make nbdkit first'
 same 'nothing is made' "$(ls "$nothing")" ''
@@ -66,22 +71,27 @@ same 'a package that there is not' "$("$sources/packaging/deb" other 1.1.0 luksr
 
 program_package="$work/a folder/luksrd.deb"
 library_package="$work/a folder/libluksrd2.deb"
+python_package="$work/a folder/python3-luksrd.deb"
 plugin_package="$work/a folder/nbdkit-plugin-luksrd.deb"
-same 'what make says' "$(made "$program_package" "$library_package" "$plugin_package" 2>&1)" "$program_package
+filter_package="$work/a folder/nbdkit-filter-luksrd.deb"
+same 'what make says' "$(made "$program_package" "$library_package" "$python_package" "$plugin_package" "$filter_package" 2>&1)" "$program_package
 $library_package
-$plugin_package"
-made "$work/again" "$work/library again" "$work/plugin again" >log
+$python_package
+$plugin_package
+$filter_package"
+made "$work/again" "$work/library again" "$work/python again" "$work/plugin again" "$work/filter again" >log
 same 'the package made again' "$(cmp "$program_package" again 2>&1)" ''
 same "the library's package made again" "$(cmp "$library_package" 'library again' 2>&1)" ''
+same "the module's package made again" "$(cmp "$python_package" 'python again' 2>&1)" ''
 same "the plugin's package made again" "$(cmp "$plugin_package" 'plugin again' 2>&1)" ''
+same "the filter's package made again" "$(cmp "$filter_package" 'filter again' 2>&1)" ''
 
-# holds NAME FILE PAGE LISTED: what is in a package, and that it has one version; it is unpacked into the folder of
-# its name. The library has no PAGE
+# holds NAME FILE PAGE LISTED [ARCHITECTURE]: what is in a package, and that it has one version; it is unpacked into the folder of its name. Some have no PAGE
 version=$(make -s -C "$sources" -f Makefile -f - version <<<$'version:\n\t@echo $(VERSION)')
 same 'a version of three numbers' "$(grep -cxE '[0-9]+\.[0-9]+\.[0-9]+' <<<"$version")" 1
 holds() {
     local name=$1 package=$2 page=$3 field papers=$1/usr/share/doc/$1
-    for field in Package:"$name" Source:luksrd Version:"$version" Architecture:amd64; do
+    for field in Package:"$name" Source:luksrd Version:"$version" Architecture:"${5-amd64}"; do
         same "$name: the field ${field%%:*}" "$(dpkg -f "$package" "${field%%:*}")" "${field#*:}"
     done
     for field in Maintainer Installed-Size Depends Section Priority Description; do
@@ -133,15 +143,28 @@ holds nbdkit-plugin-luksrd "$plugin_package" nbdkit-luksrd-plugin.1 \
 -rw-r--r-- root/root ./usr/share/doc/nbdkit-plugin-luksrd/copyright
 -rw-r--r-- root/root ./usr/share/man/man1/nbdkit-luksrd-plugin.1.gz"
 same 'the plugin depends on nbdkit' "$(dpkg -f "$plugin_package" Depends | grep -c ', nbdkit (>= ')" 1
-same 'the plugin depends on the library' "$(dpkg -f "$plugin_package" Depends |
-    grep -cF ", libluksrd2 (>= $version)")" 1
+filters=$(pkg-config nbdkit --variable=filterdir)
+holds nbdkit-filter-luksrd "$filter_package" nbdkit-luksrd-filter.1 "-rw-r--r-- root/root .$filters/nbdkit-luksrd-filter.so
+-rw-r--r-- root/root ./usr/share/doc/nbdkit-filter-luksrd/changelog.gz
+-rw-r--r-- root/root ./usr/share/doc/nbdkit-filter-luksrd/copyright
+-rw-r--r-- root/root ./usr/share/man/man1/nbdkit-luksrd-filter.1.gz"
+installed=$(dpkg-query -W -f '${Version}' nbdkit)
+lowest=$(dpkg -f "$filter_package" Depends | sed -n 's/.*, nbdkit (>= \([^)]*\)), nbdkit (<< [^)]*)$/\1/p')
+above=$(dpkg -f "$filter_package" Depends | sed -n 's/.*, nbdkit (>= [^)]*), nbdkit (<< \([^)]*\))$/\1/p')
+same 'the filter depends on this version of nbdkit' "$(dpkg --compare-versions "$installed" ge "$lowest" && dpkg --compare-versions "$installed" lt "$above"; echo $?)" 0
+same 'the filter depends on no other version' "$(dpkg --compare-versions "${installed%%-*}.1" lt "$above"; echo $?)" 1
+holds python3-luksrd "$python_package" '' '-rw-r--r-- root/root ./usr/lib/python3/dist-packages/luksrd.py
+-rw-r--r-- root/root ./usr/share/doc/python3-luksrd/changelog.gz
+-rw-r--r-- root/root ./usr/share/doc/python3-luksrd/copyright' all
+same 'the module depends on Python' "$(dpkg -f "$python_package" Depends | grep -c '^python3 (>= ')" 1
+for package in "$plugin_package" "$filter_package" "$python_package"; do
+    same "${package##*/} depends on the library" "$(dpkg -f "$package" Depends | grep -cF ", libluksrd2 (>= $version)")" 1
+done
 # what a binary says of itself: its name, the libraries that it loads, and its own folders for them
-dynamic() { readelf -d "$1" | sed -n 's/.*(\(SONAME\|NEEDED\|RUNPATH\|RPATH\)).*\[\(.*\)\]$/\1 \2/p' |
-    grep -v 'NEEDED libc\.so'; }
-same 'the packaged plugin loads the library' "$(dynamic "nbdkit-plugin-luksrd$plugins/nbdkit-luksrd-plugin.so")" \
-    'NEEDED libluksrd.so.2'
-same 'the names of the packaged library' "$(dynamic "libluksrd2$libraries/libluksrd.so.2";
-    dynamic "libluksrd2$libraries/glibc-hwcaps/x86-64-v3/libluksrd.so.2")" \
+dynamic() { readelf -d "$1" | sed -n 's/.*(\(SONAME\|NEEDED\|RUNPATH\|RPATH\)).*\[\(.*\)\]$/\1 \2/p' | grep -v 'NEEDED libc\.so'; }
+same 'the packaged plugin loads the library' "$(dynamic "nbdkit-plugin-luksrd$plugins/nbdkit-luksrd-plugin.so")" 'NEEDED libluksrd.so.2'
+same 'the packaged filter loads the library' "$(dynamic "nbdkit-filter-luksrd$filters/nbdkit-luksrd-filter.so")" 'NEEDED libluksrd.so.2'
+same 'the names of the packaged library' "$(dynamic "libluksrd2$libraries/libluksrd.so.2"; dynamic "libluksrd2$libraries/glibc-hwcaps/x86-64-v3/libluksrd.so.2")" \
     'SONAME libluksrd.so.2
 SONAME libluksrd.so.2'
 
@@ -166,20 +189,33 @@ for processor in x86-64-v2 x86-64-v3; do
     fi
 done
 
-# serves_sample PLUGIN: the plugin of this name gives the sample volume's plain text
+# serves_sample PLUGIN FILTER: the plugin of this name gives the sample volume's plain text, and the filter of this name does
 serves_sample() {
+    local -a way
     gzip -dc "$sources/sample/volume.img.gz" >volume
-    # shellcheck disable=SC2016
-    nbdkit -U - "$1" volume key-file=pass --run 'nbdcopy "$uri" copy' >out 2>err
-    echo $? >status
-    expect "$1 serves the sample volume" 0 '' ''
-    same "$1: its text" "$(sha256sum <copy)" "$(sha256sum <"$sources/sample/plain.txt")"
+    for way in "$1" "--filter=$2 file"; do
+        # shellcheck disable=SC2016,SC2068
+        nbdkit -U - ${way[@]} volume key-file=pass --run 'nbdcopy "$uri" copy' >out 2>err
+        echo $? >status
+        expect "$way serves the sample volume" 0 '' ''
+        same "$way: its text" "$(sha256sum <copy)" "$(sha256sum <"$sources/sample/plain.txt")"
+        rm -f copy
+    done
 }
-LD_LIBRARY_PATH=$work/libluksrd2$libraries serves_sample "$work/nbdkit-plugin-luksrd$plugins/nbdkit-luksrd-plugin.so"
+LD_LIBRARY_PATH=$work/libluksrd2$libraries serves_sample "$work/nbdkit-plugin-luksrd$plugins/nbdkit-luksrd-plugin.so" "$work/nbdkit-filter-luksrd$filters/nbdkit-luksrd-filter.so"
 
-# make_built ARGUMENT..: make with these arguments, and with what is built but for luksrd-audit, of which no package
-# is made (tests/install.sh has it)
-built=(PROGRAM="$program" AUDIT=absent LIBRARY="$library" SHARED="$shared" SHARED_V3="$shared_v3" PLUGIN="$plugin")
+# module_gives FOLDER: the module in this folder gives the sample volume's plain text
+module_gives() {
+    PYTHONDONTWRITEBYTECODE=1 PYTHONPATH=$1 /usr/bin/python3 -c 'import luksrd, shutil, sys
+print(luksrd.__file__, file=sys.stderr)
+shutil.copyfileobj(luksrd.open("volume", key_file="pass"), sys.stdout.buffer)' >out 2>err
+    same "the module in $1" "$? $(cat err) $(sha256sum <out)" "0 ${1:-$modules}/luksrd.py $(sha256sum <"$sources/sample/plain.txt")"
+}
+modules=/usr/lib/python3/dist-packages
+LD_LIBRARY_PATH=$work/libluksrd2$libraries module_gives "$work/python3-luksrd$modules"
+
+# make_built ARGUMENT..: make with these arguments, and with what is built but for luksrd-audit, of which no package is made (tests/install.sh has it)
+built=(PROGRAM="$program" AUDIT=absent LIBRARY="$library" SHARED="$shared" SHARED_V3="$shared_v3" PLUGIN="$plugin" FILTER="$filter")
 make_built() {
     make -s -C "$sources" "${built[@]}" "$@" >log 2>&1
 }
@@ -193,34 +229,35 @@ files() {
 mkdir tools known
 cat >tools/pkg-config <<TEXT
 #!/bin/sh
-echo /nbdkit/plugins
+case \$* in *filterdir) echo /nbdkit/filters ;; *) echo /nbdkit/plugins ;; esac
 TEXT
 chmod +x tools/pkg-config
 program_files=(bin/luksrd share/bash-completion/completions/luksrd share/doc/luksrd/FORMATS.md
     share/doc/luksrd/README.md
     share/man/man1/luksrd.1 share/zsh/site-functions/_luksrd)
-library_files=(include/luksrd.h lib/glibc-hwcaps/x86-64-v3/libluksrd.so.2 lib/libluksrd.a lib/libluksrd.so
-    lib/libluksrd.so.2 "lib/libluksrd.so.$version" lib/pkgconfig/luksrd.pc)
-page=share/man/man1/nbdkit-luksrd-plugin.1
+library_files=(include/luksrd.h lib/glibc-hwcaps/x86-64-v3/libluksrd.so.2 lib/libluksrd.a lib/libluksrd.so lib/libluksrd.so.2 "lib/libluksrd.so.$version" lib/pkgconfig/luksrd.pc)
+pages=(share/man/man1/nbdkit-luksrd-filter.1 share/man/man1/nbdkit-luksrd-plugin.1)
 name=nbdkit-luksrd-plugin.so
+filter_name=nbdkit-luksrd-filter.so
+module=lib/python3/dist-packages/luksrd.py
 # below PREFIX PATH..: as `files` lists them
 below() {
     printf "./${1:+$1/}%s\n" "${@:2}" | LC_ALL=C sort
 }
-make_built install LIBRARY=absent PLUGIN=absent DESTDIR="$work/there"
+make_built install LIBRARY=absent PLUGIN=absent FILTER=absent DESTDIR="$work/there"
 same 'make install of the program alone' "$? $(files there)" "0 $(below usr/local "${program_files[@]}")"
-make_built install DESTDIR="$work/there" PLUGINS=/usr/plugins
-same 'make install of the library and the plugin too' "$? $(files there)" \
-    "0 $(below usr "${program_files[@]/#/local/}" "${library_files[@]/#/local/}" "local/$page" "plugins/$name")"
-same 'both libraries' "$(cmp "there/usr/local/lib/libluksrd.so.$version" "$shared" 2>&1;
-    cmp there/usr/local/lib/glibc-hwcaps/x86-64-v3/libluksrd.so.2 "$shared_v3" 2>&1)" ''
-make_built uninstall DESTDIR="$work/there" PLUGINS=/usr/plugins
+folders=(PLUGINS=/usr/plugins FILTERS=/usr/filters MODULES=/usr/modules)
+make_built install DESTDIR="$work/there" "${folders[@]}"
+same 'make install of the library, the plugin and the filter too' "$? $(files there)" \
+    "0 $(below usr "${program_files[@]/#/local/}" "${library_files[@]/#/local/}" "${pages[@]/#/local/}" "plugins/$name" "filters/$filter_name" modules/luksrd.py)"
+same 'both libraries' "$(cmp "there/usr/local/lib/libluksrd.so.$version" "$shared" 2>&1; cmp there/usr/local/lib/glibc-hwcaps/x86-64-v3/libluksrd.so.2 "$shared_v3" 2>&1)" ''
+make_built uninstall DESTDIR="$work/there" "${folders[@]}"
 same 'make uninstall' "$? $(files there)" '0 '
 same 'folders of libraries' "$(find there -name 'glibc-hwcaps')" ''
 
 # `make install CPU=x86-64-v3` puts that program in its place, after it has run
 if runs_v3; then
-    make_built install CPU=x86-64-v3 PROGRAM="$program_v3" LIBRARY=absent PLUGIN=absent DESTDIR="$work/there"
+    make_built install CPU=x86-64-v3 PROGRAM="$program_v3" LIBRARY=absent PLUGIN=absent FILTER=absent DESTDIR="$work/there"
     same 'make install for x86-64-v3' "$? $(files there)" "0 $(below usr/local "${program_files[@]}")"
     same 'which program that is' "$(cmp there/usr/local/bin/luksrd "$program_v3" 2>&1)" ''
     make_built uninstall DESTDIR="$work/there"
@@ -232,22 +269,20 @@ printf '#!/bin/sh\necho "it needs AVX2" >&2\nexit 127\n' >refusing
 chmod +x refusing
 for target in install install-program; do
     same "make $target of a program that the processor refuses" \
-        "$(lacking "$PATH" $target "${built[@]}" CPU=x86-64-v3 PROGRAM="$work/refusing" DESTDIR="$nothing" \
-        PLUGINS=/plugins)" \
+        "$(lacking "$PATH" $target "${built[@]}" CPU=x86-64-v3 PROGRAM="$work/refusing" DESTDIR="$nothing" PLUGINS=/plugins FILTERS=/filters)" \
         'it needs AVX2
 luksrd for x86-64-v3 does not run here: nothing is installed'
     same "make $target of a program that does nothing" \
-        "$(lacking "$PATH" $target "${built[@]}" CPU=x86-64-v3 PROGRAM="$(type -P true)" DESTDIR="$nothing" \
-        PLUGINS=/plugins)" \
+        "$(lacking "$PATH" $target "${built[@]}" CPU=x86-64-v3 PROGRAM="$(type -P true)" DESTDIR="$nothing" PLUGINS=/plugins FILTERS=/filters)" \
         'luksrd for x86-64-v3 does not run here: nothing is installed'
 done
 same 'what these install' "$(files "$nothing")" ''
 for prefix in /usr /usr/local/; do
-    PATH=$work/tools:$PATH make_built install-plugin DESTDIR="$work/there" PREFIX="$prefix"
-    same "the plugin for $prefix" "$? $(files there)" "0 $(below '' "nbdkit/plugins/$name" \
-        "$(realpath -ms "$prefix/$page" | cut -c 2-)")"
+    PATH=$work/tools:$PATH make_built install-plugin install-filter DESTDIR="$work/there" PREFIX="$prefix"
+    same "plugin and filter for $prefix" "$? $(files there)" \
+        "0 $(below '' "nbdkit/plugins/$name" "nbdkit/filters/$filter_name" "$(realpath -ms "$prefix/${pages[0]}" | cut -c 2-)" "$(realpath -ms "$prefix/${pages[1]}" | cut -c 2-)")"
     PATH=$work/tools:$PATH make_built uninstall DESTDIR="$work/there" PREFIX="$prefix"
-    same "the plugin for $prefix, uninstalled" "$? $(files there)" '0 '
+    same "plugin and filter for $prefix, uninstalled" "$? $(files there)" '0 '
 done
 
 # another COMMAND..: as a user who may write neither into the system's folders nor into the tree
@@ -260,17 +295,17 @@ another() {
 }
 # put_by_another FOLDER ARGUMENT..: make as this user, with the tree and what is built as this user can read them
 put_by_another() {
-    another make -s -C "$work/tree" PROGRAM=../built/luksrd LIBRARY=../built/libluksrd.a SHARED=../built/libluksrd.so \
-        SHARED_V3=../built/v3.so \
-        PLUGIN="../built/$name" "$@" >log 2>&1
+    another make -s -C "$work/tree" PROGRAM=../built/luksrd LIBRARY=../built/libluksrd.a SHARED=../built/libluksrd.so SHARED_V3=../built/v3.so \
+        PLUGIN="../built/$name" FILTER="../built/$filter_name" "$@" >log 2>&1
 }
 mkdir tree built own
-cp -r "$sources"/{Makefile,README.md,c,completions,docs} tree
+cp -r "$sources"/{Makefile,README.md,c,completions,docs,python} tree
 cp "$program" built/luksrd
 cp "$library" built/libluksrd.a
 cp "$shared" built/libluksrd.so
 cp "$shared_v3" built/v3.so
 cp "$plugin" "built/$name"
+cp "$filter" "built/$filter_name"
 chmod -R a+rX tree built tools
 chmod 711 .
 chmod 777 own
@@ -278,15 +313,18 @@ if another test -r tree/Makefile; then
     plugins_before=$(ls -la --full-time "$plugins")
     put_by_another install PREFIX="$work/own/it"
     same 'make install by another user' "$? $(files own/it)" \
-        "0 $(below '' "${program_files[@]}" "${library_files[@]}" "$page" "lib/nbdkit/plugins/$name")"
+        "0 $(below '' "${program_files[@]}" "${library_files[@]}" "${pages[@]}" "lib/nbdkit/plugins/$name" "lib/nbdkit/filters/$filter_name" "$module")"
     same "nbdkit's own folder" "$(ls -la --full-time "$plugins")" "$plugins_before"
     works "$work/own/it/bin/luksrd" "$work/own/it/share/bash-completion/completions/luksrd"
-    serves_sample "$work/own/it/lib/nbdkit/plugins/$name"
+    serves_sample "$work/own/it/lib/nbdkit/plugins/$name" "$work/own/it/lib/nbdkit/filters/$filter_name"
+    module_gives "$work/own/it/${module%/*}"
     put_by_another uninstall PREFIX="$work/own/it"
     same 'make uninstall by another user' "$? $(files own/it)" '0 '
     same "luksrd's own folder" "$(find own/it -name luksrd)" ''
-    put_by_another install PREFIX="$work/own/it" PLUGINS="$work/known"
-    same 'make install of a plugin into a closed folder' "$(($? != 0)) $(files own/it)$(files known)" '1 '
+    for folder in PLUGINS FILTERS; do
+        put_by_another install PREFIX="$work/own/it" $folder="$work/known"
+        same "make install into a closed folder, $folder" "$(($? != 0)) $(files own/it)$(files known)" '1 '
+    done
 else
     skip 'make install by another user' "no other user can read $work"
 fi
@@ -294,9 +332,8 @@ fi
 # a plugin that this PREFIX did not get
 mkdir nbdkit
 : >"nbdkit/$name"
-sed -i "s|/nbdkit|$work/nbdkit|; s|/plugins||" tools/pkg-config
-same "nbdkit's folder, as make asks for it" "$(PATH=$work/tools:$PATH pkg-config nbdkit --variable=plugindir)" \
-    "$work/nbdkit"
+sed -i "s|/nbdkit|$work/nbdkit|g; s,/plugins\\|/filters,,g" tools/pkg-config
+same "nbdkit's folder, as make asks for it" "$(PATH=$work/tools:$PATH pkg-config nbdkit --variable=plugindir)" "$work/nbdkit"
 PATH=$work/tools:$PATH make_built install PREFIX="$work/own/root"
 same 'make install into another PREFIX' "$? $(files nbdkit)" "0 ./$name"
 same "the plugin in nbdkit's folder" "$(wc -c <"nbdkit/$name")" 0
@@ -331,11 +368,9 @@ if another test -r tree/Makefile; then
     notes 'ldconfig by another user' 0 put_by_another install-library PREFIX="$work/own"
 fi
 
-packages=(luksrd libluksrd2 nbdkit-plugin-luksrd)
-if [ "$(id -u)" != 0 ] || dpkg -s luksrd >log 2>&1 || dpkg -s libluksrd2 >log 2>&1 ||
-    dpkg -s nbdkit-plugin-luksrd >log 2>&1 ||
-    [ -n "$(find /usr/bin /usr/libexec /usr/local /usr/include /usr/lib/pkgconfig "$libraries" /etc/alternatives \
-    -name '*luksrd*' -print -quit 2>/dev/null)" ]; then
+packages=(luksrd libluksrd2 nbdkit-plugin-luksrd nbdkit-filter-luksrd python3-luksrd)
+if [ "$(id -u)" != 0 ] || dpkg-query -W -f '${db:Status-Abbrev}\n' "${packages[@]}" 2>log | grep '^i' >log ||
+    [ -n "$(find /usr/bin /usr/libexec /usr/local /usr/include /usr/lib/pkgconfig "$libraries" /etc/alternatives -name '*luksrd*' -print -quit 2>/dev/null)" ]; then
     skip 'packages that are installed' 'not root, or luksrd is installed'
     finish
     exit
@@ -345,11 +380,10 @@ fi
 loads() {
     python3 -c 'import ctypes; print(hex(ctypes.CDLL("libluksrd.so.2").luksrd_version()))' 2>&1 | tail -n 1
 }
-trap 'make_built uninstall PLUGINS=; rm -rf "$work"' EXIT
+trap 'make_built uninstall PLUGINS= FILTERS=; rm -rf "$work"' EXIT
 make_built install-library
-same 'make install of the library' "$? $(loads)" "0 $(sed -n 's/^#define LUKSRD_VERSION 0x0*/0x/p' \
-    "$sources/c/luksrd.h")"
-make_built uninstall PLUGINS=
+same 'make install of the library' "$? $(loads)" "0 $(sed -n 's/^#define LUKSRD_VERSION 0x0*/0x/p' "$sources/c/luksrd.h")"
+make_built uninstall PLUGINS= FILTERS=
 same 'make uninstall of the library' "$? $(loads | grep -c 'cannot open shared object file')" '0 1'
 same 'what is left of the library' "$(find /usr/local -name '*luksrd*'; ldconfig -p | grep luksrd)" ''
 
@@ -358,20 +392,24 @@ chosen() {
     readlink -f /usr/bin/luksrd
 }
 trap 'dpkg -r "${packages[@]}" >/dev/null 2>&1; rm -rf "$work"' EXIT
-dpkg -i "$program_package" "$library_package" "$plugin_package" >log 2>&1
+dpkg -i "$program_package" "$library_package" "$plugin_package" "$filter_package" "$python_package" >log 2>&1
 same 'they install' $? 0
 works /usr/bin/luksrd /usr/share/bash-completion/completions/luksrd
 same 'the program that is installed' "$(chosen)" /usr/libexec/luksrd/x86-64-v2/luksrd
 same 'the library that is installed' "$(loads)" "$(sed -n 's/^#define LUKSRD_VERSION 0x0*/0x/p' "$sources/c/luksrd.h")"
-same 'what ldconfig knows' "$(ldconfig -p | sed -n 's/^\tlibluksrd\.so\.1 (.*) => //p' | sed 's|^/lib/|/usr/lib/|' |
-    sort)" "$libraries/glibc-hwcaps/x86-64-v3/libluksrd.so.2
+same 'what ldconfig knows' "$(ldconfig -p | sed -n 's/^\tlibluksrd\.so\.2 (.*) => //p' | sed 's|^/lib/|/usr/lib/|' | sort)" "$libraries/glibc-hwcaps/x86-64-v3/libluksrd.so.2
 $libraries/libluksrd.so.2"
-serves_sample luksrd
+serves_sample luksrd luksrd
+module_gives ''
 same 'zsh finds its completion' \
     "$(zsh -fc 'autoload -Uz compinit; compinit -D -u; print -r -- $_comps[luksrd]')" _luksrd
 same "make install over a package's plugin" "$(lacking "$PATH" install "${built[@]}" DESTDIR= PREFIX="$work/own/late" \
     PLUGINS="$plugins")" \
     "the package nbdkit-plugin-luksrd has $plugins/$name: run apt-get remove nbdkit-plugin-luksrd, or give a PREFIX"
+same "make install over a package's filter" "$(lacking "$PATH" install-filter "${built[@]}" DESTDIR= PREFIX="$work/own/late" FILTERS="$filters")" \
+    "the package nbdkit-filter-luksrd has $filters/$filter_name: run apt-get remove nbdkit-filter-luksrd, or give a PREFIX"
+same "make install over a package's module" "$(lacking "$PATH" install-python "${built[@]}" DESTDIR= PREFIX=/usr)" \
+    "the package python3-luksrd has $modules/luksrd.py: run apt-get remove python3-luksrd, or give a PREFIX"
 same 'what that installs' "$(files own/late)" ''
 make_built uninstall PREFIX=/usr
 same "make uninstall of packages' files" "$? $(chosen)" '0 /usr/libexec/luksrd/x86-64-v2/luksrd'

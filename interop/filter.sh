@@ -1,0 +1,80 @@
+#!/usr/bin/env bash
+# What the filter for nbdkit makes of what is below it: which bytes it reads, and how often; its block sizes, holes, exports and failures; and that no read waits for another.
+# shellcheck disable=SC2016 # nbdkit's commands find the address in $uri
+# shellcheck source=interop/served.sh
+. "$(dirname "$0")/served.sh"
+each_kind :
+way=filter
+server=(--filter="$filter")
+
+# asked CALL ARGUMENT..: as served, a client that makes this call of libnbd
+asked() {
+    served "/usr/bin/python3 -c 'import nbd, sys; handle = nbd.NBD(); handle.connect_uri(sys.argv[1]); handle.$1' \"\$uri\"" "${@:2}"
+}
+
+# it reads the header once, though all connect at once, and of the payload no sector but those of a range
+text "$volume2" pass
+served "/usr/bin/python3 '$here/clients.py' at-once \"\$uri\" 16 >answer" --filter=log file "$volume2" logfile=log key-file=pass
+same 'many connections at once' "$? $(cat answer)" '0 all the same'
+same 'many connections at once: reads' "$(grep -c ' Read ' log) $(grep -c ' Read .*offset=0x0 ' log)" "$((($(stat -c %s "$volume2") + 1048575) / 1048576)) 1"
+asked 'pread(2, 4095)' --filter=log file "$volume2" logfile=log key-file=pass
+start=$(start_of2 "$volume2")
+same 'two bytes of two sectors: reads' "$? $(sed -n 's/.* Read .*offset=0x\([0-9a-f]*\) count=0x\([0-9a-f]*\) .*/\1 \2/p' log | tail -n 2 | tr '\n' ' ')" \
+    "0 $(printf '%x 1000 %x 1000 ' "$start" $((start + 4096)))"
+asked 'cache(4096, 8192)' --filter=log file "$volume2" logfile=log key-file=pass
+same 'what is cached' "$? $(sed -n 's/.* Cache .*offset=0x\([0-9a-f]*\) count=0x\([0-9a-f]*\) .*/\1 \2/p' log)" "0 $(printf '%x 1000' $((start + 8192)))"
+
+# it reads whole blocks, as many as are allowed at once
+cp "$volume1" blocks
+truncate -s %65536 blocks
+text blocks pass
+for sizes in '4096 4096 8192' '65536 65536 65536' '512 512 512' '512 4096 4294967295' '1024 1048576 4194304'; do
+    read -r minimum preferred maximum <<<"$sizes"
+    compared ranges "blocks of $sizes" 400 --filter=blocksize-policy file blocks key-file=pass blocksize-minimum="$minimum" blocksize-preferred="$preferred" \
+        blocksize-maximum="$maximum" blocksize-error-policy=error
+    served 'nbdinfo --json "$uri"' --filter=blocksize-policy file blocks key-file=pass blocksize-minimum="$minimum" blocksize-preferred="$preferred" blocksize-maximum="$maximum"
+    same "blocks of $sizes: what is preferred" "$(grep -c "\"block_size_preferred\": $((preferred > 4096 ? preferred : 4096))," said)" 1
+done
+
+# holes are holes, but do not read as zeros
+cp --sparse=never "$volume2" sparse
+truncate -s 8M sparse
+text sparse pass
+opens 'an image with a hole' file sparse key-file=pass
+served 'qemu-img convert -f raw -O raw "$uri" copy' file sparse key-file=pass
+same 'an image with a hole, by qemu-img' "$? $(sha256sum <copy)" "0 $(sha256sum <text)"
+hole=$(($(stat -c %s "$volume2") - start))
+served 'nbdinfo --map "$uri"' file sparse key-file=pass
+same 'the map of an image with a hole' "$(awk '{ print $1, $2, $4 }' said)" "0 $hole data
+$hole $((8388608 - start - hole)) hole"
+served 'nbdinfo --map "$uri"' --filter=noextents file sparse key-file=pass
+same 'the map of an image without one' "$(awk '{ print $1, $2, $4 }' said)" "0 $((8388608 - start)) data"
+
+# one export, the first that is opened
+mkdir exports
+cp "$volume1" exports/one
+cp "$volume2" exports/two
+served 'for name in one two one; do nbdinfo --size "nbd+unix:///$name?socket=$unixsocket"; done' file dir=exports key-file=pass
+same 'exports: sizes' "$(grep -c '^300032$' said) $(grep -c '^303104$' said)" '2 0'
+says 'another export' 'luksrd: this server has opened another export, and serves no second one'
+served 'nbdinfo --size "$uri"; nbdinfo --size "$uri"' file plain key-file=pass
+says 'the reason' 'luksrd: not a LUKS image'
+says 'a second connection' 'luksrd: the first connection has not opened the volume'
+
+# a read that fails: that of the header ends the connection, and a later one opens the volume; that of a sector ends the request
+text "$volume1" pass
+failing=(--filter=error file "$volume1" key-file=pass error-pread-rate=100% error-pread-file="$work/fail")
+: >fail
+served 'nbdinfo --size "$uri"; rm fail; nbdinfo --size "$uri"' "${failing[@]}"
+same 'a header that cannot be read, and then can' "$? $(grep -c '^300032$' said)" '0 1'
+says 'why' 'luksrd: reading the first '
+served "/usr/bin/python3 '$here/clients.py' fails \"\$uri\" text fail >answer" "${failing[@]}"
+same 'a sector that cannot be read' "$? $(cat answer)" '0 all the same'
+says 'a sector that cannot be read' 'luksrd: reading 512 bytes at offset '
+
+# While a read below does not end, others are answered, and the volume opens for others.
+served "/usr/bin/python3 '$here/clients.py' side-by-side \"\$uri\" text go >answer" eval thread_model='echo parallel' get_size="stat -c %s '$work/$volume1'" \
+    pread="[ \$4 -lt $(($(start_of1 "$volume1") + 200000)) ] || until [ -e '$work/go' ]; do sleep 0.05; done
+        tail -c +\$((\$4 + 1)) '$work/$volume1' | head -c \$3" key-file=pass
+same 'a read that waits' "$? $(cat answer)" '0 all the same'
+finish

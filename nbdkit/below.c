@@ -1,0 +1,77 @@
+#include "below.h"
+
+#include <errno.h>
+#include <string.h>
+
+/* The most bytes that are asked for at once, if what is below sets no lower limit. */
+#define MAX_READ 1048576
+
+int look_below(struct below *below, nbdkit_next *next)
+{
+  const int64_t len = next->get_size(next);
+  uint32_t maximum;
+  below->next = next;
+  if (len < 0 || next->block_size(next, &below->minimum, &below->preferred, &maximum) < 0)
+    return -1;
+  below->len = (uint64_t)len;
+  if (below->minimum == 0) {
+    below->minimum = 1;
+    maximum = UINT32_MAX;
+  }
+  /* (a minimum is a power of two, at most 65536) */
+  below->maximum = maximum < MAX_READ ? maximum - maximum % below->minimum : MAX_READ;
+  return 0;
+}
+
+/* Reads whole blocks, or blocks to the end. */
+static bool read_blocks(const struct below *below, uint8_t *to, size_t size, uint64_t offset)
+{
+  while (size > 0) {
+    const uint32_t count = size < below->maximum ? (uint32_t)size : below->maximum;
+    int error = EIO;
+    if (below->next->pread(below->next, to, count, offset, 0, &error) < 0) {
+      errno = error;
+      return false;
+    }
+    to += count;
+    size -= count;
+    offset += count;
+  }
+  return true;
+}
+
+/* The end of the last block that has a byte before this place. */
+static uint64_t block_end(const struct below *below, uint64_t end)
+{
+  const uint64_t over = end % below->minimum;
+  if (over == 0 || below->len - end < below->minimum - over)
+    return over == 0 ? end : below->len;
+  return end + (below->minimum - over);
+}
+
+bool read_below(void *from, uint8_t *to, size_t size, uint64_t offset)
+{
+  const struct below *below = from;
+  const size_t before = offset % below->minimum;
+  const size_t len = before + (block_end(below, offset + size) - offset);
+  if (len == size)
+    return read_blocks(below, to, size, offset);
+  uint8_t *blocks = malloc(len);
+  if (!blocks)
+    return false;
+  const bool is_read = read_blocks(below, blocks, len, offset - before);
+  if (is_read)
+    memcpy(to, blocks + before, size);
+  const int error = errno;
+  free(blocks);
+  errno = error;
+  return is_read;
+}
+
+struct blocks blocks_of(const struct below *below, uint32_t count, uint64_t offset)
+{
+  const uint64_t first = offset - offset % below->minimum;
+  const uint64_t len = block_end(below, offset + count) - first;
+  const uint32_t max = UINT32_MAX - UINT32_MAX % below->minimum;
+  return (struct blocks){ .offset = first, .count = len < max ? (uint32_t)len : max };
+}

@@ -1,0 +1,331 @@
+/* nbdkit-luksrd-filter: the plaintext of the LUKS1 or LUKS2 volume in what is below it, which is
+ * another filter or a plugin.
+ *
+ * This is glue: it calls luksrd's library (luksrd.h), whose functions are proved to meet their
+ * contracts. The glue itself is tested, not proved. */
+#include "below.h"
+#include "input.h"
+#include "parameters.h"
+#include "volume.h"
+
+#include <errno.h>
+#include <pthread.h>
+#include <stdlib.h>
+#include <string.h>
+#include <unistd.h>
+
+static struct parameters parameters;
+static struct bytes passphrase;
+
+/* The volume is opened by the first connection that needs it, or, with a detached header, before
+ * there is one. The others wait for that. Nobody holds the lock while bytes are read or keys are
+ * derived, and once the volume is open or refused, it does not change. */
+enum state { NOT_OPEN, BEING_OPENED, IS_OPEN, IS_REFUSED };
+static pthread_mutex_t lock = PTHREAD_MUTEX_INITIALIZER;
+static pthread_cond_t is_known = PTHREAD_COND_INITIALIZER;
+static enum state state;
+static char *served_name; /* the export with the volume, or NULL before it is known */
+static struct volume volume;
+
+/* A connection. */
+struct connection {
+  char *export_name;
+  struct below below;
+};
+
+static void unload(void)
+{
+  close_volume(&volume);
+  wipe(&passphrase);
+  free_parameters(&parameters);
+  free(served_name);
+}
+
+static int config(nbdkit_next_config *next, nbdkit_backend *backend, const char *key,
+                  const char *value)
+{
+  const int taken = take_parameter(&parameters, key, value);
+  return taken <= 0 ? taken : next(backend, key, value);
+}
+
+static int config_complete(nbdkit_next_config_complete *next, nbdkit_backend *backend)
+{
+  return check_parameters(&parameters) < 0 ? -1 : next(backend);
+}
+
+/* Reads the key file, after the detached header is opened: luksrd opens them in this order. */
+static int take_key_file(void)
+{
+  const int fd = parameters.key_file ? open_stream(parameters.key_file) : -1;
+  if (parameters.key_file && fd < 0)
+    return -1;
+  const int status = get_passphrase(&parameters, fd, &passphrase);
+  if (fd >= 0)
+    close(fd);
+  return status;
+}
+
+/* Opens the volume by its detached header. */
+static int open_detached(int header_fd)
+{
+  struct bytes header = { 0 };
+  int status = -1;
+  if (read_first(parameters.header, header_fd, MAX_HEADER, &header) == 0 && take_key_file() == 0 &&
+      unlock(&volume, &header, &passphrase, &parameters) == OPENED)
+    status = 0;
+  free(header.at);
+  wipe(&passphrase);
+  return status;
+}
+
+/* nbdkit forks after this: here relative names of files still lead to them. */
+static int get_ready(int thread_model)
+{
+  (void)thread_model;
+  if (!parameters.header)
+    return take_key_file();
+  const int fd = open_stream(parameters.header);
+  if (fd < 0)
+    return -1;
+  const int status = open_detached(fd);
+  close(fd);
+  if (status == 0)
+    state = IS_OPEN;
+  return status;
+}
+
+static void *open_connection(nbdkit_next_open *next, nbdkit_context *context, int readonly,
+                             const char *name, int is_tls)
+{
+  (void)readonly;
+  (void)is_tls;
+  if (next(context, 1, name) < 0)
+    return NULL;
+  struct connection *connection = calloc(1, sizeof *connection);
+  if (connection)
+    connection->export_name = strdup(name);
+  if (connection && connection->export_name)
+    return connection;
+  nbdkit_error("luksrd: out of memory");
+  free(connection);
+  return NULL;
+}
+
+static void close_connection(void *handle)
+{
+  struct connection *connection = handle;
+  pthread_mutex_lock(&lock);
+  const bool is_kept = connection->export_name == served_name;
+  pthread_mutex_unlock(&lock);
+  if (!is_kept)
+    free(connection->export_name);
+  free(connection);
+}
+
+/* Reads the header below, and tries the passphrase. */
+static enum outcome open_below(struct below *below)
+{
+  struct bytes header = { 0 };
+  enum outcome outcome = TRY_LATER;
+  if (allocate(&header, below->len < MAX_HEADER ? (size_t)below->len : MAX_HEADER) < 0)
+    return TRY_LATER;
+  if (read_below(below, header.at, header.len, 0))
+    outcome = unlock(&volume, &header, &passphrase, &parameters);
+  else
+    nbdkit_error("luksrd: reading the first %zu bytes: %s", header.len, strerror(errno));
+  free(header.at);
+  return outcome;
+}
+
+/* Whether the export of this connection is the one with the volume; the first one is. Another
+ * export is another image, with which this key would give noise. The caller holds the lock. */
+static bool has_volume(const struct connection *connection)
+{
+  if (!served_name) {
+    served_name = connection->export_name;
+    report_ending(&volume, connection->below.len);
+  }
+  return strcmp(served_name, connection->export_name) == 0;
+}
+
+/* Opens the volume, for this connection and for all others. If a read failed or there was no
+ * memory, a later connection tries again. Returns the new state. */
+static enum state open_for_all(struct connection *connection)
+{
+  const enum outcome outcome = open_below(&connection->below);
+  const enum state next = outcome == OPENED    ? IS_OPEN
+                          : outcome == REFUSED ? IS_REFUSED
+                                               : NOT_OPEN;
+  if (next != NOT_OPEN)
+    wipe(&passphrase);
+  pthread_mutex_lock(&lock);
+  state = next;
+  if (next == IS_OPEN)
+    has_volume(connection);
+  pthread_cond_broadcast(&is_known);
+  pthread_mutex_unlock(&lock);
+  return next;
+}
+
+/* Waits while another connection opens the volume. Returns IS_OPEN or IS_REFUSED; or BEING_OPENED,
+ * and then this connection has to open it. */
+static enum state wait_for_volume(void)
+{
+  pthread_mutex_lock(&lock);
+  while (state == BEING_OPENED)
+    pthread_cond_wait(&is_known, &lock);
+  const enum state found = state;
+  if (found == NOT_OPEN)
+    state = BEING_OPENED;
+  pthread_mutex_unlock(&lock);
+  return found == NOT_OPEN ? BEING_OPENED : found;
+}
+
+/* Whether this connection is served; reports why not. */
+static bool is_served(const struct connection *connection)
+{
+  pthread_mutex_lock(&lock);
+  const bool is_same = has_volume(connection);
+  pthread_mutex_unlock(&lock);
+  if (!is_same)
+    nbdkit_error("luksrd: this server has opened another export, and serves no second one");
+  return is_same;
+}
+
+static int prepare(nbdkit_next *next, void *handle, int readonly)
+{
+  struct connection *connection = handle;
+  (void)readonly;
+  if (look_below(&connection->below, next) < 0)
+    return -1;
+  enum state found = wait_for_volume();
+  if (found == BEING_OPENED)
+    found = open_for_all(connection);
+  else if (found == IS_REFUSED)
+    nbdkit_error("luksrd: the first connection has not opened the volume");
+  return found == IS_OPEN && is_served(connection) ? 0 : -1;
+}
+
+static int64_t get_size(nbdkit_next *next, void *handle)
+{
+  const struct connection *connection = handle;
+  (void)next;
+  return (int64_t)plain_len(&volume, connection->below.len);
+}
+
+static int no(nbdkit_next *next, void *handle)
+{
+  (void)next;
+  (void)handle;
+  return 0;
+}
+
+/* Any range is served, whatever the blocks of what is below. */
+static int block_size(nbdkit_next *next, void *handle, uint32_t *minimum, uint32_t *preferred,
+                      uint32_t *maximum)
+{
+  const struct connection *connection = handle;
+  (void)next;
+  *minimum = 1;
+  *preferred = connection->below.preferred > 4096 ? connection->below.preferred : 4096;
+  *maximum = UINT32_MAX;
+  return 0;
+}
+
+/* If this is emulated, then below: nothing is decrypted for it. */
+static int can_cache(nbdkit_next *next, void *handle)
+{
+  const int found = next->can_cache(next);
+  (void)handle;
+  return found == NBDKIT_CACHE_EMULATE ? NBDKIT_CACHE_NATIVE : found;
+}
+
+static int cache(nbdkit_next *next, void *handle, uint32_t count, uint64_t offset, uint32_t flags,
+                 int *err)
+{
+  const struct connection *connection = handle;
+  const struct blocks blocks =
+      blocks_of(&connection->below, count, payload_offset(&volume) + offset);
+  return next->cache(next, blocks.count, blocks.offset, flags, err);
+}
+
+/* A hole stays a hole, but what it contains is not zero: zeros are decrypted too. */
+static int add_extents(struct nbdkit_extents *extents, const struct nbdkit_extents *found)
+{
+  const uint64_t start = payload_offset(&volume);
+  for (size_t i = 0; i < nbdkit_extents_count(found); i++) {
+    const struct nbdkit_extent extent = nbdkit_get_extent(found, i);
+    const uint64_t before = extent.offset < start ? start - extent.offset : 0;
+    if (extent.length > before &&
+        nbdkit_add_extent(extents, extent.offset + before - start, extent.length - before,
+                          extent.type & NBDKIT_EXTENT_HOLE) < 0)
+      return -1;
+  }
+  return 0;
+}
+
+static int extents_plain(nbdkit_next *next, void *handle, uint32_t count, uint64_t offset,
+                         uint32_t flags, struct nbdkit_extents *extents, int *err)
+{
+  const struct connection *connection = handle;
+  const struct blocks blocks =
+      blocks_of(&connection->below, count, payload_offset(&volume) + offset);
+  struct nbdkit_extents *found = nbdkit_extents_new(blocks.offset, connection->below.len);
+  if (!found) {
+    *err = errno;
+    return -1;
+  }
+  int status = next->extents(next, blocks.count, blocks.offset, flags, found, err);
+  if (status == 0 && add_extents(extents, found) < 0) {
+    *err = errno;
+    status = -1;
+  }
+  nbdkit_extents_free(found);
+  return status;
+}
+
+static int pread_plain(nbdkit_next *next, void *handle, void *buf, uint32_t count, uint64_t offset,
+                       uint32_t flags, int *err)
+{
+  struct connection *connection = handle;
+  (void)next;
+  (void)flags;
+  const struct image image = {
+    .len = connection->below.len,
+    .read = read_below,
+    .from = &connection->below,
+  };
+  if (read_plain(&volume, &image, buf, count, offset) < 0) {
+    *err = EIO;
+    return -1;
+  }
+  return 0;
+}
+
+static struct nbdkit_filter filter = {
+  .name = "luksrd",
+  .longname = "luksrd: LUKS1 and LUKS2 volumes",
+  .description = "Serves the plaintext of the LUKS volume in what is below it, read-only.",
+  .config_help = PARAMETERS_HELP,
+  .unload = unload,
+  .config = config,
+  .config_complete = config_complete,
+  .get_ready = get_ready,
+  .open = open_connection,
+  .close = close_connection,
+  .prepare = prepare,
+  .get_size = get_size,
+  .block_size = block_size,
+  .can_write = no,
+  .can_flush = no,
+  .can_trim = no,
+  .can_zero = no,
+  .can_fast_zero = no,
+  .can_fua = no,
+  .can_cache = can_cache,
+  .cache = cache,
+  .extents = extents_plain,
+  .pread = pread_plain,
+};
+
+NBDKIT_REGISTER_FILTER(filter)

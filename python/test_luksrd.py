@@ -1,0 +1,350 @@
+"""Tests of luksrd.py, by pytest. interop/python.sh makes the volumes, names their folder in LUKSRD_KINDS, and writes beside
+each what luksCat gives."""
+
+import concurrent.futures
+import ctypes
+import errno
+import io
+import os
+import pathlib
+import pickle
+import random
+import threading
+import time
+import warnings
+import zipfile
+
+import pytest
+
+import luksrd
+
+FOLDER = pathlib.Path(os.environ["LUKSRD_KINDS"])
+VOLUME1, VOLUME2 = "luks1 xts-plain64 512", "luks2 xts-plain64 512 4096"
+
+
+class Kind:
+    """A volume that interop/python.sh has made, and what luksCat gives for it."""
+
+    def __init__(self, line):
+        self.image, self.key, self.header = line.split("\t")
+        self.text = (FOLDER / f"{self.image}.text").read_bytes()
+        self.message = (FOLDER / f"{self.image}.message").read_text().rstrip("\n")
+        self.status = int((FOLDER / f"{self.image}.status").read_text().split()[0])
+
+    def open(self, **options):
+        header = FOLDER / self.header if self.header else None
+        with warnings.catch_warnings():
+            warnings.simplefilter("ignore", luksrd.IncompleteImageWarning)
+            return luksrd.open(FOLDER / self.image, key_file=FOLDER / self.key, header=header, **options)
+
+
+KINDS = [Kind(line) for line in (FOLDER / "kinds").read_text().splitlines()]
+every_kind = pytest.mark.parametrize("kind", KINDS, ids=lambda kind: kind.image)
+
+
+def named(image):
+    return next(kind for kind in KINDS if kind.image == image)
+
+
+@pytest.fixture
+def volume():
+    with named(VOLUME2).open() as opened:
+        yield opened
+
+
+@every_kind
+def test_whole(kind):
+    with kind.open() as volume:
+        assert volume.size == len(kind.text)
+        assert volume.read() == kind.text
+        assert volume.read() == b"" and volume.tell() == volume.size
+
+
+@every_kind
+def test_ranges(kind):
+    chance = random.Random(kind.image)
+    with kind.open() as volume:
+        for _ in range(40):
+            length = chance.choice((0, 1, 511, 512, 513, 4096, 4097, chance.randrange(70000), 300000))
+            offset = chance.choice((0, 1, chance.randrange(len(kind.text) + 1), max(0, len(kind.text) - length)))
+            assert volume.pread(length, offset) == kind.text[offset:offset + length]
+            volume.seek(offset)
+            buffer = bytearray(b"x" * length)
+            got = volume.readinto(buffer)
+            assert buffer == kind.text[offset:offset + length] + b"x" * (length - got)
+            assert volume.tell() == offset + got
+
+
+@every_kind
+def test_ending(kind):
+    """An incomplete image ends with luksCat's status and message, and opening it warns of that."""
+    with kind.open() as volume:
+        ending = volume.incomplete
+    assert (ending.status, str(ending)) == (kind.status, kind.message) if ending else kind.status == 0
+    with warnings.catch_warnings(record=True) as caught:
+        warnings.simplefilter("always")
+        luksrd.open(FOLDER / kind.image, key_file=FOLDER / kind.key, header=FOLDER / kind.header if kind.header else None).close()
+    wanted = [f"{FOLDER / kind.image}: {kind.message}"] if kind.message else []
+    assert [str(warning.message) for warning in caught if warning.category is luksrd.IncompleteImageWarning] == wanted
+
+
+def test_truncated_kinds():
+    """They are among the kinds."""
+    assert sum(kind.status == 4 for kind in KINDS) == 5
+
+
+def test_past_the_end(volume):
+    assert volume.pread(10, volume.size) == volume.pread(10, volume.size + 2 ** 70) == b""
+    assert volume.seek(5, os.SEEK_END) == volume.size + 5
+    assert volume.read(10) == b"" and volume.read() == b"" and volume.tell() == volume.size + 5
+
+
+def test_seek(volume):
+    text = named(VOLUME2).text
+    assert volume.seek(100) == volume.tell() == 100
+    assert volume.read(7) == text[100:107] and volume.tell() == 107
+    assert volume.seek(-3, os.SEEK_CUR) == 104 and volume.seek(-2, 2) == volume.size - 2
+    assert volume.read(10) == text[-2:]
+    for offset, whence in ((-1, 0), (-volume.size - 1, 2), (0, 3)):
+        with pytest.raises(ValueError):
+            volume.seek(offset, whence)
+    for arguments in ((-1, 0), (1, -1)):
+        with pytest.raises(ValueError):
+            volume.pread(*arguments)
+
+
+def test_buffers(volume):
+    """Any writable buffer is filled; one of several dimensions or items as bytes."""
+    text = named(VOLUME2).text
+    numbers = (ctypes.c_uint32 * 1000)()
+    assert volume.pread_into(numbers, 3) == 4000 and bytes(numbers) == text[3:4003]
+    with pytest.raises(TypeError):
+        volume.readinto(b"read-only")
+    assert volume.tell() == 0
+
+
+def test_read_only(volume):
+    assert volume.readable() and volume.seekable() and not volume.writable() and not volume.isatty()
+    for change in (lambda: volume.write(b"x"), lambda: volume.truncate(5), volume.fileno):
+        with pytest.raises(io.UnsupportedOperation):
+            change()
+    assert isinstance(volume, io.RawIOBase) and volume.mode == "rb"
+
+
+def test_facts(volume):
+    assert (volume.key_slot, volume.sector_size, volume.name) == (0, 4096, FOLDER / VOLUME2)
+    assert VOLUME2 in repr(volume) and f" {volume.size} bytes" in repr(volume)
+    with luksrd.open(FOLDER / VOLUME1, key_file=FOLDER / "pass2") as other:
+        assert (other.key_slot, other.sector_size) == (5, 512)
+    assert luksrd.library_version()[:1] == (1,)
+
+
+def test_buffered_reader(volume):
+    text = named(VOLUME2).text
+    with io.BufferedReader(volume, 1000) as reader:
+        reader.seek(4000)
+        assert reader.peek(1)[:1] == text[4000:4001] and reader.read(5000) == text[4000:9000]
+        assert b"".join(reader) == text[9000:]
+    assert volume.closed
+
+
+def test_zipfile():
+    with luksrd.open(FOLDER / "an archive", key_file=FOLDER / "pass") as volume, zipfile.ZipFile(volume) as archive:
+        assert archive.read("inside") == b"inside\n" * 90
+
+
+def test_pytsk3():
+    import pytsk3
+
+    class Image(pytsk3.Img_Info):
+        def __init__(self, volume):
+            self.volume = volume
+            super().__init__(url="", type=pytsk3.TSK_IMG_TYPE_EXTERNAL)
+
+        def read(self, offset, length):
+            return self.volume.pread(length, offset)
+
+        def get_size(self):
+            return self.volume.size
+
+    with luksrd.open(FOLDER / "a file system", key_file=FOLDER / "pass") as volume:
+        image = Image(volume)
+        file_system = pytsk3.FS_Info(image)
+        file = file_system.open("/inside")
+        assert file.read_random(0, file.info.meta.size) == b"inside\n"
+
+
+@pytest.mark.parametrize("passphrase", ["a passphrase", b"a passphrase", bytearray(b"a passphrase"), memoryview(b"a passphrase")], ids=lambda given: type(given).__name__)
+def test_passphrases(passphrase):
+    before = bytes(passphrase, "ascii") if isinstance(passphrase, str) else bytes(passphrase)
+    with luksrd.open(FOLDER / VOLUME1, passphrase=passphrase) as volume:
+        assert volume.read() == named(VOLUME1).text
+    assert (passphrase if isinstance(passphrase, str) else bytes(passphrase)) in (before, before.decode())
+
+
+def test_names_of_files():
+    """Paths of any kind; key file and header from pipes."""
+    kind = named("detached2")
+    for path in (os.fspath(FOLDER / kind.image), os.fsencode(FOLDER / kind.image)):
+        with from_pipe(FOLDER / kind.key) as key, from_pipe(FOLDER / kind.header) as header:
+            with luksrd.open(path, key_file=key, header=header) as volume:
+                assert volume.read() == kind.text
+
+
+class from_pipe:
+    """The name of a pipe with the contents of a file."""
+
+    def __init__(self, path):
+        self.path = path
+
+    def __enter__(self):
+        self.reader, writer = os.pipe()
+        self.writing = threading.Thread(target=self.write, args=(writer,))
+        self.writing.start()
+        return f"/dev/fd/{self.reader}"
+
+    def write(self, writer):
+        with open(writer, "wb") as file:
+            file.write(self.path.read_bytes())
+
+    def __exit__(self, *_):
+        self.writing.join()
+        os.close(self.reader)
+
+
+REFUSED = {
+    "a wrong passphrase": (VOLUME1, {"key_file": "wrong"}, 10, 2, "luksrd: no key opens the volume"),
+    "no passphrase": (VOLUME1, {"passphrase": ""}, 10, 2, "luksrd: no key opens the volume"),
+    "no LUKS": ("plain", {}, 1, 4, "luksrd: not a LUKS image"),
+    "nothing": ("err.empty", {}, 1, 4, "luksrd: not a LUKS image"),
+    "truncated": ("short", {}, 2, 4, "luksrd: image ends inside the header or a key area"),
+    "a detached header as an image": ("header2", {}, 4, 1, "luksrd: segment refused: offset"),
+    "a slot that is not there": (VOLUME1, {"key_slot": 8}, 5, 1, "luksrd: key slot 8 is not there"),
+    "a slot that is disabled": (VOLUME1, {"key_slot": 1}, 6, 1, "luksrd: key slot 1 is disabled"),
+    "another slot": (VOLUME1, {"key_slot": 5}, 10, 2, "luksrd: no key opens the volume"),
+    "a limit": (VOLUME1, {"max_iterations": 999}, 8, 1, "luksrd: no key slot can be tried; skipped: 0 (iterations), 5 (iterations)"),
+    "a key file that is too long": (VOLUME1, {"key_file": "long"}, 9, 1, "luksrd: key file is longer than 8388608 bytes"),
+}
+
+
+@pytest.mark.parametrize("name", REFUSED)
+def test_refused(name):
+    image, options, code, status, message = REFUSED[name]
+    options = {"key_file": "pass"} | options if "passphrase" not in options else options
+    options = {key: FOLDER / value if key == "key_file" else value for key, value in options.items()}
+    (FOLDER / "err.empty").write_bytes(b"")
+    with pytest.raises(luksrd.LuksError) as caught:
+        luksrd.open(FOLDER / image, **options)
+    assert (caught.value.code, caught.value.status, caught.value.message, str(caught.value)) == (code, status, message, message)
+    again = pickle.loads(pickle.dumps(caught.value))
+    assert (again.code, again.status, again.message) == (code, status, message)
+
+
+@pytest.mark.parametrize("options, error", [
+    ({}, TypeError),
+    ({"passphrase": "a passphrase", "key_file": "pass"}, TypeError),
+    ({"passphrase": 5}, TypeError),
+    ({"key_file": "pass", "key_slot": 32}, ValueError),
+    ({"key_file": "pass", "key_slot": -1}, ValueError),
+    ({"key_file": "pass", "max_iterations": 0}, ValueError),
+    ({"key_file": "pass", "max_iterations": 2 ** 32}, ValueError),
+    ({"key_file": "absent"}, FileNotFoundError),
+    ({"key_file": "."}, IsADirectoryError),
+    ({"key_file": "pass", "header": "absent"}, FileNotFoundError),
+    ({"key_file": "pass", "header": "."}, IsADirectoryError),
+], ids=str)
+def test_wrong_arguments(options, error):
+    options = {key: FOLDER / value if key in ("key_file", "header") else value for key, value in options.items()}
+    descriptors = len(os.listdir("/proc/self/fd"))
+    with pytest.raises(error):
+        luksrd.open(FOLDER / VOLUME1, **options)
+    assert len(os.listdir("/proc/self/fd")) == descriptors
+
+
+@pytest.mark.parametrize("image, error", [("absent", FileNotFoundError), (".", IsADirectoryError), ("pipe", OSError), ("/dev/null", OSError)])
+def test_wrong_image(image, error):
+    with pytest.raises(error) as caught:
+        luksrd.open(FOLDER / image, passphrase="a passphrase")
+    assert os.fspath(caught.value.filename) == os.fspath(FOLDER / image)
+    assert caught.value.errno != errno.EINVAL or "neither a regular file nor a block device" in str(caught.value)
+
+
+def test_close():
+    """The key is wiped, the descriptor is closed, and nothing is read any more; a second time does nothing."""
+    descriptors = len(os.listdir("/proc/self/fd"))
+    volume = named(VOLUME2).open()
+    assert any(bytes(volume._key._opened.key))
+    volume.close()
+    volume.close()
+    assert volume.closed and "closed" in repr(volume) and not any(key_of(volume))
+    assert len(os.listdir("/proc/self/fd")) == descriptors
+    for use in (volume.read, volume.tell, volume.readable, volume.seekable, lambda: volume.seek(0), lambda: volume.pread(1, 0),
+                lambda: volume.readinto(bytearray(1)), volume.__enter__):
+        with pytest.raises(ValueError):
+            use()
+
+
+def key_of(volume):
+    """The bytes in which the module keeps the key."""
+    return bytes(volume._key._opened)
+
+
+def test_forgotten():
+    """A volume that is no longer used is closed."""
+    descriptors = len(os.listdir("/proc/self/fd"))
+    volume = named(VOLUME2).open()
+    del volume
+    assert len(os.listdir("/proc/self/fd")) == descriptors
+
+
+def test_threads():
+    """Threads read ranges of one volume at once, and each of its bytes once by readinto."""
+    text = named(VOLUME2).text
+    with named(VOLUME2).open() as volume, concurrent.futures.ThreadPoolExecutor(8) as threads:
+        def ranges(number):
+            chance = random.Random(number)
+            for _ in range(200):
+                offset, length = chance.randrange(len(text)), chance.randrange(20000)
+                assert volume.pread(length, offset) == text[offset:offset + length]
+        list(threads.map(ranges, range(8)))
+        pieces = list(threads.map(lambda _: volume.read(1000), range(len(text) // 1000 + 1)))
+        assert sorted(pieces) == sorted(text[first:first + 1000] for first in range(0, len(text), 1000))
+
+
+def test_close_while_threads_read():
+    """A read gives the text or says that the volume is closed, and never reads a file that got the same descriptor."""
+    text = named(VOLUME2).text
+    for number in range(20):
+        volume, started = named(VOLUME2).open(), threading.Event()
+
+        def reads():
+            try:
+                while True:
+                    assert volume.pread(9000, 100) == text[100:9100]
+                    started.set()
+            except ValueError:
+                return "closed"
+
+        with concurrent.futures.ThreadPoolExecutor(4) as threads:
+            running = [threads.submit(reads) for _ in range(4)]
+            started.wait()
+            time.sleep(number / 2000)
+            volume.close()
+            with open(FOLDER / "plain", "rb") as other:
+                assert [future.result() for future in running] == ["closed"] * 4
+                assert other.tell() == 0
+
+
+def test_shorter(tmp_path):
+    """An image that becomes shorter gives no bytes where it is gone, and the buffer is zeroed."""
+    kind = named(VOLUME1)
+    image = tmp_path / "image"
+    image.write_bytes((FOLDER / VOLUME1).read_bytes())
+    with luksrd.open(image, key_file=FOLDER / kind.key) as volume:
+        os.truncate(image, image.stat().st_size - 2000)
+        buffer = bytearray(b"x" * 8000)
+        with pytest.raises(OSError) as caught:
+            volume.pread_into(buffer, volume.size - 8000)
+        assert caught.value.errno == errno.EIO and "the image has become shorter" in str(caught.value)
+        assert buffer == bytes(8000)
+        assert volume.pread(8000, 0) == kind.text[:8000]
