@@ -34,6 +34,14 @@
  * No function keeps state, so threads may call all of them at once, with the same volume and cipher
  * too. Only luksrd_open allocates memory, by malloc, realloc and free. It may not be called from a
  * signal handler, nor from the forked child of a process with threads.
+ *
+ * luksrd_open needs at most 256 KiB of stack, luksrd_prepare 128 KiB, and every other function 32
+ * KiB.
+ *
+ * What is left of keys: the caller wipes the passphrase, the volume and the cipher (luksrd_wipe).
+ * Copies of keys and of parts of them stay on the stack of the thread that called luksrd_open or
+ * luksrd_prepare until something else is written there. A program that must not leave them calls
+ * the two in a thread with a stack of its own, which it wipes when the thread has ended.
  */
 #ifndef LUKSRD_H
 #define LUKSRD_H

@@ -9,8 +9,12 @@
  *
  *     library fields IMAGE PASSPHRASE LENGTH..
  *
- * prints each field of the open volume, and for an image of each length the number of bytes of plain
- * text that it has, and how its payload ends. */
+ * prints each field of the open volume, and for an image of each length the number of bytes of
+ * plain text that it has, and how its payload ends.
+ *
+ *     library stack IMAGE PASSPHRASE
+ *
+ * prints for each call whether it needs no more stack than luksrd.h states. */
 #include "luksrd.h"
 
 #include <inttypes.h>
@@ -19,6 +23,11 @@
 #include <stdio.h>
 #include <stdlib.h>
 #include <string.h>
+
+/* the bytes of stack that luksrd.h states */
+#define STACK_OPEN (256 * 1024)
+#define STACK_PREPARE (128 * 1024)
+#define STACK_READ (32 * 1024)
 
 #define THREADS 4
 #define RANGES 200
@@ -354,9 +363,117 @@ static int print_volume(int lengths, char **argv)
   return 0;
 }
 
+/* What calls with the volume in this image need. */
+struct calls {
+  struct bytes header, passphrase;
+  struct luksrd_options options;
+  struct luksrd_volume volume;
+  struct luksrd_cipher cipher;
+  struct luksrd_message message;
+  struct luksrd_step step;
+  uint8_t payload[2 * LUKSRD_SECTOR_BYTES];
+};
+
+static void *call_nothing(void *argument)
+{
+  return argument;
+}
+
+static void *call_open(void *argument)
+{
+  struct calls *calls = argument;
+  must(luksrd_open(calls->header.at, calls->header.len, calls->passphrase.at,
+                   calls->passphrase.len, &calls->options, &calls->volume,
+                   &calls->message) == LUKSRD_OK,
+       "opening on a stack of its own");
+  return NULL;
+}
+
+static void *call_prepare(void *argument)
+{
+  struct calls *calls = argument;
+  must(luksrd_prepare(&calls->volume, &calls->cipher) == LUKSRD_OK, "keys on a stack of their own");
+  return NULL;
+}
+
+static void *call_plan(void *argument)
+{
+  struct calls *calls = argument;
+  must(luksrd_plan(&calls->cipher, UINT32_MAX, 1, 9000, &calls->step) == LUKSRD_OK, "a plan");
+  return NULL;
+}
+
+static void *call_finish(void *argument)
+{
+  struct calls *calls = argument;
+  must(luksrd_finish(&calls->cipher, &calls->step, calls->payload, calls->step.read_len) ==
+           LUKSRD_OK,
+       "a step");
+  return NULL;
+}
+
+static void *call_decrypt(void *argument)
+{
+  struct calls *calls = argument;
+  must(luksrd_decrypt(&calls->cipher, 0, calls->payload, sizeof calls->payload) == LUKSRD_OK,
+       "sectors");
+  return NULL;
+}
+
+/* The bytes of a stack that a call writes to. */
+static size_t stack_of(void *(*call)(void *), struct calls *calls)
+{
+  enum { SIZE = 1 << 20 };
+  pthread_attr_t attributes;
+  pthread_t thread;
+  uint8_t *stack = aligned_alloc(4096, SIZE);
+  size_t unused = 0;
+  must(stack != NULL, "a stack");
+  memset(stack, 0xa5, SIZE);
+  must(pthread_attr_init(&attributes) == 0 &&
+           pthread_attr_setstack(&attributes, stack, SIZE) == 0 &&
+           pthread_create(&thread, &attributes, call, calls) == 0 &&
+           pthread_join(thread, NULL) == 0,
+       "a thread with a stack");
+  while (unused < SIZE && stack[unused] == 0xa5)
+    unused++;
+  free(stack);
+  return SIZE - unused;
+}
+
+static int print_stacks(char **argv)
+{
+  static struct calls calls = { .options = { .size = sizeof(struct luksrd_options) } };
+  static const struct {
+    const char *name;
+    void *(*call)(void *);
+    size_t most;
+  } rows[] = {
+    { "luksrd_open", call_open, STACK_OPEN },
+    { "luksrd_prepare", call_prepare, STACK_PREPARE },
+    { "luksrd_plan", call_plan, STACK_READ },
+    { "luksrd_finish", call_finish, STACK_READ },
+    { "luksrd_decrypt", call_decrypt, STACK_READ },
+  };
+  calls.header = header_in(argv[0]);
+  calls.passphrase = contents(argv[1]);
+  const size_t least = stack_of(call_nothing, &calls);
+  for (size_t i = 0; i < sizeof rows / sizeof rows[0]; i++) {
+    const size_t used = stack_of(rows[i].call, &calls) - least;
+    printf("%s: %s\n", rows[i].name, used <= rows[i].most ? "enough" : "too little");
+    if (used > rows[i].most)
+      fprintf(stderr, "%s needs %zu bytes\n", rows[i].name, used);
+  }
+  free(calls.header.at);
+  free(calls.passphrase.at);
+  return 0;
+}
+
 int main(int argc, char **argv)
 {
   must(luksrd_version() == LUKSRD_VERSION, "the version");
+  if (argc == 4 && strcmp(argv[1], "stack") == 0)
+    return print_stacks(argv + 2);
   if (argc > 4 && strcmp(argv[1], "fields") == 0)
     return print_volume(argc - 4, argv + 2);
   must(argc == 4, "the arguments");

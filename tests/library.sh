@@ -171,6 +171,16 @@ offset=528384 size=0 iv_tweak=8 has_size=0 sector_size=4096 mode=1 key_size=32 k
 TEXT
 fields 'no fixed size' wanted
 
+# each call needs no more stack than luksrd.h states
+stacks='luksrd_open: enough
+luksrd_prepare: enough
+luksrd_plan: enough
+luksrd_finish: enough
+luksrd_decrypt: enough'
+for processor in "${processors[@]}"; do
+    same "the stack, $processor" "$(LD_LIBRARY_PATH=$work/$processor ./shared stack fixed pass5 2>&1)" "$stacks"
+done
+
 # what both sources declare
 "$sources/tests/border" >said 2>&1
 same 'what luksrd.h and luks_c declare' "$? $(sed '$s/^[1-9][0-9]* passed, 0 failed$/agrees/' said)" '0 agrees'

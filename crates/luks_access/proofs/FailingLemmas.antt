@@ -1,5 +1,5 @@
 -- Which bytes of an image cannot be read, if a range of its plaintext is not read.
-use Rattle.std.proofs.Common.{◌≡◌, ℕ, ◌+◌, ◌-◌, ◌*◌, ◌/◌, ◌%◌, ◌<◌, ◌≤◌, Bool, true, arith}
+use Rattle.std.proofs.Common.{◌≡◌, ℕ, ◌+◌, ◌-◌, ◌*◌, ◌/◌, ◌%◌, ◌<◌, ◌≤◌, Bool, arith}
 use Rattle.std.proofs.Math.Nat.{lt_of_mul-lt-mul_left, mod-add-div', mod-lt}
 use Rattle.luks_verdict.proofs.SectorLemmas.{sector_blocks}
 use Rattle.luks_verdict.specs.declared.segment.Segment.{Segment}

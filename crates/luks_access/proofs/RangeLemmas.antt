@@ -16,7 +16,6 @@ use Rattle.luks_cipher.specs.Xts.{joined}
 use Rattle.luks_verdict.specs.declared.segment.Segment.{Segment}
 use Rattle.luks_payload.specs.Plain.{plain_of, sector_len, sector_plaintext, sector_start, sectors_of}
 use Rattle.luks_payload.specs.Plain.{unit_number, unit_plain, payload_bytes}
-use Rattle.luks_payload.proofs.ForwardingLemmas.{two_parts}
 use Rattle.luks_payload.proofs.SectorLemmas.{one_more_fits}
 use Rattle.luks_runs.proofs.PayloadLemmas.{joined_length, plain_len, sector_size, take_whole}
 use Rattle.luks_access.proofs.FailingLemmas.{fails_more, few_sectors, some_sector, step_fails}

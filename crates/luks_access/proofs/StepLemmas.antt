@@ -1,5 +1,5 @@
 -- Steps that are done one after the other.
-use Rattle.std.proofs.Common.{◌≡◌, ℕ, ◌+◌, ◌-◌, ◌*◌, ◌%◌, ◌++◌, List, [], ◌∷◌, None, Bool, false, length, take, drop, arith}
+use Rattle.std.proofs.Common.{◌≡◌, ℕ, ◌+◌, ◌-◌, ◌*◌, ◌%◌, ◌++◌, List, [], ◌∷◌, None, false, length, take, drop, arith}
 use Rattle.std.proofs.Common.{ap, refl, sym, ◌∙◌}
 use Rattle.std.proofs.Math.Seq.{take-add}
 use Rattle.std.proofs.lemmas.List.{drop-drop}
@@ -8,7 +8,7 @@ use Rattle.luks_cipher.specs.Sector.{Cipher}
 use Rattle.luks_verdict.specs.declared.segment.Segment.{Segment}
 use Rattle.luks_payload.specs.Plain.{plain_of, sector_len}
 use Rattle.luks_access.proofs.RangeLemmas.{part_of_plain, starts, step_stored}
-use Rattle.luks_access.specs.Sectors.{plain_at, plain_in, plaintext_len}
+use Rattle.luks_access.specs.Sectors.{plain_at, plaintext_len}
 use Rattle.luks_access.specs.Steps.{AreSteps, IsDoneOver, IsStep, StepDone, given_by}
 
 module _ (s : Segment) (cipher : Cipher) (image : List ℕ) where

@@ -1,4 +1,4 @@
-use Rattle.std.proofs.Common.{◌*◌, ◌∙◌, length, take, drop, ap, sym, arith}
+use Rattle.std.proofs.Common.{◌*◌, ◌∙◌, take, drop, ap, sym, arith}
 use Rattle.luks_payload.specs.Plain.{plain_of, sector_len}
 use Rattle.luks_access.proofs.RangeLemmas.{front_read}
 use Rattle.luks_access.proofs.step.finish.Goals as goal

@@ -1,4 +1,3 @@
-use Rattle.std.proofs.Common.{false}
 use Rattle.luks_access.proofs.StepLemmas.{steps_read}
 use Rattle.luks_access.proofs.step.steps_read_range.Goals as goal
 
