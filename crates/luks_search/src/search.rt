@@ -136,6 +136,7 @@ impl Search {
     fn load_and_skip<S: Source>(&mut self, source: &mut S) -> Result<usize, SearchFault>
         requires { self.old.sector < 18014398509481984 }
         ensures sector { IfOk result (λ count. self.new.sector ≡ self.old.sector + count) }
+        ensures most { IfOk result (λ count. count ≤ 65536) }
         ensures enough { IfOk result (λ count. count ≡ 0 →
             (self.new.ended ≡ true) ⊎ (8388608 ≤ length self.new.bytes)) }
         ensures held { (image : List ℕ) → IsIn image self.old (S.to_come source.old)
@@ -159,6 +160,7 @@ impl Search {
     fn load_if_needed<S: Source>(&mut self, source: &mut S) -> Result<usize, SearchFault>
         requires { self.old.sector < 18014398509481984 }
         ensures sector { IfOk result (λ count. self.new.sector ≡ self.old.sector + count) }
+        ensures most { IfOk result (λ count. count ≤ 65536) }
         ensures enough { IfOk result (λ count. count ≡ 0 →
             (self.new.ended ≡ true) ⊎ (8388608 ≤ length self.new.bytes)) }
         ensures held { (image : List ℕ) → IsIn image self.old (S.to_come source.old)
@@ -199,6 +201,7 @@ impl Search {
         requires more { self.old.sector < 18014398509481984 }
         requires enough { (self.old.ended ≡ true) ⊎ (8388608 ≤ length self.old.bytes) }
         ensures on { IfOk result (λ step. IsEnd step ⊎ (self.new.sector ≡ self.old.sector + 1)) }
+        ensures near { OnOk result (self.new.sector ≤ self.old.sector + 1) }
         ensures stopped { OnErr result (self.new.sector ≡ self.old.sector) }
         ensures found { (image : List ℕ) (left : Option (List ℕ)) → IsIn image self.old left
             → OnOk result (IsIn image self.new left)
@@ -215,6 +218,7 @@ impl Search {
     fn step<S: Source>(&mut self, alloc: Global, source: &mut S) -> Result<Step, SearchFault>
         requires { self.old.sector < 18014398509481984 }
         ensures on { IfOk result (λ step. IsEnd step ⊎ (self.old.sector < self.new.sector)) }
+        ensures range { OnOk result (self.new.sector ≤ 18014398509547520) }
         ensures held { (image : List ℕ) → IsIn image self.old (S.to_come source.old)
             → OnOk result (IsIn image self.new (S.to_come source.new))
             × StepsOn image self.old.sector self.new.sector result }
@@ -250,9 +254,11 @@ impl Search {
             → OnOk result (IsIn image self.new (S.to_come source.new))
             × FindsNext image self.old.sector self.new.sector result }
         ensures on { IfOk result (λ found. IfSome found (λ _. self.old.sector < self.new.sector)) }
+        ensures range { self.new.sector ≤ 18014398509547520 }
         ensures failures { (S.counts source.new).failures
             ≡ counted (is_read_fault result) (S.counts source.old).failures }
     {
+        prove!(self.sector <= MAX_SECTORS + 65_536);
         while self.sector < MAX_SECTORS {
             match self.step(alloc, source)? {
                 Step::End => return Ok(None),

@@ -19,5 +19,5 @@ returns-in-Found-clause-on g c =
 pub returns-clause-found : goal.returns-clause-found
 returns-clause-found g c image short is =
     let before = c.loop-self.invariant.held image is in
-    let sector = ap (λ (s : SearchModel). s.sector) c.self.view_is in
+    let sector = ap (λ (s : SearchModel). s.sector) c.self-in-loop-self.view_is in
     (before.0, behind_all image c.loop-self.self.sector short (omega (arith, c.loop-self-test.false, sector)) ∙ before.1)
