@@ -157,3 +157,20 @@ module _ (policy : Policy) (scope : Scope) (stored : List ℕ → Stored) where
 pub on_err : {T E : Type 0} (P : Type 0) (result : Result T E) → P → OnErr result P
 on_err P (Ok _) holds = tt
 on_err P (Err _) holds = holds
+
+pub moved_file : (policy : Policy) (scope : Scope) (now stored : List ℕ → Stored) (file : List ℕ)
+    (failures failures' : ℕ) (before after : Option (List ℕ)) (state : State) → now ≡ stored
+    → AuditsFile policy scope file (now file) failures failures' before after state
+    → AuditsFile policy scope file (stored file) failures failures' before after state
+moved_file policy scope now stored file failures failures' before after state same one =
+    let P : (List ℕ → Stored) → Type 0 = λ has. AuditsFile policy scope file (has file) failures failures' before after
+    state in
+    subst P same one
+
+pub moved_part : (policy : Policy) (scope : Scope) (now stored : List ℕ → Stored) (file : List ℕ)
+    (before after : Option (List ℕ)) → now ≡ stored
+    → AuditsFilePartly policy scope file (now file) before after
+    → AuditsFilePartly policy scope file (stored file) before after
+moved_part policy scope now stored file before after same part =
+    let P : (List ℕ → Stored) → Type 0 = λ has. AuditsFilePartly policy scope file (has file) before after in
+    subst P same part
