@@ -12,7 +12,7 @@ use Rattle.luks_search.specs.Search.{FindsNext, IsIn, SearchModel, is_read_fault
 use Rattle.luks_search.specs.declared.place.Place.{Place}
 use Rattle.luks_search.specs.declared.place.SearchFault.{SearchFault}
 use Rattle.luks_search.specs.declared.place.SearchFault.TheVariants.{Memory as SearchMemory, Read as SearchRead}
-use Rattle.std.specs.Prelude.{OnOk}
+use Rattle.std.specs.Prelude.{IfOk, OnErr, OnOk}
 use Rattle.luks_audit.specs.Image.{IsAudited, fault_line, header_line, header_state}
 use Rattle.luks_audit.specs.declared.image.Policy.{Policy}
 use Rattle.luks_audit.specs.declared.image.State.{State}
@@ -152,17 +152,65 @@ module _ (policy : Policy) (scope : Scope) (file : List ℕ) where
   unopened_tells to_come unknown error opens =
       record { course = not_opened; possible = tt; failed_is = refl; text_is = refl; state_is = refl }
 
-  pub unopened_nothing : {I : Type 0} (to_come : I → Option (List ℕ)) (stored : Stored) (error : NotOpened)
-      → OpensAs to_come stored (Err error) → TellsPart policy scope stored file []
-  unopened_nothing to_come stored error opens =
-      part_of_told policy scope stored file (unopened_line policy.format file) false Unread 0
-      (unopened_tells to_come stored error opens)
-
 -- an image that was not read before is counted if one of its reads has failed
 pub failed_count : (failed : Bool) (before after : ℕ) → before ≡ 0 → after ≡ counted failed before
     → nat_lt 0 after ≡ failed
 failed_count true before after none is = ap (nat_lt 0) (is ∙ ap (counted true) none)
 failed_count false before after none is = ap (nat_lt 0) (is ∙ none)
+
+module _ (policy : Policy) (scope : Scope) (file : List ℕ) where
+  -- an image was opened, audited and closed
+  pub file_opened : {I : Type 0} (to_come : I → Option (List ℕ)) (stored : Stored) (source : I)
+      (failures failures1 failures2 reads reads' : ℕ) (before after : Option (List ℕ)) (state : State)
+      → OpensAs to_come stored (Ok source) → reads ≡ 0 → failures1 ≡ failures
+      → failures2 ≡ counted (nat_lt 0 reads') failures1
+      → Audits policy scope file (to_come source) reads reads' before after state
+      → AuditsFile policy scope file stored failures failures2 before after state
+  file_opened to_come stored source failures failures1 failures2 reads reads' before after state opens none same
+      closed audited = record {
+    text = audited.text;
+    failed = audited.failed;
+    written = audited.written;
+    failures_is = closed ∙ ap (λ b. counted b failures1) (failed_count audited.failed reads reads' none audited.failures_is)
+        ∙ ap (counted audited.failed) same;
+    tells = opened_tells policy scope file to_come stored source audited.text audited.failed state opens audited.tells;
+  }
+
+  pub file_opened_part : {I : Type 0} (to_come : I → Option (List ℕ)) (stored : Stored) (source : I)
+      (before after : Option (List ℕ)) → OpensAs to_come stored (Ok source)
+      → AuditsPartly policy scope file (to_come source) before after
+      → AuditsFilePartly policy scope file stored before after
+  file_opened_part to_come stored source before after opens audited = record {
+    part = audited.part;
+    written = audited.written;
+    tells = opened_part policy scope file to_come stored source audited.part opens audited.tells;
+  }
+
+  -- it was not opened
+  pub file_unopened : {I : Type 0} (to_come : I → Option (List ℕ)) (stored : Stored) (error : NotOpened)
+      (failures failures1 : ℕ) (before after : Option (List ℕ)) (state : State) → OpensAs to_come stored (Err error)
+      → failures1 ≡ failures → Appended before after (unopened_line policy.format file) → state ≡ Unread
+      → AuditsFile policy scope file stored failures failures1 before after state
+  file_unopened to_come stored error failures failures1 before after state opens same line shown = record {
+    text = unopened_line policy.format file;
+    failed = false;
+    written = line;
+    failures_is = same;
+    tells =
+        let P : State → Type 0 = Tells policy scope stored file (unopened_line policy.format file) false in
+        subst P (sym shown) (unopened_tells policy scope file to_come stored error opens);
+  }
+
+  pub file_unopened_part : {I : Type 0} (to_come : I → Option (List ℕ)) (stored : Stored) (error : NotOpened) (n : ℕ)
+      (before after : Option (List ℕ)) → OpensAs to_come stored (Err error)
+      → Appended before after (take n (unopened_line policy.format file))
+      → AuditsFilePartly policy scope file stored before after
+  file_unopened_part to_come stored error n before after opens line = record {
+    part = take n (unopened_line policy.format file);
+    written = line;
+    tells = part_of_told policy scope stored file (unopened_line policy.format file) false Unread n
+        (unopened_tells policy scope file to_come stored error opens);
+  }
 
 -- ---- a search
 
@@ -343,3 +391,14 @@ module _ (policy : Policy) (file : List ℕ) (known left left' : Option (List �
                     ∙ ap (λ (line : List ℕ). so_far.text ++ line) (take-append-drop n last) ∙ told.text_is;
               });
         }
+
+-- ---- results
+
+pub if_ok : {T E : Type 0} (P Q : T → Type 0) (result : Result T E) → IfOk result P
+    → ((value : T) → P value → Q value) → IfOk result Q
+if_ok P Q (Ok value) holds next = next value holds
+if_ok P Q (Err error) holds next = tt
+
+pub when_err : {T E : Type 0} (P Q : Type 0) (result : Result T E) → OnErr result P → (P → Q) → OnErr result Q
+when_err P Q (Ok value) holds next = tt
+when_err P Q (Err error) holds next = next holds

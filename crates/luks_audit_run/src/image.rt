@@ -111,14 +111,14 @@ fn put_place<O: Sink>(
     alloc: Global,
     policy: Policy,
     file: &str,
-    place: &Place,
+    place: Place,
     out: &mut O,
 ) -> Result<State, RunFault>
     ensures ok { IfOk result (λ state. Appended (O.written out.old) (O.written out.new)
-        (header_line policy file.now place.now.offset place.now.header)
-        × (state ≡ header_state policy.minimum place.now.header)) }
+        (header_line policy file.now place.offset place.header)
+        × (state ≡ header_state policy.minimum place.header)) }
     ensures err { OnErr result ((n : ℕ) × Appended (O.written out.old) (O.written out.new)
-        (take n (header_line policy file.now place.now.offset place.now.header))) }
+        (take n (header_line policy file.now place.offset place.header))) }
     ensures writes { (O.counts out.new).failures
         ≡ counted (is_unwritten result) (O.counts out.old).failures }
 {
@@ -195,7 +195,7 @@ pub(crate) fn search_image<S: Source, O: Sink>(
     loop {
         match search.next(alloc, source) {
             Ok(Some(place)) => {
-                let shown = put_place(alloc, policy, file, &place, out)?;
+                let shown = put_place(alloc, policy, file, place, out)?;
                 found = Some(graver_of(found, shown));
             }
             Ok(None) => return end_search(alloc, policy, file, found, out),
