@@ -66,8 +66,12 @@ fn fault_state(fault: HeaderFault) -> State
     }
 }
 
-// The line of an image without a header.
-fn fault_line(
+/// The line of an image without a header.
+///
+/// # Errors
+///
+/// `AllocError` if memory runs out.
+pub fn fault_line(
     alloc: Global,
     format: Format,
     file: &str,
@@ -79,8 +83,12 @@ fn fault_line(
     line_text(alloc, format, &tree)
 }
 
-// The line of a header that was found in a file at this offset, and what its audit showed.
-fn header_line(
+/// The line of a header that was found in a file at this offset, and what its audit showed.
+///
+/// # Errors
+///
+/// `AllocError` if memory runs out.
+pub fn header_line(
     alloc: Global,
     policy: Policy,
     file: &str,

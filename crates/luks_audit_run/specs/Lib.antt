@@ -1,1 +1,3 @@
+pub mod Host
 pub mod Run
+pub mod Searched

@@ -1,112 +1,216 @@
 -- What a run writes, and how it ends.
-use Rattle.std.specs.Prelude.{◌≡◌, ℕ, ◌++◌, List, [], ◌∷◌, Option, Some, Err, codes, take}
+use Rattle.std.specs.Prelude.{◌≡◌, ◌<◌, ℕ, ◌++◌, Bool, true, false, List, [], ◌∷◌, Option, Some, None, Result, Ok, Err, codes}
+use Rattle.std.specs.Prelude.{length, take}
 use Rattle.luks_area.specs.declared.fault.HeaderFault.TheVariants.{Read, Memory}
 use Rattle.luks_header.specs.Header.{header_of}
-use Rattle.luks_io.specs.Devices.{Appended}
-use Rattle.luks_audit.specs.Image.{line_by, state_by}
+use Rattle.luks_io.specs.Devices.{Appended, IfKnown, counted}
+use Rattle.luks_search.specs.Places.{places_below}
+use Rattle.luks_search.specs.Search.{max_image_len}
+use Rattle.luks_audit.specs.Image.{fault_line, line_by, state_by}
 use Rattle.luks_audit.specs.Line.{error_value, head_of, line_text}
 use Rattle.luks_audit.specs.declared.image.Policy.{Policy}
 use Rattle.luks_audit.specs.declared.image.State.{State}
 use Rattle.luks_audit.specs.declared.image.State.TheVariants.{Clean, Flawed, Unread}
+use Rattle.luks_audit.specs.declared.line.Format.{Format}
+use Rattle.luks_audit_run.specs.Host.{Stored}
+use Rattle.luks_audit_run.specs.Host.Stored.{image, absent, unknown}
+use Rattle.luks_audit_run.specs.Searched.{graver, place_lines, searched_lines, searched_state}
+use Rattle.luks_audit_run.specs.declared.image.Scope.{Scope}
+use Rattle.luks_audit_run.specs.declared.image.Scope.TheVariants.{Start, Everywhere}
+use Rattle.luks_audit_run.specs.declared.image.RunFault.{RunFault}
+use Rattle.luks_audit_run.specs.declared.image.RunFault.TheVariants.{OutOfMemory as Exhausted, WriteFailed as Unwritten}
 use Rattle.luks_audit_run.specs.declared.run.Ending.{Ending}
 use Rattle.luks_audit_run.specs.declared.run.Ending.TheVariants.{Done, OutOfMemory, WriteFailed}
 
--- what a run sees of an image: its bytes; or it is not opened; or a read of it fails; or memory runs out
-pub data Seen : Type 0 where
-  bytes : List ℕ → Seen
-  not_opened : Seen
-  not_read : Seen
-  no_memory : Seen
+-- ---- one image
 
--- the line of an image
-unfoldable pub line_seen : Policy → List ℕ → Seen → List ℕ
-line_seen policy file (bytes image) = line_by policy file (header_of image)
-line_seen policy file not_opened = line_text policy.format (error_value file (codes "cannot be opened"))
-line_seen policy file not_read = line_by policy file (Err Read)
-line_seen policy file no_memory = line_by policy file (Err Memory)
+-- how the audit of an image went: it was read as far as it has to be; it was not opened; a read failed, or memory ran
+-- out, when the search had tried this many sectors; or nobody can tell, as its bytes are not known: whether a read
+-- failed, what was written, and which state that showed
+pub data Course : Type 0 where
+  whole : Course
+  not_opened : Course
+  not_read : ℕ → Course
+  no_memory : ℕ → Course
+  untold : Bool → List ℕ → State → Course
+
+-- what was written before the search was aborted
+abbrev pub lines_before : Policy → Scope → List ℕ → List ℕ → ℕ → List ℕ
+lines_before policy Start file bytes sector = []
+lines_before policy Everywhere file bytes sector = place_lines policy file bytes (places_below bytes sector)
+
+abbrev pub whole_text : Policy → Scope → List ℕ → List ℕ → List ℕ
+whole_text policy Start file bytes = line_by policy file (header_of bytes)
+whole_text policy Everywhere file bytes = searched_lines policy file bytes
+
+abbrev pub whole_state : Policy → Scope → List ℕ → State
+whole_state policy Start bytes = state_by policy (header_of bytes)
+whole_state policy Everywhere bytes = searched_state policy bytes
+
+-- the line of an image that was not opened
+abbrev pub unopened_line : Format → List ℕ → List ℕ
+unopened_line format file = line_text format (error_value file (codes "cannot be opened"))
+
+-- what is written of an image with these bytes
+unfoldable pub image_text : Policy → Scope → List ℕ → List ℕ → Course → List ℕ
+image_text policy scope file bytes whole = whole_text policy scope file bytes
+image_text policy scope file bytes not_opened = unopened_line policy.format file
+image_text policy scope file bytes (not_read sector) =
+    lines_before policy scope file bytes sector ++ fault_line policy.format file Read
+image_text policy scope file bytes (no_memory sector) =
+    lines_before policy scope file bytes sector ++ fault_line policy.format file Memory
+image_text policy scope file bytes (untold failed text state) = text
 
 -- what its audit shows
-unfoldable pub state_seen : Policy → Seen → State
-state_seen policy (bytes image) = state_by policy (header_of image)
-state_seen policy not_opened = Unread
-state_seen policy not_read = Unread
-state_seen policy no_memory = Unread
+unfoldable pub image_state : Policy → Scope → List ℕ → Course → State
+image_state policy scope bytes whole = whole_state policy scope bytes
+image_state policy scope bytes not_opened = Unread
+image_state policy scope bytes (not_read sector) = Unread
+image_state policy scope bytes (no_memory sector) = Unread
+image_state policy scope bytes (untold failed text state) = state
 
--- the lines of images, in their order
-unfoldable pub lines_of : Policy → List (List ℕ) → List Seen → List ℕ
-lines_of policy (file ∷ files) (seen ∷ others) = line_seen policy file seen ++ lines_of policy files others
-lines_of policy _ _ = []
+-- a read of the image failed
+abbrev pub is_failed : Course → Bool
+is_failed (not_read sector) = true
+is_failed (untold failed text state) = failed
+is_failed _ = false
+
+-- the audit can go in this way: an image that is there is opened, an absent one is not, and what is written of it is
+-- known. A search does not reach the end of an image that is longer than any file
+abbrev pub IsPossible : Stored → Course → Type 0
+IsPossible (image bytes) not_opened = ⊥
+IsPossible (image bytes) (untold failed text state) = max_image_len < length bytes
+IsPossible (image bytes) _ = Unit {0}
+IsPossible absent not_opened = Unit {0}
+IsPossible absent _ = ⊥
+IsPossible unknown _ = Unit {0}
+
+-- the bytes under a name
+abbrev pub bytes_in : Stored → List ℕ
+bytes_in (image bytes) = bytes
+bytes_in absent = []
+bytes_in unknown = []
+
+-- ---- all images
+
+-- what is written of the images, in their order
+unfoldable pub texts_of : Policy → Scope → (List ℕ → Stored) → List (List ℕ) → List Course → List ℕ
+texts_of policy scope stored (file ∷ files) (course ∷ courses) =
+    image_text policy scope file (bytes_in (stored file)) course ++ texts_of policy scope stored files courses
+texts_of policy scope stored _ _ = []
 
 -- everything that is written
-unfoldable pub audit_text : Policy → List (List ℕ) → List Seen → List ℕ
-audit_text policy files seen = head_of policy.format ++ lines_of policy files seen
-
--- the graver of two states
-abbrev pub graver : State → State → State
-graver Unread other = Unread
-graver Flawed Unread = Unread
-graver Flawed other = Flawed
-graver Clean other = other
+unfoldable pub audit_text : Policy → Scope → (List ℕ → Stored) → List (List ℕ) → List Course → List ℕ
+audit_text policy scope stored files courses = head_of policy.format ++ texts_of policy scope stored files courses
 
 -- the gravest state of all images
-unfoldable pub gravest_state : Policy → List Seen → State
-gravest_state policy [] = Clean
-gravest_state policy (seen ∷ others) = graver (state_seen policy seen) (gravest_state policy others)
+unfoldable pub gravest_state : Policy → Scope → (List ℕ → Stored) → List (List ℕ) → List Course → State
+gravest_state policy scope stored (file ∷ files) (course ∷ courses) =
+    graver (image_state policy scope (bytes_in (stored file)) course)
+    (gravest_state policy scope stored files courses)
+gravest_state policy scope stored _ _ = Clean
 
--- what a run sees of an image is true of it, if the host knows its bytes
-abbrev pub IsSeen : Option (List ℕ) → Seen → Type 0
-IsSeen (Some image) (bytes found) = image ≡ found
-IsSeen _ _ = Unit {0}
+-- the audit of each image can go in this way
+unfoldable pub ArePossible : (List ℕ → Stored) → List (List ℕ) → List Course → Type 0
+ArePossible stored [] [] = Unit {0}
+ArePossible stored (file ∷ files) (course ∷ courses) =
+    IsPossible (stored file) course × ArePossible stored files courses
+ArePossible stored _ _ = ⊥
 
--- so it is of all images
-unfoldable pub AreSeen : (List ℕ → Option (List ℕ)) → List (List ℕ) → List Seen → Type 0
-AreSeen known [] [] = Unit {0}
-AreSeen known (file ∷ files) (seen ∷ others) = IsSeen (known file) seen × AreSeen known files others
-AreSeen _ _ _ = ⊥
+-- the number of images of which a read failed, after these images
+unfoldable pub failures_after : ℕ → List Course → ℕ
+failures_after failures [] = failures
+failures_after failures (course ∷ courses) = failures_after (counted (is_failed course) failures) courses
 
--- the line of an image and what its audit shows are those of what was seen of it
-pub record IsShown (policy : Policy) (known : List ℕ → Option (List ℕ)) (file line : List ℕ) (state : State)
-    : Type 0 where
-  pub seen : Seen
-  pub is_true : IsSeen (known file) seen
-  pub line_is : line ≡ line_seen policy file seen
-  pub state_is : state ≡ state_seen policy seen
+-- ---- what a run does
 
--- a prefix of the line of an image was written
-pub record ShowsPart (policy : Policy) (known : List ℕ → Option (List ℕ)) (file : List ℕ)
+-- what was written of one image, and the state that was shown, are those of this course of its audit
+pub record Tells (policy : Policy) (scope : Scope) (stored : Stored) (file text : List ℕ) (failed : Bool)
+    (state : State) : Type 0 where
+  pub course : Course
+  pub possible : IsPossible stored course
+  pub failed_is : failed ≡ is_failed course
+  pub text_is : text ≡ image_text policy scope file (bytes_in stored) course
+  pub state_is : state ≡ image_state policy scope (bytes_in stored) course
+
+-- what was written is a beginning of what is written of one image
+pub record TellsPart (policy : Policy) (scope : Scope) (stored : Stored) (file part : List ℕ) : Type 0 where
+  pub course : Course
+  pub possible : IsPossible stored course
+  pub rest : List ℕ
+  pub text_is : part ++ rest ≡ image_text policy scope file (bytes_in stored) course
+
+-- an open image was audited: what was written of it, and how many of its reads have failed now
+pub record Audits (policy : Policy) (scope : Scope) (file : List ℕ) (known : Option (List ℕ))
+    (failures failures' : ℕ) (before after : Option (List ℕ)) (state : State) : Type 0 where
+  pub text : List ℕ
+  pub failed : Bool
+  pub written : Appended before after text
+  pub failures_is : failures' ≡ counted failed failures
+  pub tells : IfKnown known (λ bytes. Tells policy scope (image bytes) file text failed state)
+
+-- its audit was aborted
+pub record AuditsPartly (policy : Policy) (scope : Scope) (file : List ℕ) (known : Option (List ℕ))
     (before after : Option (List ℕ)) : Type 0 where
-  pub seen : Seen
-  pub is_true : IsSeen (known file) seen
-  pub len : ℕ
-  pub written : Appended before after (take len (line_seen policy file seen))
+  pub part : List ℕ
+  pub written : Appended before after part
+  pub tells : IfKnown known (λ bytes. TellsPart policy scope (image bytes) file part)
 
--- everything was written, and the gravest state is this one
-pub record Runs (policy : Policy) (known : List ℕ → Option (List ℕ)) (files : List (List ℕ))
-    (before after : Option (List ℕ)) (state : State) : Type 0 where
-  pub seen : List Seen
-  pub are_true : AreSeen known files seen
-  pub written : Appended before after (audit_text policy files seen)
-  pub state_is : state ≡ gravest_state policy seen
+-- an image was opened, audited and closed, or not opened
+pub record AuditsFile (policy : Policy) (scope : Scope) (file : List ℕ) (stored : Stored)
+    (failures failures' : ℕ) (before after : Option (List ℕ)) (state : State) : Type 0 where
+  pub text : List ℕ
+  pub failed : Bool
+  pub written : Appended before after text
+  pub failures_is : failures' ≡ counted failed failures
+  pub tells : Tells policy scope stored file text failed state
 
--- a prefix of what is written of the first images was written
-pub record RunsPartly (policy : Policy) (known : List ℕ → Option (List ℕ)) (files : List (List ℕ))
+-- this was aborted
+pub record AuditsFilePartly (policy : Policy) (scope : Scope) (file : List ℕ) (stored : Stored)
+    (before after : Option (List ℕ)) : Type 0 where
+  pub part : List ℕ
+  pub written : Appended before after part
+  pub tells : TellsPart policy scope stored file part
+
+-- everything was written; the state is the gravest; and a read of an image failed for each image of which that is
+-- written
+pub record Runs (policy : Policy) (scope : Scope) (stored : List ℕ → Stored) (files : List (List ℕ))
+    (failures failures' : ℕ) (before after : Option (List ℕ)) (state : State) : Type 0 where
+  pub courses : List Course
+  pub possible : ArePossible stored files courses
+  pub written : Appended before after (audit_text policy scope stored files courses)
+  pub state_is : state ≡ gravest_state policy scope stored files courses
+  pub failed : failures' ≡ failures_after failures courses
+
+-- a beginning of what is written of the first images was written
+pub record RunsPartly (policy : Policy) (scope : Scope) (stored : List ℕ → Stored) (files : List (List ℕ))
     (before after : Option (List ℕ)) : Type 0 where
   pub count : ℕ
-  pub seen : List Seen
-  pub are_true : AreSeen known (take count files) seen
-  pub len : ℕ
-  pub written : Appended before after (take len (audit_text policy (take count files) seen))
+  pub courses : List Course
+  pub possible : ArePossible stored (take count files) courses
+  pub part : List ℕ
+  pub rest : List ℕ
+  pub text_is : part ++ rest ≡ audit_text policy scope stored (take count files) courses
+  pub written : Appended before after part
 
 -- a run ends in this way: everything was written, or it was aborted
-abbrev pub EndsAudit : Policy → (List ℕ → Option (List ℕ)) → List (List ℕ) → Option (List ℕ) → Option (List ℕ) → Ending
-    → Type 0
-EndsAudit policy known files before after (Done state) = Runs policy known files before after state
-EndsAudit policy known files before after OutOfMemory = RunsPartly policy known files before after
-EndsAudit policy known files before after WriteFailed = RunsPartly policy known files before after
+abbrev pub EndsAudit : Policy → Scope → (List ℕ → Stored) → List (List ℕ) → ℕ → ℕ → Option (List ℕ)
+    → Option (List ℕ) → Ending → Type 0
+EndsAudit policy scope stored files failures failures' before after (Done state) =
+    Runs policy scope stored files failures failures' before after state
+EndsAudit policy scope stored files failures failures' before after OutOfMemory =
+    RunsPartly policy scope stored files before after
+EndsAudit policy scope stored files failures failures' before after WriteFailed =
+    RunsPartly policy scope stored files before after
 
--- the host knows the bytes of its images
-abbrev pub KnowsAll : (List ℕ → Option (List ℕ)) → Type 0
-KnowsAll known = (file : List ℕ) → (image : List ℕ) × (known file ≡ Some image)
+-- a failed write is reported
+abbrev pub is_unwritten : {T : Type 0} → Result T RunFault → Bool
+is_unwritten (Err Unwritten) = true
+is_unwritten _ = false
+
+abbrev pub ends_unwritten : Ending → Bool
+ends_unwritten WriteFailed = true
+ends_unwritten _ = false
 
 -- the exit status
 abbrev pub ending_status : Ending → ℕ

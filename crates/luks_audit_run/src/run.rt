@@ -1,38 +1,19 @@
-//! A run: one line for each image, in their order.
+//! A run: the images in their order.
 
-ghost use Rattle.std.specs.Prelude.{◌≡◌, List, Option, Some, ℕ, IfOk, OnErr, OnOk, map};
-ghost use Rattle.std.specs.Prelude.{take};
-ghost use Rattle.luks_io.specs.Devices.{Appended, IfKnown};
-ghost use Rattle.luks_audit.specs.Line.{head_of};
-ghost use Rattle.luks_audit_run.specs.Run.{EndsAudit, IsShown, KnowsAll, Runs, RunsPartly};
-ghost use Rattle.luks_audit_run.specs.Run.{ShowsPart};
-ghost use Rattle.luks_audit_run.specs.Run.{graver, line_seen, state_seen, ending_status};
-ghost use Rattle.luks_audit_run.specs.Run.Seen.{not_opened};
+ghost use Rattle.std.specs.Prelude.{◌≡◌, ℕ, IfOk, OnErr, OnOk, map, take};
+ghost use Rattle.luks_io.specs.Devices.{Appended, counted};
+ghost use Rattle.luks_audit.specs.Line.{error_value, head_of, line_text};
+ghost use Rattle.luks_audit_run.specs.Run.{Audits, AuditsFile, AuditsFilePartly, AuditsPartly, EndsAudit, Runs};
+ghost use Rattle.luks_audit_run.specs.Run.{RunsPartly, ending_status, ends_unwritten};
+ghost use Rattle.luks_audit_run.specs.Run.{is_unwritten, unopened_line};
 
-use luks_audit::image::{ImageLine, Policy, State, audit_image};
+use crate::host::{Images, NotOpened};
+use crate::image::{RunFault, Scope, audit_start, graver, put, search_image};
+use luks_audit::image::{Policy, State};
 use luks_audit::line::{Format, error_tree, head_of, line_text};
-use luks_io::sink::{Sink, put_all};
+use luks_io::sink::Sink;
 use luks_io::source::Source;
 use std::alloc::{AllocError, Global};
-
-/// An image was not opened.
-#[derive(Clone, Copy, PartialEq, Eq, Debug)]
-pub struct NotOpened;
-
-/// Opens images by their names.
-pub trait Images {
-    /// An open image.
-    type Image: Source + Drop;
-
-    /// The bytes of the image of a name, if the host knows them. No run changes them.
-    ghost bytes: { Self → List ℕ → Option (List ℕ) };
-
-    /// Opens the image of this name.
-    fn open(&mut self, name: &str) -> Result<Self::Image, NotOpened>
-        ensures kept { bytes self.new ≡ bytes self.old }
-        ensures image { IfOk result (λ image. IfKnown (bytes self.old name.now)
-            (λ known. Self.Image.to_come image ≡ Some known)) };
-}
 
 /// How a run ends.
 #[derive(Clone, Copy, PartialEq, Eq, Debug)]
@@ -60,80 +41,81 @@ impl Ending {
     }
 }
 
-/// Why a run is aborted.
-#[derive(Clone, Copy, PartialEq, Eq, Debug)]
-enum RunFault {
-    OutOfMemory,
-    WriteFailed,
-}
-
-impl From<AllocError> for RunFault {
-    ghost use Rattle.luks_audit_run.specs.declared.run.RunFault.{RunFault};
-
-    ghost from_gives = { λ _ fault. fault ≡ RunFault.OutOfMemory };
-
-    fn from(_error: AllocError) -> RunFault {
-        RunFault::OutOfMemory
-    }
-}
-
-// The graver of two states.
-fn graver(first: State, second: State) -> State
-    ensures { result ≡ graver first second }
-{
-    match (first, second) {
-        (State::Unread, _) => State::Unread,
-        (State::Flawed, State::Unread) => State::Unread,
-        (State::Flawed, _) => State::Flawed,
-        (State::Clean, other) => other,
-    }
-}
-
 // The line of an image that was not opened.
-#[tactic(auto, unfolding(crate::specs::Run::line_seen, crate::specs::Run::state_seen))]
-fn not_opened_line(alloc: Global, policy: Policy, file: &str) -> Result<ImageLine, AllocError>
-    ensures { IfOk result (λ made. (made.line.items ≡ line_seen policy file.now not_opened)
-        × (made.state ≡ state_seen policy not_opened)) }
+fn unopened_line(alloc: Global, format: Format, file: &str) -> Result<Vec<u8>, AllocError>
+    ensures { IfOk result (λ line. line.items ≡ unopened_line format file.now) }
 {
     let tree = error_tree(alloc, file, "cannot be opened")?;
-    Ok(ImageLine {
-        line: line_text(alloc, policy.format, &tree)?,
-        state: State::Unread,
-    })
+    line_text(alloc, format, &tree)
 }
 
-// The line of the image of this name.
-fn image_line<H: Images>(
+// Writes the line of an image that was not opened.
+fn put_unopened<O: Sink>(
+    alloc: Global,
+    format: Format,
+    file: &str,
+    out: &mut O,
+) -> Result<State, RunFault>
+    ensures ok { IfOk result (λ state. Appended (O.written out.old) (O.written out.new)
+        (unopened_line format file.now) × (state ≡ State.Unread)) }
+    ensures err { OnErr result ((n : ℕ) × Appended (O.written out.old) (O.written out.new)
+        (take n (unopened_line format file.now))) }
+    ensures writes { (O.counts out.new).failures
+        ≡ counted (is_unwritten result) (O.counts out.old).failures }
+{
+    let line = unopened_line(alloc, format, file)?;
+    put(line.as_slice(), out)?;
+    Ok(State::Unread)
+}
+
+// Audits an open image.
+fn audit_open<S: Source, O: Sink>(
     alloc: Global,
     policy: Policy,
-    host: &mut H,
+    scope: Scope,
     file: &str,
-) -> Result<ImageLine, AllocError>
-    ensures kept { H.bytes host.new ≡ H.bytes host.old }
-    ensures shown { IfOk result (λ made. KnowsAll (H.bytes host.old)
-        → IsShown policy (H.bytes host.old) file.now made.line.items made.state) }
+    source: &mut S,
+    out: &mut O,
+) -> Result<State, RunFault>
+    ensures ok { IfOk result (λ state. Audits policy scope file.now (S.to_come source.old)
+        (S.counts source.old).failures (S.counts source.new).failures
+        (O.written out.old) (O.written out.new) state) }
+    ensures err { OnErr result (AuditsPartly policy scope file.now (S.to_come source.old)
+        (O.written out.old) (O.written out.new)) }
+    ensures writes { (O.counts out.new).failures
+        ≡ counted (is_unwritten result) (O.counts out.old).failures }
+{
+    match scope {
+        Scope::Start => audit_start(alloc, policy, file, source, out),
+        Scope::Everywhere => search_image(alloc, policy, file, source, out),
+    }
+}
+
+// Opens an image, audits and closes it, and returns what its audit showed.
+fn audit_file<H: Images, O: Sink>(
+    alloc: Global,
+    policy: Policy,
+    scope: Scope,
+    file: &str,
+    host: &mut H,
+    out: &mut O,
+) -> Result<State, RunFault>
+    ensures kept { H.stored host.new ≡ H.stored host.old }
+    ensures ok { IfOk result (λ state. AuditsFile policy scope file.now
+        (H.stored host.old file.now) (H.failures host.old) (H.failures host.new)
+        (O.written out.old) (O.written out.new) state) }
+    ensures err { OnErr result (AuditsFilePartly policy scope file.now
+        (H.stored host.old file.now) (O.written out.old) (O.written out.new)) }
+    ensures writes { (O.counts out.new).failures
+        ≡ counted (is_unwritten result) (O.counts out.old).failures }
 {
     match host.open(file) {
         Ok(mut image) => {
-            let made = audit_image(alloc, policy, file, &mut image)?;
-            Ok(made)
+            let shown = audit_open(alloc, policy, scope, file, &mut image, out);
+            host.close(image);
+            shown
         }
-        Err(NotOpened) => {
-            let made = not_opened_line(alloc, policy, file)?;
-            Ok(made)
-        }
-    }
-}
-
-// Writes bytes.
-fn put<O: Sink>(bytes: &[u8], out: &mut O) -> Result<(), RunFault>
-    ensures ok { OnOk result (Appended (O.written out.old) (O.written out.new) bytes.now) }
-    ensures err { OnErr result ((n : ℕ)
-        × Appended (O.written out.old) (O.written out.new) (take n bytes.now)) }
-{
-    match put_all(out, bytes) {
-        Ok(()) => Ok(()),
-        Err(_) => Err(RunFault::WriteFailed),
+        Err(NotOpened) => put_unopened(alloc, policy.format, file, out),
     }
 }
 
@@ -142,74 +124,63 @@ fn put_head<O: Sink>(alloc: Global, format: Format, out: &mut O) -> Result<(), R
     ensures ok { OnOk result (Appended (O.written out.old) (O.written out.new) (head_of format)) }
     ensures err { OnErr result ((n : ℕ)
         × Appended (O.written out.old) (O.written out.new) (take n (head_of format))) }
+    ensures writes { (O.counts out.new).failures
+        ≡ counted (is_unwritten result) (O.counts out.old).failures }
 {
     let head = head_of(alloc, format)?;
     put(head.as_slice(), out)
-}
-
-// Writes the line of the image of this name, and returns what its audit showed.
-fn put_image<H: Images, O: Sink>(
-    alloc: Global,
-    policy: Policy,
-    host: &mut H,
-    file: &str,
-    out: &mut O,
-) -> Result<State, RunFault>
-    ensures kept { H.bytes host.new ≡ H.bytes host.old }
-    ensures ok { IfOk result (λ state. KnowsAll (H.bytes host.old) → (line : List ℕ)
-        × IsShown policy (H.bytes host.old) file.now line state
-        × Appended (O.written out.old) (O.written out.new) line) }
-    ensures err { OnErr result (KnowsAll (H.bytes host.old)
-        → ShowsPart policy (H.bytes host.old) file.now
-        (O.written out.old) (O.written out.new)) }
-{
-    let made = image_line(alloc, policy, host, file)?;
-    put(made.line.as_slice(), out)?;
-    Ok(made.state)
 }
 
 // Writes everything, and returns the gravest state of the images.
 fn write_all<H: Images, O: Sink>(
     alloc: Global,
     policy: Policy,
+    scope: Scope,
     files: &[&str],
     host: &mut H,
     out: &mut O,
 ) -> Result<State, RunFault>
-    ensures ok { IfOk result (λ state. KnowsAll (H.bytes host.old)
-        → Runs policy (H.bytes host.old) (map (λ file. file.now) files.now)
+    ensures ok { IfOk result (λ state. Runs policy scope (H.stored host.old)
+        (map (λ file. file.now) files.now) (H.failures host.old) (H.failures host.new)
         (O.written out.old) (O.written out.new) state) }
-    ensures err { OnErr result (KnowsAll (H.bytes host.old)
-        → RunsPartly policy (H.bytes host.old) (map (λ file. file.now) files.now)
-        (O.written out.old) (O.written out.new)) }
+    ensures err { OnErr result (RunsPartly policy scope (H.stored host.old)
+        (map (λ file. file.now) files.now) (O.written out.old) (O.written out.new)) }
+    ensures writes { (O.counts out.new).failures
+        ≡ counted (is_unwritten result) (O.counts out.old).failures }
 {
     put_head(alloc, policy.format, out)?;
     let mut state = State::Clean;
     for file in files {
-        let shown = put_image(alloc, policy, host, file, out)?;
+        let shown = audit_file(alloc, policy, scope, file, host, out)?;
         state = graver(state, shown);
     }
     Ok(state)
 }
 
-/// Audits the images of these names, and writes a line for each: goes on after an image that cannot
-/// be read.
+/// Audits the images of these names, and writes a line for each header: goes on after an image
+/// that cannot be read.
 ///
-/// If the host knows the bytes of its images, what is written is `audit_text` of the names and of
-/// what was seen of each image: its bytes, or that it could not be opened or read. If a write
-/// fails, or memory runs out for a line, a prefix of that text is written.
+/// What is written is `audit_text` of the names, of what the host has under them, and of the course
+/// of each audit. A course is determined by what the host has, but for faults: an image that is
+/// there is opened, and an absent one is not. "Read failed" is written for as many images as have
+/// had a failed read. If a write fails, or memory runs out for a line, a prefix of that text is
+/// written; the run ends with `WriteFailed` exactly if a write failed. Nothing is said of the text
+/// for an image whose bytes the host does not know.
 pub fn run<H: Images, O: Sink>(
     alloc: Global,
     policy: Policy,
+    scope: Scope,
     files: &[&str],
     host: &mut H,
     out: &mut O,
 ) -> Ending
-    ensures { KnowsAll (H.bytes host.old)
-        → EndsAudit policy (H.bytes host.old) (map (λ file. file.now) files.now)
+    ensures ends { EndsAudit policy scope (H.stored host.old) (map (λ file. file.now) files.now)
+        (H.failures host.old) (H.failures host.new)
         (O.written out.old) (O.written out.new) result }
+    ensures writes { (O.counts out.new).failures
+        ≡ counted (ends_unwritten result) (O.counts out.old).failures }
 {
-    match write_all(alloc, policy, files, host, out) {
+    match write_all(alloc, policy, scope, files, host, out) {
         Ok(state) => Ending::Done(state),
         Err(RunFault::OutOfMemory) => Ending::OutOfMemory,
         Err(RunFault::WriteFailed) => Ending::WriteFailed,

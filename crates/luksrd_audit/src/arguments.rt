@@ -3,6 +3,7 @@
 use clap::{Arg, ArgAction, ArgMatches, Command, value_parser};
 use luks_audit::image::Policy;
 use luks_audit::line::Format;
+use luks_audit_run::image::Scope;
 use std::alloc::{AllocError, Global};
 
 /// What the arguments request.
@@ -10,6 +11,8 @@ use std::alloc::{AllocError, Global};
 pub struct Request<'r, 'a> {
     /// How headers are audited and printed.
     pub policy: Policy,
+    /// Where headers are sought.
+    pub scope: Scope,
     /// The names of the images, in their order.
     pub files: &'r [&'a str],
 }
@@ -30,11 +33,15 @@ fn with_options<'a>(alloc: Global, command: Command<'a>) -> Result<Command<'a>, 
         .value_name("N")
         .value_parser(value_parser!(u32))
         .help("Fewer iterations of PBKDF2 are weak, in place of OWASP's figures");
+    let search = Arg::new(alloc, "search")
+        .long("search")
+        .action(ArgAction::SetTrue)
+        .help("Seeks headers at each multiple of 512 bytes");
     let tsv = Arg::new(alloc, "tsv")
         .long("tsv")
         .action(ArgAction::SetTrue)
         .help("Prints columns with tabs between them, and their names first");
-    command.arg(minimum)?.arg(tsv)
+    command.arg(minimum)?.arg(search)?.arg(tsv)
 }
 
 // The command with its images.
@@ -57,7 +64,13 @@ pub fn request_in<'r, 'a>(matches: &'r ArgMatches<'a>) -> Option<Request<'r, 'a>
     } else {
         Format::Json
     };
+    let scope = if matches.get_flag("search") {
+        Scope::Everywhere
+    } else {
+        Scope::Start
+    };
     Some(Request {
+        scope,
         policy: Policy {
             minimum: matches.get_one::<u32>("min-iterations"),
             format,

@@ -1,7 +1,8 @@
 //! Opens images: files by name, standard input by `-`.
 
 use crate::target::{facts_of, is_output};
-use luks_audit_run::run::{Images, NotOpened};
+use luks_audit_run::counted::CountedSource;
+use luks_audit_run::host::{Images, NotOpened};
 use luks_host::input::{Access, Input, access_to};
 use luks_io::adapters::ReadSource;
 use std::fs::{self, File, Metadata};
@@ -14,24 +15,34 @@ pub type HostImage = Input<File, File, Stdin>;
 #[derive(Drop)]
 pub struct HostImages<'r> {
     rt: &'r HostRuntime,
+    failures: u64,
 }
 
 impl<'r> HostImages<'r> {
     /// The images of this system.
     pub fn new(rt: &'r HostRuntime) -> HostImages<'r> {
-        HostImages { rt }
+        HostImages { rt, failures: 0 }
     }
 }
 
 impl<'r> Images for HostImages<'r> {
-    ghost use Rattle.std.specs.Prelude.{None};
+    ghost use Rattle.luks_audit_run.specs.Host.Stored.{unknown};
 
-    type Image = ReadSource<HostImage>;
+    type Image = CountedSource<ReadSource<HostImage>>;
 
-    ghost bytes = { λ _ _. None };
+    ghost stored = { λ _ _. unknown };
 
-    fn open(&mut self, name: &str) -> Result<ReadSource<HostImage>, NotOpened> {
-        Ok(ReadSource::new(open_image(self.rt, name)?))
+    ghost failures = { λ host. host.failures };
+
+    fn open(&mut self, name: &str) -> Result<CountedSource<ReadSource<HostImage>>, NotOpened> {
+        let source = ReadSource::new(open_image(self.rt, name)?);
+        Ok(CountedSource::new(source))
+    }
+
+    fn close(&mut self, image: CountedSource<ReadSource<HostImage>>) {
+        if image.has_failed() {
+            self.failures = self.failures.saturating_add(1);
+        }
     }
 }
 

@@ -80,6 +80,7 @@ fn audit(rt: &HostRuntime, request: &Request<'_, '_>) -> ExitCode {
     let ending = run(
         rt.alloc(),
         request.policy,
+        request.scope,
         request.files,
         &mut host,
         &mut out,

@@ -1,0 +1,130 @@
+-- The lines of a search, place by place.
+use Rattle.std.proofs.Common.{◌≡◌, ◌∙◌, ℕ, ◌≤◌, ◌<◌, List, [], ◌∷◌, ◌++◌, Option, Some, None, Result, Ok, Err, refl, sym, ap, append_assoc}
+use Rattle.std.proofs.Common.{subst, arith, Bool, true, false, length, take, drop}
+use Rattle.std.proofs.lemmas.List.{append-nil, take-append-drop}
+use Rattle.std.proofs.lemmas.Grind.{flat_map-append}
+use Rattle.std.specs.Prelude.{flat_map}
+use Rattle.luks_area.specs.declared.fault.HeaderFault.{HeaderFault}
+use Rattle.luks_area.specs.declared.fault.HeaderFault.TheVariants.{NotLuks}
+use Rattle.luks_io.specs.Devices.{Appended}
+use Rattle.luks_io.proofs.EffectLemmas.{appended-more, appended-none}
+use Rattle.luks_header.specs.declared.header.Header.{Header}
+use Rattle.luks_search.specs.Places.{header_at, places_below, places_of}
+use Rattle.luks_search.specs.Search.{IsIn, SearchModel, max_image_len}
+use Rattle.luks_search.specs.declared.place.Place.{Place}
+use Rattle.luks_audit.specs.Image.{fault_line, header_line, header_state}
+use Rattle.luks_audit.specs.declared.image.Policy.{Policy}
+use Rattle.luks_audit.specs.declared.image.State.{State}
+use Rattle.luks_audit.specs.declared.image.State.TheVariants.{Clean, Flawed, Unread}
+use Rattle.luks_audit_run.specs.Searched.{end_line, end_state, graver, graver_of, gravest_place, line_of, lines_or_none, place_lines}
+use Rattle.luks_audit_run.specs.Searched.{searched_lines, searched_state, shown_of, state_of, state_or_none}
+
+pub graver_clean : (state : State) → graver state Clean ≡ state
+graver_clean Clean = refl
+graver_clean Flawed = refl
+graver_clean Unread = refl
+
+pub graver_assoc : (a b c : State) → graver a (graver b c) ≡ graver (graver a b) c
+graver_assoc Unread b c = refl
+graver_assoc Clean b c = refl
+graver_assoc Flawed Unread c = refl
+graver_assoc Flawed Flawed Unread = refl
+graver_assoc Flawed Flawed Flawed = refl
+graver_assoc Flawed Flawed Clean = refl
+graver_assoc Flawed Clean Unread = refl
+graver_assoc Flawed Clean Flawed = refl
+graver_assoc Flawed Clean Clean = refl
+
+module _ (policy : Policy) (file image : List ℕ) where
+  lines_none : place_lines policy file image [] ≡ []
+  unfolding place_lines
+  lines_none = refl
+
+  -- one more place
+  lines_more : (places : List ℕ) (offset : ℕ)
+      → place_lines policy file image (places ++ offset ∷ [])
+      ≡ place_lines policy file image places ++ line_of policy file offset (header_at image offset)
+  unfolding place_lines
+  lines_more places offset =
+      let f : ℕ → List ℕ = λ place. line_of policy file place (header_at image place) in
+      flat_map-append f places (offset ∷ [])
+      ∙ ap (λ (line : List ℕ). flat_map f places ++ line) (append-nil (f offset))
+
+  gravest_more : (places : List ℕ) (offset : ℕ)
+      → gravest_place policy image (places ++ offset ∷ [])
+      ≡ graver (gravest_place policy image places) (state_of policy (header_at image offset))
+  unfolding gravest_place
+  gravest_more [] offset = graver_clean (state_of policy (header_at image offset))
+  gravest_more (first ∷ places) offset =
+      ap (graver (state_of policy (header_at image first))) (gravest_more places offset)
+      ∙ graver_assoc (state_of policy (header_at image first)) (gravest_place policy image places)
+      (state_of policy (header_at image offset))
+
+  shown_more : (places : List ℕ) (offset : ℕ)
+      → shown_of policy image (places ++ offset ∷ [])
+      ≡ Some (graver_of (shown_of policy image places) (state_of policy (header_at image offset)))
+  unfolding gravest_place
+  shown_more [] offset = ap Some (graver_clean (state_of policy (header_at image offset)))
+  shown_more (first ∷ places) offset = ap Some (gravest_more (first ∷ places) offset)
+
+  -- the search has come so far
+  pub record Told (search : SearchModel) (left : Option (List ℕ)) (text : List ℕ) (found : Option State) : Type 0 where
+    pub is_in : IsIn image search left
+    pub text_is : text ≡ place_lines policy file image (places_below image search.sector)
+    pub found_is : found ≡ shown_of policy image (places_below image search.sector)
+
+  places_none : places_below image 0 ≡ []
+  unfolding places_below
+  places_none = refl
+
+  pub told_none : (left : Option (List ℕ)) → left ≡ Some image
+      → Told (record { sector = 0; bytes = []; ended = false }) left [] None
+  told_none left is = record {
+    is_in = record { rest = image; left_is = is; here = refl; ends = λ ended. absurd (cc) };
+    text_is = sym (ap (place_lines policy file image) places_none ∙ lines_none);
+    found_is = sym (ap (shown_of policy image) places_none);
+  }
+
+  -- one more header was found
+  pub told_more : (search search' : SearchModel) (left left' : Option (List ℕ)) (text : List ℕ) (found : Option State)
+      (place : Place) → Told search left text found → IsIn image search' left'
+      → header_at image place.offset ≡ Ok place.header
+      → places_below image search'.sector ≡ places_below image search.sector ++ place.offset ∷ []
+      → Told search' left' (text ++ header_line policy file place.offset place.header)
+      (Some (graver_of found (header_state policy.minimum place.header)))
+  told_more search search' left left' text found place told is_in header places = record {
+    is_in = is_in;
+    text_is = ap (λ (first : List ℕ). first ++ header_line policy file place.offset place.header) told.text_is
+        ∙ ap (λ read. place_lines policy file image (places_below image search.sector)
+        ++ line_of policy file place.offset read) (sym header)
+        ∙ sym (lines_more (places_below image search.sector) place.offset)
+        ∙ ap (place_lines policy file image) (sym places);
+    found_is = ap (λ before. Some (graver_of before (header_state policy.minimum place.header))) told.found_is
+        ∙ ap (λ read. Some (graver_of (shown_of policy image (places_below image search.sector))
+        (state_of policy read))) (sym header)
+        ∙ sym (shown_more (places_below image search.sector) place.offset)
+        ∙ ap (shown_of policy image) (sym places);
+  }
+
+  -- everything that is written, by what was found
+  ends_by : (places text : List ℕ) (found : Option State) → text ≡ place_lines policy file image places
+      → found ≡ shown_of policy image places
+      → (text ++ end_line policy file found ≡ lines_or_none policy file image places)
+      × (end_state found ≡ state_or_none policy image places)
+  ends_by [] text None is found =
+      (ap (λ (first : List ℕ). first ++ fault_line policy.format file NotLuks) (is ∙ lines_none), refl)
+  ends_by [] text (Some some) is found = absurd cc
+  ends_by (place ∷ places) text None is found = absurd cc
+  ends_by (place ∷ places) text (Some some) is found = (
+    append-nil text ∙ is,
+    (let same : some ≡ gravest_place policy image (place ∷ places) = cc in same),
+  )
+
+  -- the search has ended
+  pub told_all : (search : SearchModel) (left : Option (List ℕ)) (text : List ℕ) (found : Option State)
+      → Told search left text found → places_of image ≡ places_below image search.sector
+      → (text ++ end_line policy file found ≡ searched_lines policy file image)
+      × (end_state found ≡ searched_state policy image)
+  told_all search left text found told all =
+      ends_by (places_of image) text found (told.text_is ∙ ap (place_lines policy file image) (sym all))
+      (told.found_is ∙ ap (shown_of policy image) (sym all))

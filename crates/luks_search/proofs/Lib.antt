@@ -1,0 +1,3 @@
+pub mod HorizonLemmas
+pub mod MagicLemmas
+pub mod PlaceLemmas

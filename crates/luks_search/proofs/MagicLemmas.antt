@@ -1,0 +1,140 @@
+-- Without magic bytes there is no header.
+use Rattle.std.proofs.Common.{◌≡◌, ◌∙◌, ℕ, ◌+◌, ◌*◌, ◌<◌, ◌≤◌, ◌++◌, List, [], ◌∷◌, Bool, true, false, Option, Some, None, ap, sym}
+use Rattle.std.proofs.Common.{refl, length, take, drop, arith, Result, Ok, Err, ◌||◌, ◌&&◌, ◌==◌}
+use Rattle.std.specs.Prelude.{bytes_eq, map, nat_lt, if◌then◌else◌, ok_or, option_and_then}
+use Rattle.std.specs.List.{find, list_any}
+use Rattle.std.proofs.lemmas.Bool.{and_parts, ltb-false, ltb-true}
+use Rattle.std.proofs.lemmas.List.{drop-drop, drop_all, take-take}
+use Rattle.std.proofs.lemmas.Slice.Eq.{bytes_eq-Decides}
+use Rattle.luks_area.specs.Fields.{at}
+use Rattle.luks_area.specs.declared.fault.HeaderFault.TheVariants.{NotLuks}
+use Rattle.luks1_header.specs.Header1.{is_luks1}
+use Rattle.luks2_binary.specs.Choice2.{beginning_at, binary_at, chosen2_of, first_valid, fits, found_at, header2_of, is_binary_of, is_valid}
+use Rattle.luks2_binary.specs.Header2.{sizes}
+use Rattle.luks2_binary.proofs.ChoiceLemmas.{chosen_other}
+use Rattle.luks2_binary.proofs.ValidLemmas.{fits_parts, unfit-is_valid}
+use Rattle.luks_header.specs.Header.{header_of}
+use Rattle.luks_header.specs.declared.header.Header.{Header}
+use Rattle.luks_header.proofs.KnownLemmas.{header_other}
+use Rattle.luks_search.specs.Magic.{begins_magic, may_have_header}
+use Rattle.luks_search.specs.Places.{found_in}
+
+or_none : (a b : Bool) → (a || b) ≡ false → (a ≡ false) × (b ≡ false)
+or_none false b e = (refl, e)
+or_none true b e = absurd cc
+
+-- a Bool that is true and false
+not_both : (b : Bool) → (b ≡ true → ⊥) → b ≡ false
+not_both true none = absurd (none refl)
+not_both false none = refl
+
+-- the first eight bytes begin with the magic bytes
+begins_by : (bytes : List ℕ) (p q : ℕ)
+    → take 8 bytes ≡ 0x4c ∷ 0x55 ∷ 0x4b ∷ 0x53 ∷ 0xba ∷ 0xbe ∷ p ∷ q ∷ [] → begins_magic bytes ≡ true
+unfolding begins_magic
+begins_by bytes p q e =
+    let six : take 6 bytes ≡ 0x4c ∷ 0x55 ∷ 0x4b ∷ 0x53 ∷ 0xba ∷ 0xbe ∷ [] =
+    sym (take-take 6 8 bytes (omega arith)) ∙ ap (take 6) e in
+    rw six refl
+
+begins_by_second : (bytes : List ℕ) (p q : ℕ)
+    → take 8 bytes ≡ 0x53 ∷ 0x4b ∷ 0x55 ∷ 0x4c ∷ 0xba ∷ 0xbe ∷ p ∷ q ∷ [] → begins_magic bytes ≡ true
+unfolding begins_magic
+begins_by_second bytes p q e =
+    let six : take 6 bytes ≡ 0x53 ∷ 0x4b ∷ 0x55 ∷ 0x4c ∷ 0xba ∷ 0xbe ∷ [] =
+    sym (take-take 6 8 bytes (omega arith)) ∙ ap (take 6) e in
+    rw six refl
+
+-- a LUKS1 header begins with them
+pub first_magic : (bytes : List ℕ) → begins_magic bytes ≡ false → is_luks1 bytes ≡ false
+unfolding is_luks1
+first_magic bytes none = not_both _ (λ is.
+    let e : take 8 bytes ≡ 0x4c ∷ 0x55 ∷ 0x4b ∷ 0x53 ∷ 0xba ∷ 0xbe ∷ 0x00 ∷ 0x01 ∷ [] = (bytes_eq-Decides _ _).0 is in
+    let wrong : true ≡ false = sym (begins_by bytes 0x00 0x01 e) ∙ none in cc)
+
+-- so does a binary header of LUKS2
+pub fits_magic : (bytes : List ℕ) (offset : ℕ) → begins_magic (drop offset bytes) ≡ false → fits bytes offset ≡ false
+unfolding is_binary_of beginning_at
+fits_magic bytes offset none = not_both _ (λ is.
+    let binary = (fits_parts bytes offset is).1 in
+    let four = and_parts _ _ binary in
+    let three = and_parts _ _ four.0 in
+    let two = and_parts _ _ three.0 in
+    let one = and_parts _ _ two.0 in
+    let e = (bytes_eq-Decides _ _).0 one.0 in
+    let cut : take 8 (take 4096 (drop offset bytes)) ≡ take 8 (drop offset bytes) =
+    take-take 8 4096 (drop offset bytes) (omega arith) in
+    by (offset == 0) (sym cut ∙ e))
+  where
+    by : (first : Bool)
+        → take 8 (drop offset bytes)
+        ≡ (if first then 0x4c ∷ 0x55 ∷ 0x4b ∷ 0x53 ∷ 0xba ∷ 0xbe ∷ 0x00 ∷ 0x02 ∷ []
+        else 0x53 ∷ 0x4b ∷ 0x55 ∷ 0x4c ∷ 0xba ∷ 0xbe ∷ 0x00 ∷ 0x02 ∷ []) → ⊥
+    by true e = (let wrong : true ≡ false = sym (begins_by (drop offset bytes) 0x00 0x02 e) ∙ none in cc)
+    by false e = (let wrong : true ≡ false = sym (begins_by_second (drop offset bytes) 0x00 0x02 e) ∙ none in cc)
+
+-- if no offset passes a test, none is found
+find_none : (test : ℕ → Bool) (valid : ℕ → Bool) (offsets : List ℕ)
+    → ((offset : ℕ) → test offset ≡ false → valid offset ≡ false) → list_any test offsets ≡ false
+    → find valid offsets ≡ None
+find_none test valid [] fails none = refl
+find_none test valid (offset ∷ offsets) fails none =
+    let parts = or_none (test offset) (list_any test offsets) none in
+    rw (fails offset parts.0) (find_none test valid offsets fails parts.1)
+
+-- bytes that fail the test have no header
+pub quiet_none : (bytes : List ℕ) → may_have_header bytes ≡ false → found_in (header_of bytes) ≡ None
+unfolding may_have_header header2_of
+quiet_none bytes none =
+    let parts = or_none (begins_magic bytes) _ none in
+    let unfit : (offset : ℕ) → begins_magic (drop offset bytes) ≡ false → is_valid bytes offset ≡ false =
+    λ offset quiet. unfit-is_valid bytes offset (fits_magic bytes offset quiet) in
+    let first : is_valid bytes 0 ≡ false = unfit 0 parts.0 in
+    let search : first_valid bytes ≡ None =
+    find_none (λ size. begins_magic (drop size bytes)) (is_valid bytes) sizes unfit parts.1 in
+    let chosen : chosen2_of bytes ≡ None =
+    chosen_other bytes first ∙ ap (option_and_then (found_at bytes)) search in
+    ap found_in (header_other bytes (first_magic bytes parts.0) (Err NotLuks)
+    (ap (λ c. ok_or c NotLuks) chosen))
+
+-- nothing has no header
+pub nothing_none : found_in (header_of []) ≡ None
+unfolding may_have_header begins_magic sizes
+nothing_none = quiet_none [] refl
+
+-- no multiple of 512 passes a test
+any_none : (test : ℕ → Bool) (numbers : List ℕ) → ((k : ℕ) → test (512 * k) ≡ false)
+    → list_any test (map (λ k. 512 * k) numbers) ≡ false
+any_none test [] none = refl
+any_none test (k ∷ numbers) none = rw (none k) (any_none test numbers none)
+
+-- if no sector begins with the magic bytes, none of the sectors passes the test
+pub quiet_at : (bytes : List ℕ) → ((k : ℕ) → begins_magic (drop (512 * k) bytes) ≡ false)
+    → (j : ℕ) → may_have_header (drop (512 * j) bytes) ≡ false
+unfolding may_have_header sizes
+quiet_at bytes none j =
+    let test : ℕ → Bool = λ size. begins_magic (drop size (drop (512 * j) bytes)) in
+    let fails : (k : ℕ) → test (512 * k) ≡ false =
+    λ k.
+    ap begins_magic (drop-drop (512 * k) (512 * j) bytes ∙ ap (λ n. drop n bytes) (same k)) ∙ none (j + k) in
+    rw (none j)
+    (any_none test (32 ∷ 64 ∷ 128 ∷ 256 ∷ 512 ∷ 1024 ∷ 2048 ∷ 4096 ∷ 8192 ∷ []) fails)
+  where
+    same : (k : ℕ) → 512 * j + 512 * k ≡ 512 * (j + k)
+    same k = omega arith
+
+-- nothing does not begin with the magic bytes
+nothing_begins : begins_magic [] ≡ false
+unfolding begins_magic
+nothing_begins = refl
+
+-- if none of the first n sectors begins with the magic bytes, and these are all, none does
+pub quiet_all : (bytes : List ℕ) (n : ℕ) → length bytes ≤ 512 * n
+    → ((k : ℕ) → k < n → begins_magic (drop (512 * k) bytes) ≡ false)
+    → (k : ℕ) → begins_magic (drop (512 * k) bytes) ≡ false
+quiet_all bytes n all none k = by (nat_lt k n) refl where
+  by : (b : Bool) → nat_lt k n ≡ b → begins_magic (drop (512 * k) bytes) ≡ false
+  by true e = none k (ltb-true k n e)
+  by false e =
+      let behind = ltb-false k n e in
+      ap begins_magic (drop_all (512 * k) bytes (omega (arith, behind, all))) ∙ nothing_begins

@@ -1,0 +1,230 @@
+-- Places of headers, sector by sector.
+use Rattle.std.proofs.Common.{◌≡◌, ◌∙◌, ℕ, zero, suc, ◌+◌, ◌-◌, ◌*◌, ◌/◌, ◌<◌, ◌≤◌, ◌++◌, List, [], ◌∷◌, Bool, true, false, ap, sym}
+use Rattle.std.proofs.Common.{Option, Some, None, refl, length, take, drop, arith, Result, Ok, Err, add-one, length-append, length-drop}
+use Rattle.std.proofs.Common.{◌⊎◌, inl, inr, min, append_assoc}
+use Rattle.std.proofs.lemmas.List.{append-nil, drop-append-le, drop-drop, drop_all, take-append-drop}
+use Rattle.std.proofs.lemmas.Bool.{ltb-true}
+use Rattle.std.proofs.Math.Seq.{take-add}
+use Rattle.std.specs.Prelude.{nat_lt}
+use Rattle.luks_io.specs.Devices.{ConsumedInto}
+use Rattle.luks_area.specs.declared.fault.HeaderFault.{HeaderFault}
+use Rattle.luks_header.specs.Header.{header_of}
+use Rattle.luks_header.specs.declared.header.Header.{Header}
+use Rattle.luks_search.specs.Magic.{begins_magic, may_have_header}
+use Rattle.luks_search.specs.Places.{found_in, header_at, place_if, places_below, places_of, sectors_in}
+use Rattle.luks_search.specs.Search.{IsIn, SearchModel, max_image_len}
+use Rattle.luks_search.proofs.HorizonLemmas.{header_by_start}
+use Rattle.luks_search.proofs.MagicLemmas.{nothing_none, quiet_at, quiet_none}
+
+-- one more sector
+pub places_more : (image : List ℕ) (n : ℕ)
+    → places_below image (n + 1) ≡ places_below image n ++ place_if (512 * n) (found_in (header_at image (512 * n)))
+unfolding places_below
+places_more image n = rw add-one refl
+
+-- sectors without headers
+pub places_none : (image : List ℕ) (n count : ℕ)
+    → ((j : ℕ) → j < count → found_in (header_at image (512 * (n + j))) ≡ None)
+    → places_below image (n + count) ≡ places_below image n
+places_none image n zero none = ap (places_below image) (omega arith)
+places_none image n (suc count) none =
+    let before = places_none image n count (λ j below. none j (omega (arith, below))) in
+    let last : n + suc count ≡ (n + count) + 1 = omega arith in
+    let here = none count (omega arith) in
+    ap (places_below image) last ∙ places_more image (n + count)
+    ∙ ap (λ found. places_below image (n + count) ++ place_if (512 * (n + count)) found) here
+    ∙ append-nil (places_below image (n + count)) ∙ before
+
+-- no place is after the image's end
+pub places_end : (image : List ℕ) (n : ℕ) → length image ≤ 512 * n → places_of image ≡ places_below image n
+places_end image n end =
+    let few : sectors_in image ≤ n = omega (arith, end) in
+    let all : sectors_in image + (n - sectors_in image) ≡ n = omega (arith, few) in
+    sym (ap (places_below image) (sym all) ∙ places_none image (sectors_in image) (n - sectors_in image) (λ j below.
+    ap (λ bytes. found_in (header_of bytes)) (drop_all (512 * (sectors_in image + j)) image (omega arith))
+    ∙ nothing_none))
+
+found_ok : (read : Result Header HeaderFault) (header : Header) → found_in read ≡ Some header → read ≡ Ok header
+found_ok (Ok found) header e = (let same : found ≡ header = cc in ap Ok same)
+found_ok (Err fault) header e = absurd cc
+
+-- ---- a search
+
+module _ (image : List ℕ) (search : SearchModel) (left : Option (List ℕ)) (is : IsIn image search left) where
+  -- the rest of the image from a loaded sector on
+  ahead_is : (j : ℕ) → 512 * j ≤ length search.bytes
+      → drop (512 * (search.sector + j)) image ≡ drop (512 * j) search.bytes ++ is.rest
+  ahead_is j within =
+      ap (λ n. drop n image) (same j)
+      ∙ sym (drop-drop (512 * j) (512 * search.sector) image)
+      ∙ ap (drop (512 * j)) is.here
+      ∙ drop-append-le (512 * j) search.bytes is.rest within
+    where
+      same : (j : ℕ) → 512 * (search.sector + j) ≡ 512 * search.sector + 512 * j
+      same j = omega arith
+
+  -- a sector whose header is decided by the loaded bytes
+  pub decided : (j : ℕ) → 512 * j ≤ length search.bytes
+      → (search.ended ≡ true) ⊎ (512 * j + 8388608 ≤ length search.bytes)
+      → header_at image (512 * (search.sector + j)) ≡ header_of (drop (512 * j) search.bytes)
+  decided j within (inl ended) =
+      ap header_of (ahead_is j within ∙ ap (λ rest. drop (512 * j) search.bytes ++ rest) (is.ends ended)
+      ∙ append-nil (drop (512 * j) search.bytes))
+  decided j within (inr long) =
+      ap header_of (ahead_is j within)
+      ∙ header_by_start (drop (512 * j) search.bytes) is.rest
+      (omega (arith, long, length-drop (512 * j) search.bytes))
+
+  abbrev pub advanced : ℕ → SearchModel
+  advanced count = record {
+    sector = search.sector + count;
+    bytes = drop (512 * count) search.bytes;
+    ended = search.ended;
+  }
+
+  -- some sectors were left behind
+  pub advanced_in : (count : ℕ) → (search.ended ≡ true) ⊎ (512 * count ≤ length search.bytes)
+      → IsIn image (advanced count) left
+  advanced_in count (inr within) = record {
+    rest = is.rest;
+    left_is = is.left_is;
+    here = ahead_is count within;
+    ends = is.ends;
+  }
+  advanced_in count (inl ended) = record {
+    rest = is.rest;
+    left_is = is.left_is;
+    here = ap (λ n. drop n image) same
+        ∙ sym (drop-drop (512 * count) (512 * search.sector) image)
+        ∙ ap (drop (512 * count)) (is.here ∙ ap (λ rest. search.bytes ++ rest) (is.ends ended)
+        ∙ append-nil search.bytes)
+        ∙ sym (append-nil (drop (512 * count) search.bytes))
+        ∙ ap (λ rest. drop (512 * count) search.bytes ++ rest) (sym (is.ends ended));
+    ends = is.ends;
+  } where
+    same : 512 * (search.sector + count) ≡ 512 * search.sector + 512 * count
+    same = omega arith
+
+  -- the header at the next sector is that of the loaded bytes
+  pub here_is : (search.ended ≡ true) ⊎ (8388608 ≤ length search.bytes)
+      → header_at image (512 * search.sector) ≡ header_of search.bytes
+  here_is enough = ap (λ n. header_at image (512 * n)) same ∙ decided 0 (omega arith) (by enough) where
+    same : search.sector ≡ search.sector + 0
+    same = omega arith
+
+    by : (search.ended ≡ true) ⊎ (8388608 ≤ length search.bytes)
+        → (search.ended ≡ true) ⊎ (512 * 0 + 8388608 ≤ length search.bytes)
+    by (inl ended) = inl ended
+    by (inr long) = inr (omega (arith, long))
+
+  -- no place is among sectors that were left behind, as there were no magic bytes
+  pub skipped_none : (count : ℕ) → ((k : ℕ) → begins_magic (drop (512 * k) search.bytes) ≡ false)
+      → (search.ended ≡ true → 512 * count ≤ length search.bytes + 511)
+      → (search.ended ≡ false → 0 < count → 512 * count + 8388096 ≤ length search.bytes)
+      → places_below image (search.sector + count) ≡ places_below image search.sector
+  skipped_none count quiet ended loaded =
+      places_none image search.sector count (λ j below.
+      let reach = by search.ended refl j below in
+      ap found_in (decided j reach.0 reach.1) ∙ quiet_none (drop (512 * j) search.bytes) (quiet_at search.bytes quiet j))
+    where
+      by : (b : Bool) → search.ended ≡ b → (j : ℕ) → j < count
+          → (512 * j ≤ length search.bytes)
+          × ((search.ended ≡ true) ⊎ (512 * j + 8388608 ≤ length search.bytes))
+      by true e j below = (omega (arith, ended e, below), inl e)
+      by false e j below =
+          let far = loaded e (omega (arith, below)) in
+          (omega (arith, far, below), inr (omega (arith, far, below)))
+
+  -- there are no further bytes
+  pub nothing_left : search.bytes ≡ [] → search.ended ≡ true → places_of image ≡ places_below image search.sector
+  nothing_left none ended = places_end image search.sector (by_length (ap length all)) where
+    all : drop (512 * search.sector) image ≡ []
+    all = is.here ∙ ap (λ bytes. bytes ++ is.rest) none ∙ is.ends ended
+
+    by_length : length (drop (512 * search.sector) image) ≡ 0 → length image ≤ 512 * search.sector
+    by_length e = omega (arith, e, length-drop (512 * search.sector) image)
+
+-- the sectors that can be tried are loaded, or the image ends after them
+pub skips : (search : SearchModel) (count : ℕ) → (search.ended ≡ true → 512 * count ≤ length search.bytes + 511)
+    → (search.ended ≡ false → 0 < count → 512 * count + 8388096 ≤ length search.bytes)
+    → (search.ended ≡ true) ⊎ (512 * count ≤ length search.bytes)
+skips search count ended loaded = by search.ended refl where
+  some_loaded : (n : ℕ) → (0 < n → 512 * n + 8388096 ≤ length search.bytes) → 512 * n ≤ length search.bytes
+  some_loaded zero far = omega arith
+  some_loaded (suc n) far = (let long = far (omega arith) in omega (arith, long))
+
+  by : (b : Bool) → search.ended ≡ b → (search.ended ≡ true) ⊎ (512 * count ≤ length search.bytes)
+  by true e = inl e
+  by false e = inr (some_loaded count (loaded e))
+
+nil_of : (bytes : List ℕ) → length bytes ≡ 0 → bytes ≡ []
+nil_of [] none = refl
+nil_of (byte ∷ bytes) none = absurd (omega (arith, none))
+
+-- no bytes are loaded, although the next sector could be tried
+pub none_left : (image : List ℕ) (search : SearchModel) (left : Option (List ℕ)) → IsIn image search left
+    → (search.ended ≡ true) ⊎ (8388608 ≤ length search.bytes) → length search.bytes ≡ 0
+    → places_of image ≡ places_below image search.sector
+none_left image search left is (inl ended) none = nothing_left image search left is (nil_of search.bytes none) ended
+none_left image search left is (inr long) none = absurd (omega (arith, long, none))
+
+-- the next sector was tried
+module _ (image : List ℕ) (search : SearchModel) (left : Option (List ℕ)) (is : IsIn image search left)
+    (enough : (search.ended ≡ true) ⊎ (8388608 ≤ length search.bytes)) where
+  pub tried_in : IsIn image (record {
+    sector = search.sector + 1;
+    bytes = drop 512 search.bytes;
+    ended = search.ended;
+  }) left
+  tried_in = advanced_in image search left is 1 (by enough) where
+    by : (search.ended ≡ true) ⊎ (8388608 ≤ length search.bytes)
+        → (search.ended ≡ true) ⊎ (512 * 1 ≤ length search.bytes)
+    by (inl ended) = inl ended
+    by (inr long) = inr (omega (arith, long))
+
+  pub tried_none : found_in (header_of search.bytes) ≡ None
+      → places_below image (search.sector + 1) ≡ places_below image search.sector
+  tried_none none =
+      places_more image search.sector
+      ∙ ap (λ found. places_below image search.sector ++ place_if (512 * search.sector) found)
+      (ap found_in (here_is image search left is enough) ∙ none)
+      ∙ append-nil (places_below image search.sector)
+
+  pub tried_some : (header : Header) → found_in (header_of search.bytes) ≡ Some header
+      → (header_at image (512 * search.sector) ≡ Ok header)
+      × (places_below image (search.sector + 1) ≡ places_below image search.sector ++ (512 * search.sector) ∷ [])
+  tried_some header some = (
+    here_is image search left is enough ∙ found_ok (header_of search.bytes) header some,
+    places_more image search.sector
+        ∙ ap (λ found. places_below image search.sector ++ place_if (512 * search.sector) found)
+        (ap found_in (here_is image search left is enough) ∙ some),
+  )
+
+-- further bytes were loaded behind those that were moved to the buffer's front
+pub loaded_in : (image bytes buffer known : List ℕ) (left : Option (List ℕ)) (sector kept count : ℕ)
+    → drop (512 * sector) image ≡ bytes ++ known → take kept buffer ≡ bytes
+    → ConsumedInto known left (drop kept buffer) count → count ≡ min (33554432 - kept) (length known)
+    → IsIn image (record {
+  sector = sector;
+  bytes = drop 0 (take (kept + count) buffer);
+  ended = nat_lt (kept + count) 33554432;
+}) left
+loaded_in image bytes buffer known left sector kept count here front consumed all = record {
+  rest = drop count known;
+  left_is = consumed.0.left;
+  here = here ∙ ap (λ more. bytes ++ more) (sym (take-append-drop count known))
+      ∙ sym (append_assoc bytes (take count known) (drop count known))
+      ∙ ap (λ start. start ++ drop count known) (sym loaded);
+  ends = λ ended.
+      (let short = ltb-true (kept + count) 33554432 ended in
+      drop_all count known (omega (arith, all, short)));
+} where
+  loaded : take (kept + count) buffer ≡ bytes ++ take count known
+  loaded =
+      take-add kept count buffer ∙ ap (λ start. start ++ take count (drop kept buffer)) front
+      ∙ ap (λ more. bytes ++ more) consumed.1
+
+-- a search that is behind the longest image has found all its places
+pub behind_all : (image : List ℕ) (n : ℕ) → length image ≤ max_image_len → 18014398509481984 ≤ n
+    → places_of image ≡ places_below image n
+behind_all image n short far = places_end image n (omega (arith, short, far))

@@ -1,0 +1,55 @@
+use Rattle.std.proofs.Common.{◌≡◌, ◌∙◌, ◌+◌, ◌-◌, List, ℕ, ap, arith, drop, length, min, subst, sym, take}
+use Rattle.std.proofs.lemmas.List.{drop-take, with_items_is}
+use Rattle.std.specs.Prelude.{nat_lt}
+use Rattle.std.specs.Vec.{with_items}
+use Rattle.luks_search.proofs.PlaceLemmas.{loaded_in}
+use Rattle.luks_search.specs.Search.{IsIn, SearchModel}
+use Rattle.luks_search.proofs.search.Search.load.Goals as goal
+
+pub returns-clause-held : goal.returns-clause-held
+returns-clause-held g c image is =
+    let start = c.self.inside.start in
+    let end = c.self.inside.end in
+    let kept = end - start in
+    let count = c.in_ok-count.count in
+    let whole : start + kept ≡ end = omega (arith, c.self.invariant.1) in
+    let P : SearchModel → Type 0 = λ search. IsIn image search (g.S.Source.to_come c.args.source.now) in
+    let inside = subst P (sym c.self.view_is) is in
+    let cut = ap (λ n. drop start (take n c.self.inside.buffer.items)) (sym whole)
+    ∙ drop-take start kept c.self.inside.buffer.items in
+    let Q : List ℕ → Type 0 = λ items. IsIn image (record {
+      sector = c.self.inside.sector;
+      bytes = drop 0 (take (kept + count) items);
+      ended = nat_lt (kept + count) 33554432;
+    }) (g.S.Source.to_come c.fill_after.new.source) in
+    let buffer = c.self.inside.buffer in
+    let moved = c.move_to_front.new.buffer in
+    let filled = c.fill_after.new.buffer in
+    let len : length moved ≡ buffer.len = omega (
+      arith,
+      c.move_to_front.auto.buffer,
+      ap length c.deref_mut.ensures.value,
+      buffer.ok.0,
+    ) in
+    let first = with_items_is buffer moved len in
+    let len2 : length filled ≡ buffer.len = omega (
+      arith,
+      c.fill_after.auto.buffer,
+      ap length c.deref_mut-2.ensures.value,
+      ap length first,
+      len,
+    ) in
+    let front : take kept filled ≡ drop start (take end buffer.items) =
+    c.in_ok-count.ensures.kept ∙ ap (take kept) (c.deref_mut-2.ensures.value ∙ first) ∙ c.move_to_front.ensures
+    ∙ ap (λ items. take kept (drop start items)) c.deref_mut.ensures.value ∙ sym cut in
+    let all : count ≡ min (33554432 - kept) (length inside.rest) = omega (
+      arith,
+      c.in_ok-count.ensures.end inside.rest inside.left_is,
+      ap length c.deref_mut-2.ensures.value,
+      ap length first,
+      len,
+      c.self.invariant.0,
+    ) in
+    subst Q (sym (with_items_is (with_items buffer moved) filled len2))
+    (loaded_in image (drop start (take end buffer.items)) filled inside.rest _ c.self.inside.sector kept count inside.here
+    front (c.in_ok-count.ensures.bytes inside.rest inside.left_is) all)

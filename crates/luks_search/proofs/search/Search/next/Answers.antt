@@ -1,0 +1,23 @@
+use Rattle.std.proofs.Common.{◌≡◌, ◌∙◌, ◌*◌, ◌++◌, ◌∷◌, [], List, ℕ, ap, arith, inl, inr}
+use Rattle.luks_search.proofs.PlaceLemmas.{behind_all}
+use Rattle.luks_search.specs.Search.{SearchModel}
+use Rattle.luks_search.proofs.search.Search.next.Goals as goal
+
+pub returns-in-Found-clause-found : goal.returns-in-Found-clause-found
+returns-in-Found-clause-found g c image short is =
+    let before = c.loop-self.invariant.held image is in
+    let here = rw c.in-Found.is at (c.in_ok-step.ensures.held image before.0) in
+    let place = c.in-Found.place in
+    (here.0, (here.1.0, here.1.1 ∙ ap (λ (places : List ℕ). places ++ place.offset ∷ []) before.1))
+
+pub returns-in-Found-clause-on : goal.returns-in-Found-clause-on
+returns-in-Found-clause-on g c =
+    let on = rw c.in-Found.is at c.in_ok-step.ensures.on in
+    let from = c.loop-self.invariant.onwards in
+    elim on [ inl end ↦ absurd end | inr next ↦ omega (arith, from, next) ]
+
+pub returns-clause-found : goal.returns-clause-found
+returns-clause-found g c image short is =
+    let before = c.loop-self.invariant.held image is in
+    let sector = ap (λ (s : SearchModel). s.sector) c.self-in-loop-self.view_is in
+    (before.0, behind_all image c.loop-self.self.sector short (omega (arith, c.loop-self-test.false, sector)) ∙ before.1)

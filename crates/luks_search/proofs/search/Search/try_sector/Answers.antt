@@ -1,0 +1,33 @@
+use Rattle.std.proofs.Common.{◌≡◌, ◌∙◌, ◌*◌, ◌++◌, ◌∷◌, [], Ok, Some, None, ap, subst, sym}
+use Rattle.luks_header.specs.Header.{header_of}
+use Rattle.luks_search.proofs.PlaceLemmas.{tried_in, tried_none, tried_some}
+use Rattle.luks_search.specs.Places.{found_in, header_at, places_below}
+use Rattle.luks_search.specs.Search.{IsIn, SearchModel}
+use Rattle.luks_search.proofs.search.Search.try_sector.Goals as goal
+
+pub returns-in-Some-clause-found : goal.returns-in-Some-clause-found
+returns-in-Some-clause-found c image left is =
+    let search = c.args.self.now in
+    let found = ap (λ bytes. found_in (header_of bytes)) (sym c.bytes.ensures.value) ∙ sym c.in_ok-found.ensures.found
+    ∙ c.in-Some.is in
+    let some = tried_some image search left is c.requires.enough c.in-Some.header found in
+    let sector = ap (λ (s : SearchModel). s.sector) c.self.view_is in (
+      subst (λ (s : SearchModel). IsIn image s left) (sym c.advance.ensures)
+          (tried_in image search left is c.requires.enough),
+      (
+        ap (λ n. header_at image (512 * n)) sector ∙ some.0,
+        ap (λ (s : SearchModel). places_below image s.sector) c.advance.ensures ∙ some.1
+            ∙ ap (λ n. places_below image search.sector ++ (512 * n) ∷ []) (sym sector),
+      ),
+    )
+
+pub returns-in-None-clause-found : goal.returns-in-None-clause-found
+returns-in-None-clause-found c image left is =
+    let search = c.args.self.now in
+    let found = ap (λ bytes. found_in (header_of bytes)) (sym c.bytes.ensures.value) ∙ sym c.in_ok-found.ensures.found
+    ∙ c.in-None.is in (
+      subst (λ (s : SearchModel). IsIn image s left) (sym c.advance.ensures)
+          (tried_in image search left is c.requires.enough),
+      ap (λ (s : SearchModel). places_below image s.sector) c.advance.ensures
+          ∙ tried_none image search left is c.requires.enough found,
+    )

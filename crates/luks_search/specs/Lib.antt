@@ -1,0 +1,3 @@
+pub mod Magic
+pub mod Places
+pub mod Search

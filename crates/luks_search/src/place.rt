@@ -1,0 +1,85 @@
+//! The places of an image at which headers are.
+
+ghost use Rattle.std.specs.Prelude.{◌≡◌, IfOk, Err};
+ghost use Rattle.luks_header.specs.Header.{header_of};
+ghost use Rattle.luks_search.specs.Places.{found_in};
+
+use crate::magic::may_have_header;
+use luks_header::fault::HeaderFault;
+use luks_header::header::{Header, read_header};
+use luks_io::memory::MemSource;
+use luks_io::source::ReadFault;
+use std::alloc::{AllocError, Global};
+
+/// A place of an image at which a header is.
+#[derive(Drop)]
+pub struct Place {
+    /// The offset in bytes, a multiple of 512.
+    pub offset: u64,
+    /// The header that the rest of the image has.
+    pub header: Header,
+}
+
+/// Why a search was aborted.
+#[derive(Clone, Copy, PartialEq, Eq, Debug)]
+pub enum SearchFault {
+    /// A read of the image failed.
+    Read,
+    /// Memory ran out.
+    Memory,
+}
+
+impl From<AllocError> for SearchFault {
+    ghost use Rattle.luks_search.specs.declared.place.SearchFault.{SearchFault};
+
+    ghost from_gives = { λ _ fault. fault ≡ SearchFault.Memory };
+
+    fn from(_error: AllocError) -> SearchFault {
+        SearchFault::Memory
+    }
+}
+
+impl From<ReadFault> for SearchFault {
+    ghost use Rattle.luks_search.specs.declared.place.SearchFault.{SearchFault};
+
+    ghost from_gives = { λ _ fault. fault ≡ SearchFault.Read };
+
+    fn from(_fault: ReadFault) -> SearchFault {
+        SearchFault::Read
+    }
+}
+
+/// What one step of a search did.
+#[derive(Drop)]
+pub(crate) enum Step {
+    /// There are no further bytes.
+    End,
+    /// There are no headers at some sectors.
+    Skipped,
+    /// There is a header at the last of some sectors.
+    Found(Place),
+}
+
+/// The header that these bytes begin with, if there is one.
+///
+/// # Errors
+///
+/// `SearchFault::Memory` if memory runs out.
+pub(crate) fn header_here(alloc: Global, bytes: &[u8]) -> Result<Option<Header>, SearchFault>
+    ensures found { IfOk result (λ found. found ≡ found_in (header_of bytes.now)) }
+    ensures only { result ≡ Err SearchFault.Read → ⊥ }
+{
+    if !may_have_header(bytes) {
+        return Ok(None);
+    }
+    match read_header(alloc, &mut MemSource::new(bytes)) {
+        Ok((header, _)) => Ok(Some(header)),
+        Err(fault) => match fault {
+            HeaderFault::NotLuks => Ok(None),
+            HeaderFault::Cut => Ok(None),
+            HeaderFault::Json => Ok(None),
+            HeaderFault::Read => unreachable!(),
+            HeaderFault::Memory => Err(SearchFault::Memory),
+        },
+    }
+}

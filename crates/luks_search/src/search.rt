@@ -1,0 +1,271 @@
+//! A search for headers in an image.
+
+ghost use Rattle.std.specs.Prelude.{◌≡◌, ◌⊎◌, ◌+◌, ◌*◌, ◌<◌, ◌≤◌, ◌^◌, ℕ, List, Option, [], Err};
+ghost use Rattle.std.specs.Prelude.{IfOk, IfSome, OnErr, OnOk, drop, false, length, true};
+ghost use Rattle.luks_io.specs.Devices.{counted};
+ghost use Rattle.luks_search.specs.Search.{FindsNext, FindsNone, IsEnd, IsIn, StepsOn};
+ghost use Rattle.luks_search.specs.Search.{is_read_fault, max_image_len};
+
+use crate::buffer::{fill_after, move_to_front};
+use crate::magic::{SECTOR_LEN, is_quiet};
+use crate::place::{Place, SearchFault, Step, header_here};
+use luks_io::source::Source;
+use std::alloc::{AllocError, Global};
+use std::marker::Model;
+
+/// The bytes that a search holds at most: 32 MiB.
+const CAPACITY: usize = 33_554_432;
+
+/// The bytes of both headers of the largest length.
+const HORIZON: usize = 8_388_608;
+
+/// As many sectors as images have that are not searched to their end: those of 2^63 bytes.
+const MAX_SECTORS: u64 = 18_014_398_509_481_984;
+
+/// A search for headers in an image that is read once, from its start to its end. A clause sees the
+/// next sector to try, the loaded bytes from there on, and whether the image ends after them.
+#[derive(Drop)]
+pub struct Search {
+    buffer: Vec<u8>,
+    start: usize,
+    end: usize,
+    sector: u64,
+    ended: bool,
+}
+
+impl Model for Search {
+    ghost use Rattle.std.specs.Prelude.{◌≡◌, ◌≤◌, drop, take, vec_len};
+    ghost use Rattle.luks_search.specs.Search.{SearchModel};
+
+    ghost Value = { SearchModel };
+
+    ghost view = { λ s.
+        record {
+          sector = s.sector;
+          bytes = drop s.start (take s.end s.buffer.items);
+          ended = s.ended;
+        } };
+
+    ghost invariant = { λ s. (vec_len s.buffer ≡ 33554432) × (s.start ≤ s.end) × (s.end ≤ 33554432)
+        × (s.sector ≤ 18014398509547520) };
+}
+
+impl Search {
+    /// A search at the start of an image. It allocates 32 MiB.
+    ///
+    /// # Errors
+    ///
+    /// `AllocError` if memory runs out.
+    pub fn new(alloc: Global) -> Result<Search, AllocError>
+        ensures { IfOk result (λ search. search ≡ record { sector = 0; bytes = []; ended = false }) }
+    {
+        Ok(Search {
+            buffer: vec![in alloc; 0; CAPACITY]?,
+            start: 0,
+            end: 0,
+            sector: 0,
+            ended: false,
+        })
+    }
+
+    // The loaded bytes.
+    fn bytes(&self) -> &[u8]
+        ensures value { result.now ≡ self.now.bytes }
+        ensures within { length result.now ≤ 33554432 }
+    {
+        &self.buffer[self.start..self.end]
+    }
+
+    // Leaves this many sectors behind.
+    fn advance(&mut self, count: usize)
+        requires few { count ≤ 65536 }
+        requires more { self.old.sector < 18014398509481984 }
+        ensures { self.new ≡ record {
+          sector = self.old.sector + count;
+          bytes = drop (512 * count) self.old.bytes;
+          ended = self.old.ended;
+        } }
+    {
+        self.start = self.end.min(self.start + SECTOR_LEN * count);
+        self.sector += count as u64;
+    }
+
+    // Loads as many further bytes of the image as the buffer can hold.
+    fn load<S: Source>(&mut self, source: &mut S) -> Result<(), SearchFault>
+        ensures sector { self.new.sector ≡ self.old.sector }
+        ensures enough { OnOk result
+            ((self.new.ended ≡ true) ⊎ (33554432 ≤ length self.new.bytes)) }
+        ensures held { (image : List ℕ) → IsIn image self.old (S.to_come source.old)
+            → OnOk result (IsIn image self.new (S.to_come source.new)) }
+        ensures failures { (S.counts source.new).failures
+            ≡ counted (is_read_fault result) (S.counts source.old).failures }
+        ensures only { result ≡ Err SearchFault.Memory → ⊥ }
+    {
+        move_to_front(&mut self.buffer, self.start, self.end);
+        let kept = self.end - self.start;
+        self.start = 0;
+        self.end = kept;
+        let count = fill_after(&mut self.buffer, kept, source)?;
+        self.end = kept + count;
+        self.ended = self.end < CAPACITY;
+        Ok(())
+    }
+
+    // How many of the next sectors can be tried with the loaded bytes.
+    fn decidable(&self) -> usize
+        requires { length self.now.bytes ≤ 33554432 }
+        ensures most { result ≤ 65536 }
+        ensures ended { self.now.ended ≡ true → 512 * result ≤ length self.now.bytes + 511 }
+        ensures loaded { self.now.ended ≡ false → 0 < result
+            → 512 * result + 8388096 ≤ length self.now.bytes }
+        ensures some { 0 < length self.now.bytes
+            → (self.now.ended ≡ true) ⊎ (8388608 ≤ length self.now.bytes) → 0 < result }
+    {
+        let len = self.bytes().len();
+        if self.ended {
+            return len.div_ceil(SECTOR_LEN);
+        }
+        if len < HORIZON {
+            return 0;
+        }
+        (len - HORIZON) / SECTOR_LEN + 1
+    }
+
+    // Loads further bytes. If there are no magic bytes among those that are loaded then, leaves the
+    // sectors behind that can be tried, and returns how many.
+    fn load_and_skip<S: Source>(&mut self, source: &mut S) -> Result<usize, SearchFault>
+        requires { self.old.sector < 18014398509481984 }
+        ensures sector { IfOk result (λ count. self.new.sector ≡ self.old.sector + count) }
+        ensures most { IfOk result (λ count. count ≤ 65536) }
+        ensures enough { IfOk result (λ count. count ≡ 0 →
+            (self.new.ended ≡ true) ⊎ (8388608 ≤ length self.new.bytes)) }
+        ensures held { (image : List ℕ) → IsIn image self.old (S.to_come source.old)
+            → OnOk result (IsIn image self.new (S.to_come source.new)
+            × FindsNone image self.old.sector self.new.sector) }
+        ensures stopped { OnErr result (self.new.sector ≡ self.old.sector) }
+        ensures failures { (S.counts source.new).failures
+            ≡ counted (is_read_fault result) (S.counts source.old).failures }
+    {
+        self.load(source)?;
+        if !is_quiet(self.bytes()) {
+            return Ok(0);
+        }
+        let count = self.decidable();
+        self.advance(count);
+        Ok(count)
+    }
+
+    // Loads further bytes if the next sector cannot be tried with those that are loaded. Returns how
+    // many sectors were left behind then.
+    fn load_if_needed<S: Source>(&mut self, source: &mut S) -> Result<usize, SearchFault>
+        requires { self.old.sector < 18014398509481984 }
+        ensures sector { IfOk result (λ count. self.new.sector ≡ self.old.sector + count) }
+        ensures most { IfOk result (λ count. count ≤ 65536) }
+        ensures enough { IfOk result (λ count. count ≡ 0 →
+            (self.new.ended ≡ true) ⊎ (8388608 ≤ length self.new.bytes)) }
+        ensures held { (image : List ℕ) → IsIn image self.old (S.to_come source.old)
+            → OnOk result (IsIn image self.new (S.to_come source.new)
+            × FindsNone image self.old.sector self.new.sector) }
+        ensures stopped { OnErr result (self.new.sector ≡ self.old.sector) }
+        ensures failures { (S.counts source.new).failures
+            ≡ counted (is_read_fault result) (S.counts source.old).failures }
+    {
+        if self.ended || self.bytes().len() >= HORIZON {
+            return Ok(0);
+        }
+        self.load_and_skip(source)
+    }
+
+    // Tries the next sector, and leaves it behind.
+    fn try_sector(&mut self, alloc: Global) -> Result<Step, SearchFault>
+        requires more { self.old.sector < 18014398509481984 }
+        requires enough { (self.old.ended ≡ true) ⊎ (8388608 ≤ length self.old.bytes) }
+        ensures on { OnOk result (self.new.sector ≡ self.old.sector + 1) }
+        ensures stopped { OnErr result (self.new.sector ≡ self.old.sector) }
+        ensures found { (image : List ℕ) (left : Option (List ℕ)) → IsIn image self.old left
+            → OnOk result (IsIn image self.new left)
+            × StepsOn image self.old.sector self.new.sector result }
+        ensures only { is_read_fault result ≡ false }
+    {
+        let found = header_here(alloc, self.bytes())?;
+        let offset = 512 * self.sector;
+        self.advance(1);
+        match found {
+            Some(header) => Ok(Step::Found(Place { offset, header })),
+            None => Ok(Step::Skipped),
+        }
+    }
+
+    // Tries the next sector, unless there are no further bytes.
+    fn try_if_any(&mut self, alloc: Global) -> Result<Step, SearchFault>
+        requires more { self.old.sector < 18014398509481984 }
+        requires enough { (self.old.ended ≡ true) ⊎ (8388608 ≤ length self.old.bytes) }
+        ensures on { IfOk result (λ step. IsEnd step ⊎ (self.new.sector ≡ self.old.sector + 1)) }
+        ensures near { OnOk result (self.new.sector ≤ self.old.sector + 1) }
+        ensures stopped { OnErr result (self.new.sector ≡ self.old.sector) }
+        ensures found { (image : List ℕ) (left : Option (List ℕ)) → IsIn image self.old left
+            → OnOk result (IsIn image self.new left)
+            × StepsOn image self.old.sector self.new.sector result }
+        ensures only { is_read_fault result ≡ false }
+    {
+        if self.bytes().is_empty() {
+            return Ok(Step::End);
+        }
+        self.try_sector(alloc)
+    }
+
+    // Takes a step: tries the next sector, or leaves some behind.
+    fn step<S: Source>(&mut self, alloc: Global, source: &mut S) -> Result<Step, SearchFault>
+        requires { self.old.sector < 18014398509481984 }
+        ensures on { IfOk result (λ step. IsEnd step ⊎ (self.old.sector < self.new.sector)) }
+        ensures range { OnOk result (self.new.sector ≤ 18014398509547520) }
+        ensures held { (image : List ℕ) → IsIn image self.old (S.to_come source.old)
+            → OnOk result (IsIn image self.new (S.to_come source.new))
+            × StepsOn image self.old.sector self.new.sector result }
+        ensures stopped { OnErr result (self.new.sector ≡ self.old.sector) }
+        ensures failures { (S.counts source.new).failures
+            ≡ counted (is_read_fault result) (S.counts source.old).failures }
+    {
+        let skipped = self.load_if_needed(source)?;
+        if skipped > 0 {
+            return Ok(Step::Skipped);
+        }
+        self.try_if_any(alloc)
+    }
+
+    /// The next place of the image, and the header that is there; `None` if there are no further
+    /// places. The image is the one that the source gave from its start on: each call continues
+    /// where the one before ended.
+    ///
+    /// A call reads 24 MiB of the source at a time, and never a byte twice. It reads no further
+    /// than it has to for the last place, up to the next 32 MiB. An image of 2^63 bytes or more is
+    /// not searched to its end; no file is so long.
+    ///
+    /// # Errors
+    ///
+    /// A [`SearchFault`]: there is no further place up to where the search is then.
+    pub fn next<S: Source>(
+        &mut self,
+        alloc: Global,
+        source: &mut S,
+    ) -> Result<Option<Place>, SearchFault>
+        ensures found { (image : List ℕ) → length image ≤ max_image_len
+            → IsIn image self.old (S.to_come source.old)
+            → OnOk result (IsIn image self.new (S.to_come source.new))
+            × FindsNext image self.old.sector self.new.sector result }
+        ensures on { IfOk result (λ found. IfSome found (λ _. self.old.sector < self.new.sector)) }
+        ensures range { self.new.sector ≤ 18014398509547520 }
+        ensures failures { (S.counts source.new).failures
+            ≡ counted (is_read_fault result) (S.counts source.old).failures }
+    {
+        prove!(self.sector <= MAX_SECTORS + 65_536);
+        while self.sector < MAX_SECTORS {
+            match self.step(alloc, source)? {
+                Step::End => return Ok(None),
+                Step::Skipped => {}
+                Step::Found(place) => return Ok(Some(place)),
+            }
+        }
+        Ok(None)
+    }
+}
