@@ -154,7 +154,7 @@ INTEROP := headers headers2 volumes volumes2 detached filesystems
 PROGRAM_SCRIPTS := test-names test-counts test-headline $(TESTS:%=test-%) $(INTEROP:%=interop-%)
 C_SCRIPTS := test-package test-library test-processors interop-nbd interop-recipes
 TOOL_SCRIPTS := interop-sealed interop-keys
-AUDIT_SCRIPTS := interop-audit
+AUDIT_SCRIPTS := interop-audit test-audit-completions
 ALL_SCRIPTS := $(PROGRAM_SCRIPTS) $(AUDIT_SCRIPTS) $(C_SCRIPTS) $(TOOL_SCRIPTS)
 # Those that are run once more with the program for x86-64-v3, and with its tools: all but those that read only the
 # sources, and those that take both programs.
@@ -209,6 +209,9 @@ interop-nbd:
 
 interop-audit:
 	interop/audit.sh $(PROGRAM) $(AUDIT)
+
+test-audit-completions:
+	tests/audit-completions.sh $(PROGRAM) $(AUDIT)
 
 interop-recipes:
 	interop/recipes.sh $(PROGRAM) $(PLUGIN)
