@@ -47,7 +47,7 @@ loop-place-preserved g c =
     record {
       so_far = subst P (sym same)
           (searches_more c.args.policy c.args.file.now _ _ (g.S.Source.to_come c.next.new.source) _ _ _
-              c.loop-place.found c.loop-place.search c.next.new.self so_far c.in-Ok-Some.place next line.0);
+          c.loop-place.found c.loop-place.search c.next.new.self so_far c.in-Ok-Some.place next line.0);
       failures = c.in-Ok-Some.ensures.failures ∙ c.loop-place.invariant.failures;
       writes = c.in_ok-shown-in-Ok-Some.ensures.writes ∙ c.loop-place.invariant.writes;
     }
