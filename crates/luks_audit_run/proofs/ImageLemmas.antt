@@ -8,7 +8,7 @@ use Rattle.luks_io.specs.Devices.{Appended, IfKnown, counted}
 use Rattle.luks_io.proofs.EffectLemmas.{appended-more, appended-none}
 use Rattle.luks_area.specs.declared.fault.HeaderFault.TheVariants.{Memory, Read}
 use Rattle.luks_search.specs.Places.{places_below}
-use Rattle.luks_search.specs.Search.{FindsNext, IsIn, SearchModel, is_read_fault, max_image_len}
+use Rattle.luks_search.specs.Search.{FindsNext, IsIn, SearchModel, reports_failed_read, max_image_len}
 use Rattle.luks_search.specs.declared.place.Place.{Place}
 use Rattle.luks_search.specs.declared.place.SearchFault.{SearchFault}
 use Rattle.luks_search.specs.declared.place.SearchFault.TheVariants.{Memory as SearchMemory, Read as SearchRead}
@@ -327,7 +327,7 @@ module _ (policy : Policy) (file : List ℕ) (known left left' : Option (List �
     aborted_tells : (fault : SearchFault) (bytes : List ℕ)
         → so_far.text ≡ place_lines policy file bytes (places_below bytes search'.sector)
         → Tells policy Everywhere (image bytes) file
-        (so_far.text ++ fault_line policy.format file (search_fault fault)) (is_read_fault {T = Unit {0}} (Err fault)) Unread
+        (so_far.text ++ fault_line policy.format file (search_fault fault)) (reports_failed_read {T = Unit {0}} (Err fault)) Unread
     unfolding image_text image_state
     aborted_tells SearchRead bytes is = record {
       course = not_read search'.sector;
@@ -350,7 +350,7 @@ module _ (policy : Policy) (file : List ℕ) (known left left' : Option (List �
         × FindsNext bytes search.sector search'.sector (Err fault)) where
       told_after : (bytes : List ℕ) → known ≡ Some bytes → length bytes ≤ max_image_len
           → Tells policy Everywhere (image bytes) file (so_far.text ++ fault_line policy.format file (search_fault fault))
-          (is_read_fault {T = Unit {0}} (Err fault)) Unread
+          (reports_failed_read {T = Unit {0}} (Err fault)) Unread
       told_after bytes is short =
           let told = so_far.told bytes is short in
           aborted_tells fault bytes
@@ -358,18 +358,18 @@ module _ (policy : Policy) (file : List ℕ) (known left left' : Option (List �
 
       -- the search was aborted
       pub searches_abort : (failures failures' : ℕ)
-          → failures' ≡ counted (is_read_fault {T = Unit {0}} (Err fault)) failures
+          → failures' ≡ counted (reports_failed_read {T = Unit {0}} (Err fault)) failures
           → Appended now after (fault_line policy.format file (search_fault fault))
           → Audits policy Everywhere file known failures failures' before after Unread
       searches_abort failures failures' more line = record {
         text = so_far.text ++ fault_line policy.format file (search_fault fault);
-        failed = is_read_fault {T = Unit {0}} (Err fault);
+        failed = reports_failed_read {T = Unit {0}} (Err fault);
         written = appended-more before now after so_far.text (fault_line policy.format file (search_fault fault))
             so_far.written line;
         failures_is = more;
         tells = λ bytes is. tells_if policy Everywhere file bytes
             (so_far.text ++ fault_line policy.format file (search_fault fault))
-            (is_read_fault {T = Unit {0}} (Err fault)) Unread (told_after bytes is);
+            (reports_failed_read {T = Unit {0}} (Err fault)) Unread (told_after bytes is);
       }
 
       -- writing that was aborted as well
