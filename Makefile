@@ -189,7 +189,7 @@ SOURCE_SCRIPTS := test-names test-counts test-headline test-contracts
 PROGRAM_SCRIPTS := $(SOURCE_SCRIPTS) $(TESTS:%=test-%) $(INTEROP:%=interop-%)
 C_SCRIPTS := test-package test-library test-processors interop-nbd interop-filter interop-python interop-recipes
 TOOL_SCRIPTS := interop-sealed interop-keys
-AUDIT_SCRIPTS := interop-audit
+AUDIT_SCRIPTS := interop-audit test-audit-completions
 ALL_SCRIPTS := $(PROGRAM_SCRIPTS) $(AUDIT_SCRIPTS) $(C_SCRIPTS) $(TOOL_SCRIPTS)
 # Those that are run once more with the program for x86-64-v3, and with its tools: all but those that read only the
 # sources, and those that take both programs.
@@ -253,6 +253,9 @@ interop-python:
 
 interop-audit:
 	interop/audit.sh $(PROGRAM) $(AUDIT)
+
+test-audit-completions:
+	tests/audit-completions.sh $(PROGRAM) $(AUDIT)
 
 interop-recipes:
 	interop/recipes.sh $(PROGRAM) $(PLUGIN) $(FILTER)

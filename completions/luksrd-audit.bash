@@ -4,7 +4,7 @@ _luksrd_audit() {
     if [ "$before" = --min-iterations ]; then
         COMPREPLY=()
     elif [[ $word == -* ]]; then
-        mapfile -t COMPREPLY < <(compgen -W '--min-iterations --tsv --help --version' -- "$word")
+        mapfile -t COMPREPLY < <(compgen -W '--min-iterations --search --tsv --help --version' -- "$word")
     else
         compopt -o filenames
         mapfile -t COMPREPLY < <(compgen -f -- "$word")

@@ -233,6 +233,35 @@ same 'a hostile text' "$("$audit" hostile | jq -c '[.uuid, (.weak | length)]')" 
     '["x\",\"weak\":[],\"y\":\"\\x0a\\x09\\x5c",5]'
 same 'a hostile text in a column' "$("$audit" --tsv hostile | wc -l)" 2
 
+# --search: a whole disk with partitions, one without its partition table, and volumes without their primary headers
+places() { "$audit" --search "$1" | jq -c '[.offset, .version, .header, .error]'; echo "${PIPESTATUS[0]}"; }
+truncate -s 100M disk
+dd if=sha1 of=disk bs=1M seek=1 conv=notrunc status=none
+dd if=several of=disk bs=1M seek=20 conv=notrunc status=none
+dd if='primary wiped' of=disk bs=512 seek=100001 conv=notrunc status=none
+found='[1048576,1,null,null]
+[20971520,2,"primary",null]
+[51200512,2,"secondary",null]
+1'
+printf 'label: dos\n2048 8192 83\n40960 40960 83\n' | sfdisk -q disk || exit 1
+same 'a disk with partitions' "$(places disk)" "$found"
+dd if=/dev/zero of=disk bs=512 count=1 conv=notrunc status=none
+same 'a disk without its table' "$(places disk)" "$found"
+same 'a disk through a pipe' "$("$audit" --search - <disk | jq -c .offset)" '1048576
+20971520
+51200512'
+same 'a header that is found is that of the rest' "$("$audit" --search disk | sed -n 2p | jq -c 'del(.file, .offset)')" \
+    "$(dd if=disk bs=1M skip=20 status=none | "$audit" - | jq -c 'del(.file, .offset)')"
+same 'a volume without its primary header' "$(places 'primary wiped')" '[0,2,"secondary",null]
+1'
+same 'no header anywhere' "$(places empty)" '[null,null,null,"no LUKS header"]
+1'
+cp 'aes-xts-plain64 512 512' magic
+printf 'LUKS\xba\xbe\0\2' | dd of=magic bs=512 seek=35000 conv=notrunc status=none
+printf 'SKUL\xba\xbe\0\2' | dd of=magic bs=512 seek=36000 conv=notrunc status=none
+same 'magic bytes in a payload' "$(places magic)" '[0,2,"primary",null]
+1'
+
 # the recipes, as they are written there: a folder with two images, and a disk with a header at its start and another
 # one after a MiB
 mkdir bin images
@@ -251,6 +280,8 @@ images/b.img\t2\t-\tslot 0 iterations, slot 10 iterations, slot 31 argon2-memory
 ["images/b.img",10,1000]
 images/b.img
 [0,10]
+[0,2,true]
+[1048576,1,true]
 LUKS1'
 
 # the man page

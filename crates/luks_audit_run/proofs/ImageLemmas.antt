@@ -8,7 +8,7 @@ use Rattle.luks_io.specs.Devices.{Appended, IfKnown, counted}
 use Rattle.luks_io.proofs.EffectLemmas.{appended-more, appended-none}
 use Rattle.luks_area.specs.declared.fault.HeaderFault.TheVariants.{Memory, Read}
 use Rattle.luks_search.specs.Places.{places_below}
-use Rattle.luks_search.specs.Search.{FindsNext, IsIn, SearchModel, is_read_fault, max_image_len}
+use Rattle.luks_search.specs.Search.{FindsNext, IsIn, SearchModel, reports_failed_read, max_image_len}
 use Rattle.luks_search.specs.declared.place.Place.{Place}
 use Rattle.luks_search.specs.declared.place.SearchFault.{SearchFault}
 use Rattle.luks_search.specs.declared.place.SearchFault.TheVariants.{Memory as SearchMemory, Read as SearchRead}
@@ -168,13 +168,13 @@ module _ (policy : Policy) (scope : Scope) (file : List ℕ) where
       → AuditsFile policy scope file stored failures failures2 before after state
   file_opened to_come stored source failures failures1 failures2 reads reads' before after state opens none same
       closed audited = record {
-    text = audited.text;
-    failed = audited.failed;
-    written = audited.written;
-    failures_is = closed ∙ ap (λ b. counted b failures1) (failed_count audited.failed reads reads' none audited.failures_is)
-        ∙ ap (counted audited.failed) same;
-    tells = opened_tells policy scope file to_come stored source audited.text audited.failed state opens audited.tells;
-  }
+        text = audited.text;
+        failed = audited.failed;
+        written = audited.written;
+        failures_is = closed ∙ ap (λ b. counted b failures1) (failed_count audited.failed reads reads' none audited.failures_is)
+            ∙ ap (counted audited.failed) same;
+        tells = opened_tells policy scope file to_come stored source audited.text audited.failed state opens audited.tells;
+      }
 
   pub file_opened_part : {I : Type 0} (to_come : I → Option (List ℕ)) (stored : Stored) (source : I)
       (before after : Option (List ℕ)) → OpensAs to_come stored (Ok source)
@@ -232,165 +232,165 @@ searches_none policy file known before = record {
 
 module _ (policy : Policy) (file : List ℕ) (known left left' : Option (List ℕ)) (before now after : Option (List ℕ))
     (found : Option State) (search search' : SearchModel) (so_far : Searches policy file known left before now found search)
-    where
-  -- one more header was found
-  pub searches_more : (place : Place)
-      → ((bytes : List ℕ) → length bytes ≤ max_image_len → IsIn bytes search left
-      → IsIn bytes search' left' × FindsNext bytes search.sector search'.sector (Ok (Some place)))
-      → Appended now after (header_line policy file place.offset place.header)
-      → Searches policy file known left' before after
-      (Some (graver_of found (header_state policy.minimum place.header))) search'
-  searches_more place next line = record {
-    text = so_far.text ++ header_line policy file place.offset place.header;
-    written = appended-more before now after so_far.text (header_line policy file place.offset place.header)
-        so_far.written line;
-    told = λ bytes is short.
-        let told = so_far.told bytes is short in
-        let found_next = next bytes short told.is_in in
-        told_more policy file bytes search search' left left' so_far.text found place told found_next.0
-        found_next.1.0 found_next.1.1;
-  }
-
-  -- writing its line was aborted
-  pub searches_part : (place : Place) (n : ℕ)
-      → ((bytes : List ℕ) → length bytes ≤ max_image_len → IsIn bytes search left
-      → IsIn bytes search' left' × FindsNext bytes search.sector search'.sector (Ok (Some place)))
-      → Appended now after (take n (header_line policy file place.offset place.header))
-      → AuditsPartly policy Everywhere file known before after
-  unfolding image_text
-  searches_part place n next line =
-      let whole_line = header_line policy file place.offset place.header in
-      record {
-        part = so_far.text ++ take n whole_line;
-        written = appended-more before now after so_far.text (take n whole_line) so_far.written line;
-        tells = λ bytes is. tells_part_if policy Everywhere file bytes (so_far.text ++ take n whole_line) (λ short.
-            let told = so_far.told bytes is short in
-            let found_next = next bytes short told.is_in in
-            let more = told_more policy file bytes search search' left left' so_far.text found place told found_next.0
-            found_next.1.0 found_next.1.1 in
-            record {
-              course = no_memory search'.sector;
-              possible = tt;
-              rest = drop n whole_line ++ fault_line policy.format file Memory;
-              text_is = sym (append_assoc (so_far.text ++ take n whole_line) (drop n whole_line)
-                  (fault_line policy.format file Memory))
-                  ∙ ap (λ (text : List ℕ). text ++ fault_line policy.format file Memory)
-                  (append_assoc so_far.text (take n whole_line) (drop n whole_line)
-                  ∙ ap (λ (line : List ℕ). so_far.text ++ line) (take-append-drop n whole_line)
-                  ∙ more.text_is);
-            });
-      }
-
-  -- there are no further places
-  pub searches_end : (failures failures' : ℕ) (state : State)
-      → ((bytes : List ℕ) → length bytes ≤ max_image_len → IsIn bytes search left
-      → IsIn bytes search' left' × FindsNext bytes search.sector search'.sector (Ok None))
-      → failures' ≡ failures → Appended now after (end_line policy file found) → state ≡ end_state found
-      → Audits policy Everywhere file known failures failures' before after state
-  unfolding image_text image_state
-  searches_end failures failures' state next same line shown = record {
-    text = so_far.text ++ end_line policy file found;
-    failed = false;
-    written = appended-more before now after so_far.text (end_line policy file found) so_far.written line;
-    failures_is = same;
-    tells = λ bytes is. tells_if policy Everywhere file bytes (so_far.text ++ end_line policy file found) false state
-        (λ short.
-        let told = so_far.told bytes is short in
-        let all = told_all policy file bytes search left so_far.text found told (next bytes short told.is_in).1 in
-        record { course = whole; possible = tt; failed_is = refl; text_is = all.0; state_is = shown ∙ all.1 });
-  }
-
-  -- writing that there is none was aborted
-  pub searches_end_part : (n : ℕ)
-      → ((bytes : List ℕ) → length bytes ≤ max_image_len → IsIn bytes search left
-      → IsIn bytes search' left' × FindsNext bytes search.sector search'.sector (Ok None))
-      → Appended now after (take n (end_line policy file found))
-      → AuditsPartly policy Everywhere file known before after
-  unfolding image_text
-  searches_end_part n next line =
-      let last = end_line policy file found in
-      record {
-        part = so_far.text ++ take n last;
-        written = appended-more before now after so_far.text (take n last) so_far.written line;
-        tells = λ bytes is. tells_part_if policy Everywhere file bytes (so_far.text ++ take n last) (λ short.
-            let told = so_far.told bytes is short in
-            let all = told_all policy file bytes search left so_far.text found told (next bytes short told.is_in).1 in
-            record {
-              course = whole;
-              possible = tt;
-              rest = drop n last;
-              text_is = append_assoc so_far.text (take n last) (drop n last)
-                  ∙ ap (λ (line : List ℕ). so_far.text ++ line) (take-append-drop n last) ∙ all.0;
-            });
-      }
-
-  aborted_tells : (fault : SearchFault) (bytes : List ℕ)
-      → so_far.text ≡ place_lines policy file bytes (places_below bytes search'.sector)
-      → Tells policy Everywhere (image bytes) file
-      (so_far.text ++ fault_line policy.format file (search_fault fault)) (is_read_fault {T = Unit {0}} (Err fault)) Unread
-  unfolding image_text image_state
-  aborted_tells SearchRead bytes is = record {
-    course = not_read search'.sector;
-    possible = tt;
-    failed_is = refl;
-    text_is = ap (λ (text : List ℕ). text ++ fault_line policy.format file Read) is;
-    state_is = refl;
-  }
-  aborted_tells SearchMemory bytes is = record {
-    course = no_memory search'.sector;
-    possible = tt;
-    failed_is = refl;
-    text_is = ap (λ (text : List ℕ). text ++ fault_line policy.format file Memory) is;
-    state_is = refl;
-  }
-
-  module _ (fault : SearchFault)
-      (next : (bytes : List ℕ) → length bytes ≤ max_image_len → IsIn bytes search left
-      → OnOk {T = Option Place} {E = SearchFault} (Err fault) (IsIn bytes search' left')
-      × FindsNext bytes search.sector search'.sector (Err fault)) where
-    told_after : (bytes : List ℕ) → known ≡ Some bytes → length bytes ≤ max_image_len
-        → Tells policy Everywhere (image bytes) file (so_far.text ++ fault_line policy.format file (search_fault fault))
-        (is_read_fault {T = Unit {0}} (Err fault)) Unread
-    told_after bytes is short =
-        let told = so_far.told bytes is short in
-        aborted_tells fault bytes
-        (told.text_is ∙ ap (place_lines policy file bytes) (sym (next bytes short told.is_in).1))
-
-    -- the search was aborted
-    pub searches_abort : (failures failures' : ℕ)
-        → failures' ≡ counted (is_read_fault {T = Unit {0}} (Err fault)) failures
-        → Appended now after (fault_line policy.format file (search_fault fault))
-        → Audits policy Everywhere file known failures failures' before after Unread
-    searches_abort failures failures' more line = record {
-      text = so_far.text ++ fault_line policy.format file (search_fault fault);
-      failed = is_read_fault {T = Unit {0}} (Err fault);
-      written = appended-more before now after so_far.text (fault_line policy.format file (search_fault fault))
+  where
+    -- one more header was found
+    pub searches_more : (place : Place)
+        → ((bytes : List ℕ) → length bytes ≤ max_image_len → IsIn bytes search left
+        → IsIn bytes search' left' × FindsNext bytes search.sector search'.sector (Ok (Some place)))
+        → Appended now after (header_line policy file place.offset place.header)
+        → Searches policy file known left' before after
+        (Some (graver_of found (header_state policy.minimum place.header))) search'
+    searches_more place next line = record {
+      text = so_far.text ++ header_line policy file place.offset place.header;
+      written = appended-more before now after so_far.text (header_line policy file place.offset place.header)
           so_far.written line;
-      failures_is = more;
-      tells = λ bytes is. tells_if policy Everywhere file bytes
-          (so_far.text ++ fault_line policy.format file (search_fault fault))
-          (is_read_fault {T = Unit {0}} (Err fault)) Unread (told_after bytes is);
+      told = λ bytes is short.
+          let told = so_far.told bytes is short in
+          let found_next = next bytes short told.is_in in
+          told_more policy file bytes search search' left left' so_far.text found place told found_next.0
+          found_next.1.0 found_next.1.1;
     }
 
-    -- writing that was aborted as well
-    pub searches_abort_part : (n : ℕ)
-        → Appended now after (take n (fault_line policy.format file (search_fault fault)))
+    -- writing its line was aborted
+    pub searches_part : (place : Place) (n : ℕ)
+        → ((bytes : List ℕ) → length bytes ≤ max_image_len → IsIn bytes search left
+        → IsIn bytes search' left' × FindsNext bytes search.sector search'.sector (Ok (Some place)))
+        → Appended now after (take n (header_line policy file place.offset place.header))
         → AuditsPartly policy Everywhere file known before after
-    searches_abort_part n line =
-        let last = fault_line policy.format file (search_fault fault) in
+    unfolding image_text
+    searches_part place n next line =
+        let whole_line = header_line policy file place.offset place.header in
+        record {
+          part = so_far.text ++ take n whole_line;
+          written = appended-more before now after so_far.text (take n whole_line) so_far.written line;
+          tells = λ bytes is. tells_part_if policy Everywhere file bytes (so_far.text ++ take n whole_line) (λ short.
+              let told = so_far.told bytes is short in
+              let found_next = next bytes short told.is_in in
+              let more = told_more policy file bytes search search' left left' so_far.text found place told found_next.0
+              found_next.1.0 found_next.1.1 in
+              record {
+                course = no_memory search'.sector;
+                possible = tt;
+                rest = drop n whole_line ++ fault_line policy.format file Memory;
+                text_is = sym (append_assoc (so_far.text ++ take n whole_line) (drop n whole_line)
+                    (fault_line policy.format file Memory))
+                    ∙ ap (λ (text : List ℕ). text ++ fault_line policy.format file Memory)
+                    (append_assoc so_far.text (take n whole_line) (drop n whole_line)
+                    ∙ ap (λ (line : List ℕ). so_far.text ++ line) (take-append-drop n whole_line)
+                    ∙ more.text_is);
+              });
+        }
+
+    -- there are no further places
+    pub searches_end : (failures failures' : ℕ) (state : State)
+        → ((bytes : List ℕ) → length bytes ≤ max_image_len → IsIn bytes search left
+        → IsIn bytes search' left' × FindsNext bytes search.sector search'.sector (Ok None))
+        → failures' ≡ failures → Appended now after (end_line policy file found) → state ≡ end_state found
+        → Audits policy Everywhere file known failures failures' before after state
+    unfolding image_text image_state
+    searches_end failures failures' state next same line shown = record {
+      text = so_far.text ++ end_line policy file found;
+      failed = false;
+      written = appended-more before now after so_far.text (end_line policy file found) so_far.written line;
+      failures_is = same;
+      tells = λ bytes is. tells_if policy Everywhere file bytes (so_far.text ++ end_line policy file found) false state
+          (λ short.
+          let told = so_far.told bytes is short in
+          let all = told_all policy file bytes search left so_far.text found told (next bytes short told.is_in).1 in
+          record { course = whole; possible = tt; failed_is = refl; text_is = all.0; state_is = shown ∙ all.1 });
+    }
+
+    -- writing that there is none was aborted
+    pub searches_end_part : (n : ℕ)
+        → ((bytes : List ℕ) → length bytes ≤ max_image_len → IsIn bytes search left
+        → IsIn bytes search' left' × FindsNext bytes search.sector search'.sector (Ok None))
+        → Appended now after (take n (end_line policy file found))
+        → AuditsPartly policy Everywhere file known before after
+    unfolding image_text
+    searches_end_part n next line =
+        let last = end_line policy file found in
         record {
           part = so_far.text ++ take n last;
           written = appended-more before now after so_far.text (take n last) so_far.written line;
           tells = λ bytes is. tells_part_if policy Everywhere file bytes (so_far.text ++ take n last) (λ short.
-              let told = told_after bytes is short in
+              let told = so_far.told bytes is short in
+              let all = told_all policy file bytes search left so_far.text found told (next bytes short told.is_in).1 in
               record {
-                course = told.course;
-                possible = told.possible;
+                course = whole;
+                possible = tt;
                 rest = drop n last;
                 text_is = append_assoc so_far.text (take n last) (drop n last)
-                    ∙ ap (λ (line : List ℕ). so_far.text ++ line) (take-append-drop n last) ∙ told.text_is;
+                    ∙ ap (λ (line : List ℕ). so_far.text ++ line) (take-append-drop n last) ∙ all.0;
               });
         }
+
+    aborted_tells : (fault : SearchFault) (bytes : List ℕ)
+        → so_far.text ≡ place_lines policy file bytes (places_below bytes search'.sector)
+        → Tells policy Everywhere (image bytes) file
+        (so_far.text ++ fault_line policy.format file (search_fault fault)) (reports_failed_read {T = Unit {0}} (Err fault)) Unread
+    unfolding image_text image_state
+    aborted_tells SearchRead bytes is = record {
+      course = not_read search'.sector;
+      possible = tt;
+      failed_is = refl;
+      text_is = ap (λ (text : List ℕ). text ++ fault_line policy.format file Read) is;
+      state_is = refl;
+    }
+    aborted_tells SearchMemory bytes is = record {
+      course = no_memory search'.sector;
+      possible = tt;
+      failed_is = refl;
+      text_is = ap (λ (text : List ℕ). text ++ fault_line policy.format file Memory) is;
+      state_is = refl;
+    }
+
+    module _ (fault : SearchFault)
+        (next : (bytes : List ℕ) → length bytes ≤ max_image_len → IsIn bytes search left
+        → OnOk {T = Option Place} {E = SearchFault} (Err fault) (IsIn bytes search' left')
+        × FindsNext bytes search.sector search'.sector (Err fault)) where
+      told_after : (bytes : List ℕ) → known ≡ Some bytes → length bytes ≤ max_image_len
+          → Tells policy Everywhere (image bytes) file (so_far.text ++ fault_line policy.format file (search_fault fault))
+          (reports_failed_read {T = Unit {0}} (Err fault)) Unread
+      told_after bytes is short =
+          let told = so_far.told bytes is short in
+          aborted_tells fault bytes
+          (told.text_is ∙ ap (place_lines policy file bytes) (sym (next bytes short told.is_in).1))
+
+      -- the search was aborted
+      pub searches_abort : (failures failures' : ℕ)
+          → failures' ≡ counted (reports_failed_read {T = Unit {0}} (Err fault)) failures
+          → Appended now after (fault_line policy.format file (search_fault fault))
+          → Audits policy Everywhere file known failures failures' before after Unread
+      searches_abort failures failures' more line = record {
+        text = so_far.text ++ fault_line policy.format file (search_fault fault);
+        failed = reports_failed_read {T = Unit {0}} (Err fault);
+        written = appended-more before now after so_far.text (fault_line policy.format file (search_fault fault))
+            so_far.written line;
+        failures_is = more;
+        tells = λ bytes is. tells_if policy Everywhere file bytes
+            (so_far.text ++ fault_line policy.format file (search_fault fault))
+            (reports_failed_read {T = Unit {0}} (Err fault)) Unread (told_after bytes is);
+      }
+
+      -- writing that was aborted as well
+      pub searches_abort_part : (n : ℕ)
+          → Appended now after (take n (fault_line policy.format file (search_fault fault)))
+          → AuditsPartly policy Everywhere file known before after
+      searches_abort_part n line =
+          let last = fault_line policy.format file (search_fault fault) in
+          record {
+            part = so_far.text ++ take n last;
+            written = appended-more before now after so_far.text (take n last) so_far.written line;
+            tells = λ bytes is. tells_part_if policy Everywhere file bytes (so_far.text ++ take n last) (λ short.
+                let told = told_after bytes is short in
+                record {
+                  course = told.course;
+                  possible = told.possible;
+                  rest = drop n last;
+                  text_is = append_assoc so_far.text (take n last) (drop n last)
+                      ∙ ap (λ (line : List ℕ). so_far.text ++ line) (take-append-drop n last) ∙ told.text_is;
+                });
+          }
 
 -- ---- results
 

@@ -16,8 +16,8 @@ use Rattle.luks_audit.specs.Image.{fault_line, header_line, header_state}
 use Rattle.luks_audit.specs.declared.image.Policy.{Policy}
 use Rattle.luks_audit.specs.declared.image.State.{State}
 use Rattle.luks_audit.specs.declared.image.State.TheVariants.{Clean, Flawed, Unread}
-use Rattle.luks_audit_run.specs.Searched.{end_line, end_state, graver, graver_of, gravest_place, line_of, lines_or_none, place_lines}
-use Rattle.luks_audit_run.specs.Searched.{searched_lines, searched_state, shown_of, state_of, state_or_none}
+use Rattle.luks_audit_run.specs.Searched.{end_line, end_state, graver, graver_of, gravest_place, place_line, lines_or_none, place_lines}
+use Rattle.luks_audit_run.specs.Searched.{searched_lines, searched_state, shown_of, place_state, state_or_none}
 
 pub graver_clean : (state : State) → graver state Clean ≡ state
 graver_clean Clean = refl
@@ -43,28 +43,28 @@ module _ (policy : Policy) (file image : List ℕ) where
   -- one more place
   lines_more : (places : List ℕ) (offset : ℕ)
       → place_lines policy file image (places ++ offset ∷ [])
-      ≡ place_lines policy file image places ++ line_of policy file offset (header_at image offset)
+      ≡ place_lines policy file image places ++ place_line policy file offset (header_at image offset)
   unfolding place_lines
   lines_more places offset =
-      let f : ℕ → List ℕ = λ place. line_of policy file place (header_at image place) in
+      let f : ℕ → List ℕ = λ place. place_line policy file place (header_at image place) in
       flat_map-append f places (offset ∷ [])
       ∙ ap (λ (line : List ℕ). flat_map f places ++ line) (append-nil (f offset))
 
   gravest_more : (places : List ℕ) (offset : ℕ)
       → gravest_place policy image (places ++ offset ∷ [])
-      ≡ graver (gravest_place policy image places) (state_of policy (header_at image offset))
+      ≡ graver (gravest_place policy image places) (place_state policy (header_at image offset))
   unfolding gravest_place
-  gravest_more [] offset = graver_clean (state_of policy (header_at image offset))
+  gravest_more [] offset = graver_clean (place_state policy (header_at image offset))
   gravest_more (first ∷ places) offset =
-      ap (graver (state_of policy (header_at image first))) (gravest_more places offset)
-      ∙ graver_assoc (state_of policy (header_at image first)) (gravest_place policy image places)
-      (state_of policy (header_at image offset))
+      ap (graver (place_state policy (header_at image first))) (gravest_more places offset)
+      ∙ graver_assoc (place_state policy (header_at image first)) (gravest_place policy image places)
+      (place_state policy (header_at image offset))
 
   shown_more : (places : List ℕ) (offset : ℕ)
       → shown_of policy image (places ++ offset ∷ [])
-      ≡ Some (graver_of (shown_of policy image places) (state_of policy (header_at image offset)))
+      ≡ Some (graver_of (shown_of policy image places) (place_state policy (header_at image offset)))
   unfolding gravest_place
-  shown_more [] offset = ap Some (graver_clean (state_of policy (header_at image offset)))
+  shown_more [] offset = ap Some (graver_clean (place_state policy (header_at image offset)))
   shown_more (first ∷ places) offset = ap Some (gravest_more (first ∷ places) offset)
 
   -- the search has come so far
@@ -96,12 +96,12 @@ module _ (policy : Policy) (file image : List ℕ) where
     is_in = is_in;
     text_is = ap (λ (first : List ℕ). first ++ header_line policy file place.offset place.header) told.text_is
         ∙ ap (λ read. place_lines policy file image (places_below image search.sector)
-        ++ line_of policy file place.offset read) (sym header)
+        ++ place_line policy file place.offset read) (sym header)
         ∙ sym (lines_more (places_below image search.sector) place.offset)
         ∙ ap (place_lines policy file image) (sym places);
     found_is = ap (λ before. Some (graver_of before (header_state policy.minimum place.header))) told.found_is
         ∙ ap (λ read. Some (graver_of (shown_of policy image (places_below image search.sector))
-        (state_of policy read))) (sym header)
+        (place_state policy read))) (sym header)
         ∙ sym (shown_more (places_below image search.sector) place.offset)
         ∙ ap (shown_of policy image) (sym places);
   }

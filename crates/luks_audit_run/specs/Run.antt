@@ -39,13 +39,13 @@ abbrev pub lines_before : Policy → Scope → List ℕ → List ℕ → ℕ →
 lines_before policy Start file bytes sector = []
 lines_before policy Everywhere file bytes sector = place_lines policy file bytes (places_below bytes sector)
 
-abbrev pub whole_text : Policy → Scope → List ℕ → List ℕ → List ℕ
-whole_text policy Start file bytes = line_by policy file (header_of bytes)
-whole_text policy Everywhere file bytes = searched_lines policy file bytes
+abbrev pub finished_text : Policy → Scope → List ℕ → List ℕ → List ℕ
+finished_text policy Start file bytes = line_by policy file (header_of bytes)
+finished_text policy Everywhere file bytes = searched_lines policy file bytes
 
-abbrev pub whole_state : Policy → Scope → List ℕ → State
-whole_state policy Start bytes = state_by policy (header_of bytes)
-whole_state policy Everywhere bytes = searched_state policy bytes
+abbrev pub finished_state : Policy → Scope → List ℕ → State
+finished_state policy Start bytes = state_by policy (header_of bytes)
+finished_state policy Everywhere bytes = searched_state policy bytes
 
 -- the line of an image that was not opened
 abbrev pub unopened_line : Format → List ℕ → List ℕ
@@ -53,7 +53,7 @@ unopened_line format file = line_text format (error_value file (codes "cannot be
 
 -- what is written of an image with these bytes
 unfoldable pub image_text : Policy → Scope → List ℕ → List ℕ → Course → List ℕ
-image_text policy scope file bytes whole = whole_text policy scope file bytes
+image_text policy scope file bytes whole = finished_text policy scope file bytes
 image_text policy scope file bytes not_opened = unopened_line policy.format file
 image_text policy scope file bytes (not_read sector) =
     lines_before policy scope file bytes sector ++ fault_line policy.format file Read
@@ -63,7 +63,7 @@ image_text policy scope file bytes (untold failed text state) = text
 
 -- what its audit shows
 unfoldable pub image_state : Policy → Scope → List ℕ → Course → State
-image_state policy scope bytes whole = whole_state policy scope bytes
+image_state policy scope bytes whole = finished_state policy scope bytes
 image_state policy scope bytes not_opened = Unread
 image_state policy scope bytes (not_read sector) = Unread
 image_state policy scope bytes (no_memory sector) = Unread

@@ -29,23 +29,23 @@ search_fault SearchRead = Read
 search_fault SearchMemory = Memory
 
 -- the line of the header at a place, and what its audit shows
-abbrev pub line_of : Policy → List ℕ → ℕ → Result Header HeaderFault → List ℕ
-line_of policy file offset (Ok header) = header_line policy file offset header
-line_of policy file offset (Err fault) = []
+abbrev pub place_line : Policy → List ℕ → ℕ → Result Header HeaderFault → List ℕ
+place_line policy file offset (Ok header) = header_line policy file offset header
+place_line policy file offset (Err fault) = []
 
-abbrev pub state_of : Policy → Result Header HeaderFault → State
-state_of policy (Ok header) = header_state policy.minimum header
-state_of policy (Err fault) = Clean
+abbrev pub place_state : Policy → Result Header HeaderFault → State
+place_state policy (Ok header) = header_state policy.minimum header
+place_state policy (Err fault) = Clean
 
 -- the lines of the headers at places of an image, in their order
 unfoldable pub place_lines : Policy → List ℕ → List ℕ → List ℕ → List ℕ
-place_lines policy file image places = flat_map (λ offset. line_of policy file offset (header_at image offset)) places
+place_lines policy file image places = flat_map (λ offset. place_line policy file offset (header_at image offset)) places
 
 -- the gravest state of these headers
 unfoldable pub gravest_place : Policy → List ℕ → List ℕ → State
 gravest_place policy image [] = Clean
 gravest_place policy image (offset ∷ places) =
-    graver (state_of policy (header_at image offset)) (gravest_place policy image places)
+    graver (place_state policy (header_at image offset)) (gravest_place policy image places)
 
 -- what is written of an image after all its places: nothing, but if there is none, that there is none
 abbrev pub lines_or_none : Policy → List ℕ → List ℕ → List ℕ → List ℕ

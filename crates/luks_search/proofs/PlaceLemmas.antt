@@ -205,10 +205,10 @@ pub loaded_in : (image bytes buffer known : List ℕ) (left : Option (List ℕ))
     → drop (512 * sector) image ≡ bytes ++ known → take kept buffer ≡ bytes
     → ConsumedInto known left (drop kept buffer) count → count ≡ min (33554432 - kept) (length known)
     → IsIn image (record {
-  sector = sector;
-  bytes = drop 0 (take (kept + count) buffer);
-  ended = nat_lt (kept + count) 33554432;
-}) left
+      sector = sector;
+      bytes = drop 0 (take (kept + count) buffer);
+      ended = nat_lt (kept + count) 33554432;
+    }) left
 loaded_in image bytes buffer known left sector kept count here front consumed all = record {
   rest = drop count known;
   left_is = consumed.0.left;

@@ -58,6 +58,6 @@ IsEnd End = Unit {0}
 IsEnd _ = ⊥
 
 -- a failed read is reported
-abbrev pub is_read_fault : {T : Type 0} → Result T SearchFault → Bool
-is_read_fault (Err Read) = true
-is_read_fault _ = false
+abbrev pub reports_failed_read : {T : Type 0} → Result T SearchFault → Bool
+reports_failed_read (Err Read) = true
+reports_failed_read _ = false

@@ -50,9 +50,7 @@ pub(crate) fn is_quiet(bytes: &[u8]) -> bool
 fn begins_magic_at_any(bytes: &[u8], offsets: &[usize]) -> bool
     ensures { result ≡ list_any (λ offset. begins_magic (drop offset bytes.now)) offsets.now }
 {
-    offsets
-        .iter()
-        .any(|offset| begins_magic_at(bytes, *offset))
+    offsets.iter().any(|offset| begins_magic_at(bytes, *offset))
 }
 
 // The offsets at which a secondary header may be.

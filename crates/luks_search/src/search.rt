@@ -4,7 +4,7 @@ ghost use Rattle.std.specs.Prelude.{◌≡◌, ◌⊎◌, ◌+◌, ◌*◌, ◌<
 ghost use Rattle.std.specs.Prelude.{IfOk, IfSome, OnErr, OnOk, drop, false, length, true};
 ghost use Rattle.luks_io.specs.Devices.{counted};
 ghost use Rattle.luks_search.specs.Search.{FindsNext, FindsNone, IsEnd, IsIn, StepsOn};
-ghost use Rattle.luks_search.specs.Search.{is_read_fault, max_image_len};
+ghost use Rattle.luks_search.specs.Search.{reports_failed_read, max_image_len};
 
 use crate::buffer::{fill_after, move_to_front};
 use crate::magic::{SECTOR_LEN, is_quiet};
@@ -98,7 +98,7 @@ impl Search {
         ensures held { (image : List ℕ) → IsIn image self.old (S.to_come source.old)
             → OnOk result (IsIn image self.new (S.to_come source.new)) }
         ensures failures { (S.counts source.new).failures
-            ≡ counted (is_read_fault result) (S.counts source.old).failures }
+            ≡ counted (reports_failed_read result) (S.counts source.old).failures }
         ensures only { result ≡ Err SearchFault.Memory → ⊥ }
     {
         move_to_front(&mut self.buffer, self.start, self.end);
@@ -144,7 +144,7 @@ impl Search {
             × FindsNone image self.old.sector self.new.sector) }
         ensures stopped { OnErr result (self.new.sector ≡ self.old.sector) }
         ensures failures { (S.counts source.new).failures
-            ≡ counted (is_read_fault result) (S.counts source.old).failures }
+            ≡ counted (reports_failed_read result) (S.counts source.old).failures }
     {
         self.load(source)?;
         if !is_quiet(self.bytes()) {
@@ -168,7 +168,7 @@ impl Search {
             × FindsNone image self.old.sector self.new.sector) }
         ensures stopped { OnErr result (self.new.sector ≡ self.old.sector) }
         ensures failures { (S.counts source.new).failures
-            ≡ counted (is_read_fault result) (S.counts source.old).failures }
+            ≡ counted (reports_failed_read result) (S.counts source.old).failures }
     {
         if self.ended || self.bytes().len() >= HORIZON {
             return Ok(0);
@@ -185,7 +185,7 @@ impl Search {
         ensures found { (image : List ℕ) (left : Option (List ℕ)) → IsIn image self.old left
             → OnOk result (IsIn image self.new left)
             × StepsOn image self.old.sector self.new.sector result }
-        ensures only { is_read_fault result ≡ false }
+        ensures only { reports_failed_read result ≡ false }
     {
         let found = header_here(alloc, self.bytes())?;
         let offset = 512 * self.sector;
@@ -206,7 +206,7 @@ impl Search {
         ensures found { (image : List ℕ) (left : Option (List ℕ)) → IsIn image self.old left
             → OnOk result (IsIn image self.new left)
             × StepsOn image self.old.sector self.new.sector result }
-        ensures only { is_read_fault result ≡ false }
+        ensures only { reports_failed_read result ≡ false }
     {
         if self.bytes().is_empty() {
             return Ok(Step::End);
@@ -224,7 +224,7 @@ impl Search {
             × StepsOn image self.old.sector self.new.sector result }
         ensures stopped { OnErr result (self.new.sector ≡ self.old.sector) }
         ensures failures { (S.counts source.new).failures
-            ≡ counted (is_read_fault result) (S.counts source.old).failures }
+            ≡ counted (reports_failed_read result) (S.counts source.old).failures }
     {
         let skipped = self.load_if_needed(source)?;
         if skipped > 0 {
@@ -256,7 +256,7 @@ impl Search {
         ensures on { IfOk result (λ found. IfSome found (λ _. self.old.sector < self.new.sector)) }
         ensures range { self.new.sector ≤ 18014398509547520 }
         ensures failures { (S.counts source.new).failures
-            ≡ counted (is_read_fault result) (S.counts source.old).failures }
+            ≡ counted (reports_failed_read result) (S.counts source.old).failures }
     {
         prove!(self.sector <= MAX_SECTORS + 65_536);
         while self.sector < MAX_SECTORS {

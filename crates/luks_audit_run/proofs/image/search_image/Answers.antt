@@ -4,7 +4,7 @@ use Rattle.luks_audit_run.specs.declared.image.Scope.TheVariants.{Everywhere}
 use Rattle.luks_audit_run.proofs.ImageLemmas.{Searches, searches_abort, searches_abort_part, searches_end, searches_end_part}
 use Rattle.luks_audit_run.proofs.ImageLemmas.{if_ok, searches_more, searches_none, searches_part, when_err}
 use Rattle.luks_audit_run.proofs.RunLemmas.{on_err}
-use Rattle.luks_search.specs.Search.{SearchModel, is_read_fault}
+use Rattle.luks_search.specs.Search.{SearchModel, reports_failed_read}
 use Rattle.luks_area.specs.declared.fault.HeaderFault.{HeaderFault}
 use Rattle.luks_io.specs.Devices.{Appended, counted}
 use Rattle.luks_audit.specs.Image.{fault_line}
@@ -47,7 +47,7 @@ loop-place-preserved g c =
     record {
       so_far = subst P (sym same)
           (searches_more c.args.policy c.args.file.now _ _ (g.S.Source.to_come c.next.new.source) _ _ _
-              c.loop-place.found c.loop-place.search c.next.new.self so_far c.in-Ok-Some.place next line.0);
+          c.loop-place.found c.loop-place.search c.next.new.self so_far c.in-Ok-Some.place next line.0);
       failures = c.in-Ok-Some.ensures.failures ∙ c.loop-place.invariant.failures;
       writes = c.in_ok-shown-in-Ok-Some.ensures.writes ∙ c.loop-place.invariant.writes;
     }
@@ -89,6 +89,6 @@ returns-in-Err-clause-ok g c =
     (g.O.Sink.written c.put_fault.new.out) (fault_line c.args.policy.format c.args.file.now fault) in
     searches_abort c.args.policy c.args.file.now _ _ (g.S.Source.to_come c.next.new.source) _ _ _
     c.loop-place.found c.loop-place.search c.next.new.self so_far c.in-Err.fault c.in-Err.ensures.found _ _
-    (c.in-Err.ensures.failures ∙ ap (counted (is_read_fault {T = Unit {0}} (Err c.in-Err.fault)))
+    (c.in-Err.ensures.failures ∙ ap (counted (reports_failed_read {T = Unit {0}} (Err c.in-Err.fault)))
     c.loop-place.invariant.failures)
     (subst P c.search_fault.ensures c.in_ok-put_fault-in-Err.ensures.ok)
