@@ -19,6 +19,7 @@
 struct volume {
   const char *name; /* of the image, or NULL if it has none */
   struct luksrd_volume opened;
+  struct luksrd_cipher cipher;
 };
 
 /* An image that is read at offsets, whoever reads it. */
@@ -53,7 +54,7 @@ void report_ending(const struct volume *volume, uint64_t image_len);
 int read_plain(const struct volume *volume, const struct image *image, uint8_t *to, uint32_t count,
                uint64_t offset);
 
-/* Wipes the key. */
+/* Wipes the keys. */
 void close_volume(struct volume *volume);
 
 /* Prints the version of the library, and which volumes it opens, as lines of NAME=VALUE. */

@@ -273,7 +273,7 @@ def test_close():
     """The key is wiped, the descriptor is closed, and nothing is read any more; a second time does nothing."""
     descriptors = len(os.listdir("/proc/self/fd"))
     volume = named(VOLUME2).open()
-    assert any(bytes(volume._key._opened.key))
+    assert any(bytes(volume._key._opened)) and any(bytes(volume._key._cipher))
     volume.close()
     volume.close()
     assert volume.closed and "closed" in repr(volume) and not any(key_of(volume))
@@ -286,7 +286,7 @@ def test_close():
 
 def key_of(volume):
     """The bytes in which the module keeps the key."""
-    return bytes(volume._key._opened)
+    return bytes(volume._key._opened) + bytes(volume._key._cipher)
 
 
 def test_forgotten():
