@@ -106,6 +106,41 @@ slots() {
 }
 with slots
 
+# a volume whose header is lost, by its volume key
+# keeps IMAGE: its volume key is in the file "IMAGE.key", as cryptsetup saves it from a copy, and its header is no more
+keeps() {
+    cp "$1" "$1.lost"
+    quietly luksDump --dump-volume-key --volume-key-file "$1.key" --key-file pass "$1.lost"
+    dd if=/dev/zero of="$1.lost" bs=1M count=1 conv=notrunc status=none
+}
+essiv='luks2 cbc-essiv:sha256 256 4096'
+for sealed in "$volume1" "$volume2" "$essiv"; do keeps "$sealed"; done
+volume_keys() {
+    local start1 start2
+    start1=$(start_of1 "$volume1")
+    start2=$(start_of2 "$volume2")
+    text "$volume1" pass
+    opens 'a volume key' "$volume1.lost" volume-key-file="$volume1.key" payload-offset="$start1"
+    opens 'a volume key from a pipe' "$volume1.lost" volume-key-file=<(cat "$volume1.key") payload-offset="$start1" cipher=aes-xts-plain64 sector-size=512
+    text "$volume2" pass
+    opens 'a volume key of sectors of 4096' "$volume2.lost" volume-key-file="$volume2.key" payload-offset="$start2" sector-size=4096
+    text "$essiv" pass
+    opens 'a volume key for CBC' "$essiv.lost" volume-key-file="$essiv.key" payload-offset="$(start_of2 "$essiv")" sector-size=4096 cipher=aes-cbc-essiv:sha256
+    refused 'a volume key without an offset' 'volume-key-file= needs payload-offset=' "$volume1" volume-key-file="$volume1.key"
+    refused 'an offset without a volume key' 'cipher=, payload-offset= and sector-size= need volume-key-file=' "$volume1" key-file=pass payload-offset=512
+    for more in key-file=pass passphrase=+pass header=header1 key-slot=0 max-iterations=9; do
+        refused "a volume key and $more" 'volume-key-file= goes with cipher=, payload-offset= and sector-size= alone' "$volume1" volume-key-file="$volume1.key" payload-offset=512 $more
+    done
+    for more in cipher=aes-cbc-plain64 cipher=aes-ecb sector-size=513; do
+        refused "a volume key and $more" "$volume1.key: a key of 64 bytes, this cipher and this sector size do not go together" "$volume1" volume-key-file="$volume1.key" payload-offset=512 $more
+    done
+    refused 'a volume key that is too long' 'plain: a key of 303104 bytes, this cipher and this sector size do not go together' "$volume1" volume-key-file=plain payload-offset=512
+    refused 'an offset that is no number' 'payload-offset=1M: not a number from 0 to 9223372036854775807' "$volume1" volume-key-file="$volume1.key" payload-offset=1M
+    served 'nbdinfo --size "$uri"' "$volume1" volume-key-file="$volume1.key" payload-offset=9223372036854775807
+    same "an offset past the end, $way" "$? $(grep -c '^0$' said) $(grep -c 'luksrd: image ends before the payload' said)" '0 1 1'
+}
+with volume_keys
+
 # an image that is truncated while it is served. (What is below the filter may give zeros from its last page)
 cp "$volume1" image
 text image pass
@@ -143,7 +178,7 @@ refusals() {
     done
     refused 'no passphrase' 'key-file=FILE or passphrase=PASSPHRASE is needed' "$volume1"
     refused 'a key file and a passphrase' 'key-file= and passphrase= do not go together' "$volume1" key-file=pass passphrase=+pass
-    for twice in header=pipe key-file=pass key-slot=5 max-iterations=9 passphrase=+pass; do
+    for twice in header=pipe key-file=pass key-slot=5 max-iterations=9 passphrase=+pass volume-key-file=pass payload-offset=512 cipher=aes-xts-plain64 sector-size=512; do
         refused "$twice twice" "${twice%%=*}= is given twice" "$volume1" "$twice" "$twice"
     done
 }
@@ -163,7 +198,7 @@ for line in name=luksrd magic_config_key=file max_thread_model=parallel luksrd_l
 done
 about() {
     nbdkit "${server[@]}" --help >helped
-    for parameter in key-file passphrase header key-slot max-iterations; do
+    for parameter in key-file passphrase header key-slot max-iterations volume-key-file payload-offset cipher sector-size; do
         same "--help, $way: $parameter" "$(grep -c "^$parameter=" helped)" 1
     done
     served 'nbdinfo --json "$uri"' "$volume2" key-file=pass

@@ -18,9 +18,50 @@ static void report(const char *name, const struct luksrd_message *message)
   nbdkit_error("%s%s%s", name ? name : "", name ? ": " : "", message->text);
 }
 
-enum outcome unlock(struct volume *volume, const struct bytes *header,
-                    const struct bytes *passphrase, const struct parameters *parameters)
+/* The mode of a cipher, whose name is that of a header and of `cryptsetup luksDump`; or 0. */
+static uint32_t mode_of(const char *cipher)
 {
+  static const struct {
+    const char *cipher;
+    enum luksrd_mode mode;
+  } modes[] = {
+    { "aes-xts-plain64", LUKSRD_XTS_PLAIN64 },
+    { "aes-xts-plain", LUKSRD_XTS_PLAIN },
+    { "aes-cbc-essiv:sha256", LUKSRD_CBC_ESSIV_SHA256 },
+    { "aes-cbc-plain64", LUKSRD_CBC_PLAIN64 },
+  };
+  for (size_t i = 0; i < sizeof modes / sizeof modes[0]; i++)
+    if (strcmp(cipher, modes[i].cipher) == 0)
+      return modes[i].mode;
+  return 0;
+}
+
+/* Opens a volume without a header. */
+static enum outcome use_volume_key(struct volume *volume, const struct bytes *key,
+                                   const struct parameters *parameters)
+{
+  struct luksrd_volume *opened = &volume->opened;
+  *opened = (struct luksrd_volume){
+    .offset = parameters->payload_offset,
+    .sector_size = parameters->sector_size > 0 ? parameters->sector_size : 512,
+    .mode = mode_of(parameters->cipher ? parameters->cipher : "aes-xts-plain64"),
+    .key_size = (uint32_t)key->len,
+  };
+  if (key->len <= sizeof opened->key) {
+    memcpy(opened->key, key->at, key->len);
+    if (luksrd_prepare(opened, &volume->cipher) == LUKSRD_OK)
+      return OPENED;
+  }
+  nbdkit_error("%s: a key of %zu bytes, this cipher and this sector size do not go together",
+               parameters->volume_key_file, key->len);
+  return REFUSED;
+}
+
+enum outcome unlock(struct volume *volume, const struct bytes *header, const struct bytes *secret,
+                    const struct parameters *parameters)
+{
+  if (parameters->volume_key_file)
+    return use_volume_key(volume, secret, parameters);
   const struct luksrd_options options = {
     .size = sizeof options,
     .detached = parameters->header != NULL,
@@ -29,7 +70,7 @@ enum outcome unlock(struct volume *volume, const struct bytes *header,
     .max_iterations = parameters->max_iterations,
   };
   struct luksrd_message message;
-  uint32_t code = luksrd_open(header->at, header->len, passphrase->at, passphrase->len, &options,
+  uint32_t code = luksrd_open(header->at, header->len, secret->at, secret->len, &options,
                               &volume->opened, &message);
   if (code == LUKSRD_OK)
     code = luksrd_prepare(&volume->opened, &volume->cipher);

@@ -35,10 +35,11 @@ struct image {
  * short or a read failed, it may open later. */
 enum outcome { OPENED, REFUSED, TRY_LATER };
 
-/* Tries a passphrase on a header, the detached one if the parameters name one. If it does not open,
- * reports why not. */
-enum outcome unlock(struct volume *volume, const struct bytes *header,
-                    const struct bytes *passphrase, const struct parameters *parameters);
+/* Tries a passphrase on a header, the detached one if the parameters name one; or, if they name a
+ * file with the volume key, takes that and what they say of the payload, and no header. If the volume
+ * does not open, reports why not. */
+enum outcome unlock(struct volume *volume, const struct bytes *header, const struct bytes *secret,
+                    const struct parameters *parameters);
 
 /* The length of the plaintext that is served, whole sectors, if the image has this length. */
 uint64_t plain_len(const struct volume *volume, uint64_t image_len);
