@@ -10,8 +10,8 @@ server=(--filter="$filter")
 
 # asked CALL ARGUMENT..: as served, a client that makes this call of libnbd
 asked() {
-    served \
-        "/usr/bin/python3 -c 'import nbd, sys; handle = nbd.NBD(); handle.connect_uri(sys.argv[1]); handle.$1' \"\$uri\"" "${@:2}"
+    local program="import nbd, sys; handle = nbd.NBD(); handle.connect_uri(sys.argv[1]); handle.$1"
+    served "/usr/bin/python3 -c '$program' \"\$uri\"" "${@:2}"
 }
 
 # it reads the header once, though all connect at once, and of the payload no sector but those of a range
@@ -23,8 +23,8 @@ same 'many connections at once: reads' "$(grep -c ' Read ' log) $(grep -c ' Read
     "$((($(stat -c %s "$volume2") + 1048575) / 1048576)) 1"
 asked 'pread(2, 4095)' --filter=log file "$volume2" logfile=log key-file=pass
 start=$(start_of2 "$volume2")
-same 'two bytes of two sectors: reads' "$? $(sed -n \
-    's/.* Read .*offset=0x\([0-9a-f]*\) count=0x\([0-9a-f]*\) .*/\1 \2/p' log | tail -n 2 | tr '\n' ' ')" \
+same 'two bytes of two sectors: reads' \
+    "$? $(sed -n 's/.* Read .*offset=0x\([0-9a-f]*\) count=0x\([0-9a-f]*\) .*/\1 \2/p' log | tail -n 2 | tr '\n' ' ')" \
     "0 $(printf '%x 1000 %x 1000 ' "$start" $((start + 4096)))"
 asked 'cache(4096, 8192)' --filter=log file "$volume2" logfile=log key-file=pass
 same 'what is cached' "$? $(sed -n 's/.* Cache .*offset=0x\([0-9a-f]*\) count=0x\([0-9a-f]*\) .*/\1 \2/p' log)" \
@@ -41,8 +41,8 @@ for sizes in '4096 4096 8192' '65536 65536 65536' '512 512 512' '512 4096 429496
         blocksize-maximum="$maximum" blocksize-error-policy=error
     served 'nbdinfo --json "$uri"' --filter=blocksize-policy file blocks key-file=pass blocksize-minimum="$minimum" \
         blocksize-preferred="$preferred" blocksize-maximum="$maximum"
-    same "blocks of $sizes: what is preferred" "$(grep -c \
-        "\"block_size_preferred\": $((preferred > 4096 ? preferred : 4096))," said)" 1
+    same "blocks of $sizes: what is preferred" \
+        "$(grep -c "\"block_size_preferred\": $((preferred > 4096 ? preferred : 4096))," said)" 1
 done
 
 # holes are holes, but do not read as zeros

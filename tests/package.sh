@@ -161,26 +161,26 @@ installed=$(dpkg-query -W -f '${Version}' nbdkit)
 lowest=$(dpkg -f "$filter_package" Depends | sed -n 's/.*, nbdkit (>= \([^)]*\)), nbdkit (<< [^)]*)$/\1/p')
 above=$(dpkg -f "$filter_package" Depends | sed -n 's/.*, nbdkit (>= [^)]*), nbdkit (<< \([^)]*\))$/\1/p')
 same 'the filter depends on this version of nbdkit' \
-    "$(dpkg --compare-versions "$installed" ge "$lowest" && dpkg --compare-versions "$installed" lt "$above"; echo \
-    $?)" 0
+    "$(dpkg --compare-versions "$installed" ge "$lowest" && dpkg --compare-versions "$installed" lt "$above"
+    echo $?)" 0
 same 'the filter depends on no other version' "$(dpkg --compare-versions "${installed%%-*}.1" lt "$above"; echo $?)" 1
 holds python3-luksrd "$python_package" '' '-rw-r--r-- root/root ./usr/lib/python3/dist-packages/luksrd.py
 -rw-r--r-- root/root ./usr/share/doc/python3-luksrd/changelog.gz
 -rw-r--r-- root/root ./usr/share/doc/python3-luksrd/copyright' all
 same 'the module depends on Python' "$(dpkg -f "$python_package" Depends | grep -c '^python3 (>= ')" 1
 for package in "$plugin_package" "$filter_package" "$python_package"; do
-    same "${package##*/} depends on the library" "$(dpkg -f "$package" Depends | grep -cF \
-        ", libluksrd2 (>= $version)")" 1
+    same "${package##*/} depends on the library" "$(dpkg -f "$package" Depends |
+        grep -cF ", libluksrd2 (>= $version)")" 1
 done
 # what a binary says of itself: its name, the libraries that it loads, and its own folders for them
-dynamic() { readelf -d "$1" | sed -n 's/.*(\(SONAME\|NEEDED\|RUNPATH\|RPATH\)).*\[\(.*\)\]$/\1 \2/p' | grep -v \
-    'NEEDED libc\.so'; }
+dynamic() { readelf -d "$1" | sed -n 's/.*(\(SONAME\|NEEDED\|RUNPATH\|RPATH\)).*\[\(.*\)\]$/\1 \2/p' |
+    grep -v 'NEEDED libc\.so'; }
 same 'the packaged plugin loads the library' "$(dynamic "nbdkit-plugin-luksrd$plugins/nbdkit-luksrd-plugin.so")" \
     'NEEDED libluksrd.so.2'
 same 'the packaged filter loads the library' "$(dynamic "nbdkit-filter-luksrd$filters/nbdkit-luksrd-filter.so")" \
     'NEEDED libluksrd.so.2'
-same 'the names of the packaged library' "$(dynamic "libluksrd2$libraries/libluksrd.so.2"; dynamic \
-    "libluksrd2$libraries/glibc-hwcaps/x86-64-v3/libluksrd.so.2")" \
+same 'the names of the packaged library' "$(dynamic "libluksrd2$libraries/libluksrd.so.2"
+    dynamic "libluksrd2$libraries/glibc-hwcaps/x86-64-v3/libluksrd.so.2")" \
     'SONAME libluksrd.so.2
 SONAME libluksrd.so.2'
 
@@ -235,7 +235,7 @@ LD_LIBRARY_PATH=$work/libluksrd2$libraries module_gives "$work/python3-luksrd$mo
 
 # make_built ARGUMENT..: make with these arguments, and with what is built but for luksrd-audit, of which no package is
 # made (tests/install.sh has it)
-built=(PROGRAM="$program" AUDIT=absent LIBRARY="$library" SHARED="$shared" SHARED_V3="$shared_v3" PLUGIN="$plugin" \
+built=(PROGRAM="$program" AUDIT=absent LIBRARY="$library" SHARED="$shared" SHARED_V3="$shared_v3" PLUGIN="$plugin"
     FILTER="$filter")
 make_built() {
     make -s -C "$sources" "${built[@]}" "$@" >log 2>&1
@@ -256,7 +256,7 @@ chmod +x tools/pkg-config
 program_files=(bin/luksrd share/bash-completion/completions/luksrd share/doc/luksrd/FORMATS.md
     share/doc/luksrd/README.md
     share/man/man1/luksrd.1 share/zsh/site-functions/_luksrd)
-library_files=(include/luksrd.h lib/glibc-hwcaps/x86-64-v3/libluksrd.so.2 lib/libluksrd.a lib/libluksrd.so \
+library_files=(include/luksrd.h lib/glibc-hwcaps/x86-64-v3/libluksrd.so.2 lib/libluksrd.a lib/libluksrd.so
     lib/libluksrd.so.2 "lib/libluksrd.so.$version" lib/pkgconfig/luksrd.pc)
 pages=(share/man/man1/nbdkit-luksrd-filter.1 share/man/man1/nbdkit-luksrd-plugin.1)
 name=nbdkit-luksrd-plugin.so
@@ -273,8 +273,8 @@ make_built install DESTDIR="$work/there" "${folders[@]}"
 same 'make install of the library, the plugin and the filter too' "$? $(files there)" \
     "0 $(below usr "${program_files[@]/#/local/}" "${library_files[@]/#/local/}" "${pages[@]/#/local/}" \
         "plugins/$name" "filters/$filter_name" modules/luksrd.py)"
-same 'both libraries' "$(cmp "there/usr/local/lib/libluksrd.so.$version" "$shared" 2>&1; cmp \
-    there/usr/local/lib/glibc-hwcaps/x86-64-v3/libluksrd.so.2 "$shared_v3" 2>&1)" ''
+same 'both libraries' "$(cmp "there/usr/local/lib/libluksrd.so.$version" "$shared" 2>&1
+    cmp there/usr/local/lib/glibc-hwcaps/x86-64-v3/libluksrd.so.2 "$shared_v3" 2>&1)" ''
 make_built uninstall DESTDIR="$work/there" "${folders[@]}"
 same 'make uninstall' "$? $(files there)" '0 '
 same 'folders of libraries' "$(find there -name 'glibc-hwcaps')" ''
@@ -401,8 +401,8 @@ fi
 
 packages=(luksrd libluksrd2 nbdkit-plugin-luksrd nbdkit-filter-luksrd python3-luksrd)
 if [ "$(id -u)" != 0 ] || dpkg-query -W -f '${db:Status-Abbrev}\n' "${packages[@]}" 2>log | grep '^i' >log ||
-    [ -n "$(find /usr/bin /usr/libexec /usr/local /usr/include /usr/lib/pkgconfig "$libraries" /etc/alternatives -name \
-        '*luksrd*' -print -quit 2>/dev/null)" ]; then
+    [ -n "$(find /usr/bin /usr/libexec /usr/local /usr/include /usr/lib/pkgconfig "$libraries" /etc/alternatives \
+        -name '*luksrd*' -print -quit 2>/dev/null)" ]; then
     skip 'packages that are installed' 'not root, or luksrd is installed'
     finish
     exit
@@ -430,7 +430,7 @@ same 'they install' $? 0
 works /usr/bin/luksrd /usr/share/bash-completion/completions/luksrd
 same 'the program that is installed' "$(chosen)" /usr/libexec/luksrd/x86-64-v2/luksrd
 same 'the library that is installed' "$(loads)" "$(sed -n 's/^#define LUKSRD_VERSION 0x0*/0x/p' "$sources/c/luksrd.h")"
-same 'what ldconfig knows' "$(ldconfig -p | sed -n 's/^\tlibluksrd\.so\.2 (.*) => //p' | sed 's|^/lib/|/usr/lib/|' | \
+same 'what ldconfig knows' "$(ldconfig -p | sed -n 's/^\tlibluksrd\.so\.2 (.*) => //p' | sed 's|^/lib/|/usr/lib/|' |
     sort)" "$libraries/glibc-hwcaps/x86-64-v3/libluksrd.so.2
 $libraries/libluksrd.so.2"
 serves_sample luksrd luksrd
