@@ -48,8 +48,8 @@ int check_parameters(const struct parameters *parameters);
 const char *secret_file(const struct parameters *parameters);
 
 /* Moves the passphrase out of the parameters, or reads it, or the volume key, from the descriptor
- * of its file, up to one byte more than the longest passphrase, so that luksrd_open refuses a longer
- * one. Returns 0, or -1 and reports why not. */
+ * of its file, up to one byte more than the longest passphrase, so that luksrd_open refuses a
+ * longer one. Returns 0, or -1 and reports why not. */
 int get_passphrase(struct parameters *parameters, int key_file, struct bytes *passphrase);
 
 /* Wipes and frees the passphrase. */

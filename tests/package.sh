@@ -442,7 +442,8 @@ same "make install over a package's plugin" "$(lacking "$PATH" install "${built[
     "the package nbdkit-plugin-luksrd has $plugins/$name: run apt-get remove nbdkit-plugin-luksrd, or give a PREFIX"
 same "make install over a package's filter" "$(lacking "$PATH" install-filter "${built[@]}" DESTDIR= \
     PREFIX="$work/own/late" FILTERS="$filters")" \
-    "the package nbdkit-filter-luksrd has $filters/$filter_name: run apt-get remove nbdkit-filter-luksrd, or give a PREFIX"
+    "the package nbdkit-filter-luksrd has $filters/$filter_name: \
+run apt-get remove nbdkit-filter-luksrd, or give a PREFIX"
 same "make install over a package's module" "$(lacking "$PATH" install-python "${built[@]}" DESTDIR= PREFIX=/usr)" \
     "the package python3-luksrd has $modules/luksrd.py: run apt-get remove python3-luksrd, or give a PREFIX"
 same 'what that installs' "$(files own/late)" ''
