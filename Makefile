@@ -17,14 +17,14 @@
 # make install    puts the program, its man page, its completions, README.md and FORMATS.md below PREFIX
 #                 (/usr/local if it is not given), in DESTDIR if that is given; the library and its module for Python
 #                 too if it is built, and the plugin and the filter if they are built: for /usr and /usr/local in
-#                 nbdkit's own folders, for any other PREFIX in lib/nbdkit/plugins and lib/nbdkit/filters below it, or in
-#                 PLUGINS and FILTERS if these are given; luksrd-audit, its man page, its completions and AUDIT.md too,
-#                 if it is built. With CPU=x86-64-v3 it installs the luksrd for that, if it runs here
+#                 nbdkit's own folders, for any other PREFIX in lib/nbdkit/plugins and lib/nbdkit/filters below it, or
+#                 in PLUGINS and FILTERS if these are given; luksrd-audit, its man page, its completions and AUDIT.md
+#                 too, if it is built. With CPU=x86-64-v3 it installs the luksrd for that, if it runs here
 # make uninstall  removes them again, except what a Debian package has put there
 # make deb        makes a Debian package of the program as it is built for both processors, in DEB; if the plugin is
 #                 built, one of that in PLUGIN_DEB, if the filter is built, one of that in FILTER_DEB, and with any of
-#                 these one of the library, which they load, in LIBRARY_DEB, and one of the module for Python in PYTHON_DEB.
-#                 No package has luksrd-audit
+#                 these one of the library, which they load, in LIBRARY_DEB, and one of the module for Python in
+#                 PYTHON_DEB. No package has luksrd-audit
 
 # What the program is built for and installed for; the library is always built for both. (Some
 # systems have a CPU in the environment, so this is not ?=.)

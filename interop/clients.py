@@ -6,9 +6,10 @@
     clients.py shorter URI TEXT IMAGE   the same at once: what is still there is read, and what is gone is not
     clients.py caches URI TEXT          announces what it reads, and then reads it
     clients.py fails URI TEXT FILE      reads nothing while the file is there, and all once it is gone
-    clients.py side-by-side URI TEXT GO reads the first bytes while a read of the last ones waits until the file GO is there
+    clients.py side-by-side URI TEXT GO reads the first bytes while a read of the last ones waits for the file GO
     clients.py asks ANSWER COMMAND..    runs a command on a terminal of its own, and types an answer
-    clients.py finds SECRET PID         whether a piece of the secret, 16 bytes, is in the memory of this process: `everywhere`, `arguments` (there alone) or `nowhere`
+    clients.py finds SECRET PID         whether a piece of the secret, 16 bytes, is in the memory of this process:
+                                        `everywhere`, `arguments` (there alone) or `nowhere`
     clients.py at-once URI COUNT        so many connections at the same time, which all get the same size
 """
 
@@ -48,9 +49,11 @@ def read(handle, count, offset):
 
 def some_range(chance, size):
     """A range: at either end, past the end, within a sector or over several, at a sector's edge or anywhere."""
-    count = chance.choice((1, 2, 511, 512, 513, 4095, 4096, 4097, chance.randrange(1, 600), chance.randrange(1, MAX_COUNT)))
-    offset = chance.choice((0, chance.randrange(0, 600), size - min(count, size), size - chance.randrange(0, 600), size, size + 1,
-                            size + 2 ** 40, chance.randrange(0, size + 1), chance.randrange(0, size + 1) // 512 * 512))
+    count = chance.choice((1, 2, 511, 512, 513, 4095, 4096, 4097, chance.randrange(1, 600),
+                           chance.randrange(1, MAX_COUNT)))
+    offset = chance.choice((0, chance.randrange(0, 600), size - min(count, size), size - chance.randrange(0, 600),
+                            size, size + 1, size + 2 ** 40, chance.randrange(0, size + 1),
+                            chance.randrange(0, size + 1) // 512 * 512))
     return count, max(0, offset)
 
 
@@ -75,7 +78,8 @@ def read_ranges(uri, text, count):
 
 
 def read_shrinking(uri, text, image):
-    """The bytes read are the text's, or the read failed with EIO, as every read of the missing part does; the payload ends with the image."""
+    """The bytes read are the text's, or the read failed with EIO, as every read of the missing part does; the payload
+    ends with the image."""
     start = os.stat(image).st_size - len(text)
     remaining = [len(text)]
 
@@ -232,8 +236,8 @@ def main():
     if what == "at-once":
         problems = open_at_once(arguments[0], int(arguments[1]))
     else:
-        reads = {"ranges": read_ranges, "shrinks": read_shrinking, "shorter": read_shorter, "caches": read_cached, "fails": read_failing,
-                 "side-by-side": read_side_by_side}[what]
+        reads = {"ranges": read_ranges, "shrinks": read_shrinking, "shorter": read_shorter, "caches": read_cached,
+                 "fails": read_failing, "side-by-side": read_side_by_side}[what]
         extra = [int(arguments[2])] if what == "ranges" else [name for name in arguments[2:] if name]
         problems = list(reads(arguments[0], contents(arguments[1]), *extra))
     print("\n".join(problems[:5]) or "all the same")

@@ -1,5 +1,6 @@
 #!/usr/bin/env bash
-# What the filter for nbdkit makes of what is below it: which bytes it reads, and how often; its block sizes, holes, exports and failures; and that no read waits for another.
+# What the filter for nbdkit makes of what is below it: which bytes it reads, and how often; its block sizes, holes,
+# exports and failures; and that no read waits for another.
 # shellcheck disable=SC2016 # nbdkit's commands find the address in $uri
 # shellcheck source=interop/served.sh
 . "$(dirname "$0")/served.sh"
@@ -9,20 +10,25 @@ server=(--filter="$filter")
 
 # asked CALL ARGUMENT..: as served, a client that makes this call of libnbd
 asked() {
-    served "/usr/bin/python3 -c 'import nbd, sys; handle = nbd.NBD(); handle.connect_uri(sys.argv[1]); handle.$1' \"\$uri\"" "${@:2}"
+    local program="import nbd, sys; handle = nbd.NBD(); handle.connect_uri(sys.argv[1]); handle.$1"
+    served "/usr/bin/python3 -c '$program' \"\$uri\"" "${@:2}"
 }
 
 # it reads the header once, though all connect at once, and of the payload no sector but those of a range
 text "$volume2" pass
-served "/usr/bin/python3 '$here/clients.py' at-once \"\$uri\" 16 >answer" --filter=log file "$volume2" logfile=log key-file=pass
+served "/usr/bin/python3 '$here/clients.py' at-once \"\$uri\" 16 >answer" --filter=log file "$volume2" logfile=log \
+    key-file=pass
 same 'many connections at once' "$? $(cat answer)" '0 all the same'
-same 'many connections at once: reads' "$(grep -c ' Read ' log) $(grep -c ' Read .*offset=0x0 ' log)" "$((($(stat -c %s "$volume2") + 1048575) / 1048576)) 1"
+same 'many connections at once: reads' "$(grep -c ' Read ' log) $(grep -c ' Read .*offset=0x0 ' log)" \
+    "$((($(stat -c %s "$volume2") + 1048575) / 1048576)) 1"
 asked 'pread(2, 4095)' --filter=log file "$volume2" logfile=log key-file=pass
 start=$(start_of2 "$volume2")
-same 'two bytes of two sectors: reads' "$? $(sed -n 's/.* Read .*offset=0x\([0-9a-f]*\) count=0x\([0-9a-f]*\) .*/\1 \2/p' log | tail -n 2 | tr '\n' ' ')" \
+same 'two bytes of two sectors: reads' \
+    "$? $(sed -n 's/.* Read .*offset=0x\([0-9a-f]*\) count=0x\([0-9a-f]*\) .*/\1 \2/p' log | tail -n 2 | tr '\n' ' ')" \
     "0 $(printf '%x 1000 %x 1000 ' "$start" $((start + 4096)))"
 asked 'cache(4096, 8192)' --filter=log file "$volume2" logfile=log key-file=pass
-same 'what is cached' "$? $(sed -n 's/.* Cache .*offset=0x\([0-9a-f]*\) count=0x\([0-9a-f]*\) .*/\1 \2/p' log)" "0 $(printf '%x 1000' $((start + 8192)))"
+same 'what is cached' "$? $(sed -n 's/.* Cache .*offset=0x\([0-9a-f]*\) count=0x\([0-9a-f]*\) .*/\1 \2/p' log)" \
+    "0 $(printf '%x 1000' $((start + 8192)))"
 
 # it reads whole blocks, as many as are allowed at once
 cp "$volume1" blocks
@@ -30,10 +36,13 @@ truncate -s %65536 blocks
 text blocks pass
 for sizes in '4096 4096 8192' '65536 65536 65536' '512 512 512' '512 4096 4294967295' '1024 1048576 4194304'; do
     read -r minimum preferred maximum <<<"$sizes"
-    compared ranges "blocks of $sizes" 400 --filter=blocksize-policy file blocks key-file=pass blocksize-minimum="$minimum" blocksize-preferred="$preferred" \
+    compared ranges "blocks of $sizes" 400 --filter=blocksize-policy file blocks key-file=pass \
+        blocksize-minimum="$minimum" blocksize-preferred="$preferred" \
         blocksize-maximum="$maximum" blocksize-error-policy=error
-    served 'nbdinfo --json "$uri"' --filter=blocksize-policy file blocks key-file=pass blocksize-minimum="$minimum" blocksize-preferred="$preferred" blocksize-maximum="$maximum"
-    same "blocks of $sizes: what is preferred" "$(grep -c "\"block_size_preferred\": $((preferred > 4096 ? preferred : 4096))," said)" 1
+    served 'nbdinfo --json "$uri"' --filter=blocksize-policy file blocks key-file=pass blocksize-minimum="$minimum" \
+        blocksize-preferred="$preferred" blocksize-maximum="$maximum"
+    same "blocks of $sizes: what is preferred" \
+        "$(grep -c "\"block_size_preferred\": $((preferred > 4096 ? preferred : 4096))," said)" 1
 done
 
 # holes are holes, but do not read as zeros
@@ -54,14 +63,16 @@ same 'the map of an image without one' "$(awk '{ print $1, $2, $4 }' said)" "0 $
 mkdir exports
 cp "$volume1" exports/one
 cp "$volume2" exports/two
-served 'for name in one two one; do nbdinfo --size "nbd+unix:///$name?socket=$unixsocket"; done' file dir=exports key-file=pass
+served 'for name in one two one; do nbdinfo --size "nbd+unix:///$name?socket=$unixsocket"; done' file dir=exports \
+    key-file=pass
 same 'exports: sizes' "$(grep -c '^300032$' said) $(grep -c '^303104$' said)" '2 0'
 says 'another export' 'luksrd: this server has opened another export, and serves no second one'
 served 'nbdinfo --size "$uri"; nbdinfo --size "$uri"' file plain key-file=pass
 says 'the reason' 'luksrd: not a LUKS image'
 says 'a second connection' 'luksrd: the first connection has not opened the volume'
 
-# a read that fails: that of the header ends the connection, and a later one opens the volume; that of a sector ends the request
+# a read that fails: that of the header ends the connection, and a later one opens the volume; that of a sector ends the
+# request
 text "$volume1" pass
 failing=(--filter=error file "$volume1" key-file=pass error-pread-rate=100% error-pread-file="$work/fail")
 : >fail
@@ -73,7 +84,8 @@ same 'a sector that cannot be read' "$? $(cat answer)" '0 all the same'
 says 'a sector that cannot be read' 'luksrd: reading 512 bytes at offset '
 
 # While a read below does not end, others are answered, and the volume opens for others.
-served "/usr/bin/python3 '$here/clients.py' side-by-side \"\$uri\" text go >answer" eval thread_model='echo parallel' get_size="stat -c %s '$work/$volume1'" \
+served "/usr/bin/python3 '$here/clients.py' side-by-side \"\$uri\" text go >answer" eval thread_model='echo parallel' \
+    get_size="stat -c %s '$work/$volume1'" \
     pread="[ \$4 -lt $(($(start_of1 "$volume1") + 200000)) ] || until [ -e '$work/go' ]; do sleep 0.05; done
         tail -c +\$((\$4 + 1)) '$work/$volume1' | head -c \$3" key-file=pass
 same 'a read that waits' "$? $(cat answer)" '0 all the same'

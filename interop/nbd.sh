@@ -1,7 +1,8 @@
 #!/usr/bin/env bash
-# Serves volumes of all kinds by the plugin for nbdkit and by the filter, and compares what clients read from them with what luksCat writes and with what went into them: all
-# of it, and ranges from many connections at once. Then what they refuse, what stays in memory, how they end out of memory, an image that is truncated while it is served, and
-# the C of both under valgrind and AddressSanitizer, for which they are built again, also with damaged headers.
+# Serves volumes of all kinds by the plugin for nbdkit and by the filter, and compares what clients read from them with
+# what luksCat writes and with what went into them: all of it, and ranges from many connections at once. Then what they
+# refuse, what stays in memory, how they end out of memory, an image that is truncated while it is served, and the C of
+# both under valgrind and AddressSanitizer, for which they are built again, also with damaged headers.
 # shellcheck disable=SC2016 # nbdkit's commands find the address in $uri
 # shellcheck source=interop/served.sh
 . "$(dirname "$0")/served.sh"
@@ -10,8 +11,8 @@
 library=$(readelf -d "$shared" | sed -n 's/.*(SONAME).*\[\(.*\)\]$/\1/p')
 cp "$shared" "$library"
 
-# serves IMAGE MESSAGE PARAMETER..: nbdcopy gives the text, and nbdkit says this about the end of the image, or nothing if it is empty; the same with the library for all
-# processors; and so do 40 ranges
+# serves IMAGE MESSAGE PARAMETER..: nbdcopy gives the text, and nbdkit says this about the end of the image, or nothing
+# if it is empty; the same with the library for all processors; and so do 40 ranges
 serves() {
     served 'nbdcopy "$uri" copy' "$1" "${@:3}"
     same "$1, $way: status" $? 0
@@ -42,7 +43,8 @@ each_kind visit
 
 # many ranges of a sector size, and one sector at once
 ranges() {
-    for sealed in "$volume1" 'luks2 xts-plain64 512 512' 'luks2 xts-plain64 256 1024' 'luks2 xts-plain64 512 2048' "$volume2"; do
+    for sealed in "$volume1" 'luks2 xts-plain64 512 512' 'luks2 xts-plain64 256 1024' 'luks2 xts-plain64 512 2048' \
+        "$volume2"; do
         text "$sealed" pass
         compared ranges "$sealed" 2000 "$sealed" key-file=pass
     done
@@ -58,16 +60,20 @@ headers() {
     done
     refused 'a detached header as an image' 'luksrd: segment refused: offset' header2 key-file=pass
     refused 'a detached image without its header' "$(named detached2)luksrd: not a LUKS image" detached2 key-file=pass
-    refused 'header and image the wrong way round' 'detached2: luksrd: not a LUKS image' header2 header=detached2 key-file=pass
-    refused 'a wrong passphrase for a detached header' 'header2: luksrd: no key opens the volume' detached2 header=header2 key-file=wrong
+    refused 'header and image the wrong way round' 'detached2: luksrd: not a LUKS image' header2 header=detached2 \
+        key-file=pass
+    refused 'a wrong passphrase for a detached header' 'header2: luksrd: no key opens the volume' detached2 \
+        header=header2 key-file=wrong
     head -c 20000 header1 >short_header
-    refused 'a truncated header' 'short_header: luksrd: image ends inside the header or a key area' detached1 header=short_header key-file=pass
+    refused 'a truncated header' 'short_header: luksrd: image ends inside the header or a key area' detached1 \
+        header=short_header key-file=pass
 }
 with headers
 
 # typed ANSWER COMMAND PARAMETER..: as served, with a terminal on which this passphrase is typed
 typed() {
-    timeout "$patience" /usr/bin/python3 "$here/clients.py" asks "$1" nbdkit -U - "${server[@]}" "${@:3}" passphrase=- --run "$2" >said 2>&1
+    timeout "$patience" /usr/bin/python3 "$here/clients.py" asks "$1" nbdkit -U - "${server[@]}" "${@:3}" passphrase=- \
+        --run "$2" >said 2>&1
 }
 
 # the passphrase: from a file, a pipe, standard input, a descriptor, the command line and a terminal
@@ -101,10 +107,58 @@ slots() {
     refused 'another slot' 'luksrd: no key opens the volume' "$volume1" key-file=pass key-slot=5
     refused 'a slot that is not there' 'luksrd: key slot 8 is not there' "$volume1" key-file=pass key-slot=8
     refused 'a slot that is disabled' 'luksrd: key slot 1 is disabled' "$volume1" key-file=pass key-slot=1
-    refused 'a limit that no slot meets' 'luksrd: no key slot can be tried; skipped: 0 (iterations), 5 (iterations)' "$volume1" key-file=pass max-iterations=999
+    refused 'a limit that no slot meets' 'luksrd: no key slot can be tried; skipped: 0 (iterations), 5 (iterations)' \
+        "$volume1" key-file=pass max-iterations=999
     refused 'a passphrase by Argon2' 'luksrd: no key opens the volume; skipped: 1 (argon2id)' argon2 key-file=pass2
 }
 with slots
+
+# a volume whose header is lost, by its volume key
+# keeps IMAGE: its volume key is in the file "IMAGE.key", as cryptsetup saves it from a copy, and its header is no more
+keeps() {
+    cp "$1" "$1.lost"
+    quietly luksDump --dump-volume-key --volume-key-file "$1.key" --key-file pass "$1.lost"
+    dd if=/dev/zero of="$1.lost" bs=1M count=1 conv=notrunc status=none
+}
+essiv='luks2 cbc-essiv:sha256 256 4096'
+for sealed in "$volume1" "$volume2" "$essiv"; do keeps "$sealed"; done
+volume_keys() {
+    local start1 start2
+    start1=$(start_of1 "$volume1")
+    start2=$(start_of2 "$volume2")
+    text "$volume1" pass
+    opens 'a volume key' "$volume1.lost" volume-key-file="$volume1.key" payload-offset="$start1"
+    opens 'a volume key from a pipe' "$volume1.lost" volume-key-file=<(cat "$volume1.key") payload-offset="$start1" \
+        cipher=aes-xts-plain64 sector-size=512
+    text "$volume2" pass
+    opens 'a volume key of sectors of 4096' "$volume2.lost" volume-key-file="$volume2.key" payload-offset="$start2" \
+        sector-size=4096
+    text "$essiv" pass
+    opens 'a volume key for CBC' "$essiv.lost" volume-key-file="$essiv.key" payload-offset="$(start_of2 "$essiv")" \
+        sector-size=4096 cipher=aes-cbc-essiv:sha256
+    refused 'a volume key without an offset' 'volume-key-file= needs payload-offset=' "$volume1" \
+        volume-key-file="$volume1.key"
+    refused 'an offset without a volume key' 'cipher=, payload-offset= and sector-size= need volume-key-file=' \
+        "$volume1" key-file=pass payload-offset=512
+    for more in key-file=pass passphrase=+pass header=header1 key-slot=0 max-iterations=9; do
+        refused "a volume key and $more" 'volume-key-file= goes with cipher=, payload-offset= and sector-size= alone' \
+            "$volume1" volume-key-file="$volume1.key" payload-offset=512 $more
+    done
+    for more in cipher=aes-cbc-plain64 cipher=aes-ecb sector-size=513; do
+        refused "a volume key and $more" \
+            "$volume1.key: a key of 64 bytes, this cipher and this sector size do not go together" "$volume1" \
+            volume-key-file="$volume1.key" payload-offset=512 $more
+    done
+    refused 'a volume key that is too long' \
+        'plain: a key of 303104 bytes, this cipher and this sector size do not go together' "$volume1" \
+        volume-key-file=plain payload-offset=512
+    refused 'an offset that is no number' 'payload-offset=1M: not a number from 0 to 9223372036854775807' "$volume1" \
+        volume-key-file="$volume1.key" payload-offset=1M
+    served 'nbdinfo --size "$uri"' "$volume1" volume-key-file="$volume1.key" payload-offset=9223372036854775807
+    same "an offset past the end, $way" "$? $(grep -c '^0$' said) $(grep -c 'luksrd: image ends before the payload' \
+        said)" '0 1 1'
+}
+with volume_keys
 
 # an image that is truncated while it is served. (What is below the filter may give zeros from its last page)
 cp "$volume1" image
@@ -125,7 +179,8 @@ head -c 8388609 /dev/zero >long
 head -c 8388608 /dev/zero >longest
 mkfifo pipe
 refusals() {
-    refused 'truncated inside a key area' "$(named short)luksrd: image ends inside the header or a key area" short key-file=pass
+    refused 'truncated inside a key area' "$(named short)luksrd: image ends inside the header or a key area" short \
+        key-file=pass
     refused 'a wrong passphrase' "$(named "$volume1")luksrd: no key opens the volume" "$volume1" key-file=wrong
     refused 'no LUKS' "$(named plain)luksrd: not a LUKS image" plain key-file=pass
     refused 'no header' 'luksrd: cannot open absent: No such file or directory' "$volume1" header=absent key-file=pass
@@ -136,14 +191,18 @@ refusals() {
     refused 'a key file without end' 'luksrd: key file is longer than 8388608 bytes' "$volume1" key-file=/dev/zero
     refused 'the longest key file' 'luksrd: no key opens the volume' "$volume1" key-file=longest
     for number in '' 32 -1 +1 ' 1' 1x 0x1 00000000001 4294967296; do
-        refused "key slot '$number'" "key-slot=$number: not a number from 0 to 31" "$volume1" key-file=pass key-slot="$number"
+        refused "key slot '$number'" "key-slot=$number: not a number from 0 to 31" "$volume1" key-file=pass \
+            key-slot="$number"
     done
     for number in '' 0 -1 1x 4294967296 00000000001; do
-        refused "limit '$number'" "max-iterations=$number: not a number from 1 to 4294967295" "$volume1" key-file=pass max-iterations="$number"
+        refused "limit '$number'" "max-iterations=$number: not a number from 1 to 4294967295" "$volume1" key-file=pass \
+            max-iterations="$number"
     done
     refused 'no passphrase' 'key-file=FILE or passphrase=PASSPHRASE is needed' "$volume1"
-    refused 'a key file and a passphrase' 'key-file= and passphrase= do not go together' "$volume1" key-file=pass passphrase=+pass
-    for twice in header=pipe key-file=pass key-slot=5 max-iterations=9 passphrase=+pass; do
+    refused 'a key file and a passphrase' 'key-file= and passphrase= do not go together' "$volume1" key-file=pass \
+        passphrase=+pass
+    for twice in header=pipe key-file=pass key-slot=5 max-iterations=9 passphrase=+pass volume-key-file=pass \
+        payload-offset=512 cipher=aes-xts-plain64 sector-size=512; do
         refused "$twice twice" "${twice%%=*}= is given twice" "$volume1" "$twice" "$twice"
     done
 }
@@ -151,23 +210,27 @@ with refusals
 refused 'no image' 'luksrd: cannot open absent: No such file or directory' absent key-file=pass
 refused 'a folder' 'luksrd: cannot open .: Is a directory' . key-file=pass
 refused 'a pipe' 'luksrd: cannot open pipe: neither a regular file nor a block device' pipe key-file=pass
-refused 'a device of characters' 'luksrd: cannot open /dev/null: neither a regular file nor a block device' /dev/null key-file=pass
+refused 'a device of characters' 'luksrd: cannot open /dev/null: neither a regular file nor a block device' /dev/null \
+    key-file=pass
 refused 'no image that is named' 'file=IMAGE is needed' key-file=pass
 refused 'two images' 'file= is given twice' "$volume1" file=plain key-file=pass
 refused 'an unknown parameter' "unknown parameter 'keyfile'" "$volume1" keyfile=pass
 
 # what they report about themselves
 nbdkit "$plugin" --dump-plugin >dumped
-for line in name=luksrd magic_config_key=file max_thread_model=parallel luksrd_library_version='[0-9]*\.[0-9]*\.[0-9]*' luksrd_formats='luks1 luks2'; do
+for line in name=luksrd magic_config_key=file max_thread_model=parallel \
+    luksrd_library_version='[0-9]*\.[0-9]*\.[0-9]*' luksrd_formats='luks1 luks2'; do
     same "--dump-plugin: ${line%%=*}" "$(grep -cx "$line" dumped)" 1
 done
 about() {
     nbdkit "${server[@]}" --help >helped
-    for parameter in key-file passphrase header key-slot max-iterations; do
+    for parameter in key-file passphrase header key-slot max-iterations volume-key-file payload-offset cipher \
+        sector-size; do
         same "--help, $way: $parameter" "$(grep -c "^$parameter=" helped)" 1
     done
     served 'nbdinfo --json "$uri"' "$volume2" key-file=pass
-    for line in '"is_read_only": true' '"can_multi_conn": true' '"can_cache": true' '"can_flush": false' '"can_trim": false' '"can_zero": false' '"can_fua": false' \
+    for line in '"is_read_only": true' '"can_multi_conn": true' '"can_cache": true' '"can_flush": false' \
+        '"can_trim": false' '"can_zero": false' '"can_fua": false' \
         '"block_size_minimum": 1' '"block_size_preferred": 4096' '"block_size_maximum": 4294967295'; do
         same "nbdinfo, $way: $line" "$(grep -c "$line" said)" 1
     done
@@ -188,7 +251,8 @@ images() {
 }
 with images
 
-# While the volume is served, no piece of its passphrase is in memory, but for one that is an argument; the volume key is, which shows that it would be found.
+# While the volume is served, no piece of its passphrase is in memory, but for one that is an argument; the volume key
+# is, which shows that it would be found.
 head -c 40 /dev/urandom | od -An -v -tx1 | tr -d ' \n' >secret
 cp "$volume1" remembered
 quietly luksAddKey --pbkdf-force-iterations 1000 --key-file pass remembered secret
@@ -233,7 +297,8 @@ with device
 # Out of memory they end with a message, not by a signal. With too little memory for nbdkit alone, nbdkit ends by one.
 # within MIB ARGUMENT..: runs nbdkit with these arguments in MIB MiB of address space, and a client in more
 within() {
-    (ulimit -Sv $(($1 * 1024)); exec timeout "$patience" nbdkit -U - "${@:2}" --run 'ulimit -Sv unlimited; nbdinfo --size "$uri"') >said 2>&1
+    (ulimit -Sv $(($1 * 1024)); exec timeout "$patience" nbdkit -U - "${@:2}" --run \
+        'ulimit -Sv unlimited; nbdinfo --size "$uri"') >said 2>&1
 }
 starves() {
     local mib=8 starved=0 status
@@ -250,12 +315,14 @@ starves() {
 }
 with starves
 
-# The C of both under valgrind, and under AddressSanitizer with undefined behaviour: whole reads, ranges, an image that ends and refusals.
+# The C of both under valgrind, and under AddressSanitizer with undefined behaviour: whole reads, ranges, an image that
+# ends and refusals.
 # build NAME FLAGS: builds both with these flags, in a folder of this name
 build() {
     mkdir "$1"
     cp "$shared" "$1/$library"
-    make -s -C "$here/.." PLUGIN="$work/$1/plugin.so" FILTER="$work/$1/filter.so" SHARED="$shared" CFLAGS="$2" "$work/$1/plugin.so" "$work/$1/filter.so" >err 2>&1 ||
+    make -s -C "$here/.." PLUGIN="$work/$1/plugin.so" FILTER="$work/$1/filter.so" SHARED="$shared" CFLAGS="$2" \
+        "$work/$1/plugin.so" "$work/$1/filter.so" >err 2>&1 ||
         { cat err >&2; exit 1; }
 }
 # run COMMAND PARAMETER..: as served, by the build and the command in `build` and `under`; clients run without that
@@ -283,7 +350,8 @@ instrumented() {
         same "$build, $way, $key" $? 1
     done
 }
-# nbdkit loses some memory of its own if it ends while clients are connected, and the loader compares words of which the end may be no part of a name
+# nbdkit loses some memory of its own if it ends while clients are connected, and the loader compares words of which the
+# end may be no part of a name
 cat >suppressed <<'TEXT'
 {
     what nbdkit itself takes
@@ -316,12 +384,15 @@ same 'what valgrind says' "$(cat valgrind.*)" ''
 
 build sanitized '-O1 -g -fsanitize=address,undefined -fno-sanitize-recover=all'
 build=sanitized
-# (valgrind checks for leaks. Under the sanitizer the C library's strerror leaves a lock that libraries of nbdkit wait for at the end, to free a locale; here freeing one does nothing)
+# (valgrind checks for leaks. Under the sanitizer the C library's strerror leaves a lock that libraries of nbdkit wait
+# for at the end, to free a locale; here freeing one does nothing)
 printf 'void freelocale(void *locale) { (void)locale; }' | gcc -shared -fPIC -x c - -o left.so
-under=(env ASAN_OPTIONS=log_path=sanitizer:detect_leaks=0 LD_PRELOAD="$(gcc -print-file-name=libasan.so) $(gcc -print-file-name=libubsan.so) $work/left.so")
+under=(env ASAN_OPTIONS=log_path=sanitizer:detect_leaks=0 \
+    LD_PRELOAD="$(gcc -print-file-name=libasan.so) $(gcc -print-file-name=libubsan.so) $work/left.so")
 with instrumented
 
-# damaged IMAGE FOLDER: with the headers in this folder, both refuse what luksCat refuses, by the same message, and serve what it writes
+# damaged IMAGE FOLDER: with the headers in this folder, both refuse what luksCat refuses, by the same message, and
+# serve what it writes
 damaged() {
     local header status
     for header in "$2"/*; do

@@ -1,5 +1,6 @@
 #!/usr/bin/env bash
-# Reads volumes of all kinds by the module for Python, over the library (the second argument), with Debian's Python and pytest, and compares what it gives with what luksCat
+# Reads volumes of all kinds by the module for Python, over the library (the second argument), with Debian's Python and
+# pytest, and compares what it gives with what luksCat
 # writes: all of it, and ranges. python/test_luksrd.py has the tests.
 sources=$(realpath "$(dirname "$0")/..")
 shared=$(realpath "${2:?the built library, as a shared one}")
@@ -41,7 +42,8 @@ status=$?
 passed=$(grep -c '^PASSED ' said)
 failed=$(grep -cE '^(FAILED|ERROR) ' said)
 while read -r _ reason; do skip 'a test of Python' "$reason"; done < <(grep '^SKIPPED ' said)
-[ "$failed" = 0 ] || { sed -n '/^=.* \(FAILURES\|ERRORS\) =/,/ short test summary /p' said | head -n 200; grep -E '^(FAILED|ERROR) ' said; }
+[ "$failed" = 0 ] || { sed -n '/^=.* \(FAILURES\|ERRORS\) =/,/ short test summary /p' said | head -n 200; grep -E \
+    '^(FAILED|ERROR) ' said; }
 [ "$status" = 0 ] || same 'the status of pytest' "$status $(tail -n 3 said)" 0
 same 'kinds of volumes' "$(wc -l <kinds)" "$(grep -c '^PASSED .*test_whole\[' said)"
 finish

@@ -177,7 +177,8 @@ mkdir -p files/etc
 echo '/dev/sda1 / ext4 defaults 0 1' >files/etc/fstab
 truncate -s 8M tree
 mke2fs -q -t ext4 -d files tree
-# one file out of a whole disk, and all of its second partition; from a copy by xz, as qcow2, and from a server of this script's own
+# one file out of a whole disk, and all of its second partition; from a copy by xz, as qcow2, and from a server of this
+# script's own
 mkdir whole
 cp plain whole_plain
 cp tree plain
@@ -201,7 +202,8 @@ recipes_give whole plain.img tree
 recipes_say whole 'whole.img2 : start=        6144,'
 qemu-img convert -f raw -O qcow2 volume2 whole_page/disk.qcow2
 url=${url%/*}/disk.img
-cooks whole_page 'whole.img whole.img.xz disk.qcow2' nbdkit-luksrd-filter.1:'Copy one file out of the ext4' nbdkit-luksrd-filter.1:'The same if the disk' \
+cooks whole_page 'whole.img whole.img.xz disk.qcow2' nbdkit-luksrd-filter.1:'Copy one file out of the ext4' \
+    nbdkit-luksrd-filter.1:'The same if the disk' \
     nbdkit-luksrd-filter.1:'Copy the plaintext of a volume in a qcow2' nbdkit-luksrd-filter.1:'Print a volume'
 for file in fstab2 fstab3; do recipes_give whole_page $file files/etc/fstab; done
 recipes_give whole_page plain.img tree

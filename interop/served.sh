@@ -1,6 +1,7 @@
 # shellcheck shell=bash
-# Shared by the scripts that serve volumes by nbdkit: by the plugin (the second argument) and by the filter (the fourth) over nbdkit's file plugin, which both load the
-# library (the third). What clients read is compared with what luksCat writes.
+# Shared by the scripts that serve volumes by nbdkit: by the plugin (the second argument) and by the filter (the fourth)
+# over nbdkit's file plugin, which both load the library (the third). What clients read is compared with what luksCat
+# writes.
 # shellcheck disable=SC2016 # nbdkit's commands find the address in $uri
 plugin=$(realpath "${2:?the built plugin}")
 # shellcheck disable=SC2034 # interop/nbd.sh uses it
@@ -10,7 +11,8 @@ here=$(realpath "$(dirname "$0")")
 # shellcheck source=interop/kinds.sh
 . "$(dirname "${BASH_SOURCE[0]}")/kinds.sh"
 
-# with COMMAND..: the command, for both ways of serving a volume, by the plugin and by the filter. `server` is what nbdkit's arguments begin with; the image is next
+# with COMMAND..: the command, for both ways of serving a volume, by the plugin and by the filter. `server` is what
+# nbdkit's arguments begin with; the image is next
 way=plugin
 server=("$plugin")
 with() {
@@ -27,12 +29,14 @@ text() {
     "$program" luksCat --key-file "$2" "${@:3}" "$1" >text 2>text.err
 }
 
-# served COMMAND IMAGE PARAMETER..: runs a command while the volume is served; its messages and those of nbdkit are in the file said
+# served COMMAND IMAGE PARAMETER..: runs a command while the volume is served; its messages and those of nbdkit are in
+# the file said
 served() {
     timeout "$patience" nbdkit -U - "${server[@]}" "${@:2}" --run "$1" >said 2>&1
 }
 
-# compared CLIENTS NAME ARGUMENT PARAMETER..: the problems that these clients find, compared with the text; nbdkit's own messages are in the file said
+# compared CLIENTS NAME ARGUMENT PARAMETER..: the problems that these clients find, compared with the text; nbdkit's own
+# messages are in the file said
 compared() {
     served "/usr/bin/python3 '$here/clients.py' $1 \"\$uri\" text '$3' >answer" "${@:4}"
     same "$2, $way: status" $? 0

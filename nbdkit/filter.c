@@ -17,7 +17,7 @@
 static struct parameters parameters;
 static struct bytes passphrase;
 
-/* The volume is opened by the first connection that needs it, or, with a detached header, before
+/* The volume is opened by the first connection that needs it, or, if no header is below, before
  * there is one. The others wait for that. Nobody holds the lock while bytes are read or keys are
  * derived, and once the volume is open or refused, it does not change. */
 enum state { NOT_OPEN, BEING_OPENED, IS_OPEN, IS_REFUSED };
@@ -53,11 +53,23 @@ static int config_complete(nbdkit_next_config_complete *next, nbdkit_backend *ba
   return check_parameters(&parameters) < 0 ? -1 : next(backend);
 }
 
-/* Reads the key file, after the detached header is opened: luksrd opens them in this order. */
-static int take_key_file(void)
+/* Reads the detached header. */
+static int read_header(struct bytes *header)
 {
-  const int fd = parameters.key_file ? open_stream(parameters.key_file) : -1;
-  if (parameters.key_file && fd < 0)
+  const int fd = open_stream(parameters.header);
+  if (fd < 0)
+    return -1;
+  const int status = read_first(parameters.header, fd, MAX_HEADER, header);
+  close(fd);
+  return status;
+}
+
+/* Reads the passphrase or the volume key from its file, or takes the passphrase that was given. */
+static int take_secret(void)
+{
+  const char *name = secret_file(&parameters);
+  const int fd = name ? open_stream(name) : -1;
+  if (name && fd < 0)
     return -1;
   const int status = get_passphrase(&parameters, fd, &passphrase);
   if (fd >= 0)
@@ -65,14 +77,15 @@ static int take_key_file(void)
   return status;
 }
 
-/* Opens the volume by its detached header. */
-static int open_detached(int header_fd)
+/* Opens the volume without what is below: by its detached header, or by its volume key. */
+static int open_now(void)
 {
   struct bytes header = { 0 };
-  int status = -1;
-  if (read_first(parameters.header, header_fd, MAX_HEADER, &header) == 0 && take_key_file() == 0 &&
-      unlock(&volume, &header, &passphrase, &parameters) == OPENED)
-    status = 0;
+  int status = parameters.header ? read_header(&header) : 0;
+  if (status == 0)
+    status = take_secret();
+  if (status == 0 && unlock(&volume, &header, &passphrase, &parameters) != OPENED)
+    status = -1;
   free(header.at);
   wipe(&passphrase);
   return status;
@@ -82,13 +95,9 @@ static int open_detached(int header_fd)
 static int get_ready(int thread_model)
 {
   (void)thread_model;
-  if (!parameters.header)
-    return take_key_file();
-  const int fd = open_stream(parameters.header);
-  if (fd < 0)
-    return -1;
-  const int status = open_detached(fd);
-  close(fd);
+  if (!parameters.header && !parameters.volume_key_file)
+    return take_secret();
+  const int status = open_now();
   if (status == 0)
     state = IS_OPEN;
   return status;

@@ -9,24 +9,33 @@
 #define NBDKIT_API_VERSION 2
 #include <nbdkit-plugin.h>
 
-/* The longest number is as long as 4294967295. */
-#define MAX_DIGITS 10
-
-/* Reads a number as luksrd's command line does: 1 to 10 decimal digits and nothing else. */
+/* Reads a number as luksrd's command line does: decimal digits and nothing else, no more than the
+ * largest number has. */
 static int take_number(const char *key, const char *value, uint64_t min, uint64_t max,
-                       uint32_t *number)
+                       uint64_t *number)
 {
   const size_t digits = strspn(value, "0123456789");
-  if (digits >= 1 && digits <= MAX_DIGITS && value[digits] == '\0') {
+  const size_t max_digits = max > UINT32_MAX ? 19 : 10;
+  if (digits >= 1 && digits <= max_digits && value[digits] == '\0') {
     const unsigned long long read = strtoull(value, NULL, 10);
     if (read >= min && read <= max) {
-      *number = (uint32_t)read;
+      *number = read;
       return 0;
     }
   }
   nbdkit_error("%s=%s: not a number from %llu to %llu", key, value, (unsigned long long)min,
                (unsigned long long)max);
   return -1;
+}
+
+/* The same, for a number of 32 bits. */
+static int take_number32(const char *key, const char *value, uint32_t min, uint32_t max,
+                         uint32_t *number)
+{
+  uint64_t read = 0;
+  const int status = take_number(key, value, min, max, &read);
+  *number = (uint32_t)read;
+  return status;
 }
 
 int take_name(const char *key, const char *value, char **name)
@@ -66,7 +75,7 @@ static int take_key_slot(const char *key, const char *value, struct parameters *
     return -1;
   }
   parameters->has_key_slot = true;
-  return take_number(key, value, 0, 31, &parameters->key_slot);
+  return take_number32(key, value, 0, 31, &parameters->key_slot);
 }
 
 static int take_limit(const char *key, const char *value, uint32_t *max_iterations)
@@ -75,7 +84,51 @@ static int take_limit(const char *key, const char *value, uint32_t *max_iteratio
     nbdkit_error("%s= is given twice", key);
     return -1;
   }
-  return take_number(key, value, 1, UINT32_MAX, max_iterations);
+  return take_number32(key, value, 1, UINT32_MAX, max_iterations);
+}
+
+/* The value stays where it is until nbdkit ends. */
+static int take_cipher(const char *key, const char *value, const char **cipher)
+{
+  if (*cipher) {
+    nbdkit_error("%s= is given twice", key);
+    return -1;
+  }
+  *cipher = value;
+  return 0;
+}
+
+static int take_offset(const char *key, const char *value, struct parameters *parameters)
+{
+  if (parameters->has_payload_offset) {
+    nbdkit_error("%s= is given twice", key);
+    return -1;
+  }
+  parameters->has_payload_offset = true;
+  return take_number(key, value, 0, INT64_MAX, &parameters->payload_offset);
+}
+
+static int take_sector_size(const char *key, const char *value, uint32_t *sector_size)
+{
+  if (*sector_size) {
+    nbdkit_error("%s= is given twice", key);
+    return -1;
+  }
+  return take_number32(key, value, 512, 4096, sector_size);
+}
+
+/* Reads a parameter that goes with a volume key. */
+static int take_key_parameter(struct parameters *parameters, const char *key, const char *value)
+{
+  if (strcmp(key, "volume-key-file") == 0)
+    return take_name(key, value, &parameters->volume_key_file);
+  if (strcmp(key, "cipher") == 0)
+    return take_cipher(key, value, &parameters->cipher);
+  if (strcmp(key, "payload-offset") == 0)
+    return take_offset(key, value, parameters);
+  if (strcmp(key, "sector-size") == 0)
+    return take_sector_size(key, value, &parameters->sector_size);
+  return 1;
 }
 
 int take_parameter(struct parameters *parameters, const char *key, const char *value)
@@ -90,11 +143,35 @@ int take_parameter(struct parameters *parameters, const char *key, const char *v
     return take_key_slot(key, value, parameters);
   if (strcmp(key, "max-iterations") == 0)
     return take_limit(key, value, &parameters->max_iterations);
-  return 1;
+  return take_key_parameter(parameters, key, value);
+}
+
+/* Whether the parameters go with a volume key, or without one; reports why not. */
+static bool is_consistent(const struct parameters *parameters)
+{
+  const bool is_given = parameters->cipher || parameters->has_payload_offset ||
+                        parameters->sector_size > 0;
+  if (!parameters->volume_key_file) {
+    if (is_given)
+      nbdkit_error("cipher=, payload-offset= and sector-size= need volume-key-file=");
+    return !is_given;
+  }
+  if (parameters->key_file || parameters->passphrase || parameters->header ||
+      parameters->has_key_slot || parameters->max_iterations) {
+    nbdkit_error("volume-key-file= goes with cipher=, payload-offset= and sector-size= alone");
+    return false;
+  }
+  if (!parameters->has_payload_offset)
+    nbdkit_error("volume-key-file= needs payload-offset=");
+  return parameters->has_payload_offset;
 }
 
 int check_parameters(const struct parameters *parameters)
 {
+  if (!is_consistent(parameters))
+    return -1;
+  if (parameters->volume_key_file)
+    return 0;
   if (!parameters->key_file && !parameters->passphrase) {
     nbdkit_error("key-file=FILE or passphrase=PASSPHRASE is needed");
     return -1;
@@ -115,10 +192,15 @@ void forget_passphrase(struct parameters *parameters)
   parameters->passphrase = NULL;
 }
 
+const char *secret_file(const struct parameters *parameters)
+{
+  return parameters->volume_key_file ? parameters->volume_key_file : parameters->key_file;
+}
+
 int get_passphrase(struct parameters *parameters, int key_file, struct bytes *passphrase)
 {
-  if (parameters->key_file)
-    return read_first(parameters->key_file, key_file, MAX_PASSPHRASE + 1, passphrase);
+  if (secret_file(parameters))
+    return read_first(secret_file(parameters), key_file, MAX_PASSPHRASE + 1, passphrase);
   const size_t len = strlen(parameters->passphrase);
   if (allocate(passphrase, len) < 0)
     return -1;
@@ -132,5 +214,6 @@ void free_parameters(struct parameters *parameters)
   forget_passphrase(parameters);
   free(parameters->header);
   free(parameters->key_file);
+  free(parameters->volume_key_file);
   memset(parameters, 0, sizeof *parameters);
 }

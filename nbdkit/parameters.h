@@ -14,6 +14,13 @@ struct parameters {
   bool has_key_slot;
   uint32_t key_slot;       /* the only key slot to try, if there is one */
   uint32_t max_iterations; /* the limit of iterations, or 0 */
+
+  /* in place of a passphrase and a header, or NULL: the file with the volume key */
+  char *volume_key_file;
+  const char *cipher;      /* or NULL */
+  bool has_payload_offset; /* if there is a volume key */
+  uint64_t payload_offset; /* in bytes */
+  uint32_t sector_size;    /* in bytes, or 0 */
 };
 
 /* The help on them, after that on the plugin's own. */
@@ -22,7 +29,11 @@ struct parameters {
   "passphrase=PASSPHRASE The passphrase: - asks for it, +FILE and -FD read it.\n"       \
   "header=FILE           The detached header.\n"                                        \
   "key-slot=N            Try this key slot alone, 0 to 31.\n"                           \
-  "max-iterations=N      Skip key slots that ask for more iterations of PBKDF2."
+  "max-iterations=N      Skip key slots that ask for more iterations of PBKDF2.\n"      \
+  "volume-key-file=FILE  The file with the volume key: no header is read.\n"            \
+  "payload-offset=N      With that: the first byte of the payload.\n"                   \
+  "cipher=NAME           With that: aes-xts-plain64, or another of luksrd's.\n"         \
+  "sector-size=N         With that: 512 (if it is not given) to 4096 bytes."
 
 /* Reads one parameter. Returns 0; -1, and reports why not; or 1 if it is none of these. */
 int take_parameter(struct parameters *parameters, const char *key, const char *value);
@@ -33,9 +44,12 @@ int take_name(const char *key, const char *value, char **name);
 /* Returns 0 if all parameters that a volume needs are given, or -1 and reports what is missing. */
 int check_parameters(const struct parameters *parameters);
 
-/* Moves the passphrase out of the parameters, or reads it from the key file's descriptor, up to one
- * byte more than the longest one, so that luksrd_open refuses a longer one. Returns 0, or -1 and
- * reports why not. */
+/* The file that has the passphrase or the volume key, or NULL. */
+const char *secret_file(const struct parameters *parameters);
+
+/* Moves the passphrase out of the parameters, or reads it, or the volume key, from the descriptor
+ * of its file, up to one byte more than the longest passphrase, so that luksrd_open refuses a
+ * longer one. Returns 0, or -1 and reports why not. */
 int get_passphrase(struct parameters *parameters, int key_file, struct bytes *passphrase);
 
 /* Wipes and frees the passphrase. */

@@ -74,9 +74,9 @@ static int open_inputs(struct inputs *inputs)
   inputs->header = parameters.header ? open_stream(parameters.header) : image_fd;
   if (inputs->header < 0)
     return -1;
-  if (!parameters.key_file)
+  if (!secret_file(&parameters))
     return 0;
-  inputs->key_file = open_stream(parameters.key_file);
+  inputs->key_file = open_stream(secret_file(&parameters));
   return inputs->key_file < 0 ? -1 : 0;
 }
 
@@ -88,21 +88,27 @@ static void close_inputs(const struct inputs *inputs)
     close(inputs->key_file);
 }
 
+/* Reads the header, unless the volume key is given. */
+static int read_header(int fd, struct bytes *header)
+{
+  if (parameters.volume_key_file)
+    return 0;
+  return read_first(parameters.header ? parameters.header : file, fd, MAX_HEADER, header);
+}
+
 /* nbdkit forks after this: there is one key derivation, and its messages reach the terminal. */
 static int get_ready(void)
 {
   struct inputs inputs = { .header = -1, .key_file = -1 };
-  struct bytes header = { 0 }, passphrase = { 0 };
+  struct bytes header = { 0 }, secret = { 0 };
   int status = -1;
 
   volume.name = file;
-  if (open_inputs(&inputs) == 0 &&
-      read_first(parameters.header ? parameters.header : file, inputs.header, MAX_HEADER,
-                 &header) == 0 &&
-      get_passphrase(&parameters, inputs.key_file, &passphrase) == 0 &&
-      unlock(&volume, &header, &passphrase, &parameters) == OPENED)
+  if (open_inputs(&inputs) == 0 && read_header(inputs.header, &header) == 0 &&
+      get_passphrase(&parameters, inputs.key_file, &secret) == 0 &&
+      unlock(&volume, &header, &secret, &parameters) == OPENED)
     status = 0;
-  wipe(&passphrase);
+  wipe(&secret);
   forget_passphrase(&parameters);
   free(header.at);
   close_inputs(&inputs);

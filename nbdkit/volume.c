@@ -8,9 +8,6 @@
 #define NBDKIT_API_VERSION 2
 #include <nbdkit-plugin.h>
 
-/* The longest sector. */
-#define MAX_SECTOR 4096
-
 /* The number of bytes that are read and decrypted at once, whole sectors of any size: more would
  * leave the processor's cache before they are decrypted. */
 #define PIECE 262144
@@ -18,22 +15,65 @@
 /* Reports luksrd's own message on the file of this name, or on an image without a name. */
 static void report(const char *name, const struct luksrd_message *message)
 {
-  nbdkit_error("%s%s%.*s", name ? name : "", name ? ": " : "", (int)message->len,
-               (const char *)message->text);
+  nbdkit_error("%s%s%s", name ? name : "", name ? ": " : "", message->text);
 }
 
-enum outcome unlock(struct volume *volume, const struct bytes *header,
-                    const struct bytes *passphrase, const struct parameters *parameters)
+/* The mode of a cipher, whose name is that of a header and of `cryptsetup luksDump`; or 0. */
+static uint32_t mode_of(const char *cipher)
 {
+  static const struct {
+    const char *cipher;
+    enum luksrd_mode mode;
+  } modes[] = {
+    { "aes-xts-plain64", LUKSRD_XTS_PLAIN64 },
+    { "aes-xts-plain", LUKSRD_XTS_PLAIN },
+    { "aes-cbc-essiv:sha256", LUKSRD_CBC_ESSIV_SHA256 },
+    { "aes-cbc-plain64", LUKSRD_CBC_PLAIN64 },
+  };
+  for (size_t i = 0; i < sizeof modes / sizeof modes[0]; i++)
+    if (strcmp(cipher, modes[i].cipher) == 0)
+      return modes[i].mode;
+  return 0;
+}
+
+/* Opens a volume without a header. */
+static enum outcome use_volume_key(struct volume *volume, const struct bytes *key,
+                                   const struct parameters *parameters)
+{
+  struct luksrd_volume *opened = &volume->opened;
+  *opened = (struct luksrd_volume){
+    .offset = parameters->payload_offset,
+    .sector_size = parameters->sector_size > 0 ? parameters->sector_size : 512,
+    .mode = mode_of(parameters->cipher ? parameters->cipher : "aes-xts-plain64"),
+    .key_size = (uint32_t)key->len,
+  };
+  if (key->len <= sizeof opened->key) {
+    memcpy(opened->key, key->at, key->len);
+    if (luksrd_prepare(opened, &volume->cipher) == LUKSRD_OK)
+      return OPENED;
+  }
+  nbdkit_error("%s: a key of %zu bytes, this cipher and this sector size do not go together",
+               parameters->volume_key_file, key->len);
+  return REFUSED;
+}
+
+enum outcome unlock(struct volume *volume, const struct bytes *header, const struct bytes *secret,
+                    const struct parameters *parameters)
+{
+  if (parameters->volume_key_file)
+    return use_volume_key(volume, secret, parameters);
   const struct luksrd_options options = {
+    .size = sizeof options,
     .detached = parameters->header != NULL,
     .has_key_slot = parameters->has_key_slot,
     .key_slot = parameters->key_slot,
     .max_iterations = parameters->max_iterations,
   };
   struct luksrd_message message;
-  const uint32_t code = luksrd_open(header->at, header->len, passphrase->at, passphrase->len,
-                                    &options, &volume->opened, &message);
+  uint32_t code = luksrd_open(header->at, header->len, secret->at, secret->len, &options,
+                              &volume->opened, &message);
+  if (code == LUKSRD_OK)
+    code = luksrd_prepare(&volume->opened, &volume->cipher);
   if (code == LUKSRD_OK)
     return OPENED;
   if (code == LUKSRD_KEY_FILE_LENGTH && parameters->key_file)
@@ -64,69 +104,57 @@ void report_ending(const struct volume *volume, uint64_t image_len)
                volume->name ? volume->name : "luksrd", plain_len(volume, image_len));
 }
 
-/* Reports that bytes of the image were not read or not decrypted. Returns -1. */
-static int fail(const struct volume *volume, const char *what, size_t len, uint64_t offset,
-                const char *why)
+/* Reports that bytes were not read or not decrypted. Returns 0. */
+static uint32_t fail(const struct volume *volume, const char *what, uint64_t len, uint64_t offset,
+                     const char *why)
 {
-  nbdkit_error("%s: %s %zu bytes at offset %" PRIu64 ": %s",
+  nbdkit_error("%s: %s %" PRIu64 " bytes at offset %" PRIu64 ": %s",
                volume->name ? volume->name : "luksrd", what, len, offset, why);
-  return -1;
+  return 0;
 }
 
-/* Puts whole sectors into the buffer, from that sector number on. */
-static int read_sectors(const struct volume *volume, const struct image *image, uint64_t first,
-                        uint8_t *to, size_t len)
+/* Puts the next bytes of a range into the buffer: at least one of them, and at most all. Returns
+ * their number, or 0 and reports why there are none. */
+static uint32_t read_step(const struct volume *volume, const struct image *image, uint8_t *to,
+                          uint32_t count, uint64_t offset)
 {
-  const uint64_t offset = volume->opened.offset + first * volume->opened.sector_size;
-  if (!image->read(image->from, to, len, offset))
-    return fail(volume, "reading", len, offset,
+  uint8_t sector[LUKSRD_SECTOR_BYTES];
+  struct luksrd_step step;
+  if (luksrd_plan(&volume->cipher, image->len, offset, count, &step) != LUKSRD_OK)
+    return fail(volume, "decrypting", count, offset, "luksrd refuses the range");
+  uint8_t *bytes = step.count == step.read_len ? to : sector;
+  if (!image->read(image->from, bytes, step.read_len, step.read_offset))
+    return fail(volume, "reading", step.read_len, step.read_offset,
                 errno ? strerror(errno) : "the image has become shorter");
-  if (luksrd_decrypt(&volume->opened, first, to, len) != LUKSRD_OK)
-    return fail(volume, "decrypting", len, offset, "luksrd refuses it");
-  return 0;
-}
-
-/* Puts a part of one sector into the buffer. */
-static int read_part(const struct volume *volume, const struct image *image, uint64_t sector,
-                     uint32_t skip, uint8_t *to, uint32_t len)
-{
-  uint8_t whole[MAX_SECTOR];
-  if (read_sectors(volume, image, sector, whole, volume->opened.sector_size) < 0)
-    return -1;
-  memcpy(to, whole + skip, len);
-  return 0;
+  if (luksrd_finish(&volume->cipher, &step, bytes, step.read_len) != LUKSRD_OK)
+    return fail(volume, "decrypting", step.read_len, step.read_offset, "luksrd refuses the bytes");
+  if (bytes == sector)
+    memcpy(to, sector, step.count);
+  return (uint32_t)step.count;
 }
 
 int read_plain(const struct volume *volume, const struct image *image, uint8_t *to, uint32_t count,
                uint64_t offset)
 {
-  const uint32_t size = volume->opened.sector_size;
   uint32_t done = 0;
   while (done < count) {
-    const uint64_t sector = (offset + done) / size;
-    const uint32_t skip = (uint32_t)((offset + done) % size), remaining = count - done;
-    uint32_t len;
-    int status;
-    if (skip > 0 || remaining < size) {
-      len = remaining < size - skip ? remaining : size - skip;
-      status = read_part(volume, image, sector, skip, to + done, len);
-    } else {
-      len = remaining < PIECE ? remaining - remaining % size : PIECE;
-      status = read_sectors(volume, image, sector, to + done, len);
-    }
-    if (status < 0) {
+    const uint32_t piece = PIECE - (uint32_t)((offset + done) % PIECE), remaining = count - done;
+    const uint32_t read = read_step(volume, image, to + done, remaining < piece ? remaining : piece,
+                                    offset + done);
+    if (read == 0) {
       /* Neither the bytes decrypted before nor those still encrypted are a reply. */
       memset(to, 0, count);
       return -1;
     }
-    done += len;
+    done += read;
   }
   return 0;
 }
 
 void close_volume(struct volume *volume)
 {
-  explicit_bzero(&volume->opened, sizeof volume->opened);
+  luksrd_wipe(&volume->opened, sizeof volume->opened);
+  luksrd_wipe(&volume->cipher, sizeof volume->cipher);
 }
 
 void print_library(void)

@@ -19,6 +19,7 @@
 struct volume {
   const char *name; /* of the image, or NULL if it has none */
   struct luksrd_volume opened;
+  struct luksrd_cipher cipher;
 };
 
 /* An image that is read at offsets, whoever reads it. */
@@ -34,10 +35,11 @@ struct image {
  * short or a read failed, it may open later. */
 enum outcome { OPENED, REFUSED, TRY_LATER };
 
-/* Tries a passphrase on a header, the detached one if the parameters name one. If it does not open,
- * reports why not. */
-enum outcome unlock(struct volume *volume, const struct bytes *header,
-                    const struct bytes *passphrase, const struct parameters *parameters);
+/* Tries a passphrase on a header, the detached one if the parameters name one; or, if they name a
+ * file with the volume key, takes that and what they say of the payload, and no header. If the
+ * volume does not open, reports why not. */
+enum outcome unlock(struct volume *volume, const struct bytes *header, const struct bytes *secret,
+                    const struct parameters *parameters);
 
 /* The length of the plaintext that is served, whole sectors, if the image has this length. */
 uint64_t plain_len(const struct volume *volume, uint64_t image_len);
@@ -53,7 +55,7 @@ void report_ending(const struct volume *volume, uint64_t image_len);
 int read_plain(const struct volume *volume, const struct image *image, uint8_t *to, uint32_t count,
                uint64_t offset);
 
-/* Wipes the key. */
+/* Wipes the keys. */
 void close_volume(struct volume *volume);
 
 /* Prints the version of the library, and which volumes it opens, as lines of NAME=VALUE. */

@@ -29,7 +29,7 @@ import pathlib
 import stat
 import threading
 import warnings
-from typing import Iterator, NamedTuple, Optional, Union
+from typing import Iterator, Optional, Union
 
 __all__ = ["IncompleteImageWarning", "LuksError", "Volume", "library_version", "open"]
 
@@ -64,7 +64,7 @@ class IncompleteImageWarning(UserWarning):
 
 # The library: its structs and functions. Nothing after this part calls it.
 
-_LIBRARY = "libluksrd.so.1"
+_LIBRARY = "libluksrd.so.2"
 
 # How many first bytes of a header decide how a volume opens, and the longest passphrase
 _HEADER_BYTES = 33554432
@@ -73,7 +73,8 @@ _PASSPHRASE_BYTES = 8388608
 
 class _Options(ctypes.Structure):
     _fields_ = [(name, ctypes.c_uint32) for name in (
-        "detached", "has_key_slot", "key_slot", "max_iterations")]
+        "size", "detached", "has_key_slot", "key_slot", "max_iterations")
+    ] + [("reserved", ctypes.c_uint8 * 44)]
 
 
 class _Opened(ctypes.Structure):
@@ -85,22 +86,23 @@ class _Opened(ctypes.Structure):
     )
 
 
-class _Message(ctypes.Structure):
-    _fields_ = [
-        ("status", ctypes.c_uint32), ("len", ctypes.c_uint32), ("text", ctypes.c_uint8 * 1016)]
-
-    def error(self, code: int) -> LuksError:
-        return LuksError(code, self.status, bytes(self.text[:self.len]).decode("ascii"))
+class _Cipher(ctypes.Structure):
+    _fields_ = [("words", ctypes.c_uint64 * 2048)]
 
 
-class _Step(NamedTuple):
+class _Step(ctypes.Structure):
     """Whole sectors of the image to read, and which of their bytes a range gets."""
 
-    read_offset: int
-    read_len: int
-    first_sector: int
-    skip: int
-    count: int
+    _fields_ = [(name, ctypes.c_uint64) for name in (
+        "read_offset", "read_len", "first_sector", "skip", "count")]
+
+
+class _Message(ctypes.Structure):
+    _fields_ = [
+        ("status", ctypes.c_uint32), ("len", ctypes.c_uint32), ("text", ctypes.c_char * 1016)]
+
+    def error(self, code: int) -> LuksError:
+        return LuksError(code, self.status, self.text.decode("ascii"))
 
 
 def _library_name() -> str:
@@ -121,7 +123,10 @@ def _library() -> ctypes.CDLL:
         ("luksrd_open", u32, [pointer, size, pointer, size, pointer, pointer, pointer]),
         ("luksrd_len", u64, [pointer, u64]),
         ("luksrd_ending", u32, [pointer, u64, pointer, pointer]),
-        ("luksrd_decrypt", u32, [pointer, u64, pointer, size]),
+        ("luksrd_prepare", u32, [pointer, pointer]),
+        ("luksrd_plan", u32, [pointer, u64, u64, u64, pointer]),
+        ("luksrd_finish", u32, [pointer, pointer, pointer, size]),
+        ("luksrd_wipe", None, [pointer, size]),
         ("luksrd_version", u32, []),
     ):
         function = getattr(library, name)
@@ -135,47 +140,52 @@ def _bytes_at(buffer: Union[bytearray, memoryview]) -> object:
 
 
 class _Key:
-    """An open volume, as the library has it."""
+    """An open volume, as the library has it, in an image of this length."""
 
-    def __init__(self, header: memoryview, passphrase: memoryview, options: _Options) -> None:
-        self._opened, message = _Opened(), _Message()
+    def __init__(self, header: memoryview, passphrase: memoryview, options: _Options,
+                 image_len: int) -> None:
+        self._opened, self._cipher, message = _Opened(), _Cipher(), _Message()
         code = _library().luksrd_open(
             _bytes_at(header.obj), len(header), _bytes_at(passphrase.obj), len(passphrase),
             ctypes.byref(options), ctypes.byref(self._opened), ctypes.byref(message))
         if code:
             raise message.error(code)
+        # (what luksrd_open has filled is never refused)
+        _library().luksrd_prepare(ctypes.byref(self._opened), ctypes.byref(self._cipher))
         self.slot: int = self._opened.key_slot
         self.sector_size: int = self._opened.sector_size
+        self._image_len = image_len
 
-    def plain_len(self, image_len: int) -> int:
-        return _library().luksrd_len(ctypes.byref(self._opened), image_len)
+    def plain_len(self) -> int:
+        return _library().luksrd_len(ctypes.byref(self._opened), self._image_len)
 
-    def ending(self, image_len: int) -> Optional[LuksError]:
+    def ending(self) -> Optional[LuksError]:
         """What luksCat ends with if the image is incomplete."""
         count, message = ctypes.c_uint64(), _Message()
         code = _library().luksrd_ending(
-            ctypes.byref(self._opened), image_len, ctypes.byref(count), ctypes.byref(message))
+            ctypes.byref(self._opened), self._image_len, ctypes.byref(count),
+            ctypes.byref(message))
         return message.error(code) if code else None
 
     def plan(self, offset: int, length: int) -> _Step:
         """The next step of reading this range."""
-        size = self.sector_size
-        first, skip = divmod(offset, size)
-        whole = 0 if skip else length - length % size
-        count = whole or min(length, size - skip)
-        return _Step(self._opened.offset + first * size, whole or size, first, skip, count)
+        step = _Step()
+        code = _library().luksrd_plan(
+            ctypes.byref(self._cipher), self._image_len, offset, length, ctypes.byref(step))
+        if code:
+            raise OSError(errno.EIO, f"luksrd refuses {length} bytes at {offset} with {code}")
+        return step
 
     def finish(self, step: _Step, read: memoryview) -> None:
         """Decrypts what a step has read, and moves the bytes of the range to the beginning."""
-        code = _library().luksrd_decrypt(
-            ctypes.byref(self._opened), step.first_sector, _bytes_at(read), len(read))
+        code = _library().luksrd_finish(
+            ctypes.byref(self._cipher), ctypes.byref(step), _bytes_at(read), len(read))
         if code:
-            raise OSError(errno.EIO, f"decrypting {len(read)} bytes: luksrd refuses it with {code}")
-        if step.skip:
-            read[:step.count] = read[step.skip:step.skip + step.count]
+            raise OSError(errno.EIO, f"luksrd refuses {len(read)} bytes with {code}")
 
     def wipe(self) -> None:
-        ctypes.memset(ctypes.byref(self._opened), 0, ctypes.sizeof(self._opened))
+        for struct in (self._opened, self._cipher):
+            _library().luksrd_wipe(ctypes.byref(struct), ctypes.sizeof(struct))
 
 
 def library_version() -> tuple[int, int, int]:
@@ -269,20 +279,20 @@ class Volume(io.RawIOBase):
 
     mode = "rb"
 
-    def __init__(self, name: Path, descriptor: int, image_len: int, key: _Key) -> None:
+    def __init__(self, name: Path, descriptor: int, key: _Key) -> None:
         #: the path of the image
         self.name = name
         self._descriptor, self._key = descriptor, key
         self._position, self._moving = 0, threading.Lock()
         self._readers, self._idle = 0, threading.Condition()
         #: the length of the plaintext in bytes, whole sectors
-        self.size = key.plain_len(image_len)
+        self.size = key.plain_len()
         #: the length of a sector in bytes
         self.sector_size = key.sector_size
         #: the number of the key slot that opened
         self.key_slot = key.slot
         #: the error with which luksCat ends if the image is incomplete, or None
-        self.incomplete: Optional[LuksError] = key.ending(image_len)
+        self.incomplete: Optional[LuksError] = key.ending()
 
     def __repr__(self) -> str:
         closed = ", closed" if self.closed else ""
@@ -410,16 +420,17 @@ def _options(header: Optional[Path], key_slot: Optional[int],
         raise ValueError(f"key_slot is {key_slot}, not from 0 to 31")
     if max_iterations is not None and not 1 <= max_iterations <= 4294967295:
         raise ValueError(f"max_iterations is {max_iterations}, not from 1 to 4294967295")
-    return _Options(detached=header is not None, has_key_slot=key_slot is not None,
-                    key_slot=key_slot or 0, max_iterations=max_iterations or 0)
+    return _Options(size=ctypes.sizeof(_Options), detached=header is not None,
+                    has_key_slot=key_slot is not None, key_slot=key_slot or 0,
+                    max_iterations=max_iterations or 0)
 
 
 def _unlock(head: memoryview, passphrase: Optional[Passphrase], key_file: Optional[Path],
-            options: _Options) -> _Key:
+            options: _Options, image_len: int) -> _Key:
     """Tries the passphrase on a header."""
     secret = _secret(passphrase, key_file)
     try:
-        return _Key(head, secret, options)
+        return _Key(head, secret, options, image_len)
     finally:
         secret[:] = bytes(len(secret))
 
@@ -449,11 +460,11 @@ def open(path: Path, *, passphrase: Optional[Passphrase] = None, key_file: Optio
             head = _read_first(descriptor, min(_HEADER_BYTES, image_len or 1))
         else:
             head = _read_file(header, _HEADER_BYTES)
-        key = _unlock(head, passphrase, key_file, options)
+        key = _unlock(head, passphrase, key_file, options, image_len)
     except BaseException:
         os.close(descriptor)
         raise
-    volume = Volume(path, descriptor, image_len, key)
+    volume = Volume(path, descriptor, key)
     if volume.incomplete:
         message = f"{os.fsdecode(path)}: {volume.incomplete}"
         warnings.warn(message, IncompleteImageWarning, stacklevel=2)

@@ -1,5 +1,5 @@
-"""Tests of luksrd.py, by pytest. interop/python.sh makes the volumes, names their folder in LUKSRD_KINDS, and writes beside
-each what luksCat gives."""
+"""Tests of luksrd.py, by pytest. interop/python.sh makes the volumes, names their folder in LUKSRD_KINDS, and
+writes beside each what luksCat gives."""
 
 import concurrent.futures
 import ctypes
@@ -31,11 +31,13 @@ class Kind:
         self.message = (FOLDER / f"{self.image}.message").read_text().rstrip("\n")
         self.status = int((FOLDER / f"{self.image}.status").read_text().split()[0])
 
-    def open(self, **options):
-        header = FOLDER / self.header if self.header else None
+    def header_file(self):
+        return FOLDER / self.header if self.header else None
+
+    def open(self):
         with warnings.catch_warnings():
             warnings.simplefilter("ignore", luksrd.IncompleteImageWarning)
-            return luksrd.open(FOLDER / self.image, key_file=FOLDER / self.key, header=header, **options)
+            return luksrd.open(FOLDER / self.image, key_file=FOLDER / self.key, header=self.header_file())
 
 
 KINDS = [Kind(line) for line in (FOLDER / "kinds").read_text().splitlines()]
@@ -83,7 +85,7 @@ def test_ending(kind):
     assert (ending.status, str(ending)) == (kind.status, kind.message) if ending else kind.status == 0
     with warnings.catch_warnings(record=True) as caught:
         warnings.simplefilter("always")
-        luksrd.open(FOLDER / kind.image, key_file=FOLDER / kind.key, header=FOLDER / kind.header if kind.header else None).close()
+        luksrd.open(FOLDER / kind.image, key_file=FOLDER / kind.key, header=kind.header_file()).close()
     wanted = [f"{FOLDER / kind.image}: {kind.message}"] if kind.message else []
     assert [str(warning.message) for warning in caught if warning.category is luksrd.IncompleteImageWarning] == wanted
 
@@ -174,12 +176,13 @@ def test_pytsk3():
         assert file.read_random(0, file.info.meta.size) == b"inside\n"
 
 
-@pytest.mark.parametrize("passphrase", ["a passphrase", b"a passphrase", bytearray(b"a passphrase"), memoryview(b"a passphrase")], ids=lambda given: type(given).__name__)
-def test_passphrases(passphrase):
-    before = bytes(passphrase, "ascii") if isinstance(passphrase, str) else bytes(passphrase)
+@pytest.mark.parametrize("kind_of_text", [str, bytes, bytearray, memoryview])
+def test_passphrases(kind_of_text):
+    """A passphrase of any kind opens the volume, and is not changed."""
+    passphrase = "a passphrase" if kind_of_text is str else kind_of_text(b"a passphrase")
     with luksrd.open(FOLDER / VOLUME1, passphrase=passphrase) as volume:
         assert volume.read() == named(VOLUME1).text
-    assert (passphrase if isinstance(passphrase, str) else bytes(passphrase)) in (before, before.decode())
+    assert passphrase == ("a passphrase" if kind_of_text is str else b"a passphrase")
 
 
 def test_names_of_files():
@@ -222,8 +225,10 @@ REFUSED = {
     "a slot that is not there": (VOLUME1, {"key_slot": 8}, 5, 1, "luksrd: key slot 8 is not there"),
     "a slot that is disabled": (VOLUME1, {"key_slot": 1}, 6, 1, "luksrd: key slot 1 is disabled"),
     "another slot": (VOLUME1, {"key_slot": 5}, 10, 2, "luksrd: no key opens the volume"),
-    "a limit": (VOLUME1, {"max_iterations": 999}, 8, 1, "luksrd: no key slot can be tried; skipped: 0 (iterations), 5 (iterations)"),
-    "a key file that is too long": (VOLUME1, {"key_file": "long"}, 9, 1, "luksrd: key file is longer than 8388608 bytes"),
+    "a limit": (VOLUME1, {"max_iterations": 999}, 8, 1,
+                "luksrd: no key slot can be tried; skipped: 0 (iterations), 5 (iterations)"),
+    "a key file that is too long": (VOLUME1, {"key_file": "long"}, 9, 1,
+                                    "luksrd: key file is longer than 8388608 bytes"),
 }
 
 
@@ -235,9 +240,8 @@ def test_refused(name):
     (FOLDER / "err.empty").write_bytes(b"")
     with pytest.raises(luksrd.LuksError) as caught:
         luksrd.open(FOLDER / image, **options)
-    assert (caught.value.code, caught.value.status, caught.value.message, str(caught.value)) == (code, status, message, message)
-    again = pickle.loads(pickle.dumps(caught.value))
-    assert (again.code, again.status, again.message) == (code, status, message)
+    for error in (caught.value, pickle.loads(pickle.dumps(caught.value))):
+        assert (error.code, error.status, error.message, str(error)) == (code, status, message, message)
 
 
 @pytest.mark.parametrize("options, error", [
@@ -261,7 +265,8 @@ def test_wrong_arguments(options, error):
     assert len(os.listdir("/proc/self/fd")) == descriptors
 
 
-@pytest.mark.parametrize("image, error", [("absent", FileNotFoundError), (".", IsADirectoryError), ("pipe", OSError), ("/dev/null", OSError)])
+@pytest.mark.parametrize("image, error", [
+    ("absent", FileNotFoundError), (".", IsADirectoryError), ("pipe", OSError), ("/dev/null", OSError)])
 def test_wrong_image(image, error):
     with pytest.raises(error) as caught:
         luksrd.open(FOLDER / image, passphrase="a passphrase")
@@ -273,20 +278,20 @@ def test_close():
     """The key is wiped, the descriptor is closed, and nothing is read any more; a second time does nothing."""
     descriptors = len(os.listdir("/proc/self/fd"))
     volume = named(VOLUME2).open()
-    assert any(bytes(volume._key._opened.key))
+    assert any(bytes(volume._key._opened)) and any(bytes(volume._key._cipher))
     volume.close()
     volume.close()
     assert volume.closed and "closed" in repr(volume) and not any(key_of(volume))
     assert len(os.listdir("/proc/self/fd")) == descriptors
-    for use in (volume.read, volume.tell, volume.readable, volume.seekable, lambda: volume.seek(0), lambda: volume.pread(1, 0),
-                lambda: volume.readinto(bytearray(1)), volume.__enter__):
+    for use in (volume.read, volume.tell, volume.readable, volume.seekable, lambda: volume.seek(0),
+                lambda: volume.pread(1, 0), lambda: volume.readinto(bytearray(1)), volume.__enter__):
         with pytest.raises(ValueError):
             use()
 
 
 def key_of(volume):
     """The bytes in which the module keeps the key."""
-    return bytes(volume._key._opened)
+    return bytes(volume._key._opened) + bytes(volume._key._cipher)
 
 
 def test_forgotten():

@@ -29,7 +29,8 @@ static struct nbdkit_plugin plugin = {
 NBDKIT_REGISTER_PLUGIN(plugin)
 TEXT
 }
-# filter NAME CODE: a filter, NAME.filter.so, that does this with each parameter that could be its own, and changes nothing
+# filter NAME CODE: a filter, NAME.filter.so, that does this with each parameter that could be its own, and changes
+# nothing
 filter() {
     gcc -shared -fPIC -o "$1.filter.so" -x c - <<TEXT || exit 1
 #include <string.h>

@@ -1,7 +1,8 @@
 #!/usr/bin/env bash
-# Makes Debian packages of the built program, the built library with its module for Python, and the built plugin and filter, and looks into them; installs by make, as root and as
-# another user, into folders of its own. As root, and if luksrd is not installed, dpkg also installs the packages, and make the library into
-# /usr/local: they run from there, the administrator chooses between the programs for both processors, and all of it is removed again.
+# Makes Debian packages of the built program, the built library with its module for Python, and the built plugin and
+# filter, and looks into them; installs by make, as root and as another user, into folders of its own. As root, and if
+# luksrd is not installed, dpkg also installs the packages, and make the library into /usr/local: they run from there,
+# the administrator chooses between the programs for both processors, and all of it is removed again.
 sources=$(realpath "$(dirname "$0")/..")
 plugin=$(realpath "${2:?the built plugin}")
 library=$(realpath "${3:?the built library}")
@@ -13,9 +14,11 @@ filter=$(realpath "${7:?the built filter}")
 . "$(dirname "$0")/common.sh"
 export LC_ALL=C
 
-# made FILE FILE FILE FILE FILE: `make deb` of the program, the library, the module for Python, the plugin and the filter into these files
+# made FILE FILE FILE FILE FILE: `make deb` of the program, the library, the module for Python, the plugin and the
+# filter into these files
 made() {
-    make -s -C "$sources" deb PROGRAM_V2="$program" PROGRAM_V3="$program_v3" DEB="$1" SHARED="$shared" SHARED_V3="$shared_v3" LIBRARY_DEB="$2" PYTHON_DEB="$3" \
+    make -s -C "$sources" deb PROGRAM_V2="$program" PROGRAM_V3="$program_v3" DEB="$1" SHARED="$shared" \
+        SHARED_V3="$shared_v3" LIBRARY_DEB="$2" PYTHON_DEB="$3" \
         PLUGIN="$plugin" PLUGIN_DEB="$4" FILTER="$filter" FILTER_DEB="$5"
 }
 
@@ -50,14 +53,17 @@ same 'install of the library without that for x86-64-v3' \
     "$(lacking "$PATH" install-library LIBRARY="$library" SHARED="$shared" SHARED_V3=absent DESTDIR="$nothing")" \
     'the library is not built: run make library first'
 same 'install of the plugin and no library' \
-    "$(lacking "$PATH" install PROGRAM="$program" PLUGIN="$plugin" FILTER=absent PLUGINS=/plugins LIBRARY=absent DESTDIR="$nothing")" \
+    "$(lacking "$PATH" install PROGRAM="$program" PLUGIN="$plugin" FILTER=absent PLUGINS=/plugins LIBRARY=absent \
+        DESTDIR="$nothing")" \
     'the library is not built: run make library first'
 same 'install of the filter and no library' \
-    "$(lacking "$PATH" install PROGRAM="$program" PLUGIN=absent FILTER="$filter" FILTERS=/filters LIBRARY=absent DESTDIR="$nothing")" \
+    "$(lacking "$PATH" install PROGRAM="$program" PLUGIN=absent FILTER="$filter" FILTERS=/filters LIBRARY=absent \
+        DESTDIR="$nothing")" \
     'the library is not built: run make library first'
 same 'install of no filter' "$(lacking "$PATH" install-filter FILTER=absent DESTDIR="$nothing")" \
     'the filter is not built: run make nbdkit first'
-same 'a package of a filter for another nbdkit' "$("$sources/packaging/deb" nbdkit-filter-luksrd 1.1.0 "$nothing/filter.deb" "$plugin" 2>&1)" \
+same 'a package of a filter for another nbdkit' "$("$sources/packaging/deb" nbdkit-filter-luksrd 1.1.0 \
+    "$nothing/filter.deb" "$plugin" 2>&1)" \
     "$plugin is not for nbdkit $(pkg-config nbdkit --modversion): run make nbdkit first"
 same 'install of no plugin' "$(lacking "$PATH" install-plugin PLUGIN=absent DESTDIR="$nothing")" \
     'the plugin is not built: run make nbdkit first'
@@ -74,7 +80,8 @@ library_package="$work/a folder/libluksrd2.deb"
 python_package="$work/a folder/python3-luksrd.deb"
 plugin_package="$work/a folder/nbdkit-plugin-luksrd.deb"
 filter_package="$work/a folder/nbdkit-filter-luksrd.deb"
-same 'what make says' "$(made "$program_package" "$library_package" "$python_package" "$plugin_package" "$filter_package" 2>&1)" "$program_package
+same 'what make says' "$(made "$program_package" "$library_package" "$python_package" "$plugin_package" \
+    "$filter_package" 2>&1)" "$program_package
 $library_package
 $python_package
 $plugin_package
@@ -86,7 +93,8 @@ same "the module's package made again" "$(cmp "$python_package" 'python again' 2
 same "the plugin's package made again" "$(cmp "$plugin_package" 'plugin again' 2>&1)" ''
 same "the filter's package made again" "$(cmp "$filter_package" 'filter again' 2>&1)" ''
 
-# holds NAME FILE PAGE LISTED [ARCHITECTURE]: what is in a package, and that it has one version; it is unpacked into the folder of its name. Some have no PAGE
+# holds NAME FILE PAGE LISTED [ARCHITECTURE]: what is in a package, and that it has one version; it is unpacked into the
+# folder of its name. Some have no PAGE
 version=$(make -s -C "$sources" -f Makefile -f - version <<<$'version:\n\t@echo $(VERSION)')
 same 'a version of three numbers' "$(grep -cxE '[0-9]+\.[0-9]+\.[0-9]+' <<<"$version")" 1
 holds() {
@@ -144,27 +152,35 @@ holds nbdkit-plugin-luksrd "$plugin_package" nbdkit-luksrd-plugin.1 \
 -rw-r--r-- root/root ./usr/share/man/man1/nbdkit-luksrd-plugin.1.gz"
 same 'the plugin depends on nbdkit' "$(dpkg -f "$plugin_package" Depends | grep -c ', nbdkit (>= ')" 1
 filters=$(pkg-config nbdkit --variable=filterdir)
-holds nbdkit-filter-luksrd "$filter_package" nbdkit-luksrd-filter.1 "-rw-r--r-- root/root .$filters/nbdkit-luksrd-filter.so
+holds nbdkit-filter-luksrd "$filter_package" nbdkit-luksrd-filter.1 \
+    "-rw-r--r-- root/root .$filters/nbdkit-luksrd-filter.so
 -rw-r--r-- root/root ./usr/share/doc/nbdkit-filter-luksrd/changelog.gz
 -rw-r--r-- root/root ./usr/share/doc/nbdkit-filter-luksrd/copyright
 -rw-r--r-- root/root ./usr/share/man/man1/nbdkit-luksrd-filter.1.gz"
 installed=$(dpkg-query -W -f '${Version}' nbdkit)
 lowest=$(dpkg -f "$filter_package" Depends | sed -n 's/.*, nbdkit (>= \([^)]*\)), nbdkit (<< [^)]*)$/\1/p')
 above=$(dpkg -f "$filter_package" Depends | sed -n 's/.*, nbdkit (>= [^)]*), nbdkit (<< \([^)]*\))$/\1/p')
-same 'the filter depends on this version of nbdkit' "$(dpkg --compare-versions "$installed" ge "$lowest" && dpkg --compare-versions "$installed" lt "$above"; echo $?)" 0
+same 'the filter depends on this version of nbdkit' \
+    "$(dpkg --compare-versions "$installed" ge "$lowest" && dpkg --compare-versions "$installed" lt "$above"
+    echo $?)" 0
 same 'the filter depends on no other version' "$(dpkg --compare-versions "${installed%%-*}.1" lt "$above"; echo $?)" 1
 holds python3-luksrd "$python_package" '' '-rw-r--r-- root/root ./usr/lib/python3/dist-packages/luksrd.py
 -rw-r--r-- root/root ./usr/share/doc/python3-luksrd/changelog.gz
 -rw-r--r-- root/root ./usr/share/doc/python3-luksrd/copyright' all
 same 'the module depends on Python' "$(dpkg -f "$python_package" Depends | grep -c '^python3 (>= ')" 1
 for package in "$plugin_package" "$filter_package" "$python_package"; do
-    same "${package##*/} depends on the library" "$(dpkg -f "$package" Depends | grep -cF ", libluksrd2 (>= $version)")" 1
+    same "${package##*/} depends on the library" "$(dpkg -f "$package" Depends |
+        grep -cF ", libluksrd2 (>= $version)")" 1
 done
 # what a binary says of itself: its name, the libraries that it loads, and its own folders for them
-dynamic() { readelf -d "$1" | sed -n 's/.*(\(SONAME\|NEEDED\|RUNPATH\|RPATH\)).*\[\(.*\)\]$/\1 \2/p' | grep -v 'NEEDED libc\.so'; }
-same 'the packaged plugin loads the library' "$(dynamic "nbdkit-plugin-luksrd$plugins/nbdkit-luksrd-plugin.so")" 'NEEDED libluksrd.so.2'
-same 'the packaged filter loads the library' "$(dynamic "nbdkit-filter-luksrd$filters/nbdkit-luksrd-filter.so")" 'NEEDED libluksrd.so.2'
-same 'the names of the packaged library' "$(dynamic "libluksrd2$libraries/libluksrd.so.2"; dynamic "libluksrd2$libraries/glibc-hwcaps/x86-64-v3/libluksrd.so.2")" \
+dynamic() { readelf -d "$1" | sed -n 's/.*(\(SONAME\|NEEDED\|RUNPATH\|RPATH\)).*\[\(.*\)\]$/\1 \2/p' |
+    grep -v 'NEEDED libc\.so'; }
+same 'the packaged plugin loads the library' "$(dynamic "nbdkit-plugin-luksrd$plugins/nbdkit-luksrd-plugin.so")" \
+    'NEEDED libluksrd.so.2'
+same 'the packaged filter loads the library' "$(dynamic "nbdkit-filter-luksrd$filters/nbdkit-luksrd-filter.so")" \
+    'NEEDED libluksrd.so.2'
+same 'the names of the packaged library' "$(dynamic "libluksrd2$libraries/libluksrd.so.2"
+    dynamic "libluksrd2$libraries/glibc-hwcaps/x86-64-v3/libluksrd.so.2")" \
     'SONAME libluksrd.so.2
 SONAME libluksrd.so.2'
 
@@ -189,7 +205,8 @@ for processor in x86-64-v2 x86-64-v3; do
     fi
 done
 
-# serves_sample PLUGIN FILTER: the plugin of this name gives the sample volume's plain text, and the filter of this name does
+# serves_sample PLUGIN FILTER: the plugin of this name gives the sample volume's plain text, and the filter of this name
+# does
 serves_sample() {
     local -a way
     gzip -dc "$sources/sample/volume.img.gz" >volume
@@ -202,20 +219,24 @@ serves_sample() {
         rm -f copy
     done
 }
-LD_LIBRARY_PATH=$work/libluksrd2$libraries serves_sample "$work/nbdkit-plugin-luksrd$plugins/nbdkit-luksrd-plugin.so" "$work/nbdkit-filter-luksrd$filters/nbdkit-luksrd-filter.so"
+LD_LIBRARY_PATH=$work/libluksrd2$libraries serves_sample "$work/nbdkit-plugin-luksrd$plugins/nbdkit-luksrd-plugin.so" \
+    "$work/nbdkit-filter-luksrd$filters/nbdkit-luksrd-filter.so"
 
 # module_gives FOLDER: the module in this folder gives the sample volume's plain text
 module_gives() {
     PYTHONDONTWRITEBYTECODE=1 PYTHONPATH=$1 /usr/bin/python3 -c 'import luksrd, shutil, sys
 print(luksrd.__file__, file=sys.stderr)
 shutil.copyfileobj(luksrd.open("volume", key_file="pass"), sys.stdout.buffer)' >out 2>err
-    same "the module in $1" "$? $(cat err) $(sha256sum <out)" "0 ${1:-$modules}/luksrd.py $(sha256sum <"$sources/sample/plain.txt")"
+    same "the module in $1" "$? $(cat err) $(sha256sum <out)" \
+        "0 ${1:-$modules}/luksrd.py $(sha256sum <"$sources/sample/plain.txt")"
 }
 modules=/usr/lib/python3/dist-packages
 LD_LIBRARY_PATH=$work/libluksrd2$libraries module_gives "$work/python3-luksrd$modules"
 
-# make_built ARGUMENT..: make with these arguments, and with what is built but for luksrd-audit, of which no package is made (tests/install.sh has it)
-built=(PROGRAM="$program" AUDIT=absent LIBRARY="$library" SHARED="$shared" SHARED_V3="$shared_v3" PLUGIN="$plugin" FILTER="$filter")
+# make_built ARGUMENT..: make with these arguments, and with what is built but for luksrd-audit, of which no package is
+# made (tests/install.sh has it)
+built=(PROGRAM="$program" AUDIT=absent LIBRARY="$library" SHARED="$shared" SHARED_V3="$shared_v3" PLUGIN="$plugin"
+    FILTER="$filter")
 make_built() {
     make -s -C "$sources" "${built[@]}" "$@" >log 2>&1
 }
@@ -235,7 +256,8 @@ chmod +x tools/pkg-config
 program_files=(bin/luksrd share/bash-completion/completions/luksrd share/doc/luksrd/FORMATS.md
     share/doc/luksrd/README.md
     share/man/man1/luksrd.1 share/zsh/site-functions/_luksrd)
-library_files=(include/luksrd.h lib/glibc-hwcaps/x86-64-v3/libluksrd.so.2 lib/libluksrd.a lib/libluksrd.so lib/libluksrd.so.2 "lib/libluksrd.so.$version" lib/pkgconfig/luksrd.pc)
+library_files=(include/luksrd.h lib/glibc-hwcaps/x86-64-v3/libluksrd.so.2 lib/libluksrd.a lib/libluksrd.so
+    lib/libluksrd.so.2 "lib/libluksrd.so.$version" lib/pkgconfig/luksrd.pc)
 pages=(share/man/man1/nbdkit-luksrd-filter.1 share/man/man1/nbdkit-luksrd-plugin.1)
 name=nbdkit-luksrd-plugin.so
 filter_name=nbdkit-luksrd-filter.so
@@ -249,15 +271,18 @@ same 'make install of the program alone' "$? $(files there)" "0 $(below usr/loca
 folders=(PLUGINS=/usr/plugins FILTERS=/usr/filters MODULES=/usr/modules)
 make_built install DESTDIR="$work/there" "${folders[@]}"
 same 'make install of the library, the plugin and the filter too' "$? $(files there)" \
-    "0 $(below usr "${program_files[@]/#/local/}" "${library_files[@]/#/local/}" "${pages[@]/#/local/}" "plugins/$name" "filters/$filter_name" modules/luksrd.py)"
-same 'both libraries' "$(cmp "there/usr/local/lib/libluksrd.so.$version" "$shared" 2>&1; cmp there/usr/local/lib/glibc-hwcaps/x86-64-v3/libluksrd.so.2 "$shared_v3" 2>&1)" ''
+    "0 $(below usr "${program_files[@]/#/local/}" "${library_files[@]/#/local/}" "${pages[@]/#/local/}" \
+        "plugins/$name" "filters/$filter_name" modules/luksrd.py)"
+same 'both libraries' "$(cmp "there/usr/local/lib/libluksrd.so.$version" "$shared" 2>&1
+    cmp there/usr/local/lib/glibc-hwcaps/x86-64-v3/libluksrd.so.2 "$shared_v3" 2>&1)" ''
 make_built uninstall DESTDIR="$work/there" "${folders[@]}"
 same 'make uninstall' "$? $(files there)" '0 '
 same 'folders of libraries' "$(find there -name 'glibc-hwcaps')" ''
 
 # `make install CPU=x86-64-v3` puts that program in its place, after it has run
 if runs_v3; then
-    make_built install CPU=x86-64-v3 PROGRAM="$program_v3" LIBRARY=absent PLUGIN=absent FILTER=absent DESTDIR="$work/there"
+    make_built install CPU=x86-64-v3 PROGRAM="$program_v3" LIBRARY=absent PLUGIN=absent FILTER=absent \
+        DESTDIR="$work/there"
     same 'make install for x86-64-v3' "$? $(files there)" "0 $(below usr/local "${program_files[@]}")"
     same 'which program that is' "$(cmp there/usr/local/bin/luksrd "$program_v3" 2>&1)" ''
     make_built uninstall DESTDIR="$work/there"
@@ -269,18 +294,21 @@ printf '#!/bin/sh\necho "it needs AVX2" >&2\nexit 127\n' >refusing
 chmod +x refusing
 for target in install install-program; do
     same "make $target of a program that the processor refuses" \
-        "$(lacking "$PATH" $target "${built[@]}" CPU=x86-64-v3 PROGRAM="$work/refusing" DESTDIR="$nothing" PLUGINS=/plugins FILTERS=/filters)" \
+        "$(lacking "$PATH" $target "${built[@]}" CPU=x86-64-v3 PROGRAM="$work/refusing" DESTDIR="$nothing" \
+            PLUGINS=/plugins FILTERS=/filters)" \
         'it needs AVX2
 luksrd for x86-64-v3 does not run here: nothing is installed'
     same "make $target of a program that does nothing" \
-        "$(lacking "$PATH" $target "${built[@]}" CPU=x86-64-v3 PROGRAM="$(type -P true)" DESTDIR="$nothing" PLUGINS=/plugins FILTERS=/filters)" \
+        "$(lacking "$PATH" $target "${built[@]}" CPU=x86-64-v3 PROGRAM="$(type -P true)" DESTDIR="$nothing" \
+            PLUGINS=/plugins FILTERS=/filters)" \
         'luksrd for x86-64-v3 does not run here: nothing is installed'
 done
 same 'what these install' "$(files "$nothing")" ''
 for prefix in /usr /usr/local/; do
     PATH=$work/tools:$PATH make_built install-plugin install-filter DESTDIR="$work/there" PREFIX="$prefix"
     same "plugin and filter for $prefix" "$? $(files there)" \
-        "0 $(below '' "nbdkit/plugins/$name" "nbdkit/filters/$filter_name" "$(realpath -ms "$prefix/${pages[0]}" | cut -c 2-)" "$(realpath -ms "$prefix/${pages[1]}" | cut -c 2-)")"
+        "0 $(below '' "nbdkit/plugins/$name" "nbdkit/filters/$filter_name" \
+            "$(realpath -ms "$prefix/${pages[0]}" | cut -c 2-)" "$(realpath -ms "$prefix/${pages[1]}" | cut -c 2-)")"
     PATH=$work/tools:$PATH make_built uninstall DESTDIR="$work/there" PREFIX="$prefix"
     same "plugin and filter for $prefix, uninstalled" "$? $(files there)" '0 '
 done
@@ -295,7 +323,8 @@ another() {
 }
 # put_by_another FOLDER ARGUMENT..: make as this user, with the tree and what is built as this user can read them
 put_by_another() {
-    another make -s -C "$work/tree" PROGRAM=../built/luksrd LIBRARY=../built/libluksrd.a SHARED=../built/libluksrd.so SHARED_V3=../built/v3.so \
+    another make -s -C "$work/tree" PROGRAM=../built/luksrd LIBRARY=../built/libluksrd.a SHARED=../built/libluksrd.so \
+        SHARED_V3=../built/v3.so \
         PLUGIN="../built/$name" FILTER="../built/$filter_name" "$@" >log 2>&1
 }
 mkdir tree built own
@@ -313,7 +342,8 @@ if another test -r tree/Makefile; then
     plugins_before=$(ls -la --full-time "$plugins")
     put_by_another install PREFIX="$work/own/it"
     same 'make install by another user' "$? $(files own/it)" \
-        "0 $(below '' "${program_files[@]}" "${library_files[@]}" "${pages[@]}" "lib/nbdkit/plugins/$name" "lib/nbdkit/filters/$filter_name" "$module")"
+        "0 $(below '' "${program_files[@]}" "${library_files[@]}" "${pages[@]}" "lib/nbdkit/plugins/$name" \
+            "lib/nbdkit/filters/$filter_name" "$module")"
     same "nbdkit's own folder" "$(ls -la --full-time "$plugins")" "$plugins_before"
     works "$work/own/it/bin/luksrd" "$work/own/it/share/bash-completion/completions/luksrd"
     serves_sample "$work/own/it/lib/nbdkit/plugins/$name" "$work/own/it/lib/nbdkit/filters/$filter_name"
@@ -333,7 +363,8 @@ fi
 mkdir nbdkit
 : >"nbdkit/$name"
 sed -i "s|/nbdkit|$work/nbdkit|g; s,/plugins\\|/filters,,g" tools/pkg-config
-same "nbdkit's folder, as make asks for it" "$(PATH=$work/tools:$PATH pkg-config nbdkit --variable=plugindir)" "$work/nbdkit"
+same "nbdkit's folder, as make asks for it" "$(PATH=$work/tools:$PATH pkg-config nbdkit --variable=plugindir)" \
+    "$work/nbdkit"
 PATH=$work/tools:$PATH make_built install PREFIX="$work/own/root"
 same 'make install into another PREFIX' "$? $(files nbdkit)" "0 ./$name"
 same "the plugin in nbdkit's folder" "$(wc -c <"nbdkit/$name")" 0
@@ -370,7 +401,8 @@ fi
 
 packages=(luksrd libluksrd2 nbdkit-plugin-luksrd nbdkit-filter-luksrd python3-luksrd)
 if [ "$(id -u)" != 0 ] || dpkg-query -W -f '${db:Status-Abbrev}\n' "${packages[@]}" 2>log | grep '^i' >log ||
-    [ -n "$(find /usr/bin /usr/libexec /usr/local /usr/include /usr/lib/pkgconfig "$libraries" /etc/alternatives -name '*luksrd*' -print -quit 2>/dev/null)" ]; then
+    [ -n "$(find /usr/bin /usr/libexec /usr/local /usr/include /usr/lib/pkgconfig "$libraries" /etc/alternatives \
+        -name '*luksrd*' -print -quit 2>/dev/null)" ]; then
     skip 'packages that are installed' 'not root, or luksrd is installed'
     finish
     exit
@@ -382,7 +414,8 @@ loads() {
 }
 trap 'make_built uninstall PLUGINS= FILTERS=; rm -rf "$work"' EXIT
 make_built install-library
-same 'make install of the library' "$? $(loads)" "0 $(sed -n 's/^#define LUKSRD_VERSION 0x0*/0x/p' "$sources/c/luksrd.h")"
+same 'make install of the library' "$? $(loads)" "0 $(sed -n 's/^#define LUKSRD_VERSION 0x0*/0x/p' \
+    "$sources/c/luksrd.h")"
 make_built uninstall PLUGINS= FILTERS=
 same 'make uninstall of the library' "$? $(loads | grep -c 'cannot open shared object file')" '0 1'
 same 'what is left of the library' "$(find /usr/local -name '*luksrd*'; ldconfig -p | grep luksrd)" ''
@@ -397,7 +430,8 @@ same 'they install' $? 0
 works /usr/bin/luksrd /usr/share/bash-completion/completions/luksrd
 same 'the program that is installed' "$(chosen)" /usr/libexec/luksrd/x86-64-v2/luksrd
 same 'the library that is installed' "$(loads)" "$(sed -n 's/^#define LUKSRD_VERSION 0x0*/0x/p' "$sources/c/luksrd.h")"
-same 'what ldconfig knows' "$(ldconfig -p | sed -n 's/^\tlibluksrd\.so\.2 (.*) => //p' | sed 's|^/lib/|/usr/lib/|' | sort)" "$libraries/glibc-hwcaps/x86-64-v3/libluksrd.so.2
+same 'what ldconfig knows' "$(ldconfig -p | sed -n 's/^\tlibluksrd\.so\.2 (.*) => //p' | sed 's|^/lib/|/usr/lib/|' |
+    sort)" "$libraries/glibc-hwcaps/x86-64-v3/libluksrd.so.2
 $libraries/libluksrd.so.2"
 serves_sample luksrd luksrd
 module_gives ''
@@ -406,8 +440,10 @@ same 'zsh finds its completion' \
 same "make install over a package's plugin" "$(lacking "$PATH" install "${built[@]}" DESTDIR= PREFIX="$work/own/late" \
     PLUGINS="$plugins")" \
     "the package nbdkit-plugin-luksrd has $plugins/$name: run apt-get remove nbdkit-plugin-luksrd, or give a PREFIX"
-same "make install over a package's filter" "$(lacking "$PATH" install-filter "${built[@]}" DESTDIR= PREFIX="$work/own/late" FILTERS="$filters")" \
-    "the package nbdkit-filter-luksrd has $filters/$filter_name: run apt-get remove nbdkit-filter-luksrd, or give a PREFIX"
+same "make install over a package's filter" "$(lacking "$PATH" install-filter "${built[@]}" DESTDIR= \
+    PREFIX="$work/own/late" FILTERS="$filters")" \
+    "the package nbdkit-filter-luksrd has $filters/$filter_name: \
+run apt-get remove nbdkit-filter-luksrd, or give a PREFIX"
 same "make install over a package's module" "$(lacking "$PATH" install-python "${built[@]}" DESTDIR= PREFIX=/usr)" \
     "the package python3-luksrd has $modules/luksrd.py: run apt-get remove python3-luksrd, or give a PREFIX"
 same 'what that installs' "$(files own/late)" ''
