@@ -21,7 +21,7 @@ pub struct Request<'r, 'a> {
 pub fn command<'a>(alloc: Global) -> Result<Command<'a>, AllocError> {
     let command = Command::new(alloc, "luksrd-audit")
         .no_binary_name(true)
-        .version("1.1.0")
+        .version("1.2.0")
         .about("Lists what is in LUKS headers, and what is weak about them, as JSON.");
     with_images(alloc, with_options(alloc, command)?)
 }
