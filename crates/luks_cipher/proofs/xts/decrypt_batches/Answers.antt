@@ -1,5 +1,5 @@
 use Rattle.std.proofs.Common.{◌/◌, length, ap, arith, ◌∙◌, rules}
-use Rattle.luks_cipher.specs.Xts.{tweak_after, xts_decrypted}
+use Rattle.luks_cipher.specs.Xts.{tweak_after, tweak_of, xts_decrypted}
 use Rattle.luks_cipher.proofs.UnitLemmas.{done_none, done_all, progress_batch, tweak_more}
 use Rattle.luks_cipher.proofs.xts.decrypt_batches.Goals as goal
 
