@@ -388,6 +388,7 @@ INSTALLED = "$(BINARIES)/luksrd" "$(PAGES)/luksrd.1" "$(DOCUMENTS)/README.md" "$
 
 uninstall:
 	@for file in $(INSTALLED); do \
+	    case "$$file" in *.pyc) [ -z "$$($(call packaged,$(MODULE_FILE)))" ] || continue ;; esac; \
 	    [ ! -e "$$file" ] && [ ! -L "$$file" ] || [ -n "$$($(call packaged,$$file))" ] || \
 	        { echo "rm $$file"; rm "$$file" || exit; }; \
 	done

@@ -175,6 +175,8 @@ if cryptsetup -q reencrypt --encrypt --init-only --type luks2 --reduce-device-si
     unfinished >err 2>&1; then
     same 'requirements' "$("$audit" unfinished | jq -c .requirements)" \
         "$(cp unfinished copy; cryptsetup luksDump --dump-json-metadata copy | jq -c .config.requirements.mandatory)"
+else
+    skip 'requirements of an unfinished volume' 'cryptsetup does not begin to encrypt here'
 fi
 
 # a primary header that is wiped, a secondary one that is, and neither

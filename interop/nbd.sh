@@ -117,7 +117,7 @@ with slots
 # keeps IMAGE: its volume key is in the file "IMAGE.key", as cryptsetup saves it from a copy, and its header is no more
 keeps() {
     cp "$1" "$1.lost"
-    quietly luksDump --dump-volume-key --volume-key-file "$1.key" --key-file pass "$1.lost"
+    run_cryptsetup luksDump --dump-volume-key --volume-key-file "$1.key" --key-file pass "$1.lost"
     dd if=/dev/zero of="$1.lost" bs=1M count=1 conv=notrunc status=none
 }
 essiv='luks2 cbc-essiv:sha256 256 4096'
@@ -253,10 +253,10 @@ with images
 
 # While the volume is served, no piece of its passphrase is in memory, but for one that is an argument; the volume key
 # is, which shows that it would be found.
-head -c 40 /dev/urandom | od -An -v -tx1 | tr -d ' \n' >secret
+head -c 200 /dev/urandom | od -An -v -tx1 | tr -d ' \n' >secret
 cp "$volume1" remembered
-quietly luksAddKey --pbkdf-force-iterations 1000 --key-file pass remembered secret
-quietly luksDump --dump-volume-key --volume-key-file volume_key --key-file pass remembered
+run_cryptsetup luksAddKey --pbkdf-force-iterations 1000 --key-file pass remembered secret
+run_cryptsetup luksDump --dump-volume-key --volume-key-file volume_key --key-file pass remembered
 # finds WHAT: where this is in the server's memory
 finds() {
     /usr/bin/python3 "$here/clients.py" finds "$1" "$(cat pid)"
@@ -400,7 +400,7 @@ damaged() {
         run 'nbdcopy "$uri" copy' "$1" header="$header" key-file=pass max-iterations=5000
         status=$?
         case $(cat text.err) in
-        '' | 'luksrd: image ends inside a sector'* | 'luksrd: image ends '*' before the '*)
+        '' | 'luksrd: image ends inside a sector'* | 'luksrd: image ends '*'before the '*)
             same "$build, $way, $header: the text" "$status $(sha256sum <copy)" "0 $(sha256sum <text)"
             ;;
         *)

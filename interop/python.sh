@@ -30,7 +30,7 @@ mv archive plain
 format1 'an archive' aes-xts-plain64 sha256 512
 fill 'an archive'
 
-# the same volume with its header as a hostile one would have it, and inputs that are none
+# images and key files that are refused
 head -c 20000 "$volume1" >short
 head -c 8388609 /dev/zero >long
 mkfifo pipe

@@ -39,6 +39,7 @@ static void unload(void)
   wipe(&passphrase);
   free_parameters(&parameters);
   free(served_name);
+  served_name = NULL;
 }
 
 static int config(nbdkit_next_config *next, nbdkit_backend *backend, const char *key,

@@ -111,8 +111,11 @@ def _library_name() -> str:
     if named:
         return named
     # PREFIX/lib/libluksrd.so.N, from PREFIX/lib/python3/dist-packages/luksrd.py
-    installed = pathlib.Path(__file__).resolve().parents[2] / _LIBRARY
-    return str(installed) if installed.exists() else _LIBRARY
+    folders = pathlib.Path(__file__).resolve().parents
+    is_installed = len(folders) > 2 and (folders[0].name, folders[2].name) == ("dist-packages", "lib")
+    if is_installed and (folders[2] / _LIBRARY).exists():
+        return str(folders[2] / _LIBRARY)
+    return _LIBRARY
 
 
 @functools.lru_cache(maxsize=None)
@@ -264,7 +267,7 @@ def _secret(passphrase: Optional[Passphrase], key_file: Optional[Path]) -> memor
         return _read_file(key_file, _PASSPHRASE_BYTES + 1)
     if isinstance(passphrase, str):
         passphrase = passphrase.encode()
-    given = memoryview(passphrase or b"").cast("B")
+    given = memoryview(b"" if passphrase is None else passphrase).cast("B")
     copy = memoryview(bytearray(len(given) or 1))
     copy[:len(given)] = given
     return copy[:len(given)]

@@ -332,7 +332,7 @@ def test_close_while_threads_read():
 
         with concurrent.futures.ThreadPoolExecutor(4) as threads:
             running = [threads.submit(reads) for _ in range(4)]
-            started.wait()
+            assert started.wait(60)
             time.sleep(number / 2000)
             volume.close()
             with open(FOLDER / "plain", "rb") as other:

@@ -8,8 +8,8 @@ sources=$(realpath "$(dirname "$0")/..")
 mkdir 'a folder'
 # only how it is installed is tried, so any program does
 cp "$program" built-audit
-make -s -C "$sources" install LIBRARY=absent PLUGIN=absent DESTDIR="$work/a folder" PREFIX=/usr PROGRAM="$program" \
-    AUDIT="$work/built-audit"
+make -s -C "$sources" install LIBRARY=absent PLUGIN=absent FILTER=absent DESTDIR="$work/a folder" PREFIX=/usr \
+    PROGRAM="$program" AUDIT="$work/built-audit"
 find 'a folder' -type f -printf '%m %P\n' | LC_ALL=C sort >files
 same 'what is installed, and its modes' "$(cat files)" \
     '644 usr/share/bash-completion/completions/luksrd
