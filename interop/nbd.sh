@@ -251,9 +251,9 @@ images() {
 }
 with images
 
-# While the volume is served, no piece of its passphrase is in memory, but for one that is an argument; the volume key
-# is, which shows that it would be found.
-head -c 200 /dev/urandom | od -An -v -tx1 | tr -d ' \n' >secret
+# While the volume is served, no piece of its passphrase, of 80 bytes, is in memory, but for one that is an argument;
+# the volume key is, which shows that it would be found.
+head -c 40 /dev/urandom | od -An -v -tx1 | tr -d ' \n' >secret
 cp "$volume1" remembered
 run_cryptsetup luksAddKey --pbkdf-force-iterations 1000 --key-file pass remembered secret
 run_cryptsetup luksDump --dump-volume-key --volume-key-file volume_key --key-file pass remembered
@@ -404,8 +404,9 @@ damaged() {
             same "$build, $way, $header: the text" "$status $(sha256sum <copy)" "0 $(sha256sum <text)"
             ;;
         *)
-            same "$build, $way, $header: status" $status 1
-            says "$header" "$header: $(cat text.err)"
+            # one check, as above, since how many headers are refused differs from run to run
+            grep -qF -- "$header: $(cat text.err)" said
+            same "$build, $way, $header: status, and 0 if it says the same" "$status $?" '1 0'
             ;;
         esac
     done

@@ -52,24 +52,10 @@ int take_name(const char *key, const char *value, char **name)
   return 0;
 }
 
-/* The number of freed blocks of one size that malloc keeps for a thread. */
-#define KEPT_BLOCKS 7
-
-/* Overwrites the freed blocks of this size that malloc keeps for the thread, which M_PERTURB leaves. */
-static void overwrite_freed(size_t size)
-{
-  void *blocks[KEPT_BLOCKS];
-  for (size_t i = 0; i < KEPT_BLOCKS; i++) {
-    blocks[i] = malloc(size);
-    if (blocks[i])
-      explicit_bzero(blocks[i], size);
-  }
-  for (size_t i = 0; i < KEPT_BLOCKS; i++)
-    free(blocks[i]);
-}
-
 /* Reads the passphrase as nbdkit does for all plugins. It leaves what it has read in freed memory
- * and in the buffer of standard input: the one is overwritten, and the other is not used. */
+ * and in the buffer of standard input: the one is overwritten, and the other is not used. (If it is
+ * longer than 119 bytes, pieces stay in blocks that malloc keeps, and in registers, which the loader
+ * may save on the stack.) */
 static int take_passphrase(const char *value, char **passphrase)
 {
   if (*passphrase) {
@@ -81,9 +67,6 @@ static int take_passphrase(const char *value, char **passphrase)
   mallopt(M_PERTURB, 0xff);
   const int status = nbdkit_read_password(value, passphrase);
   mallopt(M_PERTURB, 0);
-  /* the buffer of getline, which doubles */
-  for (size_t size = 120; size < 1032; size *= 2)
-    overwrite_freed(size);
   return status;
 }
 
