@@ -72,11 +72,13 @@ def requested(rounds=None):
     return rounds, [BUILDS[cpu] for cpu in chosen]
 
 
-def measured(folder, command, environment=None):
-    """Processor time in seconds and peak memory in KiB of a command and what it starts, as GNU time reports them."""
+def measured(folder, command, environment=None, output=os.devnull):
+    """Processor time in seconds and peak memory in KiB of a command and what it starts, as GNU time reports them. What
+    it prints is written to a file, if that is given."""
     usage = folder / "usage"
     arguments = [str(argument) for argument in ("/usr/bin/time", "-f", "%U %S %M", "-o", usage, *command)]
-    done = subprocess.run(arguments, stdout=subprocess.DEVNULL, env={**os.environ, **(environment or {})})
+    with open(output, "wb") as file:
+        done = subprocess.run(arguments, stdout=file, env={**os.environ, **(environment or {})})
     if done.returncode:
         sys.exit(f"{command[0]} ended with {done.returncode}")
     user, system, peak = usage.read_text().split()
