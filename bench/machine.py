@@ -4,9 +4,9 @@ import os
 import pathlib
 import time
 
-# The processor's features by which the compared programs choose their code, and `hypervisor`, which a virtual machine
-# has.
-FLAGS = ("aes", "avx", "avx2", "avx512f", "gfni", "hypervisor", "pclmulqdq", "sha_ni", "ssse3", "vaes", "vpclmulqdq")
+# The processor's features by which OpenSSL and others choose their code for AES and SHA, and `hypervisor`, which a
+# virtual machine has.
+FLAGS = ("aes", "avx2", "avx512f", "hypervisor", "sha_ni", "ssse3", "vaes")
 
 
 def processor():

@@ -21,8 +21,10 @@ def by_machine(results, name):
 
 def by_version(results, name):
     """The last run of a measurement for each version of luksrd, on any machine: for what is the same on all."""
-    last = {run["version"]: run for _, run in sorted(by_machine(results, name), key=lambda it: (it[1]["date"], it[0]))}
-    return sorted(last.items(), key=lambda it: [int(part) for part in it[0].split(".")])
+    in_order = sorted(by_machine(results, name), key=lambda it: (it[1]["date"], it[0]))
+    last = {run["version"]: (at, run) for at, run in in_order}
+    versions = sorted(last, key=lambda version: [int(part) for part in version.split(".")])
+    return [(f"{version}, on {last[version][0]}", last[version][1]) for version in versions]
 
 
 def last_version(results, name):
