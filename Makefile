@@ -274,6 +274,7 @@ test: toolchain
 	tests/gate
 
 # What the measurements need, before the first of them begins. MACHINE and AS_BUILT reach them by the environment.
+# bench/reads, for reads at random offsets, is measured once there is such a script.
 BENCH_TOOLS := cryptsetup valgrind python3 cc openssl /usr/bin/time qemu-img nbdkit nbdcopy grub-fstest gnuplot
 MACHINE ?= $(shell uname -n)
 
