@@ -85,20 +85,27 @@ joined_more f a (suc b) =
     rw next (ap (λ x. x ++ f (a + b)) (joined_more f a b) ∙ append_assoc (joined f a) (joined (λ n. f (a + n)) b)
     (f (a + b)))
 
+-- what is left after n more blocks were written
+pub left_more : (old new piece : List ℕ) (at k j n : ℕ) → at ≡ 16 * j → k ≡ 16 * n
+    → drop (16 * j) new ≡ drop (16 * j) old → 16 * j + 16 * n ≤ length new → length piece ≡ 16 * n
+    → drop (16 * (j + n)) (put_mid at k new piece) ≡ drop (16 * (j + n)) old
+left_more old new piece at k j n index size left capacity long =
+    let next = 16 * (j + n) in
+    let split : next ≡ 16 * j + 16 * n = omega arith in
+    let rest : drop next new ≡ drop next old =
+    rw (split, ← drop-drop (16 * n) (16 * j) new, ← drop-drop (16 * n) (16 * j) old) (ap (drop (16 * n)) left) in
+    drop-put_mid at k new piece next (omega arith) (omega arith) (omega arith) ∙ rest
+
 -- a data unit with n more blocks done at once
 done_many : (f : ℕ → List ℕ) (old new piece : List ℕ) (at k j n : ℕ) → at ≡ 16 * j → k ≡ 16 * n
     → IsDoneBefore f old new j → 16 * j + 16 * n ≤ length new → length piece ≡ 16 * n
     → piece ≡ joined (λ m. f (j + m)) n → IsDoneBefore f old (put_mid at k new piece) (j + n)
 done_many f old new piece at k j n index size before capacity long is =
-    let next = 16 * (j + n) in
-    let split : next ≡ 16 * j + 16 * n = omega arith in
-    let rest : drop next new ≡ drop next old =
-    rw (split, ← drop-drop (16 * n) (16 * j) new, ← drop-drop (16 * n) (16 * j) old) (ap (drop (16 * n)) before.left) in
     let start : take at new ≡ joined f j = ap (λ i. take i new) index ∙ before.done in
     record {
-      done = take-put_mid at k new piece next (omega arith) (omega arith)
+      done = take-put_mid at k new piece (16 * (j + n)) (omega arith) (omega arith)
           ∙ (λ i. start i ++ is i) ∙ sym (joined_more f j n);
-      left = drop-put_mid at k new piece next (omega arith) (omega arith) (omega arith) ∙ rest;
+      left = left_more old new piece at k j n index size before.left capacity long;
     }
 
 pub done_more : (f : ℕ → List ℕ) (old new piece : List ℕ) (j : ℕ) → IsDoneBefore f old new j → 16 * j + 16 ≤ length new
@@ -194,14 +201,21 @@ from_blocks unit f n long same =
 
 -- ---- tweaks
 
-pub tweak_more : (key : List ℕ) (number j n : ℕ) → tweak_after (tweak_of key number j) n ≡ tweak_of key number (j + n)
-unfolding tweak_of tweak_after
-tweak_more key number j zero =
+pub tweak_more : (tweak : List ℕ) (j n : ℕ) → tweak_after (tweak_after tweak j) n ≡ tweak_after tweak (j + n)
+unfolding tweak_after
+tweak_more tweak j zero =
     let none : j + 0 ≡ j = omega arith in
     rw none refl
-tweak_more key number j (suc n) =
+tweak_more tweak j (suc n) =
     let next : j + suc n ≡ suc (j + n) = omega arith in
-    rw next (ap doubled (tweak_more key number j n))
+    rw next (ap doubled (tweak_more tweak j n))
+
+-- the tweaks of a data unit, from that of its first block on
+pub tweaks_of_unit : (key tweak : List ℕ) (number n : ℕ) → tweak ≡ tweak_of key number 0
+    → tweak_after tweak n ≡ tweak_of key number n
+unfolding tweak_of tweak_after
+tweaks_of_unit key tweak number zero first = first
+tweaks_of_unit key tweak number (suc n) first = ap doubled (tweaks_of_unit key tweak number n first)
 
 pub doubled_len : (tweak : List ℕ) → length (doubled tweak) ≡ 16
 unfolding doubled
@@ -255,6 +269,34 @@ block_of_part xs n size low =
     ap (λ k. take 16 (drop (16 * n) (take k xs))) split
     ∙ ap (take 16) (drop-take (16 * n) (size - 16 * n) xs)
     ∙ take-take 16 (size - 16 * n) (drop (16 * n) xs) (omega arith)
+
+-- the first n blocks are done at once
+pub progress_first : (g : List ℕ → List ℕ → List ℕ) (t after : ℕ → List ℕ) (unit piece own : List ℕ) (n k : ℕ)
+    → IsBytes unit → length piece ≡ 16 * n → k ≡ n
+    → piece ≡ joined (λ m. g (after m) (block_at (take (16 * n) unit) m)) k
+    → own ≡ after k → ((m : ℕ) → m ≤ n → after m ≡ t m)
+    → IsProgress g t unit (piece ++ drop (16 * n) unit) own n
+progress_first g t after unit piece own n k bytes long count is is_own same =
+    let part : ℕ → List ℕ = λ m. g (after m) (block_at (take (16 * n) unit) m) in
+    let f : ℕ → List ℕ = λ m. g (t m) (block_at unit m) in
+    let blocks : joined part n ≡ joined f n =
+    joined_same part f n
+    (λ m low i. g (same m (omega arith) i) (block_of_part unit m (16 * n) (omega arith) i)) in
+    record {
+      bytes = bytes;
+      next = is_own ∙ ap after count ∙ same n (omega arith);
+      done = record {
+        done = take_at piece (drop (16 * n) unit) (16 * n) long ∙ is ∙ ap (joined part) count ∙ blocks;
+        left = drop_at piece (drop (16 * n) unit) (16 * n) long;
+      };
+    }
+
+-- the blocks before those of the first part of a chain
+pub before_of_part : (iv unit : List ℕ) (n m : ℕ) → m ≤ n
+    → block_before iv (take (16 * n) unit) m ≡ block_before iv unit m
+unfolding block_before
+before_of_part iv unit n zero low = refl
+before_of_part iv unit n (suc m) low = block_of_part unit m (16 * n) (omega arith)
 
 -- a mask of zeros changes no block
 pub zero_mask : (unit zeros : List ℕ) (n : ℕ) → 16 * n + 16 ≤ length unit → ((i : ℕ) → slice_index zeros i ≡ 0)
