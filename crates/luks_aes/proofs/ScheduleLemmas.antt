@@ -1,13 +1,14 @@
 -- The key schedule as the code keeps it.
 use Rattle.std.proofs.Common.{◌≡◌, ℕ, zero, suc, ◌+◌, ◌-◌, ◌*◌, ◌/◌, ◌≤◌, ◌<◌, List, [], ◌∷◌, length, take}
-use Rattle.std.proofs.Common.{true, arith, refl, sym, ap, ◌∙◌}
+use Rattle.std.proofs.Common.{true, arith, refl, sym, ap, subst, ◌∙◌}
 use Rattle.std.specs.Prelude.{IsTrue, slice_index}
 use Rattle.std.proofs.lemmas.Bool.Decides.{nat_tests}
-use Rattle.std.proofs.lemmas.List.{get_or-take, length-take-le, length-append, take_all, take-take, take-append-le}
+use Rattle.std.proofs.lemmas.List.{get_or-take, length-append, take_all, take-take, take-append-le}
 use Rattle.luks_aes.specs.Aes.{is_aes_key_length, next_word, words_after, with_next_word, rounds_of, words_of}
 use Rattle.luks_aes.specs.Aes.{key_expansion}
 use Rattle.luks_aes.specs.Bytes.{IsBytes}
-use Rattle.luks_aes.specs.Schedule.{IsSchedule}
+use Rattle.luks_aes.specs.KeySchedule.{IsScheduleOf, IsAesKey, scheduled_key}
+use Rattle.luks_aes.specs.declared.key_schedule.KeySchedule.{KeySchedule}
 use Rattle.luks_aes.specs.Columns.{IsMultiplied}
 use Rattle.luks_aes.proofs.ColumnLemmas.{bytes_take}
 
@@ -58,55 +59,40 @@ expansion_begins key schedule is expanded =
     ∙ ap (take (4 * nk)) expanded
     ∙ rw (lengths.whole) (words_begin nk key (4 * (rounds_of key + 1) - nk))
 
-pub expanded_is : (key schedule inv_mixed : List ℕ) → IsTrue (is_aes_key_length (length key)) → IsBytes schedule
-    → IsMultiplied (14 ∷ 11 ∷ 13 ∷ 9 ∷ []) schedule inv_mixed 60
-    → take (16 * (rounds_of key + 1)) schedule ≡ key_expansion key → IsSchedule (words_of key) schedule inv_mixed
-expanded_is key schedule inv_mixed is bytes products expanded =
-    let lengths = key_length (length key) is in
-    let same : words_of key + 7 ≡ rounds_of key + 1 = omega arith in
-    record {
-      key_length = rw lengths.whole is;
-      expanded = rw same (expanded ∙ ap key_expansion (sym (expansion_begins key schedule is expanded)));
-      bytes = bytes;
-      products = products;
-    }
+-- the key of a key's schedule
+pub key_of_schedule : (key : List ℕ) (s : KeySchedule) → IsScheduleOf key s → scheduled_key s ≡ key
+key_of_schedule key s is =
+    let words : s.rounds - 6 ≡ words_of key = omega (arith, is.rounds) in
+    ap (λ n. take (4 * n) s.bytes) words ∙ expansion_begins key s.bytes is.key_length is.expanded
 
--- ---- a schedule that the code keeps, and its key
+pub expanded_is : (key : List ℕ) (s : KeySchedule) (inv_mixed : List ℕ) → IsScheduleOf key s → IsBytes s.bytes
+    → IsMultiplied (14 ∷ 11 ∷ 13 ∷ 9 ∷ []) s.bytes inv_mixed 60 → IsAesKey s inv_mixed
+expanded_is key s inv_mixed is bytes products = record {
+  schedule = subst (λ (k : List ℕ). IsScheduleOf k s) (sym (key_of_schedule key s is)) is;
+  bytes = bytes;
+  products = products;
+}
 
-module _ {words : ℕ} {schedule inv_mixed key : List ℕ} (len : length schedule ≡ 240)
-    (is : IsSchedule words schedule inv_mixed) (view : take (4 * words) schedule ≡ key) where
-  -- the number of words of the key that a schedule starts with
-  words_are : words_of (take (4 * words) schedule) ≡ words
-  words_are =
-      let lengths = key_length (4 * words) is.key_length in
-      let least = lengths.least in
-      let most = lengths.most in
-      rw (length-take-le (4 * words) schedule (omega arith)) (omega arith)
+-- ---- an expanded key
 
-  pub rounds_are : words + 6 ≡ rounds_of key
-  rounds_are = rw (← view, words_are) refl
+module _ {s : KeySchedule} {inv_mixed key : List ℕ} (is : IsAesKey s inv_mixed) (view : scheduled_key s ≡ key) where
+  pub schedule_is : IsScheduleOf key s
+  schedule_is = subst (λ (k : List ℕ). IsScheduleOf k s) view is.schedule
 
   -- the round keys of a key are among the 15 that fit into a schedule
   pub round_in_schedule : (n : ℕ) → n ≤ rounds_of key → n < 15
   round_in_schedule n low =
-      let most = (key_length (4 * words) is.key_length).most in
-      let rounds = rounds_are in
+      let most = (key_length (length key) schedule_is.key_length).most in
       omega arith
-
-  -- the schedule is the key's expansion
-  pub schedule_is : take (16 * (words + 6 + 1)) schedule ≡ key_expansion key
-  schedule_is =
-      let same : words + 6 + 1 ≡ words + 7 = omega arith in
-      rw same (is.expanded ∙ ap key_expansion view)
 
   -- the bytes of a round key in the schedule are those in the key's expansion
   pub round_byte : (n r c : ℕ) → n ≤ rounds_of key → r < 4 → c < 4
-      → slice_index schedule (r + 4 * (4 * n + c)) ≡ slice_index (key_expansion key) (r + 4 * (4 * n + c))
+      → slice_index s.bytes (r + 4 * (4 * n + c)) ≡ slice_index (key_expansion key) (r + 4 * (4 * n + c))
   round_byte n r c low row column =
       let i = r + 4 * (4 * n + c) in
-      let rounds = rounds_are in
-      sym (get_or-take (16 * (words + 6 + 1)) schedule i 0 (omega arith)) ∙ ap (λ l. slice_index l i) schedule_is
+      sym (get_or-take (16 * (rounds_of key + 1)) s.bytes i 0 (omega arith))
+      ∙ ap (λ l. slice_index l i) schedule_is.expanded
 
   -- a key consists of bytes, since it is a prefix of its schedule
   pub key_bytes : IsBytes key
-  key_bytes = rw (← view) (bytes_take (4 * words) schedule is.bytes)
+  key_bytes = rw (← view) (bytes_take (4 * (s.rounds - 6)) s.bytes is.bytes)

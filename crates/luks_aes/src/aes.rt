@@ -1,25 +1,24 @@
 //! A key of AES and its schedule.
 
-ghost use Rattle.std.specs.Prelude.{◌≡◌, ◌+◌, ◌*◌, ◌<◌, ◌≤◌, List, ℕ, take, length, Some, None};
+ghost use Rattle.std.specs.Prelude.{◌≡◌, ◌+◌, ◌*◌, ◌<◌, ◌≤◌, List, ℕ, length, Some, None};
 ghost use Rattle.std.specs.Prelude.{if◌then◌else◌, true};
 ghost use Rattle.luks_aes.specs.Aes.{encrypted, decrypted, is_aes_key_length, rounds_of};
 ghost use Rattle.luks_aes.specs.Aes.{key_expansion, cell};
 ghost use Rattle.luks_aes.specs.Bytes.{IsBytes};
 ghost use Rattle.luks_aes.specs.Columns.{key_byte, inv_mixed_key_byte};
-ghost use Rattle.luks_aes.specs.Schedule.{IsSchedule};
+ghost use Rattle.luks_aes.specs.KeySchedule.{IsScheduleOf, IsAesKey, scheduled_key};
 
-use crate::cipher::{cipher, inv_cipher};
+use crate::cipher::inv_cipher;
 use crate::inv_mixed::inv_mixed_words;
-use crate::schedule::{MAX_SCHEDULE_LEN, key_expansion};
+use crate::key_schedule::KeySchedule;
+use crate::schedule::MAX_SCHEDULE_LEN;
 use std::marker::Model;
 
 /// A key of AES-128, AES-192 or AES-256 (FIPS 197). Contracts see it as its bytes.
 #[derive(Drop)]
 pub struct AesKey {
-    // The key's length in words of 4 bytes.
-    words: usize,
-    // The key schedule, which starts with the key, followed by zeros.
-    schedule: [u8; MAX_SCHEDULE_LEN],
+    // The key schedule, which starts with the key.
+    schedule: KeySchedule,
     // Its words after InvMixColumns, for the inverse cipher.
     inv_mixed: [u8; MAX_SCHEDULE_LEN],
 }
@@ -27,9 +26,9 @@ pub struct AesKey {
 impl Model for AesKey {
     ghost Value = { List ℕ };
 
-    ghost view = { λ k. take (4 * k.words) k.schedule };
+    ghost view = { λ k. scheduled_key k.schedule };
 
-    ghost invariant = { λ k. IsSchedule k.words k.schedule k.inv_mixed };
+    ghost invariant = { λ k. IsAesKey k.schedule k.inv_mixed };
 }
 
 impl AesKey {
@@ -56,10 +55,9 @@ impl AesKey {
         requires { is_aes_key_length (length key.now) ≡ true }
         ensures { result ≡ key.now }
     {
-        let schedule = key_expansion(key);
-        let inv_mixed = inv_mixed_words(&schedule);
+        let schedule = KeySchedule::expanded(key);
+        let inv_mixed = inv_mixed_words(&schedule.bytes);
         AesKey {
-            words: key.len() / 4,
             schedule,
             inv_mixed,
         }
@@ -70,9 +68,7 @@ impl AesKey {
         ensures value { block.new ≡ encrypted self.now block.old }
         ensures undone { decrypted self.now block.new ≡ block.old }
     {
-        let rounds = self.words + 6;
-        let schedule = &self.schedule[..16 * (rounds + 1)];
-        *block = cipher(*block, rounds, schedule);
+        self.schedule.encrypt_block(block);
     }
 
     /// Decrypts the block (FIPS 197, 5.3).
@@ -80,14 +76,17 @@ impl AesKey {
         ensures value { block.new ≡ decrypted self.now block.old }
         ensures undone { encrypted self.now block.new ≡ block.old }
     {
-        let rounds = self.words + 6;
-        let end = 16 * (rounds + 1);
-        *block = inv_cipher(
-            *block,
-            rounds,
-            &self.schedule[..end],
-            &self.inv_mixed[..end],
-        );
+        let rounds = self.rounds();
+        let round_keys = self.schedule.round_keys(rounds);
+        let inv_mixed = &self.inv_mixed[..16 * (rounds + 1)];
+        *block = inv_cipher(*block, rounds, round_keys, inv_mixed);
+    }
+
+    /// The key schedule (5.2).
+    pub fn schedule(&self) -> &KeySchedule
+        ensures { IsScheduleOf self.now result.now }
+    {
+        &self.schedule
     }
 
     /// The number of rounds (5).
@@ -97,7 +96,7 @@ impl AesKey {
         ensures most { result ≤ 14 }
         ensures key_bytes { IsBytes self.now }
     {
-        6 + self.words
+        self.schedule.rounds as usize
     }
 
     /// Round key `n` of the schedule (5.2).
@@ -106,7 +105,7 @@ impl AesKey {
         ensures { (r c : ℕ) → r < 4 → c < 4
             → cell result r c ≡ key_byte (key_expansion self.now) n r c }
     {
-        round_key(&self.schedule, n)
+        round_key(&self.schedule.bytes, n)
     }
 
     /// Round key `n` after InvMixColumns (5.3.5).

@@ -1,6 +1,6 @@
 //! A key schedule of plain numbers, which another program can keep.
 
-ghost use Rattle.std.specs.Prelude.{◌≡◌, ◌≤◌, List, ℕ, length, true};
+ghost use Rattle.std.specs.Prelude.{◌≡◌, ◌+◌, ◌*◌, ◌≤◌, List, ℕ, length, take, true};
 ghost use Rattle.luks_aes.specs.Aes.{encrypted, is_aes_key_length, rounds_of};
 ghost use Rattle.luks_aes.specs.KeySchedule.{IsScheduleOf};
 
@@ -17,7 +17,7 @@ const MAX_ROUNDS: usize = 14;
 pub struct KeySchedule {
     /// The number of rounds.
     pub rounds: u64,
-    /// The words, followed by zeros.
+    /// The words. Those after the last round key are not used.
     pub bytes: [u8; 240],
 }
 
@@ -46,12 +46,21 @@ impl KeySchedule {
         }
     }
 
+    /// The round keys for so many rounds, one after the other.
+    pub(crate) fn round_keys(&self, rounds: usize) -> &[u8]
+        requires { rounds ≤ MAX_ROUNDS }
+        ensures value { result.now ≡ take (16 * (rounds + 1)) self.now.bytes }
+        ensures len { length result.now ≡ 16 * (rounds + 1) }
+    {
+        &self.bytes[..16 * (rounds + 1)]
+    }
+
     /// Encrypts the block (5.1) under the key of this schedule, if it is one.
     pub fn encrypt_block(&self, block: &mut [u8; 16])
         ensures { (key : List ℕ) → IsScheduleOf key self.now
             → block.new ≡ encrypted key block.old }
     {
         let rounds = self.rounds();
-        *block = cipher(*block, rounds, &self.bytes[..16 * (rounds + 1)]);
+        *block = cipher(*block, rounds, self.round_keys(rounds));
     }
 }

@@ -104,7 +104,7 @@ fn expand(key: &[u8], schedule: &mut [u8])
     }
 }
 
-/// The schedule of a key, followed by zeros.
+/// The schedule of a key, at the start of an array that has space for the longest one.
 pub fn key_expansion(key: &[u8]) -> [u8; MAX_SCHEDULE_LEN]
     requires { IsTrue (is_aes_key_length (length key.now)) }
     ensures { take (16 * (rounds_of key.now + 1)) result ≡ key_expansion key.now }

@@ -29,7 +29,7 @@ pub struct RoundKeys {
     pub rounds: u64,
     /// The first round key.
     pub first: RoundKey,
-    /// Those between.
+    /// Those between. Entries after the last of them are not used.
     pub between: [RoundKey; 13],
     /// The last one.
     pub last: RoundKey,

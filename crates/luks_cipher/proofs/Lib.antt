@@ -1,4 +1,5 @@
 pub mod ModeLemmas
 pub mod UnitsUndone
 pub mod UnitLemmas
+pub mod DoublingLemmas
 pub mod PairLemmas

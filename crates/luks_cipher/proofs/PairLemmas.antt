@@ -5,11 +5,11 @@ use Rattle.std.proofs.lemmas.List.{length-take, take_all, take_at, drop_at, drop
 use Rattle.std.proofs.lemmas.List.{take-take, take-append-le, drop_all}
 use Rattle.std.proofs.lemmas.Slice.{take-put_mid}
 use borrow.Rule.Slice.PartMut.{mid_of, put_mid, same_len_mid}
-use Rattle.luks_cipher.specs.Xts.{block_at, joined, tweak_after, tweak_of}
+use Rattle.luks_cipher.specs.Xts.{block_at, block_decrypted, joined, tweak_after, tweak_of, xts_decrypted}
 use Rattle.luks_cipher.specs.Sector.{sector_decrypted, units_decrypted}
 use Rattle.luks_cipher.specs.declared.mode.Mode.{Mode}
 use Rattle.luks_cipher.specs.Cbc.{cbc_decrypted}
-use Rattle.luks_cipher.proofs.UnitLemmas.{block_of_part, from_blocks, joined_more, tweak_more}
+use Rattle.luks_cipher.proofs.UnitLemmas.{block_of_part, from_blocks, joined_more, tweaks_of_unit}
 use Rattle.luks_cipher.proofs.UnitsUndone.{joined_same}
 
 -- ---- two data units of 512 bytes
@@ -79,8 +79,17 @@ equal_chains key v w v2 w2 a b new first second is =
 pub unit_tweaks : (key tweak tweaks : List ℕ) (number : ℕ) → tweak ≡ tweak_of key number 0
     → ((j : ℕ) → j < 32 → block_at tweaks j ≡ tweak_after tweak j)
     → (j : ℕ) → j < 32 → block_at tweaks j ≡ tweak_of key number j
-unit_tweaks key tweak tweaks number first each j low =
-    each j low ∙ ap (λ t. tweak_after t j) first ∙ tweak_more key number 0 j ∙ ap (tweak_of key number) (omega arith)
+unit_tweaks key tweak tweaks number first each j low = each j low ∙ tweaks_of_unit key tweak number j first
+
+-- a data unit that is decrypted under the tweaks from the first on
+pub decrypted_from : (key tweak unit : List ℕ) (number : ℕ) → tweak ≡ tweak_of key number 0
+    → joined (λ n. block_decrypted key (tweak_after tweak n) (block_at unit n)) (length unit / 16)
+    ≡ xts_decrypted key number unit
+unfolding xts_decrypted
+decrypted_from key tweak unit number first =
+    joined_same (λ n. block_decrypted key (tweak_after tweak n) (block_at unit n))
+    (λ n. block_decrypted key (tweak_of key number n) (block_at unit n)) (length unit / 16)
+    (λ n low. ap (λ t. block_decrypted key t (block_at unit n)) (tweaks_of_unit key tweak number n first))
 
 -- ---- data units that follow one another
 

@@ -105,11 +105,13 @@ fn decrypt_batch(keys: &RoundKeys, before: [u8; 16], batch: &mut [u8]) -> [u8; 1
 }
 
 /// Decrypts a data unit of whole batches in place by CBC (NIST SP 800-38A, 6.2) under the IV and
-/// the key whose round keys these are, if they are.
-pub(crate) fn decrypt_batches(keys: &RoundKeys, iv: [u8; 16], unit: &mut [u8])
+/// the key whose round keys these are, if they are. Returns the last cipher block, or the IV of an
+/// empty data unit.
+pub(crate) fn decrypt_batches(keys: &RoundKeys, iv: [u8; 16], unit: &mut [u8]) -> [u8; 16]
     requires { length unit.old % 512 ≡ 0 }
-    ensures { (key : List ℕ) → IsBatchKey key keys.now
+    ensures value { (key : List ℕ) → IsBatchKey key keys.now
         → unit.new ≡ cbc_decrypted key iv unit.old }
+    ensures next { result ≡ block_before iv unit.old (length unit.old / 16) }
 {
     let mut before = iv;
     let blocks = unit.len() / 16;
@@ -120,6 +122,7 @@ pub(crate) fn decrypt_batches(keys: &RoundKeys, iv: [u8; 16], unit: &mut [u8])
         before = next;
         done += count;
     }
+    before
 }
 
 /// Encrypts the data unit, whole blocks of 16 bytes, in place by CBC under the key and the IV (NIST
@@ -149,18 +152,11 @@ pub fn decrypt_chain(key: &BatchKey, iv: [u8; 16], unit: &mut [u8])
     ensures undone { cbc_encrypted key.now iv unit.new ≡ unit.old }
 {
     let block_key = key.key();
-    let keys = key.round_keys();
     holds_bytes(block_key);
-    let mut before = iv;
     let blocks = unit.len() / 16;
-    let mut done = 0;
-    'batches: while blocks - done >= 32 {
-        let count = batch_size(blocks - done);
-        let next = decrypt_batch(keys, before, &mut unit[16 * done..16 * done + 16 * count]);
-        before = next;
-        done += count;
-    }
-    'rest: for j in done..blocks {
+    let whole = blocks / 32 * 32;
+    let mut before = decrypt_batches(key.round_keys(), iv, &mut unit[..16 * whole]);
+    'rest: for j in whole..blocks {
         let next = decrypt_link(block_key, before, &mut unit[16 * j..16 * j + 16]);
         before = next;
     }

@@ -84,7 +84,7 @@ impl ExpandedKeys {
     {
         let keys = UnitKeys {
             mode,
-            data: &self.data,
+            round_keys: &self.data,
             number: &self.number,
         };
         keys.decrypt_units(first, size, units);

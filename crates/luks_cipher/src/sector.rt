@@ -1,17 +1,18 @@
 //! A key for the sectors of a disk, in one of the modes.
 
-ghost use Rattle.std.specs.Prelude.{◌≡◌, ◌%◌, ◌≤◌, ◌++◌, List, ℕ, length, take, drop, Some, None};
+ghost use Rattle.std.specs.Prelude.{◌≡◌, ◌%◌, ◌≤◌, List, ℕ, length, Some, None};
 ghost use Rattle.std.specs.Prelude.{if◌then◌else◌, true};
 ghost use Rattle.luks_cipher.specs.declared.mode.Mode.{Mode};
+ghost use Rattle.luks_cipher.specs.Expanded.{AreKeysOf};
 ghost use Rattle.luks_cipher.specs.Sector.{is_mode_key_length, sector_encrypted, sector_decrypted};
 ghost use Rattle.luks_cipher.specs.Sector.{units_decrypted};
 ghost use Rattle.luks_cipher.specs.SectorKey.{keys_mode, key_bytes_of, IsSectorKey};
 ghost use Rattle.luks_aes.specs.Bytes.{IsBytes};
 ghost use Rattle.sha2.specs.Sha256.{sha256};
-ghost use Rattle.std.specs.Int.{w128, to_le_bytes};
 
-use crate::cbc::{decrypt_chain, decrypt_pair, encrypt_chain};
+use crate::cbc::{decrypt_chain, encrypt_chain};
 use crate::mode::Mode;
+use crate::units::{UnitKeys, number_block};
 use crate::xts::XtsKey;
 use luks_aes::AesKey;
 use luks_aes_batch::BatchKey;
@@ -46,13 +47,6 @@ fn iv_key(key: &[u8]) -> AesKey
     ensures { result ≡ sha256 key.now }
 {
     AesKey::expanded(&Sha256::digest(key))
-}
-
-// The IV of plain64: the sector's unit number, little-endian.
-fn number_block(number: u64) -> [u8; 16]
-    ensures { result ≡ to_le_bytes w128 number }
-{
-    u128::from(number).to_le_bytes()
 }
 
 // The cipher of each mode, by functions that are not inlined, so that the stack has the copies of
@@ -173,63 +167,25 @@ impl SectorCipher {
         }
     }
 
-    // Decrypts two sectors of 512 bytes in place, each under its own unit number.
-    fn decrypt_pair(&self, first: u64, second: u64, pair: &mut [u8])
-        requires { length pair.old ≡ 1024 }
-        ensures { pair.new
-            ≡ sector_decrypted self.now.0 self.now.1 first (take 512 pair.old)
-            ++ sector_decrypted self.now.0 self.now.1 second (drop 512 pair.old) }
+    // The same keys as they are used for whole batches.
+    fn unit_keys(&self) -> UnitKeys<'_>
+        ensures mode { result.mode ≡ self.now.0 }
+        ensures keys { AreKeysOf self.now.1 self.now.0 result.round_keys.now
+            result.number.now }
     {
         match &self.keys {
-            Keys::XtsPlain64(key) => key.decrypt_pair(first, second, pair),
-            Keys::XtsPlain(key) => {
-                key.decrypt_pair(first % 0x1_0000_0000, second % 0x1_0000_0000, pair);
-            }
-            Keys::CbcEssivSha256(key, iv_key) => {
-                let mut iv = number_block(first);
-                iv_key.encrypt_block(&mut iv);
-                let mut next_iv = number_block(second);
-                iv_key.encrypt_block(&mut next_iv);
-                decrypt_pair(key, iv, next_iv, pair);
-            }
-            Keys::CbcPlain64(key) => {
-                decrypt_pair(key, number_block(first), number_block(second), pair);
-            }
-        }
-    }
-
-    // Decrypts sectors of 512 bytes as `decrypt_units` below does, two at a time.
-    fn decrypt_in_pairs(&self, first: u64, units: &mut [u8])
-        requires { length units.old % 512 ≡ 0 }
-        ensures { units.new ≡ units_decrypted self.now.0 self.now.1 first 512 units.old }
-    {
-        let len = units.len();
-        let pairs = len / 1024;
-        'pairs: for i in 0..pairs {
-            let number = first.wrapping_add(2 * i as u64);
-            let pair = &mut units[1024 * i..1024 * i + 1024];
-            self.decrypt_pair(number, number.wrapping_add(1), pair);
-        }
-        if len % 1024 == 0 {
-            return;
-        }
-        let number = first.wrapping_add(2 * pairs as u64);
-        self.decrypt_unit(number, &mut units[1024 * pairs..1024 * pairs + 512]);
-    }
-
-    // Decrypts sectors as `decrypt_units` below does, one at a time.
-    fn decrypt_in_turn(&self, first: u64, size: usize, units: &mut [u8])
-        requires multiple { size % 512 ≡ 0 }
-        requires shortest { 512 ≤ size }
-        requires longest { size ≤ 4096 }
-        requires whole { length units.old % size ≡ 0 }
-        ensures { units.new ≡ units_decrypted self.now.0 self.now.1 first size units.old }
-    {
-        let step = (size / 512) as u64;
-        let count = units.len() / size;
-        'units: for i in 0..count {
-            let number = first.wrapping_add((i as u64).wrapping_mul(step));
-            self.decrypt_unit(number, &mut units[i * size..i * size + size]);
+            Keys::XtsPlain64(key) => key.unit_keys(Mode::XtsPlain64),
+            Keys::XtsPlain(key) => key.unit_keys(Mode::XtsPlain),
+            Keys::CbcEssivSha256(key, iv_key) => UnitKeys {
+                mode: Mode::CbcEssivSha256,
+                round_keys: key.round_keys(),
+                number: iv_key.schedule(),
+            },
+            Keys::CbcPlain64(key) => UnitKeys {
+                mode: Mode::CbcPlain64,
+                round_keys: key.round_keys(),
+                number: key.key().schedule(),
+            },
         }
     }
 
@@ -244,10 +200,6 @@ impl SectorCipher {
         requires whole { length units.old % size ≡ 0 }
         ensures { units.new ≡ units_decrypted self.now.0 self.now.1 first size units.old }
     {
-        if size == 512 {
-            self.decrypt_in_pairs(first, units);
-        } else {
-            self.decrypt_in_turn(first, size, units);
-        }
+        self.unit_keys().decrypt_units(first, size, units);
     }
 }

@@ -1,4 +1,4 @@
-//! Decryption of sectors by expanded keys.
+//! Decryption of sectors that follow one another, by expanded keys.
 
 ghost use Rattle.std.specs.Prelude.{◌≡◌, ◌%◌, ◌≤◌, ◌++◌, List, ℕ, length, take, drop};
 ghost use Rattle.std.specs.Int.{w128, to_le_bytes};
@@ -19,7 +19,7 @@ use std::simd::prelude::*;
 #[derive(Drop)]
 pub(crate) struct UnitKeys<'a> {
     pub(crate) mode: Mode,
-    pub(crate) data: &'a RoundKeys,
+    pub(crate) round_keys: &'a RoundKeys,
     pub(crate) number: &'a KeySchedule,
 }
 
@@ -33,8 +33,8 @@ fn encrypted_number(schedule: &KeySchedule, number: u64) -> [u8; 16]
     block
 }
 
-// The IV of plain64: the sector's unit number, little-endian.
-fn number_block(number: u64) -> [u8; 16]
+/// The IV of plain64: the sector's unit number, little-endian.
+pub(crate) fn number_block(number: u64) -> [u8; 16]
     ensures { result ≡ to_le_bytes w128 number }
 {
     u128::from(number).to_le_bytes()
@@ -45,31 +45,32 @@ impl<'a> UnitKeys<'a> {
     fn decrypt_xts(&self, number: u64, unit: &mut [u8])
         requires { length unit.old % 512 ≡ 0 }
         ensures { (key : List ℕ)
-            → AreKeysOf key Mode.XtsPlain64 self.now.data.now self.now.number.now
+            → AreKeysOf key Mode.XtsPlain64 self.now.round_keys.now self.now.number.now
             → unit.new ≡ sector_decrypted Mode.XtsPlain64 key number unit.old }
     {
         let tweak = u8x16::from_array(encrypted_number(self.number, number));
-        xts::decrypt_batches(self.data, tweak, unit);
+        xts::decrypt_batches(self.round_keys, tweak, unit);
     }
 
     // Decrypts two data units of XTS of 512 bytes.
     fn decrypt_xts_pair(&self, first: u64, second: u64, pair: &mut [u8])
         requires { length pair.old ≡ 1024 }
         ensures { (key : List ℕ)
-            → AreKeysOf key Mode.XtsPlain64 self.now.data.now self.now.number.now
+            → AreKeysOf key Mode.XtsPlain64 self.now.round_keys.now self.now.number.now
             → pair.new
             ≡ sector_decrypted Mode.XtsPlain64 key first (take 512 pair.old)
             ++ sector_decrypted Mode.XtsPlain64 key second (drop 512 pair.old) }
     {
         let tweak = u8x16::from_array(encrypted_number(self.number, first));
         let next = u8x16::from_array(encrypted_number(self.number, second));
-        xts::decrypt_both(self.data, tweak, next, pair);
+        xts::decrypt_both(self.round_keys, tweak, next, pair);
     }
 
     // Decrypts a sector of whole batches in place.
     fn decrypt_unit(&self, number: u64, unit: &mut [u8])
         requires { length unit.old % 512 ≡ 0 }
-        ensures { (key : List ℕ) → AreKeysOf key self.now.mode self.now.data.now self.now.number.now
+        ensures { (key : List ℕ)
+            → AreKeysOf key self.now.mode self.now.round_keys.now self.now.number.now
             → unit.new ≡ sector_decrypted self.now.mode key number unit.old }
     {
         match self.mode {
@@ -77,16 +78,19 @@ impl<'a> UnitKeys<'a> {
             Mode::XtsPlain => self.decrypt_xts(number % 0x1_0000_0000, unit),
             Mode::CbcEssivSha256 => {
                 let iv = encrypted_number(self.number, number);
-                cbc::decrypt_batches(self.data, iv, unit);
+                cbc::decrypt_batches(self.round_keys, iv, unit);
             }
-            Mode::CbcPlain64 => cbc::decrypt_batches(self.data, number_block(number), unit),
+            Mode::CbcPlain64 => {
+                cbc::decrypt_batches(self.round_keys, number_block(number), unit);
+            }
         }
     }
 
     // Decrypts two sectors of 512 bytes in place, each under its own unit number.
     fn decrypt_pair(&self, first: u64, second: u64, pair: &mut [u8])
         requires { length pair.old ≡ 1024 }
-        ensures { (key : List ℕ) → AreKeysOf key self.now.mode self.now.data.now self.now.number.now
+        ensures { (key : List ℕ)
+            → AreKeysOf key self.now.mode self.now.round_keys.now self.now.number.now
             → pair.new
             ≡ sector_decrypted self.now.mode key first (take 512 pair.old)
             ++ sector_decrypted self.now.mode key second (drop 512 pair.old) }
@@ -99,10 +103,15 @@ impl<'a> UnitKeys<'a> {
             Mode::CbcEssivSha256 => {
                 let iv = encrypted_number(self.number, first);
                 let next_iv = encrypted_number(self.number, second);
-                cbc::decrypt_both(self.data, iv, next_iv, pair);
+                cbc::decrypt_both(self.round_keys, iv, next_iv, pair);
             }
             Mode::CbcPlain64 => {
-                cbc::decrypt_both(self.data, number_block(first), number_block(second), pair);
+                cbc::decrypt_both(
+                    self.round_keys,
+                    number_block(first),
+                    number_block(second),
+                    pair,
+                );
             }
         }
     }
@@ -110,7 +119,8 @@ impl<'a> UnitKeys<'a> {
     // Decrypts sectors of 512 bytes as `decrypt_units` below does, two at a time.
     fn decrypt_in_pairs(&self, first: u64, units: &mut [u8])
         requires { length units.old % 512 ≡ 0 }
-        ensures { (key : List ℕ) → AreKeysOf key self.now.mode self.now.data.now self.now.number.now
+        ensures { (key : List ℕ)
+            → AreKeysOf key self.now.mode self.now.round_keys.now self.now.number.now
             → units.new ≡ units_decrypted self.now.mode key first 512 units.old }
     {
         let len = units.len();
@@ -133,7 +143,8 @@ impl<'a> UnitKeys<'a> {
         requires shortest { 512 ≤ size }
         requires longest { size ≤ 4096 }
         requires whole { length units.old % size ≡ 0 }
-        ensures { (key : List ℕ) → AreKeysOf key self.now.mode self.now.data.now self.now.number.now
+        ensures { (key : List ℕ)
+            → AreKeysOf key self.now.mode self.now.round_keys.now self.now.number.now
             → units.new ≡ units_decrypted self.now.mode key first size units.old }
     {
         let step = (size / 512) as u64;
@@ -151,7 +162,8 @@ impl<'a> UnitKeys<'a> {
         requires shortest { 512 ≤ size }
         requires longest { size ≤ 4096 }
         requires whole { length units.old % size ≡ 0 }
-        ensures { (key : List ℕ) → AreKeysOf key self.now.mode self.now.data.now self.now.number.now
+        ensures { (key : List ℕ)
+            → AreKeysOf key self.now.mode self.now.round_keys.now self.now.number.now
             → units.new ≡ units_decrypted self.now.mode key first size units.old }
     {
         if size == 512 {

@@ -3,12 +3,15 @@
 ghost use Rattle.std.specs.Prelude.{◌≡◌, ◌+◌, ◌*◌, ◌/◌, ◌%◌, ◌<◌, ◌≤◌, List, ℕ, ◌++◌, length};
 ghost use Rattle.std.specs.Prelude.{take, drop, Some, None, if◌then◌else◌, true};
 ghost use Rattle.luks_aes_batch.specs.RoundKeys.{IsBatchKey};
+ghost use Rattle.luks_cipher.specs.Expanded.{AreXtsKeys};
 ghost use Rattle.luks_cipher.specs.Xts.{data_key, doubled, tweak_of, block_at, joined};
 ghost use Rattle.luks_cipher.specs.Xts.{block_encrypted, block_decrypted, xts_encrypted};
 ghost use Rattle.luks_cipher.specs.Xts.{xts_decrypted, is_xts_key_length, tweak_after, IsKeyPair};
 ghost use Rattle.luks_aes.specs.Bytes.{IsBytes};
 
 use crate::block::{batch_size, block_of, xor_vector};
+use crate::mode::Mode;
+use crate::units::UnitKeys;
 use luks_aes::AesKey;
 use luks_aes_batch::{BatchKey, RoundKeys};
 use std::marker::Model;
@@ -76,24 +79,28 @@ fn decrypt_batch(keys: &RoundKeys, tweak: u8x16, tweaks: &mut [u8], batch: &mut 
     next
 }
 
-/// Decrypts a data unit of whole batches in place (IEEE 1619, 5.4.2), with the tweak of its first
-/// block, under the key whose round keys for the data these are, if they are.
-pub(crate) fn decrypt_batches(keys: &RoundKeys, first_tweak: u8x16, unit: &mut [u8])
-    requires { length unit.old % 512 ≡ 0 }
-    ensures { (key : List ℕ) (number : ℕ) → IsBatchKey (data_key key) keys.now
-        → first_tweak ≡ tweak_of key number 0 → unit.new ≡ xts_decrypted key number unit.old }
+/// Decrypts the blocks of whole batches in place, the first of them under `first_tweak`, and
+/// returns the tweak of the block after them. The round keys are those for the data.
+pub(crate) fn decrypt_batches(keys: &RoundKeys, first_tweak: u8x16, batches: &mut [u8]) -> u8x16
+    requires { length batches.old % 512 ≡ 0 }
+    ensures value { (key : List ℕ) → IsBatchKey (data_key key) keys.now
+        → batches.new
+        ≡ joined (λ n. block_decrypted key (tweak_after first_tweak n) (block_at batches.old n))
+        (length batches.old / 16) }
+    ensures next { result ≡ tweak_after first_tweak (length batches.old / 16) }
 {
     let mut tweak = first_tweak;
-    let blocks = unit.len() / 16;
+    let blocks = batches.len() / 16;
     let mut tweaks = [0; 1024];
     let mut done = 0;
     'batches: while blocks - done >= 32 {
         let count = batch_size(blocks - done);
-        let batch = &mut unit[16 * done..16 * done + 16 * count];
+        let batch = &mut batches[16 * done..16 * done + 16 * count];
         let next = decrypt_batch(keys, tweak, &mut tweaks[..16 * count], batch);
         tweak = next;
         done += count;
     }
+    tweak
 }
 
 /// Decrypts two data units of 512 bytes in place, with the tweak of the first block of each, under
@@ -224,22 +231,27 @@ impl XtsKey {
             → unit.old ≡ xts_encrypted self.now number plain → unit.new ≡ plain }
         ensures undone { xts_encrypted self.now number unit.new ≡ unit.old }
     {
-        let mut tweak = self.first_tweak(number);
-        let keys = self.data_key.round_keys();
+        let first_tweak = self.first_tweak(number);
         let blocks = unit.len() / 16;
-        let mut tweaks = [0; 1024];
-        let mut done = 0;
-        'batches: while blocks - done >= 32 {
-            let count = batch_size(blocks - done);
-            let batch = &mut unit[16 * done..16 * done + 16 * count];
-            let next = decrypt_batch(keys, tweak, &mut tweaks[..16 * count], batch);
-            tweak = next;
-            done += count;
-        }
-        'rest: for j in done..blocks {
+        let whole = blocks / 32 * 32;
+        let batches = &mut unit[..16 * whole];
+        let mut tweak = decrypt_batches(self.data_key.round_keys(), first_tweak, batches);
+        'rest: for j in whole..blocks {
             self.decrypt_piece(tweak, &mut unit[16 * j..16 * j + 16]);
             let next = doubled(tweak);
             tweak = next;
+        }
+    }
+
+    /// The same keys as they are used for whole batches, in one of the modes of XTS.
+    pub(crate) fn unit_keys(&self, mode: Mode) -> UnitKeys<'_>
+        ensures mode { result.mode ≡ mode }
+        ensures keys { AreXtsKeys self.now result.round_keys.now result.number.now }
+    {
+        UnitKeys {
+            mode,
+            round_keys: self.data_key.round_keys(),
+            number: self.tweak_key.schedule(),
         }
     }
 

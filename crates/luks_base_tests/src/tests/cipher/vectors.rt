@@ -7,7 +7,8 @@ use super::mode_vectors::{CHAINS, DECRYPTED, DIGESTS, SECTORS, WORKED};
 use super::xts_vectors::{LARGE_NUMBERS, NIST, SHORT};
 use super::{assert_in, bytes, counted};
 use luks_aes_batch::BatchKey;
-use luks_cipher::{Mode, SectorCipher};
+use luks_cipher::cbc::decrypt_pair;
+use luks_cipher::{Mode, SectorCipher, XtsKey};
 use sha2::{Digest, Sha256};
 use std::process::Abort;
 
@@ -123,6 +124,58 @@ fn sectors_that_follow_one_another_are_decrypted(rt: HostRuntime) {
     for line in DECRYPTED.lines() {
         check_decrypted(&rt, line);
     }
+}
+
+// Decrypts two data units of 512 bytes at once, in the mode of this name.
+fn decrypt_both(rt: &impl Abort, mode: &str, key: &[u8], first: u64, pair: &mut [u8]) {
+    assert!(rt; pair.len() == 1024);
+    let second = first.wrapping_add(1);
+    if mode == "xts-plain64" {
+        let key = XtsKey::new(key).expect(rt, "a key of XTS");
+        key.decrypt_pair(first, second, pair);
+    } else {
+        let key = BatchKey::new(key).expect(rt, "a key of AES");
+        let iv = u128::from(first).to_le_bytes();
+        decrypt_pair(&key, iv, u128::from(second).to_le_bytes(), pair);
+    }
+}
+
+// Asserts that the line's two sectors are decrypted to ones with the digest.
+fn check_pair(rt: &(impl Abort + AllocGlobal), line: &str) {
+    let key = bytes(rt, KEY);
+    let key_length = word(rt, line, 1)
+        .parse::<usize>()
+        .expect(rt, "a length")
+        .min(key.len());
+    let first = word(rt, line, 2).parse::<u64>().expect(rt, "a number");
+    let mut pair = counted(rt, 1024, 7, 1);
+    decrypt_both(rt, word(rt, line, 0), &key[..key_length], first, &mut pair);
+    let digest = Sha256::digest(&pair);
+    assert_in(
+        rt,
+        line,
+        bytes(rt, word(rt, line, 5)).as_slice() == digest.as_slice(),
+    );
+}
+
+// Whether the line has two sectors of 512 bytes in a mode whose unit numbers are used as they are.
+fn is_pair(rt: &impl Abort, line: &str) -> bool {
+    let mode = word(rt, line, 0);
+    (mode == "xts-plain64" || mode == "cbc-plain64")
+        && word(rt, line, 3) == "512"
+        && word(rt, line, 4) == "1024"
+}
+
+#[test]
+fn two_units_are_decrypted_at_once(rt: HostRuntime) {
+    let mut pairs = 0u32;
+    for line in DECRYPTED.lines() {
+        if is_pair(&rt, line) {
+            check_pair(&rt, line);
+            pairs = pairs.saturating_add(1);
+        }
+    }
+    assert!(rt; pairs == 4);
 }
 
 // Checks the decryption of 32 blocks at once, and of the first of them alone.

@@ -1,4 +1,4 @@
-use Rattle.std.proofs.Common.{◌≡◌, ◌-◌, ◌%◌, ◌≤◌, ℕ, List}
+use Rattle.std.proofs.Common.{◌≡◌, ◌-◌, ◌*◌, ◌%◌, ◌≤◌, ℕ, List, drop}
 use Rattle.luks_aes.specs.Aes.{decrypted}
 use Rattle.luks_aes_batch.specs.RoundKeys.{IsBatchKey}
 use Rattle.luks_cipher.specs.Xts.{block_xor}
@@ -11,6 +11,8 @@ abbrev pub invariant-batches : goal.invariant-batches
 invariant-batches l = record {
   few : l.done ≤ l.blocks;
   whole : (l.blocks - l.done) % 32 ≡ 0;
+  left : drop (16 * l.done) l.unit ≡ drop (16 * l.done) l.fn.unit;
+  next : l.before ≡ block_before l.fn.iv l.fn.unit l.done;
   progress : (key : List ℕ) → IsBatchKey key l.keys
       → IsProgress (λ before block. block_xor (decrypted key block) before) (block_before l.fn.iv l.fn.unit)
       l.fn.unit l.unit l.before l.done;

@@ -1,41 +1,26 @@
-use Rattle.std.proofs.Common.{◌+◌, ◌-◌, ◌*◌, ◌/◌, length, take, drop, ap, arith, ◌∙◌, add-one, refl, rules}
+use Rattle.std.proofs.Common.{◌+◌, ◌-◌, ◌*◌, ◌/◌, length, take, drop, ap, arith, ◌∙◌, add-one, rules}
+use Rattle.std.proofs.lemmas.List.{length-take-le}
 use Rattle.luks_aes.specs.Bytes.{IsBytes}
 use Rattle.luks_aes.specs.Aes.{decrypted}
 use Rattle.luks_cipher.specs.Xts.{block_xor}
 use Rattle.luks_cipher.specs.Cbc.{block_before, cbc_encrypted, cbc_decrypted}
-use Rattle.luks_cipher.proofs.UnitLemmas.{done_none, done_all, block_is, progress_next, progress_batch}
-use Rattle.luks_cipher.proofs.UnitLemmas.{batch_block, before_same}
+use Rattle.luks_cipher.proofs.UnitLemmas.{done_all, block_is, progress_first, progress_next, before_of_part}
 use Rattle.luks_cipher.proofs.UnitsUndone.{cbc_decrypted-cbc_encrypted, cbc_encrypted-cbc_decrypted}
 use Rattle.luks_cipher.proofs.cbc.decrypt_chain.Goals as goal
 
-pub batches-init : goal.batches-init
-unfolding block_before
-batches-init c = record {
-  few = omega arith;
-  iv = record { len = omega arith; bytes = record { each = search rules } };
-  progress = record { bytes = record { each = search rules }; next = refl; done = done_none _ _ };
-}
-
-pub batches-preserved : goal.batches-preserved
-batches-preserved c =
-    let done = c.batches.done in
-    let count = c.batch_size-count.result in
-    let unit = c.args.unit.now in
-    let before = c.batches.invariant.progress in
-    let same = batch_block unit c.batches.unit done count before.done.left in
-    record {
-      few = omega arith;
-      iv = c.batches.invariant.iv;
-      progress = progress_batch _ _ (block_before c.batches.before _) _ _ c.decrypt_batch-next.new.batch _ _ done
-          count _
-          before (omega arith) (omega arith) (omega arith)
-          (c.decrypt_batch-next.ensures.value c.args.key.now c.round_keys-keys.ensures)
-          c.decrypt_batch-next.ensures.next
-          (λ n few. before_same c.args.iv c.batches.before unit _ done count n before.next same few);
-    }
-
 pub rest-init : goal.rest-init
-rest-init c = record { iv = c.batches.invariant.iv; progress = c.batches.invariant.progress }
+unfolding cbc_decrypted
+rest-init c =
+    let unit = c.args.unit.now in
+    let batches = c.decrypt_batches-before in
+    let size = length-take-le (16 * (length unit / 16 / 32 * 32)) unit (omega arith) in
+    record {
+      iv = record { len = omega arith; bytes = record { each = search rules } };
+      progress = progress_first _ _ (block_before c.args.iv _) _ batches.new.unit _ _ _
+          (record { each = search rules }) (omega (arith, size)) (omega (arith, size))
+          (batches.ensures.value c.args.key.now c.round_keys.ensures) batches.ensures.next
+          (λ n few. before_of_part c.args.iv unit _ n few);
+    }
 
 pub rest-preserved : goal.rest-preserved
 unfolding block_before

@@ -1,37 +1,44 @@
-use Rattle.std.proofs.Common.{◌/◌, length, ap, arith, ◌∙◌, rules}
-use Rattle.luks_cipher.specs.Xts.{tweak_after, tweak_of, xts_decrypted}
+use Rattle.std.proofs.Common.{◌≡◌, ◌+◌, ◌-◌, ◌*◌, ◌/◌, ℕ, length, take, drop, ap, arith, ◌∙◌, refl, rules}
+use Rattle.luks_cipher.specs.Xts.{tweak_after}
 use Rattle.luks_cipher.proofs.UnitLemmas.{done_none, done_all, progress_batch, tweak_more}
 use Rattle.luks_cipher.proofs.xts.decrypt_batches.Goals as goal
 
 pub batches-init : goal.batches-init
+unfolding tweak_after
 batches-init c = record {
   few = omega arith;
   whole = omega arith;
-  progress = λ key number is first. record {
-    bytes = record { each = search rules };
-    next = first;
-    done = done_none _ _;
-  };
+  next = refl;
+  progress = λ key is. record { bytes = record { each = search rules }; next = refl; done = done_none _ _ };
 }
 
 pub batches-preserved : goal.batches-preserved
 batches-preserved c =
+    let first = c.args.first_tweak in
     let done = c.batches.done in
     let count = c.batch_size-count.result in
+    let before = c.batches.invariant in
+    let size : length (take (16 * done + 16 * count - 16 * done) (drop (16 * done) c.batches.batches)) / 16 ≡ count =
+    omega arith in
+    let more = λ (n : ℕ). ap (λ t. tweak_after t n) before.next ∙ tweak_more first done n in
     record {
       few = omega arith;
       whole = omega arith;
-      progress = λ key number is first.
-          let before = c.batches.invariant.progress key number is first in
+      next = c.decrypt_batch-next.ensures.next ∙ ap (tweak_after c.batches.tweak) size ∙ more count;
+      progress = λ key is.
           progress_batch _ _ (tweak_after c.batches.tweak) _ _ c.decrypt_batch-next.new.batch _ _ done count _
-          before (omega arith) (omega arith) (omega arith) (c.decrypt_batch-next.ensures.value key is)
-          c.decrypt_batch-next.ensures.next
-          (λ n few. ap (λ t. tweak_after t n) before.next ∙ tweak_more key number done n);
+          (before.progress key is) (omega arith) (omega arith) (omega arith)
+          (c.decrypt_batch-next.ensures.value key is) c.decrypt_batch-next.ensures.next (λ n few. more n);
     }
 
 pub returns : goal.returns
-unfolding xts_decrypted
-returns c key number is first =
-    let unit = c.args.unit.now in
-    done_all _ unit c.batches.unit c.batches.done (length unit / 16)
-    (c.batches.invariant.progress key number is first).done (omega arith) (omega arith)
+returns c =
+    let done = c.batches.done in
+    let unit = c.args.batches.now in
+    let all : done ≡ length unit / 16 = omega arith in
+    record {
+      value = λ key is.
+          done_all _ unit c.batches.batches done (length unit / 16) (c.batches.invariant.progress key is).done
+          (omega arith) all;
+      next = c.batches.invariant.next ∙ ap (tweak_after c.args.first_tweak) all;
+    }

@@ -1,6 +1,6 @@
 use Rattle.std.proofs.Common.{◌≡◌, ◌-◌, ◌%◌, ◌≤◌, ℕ, List}
 use Rattle.luks_aes_batch.specs.RoundKeys.{IsBatchKey}
-use Rattle.luks_cipher.specs.Xts.{block_decrypted, data_key, tweak_of}
+use Rattle.luks_cipher.specs.Xts.{block_decrypted, data_key, tweak_after}
 use Rattle.luks_cipher.proofs.UnitLemmas.{IsProgress}
 use Rattle.luks_cipher.proofs.xts.decrypt_batches.Given as goal
 
@@ -9,8 +9,9 @@ abbrev pub invariant-batches : goal.invariant-batches
 invariant-batches l = record {
   few : l.done ≤ l.blocks;
   whole : (l.blocks - l.done) % 32 ≡ 0;
-  progress : (key : List ℕ) (number : ℕ) → IsBatchKey (data_key key) l.keys → l.fn.first_tweak ≡ tweak_of key number 0
-      → IsProgress (block_decrypted key) (tweak_of key number) l.fn.unit l.unit l.tweak l.done;
+  next : l.tweak ≡ tweak_after l.fn.first_tweak l.done;
+  progress : (key : List ℕ) → IsBatchKey (data_key key) l.keys
+      → IsProgress (block_decrypted key) (tweak_after l.fn.first_tweak) l.fn.batches l.batches l.tweak l.done;
 }
 
 abbrev pub decreases-batches : goal.decreases-batches

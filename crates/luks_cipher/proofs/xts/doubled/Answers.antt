@@ -1,6 +1,6 @@
 use Rattle.std.proofs.Common.{refl, w8}
 use Rattle.std.proofs.lemmas.Simd.{below_from_Fits}
-use Rattle.luks_cipher.proofs.UnitLemmas.{doubled_lanes}
+use Rattle.luks_cipher.proofs.DoublingLemmas.{doubled_lanes}
 use Rattle.luks_cipher.proofs.xts.doubled.Goals as goal
 
 pub returns : goal.returns

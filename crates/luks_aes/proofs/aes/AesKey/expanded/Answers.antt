@@ -1,12 +1,11 @@
 use Rattle.std.proofs.Common.{rules}
-use Rattle.luks_aes.proofs.ScheduleLemmas.{expansion_begins, expanded_is}
+use Rattle.luks_aes.proofs.ScheduleLemmas.{key_of_schedule, expanded_is}
 use Rattle.luks_aes.proofs.aes.AesKey.expanded.Goals as goal
 
 pub invariant_of-result : goal.invariant_of-result
 invariant_of-result c =
-    expanded_is c.args.key.now c.key_expansion-schedule.result _ c.requires (record { each = search rules })
-    c.inv_mixed_words-inv_mixed.ensures c.key_expansion-schedule.ensures
+    expanded_is c.args.key.now c.expanded-schedule.result _ c.expanded-schedule.ensures
+    (record { each = search rules }) c.inv_mixed_words-inv_mixed.ensures
 
 pub returns : goal.returns
-returns c =
-    expansion_begins c.args.key.now c.key_expansion-schedule.result c.requires c.key_expansion-schedule.ensures
+returns c = key_of_schedule c.args.key.now c.expanded-schedule.result c.expanded-schedule.ensures

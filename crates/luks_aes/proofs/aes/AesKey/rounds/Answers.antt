@@ -1,16 +1,18 @@
-use Rattle.std.proofs.Common.{◌*◌, arith}
-use Rattle.luks_aes.proofs.ScheduleLemmas.{key_length, rounds_are, key_bytes}
+use Rattle.std.proofs.Common.{arith, length}
+use Rattle.luks_aes.proofs.ScheduleLemmas.{key_length, schedule_is, key_bytes}
 use Rattle.luks_aes.proofs.aes.AesKey.rounds.Goals as goal
 
 pub returns : goal.returns
 returns c =
-    let lengths = key_length (4 * c.self.inside.words) c.self.invariant.key_length in
+    let key = c.args.self.now in
+    let is = schedule_is c.self.invariant c.self.view_is in
+    let lengths = key_length (length key) is.key_length in
     let least = lengths.least in
     let most = lengths.most in
-    let sum = rounds_are c.self.told.0 c.self.invariant c.self.view_is in
+    let rounds = is.rounds in
     record {
-      value = omega (arith, sum);
-      least = omega arith;
-      most = omega arith;
-      key_bytes = key_bytes c.self.told.0 c.self.invariant c.self.view_is;
+      value = rounds;
+      least = omega (arith, rounds);
+      most = omega (arith, rounds);
+      key_bytes = key_bytes c.self.invariant c.self.view_is;
     }

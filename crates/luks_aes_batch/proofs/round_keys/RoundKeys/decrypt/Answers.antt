@@ -1,4 +1,4 @@
-use Rattle.std.proofs.Common.{◌*◌, ℕ, List, arith, refl, rules, sym, ◌∙◌}
+use Rattle.std.proofs.Common.{◌*◌, ℕ, arith, refl, rules, sym, ◌∙◌}
 use Rattle.luks_aes.specs.Aes.{decrypted}
 use Rattle.luks_aes.specs.Bytes.{IsBytes}
 use Rattle.luks_aes.proofs.Undone.{decrypted_state}
