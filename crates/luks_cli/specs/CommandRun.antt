@@ -1,6 +1,6 @@
--- The outcome of a run, a function of the command and the bytes of its inputs, and how a run is compared with it: with
--- an attached header, and with a detached one. Then header and key areas come from the header's file, and the payload
--- from the image, at the segment's own offset.
+-- The outcome of a run, a function of the command and the bytes of its inputs, and how a run is compared with it. With
+-- an attached header, header, key areas and payload are in one image. With a detached one, header and key areas come
+-- from the header's file, and the payload from the image, at the segment's own offset.
 use Rattle.std.specs.Prelude.{◌≡◌, ℕ, ◌<◌, ◌^◌, max, List, length, Option, Some, Bool, true, ◌&&◌, not, ◌⊎◌, is_err}
 use Rattle.std.specs.Prelude.{IfSome, false, ◌≤◌, take, Result, Err, ◌+◌, ◌-◌, ◌*◌, ◌/◌, Ok}
 use Rattle.luks_io.specs.Counts.{Reads, Writes, allowed_to}
@@ -26,7 +26,7 @@ use Rattle.luks_verdict.specs.declared.segment.Segment.{Segment}
 use Rattle.luks_report.specs.declared.message.Message.{Message}
 use Rattle.luks_report.specs.declared.message.Message.TheVariants.{Done, ReadFailed, WriteFailed, OutOfMemory}
 use Rattle.luks_report.specs.declared.message.Message.TheVariants.{Usage as UsageMessage}
-use Rattle.luks_header.specs.Header.{header_read_len, header_of}
+use Rattle.luks_header.specs.Header.{header_read_len}
 use Rattle.luks_kdf.specs.Pbkdf2.{capped}
 use Rattle.luks_open.specs.Opening.{work_of, OrderModel}
 use Rattle.luks_open.specs.declared.opening.Opened.{Opened}
@@ -55,14 +55,16 @@ outcome_by read on_payload (luks_cat o) image secret = volume_outcome_by read on
 outcome_by read on_payload (af_split s) image secret = split_outcome s.hash s.stripes image secret
 outcome_by read on_payload (af_merge m) image secret = merge_outcome m.hash m.stripes m.key_bytes image
 
--- the outcome of a command for the bytes of its inputs
-abbrev pub outcome_of : Request → List ℕ → List ℕ → Outcome
-outcome_of request image secret = outcome_by header_of (payload_outcome image secret) request image secret
+-- what `luksCat` does with an opened volume whose payload is in this image, if its header is at this location
+abbrev pub payload_outcome_at : HeaderLocation → List ℕ → List ℕ → OnOpened
+payload_outcome_at Attached = payload_outcome
+payload_outcome_at Detached = detached_payload_outcome
 
--- what a command does with the bytes of the file with the header, of the image and of the second input
-abbrev pub detached_outcome_of : Request → List ℕ → List ℕ → List ℕ → Outcome
-detached_outcome_of request file image secret =
-    outcome_by detached_header_of (detached_payload_outcome image secret) request file secret
+-- the outcome of a command for the bytes of its first input, of the image with the payload and of its second input, if
+-- its header is at this location
+abbrev pub outcome_of : HeaderLocation → Request → List ℕ → List ℕ → List ℕ → Outcome
+outcome_of location request input image secret =
+    outcome_by (reader_for location) (payload_outcome_at location image secret) request input secret
 
 -- the messages that a command may end with, whatever its devices do
 abbrev pub MayReport : Request → Message → Type 0
@@ -205,21 +207,42 @@ abbrev pub IsCounted : Request → List ℕ → Type 0
 IsCounted (luks_cat o) image = length image < 2 ^ 64
 IsCounted _ image = Unit {0}
 
+-- these are the bytes of the image with the payload. An attached header and its payload are both in the first input;
+-- the image of a detached header knows its bytes if the command reads any of it
+abbrev pub KnowsPayload : HeaderLocation → Request → List ℕ → Option (List ℕ) → List ℕ → Type 0
+KnowsPayload Attached request input device image = image ≡ input
+KnowsPayload Detached (luks_cat o) input device image = device ≡ Some image
+KnowsPayload Detached request input device image = Unit {0}
+
+-- what was consumed of the image with the payload. If the header is attached, that was counted as the first input's
+abbrev pub ConsumedOfPayload : Request → HeaderLocation → List ℕ → Option (List ℕ) → ℕ → Type 0
+ConsumedOfPayload (luks_cat o) Detached image left = ConsumedExactly image left
+ConsumedOfPayload request location image left = ConsumedNothing
+
 -- what a device has before and after a run
 pub record Change (T : Type 0) : Type 0 where
   pub before : T
   pub after : T
 
--- if the inputs of a command know their bytes, and the image is not too long to be counted, the run has the outcome
--- that is specified for those bytes, or was aborted on the way to it
-abbrev pub RunsAsSpecified : Request → Message → Change (Option (List ℕ)) → Change (Option (List ℕ))
-    → Change (Option (List ℕ)) → Type 0
-RunsAsSpecified request message image secret written =
-    IfKnown image.before
-    (λ known. (known_secret : List ℕ) → KnowsSecret request secret.before known_secret → IsCounted request known
-    → RunMatches (promptness_of Attached request known) (outcome_of request known known_secret) message
-    (ConsumedExactly known image.after) (ConsumedOfSecret request known_secret secret.after)
-    (Appended written.before written.after))
+-- what the devices of a run have before and after it, each of its inputs and its output
+pub record Devices (In Out : Type 0) : Type 0 where
+  -- the image, the file with a detached header, the key or the stripes
+  pub input : Change In
+  -- the image with the payload, which is the first input unless the header is detached
+  pub payload : Change In
+  -- the key file, or the random bytes
+  pub secret : Change In
+  pub output : Change Out
+
+-- if the inputs of a command know their bytes, and the image with the payload is not too long to be counted, the run
+-- has the outcome that is specified for those bytes, or was aborted on the way to it
+abbrev pub RunsAsSpecified : HeaderLocation → Request → Message → Devices (Option (List ℕ)) (Option (List ℕ)) → Type 0
+RunsAsSpecified location request message bytes = IfKnown bytes.input.before (λ input. (image : List ℕ)
+    → KnowsPayload location request input bytes.payload.before image
+    → (secret : List ℕ) → KnowsSecret request bytes.secret.before secret → IsCounted request image
+    → DetachedRunMatches (promptness_of location request input) (outcome_of location request input image secret) message
+    (ConsumedExactly input bytes.input.after) (ConsumedOfPayload request location image bytes.payload.after)
+    (ConsumedOfSecret request secret bytes.secret.after) (Appended bytes.output.before bytes.output.after))
 
 -- the evaluations of HMAC that a run of a command needs, if its inputs know their bytes: those of trying the key slots
 -- if they were tried, and none otherwise. A command that opens no volume needs none
@@ -303,46 +326,31 @@ pub record CountsReads (ReadsIt : Bool → ReadCounts → ReadCounts → Type 0)
   pub input_reads : ReadsIt (in_input && failed) input input'
   pub secret_reads : ReadsOnce (not in_input && failed) secret secret'
 
--- the same for all devices: a failure of the output, too, if a write failed, and no needless call
-pub record CountsCalls (ReadsIt : Bool → ReadCounts → ReadCounts → Type 0) (message : Message)
-    (input input' secret secret' : ReadCounts) (out out' : WriteCounts) : Type 0 where
-  pub reads : CountsReads ReadsIt (is_run_read_failure message) input input' secret secret'
-  pub out_writes : Writes (is_run_write_failure message) out out'
-
--- the payload's image knows its bytes, if the command reads any of it
-abbrev pub KnowsPayload : Request → Option (List ℕ) → List ℕ → Type 0
-KnowsPayload (luks_cat o) device image = device ≡ Some image
-KnowsPayload request device image = Unit {0}
-
--- what was consumed of the payload's image
-abbrev pub ConsumedOfPayload : Request → List ℕ → Option (List ℕ) → ℕ → Type 0
-ConsumedOfPayload (luks_cat o) image left = ConsumedExactly image left
-ConsumedOfPayload request image left = ConsumedNothing
-
--- if the inputs of a command know their bytes, and the payload's image is not too long to be counted, the run has the
--- outcome that is specified for those bytes, or was aborted on the way to it
-abbrev pub RunsDetached : Request → Message → Change (Option (List ℕ)) → Change (Option (List ℕ))
-    → Change (Option (List ℕ)) → Change (Option (List ℕ)) → Type 0
-RunsDetached request message header image secret written =
-    IfKnown header.before (λ file. (known : List ℕ) → KnowsPayload request image.before known
-    → (known_secret : List ℕ) → KnowsSecret request secret.before known_secret → IsCounted request known
-    → DetachedRunMatches (promptness_of Detached request file)
-    (detached_outcome_of request file known known_secret) message
-    (ConsumedExactly file header.after) (ConsumedOfPayload request known image.after)
-    (ConsumedOfSecret request known_secret secret.after) (Appended written.before written.after))
-
 -- the payload's image is not read: only `luksCat` reads it, and only after a key was found
 abbrev pub NeedsNoPayload : Request → Message → Type 0
 NeedsNoPayload (luks_cat o) message = EndsWithoutKey message
 NeedsNoPayload request message = Unit {0}
 
--- what a run that reads the payload's image in this way adds to the counts of its devices: a failure of one of its
--- inputs if a read failed, one of the output if a write failed, at most one end of each input, and no needless call
-pub record CountsCallsDetached (ReadsIt : Bool → ReadCounts → ReadCounts → Type 0) (message : Message)
-    (header image secret : Change ReadCounts) (out : Change WriteCounts) : Type 0 where
-  -- if a read failed, it was one of the payload's image
+-- how a run reads its first input, if it reads the image with the payload in this way
+abbrev pub ReadsInput : HeaderLocation → (Bool → ReadCounts → ReadCounts → Type 0) → Bool → ReadCounts → ReadCounts
+    → Type 0
+ReadsInput Attached ReadsIt = ReadsIt
+ReadsInput Detached ReadsIt = ReadsOnce
+
+-- how a run reads an image that has the payload alone, of which no read can fail if there is none
+abbrev pub ReadsAlone : HeaderLocation → (Bool → ReadCounts → ReadCounts → Type 0) → Bool → ReadCounts → ReadCounts
+    → Type 0
+ReadsAlone Attached ReadsIt failed before after = failed ≡ false
+ReadsAlone Detached ReadsIt failed before after = ReadsIt failed before after
+
+-- what a run that reads the image with the payload in this way adds to the counts of its devices: a failure of one of
+-- its inputs if a read failed, one of the output if a write failed, at most one end of each input, and no needless call
+pub record CountsCalls (location : HeaderLocation) (ReadsIt : Bool → ReadCounts → ReadCounts → Type 0)
+    (message : Message) (counts : Devices ReadCounts WriteCounts) : Type 0 where
+  -- if a read failed, it was one of an image that has the payload alone
   pub in_payload : Bool
-  pub reads : CountsReads ReadsOnce (not in_payload && is_run_read_failure message) header.before header.after
-      secret.before secret.after
-  pub payload_reads : ReadsIt (in_payload && is_run_read_failure message) image.before image.after
-  pub out_writes : Writes (is_run_write_failure message) out.before out.after
+  pub reads : CountsReads (ReadsInput location ReadsIt) (not in_payload && is_run_read_failure message)
+      counts.input.before counts.input.after counts.secret.before counts.secret.after
+  pub payload_reads : ReadsAlone location ReadsIt (in_payload && is_run_read_failure message) counts.payload.before
+      counts.payload.after
+  pub out_writes : Writes (is_run_write_failure message) counts.output.before counts.output.after
