@@ -19,19 +19,20 @@ use Rattle.luks_runs.specs.Run.{is_run_write_failure, result_message}
 use Rattle.luks_unlock.specs.Volume.{payload_outcome, slot_outcome, volume_outcome, volume_outcome_by}
 use Rattle.luks_unlock.specs.Volume.{detached_payload_outcome, HitsMaterialEof, OpeningMessage}
 use Rattle.luks_request.specs.Request.{Request, VolumeRequest, luks_cat}
-use Rattle.luks_cli.specs.CommandRun.{ConsumedOfPayload, KnowsPayload, payload_outcome_at}
+use Rattle.luks_cli.specs.Headline.{CatAllows, ConsumedAtLeast, ConsumedOfPayload, CountsCalls, CountsReads}
+use Rattle.luks_cli.specs.Headline.{CountsTried, EndsWithoutKey, KnowsPayload, PromptCat, ReadsOnce, ReadsPayload}
+use Rattle.luks_cli.specs.Headline.{payload_outcome_at}
+use Rattle.luks_cli.specs.Unlocking.{ConsumesLoaded, Unlocks}
 use Rattle.luks_runs.specs.Location.{reader_for, detached_header_of}
 use Rattle.luks_runs.specs.declared.location.HeaderLocation.{HeaderLocation}
 use Rattle.luks_runs.specs.declared.location.HeaderLocation.TheVariants.{Attached, Detached}
 use Rattle.luks_runs.specs.Payload.{ForwardsPayload, max_payload_end, with_payload_allowed}
-use Rattle.luks_cli.specs.CommandRun.{PromptCat, ConsumesLoaded, Unlocks, EndsWithoutKey, CatAllows, CountsCalls}
 use Rattle.luks_runs.specs.RunMessages.{IsLuksMessage, PayloadMessage}
 use Rattle.luks_request.specs.declared.command.SlotChoice.{SlotChoice}
 use Rattle.luks_report.specs.Texts.{opened_line}
 use Rattle.luks_report.specs.declared.message.Message.{Message}
 use Rattle.luks_report.specs.declared.message.Message.TheVariants.{Done, OutOfMemory, ReadFailed, WriteFailed}
 use Rattle.luks_report.specs.declared.message.Message.TheVariants.{CutBeforePayload, Tail, Short}
-use Rattle.luks_cli.specs.CommandRun.{CountsReads, CountsTried, ConsumedAtLeast, ReadsOnce, ReadsPayload}
 use Rattle.luks_io.proofs.EffectLemmas.{consumed-none, no_reads, no_writes, reads_more}
 use Rattle.luks_io.specs.Counts.{Reads, Writes, allowed_to}
 use Rattle.luks_io.specs.declared.counts.ReadCounts.{ReadCounts}

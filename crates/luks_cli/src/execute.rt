@@ -5,9 +5,9 @@ ghost use Rattle.luks_header.specs.Header.{header_of};
 ghost use Rattle.luks_request.specs.Request.{has_header_file, request_of};
 ghost use Rattle.luks_runs.specs.Location.{detached_header_of, reader_for};
 ghost use Rattle.luks_runs.specs.Run.{result_message};
-ghost use Rattle.luks_cli.specs.CommandRun.{CountsCalls, CountsWork, MayReport, NeedsNoPayload};
-ghost use Rattle.luks_cli.specs.CommandRun.{NeedsNoSecret, ReadsFirst, ReadsImage, RunsAsSpecified};
-ghost use Rattle.luks_cli.specs.CommandRun.{WritesPlain};
+ghost use Rattle.luks_cli.specs.Headline.{CountsCalls, CountsWork, MayReport, NeedsNoPayload};
+ghost use Rattle.luks_cli.specs.Headline.{NeedsNoSecret, ReadsFirst, ReadsImage, RunsAsSpecified};
+ghost use Rattle.luks_cli.specs.Headline.{WritesPlain};
 
 use luks_io::memory::MemSource;
 use luks_io::sink::Sink;
@@ -98,16 +98,10 @@ pub fn execute<I: Source, K: Source, O: Sink>(
           output = record { before = O.counts out.old; after = O.counts out.new };
         }) }
 {
+    let location = HeaderLocation::Attached;
+    // No image has the payload alone.
     let mut none = MemSource::new(&[]);
-    run(
-        alloc,
-        command,
-        HeaderLocation::Attached,
-        image,
-        &mut none,
-        secret,
-        out,
-    )
+    run(alloc, command, location, image, &mut none, secret, out)
 }
 
 /// Runs a command with a detached header over the header's file, the image with the payload, the
@@ -156,15 +150,8 @@ pub fn execute_detached<H: Source, I: Source, K: Source, O: Sink>(
           output = record { before = O.counts out.old; after = O.counts out.new };
         }) }
 {
-    run(
-        alloc,
-        command,
-        HeaderLocation::Detached,
-        header,
-        image,
-        secret,
-        out,
-    )
+    let location = HeaderLocation::Detached;
+    run(alloc, command, location, header, image, secret, out)
 }
 
 /// Runs a command whose header, if it has one, is at this location, over its first input, the image

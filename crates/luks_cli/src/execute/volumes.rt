@@ -16,9 +16,10 @@ ghost use Rattle.luks_request.specs.Request.{luks_cat, volume_request};
 ghost use Rattle.luks_runs.specs.Run.{AnyPromptness, RunMatches};
 ghost use Rattle.luks_runs.specs.Run.{is_run_read_failure, is_run_write_failure, result_message};
 ghost use Rattle.luks_runs.specs.Location.{LoadedFrom, reader_for};
-ghost use Rattle.luks_cli.specs.CommandRun.{CatAllows, CountsCalls, CountsOpening, CountsReads};
-ghost use Rattle.luks_cli.specs.CommandRun.{CountsTried, EndsLocked, EndsWithoutKey, ReadsOnce};
-ghost use Rattle.luks_cli.specs.CommandRun.{ReadsPayload, RunsAsSpecified, UnlockEffect, Unlocks};
+ghost use Rattle.luks_cli.specs.Headline.{CatAllows, CountsCalls, CountsOpening, CountsReads};
+ghost use Rattle.luks_cli.specs.Headline.{CountsTried, EndsWithoutKey, ReadsOnce, ReadsPayload};
+ghost use Rattle.luks_cli.specs.Headline.{RunsAsSpecified};
+ghost use Rattle.luks_cli.specs.Unlocking.{EndsLocked, UnlockEffect, Unlocks};
 
 use luks_header::area::HeaderArea;
 use luks_io::memory::MemSource;

@@ -1,7 +1,7 @@
 use Rattle.std.proofs.Common.{◌∙◌, List, ℕ, Option, refl, subst}
 use Rattle.luks_cli.proofs.OpenedRuns.{consumed_attached, runs_at}
 use Rattle.luks_cli.proofs.execute.execute.Goals as goal
-use Rattle.luks_cli.specs.CommandRun.{Change, RunsAsSpecified, WritesPlain, promptness_of}
+use Rattle.luks_cli.specs.Headline.{Change, RunsAsSpecified, WritesPlain, promptness_of}
 use Rattle.luks_io.specs.Devices.{Appended}
 use Rattle.luks_report.specs.declared.message.Message.{Message}
 use Rattle.luks_request.specs.Request.{Request, luks_cat, request_of}

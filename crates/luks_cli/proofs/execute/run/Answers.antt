@@ -1,7 +1,7 @@
 use Rattle.std.proofs.Common.{refl}
 use Rattle.luks_runs.specs.Run.{result_message}
 use Rattle.luks_cli.proofs.OpenedRuns.{calls_without_payload, no_write_in_is_luks, reads_of_image}
-use Rattle.luks_cli.specs.CommandRun.{ReadsOnce}
+use Rattle.luks_cli.specs.Headline.{ReadsOnce}
 use Rattle.luks_cli.proofs.execute.run.Goals as goal
 
 pub returns-in-IsLuks : goal.returns-in-IsLuks

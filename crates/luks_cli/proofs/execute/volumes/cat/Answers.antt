@@ -9,7 +9,7 @@ use Rattle.luks_cli.proofs.OpenedRuns.{allows_payload, calls_without_payload, co
 use Rattle.luks_cli.proofs.OpenedRuns.{detached_runs_forwarded, loaded_from_none, loaded_whole, never_read, no_write_unopened}
 use Rattle.luks_cli.proofs.OpenedRuns.{none_allowed, none_failed, payload_after, payload_consumes_loaded, runs_at, runs_forwarded}
 use Rattle.luks_cli.proofs.OpenedRuns.{with_key}
-use Rattle.luks_cli.specs.CommandRun.{PromptCat, payload_outcome_at}
+use Rattle.luks_cli.specs.Headline.{PromptCat, payload_outcome_at}
 use Rattle.luks_cli.proofs.execute.volumes.cat.Goals as goal
 
 pub returns-in_err-unlocked-clause-run : goal.returns-in_err-unlocked-clause-run
