@@ -18,20 +18,22 @@ use Rattle.luks_runs.specs.Run.{DetachedRunMatches, Promptness, RunMatches, abor
 use Rattle.luks_runs.specs.Run.{is_run_write_failure, result_message}
 use Rattle.luks_unlock.specs.Volume.{payload_outcome, slot_outcome, volume_outcome, volume_outcome_by}
 use Rattle.luks_unlock.specs.Volume.{detached_payload_outcome, HitsMaterialEof, OpeningMessage}
+use Rattle.luks_request.specs.Request.{Request, VolumeRequest, luks_cat}
+use Rattle.luks_cli.specs.Headline.{CatAllows, ConsumedAtLeast, ConsumedOfPayload, CountsCalls, CountsReads}
+use Rattle.luks_cli.specs.Headline.{CountsTried, EndsWithoutKey, KnowsPayload, PromptCat, ReadsOnce, ReadsPayload}
+use Rattle.luks_cli.specs.Headline.{payload_outcome_at}
+use Rattle.luks_cli.specs.Unlocking.{ConsumesLoaded, Unlocks}
 use Rattle.luks_runs.specs.Location.{reader_for, detached_header_of}
 use Rattle.luks_runs.specs.declared.location.HeaderLocation.{HeaderLocation}
 use Rattle.luks_runs.specs.declared.location.HeaderLocation.TheVariants.{Attached, Detached}
 use Rattle.luks_runs.specs.Payload.{ForwardsPayload, max_payload_end, with_payload_allowed}
-use Rattle.luks_cli.specs.CommandRun.{PromptCat, ConsumesLoaded, Unlocks, EndsWithoutKey, CatAllows, CountsCalls}
-use Rattle.luks_runs.specs.RunMessages.{PayloadMessage, IsLuksMessage}
+use Rattle.luks_runs.specs.RunMessages.{IsLuksMessage, PayloadMessage}
 use Rattle.luks_request.specs.declared.command.SlotChoice.{SlotChoice}
 use Rattle.luks_report.specs.Texts.{opened_line}
 use Rattle.luks_report.specs.declared.message.Message.{Message}
 use Rattle.luks_report.specs.declared.message.Message.TheVariants.{Done, OutOfMemory, ReadFailed, WriteFailed}
 use Rattle.luks_report.specs.declared.message.Message.TheVariants.{CutBeforePayload, Tail, Short}
-use Rattle.luks_cli.specs.CommandRun.{CountsReads, CountsTried, ConsumedAtLeast, ReadsOnce, ReadsPayload}
-use Rattle.luks_cli.specs.CommandRun.{CountsCallsDetached}
-use Rattle.luks_io.proofs.EffectLemmas.{no_reads, no_writes, reads_more}
+use Rattle.luks_io.proofs.EffectLemmas.{consumed-none, no_reads, no_writes, reads_more}
 use Rattle.luks_io.specs.Counts.{Reads, Writes, allowed_to}
 use Rattle.luks_io.specs.declared.counts.ReadCounts.{ReadCounts}
 use Rattle.luks_io.specs.declared.counts.WriteCounts.{WriteCounts}
@@ -41,33 +43,48 @@ pub slot_consumes_loaded : (secret : List ℕ) → ConsumesLoaded secret (slot_o
 slot_consumes_loaded secret =
     record { loaded = λ segment opened loaded. omega arith; whole = λ segment opened loaded. refl }
 
--- a run that is prompt in one sense is also prompt in every sense that follows from it; if it has no image for the
--- payload alone, it consumed nothing of any such image
+-- a run also matches with a promptness that follows from its own, and with a fact on the payload's image that does
 pub runs_at : (is_prompt is_prompt' : Promptness) (out : Outcome) (message : Message)
-    (ConsumedInput ConsumedPayload ConsumedSecret : ℕ → Type 0) (Wrote : List ℕ → Type 0)
+    (ConsumedInput ConsumedPayload ConsumedPayload' ConsumedSecret : ℕ → Type 0) (Wrote : List ℕ → Type 0)
     → ((input payload secret output : ℕ) → is_prompt message input payload secret output
     → is_prompt' message input payload secret output)
-    → ConsumedPayload 0 → RunMatches is_prompt out message ConsumedInput ConsumedSecret Wrote
-    → DetachedRunMatches is_prompt' out message ConsumedInput ConsumedPayload ConsumedSecret Wrote
-runs_at is_prompt is_prompt' out message ConsumedInput ConsumedPayload ConsumedSecret Wrote follows none =
-    either (aborts message)
+    → ((count : ℕ) → ConsumedPayload count → ConsumedPayload' count)
+    → DetachedRunMatches is_prompt out message ConsumedInput ConsumedPayload ConsumedSecret Wrote
+    → DetachedRunMatches is_prompt' out message ConsumedInput ConsumedPayload' ConsumedSecret Wrote
+runs_at is_prompt is_prompt' out message ConsumedInput ConsumedPayload ConsumedPayload' ConsumedSecret Wrote follows
+    consumed = either (aborts message)
   where
-    either : (b : Bool) → MatchBool b (Aborted is_prompt out message ConsumedInput ConsumedNothing ConsumedSecret Wrote)
-        (Completed out message ConsumedInput ConsumedNothing ConsumedSecret Wrote)
-        → MatchBool b (Aborted is_prompt' out message ConsumedInput ConsumedPayload ConsumedSecret Wrote)
+    either : (b : Bool)
+        → MatchBool b (Aborted is_prompt out message ConsumedInput ConsumedPayload ConsumedSecret Wrote)
         (Completed out message ConsumedInput ConsumedPayload ConsumedSecret Wrote)
+        → MatchBool b (Aborted is_prompt' out message ConsumedInput ConsumedPayload' ConsumedSecret Wrote)
+        (Completed out message ConsumedInput ConsumedPayload' ConsumedSecret Wrote)
     either true run =
         aborted_at run.input_consumed run.payload_consumed run.secret_consumed run.output_len run.output_within
         (follows run.input_consumed run.payload_consumed run.secret_consumed run.output_len run.is_prompt)
         run.input_within run.payload_within run.secret_within run.input
-        (subst ConsumedPayload (sym run.payload) none) run.secret run.output
+        (consumed run.payload_consumed run.payload) run.secret run.output
     either false run = record {
       as_specified = run.as_specified;
       input = run.input;
-      payload = subst ConsumedPayload (sym run.payload) none;
+      payload = consumed out.payload_consumed run.payload;
       secret = run.secret;
       output = run.output;
     }
+
+-- what is consumed of the payload's image is of no account if the header is attached
+pub consumed_attached : (request : Request) (image : List ℕ) (left left' : Option (List ℕ)) (count : ℕ)
+    → ConsumedOfPayload request Attached image left count → ConsumedOfPayload request Attached image left' count
+consumed_attached (luks_cat o) image left left' count none = none
+consumed_attached _ image left left' count none = none
+
+-- nothing was consumed of an image that has the payload alone
+pub consumed_no_payload : (location : HeaderLocation) (o : VolumeRequest) (input image : List ℕ)
+    (device : Option (List ℕ)) → KnowsPayload location (luks_cat o) input device image → (count : ℕ)
+    → ConsumedNothing count → ConsumedOfPayload (luks_cat o) location image device count
+consumed_no_payload Attached o input image device knows count none = none
+consumed_no_payload Detached o input image device knows count none =
+    subst (ConsumedExactly image device) (sym none) (consumed-none image device knows)
 
 module _ (location : HeaderLocation) (slots : SlotChoice) (image pass : List ℕ) (segment : Segment) (opened : Opened)
     (loaded : List ℕ) (i s : Option (List ℕ)) (u : Unlocks location slots image pass segment opened loaded i s) where
@@ -196,9 +213,13 @@ pub never_read : (message : Message) → 0 ≡ counted (is_run_read_failure mess
 never_read ReadFailed counts = absurd (cc)
 never_read _ counts = refl
 
--- the payload's outcome consumes at least the loaded bytes of the file with the header, and the whole key file
-pub detached_payload_consumes_loaded : (image pass : List ℕ) → ConsumesLoaded pass (detached_payload_outcome image pass)
-detached_payload_consumes_loaded image pass =
+-- the payload's outcome consumes at least the loaded bytes of the image, or of the file with the header, and the whole
+-- key file
+pub payload_consumes_loaded : (location : HeaderLocation) (image pass : List ℕ)
+    → ConsumesLoaded pass (payload_outcome_at location image pass)
+payload_consumes_loaded Attached image pass =
+    record { loaded = λ segment opened loaded. omega arith; whole = λ segment opened loaded. refl }
+payload_consumes_loaded Detached image pass =
     record { loaded = λ segment opened loaded. omega arith; whole = λ segment opened loaded. refl }
 
 module _ (slots : SlotChoice) (file image pass : List ℕ) (segment : Segment) (opened : Opened) (loaded : List ℕ)
@@ -251,17 +272,11 @@ pub reads_of_image : {failed ended : Bool} {image image' secret : ReadCounts} �
     → CountsReads ReadsOnce failed image image' secret secret
 reads_of_image reads = record { in_input = true; input_reads = (_, reads); secret_reads = (false, no_reads _) }
 
-pub calls_of_image : (message : Message) {ended : Bool} {image image' secret : ReadCounts} {out out' : WriteCounts}
-    → Reads (is_run_read_failure message) ended image image' → Writes (is_run_write_failure message) out out'
-    → CountsCalls ReadsOnce message image image' secret secret out out'
-calls_of_image message reads writes = record { reads = reads_of_image reads; out_writes = writes }
-
 -- no write fails in `isLuks`, which makes none
-pub calls_of_is_luks : (message : Message) {ended : Bool} {image image' secret : ReadCounts} {out : WriteCounts}
-    → IsLuksMessage message → Reads (is_run_read_failure message) ended image image'
-    → CountsCalls ReadsOnce message image image' secret secret out out
-calls_of_is_luks WriteFailed only reads = absurd only
-calls_of_is_luks message only reads = calls_of_image message reads (no_writes _)
+pub no_write_in_is_luks : (message : Message) {out : WriteCounts} → IsLuksMessage message
+    → Writes (is_run_write_failure message) out out
+no_write_in_is_luks WriteFailed only = absurd only
+no_write_in_is_luks _ only = no_writes _
 
 -- the start of the image was read before; if that hit EOF on the image, the image was not read again
 pub reads_before : {failed ended : Bool} {image image' image'' secret secret' : ReadCounts}
@@ -282,12 +297,10 @@ within_areas (Ok value) Same ended image image' same reads none = (same, rw none
 within_areas (Err message) Same ended image image' same reads none = tt
 
 -- the volume was not opened, and nothing was written
-pub calls_unopened : (ReadsIt : Bool → ReadCounts → ReadCounts → Type 0) (message : Message)
-    {image image' secret secret' : ReadCounts} {out : WriteCounts} → OpeningMessage message
-    → CountsReads ReadsIt (is_run_read_failure message) image image' secret secret'
-    → CountsCalls ReadsIt message image image' secret secret' out out
-calls_unopened ReadsIt WriteFailed only reads = absurd only
-calls_unopened ReadsIt message only reads = record { reads = reads; out_writes = no_writes _ }
+pub no_write_unopened : (message : Message) {out : WriteCounts} → OpeningMessage message
+    → Writes (is_run_write_failure message) out out
+no_write_unopened WriteFailed only = absurd only
+no_write_unopened _ only = no_writes _
 
 -- no read of either input failed
 pub none_failed : (in_it : Bool) (before after : ReadCounts) → ReadsOnce (in_it && false) before after
@@ -315,17 +328,6 @@ none_allowed location slots message known known_secret failed before after reads
   (reads.0, nothing_allowed failed reads.0 before after reads.1),
 )
 
-pub reads_without_payload : (location : HeaderLocation) (slots : SlotChoice) (message : Message)
-    (known known_secret : Option (List ℕ)) (failed : Bool) (image image' secret secret' : ReadCounts)
-    → CountsReads ReadsOnce failed image image' secret secret'
-    → CountsReads (ReadsPayload (CatAllows location slots message known known_secret)) failed image image' secret
-    secret'
-reads_without_payload location slots message known known_secret failed image image' secret secret' reads = record {
-  in_input = reads.in_input;
-  input_reads = none_allowed location slots message known known_secret _ image image' reads.input_reads;
-  secret_reads = reads.secret_reads;
-}
-
 -- a key was found, and then read-ahead was allowed up to the payload's end
 pub allows_payload : (location : HeaderLocation) (slots : SlotChoice) (message : Message)
     (input secret : Option (List ℕ)) (segment : Segment) (opened : Opened) (loaded : List ℕ)
@@ -349,15 +351,34 @@ payload_after failed ended segment a b c first reads =
       reached = ap (λ n. max (max_payload_end segment) n) first.reached;
     }) reads
 
--- nothing of the payload's image was read
-pub detached_calls_without_payload : (ReadsIt : Bool → ReadCounts → ReadCounts → Type 0) {message : Message}
-    {header header' image secret secret' : ReadCounts} {out out' : WriteCounts} → ReadsIt false image image
-    → CountsCalls ReadsOnce message header header' secret secret' out out'
-    → CountsCallsDetached ReadsIt message (record { before = header; after = header' })
-    (record { before = image; after = image }) (record { before = secret; after = secret' })
-    (record { before = out; after = out' })
-detached_calls_without_payload ReadsIt none calls =
-    record { in_payload = false; reads = calls.reads; payload_reads = none; out_writes = calls.out_writes }
-
-pub none_read : (image : ReadCounts) → ReadsOnce false image image
+none_read : (image : ReadCounts) → ReadsOnce false image image
 none_read image = (false, no_reads image)
+
+-- no payload was read
+pub calls_without_payload : (location : HeaderLocation) (ReadsIt : Bool → ReadCounts → ReadCounts → Type 0)
+    (message : Message) {input input' image secret secret' : ReadCounts} {out out' : WriteCounts}
+    → ((failed : Bool) (before after : ReadCounts) → ReadsOnce failed before after → ReadsIt failed before after)
+    → CountsReads ReadsOnce (is_run_read_failure message) input input' secret secret'
+    → Writes (is_run_write_failure message) out out'
+    → CountsCalls location ReadsIt message (record {
+      input = record { before = input; after = input' };
+      payload = record { before = image; after = image };
+      secret = record { before = secret; after = secret' };
+      output = record { before = out; after = out' };
+    })
+calls_without_payload Attached ReadsIt message once reads writes = record {
+  in_payload = false;
+  reads = record {
+    in_input = reads.in_input;
+    input_reads = once _ _ _ reads.input_reads;
+    secret_reads = reads.secret_reads;
+  };
+  payload_reads = refl;
+  out_writes = writes;
+}
+calls_without_payload Detached ReadsIt message once reads writes = record {
+  in_payload = false;
+  reads = reads;
+  payload_reads = once false _ _ (none_read _);
+  out_writes = writes;
+}

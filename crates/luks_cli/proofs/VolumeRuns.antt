@@ -26,8 +26,8 @@ use Rattle.luks_io.proofs.EffectLemmas.{appended-none, consumed-none}
 use Rattle.luks_io.specs.Devices.{Appended, ConsumedExactly, counted}
 use Rattle.luks_io.specs.declared.counts.ReadCounts.{ReadCounts}
 use Rattle.luks_runs.specs.KeyFile.{NoKeyFileRead, hits_key_file_eof, max_key_file_len}
-use Rattle.luks_cli.specs.CommandRun.{ConsumesLoaded, CountsOpening, CountsTried, PromptForwarding, UnlockEffect, Unlocks}
-use Rattle.luks_cli.specs.CommandRun.{PromptCat}
+use Rattle.luks_cli.specs.Headline.{CountsOpening, CountsTried, PromptCat, PromptForwarding}
+use Rattle.luks_cli.specs.Unlocking.{ConsumesLoaded, UnlockEffect, Unlocks}
 use Rattle.luks_unlock.specs.Volume.{OpeningMessage, ends_untried, FindsNoVolume, HasSegmentBy}
 use Rattle.luks_unlock.specs.declared.unlocked.UnlockedVolume.{UnlockedVolume}
 use Rattle.luks_runs.specs.Location.{reader_for, HeaderReader}

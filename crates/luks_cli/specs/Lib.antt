@@ -1,1 +1,3 @@
-pub mod CommandRun
+pub mod Headline
+pub mod NoCommand
+pub mod Unlocking

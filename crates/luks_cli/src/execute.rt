@@ -1,26 +1,27 @@
 //! Runs of commands.
 
-ghost use Rattle.std.specs.Prelude.{◌≡◌, false};
+ghost use Rattle.std.specs.Prelude.{◌≡◌, false, true};
 ghost use Rattle.luks_header.specs.Header.{header_of};
 ghost use Rattle.luks_request.specs.Request.{has_header_file, request_of};
+ghost use Rattle.luks_runs.specs.Location.{detached_header_of, reader_for};
 ghost use Rattle.luks_runs.specs.Run.{result_message};
-ghost use Rattle.luks_cli.specs.CommandRun.{CountsCalls, CountsWork, NeedsNoSecret};
-ghost use Rattle.luks_cli.specs.CommandRun.{ReadsFirst, ReadsImage, RunsAsSpecified, WritesPlain};
-ghost use Rattle.luks_cli.specs.CommandRun.{MayReport};
+ghost use Rattle.luks_cli.specs.Headline.{CountsCalls, CountsWork, MayReport, NeedsNoPayload};
+ghost use Rattle.luks_cli.specs.Headline.{NeedsNoSecret, ReadsFirst, ReadsImage, RunsAsSpecified};
+ghost use Rattle.luks_cli.specs.Headline.{WritesPlain};
 
-pub use detached::execute_detached;
+use luks_io::memory::MemSource;
 use luks_io::sink::Sink;
 use luks_io::source::Source;
 use luks_kdf::Work;
 use luks_report::message::Message;
 use luks_report::report::Report;
 use luks_request::command::Command;
-use luks_runs::headers::{self, Printout};
+use luks_runs::headers::{Printout, is_luks, print};
 use luks_runs::location::HeaderLocation;
-use luks_runs::stripes;
+use luks_runs::stripes::{merge, split};
 use std::alloc::Global;
+use volumes::{cat, test_passphrase};
 
-mod detached;
 mod volumes;
 
 /// Runs a command over its first input, its second one and the output. The header is attached, in
@@ -67,10 +68,13 @@ pub fn execute<I: Source, K: Source, O: Sink>(
     out: &mut O,
 ) -> Report
     requires attached { has_header_file (request_of command.now) ≡ false }
-    ensures run { RunsAsSpecified (request_of command.now) result.message
-        (record { before = I.to_come image.old; after = I.to_come image.new })
-        (record { before = K.to_come secret.old; after = K.to_come secret.new })
-        (record { before = O.written out.old; after = O.written out.new }) }
+    ensures run { RunsAsSpecified HeaderLocation.Attached (request_of command.now) result.message
+        (record {
+          input = record { before = I.to_come image.old; after = I.to_come image.new };
+          payload = record { before = I.to_come image.old; after = I.to_come image.new };
+          secret = record { before = K.to_come secret.old; after = K.to_come secret.new };
+          output = record { before = O.written out.old; after = O.written out.new };
+        }) }
     ensures work { CountsWork HeaderLocation.Attached (request_of command.now) result.message
         result.work
         (record { before = I.to_come image.old; after = I.to_come image.new })
@@ -84,49 +88,128 @@ pub fn execute<I: Source, K: Source, O: Sink>(
         → secret.new ≡ secret.old }
     ensures reads_first { ReadsFirst (request_of command.now) → result.message ≡ Message.ReadFailed
         → out.new ≡ out.old }
-    ensures calls { CountsCalls (ReadsImage HeaderLocation.Attached (request_of command.now)
-        result.message (I.to_come image.old) (K.to_come secret.old))
-        result.message (I.counts image.old) (I.counts image.new) (K.counts secret.old)
-        (K.counts secret.new) (O.counts out.old) (O.counts out.new) }
+    ensures calls { CountsCalls HeaderLocation.Attached
+        (ReadsImage HeaderLocation.Attached (request_of command.now) result.message
+        (I.to_come image.old) (K.to_come secret.old)) result.message
+        (record {
+          input = record { before = I.counts image.old; after = I.counts image.new };
+          payload = record { before = I.counts image.old; after = I.counts image.new };
+          secret = record { before = K.counts secret.old; after = K.counts secret.new };
+          output = record { before = O.counts out.old; after = O.counts out.new };
+        }) }
 {
     let location = HeaderLocation::Attached;
+    // No image has the payload alone.
+    let mut none = MemSource::new(&[]);
+    run(alloc, command, location, image, &mut none, secret, out)
+}
+
+/// Runs a command with a detached header over the header's file, the image with the payload, the
+/// second input and the output.
+///
+/// This is [`execute`], except that the header and the key areas come from the header's file, and
+/// the payload from the image, at the segment's own offset. Only `luksCat` reads the image, after a
+/// key was found: if a write fails, no byte of the image past the current sector was consumed, and
+/// if a read of it fails, all its whole sectors that were consumed are written. No clause is about
+/// honestly sealed volumes, since these have attached headers.
+pub fn execute_detached<H: Source, I: Source, K: Source, O: Sink>(
+    alloc: Global,
+    command: &Command<'_>,
+    header: &mut H,
+    image: &mut I,
+    secret: &mut K,
+    out: &mut O,
+) -> Report
+    requires detached { has_header_file (request_of command.now) ≡ true }
+    ensures run { RunsAsSpecified HeaderLocation.Detached (request_of command.now) result.message
+        (record {
+          input = record { before = H.to_come header.old; after = H.to_come header.new };
+          payload = record { before = I.to_come image.old; after = I.to_come image.new };
+          secret = record { before = K.to_come secret.old; after = K.to_come secret.new };
+          output = record { before = O.written out.old; after = O.written out.new };
+        }) }
+    ensures work { CountsWork HeaderLocation.Detached (request_of command.now) result.message
+        result.work
+        (record { before = H.to_come header.old; after = H.to_come header.new })
+        (K.to_come secret.old)
+        (record { before = K.counts secret.old; after = K.counts secret.new }) }
+    ensures only { MayReport (request_of command.now) result.message }
+    ensures unneeded { NeedsNoSecret detached_header_of (request_of command.now)
+        (H.to_come header.old) → secret.new ≡ secret.old }
+    ensures untouched { NeedsNoPayload (request_of command.now) result.message
+        → image.new ≡ image.old }
+    ensures reads_first { ReadsFirst (request_of command.now) → result.message ≡ Message.ReadFailed
+        → out.new ≡ out.old }
+    ensures calls { CountsCalls HeaderLocation.Detached
+        (ReadsImage HeaderLocation.Detached (request_of command.now) result.message
+        (H.to_come header.old) (K.to_come secret.old)) result.message
+        (record {
+          input = record { before = H.counts header.old; after = H.counts header.new };
+          payload = record { before = I.counts image.old; after = I.counts image.new };
+          secret = record { before = K.counts secret.old; after = K.counts secret.new };
+          output = record { before = O.counts out.old; after = O.counts out.new };
+        }) }
+{
+    let location = HeaderLocation::Detached;
+    run(alloc, command, location, header, image, secret, out)
+}
+
+/// Runs a command whose header, if it has one, is at this location, over its first input, the image
+/// with the payload if the header is detached, the second input and the output.
+fn run<H: Source, I: Source, K: Source, O: Sink>(
+    alloc: Global,
+    command: &Command<'_>,
+    location: HeaderLocation,
+    input: &mut H,
+    image: &mut I,
+    secret: &mut K,
+    out: &mut O,
+) -> Report
+    ensures run { RunsAsSpecified location (request_of command.now) result.message
+        (record {
+          input = record { before = H.to_come input.old; after = H.to_come input.new };
+          payload = record { before = I.to_come image.old; after = I.to_come image.new };
+          secret = record { before = K.to_come secret.old; after = K.to_come secret.new };
+          output = record { before = O.written out.old; after = O.written out.new };
+        }) }
+    ensures work { CountsWork location (request_of command.now) result.message
+        result.work
+        (record { before = H.to_come input.old; after = H.to_come input.new })
+        (K.to_come secret.old)
+        (record { before = K.counts secret.old; after = K.counts secret.new }) }
+    ensures only { MayReport (request_of command.now) result.message }
+    ensures unneeded { NeedsNoSecret (reader_for location) (request_of command.now)
+        (H.to_come input.old) → secret.new ≡ secret.old }
+    ensures untouched { NeedsNoPayload (request_of command.now) result.message
+        → image.new ≡ image.old }
+    ensures reads_first { ReadsFirst (request_of command.now) → result.message ≡ Message.ReadFailed
+        → out.new ≡ out.old }
+    ensures calls { CountsCalls location
+        (ReadsImage location (request_of command.now) result.message
+        (H.to_come input.old) (K.to_come secret.old)) result.message
+        (record {
+          input = record { before = H.counts input.old; after = H.counts input.new };
+          payload = record { before = I.counts image.old; after = I.counts image.new };
+          secret = record { before = K.counts secret.old; after = K.counts secret.new };
+          output = record { before = O.counts out.old; after = O.counts out.new };
+        }) }
+{
     let mut work = Work::new(0);
     match command {
-        Command::IsLuks(_) => report(headers::is_luks(alloc, image), &work),
-        Command::LuksUuid(_) => {
-            report(
-                headers::print(alloc, Printout::Uuid, location, image, out),
-                &work,
-            )
-        }
-        Command::LuksDump(_) => {
-            report(
-                headers::print(alloc, Printout::Dump, location, image, out),
-                &work,
-            )
-        }
-        Command::LuksCheck(_) => {
-            report(
-                headers::print(alloc, Printout::Check, location, image, out),
-                &work,
-            )
-        }
-        Command::TestPassphrase(volume_args) => {
-            let slots = volume_args.slots;
-            report(
-                volumes::test_passphrase(alloc, location, slots, image, secret, out, &mut work),
-                &work,
-            )
-        }
-        Command::LuksCat(volume_args) => report(
-            volumes::cat(alloc, volume_args.slots, image, secret, out, &mut work),
+        Command::IsLuks(_) => report(is_luks(alloc, input), &work),
+        Command::LuksUuid(_) => report(print(alloc, Printout::Uuid, location, input, out), &work),
+        Command::LuksDump(_) => report(print(alloc, Printout::Dump, location, input, out), &work),
+        Command::LuksCheck(_) => report(print(alloc, Printout::Check, location, input, out), &work),
+        Command::TestPassphrase(args) => report(
+            test_passphrase(alloc, location, args.slots, input, secret, out, &mut work),
             &work,
         ),
-        Command::AfSplit(split_args) => report(
-            stripes::split(split_args, image, secret, out),
+        Command::LuksCat(args) => report(
+            cat(alloc, location, args, input, image, secret, out, &mut work),
             &work,
         ),
-        Command::AfMerge(merge_args) => report(stripes::merge(merge_args, image, out), &work),
+        Command::AfSplit(args) => report(split(args, input, secret, out), &work),
+        Command::AfMerge(args) => report(merge(args, input, out), &work),
     }
 }
 

@@ -1,7 +1,7 @@
 //! The report of a run whose arguments give no command.
 
 ghost use Rattle.std.specs.Prelude.{◌≡◌};
-ghost use Rattle.luks_cli.specs.CommandRun.{message_for_plan};
+ghost use Rattle.luks_cli.specs.NoCommand.{message_for_plan};
 
 use luks_args::planning::PlanFault;
 use luks_report::message::Message;

@@ -36,26 +36,31 @@ fn main(rt: HostRuntime) -> ExitCode {
         return end(&rt, Message::OutOfMemory);
     };
     match plan(rt.alloc(), args.as_slice()) {
-        Ok(command) => match run(&rt, &command) {
-            Ok(status) | Err(status) => status,
-        },
+        Ok(command) => run(&rt, &command).unwrap_or_else(|fault| report_fault(&rt, fault)),
         Err(fault) => print_report(&rt, &report_of_fault(fault)),
     }
 }
 
+/// Why a command was not started.
+#[derive(Clone, Copy)]
+enum StartFault<'a> {
+    /// The input with this name cannot be opened.
+    NotOpened(&'a str),
+    OutOfMemory,
+}
+
 /// Opens the inputs and runs the command over them: the image is opened first, then a detached
-/// header's file, then the second input. Both variants of the result hold an exit status: `Err`
-/// that of a command which was not started.
-fn run(rt: &HostRuntime, command: &Command<'_>) -> Result<ExitCode, ExitCode> {
+/// header's file, then the second input. Returns the exit status.
+fn run<'a>(rt: &HostRuntime, command: &Command<'a>) -> Result<ExitCode, StartFault<'a>> {
     let image = ReadSource::new(open(rt, Some(command.image()))?);
     let Ok(mut image) = ReadAheadSource::new(rt.alloc(), BUFFER, image) else {
-        return Err(end(rt, Message::OutOfMemory));
+        return Err(StartFault::OutOfMemory);
     };
     let mut header = ReadSource::new(open(rt, command.header())?);
     let mut secret = ReadSource::new(open(rt, command.secret())?);
     let Ok(writer) = BufWriter::with_capacity(rt.alloc(), BUFFER, RetryingWriter::new(rt.stdout()))
     else {
-        return Err(end(rt, Message::OutOfMemory));
+        return Err(StartFault::OutOfMemory);
     };
     let mut out = WriteSink::new(writer);
     let alloc = rt.alloc();
@@ -97,18 +102,21 @@ fn finish<O: RawFlush>(rt: &HostRuntime, report: &Report, output: &mut O) -> Exi
 }
 
 /// Opens the named input; without a name, an empty one.
-fn open(rt: &HostRuntime, name: Option<&str>) -> Result<HostInput, ExitCode> {
+fn open<'a>(rt: &HostRuntime, name: Option<&'a str>) -> Result<HostInput, StartFault<'a>> {
     let Some(name) = name else {
         return Ok(Input::Empty);
     };
-    open_input(rt, name).map_err(|fault| report_fault(rt, fault, name))
+    open_input(rt, name).map_err(|fault| match fault {
+        InputFault::NotOpened => StartFault::NotOpened(name),
+        InputFault::Memory => StartFault::OutOfMemory,
+    })
 }
 
-/// Reports that an input cannot be opened.
-fn report_fault(rt: &HostRuntime, fault: InputFault, name: &str) -> ExitCode {
-    if fault == InputFault::Memory {
+/// Reports why a command was not started, and returns the exit status.
+fn report_fault(rt: &HostRuntime, fault: StartFault<'_>) -> ExitCode {
+    let StartFault::NotOpened(name) = fault else {
         return end(rt, Message::OutOfMemory);
-    }
+    };
     let Ok(line) = not_opened_text(rt.alloc(), name) else {
         return end(rt, Message::OutOfMemory);
     };

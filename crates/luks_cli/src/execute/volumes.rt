@@ -1,26 +1,25 @@
 //! `testPassphrase` and `luksCat`: volumes that a passphrase opens.
 
-ghost use Rattle.std.specs.Prelude.{◌≡◌, ◌<◌, ◌⊎◌, ◌^◌, [], Bool};
-ghost use Rattle.std.specs.Prelude.{IfOk, IfErr, MatchResult, false, is_err, length, true};
+ghost use Rattle.std.specs.Prelude.{◌≡◌, ◌⊎◌, [], Bool};
+ghost use Rattle.std.specs.Prelude.{IfOk, IfErr, MatchResult, false, is_err, true};
 ghost use Rattle.luks_io.specs.Counts.{Reads, Writes};
 ghost use Rattle.luks_io.specs.Devices.{Appended, ConsumedExactly, IfKnown, counted};
 ghost use Rattle.luks_unlock.specs.Volume.{MatchesHeader};
 ghost use Rattle.luks_unlock.specs.Volume.{OpeningMessage};
 ghost use Rattle.luks_unlock.specs.Volume.{CountsTrials, ends_untried, opened_of};
-ghost use Rattle.luks_unlock.specs.Volume.{detached_payload_outcome, payload_outcome, slot_outcome};
-ghost use Rattle.luks_unlock.specs.Volume.{volume_by, volume_of, volume_outcome, volume_outcome_by};
+ghost use Rattle.luks_unlock.specs.Volume.{slot_outcome, volume_by, volume_outcome_by};
 ghost use Rattle.luks_report.specs.Texts.{opened_line};
 ghost use Rattle.luks_runs.specs.RunMessages.{PayloadMessage};
 ghost use Rattle.luks_runs.specs.Payload.{ForwardsLoaded, with_payload_allowed};
 ghost use Rattle.luks_runs.specs.Run.{Prints};
-ghost use Rattle.luks_runs.specs.Location.{detached_header_of};
-ghost use Rattle.luks_runs.specs.Run.{RunMatches, DetachedRunMatches, AnyPromptness};
+ghost use Rattle.luks_request.specs.Request.{luks_cat, volume_request};
+ghost use Rattle.luks_runs.specs.Run.{AnyPromptness, RunMatches};
 ghost use Rattle.luks_runs.specs.Run.{is_run_read_failure, is_run_write_failure, result_message};
 ghost use Rattle.luks_runs.specs.Location.{LoadedFrom, reader_for};
-ghost use Rattle.luks_cli.specs.CommandRun.{CatAllows, CountsCalls, CountsReads, ReadsOnce};
-ghost use Rattle.luks_cli.specs.CommandRun.{CountsCallsDetached, EndsWithoutKey, ReadsPayload};
-ghost use Rattle.luks_cli.specs.CommandRun.{CountsOpening, CountsTried, EndsLocked, PromptCat};
-ghost use Rattle.luks_cli.specs.CommandRun.{UnlockEffect, Unlocks};
+ghost use Rattle.luks_cli.specs.Headline.{CatAllows, CountsCalls, CountsOpening, CountsReads};
+ghost use Rattle.luks_cli.specs.Headline.{CountsTried, EndsWithoutKey, ReadsOnce, ReadsPayload};
+ghost use Rattle.luks_cli.specs.Headline.{RunsAsSpecified};
+ghost use Rattle.luks_cli.specs.Unlocking.{EndsLocked, UnlockEffect, Unlocks};
 
 use luks_header::area::HeaderArea;
 use luks_io::memory::MemSource;
@@ -29,7 +28,7 @@ use luks_io::source::Source;
 use luks_kdf::Work;
 use luks_report::message::Message;
 use luks_report::opened::opened_text;
-use luks_request::command::SlotChoice;
+use luks_request::command::{SlotChoice, VolumeArgs};
 use luks_runs::key_file::read_key_file;
 use luks_runs::location::HeaderLocation;
 use luks_runs::payload::write_payload;
@@ -168,8 +167,9 @@ pub(super) fn test_passphrase<I: Source, K: Source, O: Sink>(
         IfKnown (K.to_come secret.old) (λ passphrase. CountsOpening location slots known
         passphrase (result_message result) (I.to_come image.new) (K.counts secret.old)
         (K.counts secret.new) work.old work.new)) }
-    ensures calls { CountsCalls ReadsOnce (result_message result)
-        (I.counts image.old) (I.counts image.new) (K.counts secret.old) (K.counts secret.new)
+    ensures counts { CountsReads ReadsOnce (is_run_read_failure (result_message result))
+        (I.counts image.old) (I.counts image.new) (K.counts secret.old) (K.counts secret.new) }
+    ensures writes { Writes (is_run_write_failure (result_message result))
         (O.counts out.old) (O.counts out.new) }
 {
     let unlocked = unlock(alloc, location, slots, image, secret, work)?;
@@ -199,48 +199,12 @@ fn write_plain<I: Source, O: Sink>(
     write_payload(volume.segment, volume.cipher(), loaded, image, out)
 }
 
-/// `luksCat` of an image with an attached header.
-pub(super) fn cat<I: Source, K: Source, O: Sink>(
+/// `luksCat`. `header` is the image with an attached header, or the file of a detached one; then
+/// the payload is in `image`.
+pub(super) fn cat<H: Source, I: Source, K: Source, O: Sink>(
     alloc: Global,
-    slots: SlotChoice,
-    image: &mut I,
-    secret: &mut K,
-    out: &mut O,
-    work: &mut Work,
-) -> Result<(), Message>
-    ensures only { OpeningMessage (result_message result) ⊎ PayloadMessage (result_message result) }
-    ensures run { IfKnown (I.to_come image.old)
-        (λ known. IfKnown (K.to_come secret.old) (λ passphrase.
-        length known < 2 ^ 64 → RunMatches (PromptCat HeaderLocation.Attached known)
-        (volume_outcome (payload_outcome known passphrase) slots known passphrase)
-        (result_message result) (ConsumedExactly known (I.to_come image.new))
-        (ConsumedExactly passphrase (K.to_come secret.new))
-        (Appended (O.written out.old) (O.written out.new)))) }
-    ensures unneeded { IfKnown (I.to_come image.old) (λ known.
-        is_err (volume_of slots known) ≡ true → secret.new ≡ secret.old) }
-    ensures work { IfKnown (I.to_come image.old) (λ known.
-        IfKnown (K.to_come secret.old) (λ passphrase. CountsOpening HeaderLocation.Attached slots
-        known passphrase (result_message result) (I.to_come image.new) (K.counts secret.old)
-        (K.counts secret.new) work.old work.new)) }
-    ensures calls { CountsCalls
-        (ReadsPayload (CatAllows HeaderLocation.Attached slots (result_message result)
-        (I.to_come image.old) (K.to_come secret.old))) (result_message result)
-        (I.counts image.old) (I.counts image.new) (K.counts secret.old) (K.counts secret.new)
-        (O.counts out.old) (O.counts out.new) }
-{
-    let unlocked = unlock(alloc, HeaderLocation::Attached, slots, image, secret, work)?;
-    let loaded = unlocked.area.as_slice();
-    if unlocked.area.has_ended() {
-        // EOF was hit on the image: all of it is loaded, and it is not read again.
-        return write_plain(&unlocked.volume, loaded, &mut MemSource::new(&[]), out);
-    }
-    write_plain(&unlocked.volume, loaded, image, out)
-}
-
-/// `luksCat` of an image with a detached header.
-pub(super) fn cat_detached<H: Source, I: Source, K: Source, O: Sink>(
-    alloc: Global,
-    slots: SlotChoice,
+    location: HeaderLocation,
+    args: &VolumeArgs<'_>,
     header: &mut H,
     image: &mut I,
     secret: &mut K,
@@ -248,32 +212,43 @@ pub(super) fn cat_detached<H: Source, I: Source, K: Source, O: Sink>(
     work: &mut Work,
 ) -> Result<(), Message>
     ensures only { OpeningMessage (result_message result) ⊎ PayloadMessage (result_message result) }
-    ensures run { IfKnown (H.to_come header.old)
-        (λ file. IfKnown (I.to_come image.old) (λ known. IfKnown (K.to_come secret.old)
-        (λ passphrase. length known < 2 ^ 64
-        → DetachedRunMatches (PromptCat HeaderLocation.Detached file)
-        (volume_outcome_by detached_header_of (detached_payload_outcome known passphrase)
-        slots file passphrase) (result_message result)
-        (ConsumedExactly file (H.to_come header.new)) (ConsumedExactly known (I.to_come image.new))
-        (ConsumedExactly passphrase (K.to_come secret.new)) (Appended (O.written out.old)
-        (O.written out.new))))) }
-    ensures unneeded { IfKnown (H.to_come header.old) (λ file.
-        is_err (volume_by detached_header_of slots file) ≡ true
+    ensures run { RunsAsSpecified location (luks_cat (volume_request args.now))
+        (result_message result)
+        (record {
+          input = record { before = H.to_come header.old; after = H.to_come header.new };
+          payload = record { before = I.to_come image.old; after = I.to_come image.new };
+          secret = record { before = K.to_come secret.old; after = K.to_come secret.new };
+          output = record { before = O.written out.old; after = O.written out.new };
+        }) }
+    ensures unneeded { IfKnown (H.to_come header.old) (λ known.
+        is_err (volume_by (reader_for location) args.now.slots known) ≡ true
         → secret.new ≡ secret.old) }
-    ensures work { IfKnown (H.to_come header.old) (λ file.
-        IfKnown (K.to_come secret.old) (λ passphrase. CountsOpening HeaderLocation.Detached slots
-        file passphrase (result_message result) (H.to_come header.new) (K.counts secret.old)
+    ensures work { IfKnown (H.to_come header.old) (λ known.
+        IfKnown (K.to_come secret.old) (λ passphrase. CountsOpening location args.now.slots
+        known passphrase (result_message result) (H.to_come header.new) (K.counts secret.old)
         (K.counts secret.new) work.old work.new)) }
     ensures before_key { EndsWithoutKey (result_message result) → image.new ≡ image.old }
-    ensures calls { CountsCallsDetached
-        (ReadsPayload (CatAllows HeaderLocation.Detached slots (result_message result)
+    ensures calls { CountsCalls location
+        (ReadsPayload (CatAllows location args.now.slots (result_message result)
         (H.to_come header.old) (K.to_come secret.old)))
         (result_message result)
-        (record { before = H.counts header.old; after = H.counts header.new })
-        (record { before = I.counts image.old; after = I.counts image.new })
-        (record { before = K.counts secret.old; after = K.counts secret.new })
-        (record { before = O.counts out.old; after = O.counts out.new }) }
+        (record {
+          input = record { before = H.counts header.old; after = H.counts header.new };
+          payload = record { before = I.counts image.old; after = I.counts image.new };
+          secret = record { before = K.counts secret.old; after = K.counts secret.new };
+          output = record { before = O.counts out.old; after = O.counts out.new };
+        }) }
 {
-    let unlocked = unlock(alloc, HeaderLocation::Detached, slots, header, secret, work)?;
-    write_plain(&unlocked.volume, &[], image, out)
+    let unlocked = unlock(alloc, location, args.slots, header, secret, work)?;
+    match location {
+        HeaderLocation::Detached => write_plain(&unlocked.volume, &[], image, out),
+        HeaderLocation::Attached => {
+            let loaded = unlocked.area.as_slice();
+            if unlocked.area.has_ended() {
+                // EOF was hit on the image: all of it is loaded, and it is not read again.
+                return write_plain(&unlocked.volume, loaded, &mut MemSource::new(&[]), out);
+            }
+            write_plain(&unlocked.volume, loaded, header, out)
+        }
+    }
 }

@@ -1,15 +1,15 @@
-use Rattle.std.proofs.Common.{inl, refl}
+use Rattle.std.proofs.Common.{inl}
 use Rattle.luks_io.proofs.ErrorLemmas.{given_error}
 use Rattle.luks_unlock.specs.Volume.{slot_outcome}
 use Rattle.luks_runs.specs.Run.{AnyPromptness, ConsumedNothing, result_message}
-use Rattle.luks_cli.proofs.OpenedRuns.{calls_unopened, runs_at, runs_slot, slot_message, slot_consumes_loaded}
-use Rattle.luks_cli.specs.CommandRun.{ReadsOnce}
+use Rattle.luks_cli.proofs.OpenedRuns.{no_write_unopened, runs_at, runs_slot, slot_message, slot_consumes_loaded}
 use Rattle.luks_cli.proofs.execute.volumes.test_passphrase.Goals as goal
 
 pub returns-in_err-unlocked-clause-run : goal.returns-in_err-unlocked-clause-run
 returns-in_err-unlocked-clause-run g c =
     rw (given_error _ _ c.from_residual.ensures.1) (λ known is pass has.
-    runs_at _ AnyPromptness _ _ _ ConsumedNothing _ _ (λ input payload secret output is. tt) refl
+    runs_at _ AnyPromptness _ _ _ ConsumedNothing ConsumedNothing _ _ (λ input payload secret output is. tt)
+    (λ count none. none)
     (c.in_err-unlocked.ensures.err known is pass has (slot_outcome pass) (slot_consumes_loaded pass) _))
 
 pub returns-clause-run : goal.returns-clause-run
@@ -28,16 +28,15 @@ returns-clause-reads_first g c failed =
     (result_message c.write_opened_line.result) c.write_opened_line.ensures.written).1 in
     absurd (cc (rw failed at no_read))
 
-pub returns-in_err-unlocked-clause-calls : goal.returns-in_err-unlocked-clause-calls
-returns-in_err-unlocked-clause-calls g c =
-    let stop = c.in_err-unlocked.ensures in
-    rw (given_error _ _ c.from_residual.ensures.1) (calls_unopened ReadsOnce _ stop.only stop.counts)
+pub returns-in_err-unlocked-clause-writes : goal.returns-in_err-unlocked-clause-writes
+returns-in_err-unlocked-clause-writes g c =
+    rw (given_error _ _ c.from_residual.ensures.1) (no_write_unopened _ c.in_err-unlocked.ensures.only)
 
-pub returns-clause-calls : goal.returns-clause-calls
-returns-clause-calls g c =
+pub returns-clause-counts : goal.returns-clause-counts
+returns-clause-counts g c =
     let not_read = (slot_message c.in_ok-unlocked.unlocked.volume.slot _ _
     (result_message c.write_opened_line.result) c.write_opened_line.ensures.written).1 in
-    record { reads = rw not_read c.in_ok-unlocked.ensures.counts; out_writes = c.write_opened_line.ensures.writes }
+    rw not_read c.in_ok-unlocked.ensures.counts
 
 pub returns-in_err-unlocked-clause-work : goal.returns-in_err-unlocked-clause-work
 returns-in_err-unlocked-clause-work g c = rw (given_error _ _ c.from_residual.ensures.1) c.in_err-unlocked.ensures.work

@@ -1,8 +1,8 @@
--- The outcome of a run, a function of the command and the bytes of its inputs, and how a run is compared with it: with
--- an attached header, and with a detached one. Then header and key areas come from the header's file, and the payload
+-- What the clauses of `execute` and `execute_detached` say, clause by clause. With an attached header, header, key areas
+-- and payload are in one image. With a detached one, header and key areas come from the header's file, and the payload
 -- from the image, at the segment's own offset.
 use Rattle.std.specs.Prelude.{◌≡◌, ℕ, ◌<◌, ◌^◌, max, List, length, Option, Some, Bool, true, ◌&&◌, not, ◌⊎◌, is_err}
-use Rattle.std.specs.Prelude.{IfSome, false, ◌≤◌, take, Result, Err, ◌+◌, ◌-◌, ◌*◌, ◌/◌, Ok}
+use Rattle.std.specs.Prelude.{IfSome, false, ◌≤◌, ◌+◌, ◌-◌, ◌*◌, ◌/◌, Ok}
 use Rattle.luks_io.specs.Counts.{Reads, Writes, allowed_to}
 use Rattle.luks_io.specs.declared.counts.ReadCounts.{ReadCounts}
 use Rattle.luks_io.specs.declared.counts.WriteCounts.{WriteCounts}
@@ -14,33 +14,28 @@ use Rattle.luks_runs.specs.Location.{HeaderReader, reader_for, detached_header_o
 use Rattle.luks_runs.specs.declared.location.HeaderLocation.{HeaderLocation}
 use Rattle.luks_runs.specs.declared.location.HeaderLocation.TheVariants.{Attached, Detached}
 use Rattle.luks_runs.specs.Payload.{max_payload_end}
-use Rattle.luks_runs.specs.Run.{Promptness, RunMatches, ConsumedNothing, AnyPromptness, is_run_read_failure}
+use Rattle.luks_runs.specs.Run.{Promptness, ConsumedNothing, AnyPromptness, is_run_read_failure}
 use Rattle.luks_runs.specs.Run.{is_run_write_failure, DetachedRunMatches, aborts, Outcome}
 use Rattle.luks_runs.specs.Stripe.{max_key_len, PromptSplit, merge_outcome, split_outcome}
 use Rattle.luks_unlock.specs.Volume.{HasSegmentBy, HasSegment, slot_outcome, volume_by, OnOpened}
-use Rattle.luks_unlock.specs.Volume.{Volume, volume_outcome_by, TriesSlots, OpeningMessage, unlock_read_len}
+use Rattle.luks_unlock.specs.Volume.{Volume, volume_outcome_by, OpeningMessage, unlock_read_len}
 use Rattle.luks_unlock.specs.Volume.{ends_untried}
 use Rattle.luks_unlock.specs.Volume.{detached_payload_outcome, payload_outcome}
 use Rattle.luks_unlock.specs.Honest.{OpensHonest}
 use Rattle.luks_verdict.specs.declared.segment.Segment.{Segment}
 use Rattle.luks_report.specs.declared.message.Message.{Message}
-use Rattle.luks_report.specs.declared.message.Message.TheVariants.{Done, ReadFailed, WriteFailed, OutOfMemory}
-use Rattle.luks_report.specs.declared.message.Message.TheVariants.{Usage as UsageMessage}
-use Rattle.luks_header.specs.Header.{header_read_len, header_of}
+use Rattle.luks_report.specs.declared.message.Message.TheVariants.{Done, ReadFailed, WriteFailed}
+use Rattle.luks_header.specs.Header.{header_read_len}
 use Rattle.luks_kdf.specs.Pbkdf2.{capped}
-use Rattle.luks_open.specs.Opening.{work_of, OrderModel}
+use Rattle.luks_open.specs.Opening.{work_of}
 use Rattle.luks_open.specs.declared.opening.Opened.{Opened}
-use Rattle.luks_runs.specs.KeyFile.{NoKeyFileRead, max_key_file_len}
-use Rattle.luks_unlock.specs.declared.unlocked.UnlockedVolume.{UnlockedVolume}
 use Rattle.luks_payload.specs.Plain.{sector_len, sector_start}
-use Rattle.luks_args.specs.declared.planning.PlanFault.{PlanFault}
-use Rattle.luks_args.specs.declared.planning.PlanFault.TheVariants.{Memory, Usage}
 use Rattle.luks_runs.specs.HeaderOutcome.{is_luks_outcome, print_outcome_by}
 use Rattle.luks_runs.specs.declared.headers.Printout.TheVariants.{Uuid, Dump, Check}
 use Rattle.luks_runs.specs.RunMessages.{CheckMessage, IsLuksMessage, MergeMessage, PayloadMessage, PrintMessage}
 use Rattle.luks_runs.specs.RunMessages.{SplitMessage}
 
--- ---- the outcome of a run, and the messages with which it may end
+-- ---- `run`: the outcome of a command for the bytes of its inputs, and how a run is compared with it
 
 -- the outcome of a command for the bytes of its first and of its second input, if its header is read in this way, and
 -- if this is what `luksCat` does with an opened volume
@@ -55,39 +50,16 @@ outcome_by read on_payload (luks_cat o) image secret = volume_outcome_by read on
 outcome_by read on_payload (af_split s) image secret = split_outcome s.hash s.stripes image secret
 outcome_by read on_payload (af_merge m) image secret = merge_outcome m.hash m.stripes m.key_bytes image
 
--- the outcome of a command for the bytes of its inputs
-abbrev pub outcome_of : Request → List ℕ → List ℕ → Outcome
-outcome_of request image secret = outcome_by header_of (payload_outcome image secret) request image secret
+-- what `luksCat` does with an opened volume whose payload is in this image, if its header is at this location
+abbrev pub payload_outcome_at : HeaderLocation → List ℕ → List ℕ → OnOpened
+payload_outcome_at Attached = payload_outcome
+payload_outcome_at Detached = detached_payload_outcome
 
--- what a command does with the bytes of the file with the header, of the image and of the second input
-abbrev pub detached_outcome_of : Request → List ℕ → List ℕ → List ℕ → Outcome
-detached_outcome_of request file image secret =
-    outcome_by detached_header_of (detached_payload_outcome image secret) request file secret
-
--- the messages that a command may end with, whatever its devices do
-abbrev pub MayReport : Request → Message → Type 0
-MayReport (is_luks _) message = IsLuksMessage message
-MayReport (luks_uuid _) message = PrintMessage message
-MayReport (luks_dump _) message = PrintMessage message
-MayReport (luks_check _) message = CheckMessage message
-MayReport (test_passphrase o) message = OpeningMessage message ⊎ (message ≡ Done ⊎ message ≡ WriteFailed)
-MayReport (luks_cat o) message = OpeningMessage message ⊎ PayloadMessage message
-MayReport (af_split s) message = SplitMessage message
-MayReport (af_merge m) message = MergeMessage message
-
--- the message if the arguments are not a command, or memory ran out
-abbrev pub message_for_plan : PlanFault → Message
-message_for_plan Usage = UsageMessage
-message_for_plan Memory = OutOfMemory
-
--- ---- opening a volume: its effects on the devices, and how promptly a command on it is aborted
-
--- whatever is done with a volume consumes at least the bytes of its image that are loaded, and the whole key file
-pub record ConsumesLoaded (secret : List ℕ) (on_opened : OnOpened) : Type 0 where
-  pub loaded : (segment : Segment) (opened : Opened) (loaded : ℕ)
-      → loaded ≤ (on_opened segment opened loaded).input_consumed
-  pub whole : (segment : Segment) (opened : Opened) (loaded : ℕ)
-      → (on_opened segment opened loaded).secret_consumed ≡ length secret
+-- the outcome of a command for the bytes of its first input, of the image with the payload and of its second input, if
+-- its header is at this location
+abbrev pub outcome_of : HeaderLocation → Request → List ℕ → List ℕ → List ℕ → Outcome
+outcome_of location request input image secret =
+    outcome_by (reader_for location) (payload_outcome_at location image secret) request input secret
 
 -- the header's bytes end before the payload starts, or the run consumed more than the header's bytes. (Neither holds
 -- only if a damaged primary header has a size that reaches past the payload's start, and the run consumed no byte past
@@ -114,36 +86,68 @@ PromptCat Detached file message input_consumed payload_consumed secret_consumed 
     (segment : Segment) → HasSegmentBy detached_header_of file segment
     → PromptForwarding segment 0 message payload_consumed output
 
--- the volume was not opened, and the message says why: nothing was written, and the run matches the specified outcome,
--- whatever the command would do with an open volume
-abbrev pub EndsLocked : HeaderLocation → SlotChoice → List ℕ → List ℕ → Message → Option (List ℕ)
-    → Option (List ℕ) → Type 0
-EndsLocked location slots image secret message image' secret' =
-    (on_opened : OnOpened) → ConsumesLoaded secret on_opened → (written : Option (List ℕ))
-    → RunMatches (PromptCat location image) (volume_outcome_by (reader_for location) on_opened slots image secret)
-    message (ConsumedExactly image image') (ConsumedExactly secret secret') (Appended written written)
+-- how promptly a command ends if it is aborted, with this image, or this file with a detached header
+abbrev pub promptness_of : HeaderLocation → Request → List ℕ → Promptness
+promptness_of location (luks_cat o) image = PromptCat location image
+promptness_of location (af_split s) image = PromptSplit (length image)
+promptness_of location _ image = AnyPromptness
 
--- the volume was opened: its segment and its key are these, and these first bytes of the image, or of the file with the
--- header, are loaded. With an attached header they reach past the payload's start only as far as the header was read
-pub record Unlocks (location : HeaderLocation) (slots : SlotChoice) (image secret : List ℕ) (segment : Segment)
-    (opened : Opened) (loaded : List ℕ) (image' secret' : Option (List ℕ)) : Type 0 where
-  pub outcome : (on_opened : OnOpened)
-      → volume_outcome_by (reader_for location) on_opened slots image secret ≡ on_opened segment opened (length loaded)
-  pub has : HasSegmentBy (reader_for location) image segment
-  pub no_further : location ≡ Attached → length loaded ≤ max (header_read_len image) segment.offset
-  pub prefix : loaded ≡ take (length loaded) image
-  pub input_consumed : ConsumedExactly image image' (length loaded)
-  pub secret_consumed : ConsumedExactly secret secret' (length secret)
+-- these are the bytes of the image with the payload. An attached header and its payload are both in the first input;
+-- the image of a detached header knows its bytes if the command reads any of it
+abbrev pub KnowsPayload : HeaderLocation → Request → List ℕ → Option (List ℕ) → List ℕ → Type 0
+KnowsPayload Attached request input device image = image ≡ input
+KnowsPayload Detached (luks_cat o) input device image = device ≡ Some image
+KnowsPayload Detached request input device image = Unit {0}
 
--- the effect of trying to open a volume that was found, under the passphrase in the key file. The key file is read
--- whole before the key slots are tried; if it cannot be, nothing more of the image is consumed
-abbrev pub UnlockEffect : Option ℕ → Segment → OrderModel → List ℕ → List ℕ → List ℕ → List ℕ → Option (List ℕ)
-    → Option (List ℕ) → Result UnlockedVolume Message → Type 0
-UnlockEffect named segment order pass area area' rest left secret' result =
-    ((length pass ≤ max_key_file_len) × ConsumedExactly pass secret' (length pass)
-    × TriesSlots named segment order pass area area' rest left result)
-    ⊎ ((message : Message) × (result ≡ Err message) × NoKeyFileRead pass secret' message × (area' ≡ area)
-    × (left ≡ Some rest))
+-- the second input of a command knows its bytes, if there is one
+abbrev pub KnowsSecret : Request → Option (List ℕ) → List ℕ → Type 0
+KnowsSecret request device secret = IfSome (secret_of request) (λ _. device ≡ Some secret)
+
+-- the image is not longer than the command can count: `luksCat` counts its bytes in 64 bits
+abbrev pub IsCounted : Request → List ℕ → Type 0
+IsCounted (luks_cat o) image = length image < 2 ^ 64
+IsCounted _ image = Unit {0}
+
+-- what was consumed of the image with the payload. If the header is attached, that was counted as the first input's
+abbrev pub ConsumedOfPayload : Request → HeaderLocation → List ℕ → Option (List ℕ) → ℕ → Type 0
+ConsumedOfPayload (luks_cat o) Detached image left = ConsumedExactly image left
+ConsumedOfPayload request location image left = ConsumedNothing
+
+-- what was consumed of the second input
+abbrev pub ConsumedOfSecret : Request → List ℕ → Option (List ℕ) → ℕ → Type 0
+ConsumedOfSecret (test_passphrase o) secret left = ConsumedExactly secret left
+ConsumedOfSecret (luks_cat o) secret left = ConsumedExactly secret left
+ConsumedOfSecret (af_split s) secret left = ConsumedExactly secret left
+ConsumedOfSecret _ secret left = ConsumedNothing
+
+-- what a device has before and after a run
+pub record Change (T : Type 0) : Type 0 where
+  pub before : T
+  pub after : T
+
+-- what the devices of a run have before and after it, each of its inputs and its output
+pub record Devices (In Out : Type 0) : Type 0 where
+  -- the image, the file with a detached header, the key or the stripes
+  pub input : Change In
+  -- the image with the payload, which is the first input unless the header is detached
+  pub payload : Change In
+  -- the key file, or the random bytes
+  pub secret : Change In
+  pub output : Change Out
+
+-- if the inputs of a command know their bytes, and the image with the payload is not too long to be counted, the run
+-- has the outcome that is specified for those bytes, or was aborted on the way to it. (`DetachedRunMatches` counts what
+-- is consumed of an image that has the payload alone; if the header is attached, there is none, and this is
+-- `ConsumedNothing`.)
+abbrev pub RunsAsSpecified : HeaderLocation → Request → Message → Devices (Option (List ℕ)) (Option (List ℕ)) → Type 0
+RunsAsSpecified location request message bytes = IfKnown bytes.input.before (λ input. (image : List ℕ)
+    → KnowsPayload location request input bytes.payload.before image
+    → (secret : List ℕ) → KnowsSecret request bytes.secret.before secret → IsCounted request image
+    → DetachedRunMatches (promptness_of location request input) (outcome_of location request input image secret) message
+    (ConsumedExactly input bytes.input.after) (ConsumedOfPayload request location image bytes.payload.after)
+    (ConsumedOfSecret request secret bytes.secret.after) (Appended bytes.output.before bytes.output.after))
+
+-- ---- `work`: the evaluations of HMAC
 
 -- at least this many of a source's remaining bytes were consumed
 abbrev pub ConsumedAtLeast : List ℕ → Option (List ℕ) → ℕ → Type 0
@@ -181,46 +185,6 @@ CountsOpening location slots image passphrase message image' secret secret' work
     CountsTried location slots image passphrase image' secret secret' work work'
     ⊎ (EndsUntried location slots image message image' secret secret' × (work' ≡ work))
 
--- ---- runs of commands
-
--- how promptly a command ends if it is aborted, with this image, or this file with a detached header
-abbrev pub promptness_of : HeaderLocation → Request → List ℕ → Promptness
-promptness_of location (luks_cat o) image = PromptCat location image
-promptness_of location (af_split s) image = PromptSplit (length image)
-promptness_of location _ image = AnyPromptness
-
--- the second input of a command knows its bytes, if there is one
-abbrev pub KnowsSecret : Request → Option (List ℕ) → List ℕ → Type 0
-KnowsSecret request device secret = IfSome (secret_of request) (λ _. device ≡ Some secret)
-
--- what was consumed of the second input
-abbrev pub ConsumedOfSecret : Request → List ℕ → Option (List ℕ) → ℕ → Type 0
-ConsumedOfSecret (test_passphrase o) secret left = ConsumedExactly secret left
-ConsumedOfSecret (luks_cat o) secret left = ConsumedExactly secret left
-ConsumedOfSecret (af_split s) secret left = ConsumedExactly secret left
-ConsumedOfSecret _ secret left = ConsumedNothing
-
--- the image is not longer than the command can count: `luksCat` counts its bytes in 64 bits
-abbrev pub IsCounted : Request → List ℕ → Type 0
-IsCounted (luks_cat o) image = length image < 2 ^ 64
-IsCounted _ image = Unit {0}
-
--- what a device has before and after a run
-pub record Change (T : Type 0) : Type 0 where
-  pub before : T
-  pub after : T
-
--- if the inputs of a command know their bytes, and the image is not too long to be counted, the run has the outcome
--- that is specified for those bytes, or was aborted on the way to it
-abbrev pub RunsAsSpecified : Request → Message → Change (Option (List ℕ)) → Change (Option (List ℕ))
-    → Change (Option (List ℕ)) → Type 0
-RunsAsSpecified request message image secret written =
-    IfKnown image.before
-    (λ known. (known_secret : List ℕ) → KnowsSecret request secret.before known_secret → IsCounted request known
-    → RunMatches (promptness_of Attached request known) (outcome_of request known known_secret) message
-    (ConsumedExactly known image.after) (ConsumedOfSecret request known_secret secret.after)
-    (Appended written.before written.after))
-
 -- the evaluations of HMAC that a run of a command needs, if its inputs know their bytes: those of trying the key slots
 -- if they were tried, and none otherwise. A command that opens no volume needs none
 abbrev pub CountsWork : HeaderLocation → Request → Message → ℕ → Change (Option (List ℕ)) → Option (List ℕ)
@@ -233,6 +197,8 @@ CountsWork location (luks_cat o) message work image secret counts = IfKnown imag
     work))
 CountsWork location _ message work image secret counts = work ≡ 0
 
+-- ---- `honest`: volumes that are honestly sealed
+
 -- what `luksCat` writes if the volume is honestly sealed: a run that is not aborted writes the plaintext and succeeds
 abbrev pub WritesPlain : Request → Message → Option (List ℕ) → Option (List ℕ) → Option (List ℕ) → Option (List ℕ)
     → Type 0
@@ -242,11 +208,20 @@ WritesPlain (luks_cat o) message image secret written written' =
     → (message ≡ Done) × Appended written written' plain))
 WritesPlain _ message image secret written written' = Unit {0}
 
--- a command that writes nothing before its last read
-abbrev pub ReadsFirst : Request → Type 0
-ReadsFirst (luks_cat o) = ⊥
-ReadsFirst (af_split s) = ⊥
-ReadsFirst _ = Unit {0}
+-- ---- `only`: the messages
+
+-- the messages that a command may end with, whatever its devices do
+abbrev pub MayReport : Request → Message → Type 0
+MayReport (is_luks _) message = IsLuksMessage message
+MayReport (luks_uuid _) message = PrintMessage message
+MayReport (luks_dump _) message = PrintMessage message
+MayReport (luks_check _) message = CheckMessage message
+MayReport (test_passphrase o) message = OpeningMessage message ⊎ (message ≡ Done ⊎ message ≡ WriteFailed)
+MayReport (luks_cat o) message = OpeningMessage message ⊎ PayloadMessage message
+MayReport (af_split s) message = SplitMessage message
+MayReport (af_merge m) message = MergeMessage message
+
+-- ---- `unneeded`, `untouched`, `reads_first`: devices that are not used
 
 -- a source knows its bytes, and they have this property
 abbrev pub Knows : Option (List ℕ) → (List ℕ → Type 0) → Type 0
@@ -260,6 +235,24 @@ NeedsNoSecret read (luks_cat o) image = Knows image (λ known. is_err (volume_by
 NeedsNoSecret read (af_split s) image = Knows image (λ known. (length known ≡ 0) ⊎ (max_key_len < length known))
 NeedsNoSecret read _ image = Unit {0}
 
+-- the run surely ended before a key was found: with a message of opening, but not with a failed read, which may have
+-- been a read of the payload
+abbrev pub EndsWithoutKey : Message → Type 0
+EndsWithoutKey message = OpeningMessage message × (is_run_read_failure message ≡ false)
+
+-- the payload's image is not read: only `luksCat` reads it, and only after a key was found
+abbrev pub NeedsNoPayload : Request → Message → Type 0
+NeedsNoPayload (luks_cat o) message = EndsWithoutKey message
+NeedsNoPayload request message = Unit {0}
+
+-- a command that writes nothing before its last read
+abbrev pub ReadsFirst : Request → Type 0
+ReadsFirst (luks_cat o) = ⊥
+ReadsFirst (af_split s) = ⊥
+ReadsFirst _ = Unit {0}
+
+-- ---- `calls`: how the devices are called
+
 -- what a run adds to the counts of a source: a failure if a read of it failed, at most one end, and no needless read.
 -- No read-ahead is allowed
 abbrev pub ReadsOnce : Bool → ReadCounts → ReadCounts → Type 0
@@ -268,11 +261,6 @@ ReadsOnce failed before after = (ended : Bool) × Reads failed ended before afte
 -- the same for the image of a payload, for which read-ahead is allowed up to one position, and no further at any moment
 abbrev pub ReadsPayload : (ℕ → Type 0) → Bool → ReadCounts → ReadCounts → Type 0
 ReadsPayload Allows failed before after = (end : ℕ) × Allows end × ReadsOnce failed (allowed_to end before) after
-
--- the run surely ended before a key was found: with a message of opening, but not with a failed read, which may have
--- been a read of the payload
-abbrev pub EndsWithoutKey : Message → Type 0
-EndsWithoutKey message = OpeningMessage message × (is_run_read_failure message ≡ false)
 
 -- under this passphrase a key of the volume is found, and then the command goes on with this segment
 abbrev pub FindsKey : HeaderLocation → SlotChoice → List ℕ → List ℕ → Segment → Type 0
@@ -303,46 +291,26 @@ pub record CountsReads (ReadsIt : Bool → ReadCounts → ReadCounts → Type 0)
   pub input_reads : ReadsIt (in_input && failed) input input'
   pub secret_reads : ReadsOnce (not in_input && failed) secret secret'
 
--- the same for all devices: a failure of the output, too, if a write failed, and no needless call
-pub record CountsCalls (ReadsIt : Bool → ReadCounts → ReadCounts → Type 0) (message : Message)
-    (input input' secret secret' : ReadCounts) (out out' : WriteCounts) : Type 0 where
-  pub reads : CountsReads ReadsIt (is_run_read_failure message) input input' secret secret'
-  pub out_writes : Writes (is_run_write_failure message) out out'
+-- how a run reads its first input, if it reads the image with the payload in this way
+abbrev pub ReadsInput : HeaderLocation → (Bool → ReadCounts → ReadCounts → Type 0) → Bool → ReadCounts → ReadCounts
+    → Type 0
+ReadsInput Attached ReadsIt = ReadsIt
+ReadsInput Detached ReadsIt = ReadsOnce
 
--- the payload's image knows its bytes, if the command reads any of it
-abbrev pub KnowsPayload : Request → Option (List ℕ) → List ℕ → Type 0
-KnowsPayload (luks_cat o) device image = device ≡ Some image
-KnowsPayload request device image = Unit {0}
+-- how a run reads an image that has the payload alone, of which no read can fail if there is none
+abbrev pub ReadsAlone : HeaderLocation → (Bool → ReadCounts → ReadCounts → Type 0) → Bool → ReadCounts → ReadCounts
+    → Type 0
+ReadsAlone Attached ReadsIt failed before after = failed ≡ false
+ReadsAlone Detached ReadsIt failed before after = ReadsIt failed before after
 
--- what was consumed of the payload's image
-abbrev pub ConsumedOfPayload : Request → List ℕ → Option (List ℕ) → ℕ → Type 0
-ConsumedOfPayload (luks_cat o) image left = ConsumedExactly image left
-ConsumedOfPayload request image left = ConsumedNothing
-
--- if the inputs of a command know their bytes, and the payload's image is not too long to be counted, the run has the
--- outcome that is specified for those bytes, or was aborted on the way to it
-abbrev pub RunsDetached : Request → Message → Change (Option (List ℕ)) → Change (Option (List ℕ))
-    → Change (Option (List ℕ)) → Change (Option (List ℕ)) → Type 0
-RunsDetached request message header image secret written =
-    IfKnown header.before (λ file. (known : List ℕ) → KnowsPayload request image.before known
-    → (known_secret : List ℕ) → KnowsSecret request secret.before known_secret → IsCounted request known
-    → DetachedRunMatches (promptness_of Detached request file)
-    (detached_outcome_of request file known known_secret) message
-    (ConsumedExactly file header.after) (ConsumedOfPayload request known image.after)
-    (ConsumedOfSecret request known_secret secret.after) (Appended written.before written.after))
-
--- the payload's image is not read: only `luksCat` reads it, and only after a key was found
-abbrev pub NeedsNoPayload : Request → Message → Type 0
-NeedsNoPayload (luks_cat o) message = EndsWithoutKey message
-NeedsNoPayload request message = Unit {0}
-
--- what a run that reads the payload's image in this way adds to the counts of its devices: a failure of one of its
--- inputs if a read failed, one of the output if a write failed, at most one end of each input, and no needless call
-pub record CountsCallsDetached (ReadsIt : Bool → ReadCounts → ReadCounts → Type 0) (message : Message)
-    (header image secret : Change ReadCounts) (out : Change WriteCounts) : Type 0 where
-  -- if a read failed, it was one of the payload's image
+-- what a run that reads the image with the payload in this way adds to the counts of its devices: a failure of one of
+-- its inputs if a read failed, one of the output if a write failed, at most one end of each input, and no needless call
+pub record CountsCalls (location : HeaderLocation) (ReadsIt : Bool → ReadCounts → ReadCounts → Type 0)
+    (message : Message) (counts : Devices ReadCounts WriteCounts) : Type 0 where
+  -- if a read failed, it was one of an image that has the payload alone
   pub in_payload : Bool
-  pub reads : CountsReads ReadsOnce (not in_payload && is_run_read_failure message) header.before header.after
-      secret.before secret.after
-  pub payload_reads : ReadsIt (in_payload && is_run_read_failure message) image.before image.after
-  pub out_writes : Writes (is_run_write_failure message) out.before out.after
+  pub reads : CountsReads (ReadsInput location ReadsIt) (not in_payload && is_run_read_failure message)
+      counts.input.before counts.input.after counts.secret.before counts.secret.after
+  pub payload_reads : ReadsAlone location ReadsIt (in_payload && is_run_read_failure message) counts.payload.before
+      counts.payload.after
+  pub out_writes : Writes (is_run_write_failure message) counts.output.before counts.output.after
