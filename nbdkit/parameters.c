@@ -52,6 +52,23 @@ int take_name(const char *key, const char *value, char **name)
   return 0;
 }
 
+/* Writes over small blocks that were freed and that malloc keeps, by their size: M_PERTURB leaves
+ * these as they are. */
+static void wipe_freed(void)
+{
+  enum { SMALLEST = 24, LARGEST = 1032, APART = 16, KEPT = 7 };
+  for (size_t size = SMALLEST; size <= LARGEST; size += APART) {
+    void *blocks[KEPT];
+    for (int i = 0; i < KEPT; i++) {
+      blocks[i] = malloc(size);
+      if (blocks[i])
+        explicit_bzero(blocks[i], size);
+    }
+    for (int i = 0; i < KEPT; i++)
+      free(blocks[i]);
+  }
+}
+
 /* Reads the passphrase as nbdkit does for all plugins. It leaves what it has read in freed memory,
  * in the buffer of standard input, on the stack and in registers: the second is not used, and the
  * others are overwritten. */
@@ -66,6 +83,7 @@ static int take_passphrase(const char *value, char **passphrase)
   mallopt(M_PERTURB, 0xff);
   const int status = nbdkit_read_password(value, passphrase);
   mallopt(M_PERTURB, 0);
+  wipe_freed();
   forget_copies();
   return status;
 }
