@@ -190,7 +190,8 @@ TESTS := stripes volumes devices pipes faults interruptions install memory hosti
 INTEROP := headers headers2 volumes volumes2 detached filesystems
 SOURCE_SCRIPTS := test-names test-counts test-headline test-contracts test-speed
 PROGRAM_SCRIPTS := $(SOURCE_SCRIPTS) $(TESTS:%=test-%) $(INTEROP:%=interop-%)
-C_SCRIPTS := test-package test-library test-processors interop-nbd interop-filter interop-python interop-recipes
+C_SCRIPTS := test-package test-library test-processors interop-library interop-nbd interop-filter interop-python \
+    interop-recipes
 TOOL_SCRIPTS := interop-sealed interop-keys
 AUDIT_SCRIPTS := interop-audit test-audit-completions
 ALL_SCRIPTS := $(PROGRAM_SCRIPTS) $(AUDIT_SCRIPTS) $(C_SCRIPTS) $(TOOL_SCRIPTS)
@@ -267,6 +268,9 @@ test-audit-completions:
 interop-recipes:
 	interop/recipes.sh $(PROGRAM) $(PLUGIN) $(FILTER)
 
+interop-library:
+	interop/library.sh $(PROGRAM) $(LIBRARY) $(SHARED)
+
 test-library:
 	tests/library.sh $(PROGRAM) $(LIBRARY) $(SHARED) $(SHARED_V3)
 
@@ -284,6 +288,7 @@ bench: $(if $(AS_BUILT),,all)
 	    command -v $$tool >/dev/null || { echo "$$tool is missing: CONTRIBUTING.md lists the packages" >&2; exit 1; }; \
 	done
 	bench/instructions
+	bench/reads
 	bench/memory
 	bench/pbkdf2 $(ROUNDS)
 	bench/xts $(ROUNDS)

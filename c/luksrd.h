@@ -40,8 +40,9 @@
  *
  * What is left of keys: the caller wipes the passphrase, the volume and the cipher (luksrd_wipe).
  * Copies of keys and of parts of them stay on the stack of the thread that called luksrd_open or
- * luksrd_prepare until something else is written there. A program that must not leave them calls
- * the two in a thread with a stack of its own, which it wipes when the thread has ended.
+ * luksrd_prepare, until luksrd_wipe_stack or something else writes over them.
+ * After that they can be in registers that nothing has used since, which the loader may save on the
+ * stack when it looks up a function. The library puts no copy elsewhere.
  */
 #ifndef LUKSRD_H
 #define LUKSRD_H
@@ -249,6 +250,25 @@ uint32_t luksrd_decrypt(const struct luksrd_cipher *cipher, uint64_t first_secto
 
 /* Fills the bytes with zeros, also if nothing reads them afterwards. */
 void luksrd_wipe(void *bytes, size_t len) LUKSRD_NONNULL;
+
+#ifdef __GNUC__
+static __attribute__((noinline, unused)) void luksrd_wipe_below(void)
+{
+  uint8_t below[262144];
+  luksrd_wipe(below, sizeof below);
+}
+
+/* Fills the 256 KiB of stack below the caller with zeros, where functions that it called before have
+ * left copies of keys. Call it from the function that called luksrd_open or luksrd_prepare,
+ * in the same thread. */
+static __attribute__((noinline, unused)) void luksrd_wipe_stack(void)
+{
+  /* When the loader looks up a function, it saves registers: here, where they are wiped. */
+  uint8_t first;
+  luksrd_wipe(&first, sizeof first);
+  luksrd_wipe_below();
+}
+#endif
 
 /* The status and the sentence of a code alone, without slot numbers, reasons and counts of bytes.
  * LUKSRD_OK has status 0 and an empty sentence. A number that is not a code has status 1 and the

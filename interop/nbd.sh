@@ -114,18 +114,12 @@ slots() {
 with slots
 
 # a volume whose header is lost, by its volume key
-# keeps IMAGE: its volume key is in the file "IMAGE.key", as cryptsetup saves it from a copy, and its header is no more
-keeps() {
-    cp "$1" "$1.lost"
-    run_cryptsetup luksDump --dump-volume-key --volume-key-file "$1.key" --key-file pass "$1.lost"
-    dd if=/dev/zero of="$1.lost" bs=1M count=1 conv=notrunc status=none
-}
 essiv='luks2 cbc-essiv:sha256 256 4096'
 for sealed in "$volume1" "$volume2" "$essiv"; do keeps "$sealed"; done
 volume_keys() {
     local start1 start2
-    start1=$(start_of1 "$volume1")
-    start2=$(start_of2 "$volume2")
+    start1=$(cat "$volume1.start")
+    start2=$(cat "$volume2.start")
     text "$volume1" pass
     opens 'a volume key' "$volume1.lost" volume-key-file="$volume1.key" payload-offset="$start1"
     opens 'a volume key from a pipe' "$volume1.lost" volume-key-file=<(cat "$volume1.key") payload-offset="$start1" \
@@ -134,7 +128,7 @@ volume_keys() {
     opens 'a volume key of sectors of 4096' "$volume2.lost" volume-key-file="$volume2.key" payload-offset="$start2" \
         sector-size=4096
     text "$essiv" pass
-    opens 'a volume key for CBC' "$essiv.lost" volume-key-file="$essiv.key" payload-offset="$(start_of2 "$essiv")" \
+    opens 'a volume key for CBC' "$essiv.lost" volume-key-file="$essiv.key" payload-offset="$(cat "$essiv.start")" \
         sector-size=4096 cipher=aes-cbc-essiv:sha256
     refused 'a volume key without an offset' 'volume-key-file= needs payload-offset=' "$volume1" \
         volume-key-file="$volume1.key"
@@ -144,7 +138,10 @@ volume_keys() {
         refused "a volume key and $more" 'volume-key-file= goes with cipher=, payload-offset= and sector-size= alone' \
             "$volume1" volume-key-file="$volume1.key" payload-offset=512 $more
     done
-    for more in cipher=aes-cbc-plain64 cipher=aes-ecb sector-size=513; do
+    refused 'a volume key and an unknown cipher' \
+        'cipher=aes-ecb: none of aes-xts-plain64 aes-xts-plain aes-cbc-essiv:sha256 aes-cbc-plain64' "$volume1" \
+        volume-key-file="$volume1.key" payload-offset=512 cipher=aes-ecb
+    for more in cipher=aes-cbc-plain64 sector-size=513; do
         refused "a volume key and $more" \
             "$volume1.key: a key of 64 bytes, this cipher and this sector size do not go together" "$volume1" \
             volume-key-file="$volume1.key" payload-offset=512 $more
@@ -251,34 +248,39 @@ images() {
 }
 with images
 
-# While the volume is served, no piece of its passphrase, of 80 bytes, is in memory, but for one that is an argument;
-# the volume key is, which shows that it would be found.
-head -c 40 /dev/urandom | od -An -v -tx1 | tr -d ' \n' >secret
+# While the volume is served, no piece of its passphrase, of 80 or 400 bytes, is in memory, but for one that is an
+# argument; the volume key is, which shows that it would be found.
 cp "$volume1" remembered
-run_cryptsetup luksAddKey --pbkdf-force-iterations 1000 --key-file pass remembered secret
+for length in 80 400; do
+    head -c $((length / 2)) /dev/urandom | od -An -v -tx1 | tr -d ' \n' >secret$length
+    run_cryptsetup luksAddKey --pbkdf-force-iterations 1000 --key-file pass remembered secret$length
+done
 run_cryptsetup luksDump --dump-volume-key --volume-key-file volume_key --key-file pass remembered
 # finds WHAT: where this is in the server's memory
 finds() {
     /usr/bin/python3 "$here/clients.py" finds "$1" "$(cat pid)"
 }
-# remembers WHERE PARAMETER [COMMAND..]: the server, started by this command, keeps the passphrase there
+# remembers WHERE SECRET PARAMETER [COMMAND..]: the server, started by this command, keeps the passphrase there
 remembers() {
-    "${@:3}" nbdkit -f -U socket -P pid "${server[@]}" remembered "$2" 9<secret >said 2>&1 &
+    "${@:4}" nbdkit -f -U socket -P pid "${server[@]}" remembered "$3" 9<"$2" >said 2>&1 &
     local started=$!
     wait_until $started test -s pid
-    same "${2%%=*}=.., $way: the size" "$(nbdinfo --size 'nbd+unix:///?socket=socket' 2>&1)" 300032
-    same "${2:0:13}.., $way: the passphrase in memory" "$(finds secret)" "$1"
-    same "${2:0:13}.., $way: the volume key in memory" "$(finds volume_key)" everywhere
+    same "${3%%=*}=.., $2, $way: the size" "$(nbdinfo --size 'nbd+unix:///?socket=socket' 2>&1)" 300032
+    same "${3:0:13}.., $2, $way: the passphrase in memory" "$(finds "$2")" "$1"
+    same "${3:0:13}.., $2, $way: the volume key in memory" "$(finds volume_key)" everywhere
     kill "$(cat pid)"
     ended $started
     rm -f pid socket
 }
 memories() {
-    for parameter in key-file=secret passphrase=+secret passphrase=-9; do
-        remembers nowhere $parameter
+    local secret parameter
+    for secret in secret80 secret400; do
+        for parameter in key-file=$secret passphrase=+$secret passphrase=-9; do
+            remembers nowhere $secret "$parameter"
+        done
+        remembers nowhere $secret passphrase=- /usr/bin/python3 "$here/clients.py" asks "$(cat $secret)"
+        remembers arguments $secret "passphrase=$(cat $secret)"
     done
-    remembers nowhere passphrase=- /usr/bin/python3 "$here/clients.py" asks "$(cat secret)"
-    remembers arguments "passphrase=$(cat secret)"
 }
 with memories
 

@@ -75,6 +75,7 @@ static int take_secret(void)
   const int status = get_passphrase(&parameters, fd, &passphrase);
   if (fd >= 0)
     close(fd);
+  forget_copies();
   return status;
 }
 
@@ -314,7 +315,7 @@ static int pread_plain(nbdkit_next *next, void *handle, void *buf, uint32_t coun
 
 static struct nbdkit_filter filter = {
   .name = "luksrd",
-  .longname = "luksrd: LUKS1 and LUKS2 volumes",
+  .longname = LONG_NAME,
   .description = "Serves the plaintext of the LUKS volume in what is below it, read-only.",
   .config_help = PARAMETERS_HELP,
   .unload = unload,

@@ -2,6 +2,7 @@
 
 #include <errno.h>
 #include <fcntl.h>
+#include <malloc.h>
 #include <stdlib.h>
 #include <string.h>
 #include <sys/stat.h>
@@ -12,8 +13,9 @@
 
 void wipe(struct bytes *bytes)
 {
+  /* all of it: more than these bytes may have been read */
   if (bytes->at)
-    explicit_bzero(bytes->at, bytes->len);
+    explicit_bzero(bytes->at, malloc_usable_size(bytes->at));
   free(bytes->at);
   *bytes = (struct bytes){ 0 };
 }

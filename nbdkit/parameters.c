@@ -52,10 +52,26 @@ int take_name(const char *key, const char *value, char **name)
   return 0;
 }
 
-/* Reads the passphrase as nbdkit does for all plugins. It leaves what it has read in freed memory
- * and in the buffer of standard input: the one is overwritten, and the other is not used. (If it is
- * longer than 119 bytes, pieces stay in blocks that malloc keeps, and in registers, which the loader
- * may save on the stack.) */
+/* Writes over small blocks that were freed and that malloc keeps, by their size: M_PERTURB leaves
+ * these as they are. */
+static void wipe_freed(void)
+{
+  enum { SMALLEST = 24, LARGEST = 1032, APART = 16, KEPT = 7 };
+  for (size_t size = SMALLEST; size <= LARGEST; size += APART) {
+    void *blocks[KEPT];
+    for (int i = 0; i < KEPT; i++) {
+      blocks[i] = malloc(size);
+      if (blocks[i])
+        explicit_bzero(blocks[i], size);
+    }
+    for (int i = 0; i < KEPT; i++)
+      free(blocks[i]);
+  }
+}
+
+/* Reads the passphrase as nbdkit does for all plugins. It leaves what it has read in freed memory,
+ * in the buffer of standard input, on the stack and in registers: the second is not used, and the
+ * others are overwritten. */
 static int take_passphrase(const char *value, char **passphrase)
 {
   if (*passphrase) {
@@ -67,6 +83,8 @@ static int take_passphrase(const char *value, char **passphrase)
   mallopt(M_PERTURB, 0xff);
   const int status = nbdkit_read_password(value, passphrase);
   mallopt(M_PERTURB, 0);
+  wipe_freed();
+  forget_copies();
   return status;
 }
 
@@ -203,11 +221,12 @@ int get_passphrase(struct parameters *parameters, int key_file, struct bytes *pa
 {
   if (secret_file(parameters))
     return read_first(secret_file(parameters), key_file, MAX_PASSPHRASE + 1, passphrase);
-  const size_t len = strlen(parameters->passphrase);
-  if (allocate(passphrase, len) < 0)
-    return -1;
-  memcpy(passphrase->at, parameters->passphrase, len);
-  forget_passphrase(parameters);
+  /* (it is not copied: that would leave bytes in registers) */
+  *passphrase = (struct bytes){
+    .at = (uint8_t *)parameters->passphrase,
+    .len = strlen(parameters->passphrase),
+  };
+  parameters->passphrase = NULL;
   return 0;
 }
 

@@ -23,6 +23,9 @@ struct parameters {
   uint32_t sector_size;    /* in bytes, or 0 */
 };
 
+/* What `nbdkit --help` calls both. */
+#define LONG_NAME "luksrd: LUKS1 and LUKS2 volumes"
+
 /* The help on them, after that on the plugin's own. */
 #define PARAMETERS_HELP                                                                 \
   "key-file=FILE         The file whose bytes are the passphrase, all of them.\n"       \

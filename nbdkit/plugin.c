@@ -176,7 +176,7 @@ static int pread_plain(void *handle, void *buf, uint32_t count, uint64_t offset,
 static struct nbdkit_plugin plugin = {
   .name = "luksrd",
   .version = VERSION,
-  .longname = "luksrd: LUKS1 and LUKS2 volumes",
+  .longname = LONG_NAME,
   .description = "Serves the plaintext of a LUKS1 or LUKS2 volume, read-only.",
   .config_help =
       "file=IMAGE            (required) The image of the volume, a file or a block device.\n"

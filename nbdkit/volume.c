@@ -18,25 +18,29 @@ static void report(const char *name, const struct luksrd_message *message)
   nbdkit_error("%s%s%s", name ? name : "", name ? ": " : "", message->text);
 }
 
-/* The mode of a cipher, whose name is that of a header and of `cryptsetup luksDump`; or 0. */
+/* The ciphers by their names in a header and in `cryptsetup luksDump`. */
+static const struct {
+  const char *cipher;
+  enum luksrd_mode mode;
+} modes[] = {
+  { "aes-xts-plain64", LUKSRD_XTS_PLAIN64 },
+  { "aes-xts-plain", LUKSRD_XTS_PLAIN },
+  { "aes-cbc-essiv:sha256", LUKSRD_CBC_ESSIV_SHA256 },
+  { "aes-cbc-plain64", LUKSRD_CBC_PLAIN64 },
+};
+#define CIPHERS "aes-xts-plain64 aes-xts-plain aes-cbc-essiv:sha256 aes-cbc-plain64"
+
+/* The mode of a cipher; or 0, and reports that there is none of this name. */
 static uint32_t mode_of(const char *cipher)
 {
-  static const struct {
-    const char *cipher;
-    enum luksrd_mode mode;
-  } modes[] = {
-    { "aes-xts-plain64", LUKSRD_XTS_PLAIN64 },
-    { "aes-xts-plain", LUKSRD_XTS_PLAIN },
-    { "aes-cbc-essiv:sha256", LUKSRD_CBC_ESSIV_SHA256 },
-    { "aes-cbc-plain64", LUKSRD_CBC_PLAIN64 },
-  };
   for (size_t i = 0; i < sizeof modes / sizeof modes[0]; i++)
     if (strcmp(cipher, modes[i].cipher) == 0)
       return modes[i].mode;
+  nbdkit_error("cipher=%s: none of " CIPHERS, cipher);
   return 0;
 }
 
-/* Opens a volume without a header. */
+/* Opens a volume by its key, and by what the parameters say of its payload. */
 static enum outcome use_volume_key(struct volume *volume, const struct bytes *key,
                                    const struct parameters *parameters)
 {
@@ -47,6 +51,8 @@ static enum outcome use_volume_key(struct volume *volume, const struct bytes *ke
     .mode = mode_of(parameters->cipher ? parameters->cipher : "aes-xts-plain64"),
     .key_size = (uint32_t)key->len,
   };
+  if (opened->mode == 0)
+    return REFUSED;
   if (key->len <= sizeof opened->key) {
     memcpy(opened->key, key->at, key->len);
     if (luksrd_prepare(opened, &volume->cipher) == LUKSRD_OK)
@@ -57,11 +63,11 @@ static enum outcome use_volume_key(struct volume *volume, const struct bytes *ke
   return REFUSED;
 }
 
-enum outcome unlock(struct volume *volume, const struct bytes *header, const struct bytes *secret,
-                    const struct parameters *parameters)
+/* Opens a volume by a passphrase. */
+static enum outcome use_passphrase(struct volume *volume, const struct bytes *header,
+                                   const struct bytes *passphrase,
+                                   const struct parameters *parameters)
 {
-  if (parameters->volume_key_file)
-    return use_volume_key(volume, secret, parameters);
   const struct luksrd_options options = {
     .size = sizeof options,
     .detached = parameters->header != NULL,
@@ -70,7 +76,7 @@ enum outcome unlock(struct volume *volume, const struct bytes *header, const str
     .max_iterations = parameters->max_iterations,
   };
   struct luksrd_message message;
-  uint32_t code = luksrd_open(header->at, header->len, secret->at, secret->len, &options,
+  uint32_t code = luksrd_open(header->at, header->len, passphrase->at, passphrase->len, &options,
                               &volume->opened, &message);
   if (code == LUKSRD_OK)
     code = luksrd_prepare(&volume->opened, &volume->cipher);
@@ -81,6 +87,35 @@ enum outcome unlock(struct volume *volume, const struct bytes *header, const str
   else
     report(parameters->header ? parameters->header : volume->name, &message);
   return code == LUKSRD_OUT_OF_MEMORY ? TRY_LATER : REFUSED;
+}
+
+enum outcome unlock(struct volume *volume, const struct bytes *header, const struct bytes *secret,
+                    const struct parameters *parameters)
+{
+  const enum outcome outcome = parameters->volume_key_file
+                                   ? use_volume_key(volume, secret, parameters)
+                                   : use_passphrase(volume, header, secret, parameters);
+  forget_copies();
+  return outcome;
+}
+
+void forget_copies(void)
+{
+  luksrd_wipe_stack();
+#ifdef __x86_64__
+  __builtin_cpu_init();
+  if (__builtin_cpu_supports("avx"))
+    __asm__ volatile("vzeroall" ::: "xmm0", "xmm1", "xmm2", "xmm3", "xmm4", "xmm5", "xmm6", "xmm7",
+                     "xmm8", "xmm9", "xmm10", "xmm11", "xmm12", "xmm13", "xmm14", "xmm15");
+  if (__builtin_cpu_supports("avx512f")) {
+    /* those that `vzeroall` leaves, and that this code does not use */
+#define CLEAR(number) \
+  __asm__ volatile("vpxorq %zmm" #number ", %zmm" #number ", %zmm" #number)
+    CLEAR(16); CLEAR(17); CLEAR(18); CLEAR(19); CLEAR(20); CLEAR(21); CLEAR(22); CLEAR(23);
+    CLEAR(24); CLEAR(25); CLEAR(26); CLEAR(27); CLEAR(28); CLEAR(29); CLEAR(30); CLEAR(31);
+#undef CLEAR
+  }
+#endif
 }
 
 uint64_t plain_len(const struct volume *volume, uint64_t image_len)
@@ -162,5 +197,5 @@ void print_library(void)
   const uint32_t version = luksrd_version();
   printf("luksrd_library_version=%u.%u.%u\n", version >> 16, version >> 8 & 255, version & 255);
   printf("luksrd_formats=luks1 luks2\n");
-  printf("luksrd_ciphers=aes-xts-plain64 aes-xts-plain aes-cbc-essiv:sha256 aes-cbc-plain64\n");
+  printf("luksrd_ciphers=" CIPHERS "\n");
 }

@@ -41,6 +41,11 @@ enum outcome { OPENED, REFUSED, TRY_LATER };
 enum outcome unlock(struct volume *volume, const struct bytes *header, const struct bytes *secret,
                     const struct parameters *parameters);
 
+/* Writes over what functions that the caller called before have left on the stack, and clears the
+ * vector registers, in which copying leaves bytes: the loader saves these on the stack when it looks
+ * up a function. Called after a secret was read or used. */
+void forget_copies(void);
+
 /* The length of the plaintext that is served, whole sectors, if the image has this length. */
 uint64_t plain_len(const struct volume *volume, uint64_t image_len);
 

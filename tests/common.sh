@@ -120,6 +120,36 @@ sealed_by_qemu() {
     exit 1
 }
 
+# edited IMAGE STATEMENT: runs this statement of Python over the metadata of a LUKS2 volume, `tree`, in both headers, and
+# recomputes the checksums
+edited() {
+    python3 - "$@" <<'PYTHON'
+import hashlib, json, sys
+image, statement = sys.argv[1:]
+with open(image, 'r+b') as file:
+    size = int.from_bytes(file.read(16)[8:], 'big')
+    for offset in (0, size):
+        file.seek(offset)
+        header = bytearray(file.read(size))
+        tree = json.loads(header[4096:header.index(0, 4096)])
+        exec(statement)
+        area = json.dumps(tree, separators=(',', ':')).encode()
+        header[4096:] = area + bytes(size - 4096 - len(area))
+        header[448:512] = bytes(64)
+        header[448:480] = hashlib.sha256(header).digest()
+        file.seek(offset)
+        file.write(header)
+PYTHON
+}
+
+# changed IMAGE MEMBER=TEXT..: replaces these members of the segment of a LUKS2 volume
+changed() {
+    local member
+    for member in "${@:2}"; do
+        edited "$1" "tree['segments']['0']['${member%%=*}'] = '${member#*=}'"
+    done
+}
+
 # runs_v3: this processor runs what is built for x86-64-v3, as the loader has it
 runs_v3() { /lib64/ld-linux-x86-64.so.2 --help | grep '^  x86-64-v3 (supported' >/dev/null; }
 

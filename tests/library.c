@@ -14,7 +14,12 @@
  *
  *     library stack IMAGE PASSPHRASE
  *
- * prints for each call whether it needs no more stack than luksrd.h states. */
+ * prints for each call whether it needs no more stack than luksrd.h states.
+ *
+ *     library left IMAGE PASSPHRASE
+ *
+ * prints whether parts of the passphrase and of keys are on the stack of a thread, after it has
+ * opened the volume, and after luksrd_wipe_stack. */
 #include "luksrd.h"
 
 #include <inttypes.h>
@@ -31,6 +36,7 @@
 
 #define THREADS 4
 #define RANGES 200
+#define SEED "1" /* of the ranges, which are the same in each run */
 #define GARBAGE 300
 
 struct bytes {
@@ -139,7 +145,7 @@ static void read_range(const struct job *job, uint64_t offset, uint64_t len)
     struct bytes bytes = stored_for(job, &step, offset, len);
     must(luksrd_finish(job->cipher, &step, bytes.at, bytes.len) == LUKSRD_OK, "a step");
     must(step.count > 0 && step.count <= len && ++steps <= 3, "the length of a step");
-    must(memcmp(bytes.at, job->plain.at + offset, step.count) == 0, "a step's bytes");
+    must(memcmp(bytes.at, job->plain.at + offset, step.count) == 0, "a step's bytes in the ranges of seed " SEED);
     free(bytes.at);
     offset += step.count;
     len -= step.count;
@@ -149,7 +155,7 @@ static void read_range(const struct job *job, uint64_t offset, uint64_t len)
 static void *read_ranges(void *argument)
 {
   const struct job *job = argument;
-  uint64_t state = 1;
+  uint64_t state = strtoull(SEED, NULL, 10);
   for (int i = 0; i < RANGES; i++) {
     const uint64_t offset = next_number(&state) % (job->plain.len + 1);
     uint64_t len = next_number(&state) % (job->plain.len - offset + 1);
@@ -469,11 +475,87 @@ static int print_stacks(char **argv)
   return 0;
 }
 
+/* A part of a secret that is looked for. */
+#define PART 8
+
+/* Whether bytes look random: those that repeat, as in round keys that are bitsliced, can be
+ * anywhere. */
+static bool is_random(const uint8_t *at)
+{
+  int repeated = 0;
+  for (int i = 1; i < PART; i++)
+    repeated += memchr(at, at[i], (size_t)i) != NULL;
+  return repeated <= 2;
+}
+
+/* Whether a part of the secret is in these bytes. */
+static bool has_part(const uint8_t *at, size_t len, const void *secret, size_t secret_len)
+{
+  const uint8_t *part = secret;
+  for (size_t i = 0; i + PART <= secret_len; i += PART)
+    if (is_random(part + i) && memmem(at, len, part + i, PART) != NULL)
+      return true;
+  return false;
+}
+
+enum { STACK = 1 << 20 };
+
+/* A thread that opens a volume, and its stack. */
+struct opening {
+  struct calls *calls;
+  bool is_wiped;
+};
+
+static void *open_and_wipe(void *argument)
+{
+  const struct opening *opening = argument;
+  call_open(opening->calls);
+  call_prepare(opening->calls);
+  if (opening->is_wiped)
+    luksrd_wipe_stack();
+  return NULL;
+}
+
+/* Whether a part of the passphrase, of the volume key or of its expanded forms is left. */
+static bool is_left(struct calls *calls, bool is_wiped)
+{
+  struct opening opening = { calls, is_wiped };
+  pthread_attr_t attributes;
+  pthread_t thread;
+  uint8_t *stack = aligned_alloc(4096, STACK);
+  must(stack != NULL, "a stack");
+  memset(stack, 0, STACK);
+  must(pthread_attr_init(&attributes) == 0 &&
+           pthread_attr_setstack(&attributes, stack, STACK) == 0 &&
+           pthread_create(&thread, &attributes, open_and_wipe, &opening) == 0 &&
+           pthread_join(thread, NULL) == 0,
+       "a thread with a stack");
+  const bool is = has_part(stack, STACK, calls->passphrase.at, calls->passphrase.len) ||
+                  has_part(stack, STACK, calls->volume.key, calls->volume.key_size) ||
+                  has_part(stack, STACK, &calls->cipher, sizeof calls->cipher);
+  free(stack);
+  return is;
+}
+
+static int print_left(char **argv)
+{
+  static struct calls calls = { .options = { .size = sizeof(struct luksrd_options) } };
+  calls.header = header_in(argv[0]);
+  calls.passphrase = contents(argv[1]);
+  printf("left by the calls: %s; ", is_left(&calls, false) ? "some" : "none");
+  printf("after luksrd_wipe_stack: %s\n", is_left(&calls, true) ? "some" : "none");
+  free(calls.header.at);
+  free(calls.passphrase.at);
+  return 0;
+}
+
 int main(int argc, char **argv)
 {
   must(luksrd_version() == LUKSRD_VERSION, "the version");
   if (argc == 4 && strcmp(argv[1], "stack") == 0)
     return print_stacks(argv + 2);
+  if (argc == 4 && strcmp(argv[1], "left") == 0)
+    return print_left(argv + 2);
   if (argc > 4 && strcmp(argv[1], "fields") == 0)
     return print_volume(argc - 4, argv + 2);
   must(argc == 4, "the arguments");

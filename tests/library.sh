@@ -2,8 +2,7 @@
 # Runs small programs over luksrd.h, one in C that is built with AddressSanitizer and also run under valgrind, and one
 # in Python by ctypes: each writes what luksCat does, with the same messages, for both sample volumes and for volumes
 # that are truncated, detached or not opened: with the library for all processors, and with that for x86-64-v3. The
-# one in C also prints each field of a volume that is made here. What luksrd.h declares is compared with what the
-# library's source does.
+# one in C also prints each field of a volume that is made here, and looks for keys on the stack. What luksrd.h declares is compared with what the library's source does.
 sources=$(realpath "$(dirname "$0")/..")
 library=$(realpath "${2:?the built library}")
 shared=$(realpath "${3:?the same as a shared one}")
@@ -94,25 +93,6 @@ all_programs_read 'truncated inside a key area' shorter - pass
 # each field of a volume, as cryptsetup and the change below made it: a payload of 12 GiB in sectors of 4,096 bytes,
 # of which the image has the first five, from the second page of the payload on. The expected lengths are worked out
 # from these numbers
-set_segment() {
-    python3 - "$@" <<'PYTHON'
-import hashlib, json, sys
-image, *members = sys.argv[1:]
-with open(image, 'r+b') as file:
-    size = int.from_bytes(file.read(16)[8:], 'big')
-    for offset in (0, size):
-        file.seek(offset)
-        header = bytearray(file.read(size))
-        tree = json.loads(header[4096:header.index(0, 4096)])
-        tree['segments']['0'].update(member.split('=') for member in members)
-        area = json.dumps(tree, separators=(',', ':')).encode()
-        header[4096:] = area + bytes(size - 4096 - len(area))
-        header[448:512] = bytes(64)
-        header[448:480] = hashlib.sha256(header).digest()
-        file.seek(offset)
-        file.write(header)
-PYTHON
-}
 options=(--pbkdf pbkdf2 --pbkdf-force-iterations 1000 --hash sha256 --key-file pass)
 head -c 24576 /dev/urandom >plain
 cp plain fixed
@@ -142,7 +122,7 @@ fields() {
 }
 
 truncate -s 548864 fixed
-set_segment fixed size=12884901888 iv_tweak=8 offset=528384
+changed fixed size=12884901888 iv_tweak=8 offset=528384
 cat >wanted <<TEXT
 offset=528384 size=12884901888 iv_tweak=8 has_size=1 sector_size=4096 mode=1 key_size=32 key_slot=5 reserved=0 key=$key$zeros
 0: len=0 code=12 bytes=0 status=4 luksrd: image ends before the payload
@@ -159,7 +139,7 @@ fields 'a fixed size' wanted
 all_programs_read 'a fixed size' fixed - pass5
 same 'a fixed size: what was encrypted' "$(sha256sum <text)" "$(tail -c +4097 plain | sha256sum)"
 
-set_segment fixed size=dynamic
+changed fixed size=dynamic
 cat >wanted <<TEXT
 offset=528384 size=0 iv_tweak=8 has_size=0 sector_size=4096 mode=1 key_size=32 key_slot=5 reserved=0 key=$key$zeros
 528383: len=0 code=12 bytes=0 status=4 luksrd: image ends before the payload
@@ -179,6 +159,8 @@ luksrd_finish: enough
 luksrd_decrypt: enough'
 for processor in "${processors[@]}"; do
     same "the stack, $processor" "$(LD_LIBRARY_PATH=$work/$processor ./shared stack fixed pass5 2>&1)" "$stacks"
+    same "keys on the stack, $processor" "$(LD_LIBRARY_PATH=$work/$processor ./shared left fixed pass5 2>&1)" \
+        'left by the calls: some; after luksrd_wipe_stack: none'
 done
 
 # what both sources declare

@@ -2,3 +2,4 @@ pub mod Candidate
 pub mod Opening
 pub mod Skipped
 pub mod Trial
+pub mod VolumeKey

@@ -14,3 +14,4 @@ pub mod opening;
 pub mod order;
 pub mod ordered;
 pub mod skipped;
+pub mod volume_key;

@@ -393,3 +393,16 @@ outcome_decided location slots a b pass on_opened same =
     sym (outcome_prefix location slots a pass max_loaded_len (omega arith) on_opened)
     ∙ ap (λ bytes. volume_outcome_by (reader_for location) on_opened slots bytes pass) same
     ∙ outcome_prefix location slots b pass max_loaded_len (omega arith) on_opened
+
+-- the first bytes of an image have its header
+header_prefix : (image : List ℕ) → header_of (take max_loaded_len image) ≡ header_of image
+header_prefix image = elim (cases_lt max_loaded_len (length image)) [
+  | inl more ↦ (header_by image max_loaded_len (omega arith) (omega arith) (is_luks1 image) refl).0
+  | inr all ↦ ap header_of (take_all max_loaded_len image all)
+]
+
+-- images with the same first bytes have the same header, whether attached or detached
+pub header_decided : (location : HeaderLocation) (a b : List ℕ) → take max_loaded_len a ≡ take max_loaded_len b
+    → reader_for location a ≡ reader_for location b
+header_decided Attached a b same = sym (header_prefix a) ∙ (ap header_of same ∙ header_prefix b)
+header_decided Detached a b same = ap as_detached (sym (header_prefix a) ∙ (ap header_of same ∙ header_prefix b))
