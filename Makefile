@@ -185,7 +185,7 @@ check: $(PROGRAM_V2) $(PROGRAM_V3) $(AUDIT) $(TOOLS_V2) $(TOOLS_V3) library nbdk
 # output of each comes when it has ended. Some need the tools, or what is built from C.
 TESTS := stripes volumes devices pipes faults interruptions install memory hostile completions
 INTEROP := headers headers2 volumes volumes2 detached filesystems
-SOURCE_SCRIPTS := test-names test-counts test-headline test-contracts
+SOURCE_SCRIPTS := test-names test-counts test-versions test-headline test-contracts
 PROGRAM_SCRIPTS := $(SOURCE_SCRIPTS) $(TESTS:%=test-%) $(INTEROP:%=interop-%)
 C_SCRIPTS := test-package test-library test-processors interop-nbd interop-filter interop-python interop-recipes
 TOOL_SCRIPTS := interop-sealed interop-keys
@@ -219,7 +219,7 @@ v3-scripts v3-tool-scripts:
 	    echo 'SKIPPED $@: this processor is older'; \
 	fi
 
-test-names test-counts: test-%:
+test-names test-counts test-versions: test-%:
 	tests/$*
 
 # They fail if a page is not as the script makes it from the sources.
