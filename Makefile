@@ -76,6 +76,7 @@ HEADERS = $(DESTDIR)$(PREFIX)/include
 PLUGIN_FILE = $(DESTDIR)$(PLUGINS)/nbdkit-luksrd-plugin.so
 FILTER_FILE = $(DESTDIR)$(FILTERS)/nbdkit-luksrd-filter.so
 MODULE_FILE = $(DESTDIR)$(MODULES)/luksrd.py
+UNIT_FILE = $(DESTDIR)$(PREFIX)/lib/systemd/system/nbdkit-luksrd@.service
 CFLAGS ?= -O2 -D_FORTIFY_SOURCE=2 -fstack-protector-strong
 # the library's file, and the two names that lead to it
 SHARED_NAMES = libluksrd.so.$(VERSION) libluksrd.so.$(INTERFACE) libluksrd.so
@@ -186,14 +187,16 @@ TESTS := stripes volumes devices pipes faults interruptions install memory hosti
 INTEROP := headers headers2 volumes volumes2 detached filesystems
 SOURCE_SCRIPTS := test-names test-counts test-versions test-headline test-contracts
 PROGRAM_SCRIPTS := $(SOURCE_SCRIPTS) $(TESTS:%=test-%) $(INTEROP:%=interop-%)
-C_SCRIPTS := test-package test-library test-processors interop-nbd interop-filter interop-python interop-recipes
+C_SCRIPTS := test-package test-fresh-root test-library test-processors test-service interop-nbd interop-filter \
+    interop-python interop-lvm interop-recipes
 TOOL_SCRIPTS := interop-sealed interop-keys
 AUDIT_SCRIPTS := interop-audit test-audit-completions
 ALL_SCRIPTS := $(PROGRAM_SCRIPTS) $(AUDIT_SCRIPTS) $(C_SCRIPTS) $(TOOL_SCRIPTS)
 # Those that are run once more with the program for x86-64-v3, and with its tools: all but those that read only the
 # sources, and those that take both programs.
 V3_TOOL_SCRIPTS := $(TOOL_SCRIPTS)
-V3_SCRIPTS := $(filter-out $(SOURCE_SCRIPTS) test-package test-processors $(V3_TOOL_SCRIPTS),$(ALL_SCRIPTS))
+V3_SCRIPTS := $(filter-out $(SOURCE_SCRIPTS) test-package test-fresh-root test-processors $(V3_TOOL_SCRIPTS), \
+    $(ALL_SCRIPTS))
 
 .PHONY: $(ALL_SCRIPTS)
 
@@ -238,8 +241,8 @@ $(INTEROP:%=interop-%): interop-%:
 $(TOOL_SCRIPTS): interop-%:
 	interop/$*.sh $(PROGRAM) $(TOOLS)
 
-test-package:
-	tests/package.sh $(PROGRAM_V2) $(PLUGIN) $(LIBRARY) $(SHARED) $(SHARED_V3) $(PROGRAM_V3) $(FILTER)
+test-package test-fresh-root: test-%:
+	tests/$*.sh $(PROGRAM_V2) $(PLUGIN) $(LIBRARY) $(SHARED) $(SHARED_V3) $(PROGRAM_V3) $(FILTER)
 
 test-processors:
 	tests/processors.sh $(PROGRAM_V2) $(PLUGIN) $(SHARED) $(SHARED_V3) $(PROGRAM_V3)
@@ -249,6 +252,12 @@ interop-nbd interop-filter: interop-%:
 
 interop-python:
 	interop/python.sh $(PROGRAM) $(SHARED)
+
+test-service:
+	tests/service.sh $(PROGRAM) $(PLUGIN) $(SHARED)
+
+interop-lvm:
+	interop/lvm.sh $(PROGRAM) $(PLUGIN) $(SHARED)
 
 interop-audit:
 	interop/audit.sh $(PROGRAM) $(AUDIT)
@@ -363,8 +372,10 @@ install -m 644 "$(2)" "$(4)"
 install -m 644 docs/nbdkit-luksrd-$(1).1 "$(PAGES)/nbdkit-luksrd-$(1).1"
 endef
 
+# systemd looks for units below these two
 install-plugin: | $(if $(filter-out x86-64-v2,$(CPU)),runs-here)
 	$(call install_nbdkit,plugin,$(PLUGIN),$(PLUGINS),$(PLUGIN_FILE))
+	$(if $(filter /usr /usr/local,$(PREFIX:/=)),install -D -m 644 packaging/nbdkit-luksrd@.service "$(UNIT_FILE)")
 
 install-filter: | $(if $(filter-out x86-64-v2,$(CPU)),runs-here)
 	$(call install_nbdkit,filter,$(FILTER),$(FILTERS),$(FILTER_FILE))
@@ -372,8 +383,10 @@ install-filter: | $(if $(filter-out x86-64-v2,$(CPU)),runs-here)
 install-python: | $(if $(filter-out x86-64-v2,$(CPU)),runs-here)
 	@name=$$($(call packaged,$(MODULE_FILE))); [ -z "$$name" ] || \
 	    { echo "the package $$name has $(MODULE_FILE): run apt-get remove $$name, or give a PREFIX" >&2; exit 1; }
-	install -d "$(DESTDIR)$(MODULES)"
+	install -d "$(DESTDIR)$(MODULES)" "$(BINARIES)" "$(PAGES)"
 	install -m 644 python/luksrd.py "$(MODULE_FILE)"
+	install -m 755 scripts/luksrd-lvm "$(BINARIES)/luksrd-lvm"
+	install -m 644 docs/luksrd-lvm.1 "$(PAGES)"
 
 INSTALLED = "$(BINARIES)/luksrd" "$(PAGES)/luksrd.1" \
     "$(BINARIES)/luksrd-candidates" "$(PAGES)/luksrd-candidates.1" "$(DOCUMENTS)/README.md" "$(DOCUMENTS)/FORMATS.md" \
@@ -383,8 +396,9 @@ INSTALLED = "$(BINARIES)/luksrd" "$(PAGES)/luksrd.1" \
     "$(HEADERS)/luksrd.h" "$(LIBRARIES)/libluksrd.a" $(SHARED_NAMES:%="$(LIBRARIES)/%") \
     "$(LIBRARIES)/pkgconfig/luksrd.pc" \
     "$(LIBRARIES)/$(HWCAPS)/$(word 2,$(SHARED_NAMES))" \
-    "$(PAGES)/nbdkit-luksrd-plugin.1" $(if $(PLUGINS),"$(PLUGIN_FILE)") \
+    "$(UNIT_FILE)" "$(PAGES)/nbdkit-luksrd-plugin.1" $(if $(PLUGINS),"$(PLUGIN_FILE)") \
     "$(PAGES)/nbdkit-luksrd-filter.1" $(if $(FILTERS),"$(FILTER_FILE)") \
+    "$(BINARIES)/luksrd-lvm" "$(PAGES)/luksrd-lvm.1" \
     "$(MODULE_FILE)" $(patsubst %,"%",$(wildcard $(DESTDIR)$(MODULES)/__pycache__/luksrd.*.pyc))
 
 uninstall:

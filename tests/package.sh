@@ -151,6 +151,7 @@ plugins=$(pkg-config nbdkit --variable=plugindir)
 filters=$(pkg-config nbdkit --variable=filterdir)
 holds nbdkit-plugin-luksrd "-rw-r--r-- .$filters/nbdkit-luksrd-filter.so
 -rw-r--r-- .$plugins/nbdkit-luksrd-plugin.so
+-rw-r--r-- ./usr/lib/systemd/system/nbdkit-luksrd@.service
 -rw-r--r-- ./usr/share/lintian/overrides/nbdkit-plugin-luksrd
 -rw-r--r-- ./usr/share/man/man1/nbdkit-luksrd-filter.1.gz
 -rw-r--r-- ./usr/share/man/man1/nbdkit-luksrd-plugin.1.gz"
@@ -163,7 +164,9 @@ same 'plugin and filter depend on this version of nbdkit' \
 next=${installed%%-*}
 next=${next%.*}.$((${next##*.} + 1))
 same 'they depend on no other version' "$(dpkg --compare-versions "$next" lt "${limits#* }"; echo $?)" 1
-holds python3-luksrd '-rw-r--r-- ./usr/lib/python3/dist-packages/luksrd.py'
+holds python3-luksrd '-rw-r--r-- ./usr/lib/python3/dist-packages/luksrd.py
+-rw-r--r-- ./usr/share/man/man1/luksrd-lvm.1.gz
+-rwxr-xr-x ./usr/bin/luksrd-lvm'
 same 'the module depends on Python' "$(needs python3-luksrd 'python3:any')" 1
 for name in nbdkit-plugin-luksrd python3-luksrd; do
     same "$name depends on the library" "$(needs $name "libluksrd2 \(>= $version\)")" 1
@@ -253,10 +256,12 @@ program_files=(bin/luksrd bin/luksrd-candidates share/bash-completion/completion
     share/man/man1/luksrd-candidates.1 share/man/man1/luksrd.1 share/zsh/site-functions/_luksrd)
 library_files=(include/luksrd.h lib/glibc-hwcaps/x86-64-v3/libluksrd.so.2 lib/libluksrd.a lib/libluksrd.so
     lib/libluksrd.so.2 "lib/libluksrd.so.$version" lib/pkgconfig/luksrd.pc)
+unit=lib/systemd/system/nbdkit-luksrd@.service
 pages=(share/man/man1/nbdkit-luksrd-filter.1 share/man/man1/nbdkit-luksrd-plugin.1)
 name=nbdkit-luksrd-plugin.so
 filter_name=nbdkit-luksrd-filter.so
 module=lib/python3/dist-packages/luksrd.py
+module_files=(bin/luksrd-lvm share/man/man1/luksrd-lvm.1)
 # below PREFIX PATH..: as `files` lists them
 below() {
     printf "./${1:+$1/}%s\n" "${@:2}" | LC_ALL=C sort
@@ -267,7 +272,7 @@ folders=(PLUGINS=/usr/plugins FILTERS=/usr/filters MODULES=/usr/modules)
 make_built install DESTDIR="$work/there" "${folders[@]}"
 same 'make install of the library, the plugin and the filter too' "$? $(files there)" \
     "0 $(below usr "${program_files[@]/#/local/}" "${library_files[@]/#/local/}" "${pages[@]/#/local/}" \
-        "plugins/$name" "filters/$filter_name" modules/luksrd.py)"
+        "${module_files[@]/#/local/}" "local/$unit" "plugins/$name" "filters/$filter_name" modules/luksrd.py)"
 same 'both libraries' "$(cmp "there/usr/local/lib/libluksrd.so.$version" "$shared" 2>&1
     cmp there/usr/local/lib/glibc-hwcaps/x86-64-v3/libluksrd.so.2 "$shared_v3" 2>&1)" ''
 make_built uninstall DESTDIR="$work/there" "${folders[@]}"
@@ -303,7 +308,7 @@ for prefix in /usr /usr/local/; do
     PATH=$work/tools:$PATH make_built install-plugin install-filter DESTDIR="$work/there" PREFIX="$prefix"
     same "plugin and filter for $prefix" "$? $(files there)" \
         "0 $(below '' "nbdkit/plugins/$name" "nbdkit/filters/$filter_name" \
-            "$(realpath -ms "$prefix/${pages[0]}" | cut -c 2-)" "$(realpath -ms "$prefix/${pages[1]}" | cut -c 2-)")"
+            $(realpath -ms "$prefix/${pages[0]}" "$prefix/${pages[1]}" "$prefix/$unit" | cut -c 2-))"
     PATH=$work/tools:$PATH make_built uninstall DESTDIR="$work/there" PREFIX="$prefix"
     same "plugin and filter for $prefix, uninstalled" "$? $(files there)" '0 '
 done
@@ -338,7 +343,7 @@ if another test -r tree/Makefile; then
     put_by_another install PREFIX="$work/own/it"
     same 'make install by another user' "$? $(files own/it)" \
         "0 $(below '' "${program_files[@]}" "${library_files[@]}" "${pages[@]}" "lib/nbdkit/plugins/$name" \
-            "lib/nbdkit/filters/$filter_name" "$module")"
+            "lib/nbdkit/filters/$filter_name" "$module" "${module_files[@]}")"
     same "nbdkit's own folder" "$(ls -la --full-time "$plugins")" "$plugins_before"
     works "$work/own/it/bin/luksrd" "$work/own/it/share/bash-completion/completions/luksrd"
     serves_sample "$work/own/it/lib/nbdkit/plugins/$name" "$work/own/it/lib/nbdkit/filters/$filter_name"
