@@ -13,13 +13,15 @@
 # make library    builds the library for C: out/libluksrd.a, out/libluksrd.so and out/luksrd.pc, and the same for
 #                 x86-64-v3 in out/glibc-hwcaps, which the loader takes if the processor can run it
 # make nbdkit     builds the plugin for nbdkit, out/nbdkit-luksrd-plugin.so, the filter,
-#                 out/nbdkit-luksrd-filter.so, for the installed version of nbdkit, and the library, which both load
-# make install    puts the program, its man page, its completions, README.md and FORMATS.md below PREFIX
-#                 (/usr/local if it is not given), in DESTDIR if that is given; the library and its module for Python
-#                 too if it is built, and the plugin and the filter if they are built: for /usr and /usr/local in
-#                 nbdkit's own folders, for any other PREFIX in lib/nbdkit/plugins and lib/nbdkit/filters below it, or
-#                 in PLUGINS and FILTERS if these are given; luksrd-audit, its man page, its completions and AUDIT.md
-#                 too, if it is built. With CPU=x86-64-v3 it installs the luksrd for that, if it runs here
+#                 out/nbdkit-luksrd-filter.so, for the installed version of nbdkit, and the library, which both load.
+#                 With SHARED and SHARED_V3 it takes the library that these name, and needs no toolchain
+# make install    puts the program and luksrd-candidates, their man pages, completions, README.md and FORMATS.md below
+#                 PREFIX (/usr/local if it is not given), in DESTDIR if that is given; if the library is built, it and
+#                 its module for Python with luksrd-lvm too; and the plugin and the filter if they are built: for /usr
+#                 and /usr/local in nbdkit's own folders, with a systemd unit, for any other PREFIX in
+#                 lib/nbdkit/plugins and lib/nbdkit/filters below it, or in PLUGINS and FILTERS if these are given;
+#                 luksrd-audit, its man page, its completions and AUDIT.md too, if it is built. With CPU=x86-64-v3 it
+#                 installs the luksrd for that, if it runs here
 # make uninstall  removes them again, except what a Debian package has put there
 # make deb        makes Debian packages in DEBS (out if it is not given): of the program as it is built for both
 #                 processors; if the library is built, of it, of what programs are built with, and of its module for

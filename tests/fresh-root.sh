@@ -52,9 +52,11 @@ trap 'end_children $$ 2>/dev/null; rm -rf "$work" 2>/dev/null || { sleep 1; rm -
 trap 'exit 130' INT
 trap 'exit 143' TERM
 
-# apart COMMAND..: with mounts and processes of its own, which end when it does, and when this script does
+# apart COMMAND..: with mounts and processes of its own, which end when it does, and when this script does. (In the
+# background, so that a signal to this script need not wait for it.)
 apart() {
-    setpriv --pdeathsig KILL unshare --mount --pid --fork --kill-child --propagation private "$@"
+    setpriv --pdeathsig KILL unshare --mount --pid --fork --kill-child --propagation private "$@" &
+    wait $!
 }
 # in_root COMMAND..: as root, in the root that is tried, with an environment of its own
 in_root() {
