@@ -52,29 +52,29 @@ lvm_() {
 }
 # creates NAME EXTENTS [ARGUMENT..]: a logical volume
 creates() {
-    lvm_ lvcreate -q -an -Zn -Wn -n "$1" -l "$2" group "${@:3}" >>lvm.log
+    lvm_ lvcreate -q -an -Zn -Wn -n "$1" -l "$2" vg "${@:3}" >>lvm.log
 }
 # the ring for metadata is as small as LVM2 allows
 lvm_ pvcreate -q --metadatasize 32k --dataalignment 4k "${devices[@]}" >lvm.log
-lvm_ vgcreate -q -s 1M --setautoactivation n group "${devices[@]}" >>lvm.log
+lvm_ vgcreate -q -s 1M --setautoactivation n vg "${devices[@]}" >>lvm.log
 creates root 8 "${devices[0]}"
 creates two 4 "${devices[0]}"
 creates swap.1-x 2 "${devices[0]}"
-lvm_ lvextend -q -l +1 group/two "${devices[0]}" >>lvm.log
+lvm_ lvextend -q -l +1 vg/two "${devices[0]}" >>lvm.log
 creates far 4 "${devices[1]}"
 creates striped 4 -i 2
-same 'what LVM2 makes' "$(lvm_ lvs --noheadings -o lv_name group | tr -d ' ' | sort | tr '\n' ' ')" \
+same 'what LVM2 makes' "$(lvm_ lvs --noheadings -o lv_name vg | tr -d ' ' | sort | tr '\n' ' ')" \
     'far root striped swap.1-x two '
 
 # theirs DEVICE: the places of the linear volumes in one segment of this device, by lvs and pvs
 theirs() {
     local start size name type pieces range
     read -r start size < <(lvm_ pvs --noheadings --units b --nosuffix -o pe_start,vg_extent_size "$1")
-    lvm_ lvs --noheadings --units b --nosuffix -o lv_name,segtype,seg_count,lv_size,seg_pe_ranges group | sort |
+    lvm_ lvs --noheadings --units b --nosuffix -o lv_name,segtype,seg_count,lv_size,seg_pe_ranges vg | sort |
         while read -r name type pieces bytes range; do
             [ "$type $pieces ${range%:*}" = "linear 1 $1" ] || continue
             range=${range#*:}
-            echo "offset=$((start + ${range%-*} * size)) range=$bytes group/$name"
+            echo "offset=$((start + ${range%-*} * size)) range=$bytes vg/$name"
         done
 }
 # ours IMAGE: the same by luksrd-lvm
@@ -85,14 +85,14 @@ same 'the first physical volume' "$(ours first)" "$(theirs "${devices[0]}")"
 same 'how many are there' "$(ours first | wc -l)" 2
 same 'the second physical volume' "$(ours second)" "$(theirs "${devices[1]}")"
 same 'what is not supported' "$(finds first | grep -v '^offset=' | sort)" '0
-group/far is not supported: it is in another physical volume
-group/striped is not supported: it has 2 stripes
-group/two is not supported: it has 2 segments'
-same 'one alone' "$(finds first group/root)" "$(ours first | sed -n 's, group/root$,,p')
+vg/far is not supported: it is in another physical volume
+vg/striped is not supported: it has 2 stripes
+vg/two is not supported: it has 2 segments'
+same 'one alone' "$(finds first vg/root)" "$(ours first | sed -n 's, vg/root$,,p')
 0"
-same 'one that is not supported' "$(finds first group/two)" 'luksrd-lvm: group/two is not supported: it has 2 segments
+same 'one that is not supported' "$(finds first vg/two)" 'luksrd-lvm: vg/two is not supported: it has 2 segments
 1'
-same 'one that is not there' "$(finds first group/none)" 'luksrd-lvm: there is no logical volume group/none
+same 'one that is not there' "$(finds first vg/none)" 'luksrd-lvm: there is no logical volume vg/none
 1'
 
 # the metadata runs from the end of its ring to the start
@@ -102,33 +102,45 @@ wraps() {
 }
 for number in $(seq 60); do
     ! wraps || break
-    lvm_ vgchange -q --addtag "tag$number" group >>lvm.log
+    lvm_ vgchange -q --addtag "tag$number" vg >>lvm.log
 done
 same 'the metadata wraps' "$(wraps; echo $?)" 0
 same 'metadata that wraps' "$(ours first)" "$(theirs "${devices[0]}")"
 
 # in a LUKS volume, with a file system where lvs has the logical volume
-read -r offset range <<<"$(theirs "${devices[0]}" | sed -n 's,offset=\(.*\) range=\(.*\) group/root$,\1 \2,p')"
+read -r offset range <<<"$(theirs "${devices[0]}" | sed -n 's,offset=\(.*\) range=\(.*\) vg/root$,\1 \2,p')"
 theirs "${devices[0]}" >places
 losetup -d "${devices[@]}"
 devices=()
 printf 'inside\n' >inside
 truncate -s "$range" file-system
 mke2fs -q -t ext4 file-system
-debugfs -w -R 'write inside inside' file-system >err 2>&1
+printf '%s\n' 'mkdir etc' 'write inside etc/fstab' | debugfs -w -f - file-system >err 2>&1
 dd if=file-system of=first bs=1M seek="$offset" oflag=seek_bytes conv=notrunc status=none
 cp first plain
-format1 sealed aes-xts-plain64 sha256 512
-fill sealed
-same 'in a LUKS volume' "$(ours --key-file pass sealed)" "$(cat places)"
-# shellcheck disable=SC2016,SC2046
-nbdkit -U - --filter=offset "$plugin" sealed key-file=pass $("$sources/scripts/luksrd-lvm" --key-file pass sealed \
-    group/root) --run 'nbdcopy "$uri" -' >given 2>err
-same 'the logical volume by nbdkit' "$? $(cat err) $(sha256sum <given)" "0  $(sha256sum <file-system)"
-# shellcheck disable=SC2016,SC2046
-nbdkit -U - --filter=ext2 --filter=offset "$plugin" sealed key-file=pass $("$sources/scripts/luksrd-lvm" \
-    --key-file pass sealed group/root) ext2file=/inside --run 'nbdcopy "$uri" -' >given 2>err
-same 'a file in it' "$? $(cat err) $(cat given)" '0  inside'
+format1 disk.img aes-xts-plain64 sha256 512
+fill disk.img
+same 'in a LUKS volume' "$(ours --key-file pass disk.img)" "$(cat places)"
+
+# the examples of the man page, with nbdkit's name for the plugin
+ln -s "$sources/scripts/luksrd-lvm" .
+cat >nbdkit <<TEXT
+#!/usr/bin/env bash
+for argument; do
+    [ "\$argument" != luksrd ] || argument=$plugin
+    arguments+=("\$argument")
+done
+exec $(command -v nbdkit) "\${arguments[@]}"
+TEXT
+chmod +x nbdkit
+# shows TEXT: what the example after this text writes
+shows() {
+    example luksrd-lvm.1 "$1" >script
+    PATH=$work:$PATH bash script 2>&1
+}
+same 'an example: all volumes' "$(shows 'List the logical volumes')" "$(finds --key-file pass disk.img | sed '$d')"
+same 'an example: the logical volume by nbdkit' "$(sha256sum <root.img)" "$(sha256sum <file-system)"
+same 'an example: a file in it' "$(shows 'Copy one file') $(cat fstab)" ' inside'
 
 # each of the first bytes matters, and none that is changed leads to an uncaught fault
 for at in 512 $((512 + 24)) $((512 + 40)) $((512 + 100)) 4096 4100 $((4096 + 24)) $((4096 + 40)) $((4096 + text)); do

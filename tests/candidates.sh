@@ -6,12 +6,14 @@ sources=$(realpath "$(dirname "$0")/..")
 # shellcheck source=tests/common.sh
 . "$(dirname "$0")/common.sh"
 
-# what the script runs as luksrd: it notes each run, and the one that LIMITED names gets too little memory
+# what the script runs as luksrd: it notes each run; the one that LIMITED names gets too little memory, and the one that
+# HANGING names does not end
 mkdir tools temporary
 cat >tools/luksrd <<TEXT
 #!/bin/sh
 echo >>'$work/runs'
 [ "\$(wc -l <'$work/runs')" != "\${LIMITED-}" ] || ulimit -v "\$(cat '$work/little')"
+[ "\$(wc -l <'$work/runs')" != "\${HANGING-}" ] || { echo \$\$ >'$work/hanging'; exec sleep 10000; }
 exec '$program' "\$@"
 TEXT
 chmod +x tools/luksrd
@@ -83,6 +85,19 @@ gives 'no memory for one run' 3 '' 'luksrd: out of memory' 3
 same 'lines before it' "$(cat again)" 2
 candidates -j 1 -s again lines0 volume0
 gives 'the rest' 0 'Line 4: Key slot 0 opens the volume.' '' 2
+# ended while a run hangs: that run ends, too
+: >runs
+HANGING=3 "$sources/scripts/luksrd-candidates" -j 1 -s stopped lines0 volume0 >out 2>err &
+script=$!
+wait_until $script [ -s hanging ]
+kill $script
+ended $script
+echo $? >status
+gives 'a signal' 143 '' ''
+same 'the run that hangs' "$(kill -0 "$(cat hanging)" 2>&1 | grep -c 'No such process')" 1
+same 'lines before it' "$(cat stopped)" 2
+candidates -j 1 -s stopped lines0 volume0
+gives 'the rest after a signal' 0 'Line 4: Key slot 0 opens the volume.' '' 2
 candidates -s again <(echo one) volume0
 gives 'a state of a longer file' 4 '' 'luksrd-candidates: again is of a file with more lines' 0
 echo nine >bad
@@ -124,5 +139,22 @@ folder=$(sed -n 's/.*mkdir("\(.*\)", 0700) = 0$/\1/p' calls)
 same 'its folder' "${folder%.*}" "$work/temporary/tmp"
 same 'other files that it makes' "$(grep -F O_CREAT calls | grep -vE "\"($folder/.*|$work/runs|/dev/null)\"" |
     sed 's/.*, "\(.*\)", .*/\1/' | sort -u)" state2.new
+
+# the examples of the man page
+ln -s "$sources/scripts/luksrd-candidates" tools
+mkdir examples
+printf word0003 >pass
+sealed_by_qemu '' examples/disk.img
+# shows TEXT OUTPUT: what the example after this text writes
+shows() {
+    example luksrd-candidates.1 "$1" >script
+    same "the example '$1'" "$(cd examples && echo word | bash ../script 2>&1)" "$2"
+}
+printf '%s\n' first word0003 >examples/list
+shows 'Try a list' 'Line 2: Key slot 0 opens the volume.
+Line 2: Key slot 0 opens the volume.'
+shows 'Try one word' 'Line 4: Key slot 0 opens the volume.'
+printf '%s\r\n' first word0003 >examples/list
+shows 'Go through a list' 'Line 2: Key slot 0 opens the volume.'
 
 finish

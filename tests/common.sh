@@ -5,6 +5,7 @@ set -u
 # the options of the make that calls this script are not for those that it calls
 unset MAKEFLAGS
 program=$(realpath "${1:?the built program}")
+pages=$(realpath "$(dirname "${BASH_SOURCE[0]}")/../docs")
 # The seconds after which one run or one wait hangs, and a script: at least ten times what an idle machine needs
 patience=${PATIENCE:-300}
 limit=$((patience * 10))
@@ -118,6 +119,16 @@ sealed_by_qemu() {
     done
     cat qemu.err
     exit 1
+}
+
+# example PAGE TEXT: the example in a man page that follows this text
+example() {
+    awk -v text="$2" '
+        !/^\./ && index($0, text) { found = 1 }
+        found && /^\.Ed/ { exit }
+        inside
+        found && /^\.Bd/ { inside = 1 }
+        found && /^\.Dl / { print substr($0, 5); exit }' "$pages/$1" | sed 's/\\(dq/"/g; s/\\e/\\/g'
 }
 
 # runs_v3: this processor runs what is built for x86-64-v3, as the loader has it
