@@ -13,11 +13,12 @@ passed=0
 failed=0
 skipped=0
 
-# end_children PID: kills what this process started, and what that started, but not the process that does it
+# end_children PID: kills what this process started, and what that started, but not the process that does it. Each is
+# stopped first, so that it starts nothing more.
 end_children() {
     local child
     for child in $(pgrep -P "$1"); do
-        [ "$child" = "$BASHPID" ] || { end_children "$child"; kill -KILL "$child"; }
+        [ "$child" = "$BASHPID" ] || { kill -STOP "$child"; end_children "$child"; kill -KILL "$child"; }
     done
 }
 
@@ -30,7 +31,10 @@ end_children() {
         kill -0 $$ || exit
     done
     echo "FAILED: no end within $limit seconds" >>/proc/$$/fd/1
+    kill -STOP $$
+    end_children $$
     kill $$
+    kill -CONT $$
     while kill -0 $$; do
         end_children $$
         sleep 0.1
