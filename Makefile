@@ -16,18 +16,19 @@
 # make library    builds the library for C: out/libluksrd.a, out/libluksrd.so and out/luksrd.pc, and the same for
 #                 x86-64-v3 in out/glibc-hwcaps, which the loader takes if the processor can run it
 # make nbdkit     builds the plugin for nbdkit, out/nbdkit-luksrd-plugin.so, the filter,
-#                 out/nbdkit-luksrd-filter.so, for the installed version of nbdkit, and the library, which both load
-# make install    puts the program, its man page, its completions, README.md and FORMATS.md below PREFIX
-#                 (/usr/local if it is not given), in DESTDIR if that is given; the library and its module for Python
-#                 too if it is built, and the plugin and the filter if they are built: for /usr and /usr/local in
-#                 nbdkit's own folders, for any other PREFIX in lib/nbdkit/plugins and lib/nbdkit/filters below it, or
-#                 in PLUGINS and FILTERS if these are given; luksrd-audit, its man page, its completions and AUDIT.md
-#                 too, if it is built. With CPU=x86-64-v3 it installs the luksrd for that, if it runs here
+#                 out/nbdkit-luksrd-filter.so, for the installed version of nbdkit, and the library, which both load.
+#                 With SHARED and SHARED_V3 it takes the library that these name, and needs no toolchain
+# make install    puts the program and luksrd-candidates, their man pages, completions, README.md and FORMATS.md below
+#                 PREFIX (/usr/local if it is not given), in DESTDIR if that is given; if the library is built, it and
+#                 its module for Python with luksrd-lvm too; and the plugin and the filter if they are built: for /usr
+#                 and /usr/local in nbdkit's own folders, with a systemd unit, for any other PREFIX in
+#                 lib/nbdkit/plugins and lib/nbdkit/filters below it, or in PLUGINS and FILTERS if these are given;
+#                 luksrd-audit, its man page, its completions and AUDIT.md too, if it is built. With CPU=x86-64-v3 it
+#                 installs the luksrd for that, if it runs here
 # make uninstall  removes them again, except what a Debian package has put there
-# make deb        makes a Debian package of the program as it is built for both processors, in DEB; if the plugin is
-#                 built, one of that in PLUGIN_DEB, if the filter is built, one of that in FILTER_DEB, and with any of
-#                 these one of the library, which they load, in LIBRARY_DEB, and one of the module for Python in
-#                 PYTHON_DEB. No package has luksrd-audit
+# make deb        makes Debian packages in DEBS (out if it is not given): of the program as it is built for both
+#                 processors; if the library is built, of it, of what programs are built with, and of its module for
+#                 Python; and if plugin and filter are built, of both. No package has luksrd-audit
 
 # What the program is built for and installed for; the library is always built for both. (Some
 # systems have a CPU in the environment, so this is not ?=.)
@@ -55,11 +56,8 @@ SHARED := out/libluksrd.so
 SHARED_V3 := out/$(HWCAPS)/libluksrd.so.$(INTERFACE)
 PLUGIN := out/nbdkit-luksrd-plugin.so
 FILTER := out/nbdkit-luksrd-filter.so
-DEB ?= out/luksrd_$(VERSION)_amd64.deb
-PLUGIN_DEB ?= out/nbdkit-plugin-luksrd_$(VERSION)_amd64.deb
-FILTER_DEB ?= out/nbdkit-filter-luksrd_$(VERSION)_amd64.deb
-LIBRARY_DEB ?= out/libluksrd$(INTERFACE)_$(VERSION)_amd64.deb
-PYTHON_DEB ?= out/python3-luksrd_$(VERSION)_all.deb
+# where `make deb` puts packages
+DEBS ?= out
 PREFIX ?= /usr/local
 ZSH_FUNCTIONS ?= $(PREFIX)/share/zsh/site-functions
 # nbdkit finds plugins and filters by name in its own folders alone, but only root may write there
@@ -76,12 +74,15 @@ PAGES = $(DESTDIR)$(PREFIX)/share/man/man1
 DOCUMENTS = $(DESTDIR)$(PREFIX)/share/doc/luksrd
 BASH_COMPLETIONS = $(DESTDIR)$(PREFIX)/share/bash-completion/completions
 ZSH_COMPLETIONS = $(DESTDIR)$(ZSH_FUNCTIONS)
-LIBRARIES = $(DESTDIR)$(PREFIX)/lib
+# Debian's packages have libraries in another folder below PREFIX
+LIBDIR ?= $(PREFIX)/lib
+LIBRARIES = $(DESTDIR)$(LIBDIR)
 HEADERS = $(DESTDIR)$(PREFIX)/include
 PLUGIN_FILE = $(DESTDIR)$(PLUGINS)/nbdkit-luksrd-plugin.so
 FILTER_FILE = $(DESTDIR)$(FILTERS)/nbdkit-luksrd-filter.so
 MODULE_FILE = $(DESTDIR)$(MODULES)/luksrd.py
-CFLAGS ?= -O2
+UNIT_FILE = $(DESTDIR)$(PREFIX)/lib/systemd/system/nbdkit-luksrd@.service
+CFLAGS ?= -O2 -D_FORTIFY_SOURCE=2 -fstack-protector-strong
 # the library's file, and the two names that lead to it
 SHARED_NAMES = libluksrd.so.$(VERSION) libluksrd.so.$(INTERFACE) libluksrd.so
 
@@ -145,7 +146,8 @@ out/$(HWCAPS)/libluksrd.so.$(INTERFACE): out/x86-64-v3/libluksrd.a c/luksrd.map
 	$(call link_shared,$@)
 
 # $(call package_config,FILE): what pkg-config reports about the library below PREFIX
-package_config = sed -e 's|@PREFIX@|$(PREFIX)|' -e 's|@VERSION@|$(VERSION)|' c/luksrd.pc.in >"$(1)"
+package_config = sed -e 's|@PREFIX@|$(PREFIX)|' -e 's|@LIBDIR@|$(LIBDIR:$(PREFIX)/%=$${prefix}/%)|' \
+    -e 's|@VERSION@|$(VERSION)|' c/luksrd.pc.in >"$(1)"
 
 out/luksrd.pc: c/luksrd.pc.in FORCE
 	mkdir -p out
@@ -186,19 +188,20 @@ check: $(PROGRAM_V2) $(PROGRAM_V3) $(AUDIT) $(TOOLS_V2) $(TOOLS_V3) library nbdk
 
 # The programs, the library and the plugin are used as they are. Four scripts run side by side; the
 # output of each comes when it has ended. Some need the tools, or what is built from C.
-TESTS := stripes volumes devices pipes faults interruptions install memory hostile completions
+TESTS := stripes volumes devices pipes faults interruptions install memory hostile completions candidates
 INTEROP := headers headers2 volumes volumes2 detached filesystems
-SOURCE_SCRIPTS := test-names test-counts test-headline test-contracts test-speed
+SOURCE_SCRIPTS := test-names test-counts test-versions test-headline test-contracts test-speed
 PROGRAM_SCRIPTS := $(SOURCE_SCRIPTS) $(TESTS:%=test-%) $(INTEROP:%=interop-%)
-C_SCRIPTS := test-package test-library test-processors interop-library interop-nbd interop-filter interop-python \
-    interop-recipes
+C_SCRIPTS := test-package test-fresh-root test-library test-processors test-service interop-library interop-nbd \
+    interop-filter interop-python interop-lvm interop-recipes
 TOOL_SCRIPTS := interop-sealed interop-keys
 AUDIT_SCRIPTS := interop-audit test-audit-completions
 ALL_SCRIPTS := $(PROGRAM_SCRIPTS) $(AUDIT_SCRIPTS) $(C_SCRIPTS) $(TOOL_SCRIPTS)
 # Those that are run once more with the program for x86-64-v3, and with its tools: all but those that read only the
 # sources, and those that take both programs.
 V3_TOOL_SCRIPTS := $(TOOL_SCRIPTS)
-V3_SCRIPTS := $(filter-out $(SOURCE_SCRIPTS) test-package test-processors $(V3_TOOL_SCRIPTS),$(ALL_SCRIPTS))
+V3_SCRIPTS := $(filter-out $(SOURCE_SCRIPTS) test-package test-fresh-root test-processors $(V3_TOOL_SCRIPTS), \
+    $(ALL_SCRIPTS))
 
 .PHONY: $(ALL_SCRIPTS)
 
@@ -223,7 +226,7 @@ v3-scripts v3-tool-scripts:
 	    echo 'SKIPPED $@: this processor is older'; \
 	fi
 
-test-names test-counts: test-%:
+test-names test-counts test-versions: test-%:
 	tests/$*
 
 # They fail if a page is not as the script makes it from the sources, or from the results of measurements.
@@ -247,8 +250,8 @@ $(INTEROP:%=interop-%): interop-%:
 $(TOOL_SCRIPTS): interop-%:
 	interop/$*.sh $(PROGRAM) $(TOOLS)
 
-test-package:
-	tests/package.sh $(PROGRAM_V2) $(PLUGIN) $(LIBRARY) $(SHARED) $(SHARED_V3) $(PROGRAM_V3) $(FILTER)
+test-package test-fresh-root: test-%:
+	tests/$*.sh $(PROGRAM_V2) $(PLUGIN) $(LIBRARY) $(SHARED) $(SHARED_V3) $(PROGRAM_V3) $(FILTER)
 
 test-processors:
 	tests/processors.sh $(PROGRAM_V2) $(PLUGIN) $(SHARED) $(SHARED_V3) $(PROGRAM_V3)
@@ -258,6 +261,12 @@ interop-nbd interop-filter: interop-%:
 
 interop-python:
 	interop/python.sh $(PROGRAM) $(SHARED)
+
+test-service:
+	tests/service.sh $(PROGRAM) $(PLUGIN) $(SHARED)
+
+interop-lvm:
+	interop/lvm.sh $(PROGRAM) $(PLUGIN) $(SHARED)
 
 interop-audit:
 	interop/audit.sh $(PROGRAM) $(AUDIT)
@@ -337,7 +346,8 @@ install-program: built $(if $(filter-out x86-64-v2,$(CPU)),runs-here)
 	    { echo "$(BINARIES)/luksrd is of $$name: run apt-get remove luksrd, or give a PREFIX" >&2; exit 1; }
 	install -d "$(BINARIES)" "$(PAGES)" "$(DOCUMENTS)" "$(BASH_COMPLETIONS)" "$(ZSH_COMPLETIONS)"
 	install -m 755 "$(PROGRAM)" "$(BINARIES)/luksrd"
-	install -m 644 docs/luksrd.1 "$(PAGES)/luksrd.1"
+	install -m 755 scripts/luksrd-candidates "$(BINARIES)/luksrd-candidates"
+	install -m 644 docs/luksrd.1 docs/luksrd-candidates.1 "$(PAGES)"
 	install -m 644 README.md docs/FORMATS.md "$(DOCUMENTS)"
 	install -m 644 completions/luksrd.bash "$(BASH_COMPLETIONS)/luksrd"
 	install -m 644 completions/_luksrd "$(ZSH_COMPLETIONS)/_luksrd"
@@ -387,8 +397,10 @@ install -m 644 "$(2)" "$(4)"
 install -m 644 docs/nbdkit-luksrd-$(1).1 "$(PAGES)/nbdkit-luksrd-$(1).1"
 endef
 
+# systemd looks for units below these two
 install-plugin: | $(if $(filter-out x86-64-v2,$(CPU)),runs-here)
 	$(call install_nbdkit,plugin,$(PLUGIN),$(PLUGINS),$(PLUGIN_FILE))
+	$(if $(filter /usr /usr/local,$(PREFIX:/=)),install -D -m 644 packaging/nbdkit-luksrd@.service "$(UNIT_FILE)")
 
 install-filter: | $(if $(filter-out x86-64-v2,$(CPU)),runs-here)
 	$(call install_nbdkit,filter,$(FILTER),$(FILTERS),$(FILTER_FILE))
@@ -396,18 +408,22 @@ install-filter: | $(if $(filter-out x86-64-v2,$(CPU)),runs-here)
 install-python: | $(if $(filter-out x86-64-v2,$(CPU)),runs-here)
 	@name=$$($(call packaged,$(MODULE_FILE))); [ -z "$$name" ] || \
 	    { echo "the package $$name has $(MODULE_FILE): run apt-get remove $$name, or give a PREFIX" >&2; exit 1; }
-	install -d "$(DESTDIR)$(MODULES)"
+	install -d "$(DESTDIR)$(MODULES)" "$(BINARIES)" "$(PAGES)"
 	install -m 644 python/luksrd.py "$(MODULE_FILE)"
+	install -m 755 scripts/luksrd-lvm "$(BINARIES)/luksrd-lvm"
+	install -m 644 docs/luksrd-lvm.1 "$(PAGES)"
 
-INSTALLED = "$(BINARIES)/luksrd" "$(PAGES)/luksrd.1" "$(DOCUMENTS)/README.md" "$(DOCUMENTS)/FORMATS.md" \
+INSTALLED = "$(BINARIES)/luksrd" "$(PAGES)/luksrd.1" \
+    "$(BINARIES)/luksrd-candidates" "$(PAGES)/luksrd-candidates.1" "$(DOCUMENTS)/README.md" "$(DOCUMENTS)/FORMATS.md" \
     "$(BASH_COMPLETIONS)/luksrd" "$(ZSH_COMPLETIONS)/_luksrd" \
     "$(BINARIES)/luksrd-audit" "$(PAGES)/luksrd-audit.1" "$(DOCUMENTS)/AUDIT.md" \
     "$(BASH_COMPLETIONS)/luksrd-audit" "$(ZSH_COMPLETIONS)/_luksrd-audit" \
     "$(HEADERS)/luksrd.h" "$(LIBRARIES)/libluksrd.a" $(SHARED_NAMES:%="$(LIBRARIES)/%") \
     "$(LIBRARIES)/pkgconfig/luksrd.pc" \
     "$(LIBRARIES)/$(HWCAPS)/$(word 2,$(SHARED_NAMES))" \
-    "$(PAGES)/nbdkit-luksrd-plugin.1" $(if $(PLUGINS),"$(PLUGIN_FILE)") \
+    "$(UNIT_FILE)" "$(PAGES)/nbdkit-luksrd-plugin.1" $(if $(PLUGINS),"$(PLUGIN_FILE)") \
     "$(PAGES)/nbdkit-luksrd-filter.1" $(if $(FILTERS),"$(FILTER_FILE)") \
+    "$(BINARIES)/luksrd-lvm" "$(PAGES)/luksrd-lvm.1" \
     "$(MODULE_FILE)" $(patsubst %,"%",$(wildcard $(DESTDIR)$(MODULES)/__pycache__/luksrd.*.pyc))
 
 uninstall:
@@ -423,19 +439,10 @@ uninstall:
 	@$(note_library)
 
 # These too are used as they are.
-deb:
+deb: $(if $(wildcard $(PLUGIN) $(FILTER)),library-built)
 	@$(call check_built,$(PROGRAM_V2),make)
 	@$(call check_built,$(PROGRAM_V3),make CPU=x86-64-v3)
-	@$(if $(wildcard $(PLUGIN) $(FILTER)),test -f "$(SHARED)" -a -f "$(SHARED_V3)" || \
-	    { echo "the library is not built: run make library first" >&2; exit 1; })
-	packaging/deb luksrd "$(VERSION)" "$(DEB)" "$(PROGRAM_V2)" "$(PROGRAM_V3)"
-	@echo "$(DEB)"
-	$(if $(wildcard $(PLUGIN) $(FILTER)),packaging/deb libluksrd$(INTERFACE) "$(VERSION)" "$(LIBRARY_DEB)" \
-	    "$(SHARED)" "$(SHARED_V3)")
-	@$(if $(wildcard $(PLUGIN) $(FILTER)),echo "$(LIBRARY_DEB)")
-	$(if $(wildcard $(PLUGIN) $(FILTER)),packaging/deb python3-luksrd "$(VERSION)" "$(PYTHON_DEB)" python/luksrd.py)
-	@$(if $(wildcard $(PLUGIN) $(FILTER)),echo "$(PYTHON_DEB)")
-	$(if $(wildcard $(PLUGIN)),packaging/deb nbdkit-plugin-luksrd "$(VERSION)" "$(PLUGIN_DEB)" "$(PLUGIN)")
-	@$(if $(wildcard $(PLUGIN)),echo "$(PLUGIN_DEB)")
-	$(if $(wildcard $(FILTER)),packaging/deb nbdkit-filter-luksrd "$(VERSION)" "$(FILTER_DEB)" "$(FILTER)")
-	@$(if $(wildcard $(FILTER)),echo "$(FILTER_DEB)")
+	@PROGRAM_V2="$(PROGRAM_V2)" PROGRAM_V3="$(PROGRAM_V3)" \
+	    $(if $(wildcard $(LIBRARY)),LIBRARY="$(LIBRARY)" SHARED="$(SHARED)" SHARED_V3="$(SHARED_V3)") \
+	    $(if $(wildcard $(PLUGIN)),PLUGIN="$(PLUGIN)" FILTER="$(FILTER)") \
+	    packaging/deb "$(DEBS)" "$(VERSION)"

@@ -5,6 +5,7 @@ set -u
 # the options of the make that calls this script are not for those that it calls
 unset MAKEFLAGS
 program=$(realpath "${1:?the built program}")
+pages=$(realpath "$(dirname "${BASH_SOURCE[0]}")/../docs")
 # The seconds after which one run or one wait hangs, and a script: at least ten times what an idle machine needs
 patience=${PATIENCE:-300}
 limit=$((patience * 10))
@@ -12,11 +13,12 @@ passed=0
 failed=0
 skipped=0
 
-# end_children PID: kills what this process started, and what that started, but not the process that does it
+# end_children PID: kills what this process started, and what that started, but not the process that does it. Each is
+# stopped first, so that it starts nothing more.
 end_children() {
     local child
     for child in $(pgrep -P "$1"); do
-        [ "$child" = "$BASHPID" ] || { end_children "$child"; kill -KILL "$child"; }
+        [ "$child" = "$BASHPID" ] || { kill -STOP "$child"; end_children "$child"; kill -KILL "$child"; }
     done
 }
 
@@ -29,7 +31,10 @@ end_children() {
         kill -0 $$ || exit
     done
     echo "FAILED: no end within $limit seconds" >>/proc/$$/fd/1
+    kill -STOP $$
+    end_children $$
     kill $$
+    kill -CONT $$
     while kill -0 $$; do
         end_children $$
         sleep 0.1
@@ -148,6 +153,16 @@ changed() {
     for member in "${@:2}"; do
         edited "$1" "tree['segments']['0']['${member%%=*}'] = '${member#*=}'"
     done
+}
+
+# example PAGE TEXT: the example in a man page that follows this text
+example() {
+    awk -v text="$2" '
+        !/^\./ && index($0, text) { found = 1 }
+        found && /^\.Ed/ { exit }
+        inside
+        found && /^\.Bd/ { inside = 1 }
+        found && /^\.Dl / { print substr($0, 5); exit }' "$pages/$1" | sed 's/\\(dq/"/g; s/\\e/\\/g'
 }
 
 # runs_v3: this processor runs what is built for x86-64-v3, as the loader has it

@@ -18,15 +18,19 @@ same 'what is installed, and its modes' "$(cat files)" \
 644 usr/share/doc/luksrd/FORMATS.md
 644 usr/share/doc/luksrd/README.md
 644 usr/share/man/man1/luksrd-audit.1
+644 usr/share/man/man1/luksrd-candidates.1
 644 usr/share/man/man1/luksrd.1
 644 usr/share/zsh/site-functions/_luksrd
 644 usr/share/zsh/site-functions/_luksrd-audit
 755 usr/bin/luksrd
-755 usr/bin/luksrd-audit'
+755 usr/bin/luksrd-audit
+755 usr/bin/luksrd-candidates'
 for file in bin/luksrd:"$program" share/man/man1/luksrd.1:"$sources/docs/luksrd.1" \
     share/bash-completion/completions/luksrd:"$sources/completions/luksrd.bash" \
     share/doc/luksrd/FORMATS.md:"$sources/docs/FORMATS.md" share/doc/luksrd/README.md:"$sources/README.md" \
     share/zsh/site-functions/_luksrd:"$sources/completions/_luksrd" \
+    bin/luksrd-candidates:"$sources/scripts/luksrd-candidates" \
+    share/man/man1/luksrd-candidates.1:"$sources/docs/luksrd-candidates.1" \
     bin/luksrd-audit:"$program" share/man/man1/luksrd-audit.1:"$sources/docs/luksrd-audit.1" \
     share/doc/luksrd/AUDIT.md:"$sources/docs/AUDIT.md" \
     share/bash-completion/completions/luksrd-audit:"$sources/completions/luksrd-audit.bash" \

@@ -1,8 +1,9 @@
 #!/usr/bin/env bash
 # Makes Debian packages of the built program, the built library with its module for Python, and the built plugin and
-# filter, and looks into them; installs by make, as root and as another user, into folders of its own. As root, and if
-# luksrd is not installed, dpkg also installs the packages, and make the library into /usr/local: they run from there,
-# the administrator chooses between the programs for both processors, and all of it is removed again.
+# filter, looks into them, and has lintian do so; installs by make, as root and as another user, into folders of its
+# own. As root, and if luksrd is not installed, dpkg also installs the packages, and make the library into /usr/local:
+# they run from there, the administrator chooses between the programs for both processors, and all of it is removed
+# again.
 sources=$(realpath "$(dirname "$0")/..")
 plugin=$(realpath "${2:?the built plugin}")
 library=$(realpath "${3:?the built library}")
@@ -14,12 +15,10 @@ filter=$(realpath "${7:?the built filter}")
 . "$(dirname "$0")/common.sh"
 export LC_ALL=C
 
-# made FILE FILE FILE FILE FILE: `make deb` of the program, the library, the module for Python, the plugin and the
-# filter into these files
+# made FOLDER: `make deb` of all that is built, into this folder
 made() {
-    make -s -C "$sources" deb PROGRAM_V2="$program" PROGRAM_V3="$program_v3" DEB="$1" SHARED="$shared" \
-        SHARED_V3="$shared_v3" LIBRARY_DEB="$2" PYTHON_DEB="$3" \
-        PLUGIN="$plugin" PLUGIN_DEB="$4" FILTER="$filter" FILTER_DEB="$5"
+    make -s -C "$sources" deb PROGRAM_V2="$program" PROGRAM_V3="$program_v3" LIBRARY="$library" SHARED="$shared" \
+        SHARED_V3="$shared_v3" PLUGIN="$plugin" FILTER="$filter" DEBS="$1"
 }
 
 # what is missing, and which command makes it
@@ -28,22 +27,19 @@ mkdir "$nothing"
 lacking() {
     local path=$1
     shift
-    PATH=$path "$(command -v make)" -s -C "$sources" "$@" 2>&1 | sed '/^make.*\*\*\*/d'
+    PATH=$path "$(command -v make)" -s -C "$sources" "$@" DEBS="$nothing" 2>&1 | sed '/^make.*\*\*\*/d'
 }
 same 'install of no program' "$(lacking "$PATH" install PROGRAM=absent DESTDIR="$nothing")" \
     'luksrd is not built: run make first'
 same 'install of no program for x86-64-v3' "$(lacking "$PATH" install CPU=x86-64-v3 PROGRAM_V3=absent \
     DESTDIR="$nothing")" \
     'luksrd is not built: run make CPU=x86-64-v3 first'
-same 'a package of no program' "$(lacking "$PATH" deb PROGRAM_V2=absent PROGRAM_V3="$program_v3" \
-    DEB="$nothing/luksrd.deb")" \
+same 'a package of no program' "$(lacking "$PATH" deb PROGRAM_V2=absent PROGRAM_V3="$program_v3")" \
     'luksrd is not built: run make first'
-same 'a package of no program for x86-64-v3' "$(lacking "$PATH" deb PROGRAM_V2="$program" PROGRAM_V3=absent \
-    DEB="$nothing/luksrd.deb")" \
+same 'a package of no program for x86-64-v3' "$(lacking "$PATH" deb PROGRAM_V2="$program" PROGRAM_V3=absent)" \
     'luksrd is not built: run make CPU=x86-64-v3 first'
 same 'a package of the plugin, and no library' \
-    "$(lacking "$PATH" deb PROGRAM_V2="$program" PROGRAM_V3="$program_v3" DEB="$nothing/luksrd.deb" PLUGIN="$plugin" \
-    SHARED=absent)" \
+    "$(lacking "$PATH" deb PROGRAM_V2="$program" PROGRAM_V3="$program_v3" PLUGIN="$plugin" SHARED=absent)" \
     'the library is not built: run make library first'
 same 'a processor that there is not' "$(make -s -C "$sources" install CPU=x86-64-v9 DESTDIR="$nothing" 2>&1 |
     sed 's/.*\*\*\* //')" 'CPU is x86-64-v2 or x86-64-v3.  Stop.'
@@ -62,123 +58,125 @@ same 'install of the filter and no library' \
     'the library is not built: run make library first'
 same 'install of no filter' "$(lacking "$PATH" install-filter FILTER=absent DESTDIR="$nothing")" \
     'the filter is not built: run make nbdkit first'
-same 'a package of a filter for another nbdkit' "$("$sources/packaging/deb" nbdkit-filter-luksrd 1.1.0 \
-    "$nothing/filter.deb" "$plugin" 2>&1)" \
-    "$plugin is not for nbdkit $(pkg-config nbdkit --modversion): run make nbdkit first"
+cp "$plugin" other.so
+same 'a package of a filter for another nbdkit' "$(filter=$work/other.so made "$nothing" 2>&1 |
+    sed '/^make.*\*\*\*/d')" \
+    "$work/other.so is not for nbdkit $(pkg-config nbdkit --modversion): run make nbdkit first"
 same 'install of no plugin' "$(lacking "$PATH" install-plugin PLUGIN=absent DESTDIR="$nothing")" \
     'the plugin is not built: run make nbdkit first'
 same 'nothing is made' "$(ls "$nothing")" ''
 same 'a demo with no toolchain' "$(lacking "$nothing" demo)" 'rt is missing: put the Rattle toolchain on the path'
-same 'a package with no tools' "$(PATH=$nothing "$BASH" "$sources/packaging/deb" luksrd 1.1.0 luksrd.deb "$program" \
-    "$program_v3" 2>&1)" \
-    'strip is missing: run apt-get install binutils'
-same 'a package that there is not' "$("$sources/packaging/deb" other 1.1.0 luksrd.deb "$program" 2>&1)" \
-    'there is no package other'
+mkdir few
+ln -s "$(type -P dirname)" few
+same 'packages with no tools' "$(PATH=$work/few "$BASH" "$sources/packaging/deb" "$nothing" 1.1.0 2>&1)" \
+    'dh is missing: run apt-get install debhelper'
 
-program_package="$work/a folder/luksrd.deb"
-library_package="$work/a folder/libluksrd2.deb"
-python_package="$work/a folder/python3-luksrd.deb"
-plugin_package="$work/a folder/nbdkit-plugin-luksrd.deb"
-filter_package="$work/a folder/nbdkit-filter-luksrd.deb"
-same 'what make says' "$(made "$program_package" "$library_package" "$python_package" "$plugin_package" \
-    "$filter_package" 2>&1)" "$program_package
-$library_package
-$python_package
-$plugin_package
-$filter_package"
-made "$work/again" "$work/library again" "$work/python again" "$work/plugin again" "$work/filter again" >log
-same 'the package made again' "$(cmp "$program_package" again 2>&1)" ''
-same "the library's package made again" "$(cmp "$library_package" 'library again' 2>&1)" ''
-same "the module's package made again" "$(cmp "$python_package" 'python again' 2>&1)" ''
-same "the plugin's package made again" "$(cmp "$plugin_package" 'plugin again' 2>&1)" ''
-same "the filter's package made again" "$(cmp "$filter_package" 'filter again' 2>&1)" ''
-
-# holds NAME FILE PAGE LISTED [ARCHITECTURE]: what is in a package, and that it has one version; it is unpacked into the
-# folder of its name. Some have no PAGE
 version=$(make -s -C "$sources" -f Makefile -f - version <<<$'version:\n\t@echo $(VERSION)')
 same 'a version of three numbers' "$(grep -cxE '[0-9]+\.[0-9]+\.[0-9]+' <<<"$version")" 1
+packages=(luksrd libluksrd2 libluksrd-dev python3-luksrd nbdkit-plugin-luksrd)
+debs=()
+for name in "${packages[@]}"; do
+    architecture=amd64
+    [ $name != python3-luksrd ] || architecture=all
+    debs+=("$work/a folder/${name}_$version-1_$architecture.deb")
+done
+same 'what make says' "$(made "$work/a folder" 2>&1)" "$(printf '%s\n' "${debs[@]}")"
+made "$work/again" >log
+same 'the packages made again' "$(diff -r 'a folder' again 2>&1)" ''
+same 'what lintian says' "$(lintian --allow-root --display-info --pedantic --fail-on none "${debs[@]}" 2>&1)" ''
+
+# holds NAME FILES: what is in a package, with three papers that all have, and what it says of itself; it is unpacked
+# into the folder of its name. Each of FILES is a line with its mode
 holds() {
-    local name=$1 package=$2 page=$3 field papers=$1/usr/share/doc/$1
-    for field in Package:"$name" Source:luksrd Version:"$version" Architecture:"${5-amd64}"; do
+    local name=$1 package field page papers=$1/usr/share/doc/$1
+    package=$(echo "$work/a folder/$name"_*)
+    for field in Package:"$name" Version:"$version-1"; do
         same "$name: the field ${field%%:*}" "$(dpkg -f "$package" "${field%%:*}")" "${field#*:}"
     done
-    for field in Maintainer Installed-Size Depends Section Priority Description; do
+    for field in Maintainer Installed-Size Section Priority Description; do
         same "$name: the field $field is there" "$([ -n "$(dpkg -f "$package" "$field")" ]; echo $?)" 0
     done
     dpkg -c "$package" | awk '{ print $1, $2, $6 }' >listed
-    same "$name: files, modes and owner" "$(grep -v '^d' listed)" "$4"
-    same "$name: folders" "$(grep '^d' listed | grep -v '^drwxr-xr-x root/root ')" ''
+    same "$name: files and modes" "$(sed -n '/^d/d; s/ root.root / /p' listed | sort -k 2)" "$(sort -k 2 <<<"$2
+-rw-r--r-- ./usr/share/doc/$name/changelog.Debian.gz
+-rw-r--r-- ./usr/share/doc/$name/changelog.gz
+-rw-r--r-- ./usr/share/doc/$name/copyright")"
+    same "$name: folders, and files of others" "$(grep -v '^[-l].* root/root \|^drwxr-xr-x root/root ' listed)" ''
     dpkg -x "$package" "$name"
     dpkg -e "$package" control
     same "$name: the checksums" "$(cd "$name" && md5sum -c --quiet ../control/md5sums 2>&1)" ''
     same "$name: each file has one" "$(wc -l <control/md5sums)" "$(find "$name" -type f | wc -l)"
-    same "$name: the newest change" "$(zcat "$papers/changelog.gz" | head -1)" \
-        "luksrd ($version) stable; urgency=medium"
-    same "$name: the same released changes" "$(zcat "$papers/changelog.gz" | grep -c '^  \*')" \
-        "$(sed -n '/^## [0-9]/,$p' "$sources/CHANGELOG.md" | grep -c '^-')"
-    same "$name: their words" "$(zcat "$papers/changelog.gz" | grep -vE '^(luksrd \(|  \[ | -- )' | sed 's/^  \* //' |
-        tr -s ' \n' ' ')" \
-        "$(sed -n '/^## [0-9]/,$p' "$sources/CHANGELOG.md" | grep -v '^#' | sed 's/^- //' | tr -s ' \n' ' ')"
-    same "$name: lines of its changes that are too long" "$(zcat "$papers/changelog.gz" | grep -v '^ -- ' |
-        awk 'length > 80')" ''
-    [ -n "$page" ] || return 0
-    same "$name: the man page" "$(zcat "$name/usr/share/man/man1/$page.gz")" "$(cat "$sources/docs/$page")"
-    same "$name: the version of the man page" "$(grep '^\.Os' "$sources/docs/$page")" ".Os luksrd $version"
-    same "$name: what man says of its page" "$(man --warnings -l "$sources/docs/$page" 2>&1 >/dev/null)" ''
-    same "$name: what mandoc says of it" "$(mandoc -Tlint -Wwarning "$sources/docs/$page" 2>&1)" ''
+    same "$name: the newest change" "$(zcat "$papers/changelog.Debian.gz" | head -n 1)" \
+        "luksrd ($version-1) stable; urgency=medium"
+    same "$name: released changes" "$(zcat "$papers/changelog.gz" | sed '/^## [0-9]/,$!d')" \
+        "$(sed '/^## [0-9]/,$!d' "$sources/CHANGELOG.md")"
+    same "$name: the licence" "$(grep -c 'The owner of luksrd gives its licence' "$papers/copyright")" 1
+    for page in "$name"/usr/share/man/man1/*; do
+        [ -e "$page" ] || continue
+        page=$(basename "$page" .gz)
+        same "$page" "$(zcat "$name/usr/share/man/man1/$page.gz")" "$(cat "$sources/docs/$page")"
+        same "$page: what man says of it" "$(man --warnings -l "$sources/docs/$page" 2>&1 >/dev/null)" ''
+        same "$page: what mandoc says of it" "$(mandoc -Tlint -Wwarning "$sources/docs/$page" 2>&1)" ''
+    done
 }
-holds luksrd "$program_package" luksrd.1 '-rwxr-xr-x root/root ./usr/libexec/luksrd/x86-64-v2/luksrd
--rwxr-xr-x root/root ./usr/libexec/luksrd/x86-64-v3/luksrd
--rw-r--r-- root/root ./usr/share/bash-completion/completions/luksrd
--rw-r--r-- root/root ./usr/share/doc/luksrd/FORMATS.md
--rw-r--r-- root/root ./usr/share/doc/luksrd/README.md
--rw-r--r-- root/root ./usr/share/doc/luksrd/changelog.gz
--rw-r--r-- root/root ./usr/share/doc/luksrd/copyright
--rw-r--r-- root/root ./usr/share/man/man1/luksrd.1.gz
--rw-r--r-- root/root ./usr/share/zsh/vendor-completions/_luksrd'
+# needs NAME PATTERN: how many of the packages that it depends on are such
+needs() {
+    dpkg -f "$work/a folder/$1"_* Depends | sed 's/, /\n/g' | grep -cxE "$2"
+}
+holds luksrd '-rwxr-xr-x ./usr/bin/luksrd-candidates
+-rwxr-xr-x ./usr/libexec/luksrd/x86-64-v2/luksrd
+-rwxr-xr-x ./usr/libexec/luksrd/x86-64-v3/luksrd
+-rw-r--r-- ./usr/share/bash-completion/completions/luksrd
+-rw-r--r-- ./usr/share/doc/luksrd/FORMATS.md.gz
+-rw-r--r-- ./usr/share/doc/luksrd/README.md.gz
+-rw-r--r-- ./usr/share/lintian/overrides/luksrd
+-rw-r--r-- ./usr/share/man/man1/luksrd-candidates.1.gz
+-rw-r--r-- ./usr/share/man/man1/luksrd.1.gz
+-rw-r--r-- ./usr/share/zsh/vendor-completions/_luksrd'
+same 'the program depends on the C library' "$(needs luksrd 'libc6 \(>= 2\.[0-9]+\)')" 1
 libraries=/usr/lib/x86_64-linux-gnu
-holds libluksrd2 "$library_package" '' "-rw-r--r-- root/root .$libraries/glibc-hwcaps/x86-64-v3/libluksrd.so.2
--rw-r--r-- root/root .$libraries/libluksrd.so.$version
--rw-r--r-- root/root ./usr/share/doc/libluksrd2/changelog.gz
--rw-r--r-- root/root ./usr/share/doc/libluksrd2/copyright
-lrwxrwxrwx root/root .$libraries/libluksrd.so.2"
+holds libluksrd2 "-rw-r--r-- .$libraries/glibc-hwcaps/x86-64-v3/libluksrd.so.2
+-rw-r--r-- .$libraries/libluksrd.so.$version
+lrwxrwxrwx .$libraries/libluksrd.so.2"
 same 'what depends on the library' "$(cat control/shlibs)" "libluksrd 2 libluksrd2 (>= $version)"
-same 'what the library triggers' "$(cat control/triggers)" 'activate-noawait ldconfig'
+same 'the symbols of the library' "$(sed -n 's/^ \(luksrd_.*\)@LUKSRD_2 1\.2\.0$/\1/p' control/symbols)" \
+    "$(sed -n 's/^ *\(luksrd_.*\);$/\1/p' "$sources/c/luksrd.map")"
+same 'what the library triggers' "$(sed '/^#/d' control/triggers)" 'activate-noawait ldconfig'
+holds libluksrd-dev "-rw-r--r-- ./usr/include/luksrd.h
+-rw-r--r-- .$libraries/libluksrd.a
+-rw-r--r-- .$libraries/pkgconfig/luksrd.pc
+lrwxrwxrwx .$libraries/libluksrd.so"
+same 'what programs are built with depends on the library' "$(needs libluksrd-dev "libluksrd2 \(= $version-1\)")" 1
 plugins=$(pkg-config nbdkit --variable=plugindir)
-holds nbdkit-plugin-luksrd "$plugin_package" nbdkit-luksrd-plugin.1 \
-    "-rw-r--r-- root/root .$plugins/nbdkit-luksrd-plugin.so
--rw-r--r-- root/root ./usr/share/doc/nbdkit-plugin-luksrd/changelog.gz
--rw-r--r-- root/root ./usr/share/doc/nbdkit-plugin-luksrd/copyright
--rw-r--r-- root/root ./usr/share/man/man1/nbdkit-luksrd-plugin.1.gz"
-same 'the plugin depends on nbdkit' "$(dpkg -f "$plugin_package" Depends | grep -c ', nbdkit (>= ')" 1
 filters=$(pkg-config nbdkit --variable=filterdir)
-holds nbdkit-filter-luksrd "$filter_package" nbdkit-luksrd-filter.1 \
-    "-rw-r--r-- root/root .$filters/nbdkit-luksrd-filter.so
--rw-r--r-- root/root ./usr/share/doc/nbdkit-filter-luksrd/changelog.gz
--rw-r--r-- root/root ./usr/share/doc/nbdkit-filter-luksrd/copyright
--rw-r--r-- root/root ./usr/share/man/man1/nbdkit-luksrd-filter.1.gz"
+holds nbdkit-plugin-luksrd "-rw-r--r-- .$filters/nbdkit-luksrd-filter.so
+-rw-r--r-- .$plugins/nbdkit-luksrd-plugin.so
+-rw-r--r-- ./usr/lib/systemd/system/nbdkit-luksrd@.service
+-rw-r--r-- ./usr/share/lintian/overrides/nbdkit-plugin-luksrd
+-rw-r--r-- ./usr/share/man/man1/nbdkit-luksrd-filter.1.gz
+-rw-r--r-- ./usr/share/man/man1/nbdkit-luksrd-plugin.1.gz"
 installed=$(dpkg-query -W -f '${Version}' nbdkit)
-lowest=$(dpkg -f "$filter_package" Depends | sed -n 's/.*, nbdkit (>= \([^)]*\)), nbdkit (<< [^)]*)$/\1/p')
-above=$(dpkg -f "$filter_package" Depends | sed -n 's/.*, nbdkit (>= [^)]*), nbdkit (<< \([^)]*\))$/\1/p')
-same 'the filter depends on this version of nbdkit' \
-    "$(dpkg --compare-versions "$installed" ge "$lowest" && dpkg --compare-versions "$installed" lt "$above"
+limits=$(dpkg -f "$work/a folder/nbdkit-plugin-luksrd"_* Depends |
+    sed -n 's/^nbdkit (>= \([^)]*\)), nbdkit (<< \([^)]*\)), .*/\1 \2/p')
+same 'plugin and filter depend on this version of nbdkit' \
+    "$(dpkg --compare-versions "$installed" ge "${limits% *}" && dpkg --compare-versions "$installed" lt "${limits#* }"
     echo $?)" 0
-same 'the filter depends on no other version' "$(dpkg --compare-versions "${installed%%-*}.1" lt "$above"; echo $?)" 1
-holds python3-luksrd "$python_package" '' '-rw-r--r-- root/root ./usr/lib/python3/dist-packages/luksrd.py
--rw-r--r-- root/root ./usr/share/doc/python3-luksrd/changelog.gz
--rw-r--r-- root/root ./usr/share/doc/python3-luksrd/copyright' all
-same 'the module depends on Python' "$(dpkg -f "$python_package" Depends | grep -c '^python3 (>= ')" 1
-for package in "$plugin_package" "$filter_package" "$python_package"; do
-    same "${package##*/} depends on the library" "$(dpkg -f "$package" Depends |
-        grep -cF ", libluksrd2 (>= $version)")" 1
+next=${installed%%-*}
+next=${next%.*}.$((${next##*.} + 1))
+same 'they depend on no other version' "$(dpkg --compare-versions "$next" lt "${limits#* }"; echo $?)" 1
+holds python3-luksrd '-rw-r--r-- ./usr/lib/python3/dist-packages/luksrd.py
+-rw-r--r-- ./usr/share/man/man1/luksrd-lvm.1.gz
+-rwxr-xr-x ./usr/bin/luksrd-lvm'
+same 'the module depends on Python' "$(needs python3-luksrd 'python3:any')" 1
+for name in nbdkit-plugin-luksrd python3-luksrd; do
+    same "$name depends on the library" "$(needs $name "libluksrd2 \(>= $version\)")" 1
 done
 # what a binary says of itself: its name, the libraries that it loads, and its own folders for them
 dynamic() { readelf -d "$1" | sed -n 's/.*(\(SONAME\|NEEDED\|RUNPATH\|RPATH\)).*\[\(.*\)\]$/\1 \2/p' |
     grep -v 'NEEDED libc\.so'; }
-same 'the packaged plugin loads the library' "$(dynamic "nbdkit-plugin-luksrd$plugins/nbdkit-luksrd-plugin.so")" \
-    'NEEDED libluksrd.so.2'
-same 'the packaged filter loads the library' "$(dynamic "nbdkit-filter-luksrd$filters/nbdkit-luksrd-filter.so")" \
-    'NEEDED libluksrd.so.2'
+for file in "$plugins/nbdkit-luksrd-plugin.so" "$filters/nbdkit-luksrd-filter.so"; do
+    same "what ${file##*/} loads" "$(dynamic "nbdkit-plugin-luksrd$file")" 'NEEDED libluksrd.so.2'
+done
 same 'the names of the packaged library' "$(dynamic "libluksrd2$libraries/libluksrd.so.2"
     dynamic "libluksrd2$libraries/glibc-hwcaps/x86-64-v3/libluksrd.so.2")" \
     'SONAME libluksrd.so.2
@@ -220,7 +218,7 @@ serves_sample() {
     done
 }
 LD_LIBRARY_PATH=$work/libluksrd2$libraries serves_sample "$work/nbdkit-plugin-luksrd$plugins/nbdkit-luksrd-plugin.so" \
-    "$work/nbdkit-filter-luksrd$filters/nbdkit-luksrd-filter.so"
+    "$work/nbdkit-plugin-luksrd$filters/nbdkit-luksrd-filter.so"
 
 # module_gives FOLDER: the module in this folder gives the sample volume's plain text
 module_gives() {
@@ -253,15 +251,17 @@ cat >tools/pkg-config <<TEXT
 case \$* in *filterdir) echo /nbdkit/filters ;; *) echo /nbdkit/plugins ;; esac
 TEXT
 chmod +x tools/pkg-config
-program_files=(bin/luksrd share/bash-completion/completions/luksrd share/doc/luksrd/FORMATS.md
+program_files=(bin/luksrd bin/luksrd-candidates share/bash-completion/completions/luksrd share/doc/luksrd/FORMATS.md
     share/doc/luksrd/README.md
-    share/man/man1/luksrd.1 share/zsh/site-functions/_luksrd)
+    share/man/man1/luksrd-candidates.1 share/man/man1/luksrd.1 share/zsh/site-functions/_luksrd)
 library_files=(include/luksrd.h lib/glibc-hwcaps/x86-64-v3/libluksrd.so.2 lib/libluksrd.a lib/libluksrd.so
     lib/libluksrd.so.2 "lib/libluksrd.so.$version" lib/pkgconfig/luksrd.pc)
+unit=lib/systemd/system/nbdkit-luksrd@.service
 pages=(share/man/man1/nbdkit-luksrd-filter.1 share/man/man1/nbdkit-luksrd-plugin.1)
 name=nbdkit-luksrd-plugin.so
 filter_name=nbdkit-luksrd-filter.so
 module=lib/python3/dist-packages/luksrd.py
+module_files=(bin/luksrd-lvm share/man/man1/luksrd-lvm.1)
 # below PREFIX PATH..: as `files` lists them
 below() {
     printf "./${1:+$1/}%s\n" "${@:2}" | LC_ALL=C sort
@@ -272,7 +272,7 @@ folders=(PLUGINS=/usr/plugins FILTERS=/usr/filters MODULES=/usr/modules)
 make_built install DESTDIR="$work/there" "${folders[@]}"
 same 'make install of the library, the plugin and the filter too' "$? $(files there)" \
     "0 $(below usr "${program_files[@]/#/local/}" "${library_files[@]/#/local/}" "${pages[@]/#/local/}" \
-        "plugins/$name" "filters/$filter_name" modules/luksrd.py)"
+        "${module_files[@]/#/local/}" "local/$unit" "plugins/$name" "filters/$filter_name" modules/luksrd.py)"
 same 'both libraries' "$(cmp "there/usr/local/lib/libluksrd.so.$version" "$shared" 2>&1
     cmp there/usr/local/lib/glibc-hwcaps/x86-64-v3/libluksrd.so.2 "$shared_v3" 2>&1)" ''
 make_built uninstall DESTDIR="$work/there" "${folders[@]}"
@@ -308,7 +308,7 @@ for prefix in /usr /usr/local/; do
     PATH=$work/tools:$PATH make_built install-plugin install-filter DESTDIR="$work/there" PREFIX="$prefix"
     same "plugin and filter for $prefix" "$? $(files there)" \
         "0 $(below '' "nbdkit/plugins/$name" "nbdkit/filters/$filter_name" \
-            "$(realpath -ms "$prefix/${pages[0]}" | cut -c 2-)" "$(realpath -ms "$prefix/${pages[1]}" | cut -c 2-)")"
+            $(realpath -ms "$prefix/${pages[0]}" "$prefix/${pages[1]}" "$prefix/$unit" | cut -c 2-))"
     PATH=$work/tools:$PATH make_built uninstall DESTDIR="$work/there" PREFIX="$prefix"
     same "plugin and filter for $prefix, uninstalled" "$? $(files there)" '0 '
 done
@@ -328,7 +328,7 @@ put_by_another() {
         PLUGIN="../built/$name" FILTER="../built/$filter_name" "$@" >log 2>&1
 }
 mkdir tree built own
-cp -r "$sources"/{Makefile,README.md,c,completions,docs,python} tree
+cp -r "$sources"/{Makefile,README.md,c,completions,docs,python,scripts} tree
 cp "$program" built/luksrd
 cp "$library" built/libluksrd.a
 cp "$shared" built/libluksrd.so
@@ -343,7 +343,7 @@ if another test -r tree/Makefile; then
     put_by_another install PREFIX="$work/own/it"
     same 'make install by another user' "$? $(files own/it)" \
         "0 $(below '' "${program_files[@]}" "${library_files[@]}" "${pages[@]}" "lib/nbdkit/plugins/$name" \
-            "lib/nbdkit/filters/$filter_name" "$module")"
+            "lib/nbdkit/filters/$filter_name" "$module" "${module_files[@]}")"
     same "nbdkit's own folder" "$(ls -la --full-time "$plugins")" "$plugins_before"
     works "$work/own/it/bin/luksrd" "$work/own/it/share/bash-completion/completions/luksrd"
     serves_sample "$work/own/it/lib/nbdkit/plugins/$name" "$work/own/it/lib/nbdkit/filters/$filter_name"
@@ -399,7 +399,6 @@ if another test -r tree/Makefile; then
     notes 'ldconfig by another user' 0 put_by_another install-library PREFIX="$work/own"
 fi
 
-packages=(luksrd libluksrd2 nbdkit-plugin-luksrd nbdkit-filter-luksrd python3-luksrd)
 if [ "$(id -u)" != 0 ] || dpkg-query -W -f '${db:Status-Abbrev}\n' "${packages[@]}" 2>log | grep '^i' >log ||
     [ -n "$(find /usr/bin /usr/libexec /usr/local /usr/include /usr/lib/pkgconfig "$libraries" /etc/alternatives \
         -name '*luksrd*' -print -quit 2>/dev/null)" ]; then
@@ -425,7 +424,7 @@ chosen() {
     readlink -f /usr/bin/luksrd
 }
 trap 'dpkg -r "${packages[@]}" >/dev/null 2>&1; rm -rf "$work"' EXIT
-dpkg -i "$program_package" "$library_package" "$plugin_package" "$filter_package" "$python_package" >log 2>&1
+dpkg -i "${debs[@]}" >log 2>&1
 same 'they install' $? 0
 works /usr/bin/luksrd /usr/share/bash-completion/completions/luksrd
 same 'the program that is installed' "$(chosen)" /usr/libexec/luksrd/x86-64-v2/luksrd
@@ -442,8 +441,8 @@ same "make install over a package's plugin" "$(lacking "$PATH" install "${built[
     "the package nbdkit-plugin-luksrd has $plugins/$name: run apt-get remove nbdkit-plugin-luksrd, or give a PREFIX"
 same "make install over a package's filter" "$(lacking "$PATH" install-filter "${built[@]}" DESTDIR= \
     PREFIX="$work/own/late" FILTERS="$filters")" \
-    "the package nbdkit-filter-luksrd has $filters/$filter_name: \
-run apt-get remove nbdkit-filter-luksrd, or give a PREFIX"
+    "the package nbdkit-plugin-luksrd has $filters/$filter_name: \
+run apt-get remove nbdkit-plugin-luksrd, or give a PREFIX"
 same "make install over a package's module" "$(lacking "$PATH" install-python "${built[@]}" DESTDIR= PREFIX=/usr)" \
     "the package python3-luksrd has $modules/luksrd.py: run apt-get remove python3-luksrd, or give a PREFIX"
 same 'what that installs' "$(files own/late)" ''
@@ -461,12 +460,12 @@ else
     same 'what it says here' "$(/usr/bin/luksrd 2>err | wc -c; echo "${PIPESTATUS[0]}")" '0
 127'
 fi
-dpkg -i "$program_package" >log 2>&1
+dpkg -i "${debs[0]}" >log 2>&1
 same 'the choice after the package is installed again' "$? $(chosen)" '0 /usr/libexec/luksrd/x86-64-v3/luksrd'
 update-alternatives --auto luksrd >log 2>&1
 same 'no choice' "$? $(chosen)" '0 /usr/libexec/luksrd/x86-64-v2/luksrd'
 update-alternatives --set luksrd /usr/libexec/luksrd/x86-64-v3/luksrd >log 2>&1
-dpkg -r "${packages[@]}" >log 2>&1
+dpkg -P "${packages[@]}" >log 2>&1
 same 'they go' $? 0
 same 'what is left' "$(xargs -d '\n' ls -d <paths 2>/dev/null;
     ls -d /usr/bin/luksrd /etc/alternatives/luksrd /var/lib/dpkg/alternatives/luksrd 2>/dev/null)" ''
