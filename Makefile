@@ -187,9 +187,10 @@ TESTS := stripes volumes devices pipes faults interruptions install memory hosti
 INTEROP := headers headers2 volumes volumes2 detached filesystems
 SOURCE_SCRIPTS := test-names test-counts test-headline test-contracts
 PROGRAM_SCRIPTS := $(SOURCE_SCRIPTS) $(TESTS:%=test-%) $(INTEROP:%=interop-%)
-C_SCRIPTS := test-package test-library test-processors interop-nbd interop-filter interop-python interop-recipes
+C_SCRIPTS := test-package test-library test-processors interop-nbd interop-filter interop-python interop-recipes \
+    interop-guides
 TOOL_SCRIPTS := interop-sealed interop-keys
-AUDIT_SCRIPTS := interop-audit test-audit-completions
+AUDIT_SCRIPTS := interop-audit interop-audited test-audit-completions
 ALL_SCRIPTS := $(PROGRAM_SCRIPTS) $(AUDIT_SCRIPTS) $(C_SCRIPTS) $(TOOL_SCRIPTS)
 # Those that are run once more with the program for x86-64-v3, and with its tools: all but those that read only the
 # sources, and those that take both programs.
@@ -251,14 +252,17 @@ interop-nbd interop-filter: interop-%:
 interop-python:
 	interop/python.sh $(PROGRAM) $(SHARED)
 
-interop-audit:
-	interop/audit.sh $(PROGRAM) $(AUDIT)
+interop-audit interop-audited: interop-%:
+	interop/$*.sh $(PROGRAM) $(AUDIT)
 
 test-audit-completions:
 	tests/audit-completions.sh $(PROGRAM) $(AUDIT)
 
 interop-recipes:
 	interop/recipes.sh $(PROGRAM) $(PLUGIN) $(FILTER)
+
+interop-guides:
+	interop/guides.sh $(PROGRAM) $(PLUGIN) $(FILTER) $(SHARED)
 
 test-library:
 	tests/library.sh $(PROGRAM) $(LIBRARY) $(SHARED) $(SHARED_V3)
