@@ -273,6 +273,18 @@ replays() {
     fusermount3 -u file
     wait $!
 }
+# check_ntfs: the same for NTFS, whose log says that Windows was switched off; at last it is mounted without ro
+check_ntfs() {
+    local how
+    mkdir 'mount ntfs'
+    cp ntfs 'mount ntfs/plain.img'
+    "$sources/interop/unclean.py" 'mount ntfs/plain.img'
+    sha256sum <'mount ntfs/plain.img' >sum
+    for how in "$(without_journal ntfs)" 'ntfs-3g -o norecover plain.img /mnt' 'ntfs-3g plain.img /mnt'; do
+        echo "ntfs: $(mounts ntfs "$how")"
+        sha256sum <'mount ntfs/plain.img' | cmp -s - sum && echo 'ntfs: unchanged'
+    done
+}
 # check_mounts: what is mounted, and by what, a line each
 check_mounts() {
     local kind
@@ -288,10 +300,11 @@ check_mounts() {
         [ $kind = ext2 ] || echo "$kind, replayed: $(replays $kind)"
         sha256sum <"mount $kind/plain.img" | cmp - sum && echo "$kind: unchanged"
     done
+    check_ntfs
 }
 if [ "$(id -u)" = 0 ] && loop=$(losetup -f --show ext4 2>err) && losetup -d "$loop" && has_fuse; then
-    export -f check_mounts unclean mounts replays row without_journal wait_until
-    export pages patience
+    export -f check_mounts check_ntfs unclean mounts replays row without_journal wait_until
+    export sources pages patience
     unshare -m bash -c check_mounts >mounted 2>err
     same 'file systems that were not unmounted' "$(cat mounted)" "$(cat <<'TEXT'
 ext2, ro: etc new ro
@@ -314,6 +327,11 @@ btrfs, ro: status 32
 btrfs: etc ro
 btrfs, replayed: new
 btrfs: unchanged
+ntfs: boot.ini ro
+ntfs: unchanged
+ntfs: boot.ini ro
+ntfs: unchanged
+ntfs: boot.ini rw
 TEXT
 )"
 else
