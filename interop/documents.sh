@@ -67,6 +67,8 @@ begins() {
 
 # Lines that a script runs by itself or not at all, as an extended regular expression: what needs a disk
 left_out='/dev/sd'
+# the file with what is typed in a recipe
+typed=typed
 : >cooked
 
 # cooks FOLDER NEEDED NAME:TEXT..: runs these recipes in a folder with images, in each shell, with links to the other
@@ -85,7 +87,7 @@ cooks() {
         done
     } >script
     for shell in bash 'zsh -o interactive_comments'; do
-        (cd "$folder" && $shell ../script <../typed) >"$folder, ${shell%% *}" 2>&1
+        (cd "$folder" && $shell ../script <../$typed) >"$folder, ${shell%% *}" 2>&1
         mv "$folder/rescue" "rescue $folder, ${shell%% *}"
         same "$folder in $shell: files that others may read" "$(find "rescue $folder, ${shell%% *}" -type f -perm /077 \
             ! -name plain.pid)" ''

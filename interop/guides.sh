@@ -144,13 +144,15 @@ recipes_give 'readers all' files/etc/fstab files/etc/fstab
 cooks 'readers ntfs' plain.img RESCUE.md:'# NTFS'
 recipes_give 'readers ntfs' boot.ini files/etc/fstab
 
-# to qcow2, and sparse copies
+# to qcow2, and sparse copies; after the passphrase a new one is typed, twice in one recipe
+printf '%s\n' 'a secret' 'a new passphrase' 'a new passphrase' >typed_new
+printf %s 'a new passphrase' >newpass
+typed=typed_new
 volume moved ext4
 cooks moved '' MIGRATION.md:'# A plain one' MIGRATION.md:'# One that is encrypted' MIGRATION.md:'# By a pipe' \
     MIGRATION.md:'# By nbdcopy' MIGRATION.md:'# A new passphrase, a new' MIGRATION.md:'# Both have the same'
 for image in plain.img plain2.img; do recipes_give moved $image ext4; done
 recipes_say moved 'the same'
-printf %s 'a new passphrase' >newpass
 for shell in bash zsh; do
     moved="rescue moved, $shell"
     qemu-img convert -O raw "$moved/plain.qcow2" "$moved/from plain.qcow2"
@@ -203,6 +205,8 @@ if has_fuse; then
 else
     skip 'file systems by FUSE' 'nothing can be mounted by FUSE'
 fi
+
+typed=typed
 
 # LVM in a volume: two logical volumes, the second with a file system. lvm is to look at nothing but the loop device.
 lvm_on() {

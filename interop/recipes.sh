@@ -247,7 +247,7 @@ same 'a volume of Argon2' "$(reported testPassphrase --key-file pass argon2/disk
     'luksrd: no key slot can be tried; skipped: 0 (argon2id)
 1'
 cooks argon2 '' README.md:'Argon2 key slots only: add'
-recipes_give argon2 plain.img plain
+recipes_give argon2 plain5.img plain
 cp -r argon2 argon2_page
 cooks argon2_page '' luksrd.1:'Decrypt a LUKS2 volume that has key slots by Argon2'
 recipes_give argon2_page plain.img plain
