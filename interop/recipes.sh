@@ -252,6 +252,25 @@ cp -r argon2 argon2_page
 cooks argon2_page '' luksrd.1:'Decrypt a LUKS2 volume that has key slots by Argon2'
 recipes_give argon2_page plain.img plain
 
+# the answers of luksDump that README's first table begins with, each from a volume of its kind
+answer() {
+    "$program" luksDump "$1" 2>&1 | grep -m 1 -oE '^(Slot 0: [A-Z]+( argon2id)?|luksrd: .*|Segment: REFUSED)'
+}
+# shellcheck disable=SC2016
+named=$(sed -n '/^| It prints/,/^$/s/^| \(`[^|]*\) |.*/\1/p' "$sources/README.md" |
+    grep -oE '`(Slot|luksrd|Segment)[^`]*' | tr -d '`' | sed 's/ \.\.$//')
+same "answers in README's first table" "$(for image in partition/disk.img volume/disk.img argon2/disk.img \
+    partition/whole.img; do answer $image; done)" "$(head -n 4 <<<"$named")"
+cp partition/disk.img unfinished
+run_cryptsetup luksKillSlot --key-file pass unfinished 1
+if cryptsetup -q reencrypt --init-only --pbkdf pbkdf2 --pbkdf-force-iterations 1000 --key-file pass unfinished \
+    >err 2>&1; then
+    same "the last answer in README's first table" "$("$program" luksDump unfinished | grep -o '^Segment: REFUSED')" \
+        "$(tail -n +5 <<<"$named")"
+else
+    skip 'reencryption under way' 'cryptsetup does not begin to encrypt here'
+fi
+
 # images of all kinds
 mkdir audit
 cp volume/disk.img audit/1.img
