@@ -6,6 +6,7 @@ sources=$(realpath "$(dirname "${BASH_SOURCE[0]}")/..")
 pages=$sources/docs
 # shellcheck source=interop/common.sh
 . "$sources/interop/common.sh"
+# shellcheck disable=SC2154
 ln -s "$program" luksrd
 if [ -n "${plugin-}" ]; then
     theirs=$(command -v nbdkit)
