@@ -8,8 +8,11 @@
 # make test       what CI runs: the gate, which proves everything, tries each must-fail edit and runs the tests, and
 #                 beside it the same scripts on the program that it builds; it prints the processor time that each crate
 #                 took
-# make pages      writes the pages that are made from the sources: docs/HEADLINE.md and docs/proofs/
-# make bench      measures key derivation, decryption and whole volumes beside other implementations, and memory
+# make pages      writes the pages that are made from the sources: docs/HEADLINE.md and docs/proofs/, and the tables of
+#                 docs/SPEED.md, which are made from the results in docs/speed/
+# make bench      measures key derivation, decryption and whole volumes beside other implementations, and memory; keeps
+#                 the results in docs/speed/MACHINE.json (the name of the host if MACHINE is not given) and makes the
+#                 tables of docs/SPEED.md. ROUNDS is the number of rounds; with AS_BUILT=1 it builds nothing
 # make library    builds the library for C: out/libluksrd.a, out/libluksrd.so and out/luksrd.pc, and the same for
 #                 x86-64-v3 in out/glibc-hwcaps, which the loader takes if the processor can run it
 # make nbdkit     builds the plugin for nbdkit, out/nbdkit-luksrd-plugin.so, the filter,
@@ -185,7 +188,7 @@ check: $(PROGRAM_V2) $(PROGRAM_V3) $(AUDIT) $(TOOLS_V2) $(TOOLS_V3) library nbdk
 # output of each comes when it has ended. Some need the tools, or what is built from C.
 TESTS := stripes volumes devices pipes faults interruptions install memory hostile completions
 INTEROP := headers headers2 volumes volumes2 detached filesystems
-SOURCE_SCRIPTS := test-names test-counts test-headline test-contracts
+SOURCE_SCRIPTS := test-names test-counts test-headline test-contracts test-speed
 PROGRAM_SCRIPTS := $(SOURCE_SCRIPTS) $(TESTS:%=test-%) $(INTEROP:%=interop-%)
 C_SCRIPTS := test-package test-library test-processors interop-nbd interop-filter interop-python interop-recipes \
     interop-guides
@@ -223,13 +226,17 @@ v3-scripts v3-tool-scripts:
 test-names test-counts: test-%:
 	tests/$*
 
-# They fail if a page is not as the script makes it from the sources.
+# They fail if a page is not as the script makes it from the sources, or from the results of measurements.
 test-headline test-contracts: test-%:
 	docs/$* --check
+
+test-speed:
+	bench/page --check
 
 pages:
 	docs/headline
 	docs/contracts
+	bench/page
 
 $(TESTS:%=test-%): test-%:
 	tests/$*.sh $(PROGRAM)
@@ -270,14 +277,26 @@ test-library:
 test: toolchain
 	tests/gate
 
-bench: all
+# What the measurements need, before the first of them begins. MACHINE and AS_BUILT reach them by the environment.
+# bench/reads, for reads at random offsets, is measured once there is such a script.
+BENCH_TOOLS := cryptsetup valgrind python3 cc openssl /usr/bin/time qemu-img nbdkit nbdcopy grub-fstest gnuplot
+MACHINE ?= $(shell uname -n)
+
+bench: export MACHINE := $(MACHINE)
+bench: $(if $(AS_BUILT),,all)
+	@for tool in $(BENCH_TOOLS); do \
+	    command -v $$tool >/dev/null || { echo "$$tool is missing: CONTRIBUTING.md lists the packages" >&2; exit 1; }; \
+	done
 	bench/instructions
 	bench/memory
-	bench/pbkdf2
-	bench/xts
-	bench/volume
-	bench/nbd
-	bench/plot
+	bench/pbkdf2 $(ROUNDS)
+	bench/xts $(ROUNDS)
+	bench/volume $(ROUNDS)
+	bench/nbd $(ROUNDS)
+	bench/search $(ROUNDS)
+	$(wildcard bench/reads)
+	bench/plot $(ROUNDS)
+	bench/page
 
 # What is already built is installed as it is, so this needs no toolchain.
 # $(call check_built,FILE,COMMAND): stops if this program is not built, or if a build for another processor was cut off

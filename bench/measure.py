@@ -1,4 +1,7 @@
-"""Shared by the measurements: the programs, and the cost of a run."""
+"""Shared by the measurements: the programs, and the cost of a run.
+
+The programs are built first. With AS_BUILT in the environment they are taken as they are, which needs no toolchain.
+"""
 
 import collections
 import os
@@ -9,6 +12,7 @@ import sys
 
 TOP = pathlib.Path(__file__).resolve().parents[1]
 LUKSRD = TOP / "crates" / "luksrd" / "out" / "luksrd"
+AUDIT = TOP / "crates" / "luksrd_audit" / "out" / "luksrd_audit"
 TOOLS = TOP / "crates" / "luksrd_tools" / "out" / "luksrd_tools"
 MIB = 1 << 20
 
@@ -21,79 +25,109 @@ BUILDS = {
 }
 
 
-def make(*arguments):
-    done = subprocess.run(["make", *arguments], cwd=TOP, stdout=subprocess.DEVNULL, stderr=subprocess.PIPE, text=True)
-    if done.returncode:
-        sys.exit(f"make {' '.join(arguments)} failed:\n{done.stderr[-3000:]}")
+def make(*arguments, files):
+    """Builds these files by make, or only checks that they are there."""
+    if not os.environ.get("AS_BUILT"):
+        command = ["make", *arguments]
+        done = subprocess.run(command, cwd=TOP, stdout=subprocess.DEVNULL, stderr=subprocess.PIPE, text=True)
+        if done.returncode:
+            sys.exit(f"{' '.join(command)} failed:\n{done.stderr[-3000:]}")
+    for file in files:
+        if not os.access(file, os.R_OK):
+            sys.exit(f"{file.relative_to(TOP)} is not built")
 
 
 def build(cpu="x86-64-v2"):
-    make("all", f"CPU={cpu}")
+    make("all", f"CPU={cpu}", files=[BUILDS[cpu].luksrd])
+
+
+def build_audit():
+    make("all", files=[AUDIT])
 
 
 def build_tools(cpu="x86-64-v2"):
     """The program with the tools; without arguments it does nothing."""
-    make("tools", f"CPU={cpu}")
+    make("tools", f"CPU={cpu}", files=[BUILDS[cpu].tools])
+
+
+def rounds_requested(rounds):
+    """The only argument of a measurement, or this number of rounds without one."""
+    return int(sys.argv[1]) if len(sys.argv) > 1 else rounds
 
 
 def requested(rounds=None):
-    """The arguments of a measurement: the number of rounds, unless `rounds` is None, and the builds, which are made. Without a processor these are
-    that for x86-64-v2, and that for x86-64-v3 if its program and its tools are there."""
+    """The arguments of a measurement: the number of rounds, unless `rounds` is None, and the builds, which are made.
+    Without a processor these are that for x86-64-v2, and that for x86-64-v3 if its program and its tools are there."""
     arguments = sys.argv[1:]
     if rounds is not None and arguments and arguments[0] not in BUILDS:
         rounds = int(arguments.pop(0))
     unknown = [cpu for cpu in arguments if cpu not in BUILDS]
     if unknown:
         sys.exit(f"{unknown[0]}: no processor that luksrd is built for: {', '.join(BUILDS)}")
-    chosen = arguments or [cpu for cpu, it in BUILDS.items() if cpu == "x86-64-v2" or it.luksrd.exists() and it.tools.exists()]
+    built = [cpu for cpu, it in BUILDS.items() if cpu == "x86-64-v2" or it.luksrd.exists() and it.tools.exists()]
+    chosen = arguments or built
     for cpu in chosen:
         build(cpu)
         build_tools(cpu)
     return rounds, [BUILDS[cpu] for cpu in chosen]
 
 
-def measured(folder, command, environment=None):
-    """Processor time in seconds and peak memory in KiB of a command and what it starts, as GNU time reports them."""
+def measured(folder, command, environment=None, output=os.devnull):
+    """Processor time in seconds and peak memory in KiB of a command and what it starts, as GNU time reports them. What
+    it prints is written to a file, if that is given."""
     usage = folder / "usage"
-    arguments = ["/usr/bin/time", "-f", "%U %S %M", "-o", usage, *command]
-    done = subprocess.run([str(argument) for argument in arguments], stdout=subprocess.DEVNULL, env={**os.environ, **(environment or {})})
+    arguments = [str(argument) for argument in ("/usr/bin/time", "-f", "%U %S %M", "-o", usage, *command)]
+    with open(output, "wb") as file:
+        done = subprocess.run(arguments, stdout=file, env={**os.environ, **(environment or {})})
     if done.returncode:
         sys.exit(f"{command[0]} ended with {done.returncode}")
     user, system, peak = usage.read_text().split()
     return float(user) + float(system), int(peak)
 
 
-def seconds_of(command, status=0, piped=None):
-    """Processor time of one process, in seconds, whose standard input is a pipe with the bytes of a file, if that is given."""
+def started(command, piped):
+    """A process that prints nothing, and the one that writes the bytes of a file into its standard input, if that is
+    given."""
     source = subprocess.Popen(["cat", piped], stdout=subprocess.PIPE) if piped else None
-    started = subprocess.Popen(command, stdin=source.stdout if source else subprocess.DEVNULL, stdout=subprocess.DEVNULL, stderr=subprocess.DEVNULL)
+    given = source.stdout if source else subprocess.DEVNULL
+    process = subprocess.Popen(command, stdin=given, stdout=subprocess.DEVNULL, stderr=subprocess.DEVNULL)
     if source:
         source.stdout.close()
-    _, ended, used = os.wait4(started.pid, 0)
-    started.returncode = os.waitstatus_to_exitcode(ended)
+    return process, source
+
+
+def seconds_of(command, status=0, piped=None):
+    """Processor time of one process, in seconds, whose standard input is a pipe with the bytes of a file, if that is
+    given."""
+    process, source = started(command, piped)
+    _, ended, used = os.wait4(process.pid, 0)
+    process.returncode = os.waitstatus_to_exitcode(ended)
     if source:
         source.wait()
-    if started.returncode != status:
-        sys.exit(f"{command} ended with {started.returncode}")
+    if process.returncode != status:
+        sys.exit(f"{command} ended with {process.returncode}")
     return used.ru_utime + used.ru_stime
 
 
 def instructions(folder, command, piped=None, within=None):
-    """The number of instructions of a command, which callgrind counts, without those of programs that it starts. Its standard input is a pipe with
-    the bytes of a file, if that is given. `within` is a pattern of the functions that alone are counted, with what they call."""
+    """The number of instructions of a command, which callgrind counts, without those of programs that it starts. Its
+    standard input is a pipe with the bytes of a file, if that is given. `within` is a pattern of the functions that
+    alone are counted, with what they call."""
     for log in folder.glob("counted.*"):
         log.unlink()
     counter = ["valgrind", "--tool=callgrind", "--callgrind-out-file=/dev/null", f"--log-file={folder / 'counted.%p'}"]
     if within:
         counter.append(f"--toggle-collect={within}")
-    source = subprocess.Popen(["cat", piped], stdout=subprocess.PIPE) if piped else None
-    given = source.stdout if source else subprocess.DEVNULL
-    subprocess.run([*counter, *command], check=True, stdin=given, stdout=subprocess.DEVNULL, stderr=subprocess.DEVNULL)
+    process, source = started([*counter, *command], piped)
+    if process.wait():
+        sys.exit(f"{command} ended with {process.returncode}")
     if source:
-        source.stdout.close()
         source.wait()
     counts = [re.search(r"Collected : (\d+)", log.read_text()) for log in folder.glob("counted.*")]
-    return sum(int(count[1]) for count in counts if count)
+    total = sum(int(count[1]) for count in counts if count)
+    if not total:
+        sys.exit(f"{command}: no instructions were counted{f' in functions like {within}' if within else ''}")
+    return total
 
 
 def format_volume(folder, name, *options):
@@ -106,7 +140,8 @@ def format_volume(folder, name, *options):
 
 
 def run_cryptsetup(folder, command, *arguments):
-    subprocess.run(["cryptsetup", "-q", command, "--key-file", folder / "pass", *arguments], check=True, stdout=subprocess.DEVNULL)
+    command = ["cryptsetup", "-q", command, "--key-file", folder / "pass", *arguments]
+    subprocess.run(command, check=True, stdout=subprocess.DEVNULL)
 
 
 def volume(folder, name, iterations, payload, hash_name="sha256"):
@@ -114,10 +149,8 @@ def volume(folder, name, iterations, payload, hash_name="sha256"):
     image = folder / name
     with open(image, "wb") as file:
         file.truncate(4 * MIB)
-    subprocess.run(
-        ["cryptsetup", "-q", "luksFormat", "--type", "luks1", "--hash", hash_name, "--key-size", "512", "--cipher", "aes-xts-plain64",
-         "--pbkdf-force-iterations", str(iterations), "--align-payload", "1", "--key-file", folder / "pass", image],
-        check=True)
+    run_cryptsetup(folder, "luksFormat", "--type", "luks1", "--hash", hash_name, "--key-size", "512", "--cipher",
+                   "aes-xts-plain64", "--pbkdf-force-iterations", str(iterations), "--align-payload", "1", image)
     start = start_of(image)
     with open(image, "r+b") as file:
         file.truncate(start)

@@ -70,7 +70,7 @@ export work sources
 # scripts_in VARIABLE: the scripts in a list of the Makefile, but those that read only the sources
 scripts_in() {
     make -s -C "$sources" -f Makefile -f - listed <<<$'listed:\n\t@printf \'%s\\n\' $('"$1)" |
-        grep -vxE 'test-(names|counts|headline|contracts)'
+        grep -vxE 'test-(names|counts|headline|contracts|speed)'
 }
 for impostor in true false sleep; do
     for target in $(scripts_in ALL_SCRIPTS); do printf '%s\0' "$target" $impostor "$work/$impostor"; done
