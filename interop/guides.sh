@@ -277,67 +277,60 @@ replays() {
     fusermount3 -u file
     wait $!
 }
-# check_ntfs: the same for NTFS, whose log says that Windows was switched off; at last it is mounted without ro
-check_ntfs() {
+# check_journal KIND: what is mounted by which command, a line each, and whether the image has changed
+check_journal() {
+    unclean "$1" || { cat err; return 1; }
+    mkdir "mount $1"
+    cp "unclean $1" "mount $1/plain.img"
+    sha256sum <"mount $1/plain.img" >sum
+    echo "ro: $(mounts "$1" 'mount -o loop,ro plain.img /mnt')"
+    echo "as in the table: $(mounts "$1" "$(without_journal "$1")")"
+    if [ "$1" = ext2 ]; then
+        echo "noload: $(mounts "$1" 'mount -o loop,ro,noload plain.img /mnt')"
+    else
+        echo "replayed: $(replays "$1")"
+    fi
+    sha256sum <"mount $1/plain.img" | cmp - sum && echo unchanged
+}
+# check_log: the same for NTFS, whose log says that Windows was switched off; at last it is mounted without ro
+check_log() {
     local how
     mkdir 'mount ntfs'
     cp ntfs 'mount ntfs/plain.img'
     "$sources/interop/unclean.py" 'mount ntfs/plain.img'
     sha256sum <'mount ntfs/plain.img' >sum
     for how in "$(without_journal ntfs)" 'ntfs-3g -o norecover plain.img /mnt' 'ntfs-3g plain.img /mnt'; do
-        echo "ntfs: $(mounts ntfs "$how")"
-        sha256sum <'mount ntfs/plain.img' | cmp -s - sum && echo 'ntfs: unchanged'
+        mounts ntfs "$how"
+        sha256sum <'mount ntfs/plain.img' | cmp -s - sum && echo unchanged
     done
 }
-# check_mounts: what is mounted, and by what, a line each
-check_mounts() {
-    local kind
-    mount -t tmpfs none /mnt || return # whatever is there
-    for kind in ext2 ext3 ext4 xfs btrfs; do
-        unclean $kind || { cat err; return 1; }
-        mkdir "mount $kind"
-        cp "unclean $kind" "mount $kind/plain.img"
-        sha256sum <"mount $kind/plain.img" >sum
-        echo "$kind, ro: $(mounts $kind 'mount -o loop,ro plain.img /mnt')"
-        echo "$kind: $(mounts $kind "$(without_journal "$kind")")"
-        [ $kind != ext2 ] || echo "$kind, noload: $(mounts $kind 'mount -o loop,ro,noload plain.img /mnt')"
-        [ $kind = ext2 ] || echo "$kind, replayed: $(replays $kind)"
-        sha256sum <"mount $kind/plain.img" | cmp - sum && echo "$kind: unchanged"
-    done
-    check_ntfs
+# apart COMMAND ..: this in a mount namespace of its own, where nothing is on /mnt
+apart() {
+    # shellcheck disable=SC2016
+    unshare -m bash -c 'mount -t tmpfs none /mnt && "$@"' bash "$@"
 }
+export -f check_journal check_log unclean mounts replays row without_journal wait_until
+export sources pages patience
 if [ "$(id -u)" = 0 ] && loop=$(losetup -f --show ext4 2>err) && losetup -d "$loop" && has_fuse; then
-    export -f check_mounts check_ntfs unclean mounts replays row without_journal wait_until
-    export sources pages patience
-    unshare -m bash -c check_mounts >mounted 2>err
-    same 'file systems that were not unmounted' "$(cat mounted)" "$(cat <<'TEXT'
-ext2, ro: etc new ro
-ext2: etc new ro
-ext2, noload: status 32
-ext2: unchanged
-ext3, ro: status 32
-ext3: etc new ro
-ext3, replayed: new
-ext3: unchanged
-ext4, ro: status 32
-ext4: etc new ro
-ext4, replayed: new
-ext4: unchanged
-xfs, ro: status 32
-xfs: etc ro
-xfs, replayed: new
-xfs: unchanged
-btrfs, ro: status 32
-btrfs: etc ro
-btrfs, replayed: new
-btrfs: unchanged
-ntfs: boot.ini ro
-ntfs: unchanged
-ntfs: boot.ini ro
-ntfs: unchanged
-ntfs: boot.ini rw
-TEXT
-)"
+    same 'ext2' "$(apart check_journal ext2)" 'ro: etc new ro
+as in the table: etc new ro
+noload: status 32
+unchanged'
+    for kind in ext3:'etc new' ext4:'etc new' xfs:etc btrfs:etc; do
+        if apart mount -o loop,ro "${kind%:*}" /mnt 2>err; then
+            same "${kind%:*}" "$(apart check_journal "${kind%:*}")" "ro: status 32
+as in the table: ${kind#*:} ro
+replayed: new
+unchanged"
+        else
+            skip "${kind%:*}" 'this kernel has no such file system'
+        fi
+    done
+    same ntfs "$(apart check_log)" 'boot.ini ro
+unchanged
+boot.ini ro
+unchanged
+boot.ini rw'
 else
     skip 'file systems that were not unmounted' 'no loop device can be made here'
 fi
