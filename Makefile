@@ -193,9 +193,9 @@ INTEROP := headers headers2 volumes volumes2 detached filesystems
 SOURCE_SCRIPTS := test-names test-counts test-versions test-headline test-contracts test-speed
 PROGRAM_SCRIPTS := $(SOURCE_SCRIPTS) $(TESTS:%=test-%) $(INTEROP:%=interop-%)
 C_SCRIPTS := test-package test-fresh-root test-library test-processors test-service interop-library interop-nbd \
-    interop-filter interop-python interop-lvm interop-recipes
+    interop-filter interop-python interop-lvm interop-recipes interop-guides
 TOOL_SCRIPTS := interop-sealed interop-keys
-AUDIT_SCRIPTS := interop-audit test-audit-completions
+AUDIT_SCRIPTS := interop-audit interop-audited test-audit-completions
 ALL_SCRIPTS := $(PROGRAM_SCRIPTS) $(AUDIT_SCRIPTS) $(C_SCRIPTS) $(TOOL_SCRIPTS)
 # Those that are run once more with the program for x86-64-v3, and with its tools: all but those that read only the
 # sources, and those that take both programs.
@@ -268,8 +268,8 @@ test-service:
 interop-lvm:
 	interop/lvm.sh $(PROGRAM) $(PLUGIN) $(SHARED)
 
-interop-audit:
-	interop/audit.sh $(PROGRAM) $(AUDIT)
+interop-audit interop-audited: interop-%:
+	interop/$*.sh $(PROGRAM) $(AUDIT)
 
 test-audit-completions:
 	tests/audit-completions.sh $(PROGRAM) $(AUDIT)
@@ -279,6 +279,9 @@ interop-recipes:
 
 interop-library:
 	interop/library.sh $(PROGRAM) $(LIBRARY) $(SHARED)
+
+interop-guides:
+	interop/guides.sh $(PROGRAM) $(PLUGIN) $(FILTER) $(SHARED)
 
 test-library:
 	tests/library.sh $(PROGRAM) $(LIBRARY) $(SHARED) $(SHARED_V3)

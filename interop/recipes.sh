@@ -1,120 +1,19 @@
 #!/usr/bin/env bash
-# Runs README's recipes and the examples of the man pages as they are written there, in bash and in zsh, on volumes of
-# cryptsetup and qemu-img: they write the plain text, all files that they make are private, and no image changes, not
-# even one with a damaged secondary header. Mounting is left out. nbdkit loads the plugin and the filter from where they
-# are built (the second and the third argument).
-readme=$(realpath "$(dirname "$0")/../README.md")
-pages=$(realpath "$(dirname "$0")/../docs")
+# Runs the recipes of README and RECIPES.md and the examples of the man pages as they are written there, in bash and in
+# zsh, on volumes of cryptsetup and qemu-img: they write the plain text, all files that they make are private, and no
+# image changes, not even one with a damaged secondary header. Mounting is left out, and so is what needs luksrd-audit,
+# which audited.sh runs. nbdkit loads the plugin and the filter from where they are built (the second and the third
+# argument).
 plugin=$(realpath "${2:?the built plugin}")
 filter=$(realpath "${3:?the built filter}")
 here=$(realpath "$(dirname "$0")")
-# shellcheck source=interop/common.sh
-. "$(dirname "$0")/common.sh"
-ln -s "$program" luksrd
-theirs=$(command -v nbdkit)
-cat >nbdkit <<TEXT
-#!/usr/bin/env bash
-for argument; do
-    [ "\$argument" != luksrd ] || argument=$plugin
-    [ "\$argument" != --filter=luksrd ] || argument=--filter=$filter
-    arguments+=("\$argument")
-done
-exec $theirs "\${arguments[@]}"
-TEXT
-chmod +x nbdkit
-PATH=$work:$PATH
+# shellcheck source=interop/documents.sh
+. "$(dirname "$0")/documents.sh"
+left_out='^mount |/dev/sd'
 
-# recipe TEXT: the lines of README's recipe that follows this text; after a comment, up to the next comment
-recipe() {
-    awk -v text="$1" '
-        !found && index($0, text) { found = 1; comment = /^    # / }
-        found && /^    / && !(comment && /^    # /) { inside = 1; print substr($0, 5); next }
-        inside { exit }' "$readme"
-}
+# both documents begin in the same way
+same 'the first lines' "$(recipe RECIPES.md 'Begin with these lines')" "$(recipe README.md 'Begin with these lines')"
 
-# example PAGE TEXT: the example in a man page that follows this text
-example() {
-    awk -v text="$2" '
-        !/^\./ && index($0, text) { found = 1 }
-        found && /^\.Ed/ { exit }
-        inside
-        found && /^\.Bd/ { inside = 1 }
-        found && /^\.Dl / { print substr($0, 5); exit }' "$pages/$1" | sed 's/\\(dq/"/g; s/\\e/\\/g'
-}
-
-# begins TEXT: the lines that come before a recipe of this name, which is as in cooks
-begins() {
-    case $1 in
-    *.1:*)
-        echo 'mkdir rescue && cd rescue && ln -s ../disk.img .'
-        example luksrd.1 'Keep new files private'
-        example luksrd.1 'Type a passphrase into a key file'
-        ;;
-    *) recipe 'Begin with these lines' ;;
-    esac
-}
-
-# cooks FOLDER NEEDED TEXT..: runs these recipes in a folder with images, in each shell, with links to the other files
-# that they need; no image changes. PAGE:TEXT is an example of a man page. Left out is what needs root, a disk or a
-# terminal.
-cooks() {
-    local folder=$1 needed=$2 shell text
-    shift 2
-    (cd "$folder" && sha256sum -- *) >before
-    {
-        begins "$1"
-        echo "for file in $needed; do ln -s ../\$file .; done"
-        for text in "$@"; do
-            case $text in
-            *.1:*) example "${text%%:*}" "${text#*:}" ;;
-            *) recipe "$text" ;;
-            esac | grep -vE '^mount |/dev/sdb2' >lines
-            [ -s lines ] || same "a recipe that begins with: $text" none some >&2
-            cat lines
-        done
-    } >script
-    for shell in bash 'zsh -o interactive_comments'; do
-        (cd "$folder" && $shell ../script <../typed) >"$folder, ${shell%% *}" 2>&1
-        mv "$folder/rescue" "rescue $folder, ${shell%% *}"
-        same "$folder in $shell: files that others may read" "$(find "rescue $folder, ${shell%% *}" -type f -perm /077 \
-            ! -name plain.pid)" ''
-        same "$folder in $shell: the images" "$(cd "$folder" && sha256sum -- *)" "$(cat before)"
-    done
-}
-
-# recipes_give FOLDER FILE WANTED: in both shells the recipes left this file, which begins with these bytes (a volume
-# that cryptsetup encrypts has more than the requested ones)
-recipes_give() {
-    local shell
-    for shell in bash zsh; do
-        same "$1 in $shell: $2" "$(head -c "$(stat -c %s "$3")" "rescue $1, $shell/$2" | sha256sum)" \
-            "$(sha256sum <"$3")"
-    done
-}
-
-# recipes_say FOLDER TEXT: in both shells this is among what the recipes printed, or all of it
-recipes_say() {
-    local shell
-    for shell in bash zsh; do
-        case $(cat "$1, $shell") in
-        *"$2"*) passed=$((passed + 1)) ;;
-        *) same "$1 in $shell: what it says" "$(cat "$1, $shell")" "$2" ;;
-        esac
-    done
-}
-
-# has_ended PID: this process, which is no child, has ended
-has_ended() { ! kill -0 "$1" 2>err; }
-
-# damage_secondary IMAGE: its secondary header has another byte
-damage_secondary() {
-    printf '\377' | dd of="$1" bs=1 seek=$((16384 + 5000)) conv=notrunc status=none
-}
-
-by_argon2=(--pbkdf argon2id --pbkdf-force-iterations 4 --pbkdf-memory 32768 --pbkdf-parallel 1)
-printf 'a secret' >pass
-printf 'another one' >pass2
-printf 'a secret\na secret\n' >typed
 truncate -s 8M plain
 mke2fs -q -t ext4 plain
 echo 'inside' >inside
@@ -125,13 +24,29 @@ mkdir volume
 format1 volume/disk.img aes-xts-plain64 sha256 512
 fill volume/disk.img
 zstd -q volume/disk.img -o volume/disk.img.zst
-cooks volume disk.img.zst 'Rescue and migration' 'The first bytes alone' 'Look into the file system' 'At the end'
+cooks volume disk.img.zst RECIPES.md:'Try the passphrase' RECIPES.md:'The first bytes alone' \
+    RECIPES.md:'Look into ext2, ext3 or ext4' RECIPES.md:'Keep the passphrase out' RECIPES.md:'At the end'
 for image in plain.img plain2.img plain3.img plain4.img; do recipes_give volume $image plain; done
 head -c 1M plain >first
 recipes_give volume first first
+recipes_give volume inside inside
 recipes_say volume 'luksrd: write failed'
 for shell in bash zsh; do
     same "volume in $shell: the key file" "$(ls "rescue volume, $shell/pass" 2>err)" ''
+done
+
+# the same by README, and a part of it
+mkdir begin
+cp volume/disk.img begin
+cooks begin '' README.md:'1. A volume' README.md:'3. Part of a volume' README.md:'At the end'
+recipes_give begin plain.img plain
+tail -c +1048577 plain | head -c 4M >window
+recipes_give begin window window
+recipes_say begin 'Key slot 0 opens the volume.'
+recipes_say begin "TYPE=\"ext4\"
+$(stat -c %s plain)"
+for shell in bash zsh; do
+    same "begin in $shell: the key file" "$(ls "rescue begin, $shell/pass" 2>err)" ''
 done
 
 # the same by the man pages, and by the server
@@ -167,12 +82,6 @@ recipes_say volume ' inside'
 damaged_plain() {
     debugfs -w -R 'set_super_value free_blocks_count 1' plain >err 2>&1
 }
-# whether FUSE mounts an empty disk here
-has_fuse() {
-    mkdir tried
-    nbdfuse -r tried/disk --command nbdkit -s null 1M >err 2>&1 &
-    wait_until $! test -e tried/disk && fusermount3 -u tried
-}
 mkdir -p files/etc
 echo '/dev/sda1 / ext4 defaults 0 1' >files/etc/fstab
 truncate -s 8M tree
@@ -195,8 +104,13 @@ wait_until $files test -s port
 url=http://127.0.0.1:$(cat port)/whole.img
 export url
 cp -r whole whole_page
+cp -r whole whole_first
+cp volume2 whole_first/disk.img
+cooks whole_first '' README.md:'2. One file of a whole disk'
+recipes_give whole_first fstab files/etc/fstab
+recipes_say whole_first 'whole.img2 : start=        6144,'
 cp volume2 whole/disk.img
-cooks whole 'whole.img whole.img.xz whole.qcow2' 'A whole disk (isLuks of it says no)' 'The same file out of xz'
+cooks whole 'whole.img whole.img.xz whole.qcow2' RECIPES.md:'One file out of it' RECIPES.md:'The same file out of xz'
 for file in fstab fstab2 fstab3 fstab4; do recipes_give whole $file files/etc/fstab; done
 recipes_give whole plain.img tree
 recipes_say whole 'whole.img2 : start=        6144,'
@@ -218,7 +132,7 @@ if has_fuse; then
     format1 fuse/disk.img aes-xts-plain64 sha256 512
     fill fuse/disk.img
     cp whole_plain plain
-    cooks fuse '' 'As a file, by FUSE'
+    cooks fuse '' RECIPES.md:'Show it, repair it'
     recipes_say fuse ' inside'
     recipes_say fuse 'FILE SYSTEM WAS MODIFIED'
     mkdir whole_fuse
@@ -237,7 +151,7 @@ printf 'label: gpt\nstart=2048, size=16384\nstart=18432, size=12288\n' | sfdisk 
 dd if=tree of=plain bs=512 seek=2048 conv=notrunc status=none
 format1 any/disk.img aes-xts-plain64 sha256 512
 fill any/disk.img
-cooks any '' 'Any part of a volume' 'A partition, a window of'
+cooks any '' RECIPES.md:'The size of a volume' RECIPES.md:'A partition, a window of'
 recipes_give any fstab files/etc/fstab
 recipes_give any part.img tree
 tail -c +1048577 plain | head -c 4M >window
@@ -265,7 +179,7 @@ echo 'start=2048, size=24576' | sfdisk -q partition/whole.img
 dd if=partition/disk.img of=partition/whole.img bs=512 seek=2048 conv=notrunc status=none
 same 'the partition' "$(stat -c %s partition/disk.img)" $((24576 * 512))
 same 'isLuks of a whole disk' "$(reported isLuks partition/whole.img)" 1
-cooks partition whole.img 'A partition of a whole disk without nbdkit'
+cooks partition whole.img RECIPES.md:'A partition of a whole disk without nbdkit'
 recipes_give partition plain.img plain
 cp -r partition partition_page
 cooks partition_page whole.img luksrd.1:'Do the same without FUSE'
@@ -277,7 +191,7 @@ mkdir detached
 cp plain detached/disk.img
 cryptsetup -q reencrypt --encrypt --type luks2 --force-offline-reencrypt --pbkdf pbkdf2 --pbkdf-force-iterations 1000 \
     --key-file pass --header detached/disk.header detached/disk.img >err 2>&1 || { cat err; exit 1; }
-cooks detached disk.header 'A detached header'
+cooks detached disk.header RECIPES.md:'# A detached header'
 recipes_give detached plain.img plain
 
 # a damaged header, and a backup of it
@@ -285,7 +199,7 @@ mkdir backup
 seal backup/disk.img aes-xts-plain64 512
 cryptsetup luksHeaderBackup --header-backup-file backup/backup backup/disk.img
 dd if=/dev/urandom of=backup/disk.img bs=1M count=1 conv=notrunc status=none
-cooks backup backup 'A damaged header'
+cooks backup backup RECIPES.md:'# A damaged header'
 recipes_give backup plain.img plain
 recipes_say backup "clean
 Key slot 0 opens the volume."
@@ -332,11 +246,30 @@ damage_secondary argon2/disk.img
 same 'a volume of Argon2' "$(reported testPassphrase --key-file pass argon2/disk.img)" \
     'luksrd: no key slot can be tried; skipped: 0 (argon2id)
 1'
-cooks argon2 '' 'Argon2 key slots only'
-recipes_give argon2 plain.img plain
+cooks argon2 '' README.md:'Argon2 key slots only: add'
+recipes_give argon2 plain5.img plain
 cp -r argon2 argon2_page
 cooks argon2_page '' luksrd.1:'Decrypt a LUKS2 volume that has key slots by Argon2'
 recipes_give argon2_page plain.img plain
+
+# the answers of luksDump that README's first table begins with, each from a volume of its kind
+answer() {
+    "$program" luksDump "$1" 2>&1 | grep -m 1 -oE '^(Slot 0: [A-Z]+( argon2id)?|luksrd: .*|Segment: REFUSED)'
+}
+# shellcheck disable=SC2016
+named=$(sed -n '/^| It prints/,/^$/s/^| \(`[^|]*\) |.*/\1/p' "$sources/README.md" |
+    grep -oE '`(Slot|luksrd|Segment)[^`]*' | tr -d '`' | sed 's/ \.\.$//')
+same "answers in README's first table" "$(for image in partition/disk.img volume/disk.img argon2/disk.img \
+    partition/whole.img; do answer $image; done)" "$(head -n 4 <<<"$named")"
+cp partition/disk.img unfinished
+run_cryptsetup luksKillSlot --key-file pass unfinished 1
+if cryptsetup -q reencrypt --init-only --pbkdf pbkdf2 --pbkdf-force-iterations 1000 --key-file pass unfinished \
+    >err 2>&1; then
+    same "the last answer in README's first table" "$("$program" luksDump unfinished | grep -o '^Segment: REFUSED')" \
+        "$(tail -n +5 <<<"$named")"
+else
+    skip 'reencryption under way' 'cryptsetup does not begin to encrypt here'
+fi
 
 # images of all kinds
 mkdir audit
@@ -350,7 +283,7 @@ head -c 500 volume/disk.img >audit/5.img
 cp volume/disk.img audit/6.img
 printf '\377\377\377\377' | dd of=audit/6.img bs=1 seek=212 conv=notrunc status=none
 : >audit/disk.img
-cooks audit '' 'Audit images'
+cooks audit '' RECIPES.md:'All images of a folder'
 uuid1=$("$program" luksUUID audit/1.img)
 recipes_say audit "../1.img:
 Version: 1
@@ -383,9 +316,11 @@ mkdir stripes
 : >stripes/disk.img
 head -c 64 /dev/urandom >stripes/key
 printf 'what follows' >stripes/more
-cooks stripes 'key more' 'Split a key of 64 bytes'
+cooks stripes 'key more' RECIPES.md:'Split a key of 64 bytes'
 recipes_give stripes key.again stripes/key
 recipes_give stripes key2 stripes/key
 recipes_give stripes more.again stripes/more
 
+whole_document README.md '^make |^mount |^luksrd-audit '
+whole_document RECIPES.md '^mount '
 finish
