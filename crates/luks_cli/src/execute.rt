@@ -100,8 +100,8 @@ pub fn execute<I: Source, K: Source, O: Sink>(
 {
     let location = HeaderLocation::Attached;
     // No image has the payload alone.
-    let mut none = MemSource::new(&[]);
-    run(alloc, command, location, image, &mut none, secret, out)
+    let mut no_image = MemSource::new(&[]);
+    run(alloc, command, location, image, &mut no_image, secret, out)
 }
 
 /// Runs a command with a detached header over the header's file, the image with the payload, the

@@ -46,6 +46,7 @@ fn main(rt: HostRuntime) -> ExitCode {
 enum StartFault<'a> {
     /// The input with this name cannot be opened.
     NotOpened(&'a str),
+    /// No buffer could be allocated.
     OutOfMemory,
 }
 
