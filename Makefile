@@ -446,6 +446,6 @@ deb: $(if $(wildcard $(PLUGIN) $(FILTER)),library-built)
 	@$(call check_built,$(PROGRAM_V2),make)
 	@$(call check_built,$(PROGRAM_V3),make CPU=x86-64-v3)
 	@PROGRAM_V2="$(PROGRAM_V2)" PROGRAM_V3="$(PROGRAM_V3)" \
-	    $(if $(wildcard $(LIBRARY)),LIBRARY="$(LIBRARY)" SHARED="$(SHARED)" SHARED_V3="$(SHARED_V3)") \
-	    $(if $(wildcard $(PLUGIN)),PLUGIN="$(PLUGIN)" FILTER="$(FILTER)") \
+	    LIBRARY="$(LIBRARY)" SHARED="$(if $(wildcard $(LIBRARY)),$(SHARED))" SHARED_V3="$(SHARED_V3)" \
+	    PLUGIN="$(wildcard $(PLUGIN))" FILTER="$(FILTER)" \
 	    packaging/deb "$(DEBS)" "$(VERSION)"

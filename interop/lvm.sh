@@ -149,6 +149,43 @@ for at in 512 $((512 + 24)) $((512 + 40)) $((512 + 100)) 4096 4100 $((4096 + 24)
     same "byte $at is damaged" "$(finds damaged | sed 's/^luksrd-lvm: .*\(LVM2\).*/\1/')" 'LVM2
 1'
 done
+# altered OLD NEW: the first physical volume with another text of the same length in its metadata, and its checksums
+altered() {
+    python3 - "$1" "$2" <<'PYTHON'
+import struct
+import sys
+import zlib
+
+def checksum(data):
+    return zlib.crc32(data, 0xF597A6CF ^ 0xFFFFFFFF) ^ 0xFFFFFFFF
+
+image = bytearray(open("first", "rb").read())
+area = memoryview(image)[4096:4096 + struct.unpack_from("<Q", image, 4096 + 32)[0]]
+start, length = struct.unpack_from("<QQ", area, 40)
+places = [at if at < len(area) else at - len(area) + 512 for at in range(start, start + length)]
+old, new = (word.encode() for word in sys.argv[1:])
+text = bytes(area[at] for at in places)
+assert old in text and len(old) == len(new)
+text = text.replace(old, new)
+for at, byte in zip(places, text):
+    area[at] = byte
+struct.pack_into("<I", area, 56, checksum(text))
+struct.pack_into("<I", area, 0, checksum(area[4:512]))
+open("altered", "wb").write(image)
+PYTHON
+    finds altered
+}
+same 'another length' "$(altered 'extent_count = 8' 'extent_count = 9' | grep root)" \
+    "$(ours first | sed -n 's, range=8388608 vg/root$, range=9437184 vg/root,p')"
+same 'a length beyond the end' "$(altered 'extent_count = 8' 'extent_count =99' | grep root)" \
+    'vg/root is not supported: it ends after the physical volume'
+for change in 'extent_size = 2048:extent_size = "04"' 'physical_volumes:physical_volumex' \
+    'pe_start = 72:pe_start = []' 'logical_volumes {:logical_volumes }' 'segment_count = 1:segment_count = {' \
+    '"VISIBLE":"VISIBLE('; do
+    same "metadata with ${change#*:}" "$(altered "${change%%:*}" "${change#*:}")" \
+        "luksrd-lvm: LVM2's metadata is damaged
+1"
+done
 head -c 5000 first >short
 same 'a short image' "$(finds short)" "luksrd-lvm: the volume ends before LVM2's metadata does
 1"

@@ -58,6 +58,8 @@ same 'install of the filter and no library' \
     'the library is not built: run make library first'
 same 'install of no filter' "$(lacking "$PATH" install-filter FILTER=absent DESTDIR="$nothing")" \
     'the filter is not built: run make nbdkit first'
+same 'a package of the plugin, and no filter' "$(filter=$work/absent made "$nothing" 2>&1 | sed '/^make.*\*\*\*/d')" \
+    'the filter is not built: run make nbdkit first'
 cp "$plugin" other.so
 same 'a package of a filter for another nbdkit' "$(filter=$work/other.so made "$nothing" 2>&1 |
     sed '/^make.*\*\*\*/d')" \
@@ -83,6 +85,14 @@ done
 same 'what make says' "$(made "$work/a folder" 2>&1)" "$(printf '%s\n' "${debs[@]}")"
 made "$work/again" >log
 same 'the packages made again' "$(diff -r 'a folder' again 2>&1)" ''
+# packed ARGUMENT..: the packages that `make deb` makes with these arguments
+packed() {
+    make -s -C "$sources" deb PROGRAM_V2="$program" PROGRAM_V3="$program_v3" DEBS="$work/fewer" "$@" 2>&1 |
+        sed 's/.*\///; s/_.*//'
+}
+same 'a package of the program alone' "$(packed LIBRARY=no-library PLUGIN=no-plugin FILTER=no-filter)" luksrd
+same 'packages of the library too' "$(packed LIBRARY="$library" SHARED="$shared" SHARED_V3="$shared_v3" \
+    PLUGIN=no-plugin FILTER=no-filter)" "$(printf '%s\n' luksrd libluksrd2 libluksrd-dev python3-luksrd)"
 same 'what lintian says' "$(lintian --allow-root --display-info --pedantic --fail-on none "${debs[@]}" 2>&1)" ''
 
 # holds NAME FILES: what is in a package, with three papers that all have, and what it says of itself; it is unpacked
