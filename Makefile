@@ -24,7 +24,7 @@
 # make deb        makes a Debian package of the program as it is built for both processors, in DEB; if the plugin is
 #                 built, one of that in PLUGIN_DEB, if the filter is built, one of that in FILTER_DEB, and with any of
 #                 these one of the library, which they load, in LIBRARY_DEB, and one of the module for Python in
-#                 PYTHON_DEB. No package has luksrd-audit
+#                 PYTHON_DEB; if luksrd-audit is built, one of that in AUDIT_DEB
 
 # What the program is built for and installed for; the library is always built for both. (Some
 # systems have a CPU in the environment, so this is not ?=.)
@@ -55,6 +55,7 @@ FILTER := out/nbdkit-luksrd-filter.so
 DEB ?= out/luksrd_$(VERSION)_amd64.deb
 PLUGIN_DEB ?= out/nbdkit-plugin-luksrd_$(VERSION)_amd64.deb
 FILTER_DEB ?= out/nbdkit-filter-luksrd_$(VERSION)_amd64.deb
+AUDIT_DEB ?= out/luksrd-audit_$(VERSION)_amd64.deb
 LIBRARY_DEB ?= out/libluksrd$(INTERFACE)_$(VERSION)_amd64.deb
 PYTHON_DEB ?= out/python3-luksrd_$(VERSION)_all.deb
 PREFIX ?= /usr/local
@@ -273,6 +274,7 @@ bench: all
 	bench/xts
 	bench/volume
 	bench/nbd
+	bench/search $(AUDIT)
 	bench/plot
 
 # What is already built is installed as it is, so this needs no toolchain.
@@ -406,6 +408,8 @@ deb:
 	    { echo "the library is not built: run make library first" >&2; exit 1; })
 	packaging/deb luksrd "$(VERSION)" "$(DEB)" "$(PROGRAM_V2)" "$(PROGRAM_V3)"
 	@echo "$(DEB)"
+	$(if $(wildcard $(AUDIT)),packaging/deb luksrd-audit "$(VERSION)" "$(AUDIT_DEB)" "$(AUDIT)")
+	@$(if $(wildcard $(AUDIT)),echo "$(AUDIT_DEB)")
 	$(if $(wildcard $(PLUGIN) $(FILTER)),packaging/deb libluksrd$(INTERFACE) "$(VERSION)" "$(LIBRARY_DEB)" \
 	    "$(SHARED)" "$(SHARED_V3)")
 	@$(if $(wildcard $(PLUGIN) $(FILTER)),echo "$(LIBRARY_DEB)")
