@@ -290,7 +290,6 @@ test: toolchain
 	tests/gate
 
 # What the measurements need, before the first of them begins. MACHINE and AS_BUILT reach them by the environment.
-# bench/reads, for reads at random offsets, is measured once there is such a script.
 BENCH_TOOLS := cryptsetup valgrind python3 cc openssl /usr/bin/time qemu-img nbdkit nbdcopy grub-fstest gnuplot
 MACHINE ?= $(shell uname -n)
 
@@ -307,7 +306,6 @@ bench: $(if $(AS_BUILT),,all)
 	bench/volume $(ROUNDS)
 	bench/nbd $(ROUNDS)
 	bench/search $(ROUNDS)
-	$(wildcard bench/reads)
 	bench/plot $(ROUNDS)
 	bench/page
 

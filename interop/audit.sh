@@ -18,52 +18,67 @@ listed() { "$audit" "$1" | jq -S 'del(.file, .findings, .weak) | .slots |= map(d
 object1() {
     theirs1 "$1" | python3 -c '
 import json, re, sys
-lines = [line.split(": ", 1) if ": " in line else (re.match(r"(Slot \d+) (.*)", line).groups()) for line in sys.stdin.read().splitlines()]
+lines = [line.split(": ", 1) if ": " in line else (re.match(r"(Slot \d+) (.*)", line).groups())
+         for line in sys.stdin.read().splitlines()]
 f = dict(lines)
 bits = int(f["Key bytes"]); cipher = f["Cipher"]; hash = f["Hash"]
 def slot(n, text):
     got = dict(re.findall(r"(\w+)=(\S+)", text))
     stripes = int(got["stripes"])
     size = (bits * stripes + 511) // 512 * 512
-    return dict(number=n, priority=1, key_bytes=bits, kdf="pbkdf2", hash=hash, iterations=int(got["iterations"]), time=None, memory=None,
-                threads=None, af_hash=hash, stripes=stripes, area_cipher=cipher, area_key_bytes=bits,
+    return dict(number=n, priority=1, key_bytes=bits, kdf="pbkdf2", hash=hash, salt=got["salt"],
+                iterations=int(got["iterations"]), time=None, memory=None, threads=None, af_hash=hash,
+                stripes=stripes, area_cipher=cipher, area_key_bytes=bits,
                 area_offset=int(got["offset"]) * 512, area_size=size)
 slots = [slot(int(k.split()[1]), v) for k, v in f.items() if k.startswith("Slot ") and v.startswith("ENABLED")]
-print(json.dumps(dict(version=1, offset=0, uuid=f["UUID"], label=None, subsystem=None, header=None, other_header=None, cipher=cipher,
-    key_bytes=bits, sector_size=512, segment_offset=int(f["Payload offset"]) * 512, segment_size="dynamic", requirements=[],
-    slots=slots, tokens=[], digests=[dict(number=0, type="pbkdf2", hash=hash, iterations=int(f["MK iterations"]), bytes=20,
-    keyslots=[], segments=[])])))' | jq -S .
+print(json.dumps(dict(version=1, offset=0, uuid=f["UUID"], label=None, subsystem=None, header=None, other_header=None,
+    seqid=None, header_size=None, checksum_hash=None, salt=None, cipher=cipher, key_bytes=bits, sector_size=512,
+    iv_tweak=0,  segment_offset=int(f["Payload offset"]) * 512, segment_size="dynamic", requirements=[],
+    slots=slots, tokens=[], digests=[dict(number=0, type="pbkdf2", hash=hash, salt=f["MK salt"],
+    iterations=int(f["MK iterations"]), digest=f["MK digest"], bytes=20, keyslots=[], segments=[])])))' | jq -S .
 }
 
-# object2 IMAGE ROLE OTHER: what cryptsetup prints of a LUKS2 header, as that object
+# object2 IMAGE ROLE OTHER: what cryptsetup prints of a LUKS2 header, as that object. The hash function of the checksum
+# and the salt are those bytes of the header that the standard gives for them (LUKS2 On-Disk Format Specification 1.1,
+# section 2.1), as cryptsetup does not print them
 object2() {
     cp "$1" copy
     { cryptsetup luksDump copy >fields && cryptsetup luksDump --dump-json-metadata copy >metadata; } 2>err ||
         { cat err; exit 1; }
-    python3 - "$2" "$3" <<'PYTHON' | jq -S .
+    python3 - "$2" "$3" "$1" <<'PYTHON' | jq -S .
 import base64, json, re, sys
 fields = dict(re.findall(r'^([A-Z][a-z A-Z]*):\s+(.*)$', open('fields').read(), re.M))
 tree = json.load(open('metadata'))
 s = tree['segments']['0']
 number = lambda text: text if text == 'dynamic' else int(text)
+hexed = lambda text: None if text is None else base64.b64decode(text).hex()
+size = int(fields['Metadata area'].split()[0])
+image = open(sys.argv[3], 'rb').read()
+binary = image[size if sys.argv[1] == 'secondary' else 0:][:4096]
 def slot(n):
     k = tree['keyslots'][n]; kdf = k['kdf']; af = k['af']; area = k['area']
-    return dict(number=int(n), priority=k.get('priority', 1), key_bytes=k['key_size'], kdf=kdf['type'], hash=kdf.get('hash'),
-                iterations=kdf.get('iterations'), time=kdf.get('time'), memory=kdf.get('memory'), threads=kdf.get('cpus'),
+    return dict(number=int(n), priority=k.get('priority', 1), key_bytes=k['key_size'], kdf=kdf['type'],
+                hash=kdf.get('hash'),
+                salt=hexed(kdf.get('salt')), iterations=kdf.get('iterations'), time=kdf.get('time'),
+                memory=kdf.get('memory'), threads=kdf.get('cpus'),
                 af_hash=af['hash'], stripes=af['stripes'], area_cipher=area['encryption'], area_key_bytes=area['key_size'],
                 area_offset=int(area['offset']), area_size=int(area['size']))
 def digest(n):
     d = tree['digests'][n]
-    return dict(number=int(n), type=d['type'], hash=d['hash'], iterations=d['iterations'], bytes=len(base64.b64decode(d['digest'])),
+    return dict(number=int(n), type=d['type'], hash=d['hash'], salt=hexed(d['salt']), iterations=d['iterations'],
+                digest=hexed(d['digest']), bytes=len(base64.b64decode(d['digest'])),
                 keyslots=d['keyslots'], segments=d['segments'])
 def token(n):
     t = tree['tokens'][n]
-    return dict(number=int(n), type=t['type'], keyslots=t['keyslots'])
+    return dict(number=int(n), type=t['type'], keyslots=t['keyslots'], stored=t)
 order = lambda name: sorted(tree[name], key=int)
 print(json.dumps(dict(version=2, offset=0, uuid=fields['UUID'], label=fields['Label'].replace('(no label)', ''),
-    subsystem=fields['Subsystem'].replace('(no subsystem)', ''), header=sys.argv[1], other_header=sys.argv[2] or None,
+    subsystem=fields['Subsystem'].replace('(no subsystem)', ''), seqid=int(fields['Epoch']), header_size=size,
+    checksum_hash=binary[72:104].split(b'\0')[0].decode(), salt=binary[104:168].hex(), header=sys.argv[1],
+    other_header=sys.argv[2] or None,
     cipher=s['encryption'], key_bytes=tree['keyslots'][order('keyslots')[0]]['key_size'] if tree['keyslots'] else None,
-    sector_size=s['sector_size'], segment_offset=int(s['offset']), segment_size=number(s['size']),
+    sector_size=s['sector_size'], iv_tweak=int(s['iv_tweak']), segment_offset=int(s['offset']),
+    segment_size=number(s['size']),
     requirements=tree['config'].get('requirements', {}).get('mandatory', []), slots=[slot(n) for n in order('keyslots')],
     digests=[digest(n) for n in order('digests')], tokens=[token(n) for n in order('tokens')])))
 PYTHON
@@ -162,8 +177,8 @@ cryptsetup -q luksAddKey --pbkdf argon2i --pbkdf-force-iterations 4 --pbkdf-memo
     --key-slot 31 --key-file pass several pass2 || exit 1
 cryptsetup -q config --priority prefer --key-slot 10 several || exit 1
 cryptsetup -q config --priority ignore --key-slot 2 several || exit 1
-printf '{"type":"mine\\t\\"","keyslots":["0","10"]}' | cryptsetup -q token import --token-id 3 --json-file - \
-    several || exit 1
+printf '{"type":"mine\\t\\"","keyslots":["0","10"],"x":{"\\"}":[-1,null,"\\u0007"]}}' >token
+cryptsetup -q token import --token-id 3 --json-file token several || exit 1
 lists_as_cryptsetup2 several primary
 weak several 1 'slot 0 iterations' 'slot 10 iterations' 'slot 31 argon2-memory'
 same 'states' "$("$audit" several | jq -c '[.slots[] | [.number, .state, .reason, .can_try]]')" \
@@ -198,14 +213,16 @@ same 'each image has a line' "$(jq -c '[.file, .error, .version]' out)" '["sever
 ["sha1",null,1]
 ["-",null,1]'
 same 'an image that is not read' "$(cat status) $(cat err)" '4 '
-same 'columns' "$("$audit" --tsv several missing empty | awk -F'\t' '{ print NF, $1, $3, $4 }')" '20 file error version
-20 several  2
-20 missing cannot be opened 
-20 empty no LUKS header '
+same 'columns' "$("$audit" --tsv several missing empty | awk -F'\t' '{ print NF, $1, $3, $4 }')" '25 file error version
+25 several  2
+25 missing cannot be opened 
+25 empty no LUKS header '
 same 'findings are those of luksCheck' "$("$program" luksCheck 'primary wiped' 2>/dev/null)" \
     "$("$audit" 'primary wiped' | jq -r '.findings[]')"
 same 'columns that hold JSON' "$("$audit" --tsv several | tail -n 1 | cut -f 18 | jq -c '[.[].keyslots]')" \
     "$("$audit" several | jq -c '[.tokens[].keyslots]')"
+same 'columns of the binary header' "$("$audit" --tsv several | tail -n 1 | cut -f 21-23,25)" \
+    "$("$audit" several | jq -r '[.seqid, .header_size, .checksum_hash, .iv_tweak] | @tsv')"
 same 'the end of a full device' "$("$audit" several 2>&1 >/dev/full; echo $?)" 'luksrd-audit: write failed
 6'
 same 'a closed output' "$("$audit" several 2>&1 >&-; echo $?)" 'luksrd-audit: write failed

@@ -241,8 +241,8 @@ shutil.copyfileobj(luksrd.open("volume", key_file="pass"), sys.stdout.buffer)' >
 modules=/usr/lib/python3/dist-packages
 LD_LIBRARY_PATH=$work/libluksrd2$libraries module_gives "$work/python3-luksrd$modules"
 
-# make_built ARGUMENT..: make with these arguments, and with what is built but for luksrd-audit, of which no package is
-# made (tests/install.sh has it)
+# make_built ARGUMENT..: make with these arguments, and with what is built but for luksrd-audit (tests/install.sh has
+# it)
 built=(PROGRAM="$program" AUDIT=absent LIBRARY="$library" SHARED="$shared" SHARED_V3="$shared_v3" PLUGIN="$plugin"
     FILTER="$filter")
 make_built() {

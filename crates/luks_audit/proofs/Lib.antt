@@ -1,3 +1,4 @@
+pub mod FaultLemmas
 pub mod FloatLemmas
 pub mod LineLemmas
 pub mod NumberLemmas

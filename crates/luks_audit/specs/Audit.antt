@@ -15,13 +15,13 @@ use Rattle.luks_header.specs.SlotVerdicts.{verdict_at}
 use Rattle.luks_header.specs.declared.header.Header.{Header}
 use Rattle.luks_header.specs.declared.header.Header.TheVariants.{V1, V2}
 use Rattle.luks_audit.specs.Audit1.{area1_fields, cost1_fields, derivation1_fields, only_digest_fields, digest_strength1}
-use Rattle.luks_audit.specs.Audit1.{encryption1_fields, segment1_fields, slot_strength1, stripes1_fields, volume1_fields}
+use Rattle.luks_audit.specs.Audit1.{binary1_fields, encryption1_fields, is_cbc1, segment1_fields, slot_strength1, stripes1_fields, volume1_fields}
 use Rattle.luks_audit.specs.Audit2.{area2_fields, cost2_fields, derivation2_fields, digest2_fields, digest_strength2}
-use Rattle.luks_audit.specs.Audit2.{encryption2_fields, names_cbc, segment0_of, segment2_fields, slot_strength2, stripes2_fields}
+use Rattle.luks_audit.specs.Audit2.{binary2_fields, encryption2_fields, names_cbc, segment0_of, segment2_fields, slot_strength2, stripes2_fields}
 use Rattle.luks_audit.specs.Audit2.{token2_fields, volume2_fields, volume_key_size}
 use Rattle.luks_audit.specs.Findings.{finding_list}
 use Rattle.luks_audit.specs.Tree.{array_of, empty_object, num, optional_text, with_fields}
-use Rattle.luks_audit.specs.Policy.{digest_weaknesses, is_cbc, segment_weaknesses, slot_weaknesses}
+use Rattle.luks_audit.specs.Policy.{digest_weaknesses, segment_weaknesses, slot_weaknesses}
 use Rattle.luks_audit.specs.declared.audit.Audit.{Audit}
 use Rattle.luks_audit.specs.declared.policy.DigestStrength.{DigestStrength}
 use Rattle.luks_audit.specs.declared.policy.SlotStrength.{SlotStrength}
@@ -150,7 +150,7 @@ unfoldable pub digest_weak : Header → ℕ → List Data
 digest_weak header number = digest_weak_if number (digest_strength header number)
 
 unfoldable pub segment_weak : Header → List Data
-segment_weak (V1 header) = segment_weaknesses (is_cbc header.cipher_mode) (Some header.key_bytes)
+segment_weak (V1 header) = segment_weaknesses (is_cbc1 header) (Some header.key_bytes)
 segment_weak (V2 header tree) =
     segment_weaknesses (names_cbc (option_and_then (string_member (codes "encryption")) (segment0_of tree)))
     (volume_key_size tree)
@@ -174,10 +174,10 @@ place_fields file offset =
 unfoldable pub with_volume : Header → Data → Data
 with_volume (V1 header) owner =
     with_fields (segment1_fields header) (with_fields (encryption1_fields header)
-    (with_fields (volume1_fields header) owner))
+    (with_fields binary1_fields (with_fields (volume1_fields header) owner)))
 with_volume (V2 header tree) owner =
     with_fields (segment2_fields tree) (with_fields (encryption2_fields tree)
-    (with_fields (volume2_fields header) owner))
+    (with_fields (binary2_fields header) (with_fields (volume2_fields header) owner)))
 
 unfoldable pub list_fields : Header → List (List ℕ × Data)
 list_fields header =

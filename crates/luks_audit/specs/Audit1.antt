@@ -1,13 +1,13 @@
 -- What is listed of a LUKS1 header (LUKS1 On-Disk Format Specification 1.2.3, section 2.1 and figures 1 to 3).
-use Rattle.std.specs.Prelude.{ℕ, ◌*◌, ◌++◌, List, [], ◌∷◌, Option, Some, None, codes, if◌then◌else◌}
+use Rattle.std.specs.Prelude.{ℕ, ◌*◌, ◌++◌, ◌||◌, Bool, List, [], ◌∷◌, Option, Some, None, codes, if◌then◌else◌}
 use Rattle.std.specs.Prelude.{option_and_then, slice_get}
 use Rattle.luks_dump.specs.DumpLine.{escaped}
 use Rattle.luks_verdict.specs.Rule.{need_of}
 use Rattle.luks1_header.specs.Slot1.{hash1_of, is_disabled}
 use Rattle.luks1_header.specs.declared.header.Header1.{Header1}
 use Rattle.luks1_header.specs.declared.header.StoredSlot.{StoredSlot}
-use Rattle.luks_audit.specs.Tree.{array_of, num}
-use Rattle.luks_audit.specs.Policy.{is_cbc}
+use Rattle.luks_audit.specs.Tree.{array_of, hex_text, num}
+use Rattle.luks_audit.specs.Policy.{is_capi_cbc, is_cbc}
 use Rattle.luks_audit.specs.declared.policy.Derivation.TheVariants.{Pbkdf2}
 use Rattle.luks_audit.specs.declared.policy.DigestStrength.{DigestStrength}
 use Rattle.luks_audit.specs.declared.policy.SlotStrength.{SlotStrength}
@@ -28,12 +28,22 @@ volume1_fields header =
     ∷ (codes "other_header", null)
     ∷ []
 
--- how the payload is encrypted: in sectors of 512 bytes
+-- what the binary header of LUKS2 has besides: LUKS1 has none of it
+unfoldable pub binary1_fields : List (List ℕ × Data)
+binary1_fields =
+    (codes "seqid", null)
+    ∷ (codes "header_size", null)
+    ∷ (codes "checksum_hash", null)
+    ∷ (codes "salt", null)
+    ∷ []
+
+-- how the payload is encrypted: in sectors of 512 bytes, which are numbered from 0 on
 unfoldable pub encryption1_fields : Header1 → List (List ℕ × Data)
 encryption1_fields header =
     (codes "cipher", string (cipher1_of header))
     ∷ (codes "key_bytes", num header.key_bytes)
     ∷ (codes "sector_size", num 512)
+    ∷ (codes "iv_tweak", num 0)
     ∷ []
 
 -- where the payload is: it goes to the image's end. LUKS1 has no requirements
@@ -51,6 +61,7 @@ derivation1_fields header slot =
     ∷ (codes "key_bytes", num header.key_bytes)
     ∷ (codes "kdf", string (codes "pbkdf2"))
     ∷ (codes "hash", string (escaped header.hash_spec))
+    ∷ (codes "salt", hex_text slot.salt)
     ∷ (codes "iterations", num slot.iterations)
     ∷ []
 
@@ -83,11 +94,17 @@ unfoldable pub only_digest_fields : Header1 → List (List ℕ × Data)
 only_digest_fields header =
     (codes "type", string (codes "pbkdf2"))
     ∷ (codes "hash", string (escaped header.hash_spec))
+    ∷ (codes "salt", hex_text header.digest_salt)
     ∷ (codes "iterations", num header.digest_iterations)
+    ∷ (codes "digest", hex_text header.digest)
     ∷ (codes "bytes", num 20)
     ∷ (codes "keyslots", array_of [])
     ∷ (codes "segments", array_of [])
     ∷ []
+
+-- sectors are encrypted by cipher block chaining: the mode says that, or the name of the cipher with all its templates
+unfoldable pub is_cbc1 : Header1 → Bool
+is_cbc1 header = is_cbc header.cipher_mode || is_capi_cbc header.cipher_name
 
 -- what is judged of a key slot, unless it is disabled
 unfoldable pub strength1_of : Header1 → StoredSlot → SlotStrength
@@ -97,7 +114,7 @@ strength1_of header slot = record {
   iterations = slot.iterations;
   memory = 0;
   af_hash = hash1_of header;
-  is_cbc = is_cbc header.cipher_mode;
+  is_cbc = is_cbc1 header;
   key_bytes = header.key_bytes;
   area_key_bytes = header.key_bytes;
 }

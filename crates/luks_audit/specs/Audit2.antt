@@ -4,6 +4,7 @@ use Rattle.std.specs.Prelude.{ℕ, ◌+◌, ◌==◌, ◌||◌, Bool, false, Lis
 use Rattle.std.specs.Prelude.{if◌then◌else◌, length, map, option_and_then, option_map, position, unwrap_or}
 use Rattle.luks_dump.specs.DumpLine.{escaped}
 use Rattle.luks_dump.specs.Dump2.{role_text}
+use Rattle.luks_kdf.specs.Hash.{hash_name}
 use Rattle.luks_verdict.specs.Rule.{max_slots}
 use Rattle.luks2_binary.specs.declared.header.Header2.{Header2}
 use Rattle.luks2_binary.specs.declared.header.PairFinding.{PairFinding}
@@ -14,8 +15,8 @@ use Rattle.luks2_json.specs.Member.{base64_member, decimal_member, hash_member, 
 use Rattle.luks2_json.specs.Member.{iterations_in, string_is, string_member}
 use Rattle.luks2_json.specs.Numbered.{lowest, object_numbered}
 use Rattle.luks2_metadata.specs.Slot2.{af_hash_of, area_key_size_of, iterations_of_slot, kdf_hash_of, key_size_of}
-use Rattle.luks_audit.specs.Tree.{array_of, num, optional_num, optional_text}
-use Rattle.luks_audit.specs.Policy.{is_cbc}
+use Rattle.luks_audit.specs.Tree.{array_of, hex_text, num, optional_hex, optional_num, optional_text, unless_float}
+use Rattle.luks_audit.specs.Policy.{is_capi_cbc, is_cbc}
 use Rattle.luks_audit.specs.declared.policy.Derivation.{Derivation}
 use Rattle.luks_audit.specs.declared.policy.Derivation.TheVariants.{Pbkdf2, Argon2, Other}
 use Rattle.luks_audit.specs.declared.policy.DigestStrength.{DigestStrength}
@@ -40,6 +41,16 @@ volume2_fields header =
     ∷ (codes "subsystem", string (escaped header.subsystem))
     ∷ (codes "header", string (role_text header.role))
     ∷ (codes "other_header", optional_text (other_header_of header.finding))
+    ∷ []
+
+-- the number of its change, the length of the header with its JSON area, the hash function of its checksum, and the
+-- bytes that make the two headers differ
+unfoldable pub binary2_fields : Header2 → List (List ℕ × Data)
+binary2_fields header =
+    (codes "seqid", num header.sequence)
+    ∷ (codes "header_size", num header.size)
+    ∷ (codes "checksum_hash", string (hash_name header.hash))
+    ∷ (codes "salt", hex_text header.salt)
     ∷ []
 
 -- ---- the payload: segment 0, whether or not there are others
@@ -79,6 +90,7 @@ encryption2_fields tree =
     (codes "cipher", optional_text (option_and_then (string_member (codes "encryption")) (segment0_of tree)))
     ∷ (codes "key_bytes", optional_num (volume_key_size tree))
     ∷ (codes "sector_size", optional_num (option_and_then (integer_member (codes "sector_size")) (segment0_of tree)))
+    ∷ (codes "iv_tweak", optional_num (option_and_then (decimal_member (codes "iv_tweak")) (segment0_of tree)))
     ∷ []
 
 -- where the payload is, and what the volume requires
@@ -111,6 +123,7 @@ derivation2_fields slot =
     ∷ (codes "key_bytes", optional_num (integer_member (codes "key_size") slot))
     ∷ (codes "kdf", text_within (codes "kdf") (codes "type") slot)
     ∷ (codes "hash", text_within (codes "kdf") (codes "hash") slot)
+    ∷ (codes "salt", optional_hex (in_member (codes "kdf") (base64_member (codes "salt")) slot))
     ∷ (codes "iterations", integer_in (codes "kdf") (codes "iterations") slot)
     ∷ []
 
@@ -144,7 +157,9 @@ unfoldable pub digest2_fields : Data → List (List ℕ × Data)
 digest2_fields digest =
     (codes "type", optional_text (string_member (codes "type") digest))
     ∷ (codes "hash", optional_text (string_member (codes "hash") digest))
+    ∷ (codes "salt", optional_hex (base64_member (codes "salt") digest))
     ∷ (codes "iterations", optional_num (integer_member (codes "iterations") digest))
+    ∷ (codes "digest", optional_hex (base64_member (codes "digest") digest))
     ∷ (
       codes "bytes",
       optional_num (option_map (λ (bytes : List ℕ). length bytes)
@@ -158,6 +173,7 @@ unfoldable pub token2_fields : Data → List (List ℕ × Data)
 token2_fields token =
     (codes "type", optional_text (string_member (codes "type") token))
     ∷ (codes "keyslots", array_of (map string (strings_at (codes "keyslots") token)))
+    ∷ (codes "stored", unless_float token)
     ∷ []
 
 -- ---- what is judged
@@ -167,9 +183,13 @@ unfoldable pub mode_after_dash : List ℕ → List ℕ
 mode_after_dash cipher =
     unwrap_or (option_map (λ dash. drop (dash + 1) cipher) (position (λ (byte : ℕ). byte == 45) cipher)) []
 
--- the cipher's name has a mode that is cipher block chaining
+-- the cipher is one that uses cipher block chaining, in the notation of dm-crypt or of the kernel's crypto API
+abbrev pub is_cbc2 : List ℕ → Bool
+is_cbc2 name = is_cbc (mode_after_dash name) || is_capi_cbc name
+
+-- a cipher is named, and is such a one
 abbrev pub names_cbc : Option (List ℕ) → Bool
-names_cbc cipher = unwrap_or (option_map (λ name. is_cbc (mode_after_dash name)) cipher) false
+names_cbc cipher = unwrap_or (option_map is_cbc2 cipher) false
 
 -- how the key of the slot is derived
 unfoldable pub derivation2_of : Data → Derivation

@@ -1,5 +1,6 @@
 -- What is printed of an image, and what its audit shows.
 use Rattle.std.specs.Prelude.{◌≡◌, ◌⊎◌, ℕ, Bool, true, false, List, Option, Result, Ok, Err, codes, if◌then◌else◌}
+use Rattle.luks_area.specs.Area.{is_read_fault}
 use Rattle.luks_area.specs.declared.fault.HeaderFault.{HeaderFault}
 use Rattle.luks_area.specs.declared.fault.HeaderFault.TheVariants.{NotLuks, Cut, Json, Read, Memory}
 use Rattle.luks_header.specs.Header.{header_of}
@@ -56,3 +57,16 @@ abbrev pub IsAudited : Bool → Policy → List ℕ → List ℕ → List ℕ �
 IsAudited true policy file image line state = IsAuditedBy policy file (Err Read) line state
 IsAudited false policy file image line state =
     IsAuditedBy policy file (header_of image) line state ⊎ IsAuditedBy policy file (Err Memory) line state
+
+-- a header that some bytes have, or a fault
+abbrev pub IsSomeHeader : Result Header HeaderFault → Type 0
+IsSomeHeader (Ok header) = (bytes : List ℕ) × (header_of bytes ≡ Ok header)
+IsSomeHeader (Err fault) = Unit {0}
+
+-- whether or not the bytes of the image are known, it was audited as such a header says, or a fault; if and only if a
+-- read failed, that is the fault
+pub record IsAuditedAnyway (failed : Bool) (policy : Policy) (file line : List ℕ) (state : State) : Type 0 where
+  pub found : Result Header HeaderFault
+  pub some : IsSomeHeader found
+  pub failed_is : failed ≡ is_read_fault found
+  pub audited : IsAuditedBy policy file found line state

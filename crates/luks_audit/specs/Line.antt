@@ -23,6 +23,10 @@ segment_columns =
 abbrev pub list_columns : List (List ℕ)
 list_columns = codes "digests" ∷ codes "tokens" ∷ codes "findings" ∷ codes "weak" ∷ []
 
+abbrev pub binary_columns : List (List ℕ)
+binary_columns =
+    codes "seqid" ∷ codes "header_size" ∷ codes "checksum_hash" ∷ codes "salt" ∷ codes "iv_tweak" ∷ []
+
 -- what a member has in its column: nothing if it is null, a text as it stands in JSON but without quotation marks, and
 -- any other value as JSON. JSON escapes tabs and newlines
 unfoldable pub cell_text : Data → List ℕ
@@ -54,7 +58,7 @@ columns_of value (name ∷ names) = tabbed_of value name ++ columns_of value nam
 unfoldable pub cells_of : Data → List ℕ
 cells_of value =
     columns_of value place_columns ++ columns_of value header_columns ++ columns_of value segment_columns
-    ++ columns_of value list_columns
+    ++ columns_of value list_columns ++ columns_of value binary_columns
 
 -- the line of an object
 unfoldable pub line_text : Format → Data → List ℕ
@@ -70,7 +74,7 @@ unfoldable pub head_of : Format → List ℕ
 head_of Json = []
 head_of Tsv =
     codes "file" ++ tabbed_names place_columns ++ tabbed_names header_columns ++ tabbed_names segment_columns
-    ++ tabbed_names list_columns ++ 10 ∷ []
+    ++ tabbed_names list_columns ++ tabbed_names binary_columns ++ 10 ∷ []
 
 -- the object of an image without a header, or of one that could not be read
 unfoldable pub error_value : List ℕ → List ℕ → Data

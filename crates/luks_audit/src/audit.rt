@@ -291,11 +291,13 @@ fn push_volume(alloc: Global, fields: &mut Object, header: &Header) -> Result<()
     match header {
         Header::V1(header) => {
             luks1::push_volume(alloc, fields, header)?;
+            luks1::push_binary(alloc, fields)?;
             luks1::push_encryption(alloc, fields, header)?;
             luks1::push_segment(alloc, fields, header)
         }
         Header::V2(binary, metadata) => {
             luks2::push_volume(alloc, fields, binary)?;
+            luks2::push_binary(alloc, fields, binary)?;
             luks2::push_encryption(alloc, fields, metadata.tree())?;
             luks2::push_segment(alloc, fields, metadata.tree())
         }

@@ -1,7 +1,9 @@
 //! Members of the objects that are printed, by the types of their values.
 
 ghost use Rattle.std.specs.Prelude.{◌≡◌, ◌++◌, IfOk, OnOk, map, option_map, string_bytes};
-ghost use Rattle.luks_audit.specs.Tree.{array_of, num, optional_num, optional_text, with_member};
+ghost use Rattle.hex.specs.Hex.{encode_lower};
+ghost use Rattle.luks_audit.specs.Tree.{array_of, hex_text, num, optional_num, optional_text};
+ghost use Rattle.luks_audit.specs.Tree.{with_member};
 ghost use Rattle.luks_dump.specs.DumpLine.{escaped, escaped_byte};
 ghost use Rattle.serde_json.specs.Data.{string};
 
@@ -58,6 +60,14 @@ impl Object {
         let mut printed = String::new(alloc);
         escape(alloc, &mut printed, text)?;
         self.push(alloc, name, Tree::text(printed))
+    }
+
+    /// Adds bytes as hexadecimal digits.
+    pub fn push_hex(&mut self, alloc: Global, name: &str, bytes: &[u8]) -> Result<(), AllocError>
+        ensures { OnOk result (self.new ≡ with_member name.now (hex_text bytes.now) self.old) }
+    {
+        let digits = hex::encode(alloc, bytes)?;
+        self.push(alloc, name, Tree::text(digits))
     }
 
     /// Adds an array.

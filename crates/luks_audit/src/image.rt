@@ -1,11 +1,10 @@
 //! An image as one line: its header, or why it has none.
 
-ghost use Rattle.std.specs.Prelude.{◌≡◌, Bool, IfOk};
+ghost use Rattle.std.specs.Prelude.{◌≡◌, Bool, IfOk, OnErr};
 ghost use Rattle.luks_io.specs.Counts.{Reads};
 ghost use Rattle.luks_io.specs.Devices.{IfKnown};
-ghost use Rattle.luks_audit.specs.Image.{IsAudited, fault_line, fault_state, error_text};
-ghost use Rattle.luks_audit.specs.Image.{header_line};
-ghost use Rattle.luks_audit.specs.Image.{header_state};
+ghost use Rattle.luks_audit.specs.Image.{IsAudited, IsAuditedAnyway, error_text, fault_line};
+ghost use Rattle.luks_audit.specs.Image.{fault_state, header_line, header_state};
 
 use crate::audit::audit_header;
 use crate::line::{Format, error_tree, line_text};
@@ -121,10 +120,13 @@ pub fn audit_image<S: Source>(
     file: &str,
     source: &mut S,
 ) -> Result<ImageLine, AllocError>
-    ensures { IfOk result (λ made. (failed : Bool) × (ended : Bool)
+    ensures audited { IfOk result (λ made. (failed : Bool) × (ended : Bool)
         × Reads failed ended (S.counts source.old) (S.counts source.new)
         × IfKnown (S.to_come source.old) (λ image.
-        IsAudited failed policy file.now image made.line.items made.state)) }
+        IsAudited failed policy file.now image made.line.items made.state)
+        × IsAuditedAnyway failed policy file.now made.line.items made.state) }
+    ensures aborted { OnErr result ((failed : Bool) × (ended : Bool)
+        × Reads failed ended (S.counts source.old) (S.counts source.new)) }
 {
     match read_header(alloc, source) {
         Ok((header, _)) => {

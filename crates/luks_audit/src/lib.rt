@@ -8,6 +8,7 @@
 pub mod audit;
 mod fields;
 mod finding;
+mod float;
 pub mod image;
 pub mod line;
 mod luks1;

@@ -1,7 +1,8 @@
 //! The lines that are printed.
 
 ghost use Rattle.std.specs.Prelude.{◌≡◌, ◌++◌, ◌∷◌, [], IfOk, List, OnOk, false, ℕ};
-ghost use Rattle.luks_audit.specs.Line.{cell_text, cells_of, column_of, columns_of, error_value};
+ghost use Rattle.luks_audit.specs.Line.{binary_columns, cell_text, cells_of, column_of};
+ghost use Rattle.luks_audit.specs.Line.{columns_of, error_value};
 ghost use Rattle.luks_audit.specs.Line.{head_of, header_columns, line_text, list_columns};
 ghost use Rattle.luks_audit.specs.Line.{place_columns, segment_columns, tabbed_of};
 ghost use Rattle.serde_json.specs.View.{view as data_of};
@@ -114,6 +115,18 @@ fn push_lists(alloc: Global, line: &mut Vec<u8>, tree: &Tree) -> Result<(), Allo
     push_tabbed(alloc, line, tree, "weak")
 }
 
+// Adds the columns about the binary header of LUKS2, and the number of the first sector.
+fn push_binary(alloc: Global, line: &mut Vec<u8>, tree: &Tree) -> Result<(), AllocError>
+    ensures { OnOk result
+        (line.new.items ≡ line.old.items ++ columns_of tree.now binary_columns) }
+{
+    push_tabbed(alloc, line, tree, "seqid")?;
+    push_tabbed(alloc, line, tree, "header_size")?;
+    push_tabbed(alloc, line, tree, "checksum_hash")?;
+    push_tabbed(alloc, line, tree, "salt")?;
+    push_tabbed(alloc, line, tree, "iv_tweak")
+}
+
 // Adds the columns of an object, but for the file.
 #[tactic(auto, unfolding(crate::specs::Line::cells_of))]
 fn push_cells(alloc: Global, line: &mut Vec<u8>, tree: &Tree) -> Result<(), AllocError>
@@ -122,7 +135,8 @@ fn push_cells(alloc: Global, line: &mut Vec<u8>, tree: &Tree) -> Result<(), Allo
     push_place(alloc, line, tree)?;
     push_header(alloc, line, tree)?;
     push_segment(alloc, line, tree)?;
-    push_lists(alloc, line, tree)
+    push_lists(alloc, line, tree)?;
+    push_binary(alloc, line, tree)
 }
 
 /// The line of an object.
@@ -161,7 +175,7 @@ fn tsv_line(alloc: Global, tree: &Tree) -> Result<Vec<u8>, AllocError>
 /// The names of the columns, with tabs between them.
 const HEAD: &str = "file\toffset\terror\tversion\tuuid\tlabel\tsubsystem\theader\tother_header\t\
     cipher\tkey_bytes\tsector_size\tsegment_offset\tsegment_size\trequirements\tslots\tdigests\t\
-    tokens\tfindings\tweak\n";
+    tokens\tfindings\tweak\tseqid\theader_size\tchecksum_hash\tsalt\tiv_tweak\n";
 
 // The line with the names of the columns.
 #[tactic(auto, unfolding(crate::specs::Line::head_of))]

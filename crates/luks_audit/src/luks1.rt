@@ -1,11 +1,11 @@
 //! What is listed and judged of a LUKS1 header (LUKS1 On-Disk Format Specification 1.2.3).
 
 ghost use Rattle.std.specs.Prelude.{◌≡◌, ◌*◌, IfOk, OnOk, codes, string_bytes};
-ghost use Rattle.luks_audit.specs.Audit1.{area1_fields, cipher1_of, cost1_fields};
+ghost use Rattle.luks_audit.specs.Audit1.{area1_fields, binary1_fields, cipher1_of, cost1_fields};
 ghost use Rattle.luks_audit.specs.Audit1.{derivation1_fields};
 ghost use Rattle.luks_audit.specs.Audit1.{encryption1_fields};
 ghost use Rattle.luks_audit.specs.Audit1.{only_digest_fields, digest_strength1, stripes1_fields};
-ghost use Rattle.luks_audit.specs.Audit1.{judged1_of, segment1_fields, slot_strength1};
+ghost use Rattle.luks_audit.specs.Audit1.{is_cbc1, judged1_of, segment1_fields, slot_strength1};
 ghost use Rattle.luks_audit.specs.Audit1.{strength1_of, volume1_fields};
 ghost use Rattle.luks_audit.specs.Tree.{num, with_fields, with_member};
 ghost use Rattle.luks_verdict.specs.Rule.{need_of};
@@ -13,7 +13,7 @@ ghost use Rattle.luks1_header.specs.Slot1.{is_disabled};
 ghost use Rattle.serde_json.specs.Data.{string};
 
 use crate::fields::escape;
-use crate::policy::{Derivation, DigestStrength, SlotStrength, is_cbc};
+use crate::policy::{Derivation, DigestStrength, SlotStrength, is_capi_cbc, is_cbc};
 use crate::tree::{Array, Object, Tree};
 use luks_header::header::{Header1, SlotState, StoredSlot};
 use luks_verdict::rule::need;
@@ -95,6 +95,17 @@ pub(crate) fn push_volume(
     fields.push(alloc, "other_header", Tree::null())
 }
 
+/// Adds what the binary header of LUKS2 has besides.
+#[tactic(auto, unfolding(crate::specs::Audit1::binary1_fields))]
+pub(crate) fn push_binary(alloc: Global, fields: &mut Object) -> Result<(), AllocError>
+    ensures { OnOk result (fields.new ≡ with_fields binary1_fields fields.old) }
+{
+    fields.push(alloc, "seqid", Tree::null())?;
+    fields.push(alloc, "header_size", Tree::null())?;
+    fields.push(alloc, "checksum_hash", Tree::null())?;
+    fields.push(alloc, "salt", Tree::null())
+}
+
 /// Adds how the payload is encrypted.
 #[tactic(auto, unfolding(crate::specs::Audit1::encryption1_fields))]
 pub(crate) fn push_encryption(
@@ -106,7 +117,8 @@ pub(crate) fn push_encryption(
 {
     push_cipher(alloc, fields, "cipher", header)?;
     fields.push_number(alloc, "key_bytes", u64::from(header.key_bytes))?;
-    fields.push_number(alloc, "sector_size", 512)
+    fields.push_number(alloc, "sector_size", 512)?;
+    fields.push_number(alloc, "iv_tweak", 0)
 }
 
 /// Adds where the payload is.
@@ -138,6 +150,7 @@ pub(crate) fn push_derivation(
     fields.push_number(alloc, "key_bytes", u64::from(header.key_bytes))?;
     fields.push_text(alloc, "kdf", "pbkdf2")?;
     fields.push_escaped(alloc, "hash", header.hash_spec.as_bytes())?;
+    fields.push_hex(alloc, "salt", &slot.salt)?;
     fields.push_number(alloc, "iterations", u64::from(slot.iterations))
 }
 
@@ -194,7 +207,9 @@ pub(crate) fn push_digest(
 {
     fields.push_text(alloc, "type", "pbkdf2")?;
     fields.push_escaped(alloc, "hash", header.hash_spec.as_bytes())?;
+    fields.push_hex(alloc, "salt", &header.digest_salt)?;
     fields.push_number(alloc, "iterations", u64::from(header.digest_iterations))?;
+    fields.push_hex(alloc, "digest", &header.digest)?;
     fields.push_number(alloc, "bytes", 20)?;
     fields.push_array(alloc, "keyslots", Array::new(alloc))?;
     fields.push_array(alloc, "segments", Array::new(alloc))
@@ -205,6 +220,14 @@ fn is_disabled(state: SlotState) -> bool
     ensures { result ≡ is_disabled state }
 {
     matches!(state, SlotState::Disabled)
+}
+
+/// Whether sectors are encrypted by cipher block chaining.
+#[tactic(auto, unfolding(crate::specs::Audit1::is_cbc1))]
+pub(crate) fn uses_cbc(header: &Header1) -> bool
+    ensures { result ≡ is_cbc1 header.now }
+{
+    is_cbc(header.cipher_mode.as_bytes()) || is_capi_cbc(header.cipher_name.as_bytes())
 }
 
 // What is judged of a slot that is not disabled.
@@ -219,7 +242,7 @@ fn strength(header: &Header1, slot: &StoredSlot) -> SlotStrength
         iterations: u64::from(slot.iterations),
         memory: 0,
         af_hash: header.hash(),
-        is_cbc: is_cbc(header.cipher_mode.as_bytes()),
+        is_cbc: uses_cbc(header),
         key_bytes,
         area_key_bytes: key_bytes,
     }

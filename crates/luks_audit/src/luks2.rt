@@ -3,13 +3,13 @@
 ghost use Rattle.std.specs.Prelude.{◌≡◌, IfOk, List, OnOk, codes, length, map, option_and_then};
 ghost use Rattle.std.specs.Prelude.{option_map, ℕ};
 ghost use Rattle.luks_audit.specs.Audit2.{cost2_fields, derivation2_fields, digest2_fields};
-ghost use Rattle.luks_audit.specs.Audit2.{encryption2_fields};
+ghost use Rattle.luks_audit.specs.Audit2.{binary2_fields, encryption2_fields};
 ghost use Rattle.luks_audit.specs.Audit2.{area2_fields, key_size_at, key_size_in, stripes2_fields};
 ghost use Rattle.luks_audit.specs.Audit2.{other_header_of, priority2_of, requirements_of};
 ghost use Rattle.luks_audit.specs.Audit2.{segment2_fields, segment_size_value, segment0_of};
 ghost use Rattle.luks_audit.specs.Audit2.{length_value, token2_fields, volume2_fields};
 ghost use Rattle.luks_audit.specs.Audit2.{volume_key_size};
-ghost use Rattle.luks_audit.specs.Tree.{array_of, with_fields, with_member};
+ghost use Rattle.luks_audit.specs.Tree.{array_of, optional_hex, with_fields, with_member};
 ghost use Rattle.luks_dump.specs.Dump2.{role_text};
 ghost use Rattle.luks2_json.specs.List.{strings_at};
 ghost use Rattle.luks2_json.specs.Member.{base64_member, decimal_member, in_member};
@@ -24,7 +24,7 @@ use luks_header::header::{Header2, HeaderRole, PairFinding};
 use luks_verdict::rule::MAX_SLOTS;
 use luks2_json::list::strings_at;
 use luks2_json::member::{
-    base64_len, decimal_member, integer_member, is_type, string_is, string_member,
+    base64_len, base64_member, decimal_member, integer_member, is_type, string_is, string_member,
 };
 use luks2_json::numbered::object_numbered;
 use serde_json::Value;
@@ -52,6 +52,33 @@ fn decimal_in(owner: &Value, object: &str, name: &str) -> Option<u64>
     ensures { result ≡ in_member object.now (decimal_member name.now) (data_of owner.now) }
 {
     decimal_member(owner.get(object)?, name)
+}
+
+// Adds the bytes that are under this name in base64 as hexadecimal digits, or null.
+fn push_bytes(
+    alloc: Global,
+    fields: &mut Object,
+    name: &str,
+    owner: &Value,
+) -> Result<(), AllocError>
+    ensures { OnOk result (fields.new ≡ with_member name.now
+        (optional_hex (base64_member name.now (data_of owner.now))) fields.old) }
+{
+    match base64_member(alloc, owner, name)? {
+        Some(bytes) => fields.push_hex(alloc, name, bytes.as_slice()),
+        None => fields.push(alloc, name, Tree::null()),
+    }
+}
+
+// Adds the salt of the key derivation.
+fn push_salt(alloc: Global, fields: &mut Object, slot: &Value) -> Result<(), AllocError>
+    ensures { OnOk result (fields.new ≡ with_member (codes "salt") (optional_hex
+        (in_member (codes "kdf") (base64_member (codes "salt")) (data_of slot.now))) fields.old) }
+{
+    match slot.get("kdf") {
+        Some(kdf) => push_bytes(alloc, fields, "salt", kdf),
+        None => fields.push(alloc, "salt", Tree::null()),
+    }
 }
 
 // The names in the array under this name.
@@ -101,6 +128,21 @@ pub(crate) fn push_volume(
     fields.push_escaped(alloc, "subsystem", header.subsystem.as_bytes())?;
     fields.push_text(alloc, "header", role_text(header.role))?;
     fields.push_optional_text(alloc, "other_header", other_header(header.finding))
+}
+
+/// Adds the number of its change, its length, and how its checksum is computed.
+#[tactic(auto, unfolding(crate::specs::Audit2::binary2_fields))]
+pub(crate) fn push_binary(
+    alloc: Global,
+    fields: &mut Object,
+    header: &Header2,
+) -> Result<(), AllocError>
+    ensures { OnOk result (fields.new ≡ with_fields (binary2_fields header.now) fields.old) }
+{
+    fields.push_number(alloc, "seqid", header.sequence)?;
+    fields.push_number(alloc, "header_size", u64::from(header.size))?;
+    fields.push_text(alloc, "checksum_hash", header.hash.name())?;
+    fields.push_hex(alloc, "salt", &header.salt)
 }
 
 // ---- the payload
@@ -181,6 +223,14 @@ fn segment_offset(tree: &Value) -> Option<u64>
     decimal_member(object_numbered(tree, "segments", 0)?, "offset")
 }
 
+// The number of the first sector of segment 0, in units of 512 bytes.
+fn segment_iv_tweak(tree: &Value) -> Option<u64>
+    ensures { result ≡ option_and_then (decimal_member (codes "iv_tweak"))
+        (segment0_of (data_of tree.now)) }
+{
+    decimal_member(object_numbered(tree, "segments", 0)?, "iv_tweak")
+}
+
 // The requirements of the configuration, if there are any.
 fn requirements_in(tree: &Value) -> Option<&Value>
     ensures { option_map (λ value. data_of value.now) result
@@ -212,7 +262,8 @@ pub(crate) fn push_encryption(
 {
     fields.push_optional_text(alloc, "cipher", segment_cipher(tree))?;
     fields.push_optional_number(alloc, "key_bytes", volume_key_size(tree))?;
-    fields.push_optional_number(alloc, "sector_size", segment_sector_size(tree))
+    fields.push_optional_number(alloc, "sector_size", segment_sector_size(tree))?;
+    fields.push_optional_number(alloc, "iv_tweak", segment_iv_tweak(tree))
 }
 
 // Adds the length of segment 0.
@@ -275,6 +326,7 @@ pub(crate) fn push_derivation(
     fields.push_optional_number(alloc, "key_bytes", integer_member(slot, "key_size"))?;
     fields.push_optional_text(alloc, "kdf", text_within(slot, "kdf", "type"))?;
     fields.push_optional_text(alloc, "hash", text_within(slot, "kdf", "hash"))?;
+    push_salt(alloc, fields, slot)?;
     fields.push_optional_number(alloc, "iterations", integer_in(slot, "kdf", "iterations"))
 }
 
@@ -346,7 +398,9 @@ pub(crate) fn push_digest(
 {
     fields.push_optional_text(alloc, "type", string_member(digest, "type"))?;
     fields.push_optional_text(alloc, "hash", string_member(digest, "hash"))?;
+    push_bytes(alloc, fields, "salt", digest)?;
     fields.push_optional_number(alloc, "iterations", integer_member(digest, "iterations"))?;
+    push_bytes(alloc, fields, "digest", digest)?;
     fields.push_optional_number(alloc, "bytes", digest_len(digest))?;
     let keyslots = names_at(alloc, digest, "keyslots")?;
     fields.push_array(alloc, "keyslots", keyslots)?;
@@ -366,5 +420,6 @@ pub(crate) fn push_token(
 {
     fields.push_optional_text(alloc, "type", string_member(token, "type"))?;
     let keyslots = names_at(alloc, token, "keyslots")?;
-    fields.push_array(alloc, "keyslots", keyslots)
+    fields.push_array(alloc, "keyslots", keyslots)?;
+    fields.push(alloc, "stored", Tree::stored(token)?)
 }

@@ -1,8 +1,10 @@
 //! What is weak.
 
-ghost use Rattle.std.specs.Prelude.{◌≡◌, ◌++◌, IfOk, OnOk};
-ghost use Rattle.luks_audit.specs.Policy.{digest_weaknesses, found_if, is_by_argon2, is_by_pbkdf2};
-ghost use Rattle.luks_audit.specs.Policy.{is_cbc, is_sha1, least_iterations, owasp_iterations};
+ghost use Rattle.std.specs.Prelude.{◌≡◌, ◌++◌, IfOk, OnOk, option_map};
+ghost use Rattle.luks_audit.specs.Policy.{begins_cbc, digest_weaknesses, ends_word, found_if};
+ghost use Rattle.luks_audit.specs.Policy.{is_by_argon2, is_by_pbkdf2};
+ghost use Rattle.luks_audit.specs.Policy.{has_word_cbc, is_capi_cbc, is_cbc, is_mark, is_sha1};
+ghost use Rattle.luks_audit.specs.Policy.{least_iterations, owasp_iterations};
 ghost use Rattle.luks_audit.specs.Policy.{segment_weaknesses, slot_weaknesses, weakness_name};
 ghost use Rattle.luks_audit.specs.Policy.{weakness_of};
 
@@ -121,6 +123,53 @@ pub(crate) fn is_cbc(mode: &[u8]) -> bool
     ensures { result ≡ is_cbc mode.now }
 {
     mode.starts_with(b"cbc")
+}
+
+// Whether the byte separates words in the notation of the kernel's crypto API.
+fn is_mark(byte: u8) -> bool
+    ensures { result ≡ is_mark byte }
+{
+    byte == b'(' || byte == b')' || byte == b',' || byte == b'-' || byte == b':'
+}
+
+// Whether a word ends before this byte, or with the text.
+fn ends_word(next: Option<&u8>) -> bool
+    ensures { result ≡ ends_word (option_map (λ b. b.now) next.entry) }
+{
+    match next {
+        Some(byte) => is_mark(*byte),
+        None => true,
+    }
+}
+
+// Whether the first word of a text is `cbc`.
+#[tactic(auto, unfolding(crate::specs::Policy::begins_cbc))]
+fn begins_cbc(text: &[u8]) -> bool
+    ensures { result ≡ begins_cbc text.now }
+{
+    text.starts_with(b"cbc") && ends_word(text.get(3))
+}
+
+// Whether a word after a mark is `cbc`.
+#[tactic(auto, unfolding(crate::specs::Policy::has_word_cbc))]
+fn has_word_cbc(text: &[u8]) -> bool
+    ensures { result ≡ has_word_cbc text.now }
+{
+    for mark in 0..text.len() {
+        if is_mark(text[mark]) && begins_cbc(&text[mark + 1..]) {
+            return true;
+        }
+    }
+    false
+}
+
+/// Whether a cipher in the notation of the kernel's crypto API has cipher block chaining among its
+/// templates.
+#[tactic(auto, unfolding(crate::specs::Policy::is_capi_cbc))]
+pub(crate) fn is_capi_cbc(cipher: &[u8]) -> bool
+    ensures { result ≡ is_capi_cbc cipher.now }
+{
+    cipher.starts_with(b"capi:") && has_word_cbc(cipher)
 }
 
 // Whether the hash function is SHA-1.

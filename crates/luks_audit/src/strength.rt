@@ -10,7 +10,7 @@ ghost use Rattle.luks2_metadata.specs.Slot2.{kdf_hash_of, key_size_of};
 ghost use Rattle.serde_json.specs.View.{view as data_of};
 
 use crate::luks2::{integer_in, text_within};
-use crate::policy::{Derivation, DigestStrength, SlotStrength, is_cbc};
+use crate::policy::{Derivation, DigestStrength, SlotStrength, is_capi_cbc, is_cbc};
 use luks_kdf::Hash;
 use luks2_json::derivation::{hash_member, iterations_in};
 use luks2_json::member::{integer_member, is_type};
@@ -35,12 +35,12 @@ fn mode_after_dash(cipher: &[u8]) -> &[u8]
     }
 }
 
-/// Whether the cipher's name has a mode that is cipher block chaining.
+/// Whether a cipher is named that uses cipher block chaining.
 pub(crate) fn names_cbc(cipher: Option<&str>) -> bool
     ensures { result ≡ names_cbc (option_map (λ t. t.now) cipher.entry) }
 {
     match cipher {
-        Some(name) => is_cbc(mode_after_dash(name.as_bytes())),
+        Some(name) => is_cbc(mode_after_dash(name.as_bytes())) || is_capi_cbc(name.as_bytes()),
         None => false,
     }
 }

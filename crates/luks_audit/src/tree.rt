@@ -3,11 +3,12 @@
 ghost use Rattle.std.specs.Prelude.{◌≡◌, ◌++◌, ◌∷◌, [], IfOk, OnOk, false, length, option_map};
 ghost use Rattle.std.specs.Prelude.{string_bytes};
 ghost use Rattle.luks_audit.specs.Tree.{array_of, empty_object, num, optional_num};
-ghost use Rattle.luks_audit.specs.Tree.{optional_text, with_member};
+ghost use Rattle.luks_audit.specs.Tree.{optional_text, unless_float, with_member};
 ghost use Rattle.serde_json.specs.Data.{boolean, null, string};
 ghost use Rattle.serde_json.specs.View.{view as data_of};
 ghost use Rattle.serde_json.specs.Written.{compact_text, has_float};
 
+use crate::float::has_float;
 use serde_json::{Map, Value, put};
 use std::alloc::{AllocError, Global};
 use std::marker::Model;
@@ -95,6 +96,18 @@ impl Tree {
             Some(text) => Tree::copied(alloc, text),
             None => Ok(Tree::null()),
         }
+    }
+
+    /// A copy of a value, or null if it has a float.
+    #[tactic(auto, unfolding(crate::specs::Tree::unless_float))]
+    pub fn stored(value: &Value) -> Result<Tree, AllocError>
+        ensures { IfOk result (λ tree. tree ≡ unless_float (data_of value.now)) }
+    {
+        if has_float(value) {
+            return Ok(Tree::null());
+        }
+        let value = value.clone()?;
+        Ok(Tree { value })
     }
 
     /// The value.

@@ -6,7 +6,7 @@ ghost use Rattle.luks_audit.specs.Audit.{segment_weak, slot_strength, slot_weak,
 ghost use Rattle.luks_verdict.specs.Rule.{max_slots};
 
 use crate::policy::{
-    DigestStrength, SlotStrength, is_cbc, push_digest_weaknesses, push_segment_weaknesses,
+    DigestStrength, SlotStrength, push_digest_weaknesses, push_segment_weaknesses,
     push_slot_weaknesses,
 };
 use crate::strength::names_cbc;
@@ -94,7 +94,7 @@ fn push_segment(alloc: Global, weak: &mut Array, header: &Header) -> Result<(), 
 {
     match header {
         Header::V1(header) => {
-            let cbc = is_cbc(header.cipher_mode.as_bytes());
+            let cbc = luks1::uses_cbc(header);
             push_segment_weaknesses(alloc, weak, cbc, Some(u64::from(header.key_bytes)))
         }
         Header::V2(_, metadata) => {

@@ -1,5 +1,5 @@
 -- Runs over the first images, and one more.
-use Rattle.std.proofs.Common.{◌≡◌, ◌∙◌, ℕ, ◌+◌, Bool, true, false, List, [], ◌∷◌, ◌++◌, Option, Some, Result, Ok, Err, refl, sym, ap}
+use Rattle.std.proofs.Common.{◌≡◌, ◌∙◌, ℕ, ◌+◌, List, [], ◌∷◌, ◌++◌, Option, Result, Ok, Err, refl, sym, ap}
 use Rattle.std.proofs.Common.{append_assoc, drop, subst, take}
 use Rattle.std.proofs.lemmas.List.{append-nil, take-append-drop}
 use Rattle.std.specs.Prelude.{OnErr}
@@ -8,7 +8,7 @@ use Rattle.luks_io.specs.Devices.{Appended, counted}
 use Rattle.luks_audit.specs.Line.{head_of}
 use Rattle.luks_audit.specs.declared.image.Policy.{Policy}
 use Rattle.luks_audit.specs.declared.image.State.{State}
-use Rattle.luks_audit.specs.declared.image.State.TheVariants.{Clean, Flawed, Unread}
+use Rattle.luks_audit.specs.declared.image.State.TheVariants.{Clean}
 use Rattle.luks_audit_run.specs.Host.{Stored}
 use Rattle.luks_audit_run.specs.Run.{ArePossible, AuditsFile, AuditsFilePartly, Course, IsPossible, Runs, RunsPartly}
 use Rattle.luks_audit_run.specs.Run.{audit_text, bytes_in, failures_after, gravest_state, image_state, image_text, is_failed}
@@ -25,8 +25,8 @@ failures_more failures (first ∷ courses) course = failures_more (counted (is_f
 
 module _ (policy : Policy) (scope : Scope) (stored : List ℕ → Stored) where
   possible_more : (files : List (List ℕ)) (courses : List Course) (file : List ℕ) (course : Course)
-      → ArePossible stored files courses → IsPossible (stored file) course
-      → ArePossible stored (files ++ file ∷ []) (courses ++ course ∷ [])
+      → ArePossible scope stored files courses → IsPossible scope (stored file) course
+      → ArePossible scope stored (files ++ file ∷ []) (courses ++ course ∷ [])
   unfolding ArePossible
   possible_more [] [] file course are is = (is, tt)
   possible_more (first ∷ files) (one ∷ courses) file course are is =
@@ -35,7 +35,7 @@ module _ (policy : Policy) (scope : Scope) (stored : List ℕ → Stored) where
   possible_more (first ∷ files) [] file course are is = absurd are
 
   texts_more : (files : List (List ℕ)) (courses : List Course) (file : List ℕ) (course : Course)
-      → ArePossible stored files courses
+      → ArePossible scope stored files courses
       → texts_of policy scope stored (files ++ file ∷ []) (courses ++ course ∷ [])
       ≡ texts_of policy scope stored files courses ++ image_text policy scope file (bytes_in (stored file)) course
   unfolding ArePossible texts_of
@@ -49,7 +49,7 @@ module _ (policy : Policy) (scope : Scope) (stored : List ℕ → Stored) where
   texts_more (first ∷ files) [] file course are = absurd are
 
   text_more : (files : List (List ℕ)) (courses : List Course) (file : List ℕ) (course : Course)
-      → ArePossible stored files courses
+      → ArePossible scope stored files courses
       → audit_text policy scope stored (files ++ file ∷ []) (courses ++ course ∷ [])
       ≡ audit_text policy scope stored files courses ++ image_text policy scope file (bytes_in (stored file)) course
   unfolding audit_text
@@ -59,7 +59,7 @@ module _ (policy : Policy) (scope : Scope) (stored : List ℕ → Stored) where
       (image_text policy scope file (bytes_in (stored file)) course))
 
   state_more : (files : List (List ℕ)) (courses : List Course) (file : List ℕ) (course : Course)
-      → ArePossible stored files courses
+      → ArePossible scope stored files courses
       → gravest_state policy scope stored (files ++ file ∷ []) (courses ++ course ∷ [])
       ≡ graver (gravest_state policy scope stored files courses)
       (image_state policy scope (bytes_in (stored file)) course)
@@ -113,11 +113,11 @@ module _ (policy : Policy) (scope : Scope) (stored : List ℕ → Stored) where
   }
 
   -- a run that was aborted in the line before all others
-  pub partly_none : (files : List (List ℕ)) (before after : Option (List ℕ)) (n : ℕ)
+  pub partly_none : (files : List (List ℕ)) (failures : ℕ) (before after : Option (List ℕ)) (n : ℕ)
       → Appended before after (take n (head_of policy.format))
-      → RunsPartly policy scope stored files before after
-  unfolding ArePossible audit_text texts_of
-  partly_none files before after n head = record {
+      → RunsPartly policy scope stored files failures failures before after
+  unfolding ArePossible audit_text texts_of failures_after
+  partly_none files failures before after n head = record {
     count = 0;
     courses = [];
     possible = tt;
@@ -125,19 +125,21 @@ module _ (policy : Policy) (scope : Scope) (stored : List ℕ → Stored) where
     rest = drop n (head_of policy.format);
     text_is = take-append-drop n (head_of policy.format) ∙ sym (append-nil (head_of policy.format));
     written = head;
+    failed = refl;
   }
 
   -- a run that was aborted in an image after some others
-  pub partly_more : (all files : List (List ℕ)) (file : List ℕ) (count failures failures1 : ℕ)
+  pub partly_more : (all files : List (List ℕ)) (file : List ℕ) (count failures failures1 failures2 : ℕ)
       (before now after : Option (List ℕ)) (state : State) → take (count + 1) all ≡ files ++ file ∷ []
       → Runs policy scope stored files failures failures1 before now state
-      → AuditsFilePartly policy scope file (stored file) now after
-      → RunsPartly policy scope stored all before after
-  partly_more all files file count failures failures1 before now after state first so_far one = record {
+      → AuditsFilePartly policy scope file (stored file) failures1 failures2 now after
+      → RunsPartly policy scope stored all failures failures2 before after
+  partly_more all files file count failures failures1 failures2 before now after state first so_far one = record {
     count = count + 1;
     courses = so_far.courses ++ one.tells.course ∷ [];
     possible =
-        let P : List (List ℕ) → Type 0 = λ some. ArePossible stored some (so_far.courses ++ one.tells.course ∷ []) in
+        let P : List (List ℕ) → Type 0 = λ some.
+        ArePossible scope stored some (so_far.courses ++ one.tells.course ∷ []) in
         subst P (sym first)
         (possible_more files so_far.courses file one.tells.course so_far.possible one.tells.possible);
     part = audit_text policy scope stored files so_far.courses ++ one.part;
@@ -150,6 +152,10 @@ module _ (policy : Policy) (scope : Scope) (stored : List ℕ → Stored) where
     written =
         appended-more before now after (audit_text policy scope stored files so_far.courses) one.part
         so_far.written one.written;
+    failed =
+        one.failures_is ∙ ap (λ b. counted b failures1) one.tells.failed_is
+        ∙ ap (counted (is_failed one.tells.course)) so_far.failed
+        ∙ sym (failures_more failures so_far.courses one.tells.course);
   }
 
 -- ---- what is known stays known
@@ -168,9 +174,10 @@ moved_file policy scope now stored file failures failures' before after state sa
     subst P same one
 
 pub moved_part : (policy : Policy) (scope : Scope) (now stored : List ℕ → Stored) (file : List ℕ)
-    (before after : Option (List ℕ)) → now ≡ stored
-    → AuditsFilePartly policy scope file (now file) before after
-    → AuditsFilePartly policy scope file (stored file) before after
-moved_part policy scope now stored file before after same part =
-    let P : (List ℕ → Stored) → Type 0 = λ has. AuditsFilePartly policy scope file (has file) before after in
+    (failures failures' : ℕ) (before after : Option (List ℕ)) → now ≡ stored
+    → AuditsFilePartly policy scope file (now file) failures failures' before after
+    → AuditsFilePartly policy scope file (stored file) failures failures' before after
+moved_part policy scope now stored file failures failures' before after same part =
+    let P : (List ℕ → Stored) → Type 0 = λ has. AuditsFilePartly policy scope file (has file) failures failures' before
+    after in
     subst P same part

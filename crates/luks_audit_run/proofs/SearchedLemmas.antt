@@ -1,16 +1,12 @@
 -- The lines of a search, place by place.
-use Rattle.std.proofs.Common.{◌≡◌, ◌∙◌, ℕ, ◌≤◌, ◌<◌, List, [], ◌∷◌, ◌++◌, Option, Some, None, Result, Ok, Err, refl, sym, ap, append_assoc}
-use Rattle.std.proofs.Common.{subst, arith, Bool, true, false, length, take, drop}
-use Rattle.std.proofs.lemmas.List.{append-nil, take-append-drop}
+use Rattle.std.proofs.Common.{◌≡◌, ◌∙◌, ℕ, List, [], ◌∷◌, ◌++◌, Option, Some, None, Ok, refl, sym, ap}
+use Rattle.std.proofs.Common.{false}
+use Rattle.std.proofs.lemmas.List.{append-nil}
 use Rattle.std.proofs.lemmas.Grind.{flat_map-append}
 use Rattle.std.specs.Prelude.{flat_map}
-use Rattle.luks_area.specs.declared.fault.HeaderFault.{HeaderFault}
 use Rattle.luks_area.specs.declared.fault.HeaderFault.TheVariants.{NotLuks}
-use Rattle.luks_io.specs.Devices.{Appended}
-use Rattle.luks_io.proofs.EffectLemmas.{appended-more, appended-none}
-use Rattle.luks_header.specs.declared.header.Header.{Header}
 use Rattle.luks_search.specs.Places.{header_at, places_below, places_of}
-use Rattle.luks_search.specs.Search.{IsIn, SearchModel, max_image_len}
+use Rattle.luks_search.specs.Search.{IsIn, SearchModel}
 use Rattle.luks_search.specs.declared.place.Place.{Place}
 use Rattle.luks_audit.specs.Image.{fault_line, header_line, header_state}
 use Rattle.luks_audit.specs.declared.image.Policy.{Policy}

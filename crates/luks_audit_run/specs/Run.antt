@@ -1,12 +1,15 @@
 -- What a run writes, and how it ends.
-use Rattle.std.specs.Prelude.{◌≡◌, ◌<◌, ℕ, ◌++◌, Bool, true, false, List, [], ◌∷◌, Option, Some, None, Result, Ok, Err, codes}
+use Rattle.std.specs.Prelude.{◌≡◌, ◌<◌, ℕ, ◌++◌, Bool, true, false, List, [], ◌∷◌, Option, Result, Err, codes}
 use Rattle.std.specs.Prelude.{length, take}
+use Rattle.luks_area.specs.Area.{is_read_fault}
+use Rattle.luks_area.specs.declared.fault.HeaderFault.{HeaderFault}
 use Rattle.luks_area.specs.declared.fault.HeaderFault.TheVariants.{Read, Memory}
 use Rattle.luks_header.specs.Header.{header_of}
+use Rattle.luks_header.specs.declared.header.Header.{Header}
 use Rattle.luks_io.specs.Devices.{Appended, IfKnown, counted}
 use Rattle.luks_search.specs.Places.{places_below}
-use Rattle.luks_search.specs.Search.{max_image_len}
-use Rattle.luks_audit.specs.Image.{fault_line, line_by, state_by}
+use Rattle.luks_search.specs.Search.{IsNear, max_image_len}
+use Rattle.luks_audit.specs.Image.{IsSomeHeader, fault_line, line_by, state_by}
 use Rattle.luks_audit.specs.Line.{error_value, head_of, line_text}
 use Rattle.luks_audit.specs.declared.image.Policy.{Policy}
 use Rattle.luks_audit.specs.declared.image.State.{State}
@@ -18,20 +21,21 @@ use Rattle.luks_audit_run.specs.Searched.{graver, place_lines, searched_lines, s
 use Rattle.luks_audit_run.specs.declared.image.Scope.{Scope}
 use Rattle.luks_audit_run.specs.declared.image.Scope.TheVariants.{Start, Everywhere}
 use Rattle.luks_audit_run.specs.declared.image.RunFault.{RunFault}
-use Rattle.luks_audit_run.specs.declared.image.RunFault.TheVariants.{OutOfMemory as Exhausted, WriteFailed as Unwritten}
+use Rattle.luks_audit_run.specs.declared.image.RunFault.TheVariants.{WriteFailed as Unwritten}
 use Rattle.luks_audit_run.specs.declared.run.Ending.{Ending}
 use Rattle.luks_audit_run.specs.declared.run.Ending.TheVariants.{Done, OutOfMemory, WriteFailed}
 
 -- ---- one image
 
 -- how the audit of an image went: it was read as far as it has to be; it was not opened; a read failed, or memory ran
--- out, when the search had tried this many sectors; or nobody can tell, as its bytes are not known: whether a read
--- failed, what was written, and which state that showed
+-- out, when the search had tried this many sectors. If its bytes are not known: this header, or this fault, was found
+-- at its start; or nobody can tell whether a read failed, what was written, and which state that showed
 pub data Course : Type 0 where
   whole : Course
   not_opened : Course
   not_read : ℕ → Course
   no_memory : ℕ → Course
+  found : Result Header HeaderFault → Course
   untold : Bool → List ℕ → State → Course
 
 -- what was written before the search was aborted
@@ -59,6 +63,7 @@ image_text policy scope file bytes (not_read sector) =
     lines_before policy scope file bytes sector ++ fault_line policy.format file Read
 image_text policy scope file bytes (no_memory sector) =
     lines_before policy scope file bytes sector ++ fault_line policy.format file Memory
+image_text policy scope file bytes (found header) = line_by policy file header
 image_text policy scope file bytes (untold failed text state) = text
 
 -- what its audit shows
@@ -67,23 +72,45 @@ image_state policy scope bytes whole = finished_state policy scope bytes
 image_state policy scope bytes not_opened = Unread
 image_state policy scope bytes (not_read sector) = Unread
 image_state policy scope bytes (no_memory sector) = Unread
+image_state policy scope bytes (found header) = state_by policy header
 image_state policy scope bytes (untold failed text state) = state
 
 -- a read of the image failed
 abbrev pub is_failed : Course → Bool
 is_failed (not_read sector) = true
+is_failed (found header) = is_read_fault header
 is_failed (untold failed text state) = failed
 is_failed _ = false
 
--- the audit can go in this way: an image that is there is opened, an absent one is not, and what is written of it is
--- known. A search does not reach the end of an image that is longer than any file
-abbrev pub IsPossible : Stored → Course → Type 0
-IsPossible (image bytes) not_opened = ⊥
-IsPossible (image bytes) (untold failed text state) = max_image_len < length bytes
-IsPossible (image bytes) _ = Unit {0}
-IsPossible absent not_opened = Unit {0}
-IsPossible absent _ = ⊥
-IsPossible unknown _ = Unit {0}
+-- what a search writes of an image is not known if the image is longer than any file, as it does not reach the end of
+-- that, or if nobody knows its bytes
+abbrev pub IsTooLong : Scope → List ℕ → Type 0
+IsTooLong Start bytes = ⊥
+IsTooLong Everywhere bytes = max_image_len < length bytes
+
+abbrev pub IsSearched : Scope → Type 0
+IsSearched Start = ⊥
+IsSearched Everywhere = Unit {0}
+
+-- the audit can go in this way: an image that is there is opened, and an absent one is not
+abbrev pub IsPossible : Scope → Stored → Course → Type 0
+IsPossible scope (image bytes) not_opened = ⊥
+IsPossible scope (image bytes) (found header) = ⊥
+IsPossible scope (image bytes) (untold failed text state) = IsTooLong scope bytes
+IsPossible scope (image bytes) _ = Unit {0}
+IsPossible scope absent not_opened = Unit {0}
+IsPossible scope absent _ = ⊥
+IsPossible scope unknown not_opened = Unit {0}
+IsPossible scope unknown (found header) = IsSomeHeader header
+IsPossible scope unknown (untold failed text state) = IsSearched scope
+IsPossible scope unknown _ = ⊥
+
+-- when a search was aborted, it had come near the last byte that was read of the image: a header that begins more than
+-- 32 MiB before that is listed
+abbrev pub CameNear : Scope → List ℕ → Option (List ℕ) → Course → Type 0
+CameNear Everywhere bytes left (not_read sector) = IsNear bytes sector left
+CameNear Everywhere bytes left (no_memory sector) = IsNear bytes sector left
+CameNear scope bytes left _ = Unit {0}
 
 -- the bytes under a name
 abbrev pub bytes_in : Stored → List ℕ
@@ -111,11 +138,11 @@ gravest_state policy scope stored (file ∷ files) (course ∷ courses) =
 gravest_state policy scope stored _ _ = Clean
 
 -- the audit of each image can go in this way
-unfoldable pub ArePossible : (List ℕ → Stored) → List (List ℕ) → List Course → Type 0
-ArePossible stored [] [] = Unit {0}
-ArePossible stored (file ∷ files) (course ∷ courses) =
-    IsPossible (stored file) course × ArePossible stored files courses
-ArePossible stored _ _ = ⊥
+unfoldable pub ArePossible : Scope → (List ℕ → Stored) → List (List ℕ) → List Course → Type 0
+ArePossible scope stored [] [] = Unit {0}
+ArePossible scope stored (file ∷ files) (course ∷ courses) =
+    IsPossible scope (stored file) course × ArePossible scope stored files courses
+ArePossible scope stored _ _ = ⊥
 
 -- the number of images of which a read failed, after these images
 unfoldable pub failures_after : ℕ → List Course → ℕ
@@ -128,33 +155,45 @@ failures_after failures (course ∷ courses) = failures_after (counted (is_faile
 pub record Tells (policy : Policy) (scope : Scope) (stored : Stored) (file text : List ℕ) (failed : Bool)
     (state : State) : Type 0 where
   pub course : Course
-  pub possible : IsPossible stored course
+  pub possible : IsPossible scope stored course
   pub failed_is : failed ≡ is_failed course
   pub text_is : text ≡ image_text policy scope file (bytes_in stored) course
   pub state_is : state ≡ image_state policy scope (bytes_in stored) course
 
--- what was written is a beginning of what is written of one image
-pub record TellsPart (policy : Policy) (scope : Scope) (stored : Stored) (file part : List ℕ) : Type 0 where
-  pub course : Course
-  pub possible : IsPossible stored course
-  pub rest : List ℕ
-  pub text_is : part ++ rest ≡ image_text policy scope file (bytes_in stored) course
+-- what was written is a prefix of what is written of one image in this course of its audit
+pub record TellsPart (policy : Policy) (scope : Scope) (stored : Stored) (file part : List ℕ) (failed : Bool) : Type 0
+  where
+    pub course : Course
+    pub possible : IsPossible scope stored course
+    pub failed_is : failed ≡ is_failed course
+    pub rest : List ℕ
+    pub text_is : part ++ rest ≡ image_text policy scope file (bytes_in stored) course
+
+-- the same of an open image with these bytes, and that the search came near those that were read
+pub record TellsOpen (policy : Policy) (scope : Scope) (bytes : List ℕ) (left : Option (List ℕ)) (file text : List ℕ)
+    (failed : Bool) (state : State) : Type 0 where
+  pub tells : Tells policy scope (image bytes) file text failed state
+  pub near : CameNear scope bytes left tells.course
 
 -- an open image was audited: what was written of it, and how many of its reads have failed now
-pub record Audits (policy : Policy) (scope : Scope) (file : List ℕ) (known : Option (List ℕ))
+pub record Audits (policy : Policy) (scope : Scope) (file : List ℕ) (known left : Option (List ℕ))
     (failures failures' : ℕ) (before after : Option (List ℕ)) (state : State) : Type 0 where
   pub text : List ℕ
   pub failed : Bool
   pub written : Appended before after text
   pub failures_is : failures' ≡ counted failed failures
-  pub tells : IfKnown known (λ bytes. Tells policy scope (image bytes) file text failed state)
+  pub tells : IfKnown known (λ bytes. TellsOpen policy scope bytes left file text failed state)
+  pub anyway : Tells policy scope unknown file text failed state
 
 -- its audit was aborted
 pub record AuditsPartly (policy : Policy) (scope : Scope) (file : List ℕ) (known : Option (List ℕ))
-    (before after : Option (List ℕ)) : Type 0 where
+    (failures failures' : ℕ) (before after : Option (List ℕ)) : Type 0 where
   pub part : List ℕ
+  pub failed : Bool
   pub written : Appended before after part
-  pub tells : IfKnown known (λ bytes. TellsPart policy scope (image bytes) file part)
+  pub failures_is : failures' ≡ counted failed failures
+  pub tells : IfKnown known (λ bytes. TellsPart policy scope (image bytes) file part failed)
+  pub anyway : TellsPart policy scope unknown file part failed
 
 -- an image was opened, audited and closed, or not opened
 pub record AuditsFile (policy : Policy) (scope : Scope) (file : List ℕ) (stored : Stored)
@@ -167,31 +206,34 @@ pub record AuditsFile (policy : Policy) (scope : Scope) (file : List ℕ) (store
 
 -- this was aborted
 pub record AuditsFilePartly (policy : Policy) (scope : Scope) (file : List ℕ) (stored : Stored)
-    (before after : Option (List ℕ)) : Type 0 where
+    (failures failures' : ℕ) (before after : Option (List ℕ)) : Type 0 where
   pub part : List ℕ
+  pub failed : Bool
   pub written : Appended before after part
-  pub tells : TellsPart policy scope stored file part
+  pub failures_is : failures' ≡ counted failed failures
+  pub tells : TellsPart policy scope stored file part failed
 
 -- everything was written; the state is the gravest; and a read of an image failed for each image of which that is
 -- written
 pub record Runs (policy : Policy) (scope : Scope) (stored : List ℕ → Stored) (files : List (List ℕ))
     (failures failures' : ℕ) (before after : Option (List ℕ)) (state : State) : Type 0 where
   pub courses : List Course
-  pub possible : ArePossible stored files courses
+  pub possible : ArePossible scope stored files courses
   pub written : Appended before after (audit_text policy scope stored files courses)
   pub state_is : state ≡ gravest_state policy scope stored files courses
   pub failed : failures' ≡ failures_after failures courses
 
--- a beginning of what is written of the first images was written
+-- a prefix of what is written of the first images was written; and a read failed as often as that says
 pub record RunsPartly (policy : Policy) (scope : Scope) (stored : List ℕ → Stored) (files : List (List ℕ))
-    (before after : Option (List ℕ)) : Type 0 where
+    (failures failures' : ℕ) (before after : Option (List ℕ)) : Type 0 where
   pub count : ℕ
   pub courses : List Course
-  pub possible : ArePossible stored (take count files) courses
+  pub possible : ArePossible scope stored (take count files) courses
   pub part : List ℕ
   pub rest : List ℕ
   pub text_is : part ++ rest ≡ audit_text policy scope stored (take count files) courses
   pub written : Appended before after part
+  pub failed : failures' ≡ failures_after failures courses
 
 -- a run ends in this way: everything was written, or it was aborted
 abbrev pub EndsAudit : Policy → Scope → (List ℕ → Stored) → List (List ℕ) → ℕ → ℕ → Option (List ℕ)
@@ -199,9 +241,9 @@ abbrev pub EndsAudit : Policy → Scope → (List ℕ → Stored) → List (List
 EndsAudit policy scope stored files failures failures' before after (Done state) =
     Runs policy scope stored files failures failures' before after state
 EndsAudit policy scope stored files failures failures' before after OutOfMemory =
-    RunsPartly policy scope stored files before after
+    RunsPartly policy scope stored files failures failures' before after
 EndsAudit policy scope stored files failures failures' before after WriteFailed =
-    RunsPartly policy scope stored files before after
+    RunsPartly policy scope stored files failures failures' before after
 
 -- a failed write is reported
 abbrev pub is_unwritten : {T : Type 0} → Result T RunFault → Bool

@@ -39,7 +39,8 @@ place_state policy (Err fault) = Clean
 
 -- the lines of the headers at places of an image, in their order
 unfoldable pub place_lines : Policy → List ℕ → List ℕ → List ℕ → List ℕ
-place_lines policy file image places = flat_map (λ offset. place_line policy file offset (header_at image offset)) places
+place_lines policy file image places =
+    flat_map (λ offset. place_line policy file offset (header_at image offset)) places
 
 -- the gravest state of these headers
 unfoldable pub gravest_place : Policy → List ℕ → List ℕ → State
@@ -47,7 +48,7 @@ gravest_place policy image [] = Clean
 gravest_place policy image (offset ∷ places) =
     graver (place_state policy (header_at image offset)) (gravest_place policy image places)
 
--- what is written of an image after all its places: nothing, but if there is none, that there is none
+-- what is written of an image with these places: the lines of their headers, or that there is none
 abbrev pub lines_or_none : Policy → List ℕ → List ℕ → List ℕ → List ℕ
 lines_or_none policy file image [] = fault_line policy.format file NotLuks
 lines_or_none policy file image (offset ∷ places) = place_lines policy file image (offset ∷ places)

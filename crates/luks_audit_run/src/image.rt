@@ -136,10 +136,12 @@ pub(crate) fn audit_start<S: Source, O: Sink>(
     source: &mut S,
     out: &mut O,
 ) -> Result<State, RunFault>
-    ensures ok { IfOk result (λ state. Audits policy Scope.Start file.now (S.to_come source.old)
+    ensures ok { IfOk result (λ state. Audits policy Scope.Start file.now
+        (S.to_come source.old) (S.to_come source.new)
         (S.counts source.old).failures (S.counts source.new).failures
         (O.written out.old) (O.written out.new) state) }
     ensures err { OnErr result (AuditsPartly policy Scope.Start file.now (S.to_come source.old)
+        (S.counts source.old).failures (S.counts source.new).failures
         (O.written out.old) (O.written out.new)) }
     ensures writes { (O.counts out.new).failures
         ≡ counted (is_unwritten result) (O.counts out.old).failures }
@@ -183,10 +185,12 @@ pub(crate) fn search_image<S: Source, O: Sink>(
     out: &mut O,
 ) -> Result<State, RunFault>
     ensures ok { IfOk result (λ state. Audits policy Scope.Everywhere file.now
-        (S.to_come source.old) (S.counts source.old).failures (S.counts source.new).failures
+        (S.to_come source.old) (S.to_come source.new)
+        (S.counts source.old).failures (S.counts source.new).failures
         (O.written out.old) (O.written out.new) state) }
     ensures err { OnErr result (AuditsPartly policy Scope.Everywhere file.now
-        (S.to_come source.old) (O.written out.old) (O.written out.new)) }
+        (S.to_come source.old) (S.counts source.old).failures (S.counts source.new).failures
+        (O.written out.old) (O.written out.new)) }
     ensures writes { (O.counts out.new).failures
         ≡ counted (is_unwritten result) (O.counts out.old).failures }
 {

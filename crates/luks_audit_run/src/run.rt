@@ -3,8 +3,9 @@
 ghost use Rattle.std.specs.Prelude.{◌≡◌, ℕ, IfOk, OnErr, OnOk, map, take};
 ghost use Rattle.luks_io.specs.Devices.{Appended, counted};
 ghost use Rattle.luks_audit.specs.Line.{error_value, head_of, line_text};
-ghost use Rattle.luks_audit_run.specs.Run.{Audits, AuditsFile, AuditsFilePartly, AuditsPartly, EndsAudit, Runs};
-ghost use Rattle.luks_audit_run.specs.Run.{RunsPartly, ending_status, ends_unwritten};
+ghost use Rattle.luks_audit_run.specs.Run.{Audits, AuditsFile, AuditsFilePartly, AuditsPartly};
+ghost use Rattle.luks_audit_run.specs.Run.{EndsAudit, Runs, RunsPartly, ending_status};
+ghost use Rattle.luks_audit_run.specs.Run.{ends_unwritten};
 ghost use Rattle.luks_audit_run.specs.Run.{is_unwritten, unopened_line};
 
 use crate::host::{Images, NotOpened};
@@ -77,10 +78,12 @@ fn audit_open<S: Source, O: Sink>(
     source: &mut S,
     out: &mut O,
 ) -> Result<State, RunFault>
-    ensures ok { IfOk result (λ state. Audits policy scope file.now (S.to_come source.old)
+    ensures ok { IfOk result (λ state. Audits policy scope file.now
+        (S.to_come source.old) (S.to_come source.new)
         (S.counts source.old).failures (S.counts source.new).failures
         (O.written out.old) (O.written out.new) state) }
     ensures err { OnErr result (AuditsPartly policy scope file.now (S.to_come source.old)
+        (S.counts source.old).failures (S.counts source.new).failures
         (O.written out.old) (O.written out.new)) }
     ensures writes { (O.counts out.new).failures
         ≡ counted (is_unwritten result) (O.counts out.old).failures }
@@ -105,7 +108,8 @@ fn audit_file<H: Images, O: Sink>(
         (H.stored host.old file.now) (H.failures host.old) (H.failures host.new)
         (O.written out.old) (O.written out.new) state) }
     ensures err { OnErr result (AuditsFilePartly policy scope file.now
-        (H.stored host.old file.now) (O.written out.old) (O.written out.new)) }
+        (H.stored host.old file.now) (H.failures host.old) (H.failures host.new)
+        (O.written out.old) (O.written out.new)) }
     ensures writes { (O.counts out.new).failures
         ≡ counted (is_unwritten result) (O.counts out.old).failures }
 {
@@ -144,7 +148,8 @@ fn write_all<H: Images, O: Sink>(
         (map (λ file. file.now) files.now) (H.failures host.old) (H.failures host.new)
         (O.written out.old) (O.written out.new) state) }
     ensures err { OnErr result (RunsPartly policy scope (H.stored host.old)
-        (map (λ file. file.now) files.now) (O.written out.old) (O.written out.new)) }
+        (map (λ file. file.now) files.now) (H.failures host.old) (H.failures host.new)
+        (O.written out.old) (O.written out.new)) }
     ensures writes { (O.counts out.new).failures
         ≡ counted (is_unwritten result) (O.counts out.old).failures }
 {
@@ -164,8 +169,9 @@ fn write_all<H: Images, O: Sink>(
 /// of each audit. A course is determined by what the host has, but for faults: an image that is
 /// there is opened, and an absent one is not. "Read failed" is written for as many images as have
 /// had a failed read. If a write fails, or memory runs out for a line, a prefix of that text is
-/// written; the run ends with `WriteFailed` exactly if a write failed. Nothing is said of the text
-/// for an image whose bytes the host does not know.
+/// written; the run ends with `WriteFailed` exactly if a write failed. If the host does not know the
+/// bytes of an image, its text without a search is that of some header or fault; nothing is said of
+/// the text of a search then, or for an image of more than 2^63 bytes.
 pub fn run<H: Images, O: Sink>(
     alloc: Global,
     policy: Policy,

@@ -1,28 +1,26 @@
 -- The first 8 MiB of an image decide which header it has.
-use Rattle.std.proofs.Common.{◌≡◌, ◌∙◌, ℕ, ◌+◌, ◌*◌, ◌<◌, ◌≤◌, ◌++◌, List, [], ◌∷◌, Bool, true, false, Option, Some, None, ap, sym}
-use Rattle.std.proofs.Common.{refl, length, take, max, min, arith, Result, Ok, Err, length-append}
-use Rattle.std.specs.Prelude.{if◌then◌else◌, nat_le, nat_lt, ok_or}
+use Rattle.std.proofs.Common.{◌≡◌, ◌∙◌, ℕ, ◌≤◌, ◌++◌, List, [], ◌∷◌, Bool, true, false, ap, sym}
+use Rattle.std.proofs.Common.{refl, length, take, min, arith, Result, Ok, Err, length-append}
+use Rattle.std.specs.Prelude.{nat_le, nat_lt, ok_or}
 use Rattle.std.specs.List.{list_all}
 use Rattle.std.proofs.lemmas.Bool.{and_parts, leb-true, le-ltb}
 use Rattle.std.proofs.Math.Seq.{take-length}
-use Rattle.std.proofs.lemmas.List.{take-append-le, take-take, append-nil}
+use Rattle.std.proofs.lemmas.List.{take-append-le}
 use Rattle.luks_area.specs.Fields.{at}
 use Rattle.luks_area.specs.declared.fault.HeaderFault.{HeaderFault}
-use Rattle.luks_area.specs.declared.fault.HeaderFault.TheVariants.{Cut, NotLuks}
-use Rattle.luks1_header.specs.Header1.{header1_len, header1_of, is_luks1}
-use Rattle.luks2_binary.specs.Choice2.{binary_at, chosen2_of, fits, header2_of, is_valid, size_at}
+use Rattle.luks_area.specs.declared.fault.HeaderFault.TheVariants.{NotLuks}
+use Rattle.luks1_header.specs.Header1.{is_luks1}
+use Rattle.luks2_binary.specs.Choice2.{binary_at, chosen2_of, fits, header2_of, is_valid}
 use Rattle.luks2_binary.specs.Header2.{sizes}
 use Rattle.luks2_binary.specs.ReadLen2.{header2_read_len, probe2_len, probe_end, search_len}
 use Rattle.luks2_binary.specs.Reading2.{IsPrefixOf}
 use Rattle.luks2_binary.specs.Text2.{json_text_of}
 use Rattle.luks2_binary.specs.declared.header.Header2.{Header2}
 use Rattle.luks2_binary.proofs.ChoiceLemmas.{json_prefix, probe_other, probe_primary, stable_by}
-use Rattle.luks2_binary.proofs.ValidLemmas.{ahead, at-prefix, fits_parts, furthest, probe_fit, probe_unfit, search_len_is}
+use Rattle.luks2_binary.proofs.ValidLemmas.{fits_parts, furthest, probe_fit, probe_unfit, search_len_is}
 use Rattle.luks2_binary.proofs.ValidLemmas.{size_range, valid_range}
 use Rattle.luks2_json.specs.Tree.{tree_of}
 use Rattle.luks_header.specs.Header.{header_of, with_metadata, with_text}
-use Rattle.luks_header.specs.declared.header.Header.{Header}
-use Rattle.luks_header.specs.declared.header.Header.TheVariants.{V1}
 use Rattle.luks_header.proofs.KnownLemmas.{begins_longer, header_other}
 
 -- ---- no more than 8 MiB are read

@@ -1,20 +1,18 @@
 -- Without magic bytes there is no header.
-use Rattle.std.proofs.Common.{◌≡◌, ◌∙◌, ℕ, ◌+◌, ◌*◌, ◌<◌, ◌≤◌, ◌++◌, List, [], ◌∷◌, Bool, true, false, Option, Some, None, ap, sym}
-use Rattle.std.proofs.Common.{refl, length, take, drop, arith, Result, Ok, Err, ◌||◌, ◌&&◌, ◌==◌}
-use Rattle.std.specs.Prelude.{bytes_eq, map, nat_lt, if◌then◌else◌, ok_or, option_and_then}
+use Rattle.std.proofs.Common.{◌≡◌, ◌∙◌, ℕ, ◌+◌, ◌*◌, ◌<◌, ◌≤◌, List, [], ◌∷◌, Bool, true, false, None, ap, sym}
+use Rattle.std.proofs.Common.{refl, length, take, drop, arith, Err, ◌||◌, ◌==◌}
+use Rattle.std.specs.Prelude.{map, nat_lt, if◌then◌else◌, ok_or, option_and_then}
 use Rattle.std.specs.List.{find, list_any}
 use Rattle.std.proofs.lemmas.Bool.{and_parts, ltb-false, ltb-true}
 use Rattle.std.proofs.lemmas.List.{drop-drop, drop_all, take-take}
 use Rattle.std.proofs.lemmas.Slice.Eq.{bytes_eq-Decides}
-use Rattle.luks_area.specs.Fields.{at}
 use Rattle.luks_area.specs.declared.fault.HeaderFault.TheVariants.{NotLuks}
 use Rattle.luks1_header.specs.Header1.{is_luks1}
-use Rattle.luks2_binary.specs.Choice2.{beginning_at, binary_at, chosen2_of, first_valid, fits, found_at, header2_of, is_binary_of, is_valid}
+use Rattle.luks2_binary.specs.Choice2.{beginning_at, chosen2_of, first_valid, fits, found_at, header2_of, is_binary_of, is_valid}
 use Rattle.luks2_binary.specs.Header2.{sizes}
 use Rattle.luks2_binary.proofs.ChoiceLemmas.{chosen_other}
 use Rattle.luks2_binary.proofs.ValidLemmas.{fits_parts, unfit-is_valid}
 use Rattle.luks_header.specs.Header.{header_of}
-use Rattle.luks_header.specs.declared.header.Header.{Header}
 use Rattle.luks_header.proofs.KnownLemmas.{header_other}
 use Rattle.luks_search.specs.Magic.{begins_magic, may_have_header}
 use Rattle.luks_search.specs.Places.{found_in}

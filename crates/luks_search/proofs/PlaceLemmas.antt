@@ -1,18 +1,18 @@
 -- Places of headers, sector by sector.
-use Rattle.std.proofs.Common.{◌≡◌, ◌∙◌, ℕ, zero, suc, ◌+◌, ◌-◌, ◌*◌, ◌/◌, ◌<◌, ◌≤◌, ◌++◌, List, [], ◌∷◌, Bool, true, false, ap, sym}
-use Rattle.std.proofs.Common.{Option, Some, None, refl, length, take, drop, arith, Result, Ok, Err, add-one, length-append, length-drop}
+use Rattle.std.proofs.Common.{◌≡◌, ◌∙◌, ℕ, zero, suc, ◌+◌, ◌-◌, ◌*◌, ◌<◌, ◌≤◌, ◌++◌, List, [], ◌∷◌, Bool, true, false, ap, sym}
+use Rattle.std.proofs.Common.{Option, Some, None, refl, length, take, drop, arith, Result, Ok, Err, add-one, length-drop}
 use Rattle.std.proofs.Common.{◌⊎◌, inl, inr, min, append_assoc}
 use Rattle.std.proofs.lemmas.List.{append-nil, drop-append-le, drop-drop, drop_all, take-append-drop}
 use Rattle.std.proofs.lemmas.Bool.{ltb-true}
 use Rattle.std.proofs.Math.Seq.{take-add}
-use Rattle.std.specs.Prelude.{nat_lt}
+use Rattle.std.specs.Prelude.{OnErr, nat_lt}
 use Rattle.luks_io.specs.Devices.{ConsumedInto}
 use Rattle.luks_area.specs.declared.fault.HeaderFault.{HeaderFault}
 use Rattle.luks_header.specs.Header.{header_of}
 use Rattle.luks_header.specs.declared.header.Header.{Header}
-use Rattle.luks_search.specs.Magic.{begins_magic, may_have_header}
+use Rattle.luks_search.specs.Magic.{begins_magic}
 use Rattle.luks_search.specs.Places.{found_in, header_at, place_if, places_below, places_of, sectors_in}
-use Rattle.luks_search.specs.Search.{IsIn, SearchModel, max_image_len}
+use Rattle.luks_search.specs.Search.{IsIn, IsNear, SearchModel, max_image_len}
 use Rattle.luks_search.proofs.HorizonLemmas.{header_by_start}
 use Rattle.luks_search.proofs.MagicLemmas.{nothing_none, quiet_at, quiet_none}
 
@@ -228,3 +228,38 @@ loaded_in image bytes buffer known left sector kept count here front consumed al
 pub behind_all : (image : List ℕ) (n : ℕ) → length image ≤ max_image_len → 18014398509481984 ≤ n
     → places_of image ≡ places_below image n
 behind_all image n short far = places_end image n (omega (arith, short, far))
+
+-- what is behind the loaded bytes
+behind_bytes : (image bytes rest : List ℕ) (start : ℕ) → drop start image ≡ bytes ++ rest
+    → drop (start + length bytes) image ≡ rest
+behind_bytes image bytes rest start here =
+    sym (drop-drop (length bytes) start image)
+    ∙ ap (drop (length bytes)) here
+    ∙ drop-append-le (length bytes) bytes rest (omega arith)
+    ∙ ap (λ none. none ++ rest) (drop_all (length bytes) bytes (omega arith))
+
+-- at most 32 MiB are loaded, and the source has the bytes after them
+pub in_near : (image : List ℕ) (search : SearchModel) (left : Option (List ℕ)) → IsIn image search left
+    → length search.bytes ≤ 33554432 → IsNear image search.sector left
+in_near image search left is few = record {
+  read = 512 * search.sector + length search.bytes;
+  left_is = is.left_is ∙ ap Some (sym (behind_bytes image search.bytes is.rest (512 * search.sector) is.here));
+  near = omega (arith, few);
+}
+
+-- a read failed after some further bytes
+pub failed_near : (image bytes buffer known : List ℕ) (left : Option (List ℕ)) (sector got : ℕ)
+    → drop (512 * sector) image ≡ bytes ++ known → length bytes + got ≤ 33554432
+    → ConsumedInto known left buffer got → IsNear image sector left
+failed_near image bytes buffer known left sector got here few consumed = record {
+  read = 512 * sector + length bytes + got;
+  left_is = consumed.0.left
+      ∙ ap (λ rest. Some (drop got rest)) (sym (behind_bytes image bytes known (512 * sector) here))
+      ∙ ap Some (drop-drop got (512 * sector + length bytes) image);
+  near = omega (arith, few);
+}
+
+-- what holds anyway holds if there is a fault
+pub on_fault : {T E : Type 0} (P : Type 0) (result : Result T E) → P → OnErr result P
+on_fault P (Ok _) holds = tt
+on_fault P (Err _) holds = holds

@@ -1,9 +1,9 @@
 -- A search for headers in an image that is read once, from its start to its end.
-use Rattle.std.specs.Prelude.{◌≡◌, ◌≤◌, ◌<◌, ◌^◌, ◌*◌, ◌++◌, ℕ, Bool, true, false, List, [], ◌∷◌, Option, Some, None, Result}
-use Rattle.std.specs.Prelude.{Ok, Err, drop, length}
+use Rattle.std.specs.Prelude.{◌≡◌, ◌≤◌, ◌+◌, ◌^◌, ◌*◌, ◌++◌, ℕ, Bool, true, false, List, [], ◌∷◌, Option, Some, None, Result}
+use Rattle.std.specs.Prelude.{Ok, Err, drop}
 use Rattle.luks_search.specs.Places.{header_at, places_below, places_of}
 use Rattle.luks_search.specs.declared.place.SearchFault.{SearchFault}
-use Rattle.luks_search.specs.declared.place.SearchFault.TheVariants.{Read, Memory}
+use Rattle.luks_search.specs.declared.place.SearchFault.TheVariants.{Read}
 use Rattle.luks_search.specs.declared.place.Place.{Place}
 use Rattle.luks_search.specs.declared.place.Step.{Step}
 use Rattle.luks_search.specs.declared.place.Step.TheVariants.{End, Skipped, Found}
@@ -18,7 +18,7 @@ pub record SearchModel : Type 0 where
 abbrev pub horizon : ℕ
 horizon = 8388608
 
--- images of this length and more are not searched to their end: no file is so long
+-- longer images are not searched to their end: no file is so long
 abbrev pub max_image_len : ℕ
 max_image_len = 2 ^ 63
 
@@ -28,6 +28,13 @@ pub record IsIn (image : List ℕ) (search : SearchModel) (left : Option (List �
   pub left_is : left ≡ Some rest
   pub here : drop (512 * search.sector) image ≡ search.bytes ++ rest
   pub ends : search.ended ≡ true → rest ≡ []
+
+-- when this sector of the image is the next to try, at most 32 MiB from there on were read: the bytes after them remain
+-- in the source
+pub record IsNear (image : List ℕ) (sector : ℕ) (left : Option (List ℕ)) : Type 0 where
+  pub read : ℕ
+  pub left_is : left ≡ Some (drop read image)
+  pub near : read ≤ 512 * sector + 33554432
 
 -- there is this header at a place, the only one from one sector up to another
 abbrev pub FindsPlace : List ℕ → ℕ → ℕ → Place → Type 0

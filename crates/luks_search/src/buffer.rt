@@ -1,6 +1,7 @@
 //! The buffer of a search.
 
-ghost use Rattle.std.specs.Prelude.{◌≡◌, ◌-◌, ◌+◌, ◌≤◌, MatchResult, length, drop, take, is_err, min, IfOk};
+ghost use Rattle.std.specs.Prelude.{◌≡◌, ◌-◌, ◌≤◌, IfOk, MatchResult, drop, is_err, length, min};
+ghost use Rattle.std.specs.Prelude.{take};
 ghost use Rattle.luks_io.specs.Counts.{got_in, Reads};
 ghost use Rattle.luks_io.specs.Devices.{ConsumedInto, IfKnown, is_short_read};
 

@@ -3,7 +3,7 @@
 ghost use Rattle.std.specs.Prelude.{◌≡◌, ◌⊎◌, ◌+◌, ◌*◌, ◌<◌, ◌≤◌, ◌^◌, ℕ, List, Option, [], Err};
 ghost use Rattle.std.specs.Prelude.{IfOk, IfSome, OnErr, OnOk, drop, false, length, true};
 ghost use Rattle.luks_io.specs.Devices.{counted};
-ghost use Rattle.luks_search.specs.Search.{FindsNext, FindsNone, IsEnd, IsIn, StepsOn};
+ghost use Rattle.luks_search.specs.Search.{FindsNext, FindsNone, IsEnd, IsIn, IsNear, StepsOn};
 ghost use Rattle.luks_search.specs.Search.{reports_failed_read, max_image_len};
 
 use crate::buffer::{fill_after, move_to_front};
@@ -19,7 +19,7 @@ const CAPACITY: usize = 33_554_432;
 /// The bytes of both headers of the largest length.
 const HORIZON: usize = 8_388_608;
 
-/// As many sectors as images have that are not searched to their end: those of 2^63 bytes.
+/// The sectors of the longest images that are searched to their end: those of 2^63 bytes.
 const MAX_SECTORS: u64 = 18_014_398_509_481_984;
 
 /// A search for headers in an image that is read once, from its start to its end. A clause sees the
@@ -57,7 +57,8 @@ impl Search {
     ///
     /// `AllocError` if memory runs out.
     pub fn new(alloc: Global) -> Result<Search, AllocError>
-        ensures { IfOk result (λ search. search ≡ record { sector = 0; bytes = []; ended = false }) }
+        ensures { IfOk result (λ search.
+            search ≡ record { sector = 0; bytes = []; ended = false }) }
     {
         Ok(Search {
             buffer: vec![in alloc; 0; CAPACITY]?,
@@ -97,6 +98,8 @@ impl Search {
             ((self.new.ended ≡ true) ⊎ (33554432 ≤ length self.new.bytes)) }
         ensures held { (image : List ℕ) → IsIn image self.old (S.to_come source.old)
             → OnOk result (IsIn image self.new (S.to_come source.new)) }
+        ensures behind { (image : List ℕ) → IsIn image self.old (S.to_come source.old)
+            → OnErr result (IsNear image self.new.sector (S.to_come source.new)) }
         ensures failures { (S.counts source.new).failures
             ≡ counted (reports_failed_read result) (S.counts source.old).failures }
         ensures only { result ≡ Err SearchFault.Memory → ⊥ }
@@ -143,6 +146,8 @@ impl Search {
             → OnOk result (IsIn image self.new (S.to_come source.new)
             × FindsNone image self.old.sector self.new.sector) }
         ensures stopped { OnErr result (self.new.sector ≡ self.old.sector) }
+        ensures behind { (image : List ℕ) → IsIn image self.old (S.to_come source.old)
+            → OnErr result (IsNear image self.new.sector (S.to_come source.new)) }
         ensures failures { (S.counts source.new).failures
             ≡ counted (reports_failed_read result) (S.counts source.old).failures }
     {
@@ -155,8 +160,8 @@ impl Search {
         Ok(count)
     }
 
-    // Loads further bytes if the next sector cannot be tried with those that are loaded. Returns how
-    // many sectors were left behind then.
+    // Loads further bytes if the next sector cannot be tried with those that are loaded. Returns
+    // how many sectors were left behind then.
     fn load_if_needed<S: Source>(&mut self, source: &mut S) -> Result<usize, SearchFault>
         requires { self.old.sector < 18014398509481984 }
         ensures sector { IfOk result (λ count. self.new.sector ≡ self.old.sector + count) }
@@ -167,6 +172,8 @@ impl Search {
             → OnOk result (IsIn image self.new (S.to_come source.new)
             × FindsNone image self.old.sector self.new.sector) }
         ensures stopped { OnErr result (self.new.sector ≡ self.old.sector) }
+        ensures behind { (image : List ℕ) → IsIn image self.old (S.to_come source.old)
+            → OnErr result (IsNear image self.new.sector (S.to_come source.new)) }
         ensures failures { (S.counts source.new).failures
             ≡ counted (reports_failed_read result) (S.counts source.old).failures }
     {
@@ -185,6 +192,8 @@ impl Search {
         ensures found { (image : List ℕ) (left : Option (List ℕ)) → IsIn image self.old left
             → OnOk result (IsIn image self.new left)
             × StepsOn image self.old.sector self.new.sector result }
+        ensures behind { (image : List ℕ) (left : Option (List ℕ)) → IsIn image self.old left
+            → OnErr result (IsNear image self.new.sector left) }
         ensures only { reports_failed_read result ≡ false }
     {
         let found = header_here(alloc, self.bytes())?;
@@ -206,6 +215,8 @@ impl Search {
         ensures found { (image : List ℕ) (left : Option (List ℕ)) → IsIn image self.old left
             → OnOk result (IsIn image self.new left)
             × StepsOn image self.old.sector self.new.sector result }
+        ensures behind { (image : List ℕ) (left : Option (List ℕ)) → IsIn image self.old left
+            → OnErr result (IsNear image self.new.sector left) }
         ensures only { reports_failed_read result ≡ false }
     {
         if self.bytes().is_empty() {
@@ -223,6 +234,8 @@ impl Search {
             → OnOk result (IsIn image self.new (S.to_come source.new))
             × StepsOn image self.old.sector self.new.sector result }
         ensures stopped { OnErr result (self.new.sector ≡ self.old.sector) }
+        ensures behind { (image : List ℕ) → IsIn image self.old (S.to_come source.old)
+            → OnErr result (IsNear image self.new.sector (S.to_come source.new)) }
         ensures failures { (S.counts source.new).failures
             ≡ counted (reports_failed_read result) (S.counts source.old).failures }
     {
@@ -238,12 +251,13 @@ impl Search {
     /// where the one before ended.
     ///
     /// A call reads 24 MiB of the source at a time, and never a byte twice. It reads no further
-    /// than it has to for the last place, up to the next 32 MiB. An image of 2^63 bytes or more is
-    /// not searched to its end; no file is so long.
+    /// than it has to for the last place, up to the next 32 MiB. An image of more than 2^63 bytes
+    /// is not searched to its end; no file is so long.
     ///
     /// # Errors
     ///
-    /// A [`SearchFault`]: there is no further place up to where the search is then.
+    /// A [`SearchFault`]: there is no further place before the next sector to try, and at most
+    /// 32 MiB from there on were read.
     pub fn next<S: Source>(
         &mut self,
         alloc: Global,
@@ -253,6 +267,8 @@ impl Search {
             → IsIn image self.old (S.to_come source.old)
             → OnOk result (IsIn image self.new (S.to_come source.new))
             × FindsNext image self.old.sector self.new.sector result }
+        ensures behind { (image : List ℕ) → IsIn image self.old (S.to_come source.old)
+            → OnErr result (IsNear image self.new.sector (S.to_come source.new)) }
         ensures on { IfOk result (λ found. IfSome found (λ _. self.old.sector < self.new.sector)) }
         ensures range { self.new.sector ≤ 18014398509547520 }
         ensures failures { (S.counts source.new).failures

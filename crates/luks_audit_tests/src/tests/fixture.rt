@@ -54,7 +54,12 @@ pub fn header1(
 pub fn image2(rt: &(impl Abort + AllocGlobal), slot: &str, digest: u32) -> Vec<u8> {
     let mut json = String::new(rt.alloc());
     write!(json, "{{\"keyslots\":{{\"7\":{slot}}},\"tokens\":{{\"3\":").expect(rt, "memory");
-    write!(json, "{{\"type\":\"a\\t\\\"b\",\"keyslots\":[\"7\"]}}}},").expect(rt, "memory");
+    write!(
+        json,
+        "{{\"type\":\"a\\t\\\"b\",\"keyslots\":[\"7\"],\"n\":-7}},"
+    )
+    .expect(rt, "memory");
+    write!(json, "\"4\":{{\"type\":\"f\",\"x\":[{{\"y\":1.5}}]}}}},").expect(rt, "memory");
     write!(
         json,
         "\"segments\":{{\"0\":{{\"type\":\"crypt\",\"offset\":\"32768\","
@@ -62,7 +67,7 @@ pub fn image2(rt: &(impl Abort + AllocGlobal), slot: &str, digest: u32) -> Vec<u
     .expect(rt, "memory");
     write!(
         json,
-        "\"size\":\"dynamic\",\"iv_tweak\":\"0\",\"sector_size\":512,"
+        "\"size\":\"dynamic\",\"iv_tweak\":\"8\",\"sector_size\":512,"
     )
     .expect(rt, "memory");
     write!(
@@ -75,6 +80,7 @@ pub fn image2(rt: &(impl Abort + AllocGlobal), slot: &str, digest: u32) -> Vec<u
         "{{\"type\":\"pbkdf2\",\"hash\":\"sha256\",\"iterations\":{digest},"
     )
     .expect(rt, "memory");
+    write!(json, "\"salt\":\"Zm9v\",\"digest\":\"Zm9vYmE=\",").expect(rt, "memory");
     write!(json, "\"keyslots\":[\"7\"],\"segments\":[\"0\"]}}}}}}").expect(rt, "memory");
     image_of(rt.alloc(), 3, 3, json.as_str()).expect(rt, "memory")
 }

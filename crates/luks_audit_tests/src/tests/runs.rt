@@ -112,7 +112,7 @@ fn columns(rt: HostRuntime) -> Result<(), Fail> {
     same_in(
         &"columns",
         out.as_slice(),
-        b"file\toffset\terror\tversion\tuuid\tlabel\tsubsystem\theader\tother_header\tcipher\tkey_bytes\tsector_size\tsegment_offset\tsegment_size\trequirements\tslots\tdigests\ttokens\tfindings\tweak\nnone\t\tno LUKS header\t\t\t\t\t\t\t\t\t\t\t\t\t\t\t\t\t\nmissing\t\tcannot be opened\t\t\t\t\t\t\t\t\t\t\t\t\t\t\t\t\t\n".as_slice(),
+        b"file\toffset\terror\tversion\tuuid\tlabel\tsubsystem\theader\tother_header\tcipher\tkey_bytes\tsector_size\tsegment_offset\tsegment_size\trequirements\tslots\tdigests\ttokens\tfindings\tweak\tseqid\theader_size\tchecksum_hash\tsalt\tiv_tweak\nnone\t\tno LUKS header\t\t\t\t\t\t\t\t\t\t\t\t\t\t\t\t\t\t\t\t\t\t\nmissing\t\tcannot be opened\t\t\t\t\t\t\t\t\t\t\t\t\t\t\t\t\t\t\t\t\t\t\n".as_slice(),
     )?;
     Ok(())
 }

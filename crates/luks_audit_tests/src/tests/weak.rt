@@ -15,7 +15,7 @@ type Row1 = (
     &'static str,
 );
 
-static ROWS1: [Row1; 6] = [
+static ROWS1: [Row1; 7] = [
     ("xts-plain64", "sha512", &[(212, 210_000)], "[]"),
     (
         "xts-plain64",
@@ -42,6 +42,19 @@ static ROWS1: [Row1; 6] = [
         "[{\"name\":\"cbc\",\"place\":\"segment\"},{\"name\":\"short-key\",\"place\":\"segment\"},{\"name\":\"cbc\",\"place\":\"slot 0\"},{\"name\":\"short-key\",\"place\":\"slot 0\"}]",
     ),
     (
+        // the cipher `capi:cbc(aes)`
+        "essiv:sha256",
+        "sha256",
+        &[
+            (212, 600_000),
+            (8, 0x6361_7069),
+            (12, 0x3a63_6263),
+            (16, 0x2861_6573),
+            (20, 0x2900_0000),
+        ],
+        "[{\"name\":\"cbc\",\"place\":\"segment\"},{\"name\":\"cbc\",\"place\":\"slot 0\"}]",
+    ),
+    (
         // the slot is neither enabled nor disabled: luksrd skips it, and it is judged
         "xts-plain64",
         "sha256",
@@ -64,7 +77,7 @@ fn weak1(rt: HostRuntime) -> Result<(), Fail> {
 // What encrypts key material, with the length of its key, how keys are derived, and what is weak.
 type Row2 = (&'static str, u32, &'static str, u32, &'static str);
 
-static ROWS2: [Row2; 6] = [
+static ROWS2: [Row2; 10] = [
     (
         "aes-xts-plain64",
         64,
@@ -101,6 +114,34 @@ static ROWS2: [Row2; 6] = [
         "[{\"name\":\"iterations\",\"place\":\"slot 7\"},{\"name\":\"sha1\",\"place\":\"slot 7\"}]",
     ),
     ("aes-xts-plain64", 32, "{\"type\":\"scrypt\"}", 1000, "[]"),
+    (
+        "capi:cbc(aes)-essiv:sha256",
+        32,
+        "{\"type\":\"scrypt\"}",
+        1000,
+        "[{\"name\":\"cbc\",\"place\":\"slot 7\"}]",
+    ),
+    (
+        "capi:authenc(hmac(sha256),cbc(aes))-random",
+        32,
+        "{\"type\":\"scrypt\"}",
+        1000,
+        "[{\"name\":\"cbc\",\"place\":\"slot 7\"}]",
+    ),
+    (
+        "capi:authenc(xcbc(aes),xts(aes))-random",
+        32,
+        "{\"type\":\"scrypt\"}",
+        1000,
+        "[]",
+    ),
+    (
+        "xcapi:cbc(aes)-essiv:sha256",
+        32,
+        "{\"type\":\"scrypt\"}",
+        1000,
+        "[]",
+    ),
 ];
 
 #[test]
@@ -154,21 +195,40 @@ fn minimum(rt: HostRuntime) -> Result<(), Fail> {
 #[test]
 fn members(rt: HostRuntime) -> Result<(), Fail> {
     let slot =
-        "{\"type\":\"luks2\",\"kdf\":{\"type\":\"argon2id\",\"time\":4,\"memory\":7,\"cpus\":2}}";
+        "{\"type\":\"luks2\",\"kdf\":{\"type\":\"argon2id\",\"time\":4,\"memory\":7,\"cpus\":2,\"salt\":\"AP8=\"}}";
     let image = image2(&rt, slot, 1000);
     let slots = member(&rt, PLAIN, image.as_slice(), "slots");
     same_in(
         &"slots",
         slots.as_str(),
-        "[{\"af_hash\":null,\"area_cipher\":null,\"area_key_bytes\":null,\"area_offset\":null,\"area_size\":null,\"can_try\":false,\"hash\":null,\"iterations\":null,\"kdf\":\"argon2id\",\"key_bytes\":null,\"memory\":7,\"number\":7,\"priority\":1,\"reason\":\"member\",\"state\":\"skipped\",\"stripes\":null,\"threads\":2,\"time\":4}]",
+        "[{\"af_hash\":null,\"area_cipher\":null,\"area_key_bytes\":null,\"area_offset\":null,\"area_size\":null,\"can_try\":false,\"hash\":null,\"iterations\":null,\"kdf\":\"argon2id\",\"key_bytes\":null,\"memory\":7,\"number\":7,\"priority\":1,\"reason\":\"member\",\"salt\":\"00ff\",\"state\":\"skipped\",\"stripes\":null,\"threads\":2,\"time\":4}]",
     )?;
     let tokens = member(&rt, PLAIN, image.as_slice(), "tokens");
     same_in(
         &"tokens",
         tokens.as_str(),
-        "[{\"keyslots\":[\"7\"],\"number\":3,\"type\":\"a\\t\\\"b\"}]",
+        "[{\"keyslots\":[\"7\"],\"number\":3,\"stored\":{\"keyslots\":[\"7\"],\"n\":-7,\"type\":\"a\\t\\\"b\"},\"type\":\"a\\t\\\"b\"},{\"keyslots\":[],\"number\":4,\"stored\":null,\"type\":\"f\"}]",
+    )?;
+    let digests = member(&rt, PLAIN, image.as_slice(), "digests");
+    same_in(
+        &"digests",
+        digests.as_str(),
+        "[{\"bytes\":5,\"digest\":\"666f6f6261\",\"hash\":\"sha256\",\"iterations\":1000,\"keyslots\":[\"7\"],\"number\":0,\"salt\":\"666f6f\",\"segments\":[\"0\"],\"type\":\"pbkdf2\"}]",
     )?;
     let label = member(&rt, PLAIN, image.as_slice(), "label");
     same_in(&"label", label.as_str(), "\"a\\\\x5clabel\\\\xc3\\\\x0a~\"")?;
+    for row in &BINARY {
+        let (name, value) = *row;
+        let found = member(&rt, PLAIN, image.as_slice(), name);
+        same_in(&name, found.as_str(), value)?;
+    }
     Ok(())
 }
+
+// Members on the binary header, and the number of the first sector.
+static BINARY: [(&str, &str); 4] = [
+    ("seqid", "3"),
+    ("header_size", "16384"),
+    ("checksum_hash", "\"sha256\""),
+    ("iv_tweak", "8"),
+];

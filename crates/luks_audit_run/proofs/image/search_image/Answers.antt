@@ -1,8 +1,9 @@
-use Rattle.std.proofs.Common.{◌≡◌, ◌∙◌, List, ℕ, None, Option, Some, ap, refl, subst, sym, take}
-use Rattle.luks_audit_run.specs.Run.{Audits, AuditsPartly}
+use Rattle.std.proofs.Common.{◌∙◌, [], None, Some, ap, false, refl, subst, sym, take}
+use Rattle.luks_io.proofs.EffectLemmas.{appended-none}
+use Rattle.luks_audit_run.specs.Run.{AuditsPartly}
 use Rattle.luks_audit_run.specs.declared.image.Scope.TheVariants.{Everywhere}
 use Rattle.luks_audit_run.proofs.ImageLemmas.{Searches, searches_abort, searches_abort_part, searches_end, searches_end_part}
-use Rattle.luks_audit_run.proofs.ImageLemmas.{if_ok, searches_more, searches_none, searches_part, when_err}
+use Rattle.luks_audit_run.proofs.ImageLemmas.{if_ok, search_part_anyway, searches_more, searches_none, searches_part, part_of_none, when_err}
 use Rattle.luks_audit_run.proofs.RunLemmas.{on_err}
 use Rattle.luks_search.specs.Search.{SearchModel, reports_failed_read}
 use Rattle.luks_area.specs.declared.fault.HeaderFault.{HeaderFault}
@@ -13,11 +14,26 @@ use Rattle.luks_audit_run.specs.Searched.{graver_of}
 use Rattle.std.specs.Prelude.{Err}
 use Rattle.luks_audit_run.proofs.image.search_image.Goals as goal
 
+pub returns-in_err-search-clause-err : goal.returns-in_err-search-clause-err
+returns-in_err-search-clause-err g c =
+    let aborted : AuditsPartly c.args.policy Everywhere c.args.file.now (g.S.Source.to_come c.args.source.now)
+    (g.S.Source.counts c.args.source.now).failures (g.S.Source.counts c.args.source.now).failures
+    (g.O.Sink.written c.args.out.now) (g.O.Sink.written c.args.out.now) = record {
+      part = [];
+      failed = false;
+      written = appended-none _;
+      failures_is = refl;
+      tells = λ bytes is. part_of_none c.args.policy Everywhere c.args.file.now bytes false;
+      anyway = search_part_anyway c.args.policy c.args.file.now [] false;
+    } in
+    on_err _ _ aborted
+
 pub loop-place-init : goal.loop-place-init
 loop-place-init g c =
     let known = g.S.Source.to_come c.args.source.now in
     let before = g.O.Sink.written c.args.out.now in
-    let P : SearchModel → Type 0 = λ search. Searches c.args.policy c.args.file.now known known before before None search in
+    let P : SearchModel → Type 0 = λ search.
+    Searches c.args.policy c.args.file.now known known before before None search in
     record {
       so_far = subst P (sym c.in_ok-search.ensures) (searches_none c.args.policy c.args.file.now known before);
       failures = refl;
@@ -30,9 +46,11 @@ returns-in_err-shown-in-Ok-Some-clause-err g c =
     let next = rw c.in-Ok-Some.field-0-is at c.in-Ok-Some.ensures.found in
     let part = c.in_err-shown-in-Ok-Some.ensures.err in
     let aborted : AuditsPartly c.args.policy Everywhere c.args.file.now (g.S.Source.to_come c.args.source.now)
+    (g.S.Source.counts c.args.source.now).failures (g.S.Source.counts c.next.new.source).failures
     (g.O.Sink.written c.args.out.now) (g.O.Sink.written c.put_place.new.out) =
     searches_part c.args.policy c.args.file.now _ _ (g.S.Source.to_come c.next.new.source) _ _ _ c.loop-place.found
-    c.loop-place.search c.next.new.self so_far c.in-Ok-Some.place part.0 next part.1 in
+    c.loop-place.search c.next.new.self so_far c.in-Ok-Some.place part.0 _ _ next
+    (c.in-Ok-Some.ensures.failures ∙ c.loop-place.invariant.failures) part.1 in
     on_err _ _ aborted
 
 pub loop-place-preserved : goal.loop-place-preserved
@@ -67,7 +85,8 @@ returns-in-Ok-None-clause-err g c =
     let next = rw c.in-Ok-None.field-0-is at c.in-Ok-None.ensures.found in
     when_err _ _ c.end_search.result c.end_search.ensures.err (λ part.
     searches_end_part c.args.policy c.args.file.now _ _ (g.S.Source.to_come c.next.new.source) _ _ _ c.loop-place.found
-    c.loop-place.search c.next.new.self so_far part.0 next part.1)
+    c.loop-place.search c.next.new.self so_far part.0 _ _ next
+    (c.in-Ok-None.ensures.failures ∙ c.loop-place.invariant.failures) part.1)
 
 pub returns-in_err-put_fault-in-Err-clause-err : goal.returns-in_err-put_fault-in-Err-clause-err
 returns-in_err-put_fault-in-Err-clause-err g c =
@@ -76,9 +95,13 @@ returns-in_err-put_fault-in-Err-clause-err g c =
     let P : HeaderFault → Type 0 = λ fault. Appended (g.O.Sink.written c.loop-place.out)
     (g.O.Sink.written c.put_fault.new.out) (take part.0 (fault_line c.args.policy.format c.args.file.now fault)) in
     let aborted : AuditsPartly c.args.policy Everywhere c.args.file.now (g.S.Source.to_come c.args.source.now)
+    (g.S.Source.counts c.args.source.now).failures (g.S.Source.counts c.next.new.source).failures
     (g.O.Sink.written c.args.out.now) (g.O.Sink.written c.put_fault.new.out) =
     searches_abort_part c.args.policy c.args.file.now _ _ (g.S.Source.to_come c.next.new.source) _ _ _
-    c.loop-place.found c.loop-place.search c.next.new.self so_far c.in-Err.fault c.in-Err.ensures.found part.0
+    c.loop-place.found c.loop-place.search c.next.new.self so_far c.in-Err.fault c.in-Err.ensures.found
+    c.in-Err.ensures.behind part.0 _ _
+    (c.in-Err.ensures.failures ∙ ap (counted (reports_failed_read {T = Unit {0}} (Err c.in-Err.fault)))
+    c.loop-place.invariant.failures)
     (subst P c.search_fault.ensures part.1) in
     on_err _ _ aborted
 
@@ -88,7 +111,8 @@ returns-in-Err-clause-ok g c =
     let P : HeaderFault → Type 0 = λ fault. Appended (g.O.Sink.written c.loop-place.out)
     (g.O.Sink.written c.put_fault.new.out) (fault_line c.args.policy.format c.args.file.now fault) in
     searches_abort c.args.policy c.args.file.now _ _ (g.S.Source.to_come c.next.new.source) _ _ _
-    c.loop-place.found c.loop-place.search c.next.new.self so_far c.in-Err.fault c.in-Err.ensures.found _ _
+    c.loop-place.found c.loop-place.search c.next.new.self so_far c.in-Err.fault c.in-Err.ensures.found
+    c.in-Err.ensures.behind _ _
     (c.in-Err.ensures.failures ∙ ap (counted (reports_failed_read {T = Unit {0}} (Err c.in-Err.fault)))
     c.loop-place.invariant.failures)
     (subst P c.search_fault.ensures c.in_ok-put_fault-in-Err.ensures.ok)

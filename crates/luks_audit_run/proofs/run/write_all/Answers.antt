@@ -1,4 +1,4 @@
-use Rattle.std.proofs.Common.{◌≡◌, ◌∙◌, ◌+◌, ℕ, List, Option, ap, arith, length, map, refl, subst, sym}
+use Rattle.std.proofs.Common.{◌≡◌, ◌∙◌, ◌+◌, ℕ, List, ap, arith, length, map, refl, subst, sym}
 use Rattle.std.proofs.Common.{take}
 use Rattle.std.proofs.lemmas.List.{map_more, take-map}
 use Rattle.std.proofs.Math.Seq.{take-length}
@@ -11,8 +11,9 @@ returns-in_err-put_head-clause-err g c =
     let stored = g.H.Images.stored c.args.host.now in
     let part = c.in_err-put_head.ensures.err in
     let holds : RunsPartly c.args.policy c.args.scope stored (map (λ file. file.now) c.args.files.now)
+    (g.H.Images.failures c.args.host.now) (g.H.Images.failures c.args.host.now)
     (g.O.Sink.written c.args.out.now) (g.O.Sink.written c.put_head.new.out) =
-    partly_none c.args.policy c.args.scope stored _ _ _ part.0 part.1 in
+    partly_none c.args.policy c.args.scope stored _ _ _ _ part.0 part.1 in
     on_err _ _ holds
 
 pub loop-file-init : goal.loop-file-init
@@ -27,10 +28,11 @@ pub returns-in_err-shown-clause-err : goal.returns-in_err-shown-clause-err
 returns-in_err-shown-clause-err g c =
     let stored = g.H.Images.stored c.args.host.now in
     let kept = c.loop-file.invariant.kept in
-    let part = moved_part c.args.policy c.args.scope _ stored _ _ _ kept c.in_err-shown.ensures.err in
+    let part = moved_part c.args.policy c.args.scope _ stored _ _ _ _ _ kept c.in_err-shown.ensures.err in
     let holds : RunsPartly c.args.policy c.args.scope stored (map (λ file. file.now) c.args.files.now)
+    (g.H.Images.failures c.args.host.now) (g.H.Images.failures c.audit_file.new.host)
     (g.O.Sink.written c.args.out.now) (g.O.Sink.written c.audit_file.new.out) =
-    partly_more c.args.policy c.args.scope stored _ _ _ c.loop-file.file-index _ _ _ _ _ c.loop-file.state
+    partly_more c.args.policy c.args.scope stored _ _ _ c.loop-file.file-index _ _ _ _ _ _ c.loop-file.state
     (take-map (λ file. file.now) (c.loop-file.file-index + 1) c.args.files.now
     ∙ map_more (λ file. file.now) c.args.files.now c.loop-file.file-index _ c.loop-file-test.true)
     c.loop-file.invariant.so_far part in

@@ -1,4 +1,4 @@
-use Rattle.std.proofs.Common.{◌≡◌, arith}
+use Rattle.std.proofs.Common.{arith}
 use Rattle.luks_search.proofs.MagicLemmas.{quiet_all}
 use Rattle.luks_search.proofs.magic.is_quiet.Goals as goal
 

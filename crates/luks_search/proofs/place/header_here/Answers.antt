@@ -1,4 +1,4 @@
-use Rattle.std.proofs.Common.{◌≡◌, ◌∙◌, Some, ap, sym}
+use Rattle.std.proofs.Common.{◌∙◌, Some, ap, sym}
 use Rattle.luks_io.specs.Counts.{MemSourceModel}
 use Rattle.luks_search.proofs.MagicLemmas.{quiet_none}
 use Rattle.luks_search.specs.Places.{found_in}

@@ -1,8 +1,8 @@
-use Rattle.std.proofs.Common.{◌≡◌, ◌∙◌, ◌+◌, ◌-◌, List, ℕ, ap, arith, drop, length, min, subst, sym, take}
-use Rattle.std.proofs.lemmas.List.{drop-take, with_items_is}
+use Rattle.std.proofs.Common.{◌≡◌, ◌∙◌, ◌+◌, ◌-◌, ◌≤◌, List, ℕ, ap, arith, drop, length, length-drop, min, subst, sym, take}
+use Rattle.std.proofs.lemmas.List.{drop-take, length-take, with_items_is}
 use Rattle.std.specs.Prelude.{nat_lt}
 use Rattle.std.specs.Vec.{with_items}
-use Rattle.luks_search.proofs.PlaceLemmas.{loaded_in}
+use Rattle.luks_search.proofs.PlaceLemmas.{failed_near, loaded_in, on_fault}
 use Rattle.luks_search.specs.Search.{IsIn, SearchModel}
 use Rattle.luks_search.proofs.search.Search.load.Goals as goal
 
@@ -53,3 +53,36 @@ returns-clause-held g c image is =
     subst Q (sym (with_items_is (with_items buffer moved) filled len2))
     (loaded_in image (drop start (take end buffer.items)) filled inside.rest _ c.self.inside.sector kept count inside.here
     front (c.in_ok-count.ensures.bytes inside.rest inside.left_is) all)
+
+pub returns-in_err-count-clause-behind : goal.returns-in_err-count-clause-behind
+returns-in_err-count-clause-behind g c image is =
+    let start = c.self.inside.start in
+    let end = c.self.inside.end in
+    let kept = end - start in
+    let P : SearchModel → Type 0 = λ search. IsIn image search (g.S.Source.to_come c.args.source.now) in
+    let inside = subst P (sym c.self.view_is) is in
+    let buffer = c.self.inside.buffer in
+    let moved = c.move_to_front.new.buffer in
+    let len : length moved ≡ buffer.len = omega (
+      arith,
+      c.move_to_front.auto.buffer,
+      ap length c.deref_mut.ensures.value,
+      buffer.ok.0,
+    ) in
+    let first = with_items_is buffer moved len in
+    let got = c.in_err-count.field-0.0.got in
+    let few : length (drop start (take end buffer.items)) + got ≤ 33554432 = omega (
+      arith,
+      c.in_err-count.ensures.bound,
+      ap length c.deref_mut-2.ensures.value,
+      ap length first,
+      len,
+      length-drop start (take end buffer.items),
+      length-take end buffer.items,
+      buffer.ok.0,
+      c.self.invariant.0,
+      c.self.invariant.1,
+    ) in
+    on_fault _ _
+    (failed_near image (drop start (take end buffer.items)) _ inside.rest _ c.self.inside.sector got inside.here
+    few (c.in_err-count.ensures.bytes inside.rest inside.left_is))

@@ -1,4 +1,4 @@
-use Rattle.std.proofs.Common.{◌≡◌, ◌∙◌, ◌*◌, ap, drop, subst, sym}
+use Rattle.std.proofs.Common.{◌∙◌, ◌*◌, ap, drop, subst, sym}
 use Rattle.luks_search.proofs.PlaceLemmas.{advanced_in, skipped_none, skips}
 use Rattle.luks_search.specs.Magic.{begins_magic}
 use Rattle.luks_search.specs.Places.{places_below}

@@ -1,5 +1,5 @@
-use Rattle.std.proofs.Common.{◌≡◌, ◌∙◌, ◌*◌, ◌++◌, ◌∷◌, [], List, ℕ, ap, arith, inl, inr}
-use Rattle.luks_search.proofs.PlaceLemmas.{behind_all}
+use Rattle.std.proofs.Common.{◌∙◌, ◌++◌, ◌∷◌, [], List, ℕ, ap, arith, inl, inr}
+use Rattle.luks_search.proofs.PlaceLemmas.{behind_all, on_fault}
 use Rattle.luks_search.specs.Search.{SearchModel}
 use Rattle.luks_search.proofs.search.Search.next.Goals as goal
 
@@ -21,3 +21,7 @@ returns-clause-found g c image short is =
     let before = c.loop-self.invariant.held image is in
     let sector = ap (λ (s : SearchModel). s.sector) c.self-in-loop-self.view_is in
     (before.0, behind_all image c.loop-self.self.sector short (omega (arith, c.loop-self-test.false, sector)) ∙ before.1)
+
+pub returns-in_err-step-clause-behind : goal.returns-in_err-step-clause-behind
+returns-in_err-step-clause-behind g c image is =
+    on_fault _ _ (c.in_err-step.ensures.behind image (c.loop-self.invariant.held image is).0)

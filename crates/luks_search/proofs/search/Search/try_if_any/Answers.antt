@@ -1,4 +1,4 @@
-use Rattle.std.proofs.Common.{◌≡◌, ◌∙◌, ap, length, sym}
+use Rattle.std.proofs.Common.{◌∙◌, ap, length, sym}
 use Rattle.std.proofs.lemmas.Bool.{eqb-true}
 use Rattle.luks_search.proofs.PlaceLemmas.{none_left}
 use Rattle.luks_search.proofs.search.Search.try_if_any.Goals as goal

@@ -1,6 +1,6 @@
-use Rattle.std.proofs.Common.{◌≡◌, ◌∙◌, ◌*◌, ◌++◌, ◌∷◌, [], Ok, Some, None, ap, subst, sym}
+use Rattle.std.proofs.Common.{◌∙◌, ◌*◌, ◌++◌, ◌∷◌, [], ap, arith, length, subst, sym}
 use Rattle.luks_header.specs.Header.{header_of}
-use Rattle.luks_search.proofs.PlaceLemmas.{tried_in, tried_none, tried_some}
+use Rattle.luks_search.proofs.PlaceLemmas.{in_near, on_fault, tried_in, tried_none, tried_some}
 use Rattle.luks_search.specs.Places.{found_in, header_at, places_below}
 use Rattle.luks_search.specs.Search.{IsIn, SearchModel}
 use Rattle.luks_search.proofs.search.Search.try_sector.Goals as goal
@@ -31,3 +31,8 @@ returns-in-None-clause-found c image left is =
       ap (λ (s : SearchModel). places_below image s.sector) c.advance.ensures
           ∙ tried_none image search left is c.requires.enough found,
     )
+
+pub returns-in_err-found-clause-behind : goal.returns-in_err-found-clause-behind
+returns-in_err-found-clause-behind c image left is =
+    on_fault _ _
+    (in_near image c.args.self.now left is (omega (arith, ap length c.bytes.ensures.value, c.bytes.ensures.within)))
