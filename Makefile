@@ -28,7 +28,7 @@
 # make uninstall  removes them again, except what a Debian package has put there
 # make deb        makes Debian packages in DEBS (out if it is not given): of the program as it is built for both
 #                 processors; if the library is built, of it, of what programs are built with, and of its module for
-#                 Python; and if plugin and filter are built, of both. No package has luksrd-audit
+#                 Python; if plugin and filter are built, of both; and if it is built, of luksrd-audit
 
 # What the program is built for and installed for; the library is always built for both. (Some
 # systems have a CPU in the environment, so this is not ?=.)
@@ -195,7 +195,7 @@ PROGRAM_SCRIPTS := $(SOURCE_SCRIPTS) $(TESTS:%=test-%) $(INTEROP:%=interop-%)
 C_SCRIPTS := test-package test-fresh-root test-library test-processors test-service interop-library interop-nbd \
     interop-filter interop-python interop-lvm interop-recipes interop-guides
 TOOL_SCRIPTS := interop-sealed interop-keys
-AUDIT_SCRIPTS := interop-audit interop-audited test-audit-completions
+AUDIT_SCRIPTS := interop-audit interop-audited test-audit-completions test-audit-package
 ALL_SCRIPTS := $(PROGRAM_SCRIPTS) $(AUDIT_SCRIPTS) $(C_SCRIPTS) $(TOOL_SCRIPTS)
 # Those that are run once more with the program for x86-64-v3, and with its tools: all but those that read only the
 # sources, and those that take both programs.
@@ -271,8 +271,8 @@ interop-lvm:
 interop-audit interop-audited: interop-%:
 	interop/$*.sh $(PROGRAM) $(AUDIT)
 
-test-audit-completions:
-	tests/audit-completions.sh $(PROGRAM) $(AUDIT)
+test-audit-completions test-audit-package: test-%:
+	tests/$*.sh $(PROGRAM) $(AUDIT)
 
 interop-recipes:
 	interop/recipes.sh $(PROGRAM) $(PLUGIN) $(FILTER)
@@ -445,5 +445,5 @@ deb: $(if $(wildcard $(PLUGIN) $(FILTER)),library-built)
 	@$(call check_built,$(PROGRAM_V3),make CPU=x86-64-v3)
 	@PROGRAM_V2="$(PROGRAM_V2)" PROGRAM_V3="$(PROGRAM_V3)" \
 	    LIBRARY="$(LIBRARY)" SHARED="$(if $(wildcard $(LIBRARY)),$(SHARED))" SHARED_V3="$(SHARED_V3)" \
-	    PLUGIN="$(wildcard $(PLUGIN))" FILTER="$(FILTER)" \
+	    PLUGIN="$(wildcard $(PLUGIN))" FILTER="$(FILTER)" AUDIT="$(wildcard $(AUDIT))" \
 	    packaging/deb "$(DEBS)" "$(VERSION)"
