@@ -32,15 +32,15 @@
  *     returns.
  *
  * No function keeps state, so threads may call all of them at once, with the same volume and cipher
- * too. Only luksrd_open allocates memory, by malloc, realloc and free. It may not be called from a
- * signal handler, nor from the forked child of a process with threads.
+ * too. Only luksrd_open and luksrd_check_key allocate memory, by malloc, realloc and free. They may
+ * not be called from a signal handler, nor from the forked child of a process with threads.
  *
- * luksrd_open needs at most 256 KiB of stack, luksrd_prepare 128 KiB, and every other function 32
- * KiB.
+ * luksrd_open and luksrd_check_key need at most 256 KiB of stack, luksrd_prepare 128 KiB, and every
+ * other function 32 KiB.
  *
  * What is left of keys: the caller wipes the passphrase, the volume and the cipher (luksrd_wipe).
- * Copies of keys and of parts of them stay on the stack of the thread that called luksrd_open or
- * luksrd_prepare, until luksrd_wipe_stack or something else writes over them.
+ * Copies of keys and of parts of them stay on the stack of the thread that called luksrd_open,
+ * luksrd_check_key or luksrd_prepare, until luksrd_wipe_stack or something else writes over them.
  * After that they can be in registers that nothing has used since, which the loader may save on the
  * stack when it looks up a function. The library puts no copy elsewhere.
  */
@@ -96,8 +96,12 @@ enum luksrd_code {
   /* a call that no caller should make */
   LUKSRD_BAD_OPTIONS = 15, /* a key slot number above 31, or options of another version */
   LUKSRD_BAD_VOLUME = 16,  /* a struct without an open volume */
-  LUKSRD_BAD_RANGE = 17    /* no whole sectors, sector numbers that are too large, or a range that
+  LUKSRD_BAD_RANGE = 17,   /* no whole sectors, sector numbers that are too large, or a range that
                             * ends past the plaintext */
+
+  /* what luksrd_check_key finds */
+  LUKSRD_OTHER_KEY = 18, /* the volume key does not match the digest in the header */
+  LUKSRD_NO_DIGEST = 19  /* the header has no digest that the volume key can be compared with */
 };
 
 /* How a volume is opened. `{ .size = sizeof(struct luksrd_options) }` is an attached header, every
@@ -124,7 +128,7 @@ enum luksrd_mode {
  *
  * If the volume key is known, the caller can fill the struct by hand, without a passphrase and even
  * without a header: each field as stated here, all others 0. luksrd_prepare refuses a struct whose
- * fields do not go together. */
+ * fields do not go together. luksrd_check_key compares the key with a header, if there is one. */
 struct luksrd_volume {
   uint64_t offset;      /* the first byte of the payload in its image */
   uint64_t size;        /* the payload's length in bytes, if has_size is 1; else 0 */
@@ -186,6 +190,27 @@ struct luksrd_message {
 uint32_t luksrd_open(const uint8_t *header, size_t header_len, const uint8_t *passphrase,
                      size_t passphrase_len, const struct luksrd_options *options,
                      struct luksrd_volume *volume, struct luksrd_message *message) LUKSRD_CHECKED;
+
+/* Compares a volume key that is known with the digest in a header: for LUKS2 the usable digest with
+ * the lowest number that lists segment 0, for LUKS1 the only one.
+ *
+ * `header` and the options are those of luksrd_open, but no key slot may be named. No key area is
+ * looked at. `key` is the key alone, without zeros after it: PBKDF2 does not distinguish a key from
+ * the same key with zeros after it.
+ *
+ * Returns LUKSRD_OK if the key matches the whole digest: the message is empty. Or returns:
+ *   - LUKSRD_OTHER_KEY, with the message of luksrd_status_text, if it does not, or if the cipher in
+ *     the header has no keys of its length;
+ *   - LUKSRD_NO_DIGEST, with the message of luksrd_status_text, if there is no such digest, or it
+ *     has more iterations than the limit;
+ *   - LUKSRD_BAD_OPTIONS, exactly if has_key_slot is not 0, `size` is not sizeof(struct
+ *     luksrd_options), or a byte of `reserved` is not 0. The message is that of luksrd_status_text;
+ *   - LUKSRD_NOT_LUKS, LUKSRD_TRUNCATED, LUKSRD_JSON, LUKSRD_SEGMENT_REFUSED or
+ *     LUKSRD_OUT_OF_MEMORY, with the message of `luksrd luksCat`.
+ * The time is that of PBKDF2, as in luksrd_open. */
+uint32_t luksrd_check_key(const uint8_t *header, size_t header_len, const uint8_t *key,
+                          size_t key_len, const struct luksrd_options *options,
+                          struct luksrd_message *message) LUKSRD_CHECKED;
 
 /* The length in bytes of a volume's plaintext, if its payload's image has `image_len` bytes: its
  * whole sectors, a multiple of the sector size. 0 if `sector_size` is none of its four values, as
@@ -259,8 +284,8 @@ static __attribute__((noinline, unused)) void luksrd_wipe_below(void)
 }
 
 /* Fills the 256 KiB of stack below the caller with zeros, where functions that it called before have
- * left copies of keys. Call it from the function that called luksrd_open or luksrd_prepare,
- * in the same thread. */
+ * left copies of keys. Call it from the function that called luksrd_open, luksrd_check_key or
+ * luksrd_prepare, in the same thread. */
 static __attribute__((noinline, unused)) void luksrd_wipe_stack(void)
 {
   /* When the loader looks up a function, it saves registers: here, where they are wiped. */

@@ -116,6 +116,9 @@ with slots
 # a volume whose header is lost, by its volume key
 essiv='luks2 cbc-essiv:sha256 256 4096'
 for sealed in "$volume1" "$volume2" "$essiv"; do keeps "$sealed"; done
+{ head -c 63 "$volume2.key"; tail -c 1 "$volume2.key" | tr '\000-\377' '\001-\377\000'; } >other_key
+cp "$volume2" 'of no digest'
+edited 'of no digest' "tree['digests']['0']['segments'] = []"
 volume_keys() {
     local start1 start2
     start1=$(cat "$volume1.start")
@@ -127,6 +130,26 @@ volume_keys() {
     text "$volume2" pass
     opens 'a volume key of sectors of 4096' "$volume2.lost" volume-key-file="$volume2.key" payload-offset="$start2" \
         sector-size=4096
+    # with a header the key is compared
+    opens 'a volume key and its header' "$volume2" volume-key-file="$volume2.key" payload-offset="$start2" \
+        sector-size=4096
+    same "a volume key and its header, $way: what is said" "$(cat said)" ''
+    refused 'another volume key' "$(named "$volume2")luksrd: volume key does not match the digest in the header" \
+        "$volume2" volume-key-file=other_key payload-offset="$start2" sector-size=4096
+    refused 'the volume key of another volume' \
+        "$(named "$volume2")luksrd: volume key does not match the digest in the header" "$volume2" \
+        volume-key-file="$volume1.key" payload-offset="$start2" sector-size=4096
+    refused 'a volume key and the detached header of another volume' \
+        'header2: luksrd: volume key does not match the digest in the header' "$volume2.lost" \
+        volume-key-file="$volume2.key" payload-offset="$start2" sector-size=4096 header=header2
+    opens 'a volume key and its detached header' "$volume2.lost" volume-key-file="$volume2.key" \
+        payload-offset="$start2" sector-size=4096 header="$volume2"
+    opens 'a volume key that no digest is for' 'of no digest' volume-key-file="$volume2.key" \
+        payload-offset="$start2" sector-size=4096
+    says 'a volume key that no digest is for' "$volume2.key: the volume key is not compared with a header"
+    opens 'a volume key and a lower limit' "$volume2" volume-key-file="$volume2.key" payload-offset="$start2" \
+        sector-size=4096 max-iterations=1
+    says 'a volume key and a lower limit' 'luksrd: no digest to compare the volume key with'
     text "$essiv" pass
     opens 'a volume key for CBC' "$essiv.lost" volume-key-file="$essiv.key" payload-offset="$(cat "$essiv.start")" \
         sector-size=4096 cipher=aes-cbc-essiv:sha256
@@ -134,8 +157,8 @@ volume_keys() {
         volume-key-file="$volume1.key"
     refused 'an offset without a volume key' 'cipher=, payload-offset= and sector-size= need volume-key-file=' \
         "$volume1" key-file=pass payload-offset=512
-    for more in key-file=pass passphrase=+pass header=header1 key-slot=0 max-iterations=9; do
-        refused "a volume key and $more" 'volume-key-file= goes with cipher=, payload-offset= and sector-size= alone' \
+    for more in key-file=pass passphrase=+pass key-slot=0; do
+        refused "a volume key and $more" 'volume-key-file= does not go with key-file=, passphrase= or key-slot=' \
             "$volume1" volume-key-file="$volume1.key" payload-offset=512 $more
     done
     refused 'a volume key and an unknown cipher' \

@@ -30,6 +30,11 @@ mv archive plain
 format1 'an archive' aes-xts-plain64 sha256 512
 fill 'an archive'
 
+# volume keys, and volumes whose header is lost
+for sealed in "$volume1" "$volume2"; do keeps "$sealed"; done
+cp "$volume2" 'of no digest'
+edited 'of no digest' "tree['digests']['0']['segments'] = []"
+
 # images and key files that are refused
 head -c 20000 "$volume1" >short
 head -c 8388609 /dev/zero >long

@@ -17,7 +17,7 @@
 static struct parameters parameters;
 static struct bytes passphrase;
 
-/* The volume is opened by the first connection that needs it, or, if no header is below, before
+/* The volume is opened by the first connection that needs it, or, if its header is detached, before
  * there is one. The others wait for that. Nobody holds the lock while bytes are read or keys are
  * derived, and once the volume is open or refused, it does not change. */
 enum state { NOT_OPEN, BEING_OPENED, IS_OPEN, IS_REFUSED };
@@ -79,11 +79,11 @@ static int take_secret(void)
   return status;
 }
 
-/* Opens the volume without what is below: by its detached header, or by its volume key. */
+/* Opens the volume by its detached header, without what is below. */
 static int open_now(void)
 {
   struct bytes header = { 0 };
-  int status = parameters.header ? read_header(&header) : 0;
+  int status = read_header(&header);
   if (status == 0)
     status = take_secret();
   if (status == 0 && unlock(&volume, &header, &passphrase, &parameters) != OPENED)
@@ -97,7 +97,7 @@ static int open_now(void)
 static int get_ready(int thread_model)
 {
   (void)thread_model;
-  if (!parameters.header && !parameters.volume_key_file)
+  if (!parameters.header)
     return take_secret();
   const int status = open_now();
   if (status == 0)
@@ -133,7 +133,7 @@ static void close_connection(void *handle)
   free(connection);
 }
 
-/* Reads the header below, and tries the passphrase. */
+/* Reads the header below, and tries the passphrase or the volume key. */
 static enum outcome open_below(struct below *below)
 {
   struct bytes header = { 0 };

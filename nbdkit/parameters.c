@@ -176,9 +176,8 @@ static bool is_consistent(const struct parameters *parameters)
       nbdkit_error("cipher=, payload-offset= and sector-size= need volume-key-file=");
     return !is_given;
   }
-  if (parameters->key_file || parameters->passphrase || parameters->header ||
-      parameters->has_key_slot || parameters->max_iterations) {
-    nbdkit_error("volume-key-file= goes with cipher=, payload-offset= and sector-size= alone");
+  if (parameters->key_file || parameters->passphrase || parameters->has_key_slot) {
+    nbdkit_error("volume-key-file= does not go with key-file=, passphrase= or key-slot=");
     return false;
   }
   if (!parameters->has_payload_offset)

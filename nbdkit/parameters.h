@@ -15,7 +15,7 @@ struct parameters {
   uint32_t key_slot;       /* the only key slot to try, if there is one */
   uint32_t max_iterations; /* the limit of iterations, or 0 */
 
-  /* in place of a passphrase and a header, or NULL: the file with the volume key */
+  /* in place of a passphrase, or NULL: the file with the volume key */
   char *volume_key_file;
   const char *cipher;      /* or NULL */
   bool has_payload_offset; /* if there is a volume key */
@@ -33,7 +33,7 @@ struct parameters {
   "header=FILE           The detached header.\n"                                        \
   "key-slot=N            Try this key slot alone, 0 to 31.\n"                           \
   "max-iterations=N      Skip key slots that ask for more iterations of PBKDF2.\n"      \
-  "volume-key-file=FILE  The file with the volume key: no header is read.\n"            \
+  "volume-key-file=FILE  The file with the volume key: no header is needed.\n"          \
   "payload-offset=N      With that: the first byte of the payload.\n"                   \
   "cipher=NAME           With that: aes-xts-plain64, or another of luksrd's.\n"         \
   "sector-size=N         With that: 512 (if it is not given) to 4096 bytes."

@@ -88,11 +88,8 @@ static void close_inputs(const struct inputs *inputs)
     close(inputs->key_file);
 }
 
-/* Reads the header, unless the volume key is given. */
 static int read_header(int fd, struct bytes *header)
 {
-  if (parameters.volume_key_file)
-    return 0;
   return read_first(parameters.header ? parameters.header : file, fd, MAX_HEADER, header);
 }
 

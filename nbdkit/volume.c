@@ -40,9 +40,38 @@ static uint32_t mode_of(const char *cipher)
   return 0;
 }
 
+/* Compares the volume key with the header, if one is there. A volume whose header is lost or
+ * damaged is opened without that. */
+static enum outcome check_volume_key(const struct volume *volume, const struct bytes *header,
+                                     const struct bytes *key, const struct parameters *parameters)
+{
+  const struct luksrd_options options = {
+    .size = sizeof options,
+    .detached = parameters->header != NULL,
+    .max_iterations = parameters->max_iterations,
+  };
+  const char *name = parameters->header ? parameters->header : volume->name;
+  struct luksrd_message message;
+  switch (luksrd_check_key(header->at, header->len, key->at, key->len, &options, &message)) {
+  case LUKSRD_OTHER_KEY:
+    report(name, &message);
+    return REFUSED;
+  case LUKSRD_OUT_OF_MEMORY:
+    report(name, &message);
+    return TRY_LATER;
+  case LUKSRD_OK:
+  case LUKSRD_NOT_LUKS:
+    return OPENED;
+  default:
+    report(name, &message);
+    nbdkit_error("%s: the volume key is not compared with a header", parameters->volume_key_file);
+    return OPENED;
+  }
+}
+
 /* Opens a volume by its key, and by what the parameters say of its payload. */
-static enum outcome use_volume_key(struct volume *volume, const struct bytes *key,
-                                   const struct parameters *parameters)
+static enum outcome use_volume_key(struct volume *volume, const struct bytes *header,
+                                   const struct bytes *key, const struct parameters *parameters)
 {
   struct luksrd_volume *opened = &volume->opened;
   *opened = (struct luksrd_volume){
@@ -56,7 +85,7 @@ static enum outcome use_volume_key(struct volume *volume, const struct bytes *ke
   if (key->len <= sizeof opened->key) {
     memcpy(opened->key, key->at, key->len);
     if (luksrd_prepare(opened, &volume->cipher) == LUKSRD_OK)
-      return OPENED;
+      return check_volume_key(volume, header, key, parameters);
   }
   nbdkit_error("%s: a key of %zu bytes, this cipher and this sector size do not go together",
                parameters->volume_key_file, key->len);
@@ -93,7 +122,7 @@ enum outcome unlock(struct volume *volume, const struct bytes *header, const str
                     const struct parameters *parameters)
 {
   const enum outcome outcome = parameters->volume_key_file
-                                   ? use_volume_key(volume, secret, parameters)
+                                   ? use_volume_key(volume, header, secret, parameters)
                                    : use_passphrase(volume, header, secret, parameters);
   forget_copies();
   return outcome;

@@ -36,8 +36,8 @@ struct image {
 enum outcome { OPENED, REFUSED, TRY_LATER };
 
 /* Tries a passphrase on a header, the detached one if the parameters name one; or, if they name a
- * file with the volume key, takes that and what they say of the payload, and no header. If the
- * volume does not open, reports why not. */
+ * file with the volume key, takes that and what they say of the payload, unless the header has the
+ * digest of another key. If the volume does not open, reports why not. */
 enum outcome unlock(struct volume *volume, const struct bytes *header, const struct bytes *secret,
                     const struct parameters *parameters);
 

@@ -15,6 +15,13 @@ This module is one file over luksrd's library for C, libluksrd.so, whose functio
 meet their contracts. The module itself is tested, not proved. It loads the library that the
 environment variable LUKSRD_LIBRARY names, or one that is installed below the same folder as the
 module, or else the one that the loader finds.
+
+Secrets: `close` wipes the volume key and its expanded forms, and the module overwrites its own copy
+of a passphrase or volume key once the volume is open or refused. Python cannot overwrite a str or
+bytes: those that the caller passes stay until their memory is used again, and so do the bytes that
+a str is encoded to. Pass a bytearray and overwrite it afterwards, or name a file. Copies of keys
+and of parts of them stay on the stack of the thread that opened the volume until something else
+writes over them, and plaintext is not wiped.
 """
 
 from __future__ import annotations
@@ -31,10 +38,12 @@ import threading
 import warnings
 from typing import Iterator, Optional, Union
 
-__all__ = ["IncompleteImageWarning", "LuksError", "Volume", "library_version", "open"]
+__all__ = ["IncompleteImageWarning", "LuksError", "UncheckedKeyWarning", "Volume", "library_version",
+           "open", "open_by_volume_key"]
 
 Path = Union[str, bytes, "os.PathLike[str]", "os.PathLike[bytes]"]
 Passphrase = Union[str, bytes, bytearray, memoryview]
+KeyBytes = Union[bytes, bytearray, memoryview]
 
 # How many bytes are read and decrypted at once, whole sectors of any size: more would leave the
 # processor's cache
@@ -62,6 +71,10 @@ class IncompleteImageWarning(UserWarning):
     """The image ends inside a sector, or before its payload does: its whole sectors are read."""
 
 
+class UncheckedKeyWarning(UserWarning):
+    """A header is there, but the volume key was not compared with it."""
+
+
 # The library: its structs and functions. Nothing after this part calls it.
 
 _LIBRARY = "libluksrd.so.2"
@@ -69,6 +82,14 @@ _LIBRARY = "libluksrd.so.2"
 # How many first bytes of a header decide how a volume opens, and the longest passphrase
 _HEADER_BYTES = 33554432
 _PASSPHRASE_BYTES = 8388608
+
+# The longest volume key, and the ciphers by their names in headers, with their numbers
+_KEY_BYTES = 64
+_MODES = {"aes-xts-plain64": 1, "aes-xts-plain": 2, "aes-cbc-essiv:sha256": 3,
+          "aes-cbc-plain64": 4}
+
+# What comparing a volume key with a header gives, besides refusals
+_NOT_LUKS, _OUT_OF_MEMORY, _OTHER_KEY = 1, 11, 18
 
 
 class _Options(ctypes.Structure):
@@ -124,6 +145,7 @@ def _library() -> ctypes.CDLL:
     pointer, size, u32, u64 = ctypes.c_void_p, ctypes.c_size_t, ctypes.c_uint32, ctypes.c_uint64
     for name, result, arguments in (
         ("luksrd_open", u32, [pointer, size, pointer, size, pointer, pointer, pointer]),
+        ("luksrd_check_key", u32, [pointer, size, pointer, size, pointer, pointer]),
         ("luksrd_len", u64, [pointer, u64]),
         ("luksrd_ending", u32, [pointer, u64, pointer, pointer]),
         ("luksrd_prepare", u32, [pointer, pointer]),
@@ -145,16 +167,10 @@ def _bytes_at(buffer: Union[bytearray, memoryview]) -> object:
 class _Key:
     """An open volume, as the library has it, in an image of this length."""
 
-    def __init__(self, header: memoryview, passphrase: memoryview, options: _Options,
-                 image_len: int) -> None:
-        self._opened, self._cipher, message = _Opened(), _Cipher(), _Message()
-        code = _library().luksrd_open(
-            _bytes_at(header.obj), len(header), _bytes_at(passphrase.obj), len(passphrase),
-            ctypes.byref(options), ctypes.byref(self._opened), ctypes.byref(message))
-        if code:
-            raise message.error(code)
-        # (what luksrd_open has filled is never refused)
-        _library().luksrd_prepare(ctypes.byref(self._opened), ctypes.byref(self._cipher))
+    def __init__(self, opened: _Opened, image_len: int) -> None:
+        self._opened, self._cipher = opened, _Cipher()
+        self.is_prepared = _library().luksrd_prepare(
+            ctypes.byref(self._opened), ctypes.byref(self._cipher)) == 0
         self.slot: int = self._opened.key_slot
         self.sector_size: int = self._opened.sector_size
         self._image_len = image_len
@@ -189,6 +205,26 @@ class _Key:
     def wipe(self) -> None:
         for struct in (self._opened, self._cipher):
             _library().luksrd_wipe(ctypes.byref(struct), ctypes.sizeof(struct))
+
+
+def _opened_by(header: memoryview, passphrase: memoryview, options: _Options) -> _Opened:
+    """The volume that the passphrase opens."""
+    opened, message = _Opened(), _Message()
+    code = _library().luksrd_open(
+        _bytes_at(header.obj), len(header), _bytes_at(passphrase.obj), len(passphrase),
+        ctypes.byref(options), ctypes.byref(opened), ctypes.byref(message))
+    if code:
+        raise message.error(code)
+    return opened
+
+
+def _compared(header: memoryview, key: memoryview, options: _Options) -> Optional[LuksError]:
+    """None if the volume key matches the digest of the header, or why it is not known to."""
+    message = _Message()
+    code = _library().luksrd_check_key(
+        _bytes_at(header.obj), len(header), _bytes_at(key.obj), len(key), ctypes.byref(options),
+        ctypes.byref(message))
+    return message.error(code) if code else None
 
 
 def library_version() -> tuple[int, int, int]:
@@ -228,11 +264,16 @@ def _open_image(path: Path) -> tuple[int, int]:
 def _read_first(descriptor: int, most: int) -> memoryview:
     """The file, or its first bytes: a part of a new bytearray, which has at least one byte."""
     view, done = memoryview(bytearray(most)), 0
-    while done < most:
-        got = os.readv(descriptor, [view[done:]])
-        if not got:
-            break
-        done += got
+    try:
+        while done < most:
+            got = os.readv(descriptor, [view[done:]])
+            if not got:
+                break
+            done += got
+    except BaseException:
+        # these may be parts of a secret
+        view[:] = bytes(most)
+        raise
     return view[:done]
 
 
@@ -267,7 +308,12 @@ def _secret(passphrase: Optional[Passphrase], key_file: Optional[Path]) -> memor
         return _read_file(key_file, _PASSPHRASE_BYTES + 1)
     if isinstance(passphrase, str):
         passphrase = passphrase.encode()
-    given = memoryview(b"" if passphrase is None else passphrase).cast("B")
+    return _copy_of(b"" if passphrase is None else passphrase)
+
+
+def _copy_of(secret: KeyBytes) -> memoryview:
+    """A part of a new bytearray, which has at least one byte."""
+    given = memoryview(secret).cast("B")
     copy = memoryview(bytearray(len(given) or 1))
     copy[:len(given)] = given
     return copy[:len(given)]
@@ -433,9 +479,34 @@ def _unlock(head: memoryview, passphrase: Optional[Passphrase], key_file: Option
     """Tries the passphrase on a header."""
     secret = _secret(passphrase, key_file)
     try:
-        return _Key(head, secret, options, image_len)
+        # (what luksrd_open has filled is never refused)
+        return _Key(_opened_by(head, secret, options), image_len)
     finally:
         secret[:] = bytes(len(secret))
+
+
+def _volume_with(secret: memoryview, mode: int, payload_offset: int, sector_size: int) -> _Opened:
+    """The volume with this key, without a header."""
+    opened = _Opened(offset=payload_offset, sector_size=sector_size, mode=mode,
+                     key_size=len(secret))
+    if len(secret) <= _KEY_BYTES:
+        ctypes.memmove(opened.key, _bytes_at(secret.obj), len(secret))
+    return opened
+
+
+def _use_volume_key(secret: memoryview, opened: _Opened, head: memoryview, options: _Options,
+                    image_len: int) -> tuple[_Key, Optional[LuksError]]:
+    """The open volume, and why its key was not compared with a header, if one is there."""
+    key = _Key(opened, image_len)
+    if not key.is_prepared:
+        key.wipe()
+        raise ValueError(
+            f"a key of {len(secret)} bytes, this cipher and this sector size do not go together")
+    answer = _compared(head, secret, options)
+    if answer and answer.code in (_OTHER_KEY, _OUT_OF_MEMORY):
+        key.wipe()
+        raise answer
+    return key, answer if answer and answer.code != _NOT_LUKS else None
 
 
 def open(path: Path, *, passphrase: Optional[Passphrase] = None, key_file: Optional[Path] = None,
@@ -459,16 +530,73 @@ def open(path: Path, *, passphrase: Optional[Passphrase] = None, key_file: Optio
     options = _options(header, key_slot, max_iterations)
     descriptor, image_len = _open_image(path)
     try:
-        if header is None:
-            head = _read_first(descriptor, min(_HEADER_BYTES, image_len or 1))
-        else:
-            head = _read_file(header, _HEADER_BYTES)
+        head = _read_header(header, descriptor, image_len)
         key = _unlock(head, passphrase, key_file, options, image_len)
     except BaseException:
         os.close(descriptor)
         raise
+    return _opened_volume(path, descriptor, key)
+
+
+def _read_header(header: Optional[Path], descriptor: int, image_len: int) -> memoryview:
+    """The first bytes of the image, or of the file with the detached header."""
+    if header is not None:
+        return _read_file(header, _HEADER_BYTES)
+    return _read_first(descriptor, min(_HEADER_BYTES, image_len or 1))
+
+
+def _opened_volume(path: Path, descriptor: int, key: _Key) -> Volume:
+    """The volume; warns if its image is incomplete."""
     volume = Volume(path, descriptor, key)
     if volume.incomplete:
         message = f"{os.fsdecode(path)}: {volume.incomplete}"
-        warnings.warn(message, IncompleteImageWarning, stacklevel=2)
+        warnings.warn(message, IncompleteImageWarning, stacklevel=3)
     return volume
+
+
+def open_by_volume_key(path: Path, *, payload_offset: int, volume_key: Optional[KeyBytes] = None,
+                       volume_key_file: Optional[Path] = None, cipher: str = "aes-xts-plain64",
+                       sector_size: int = 512, header: Optional[Path] = None,
+                       max_iterations: Optional[int] = None) -> Volume:
+    """Opens a volume by its volume key, as `cryptsetup luksDump --dump-volume-key` saves it: one
+    whose header is lost, too.
+
+    payload_offset   the first byte of the payload
+    volume_key       the volume key. Python does not wipe bytes
+    volume_key_file  in its place, the file with the volume key
+    cipher           as headers name it: also aes-xts-plain, aes-cbc-essiv:sha256, aes-cbc-plain64
+    sector_size      512, 1024, 2048 or 4096
+    header           the file with the detached header, if there is one
+    max_iterations   a digest with more iterations of PBKDF2 is not compared with the key
+
+    If the image, or the detached header, has the digest of another key, this raises LuksError. If
+    there is no header, nothing can tell that the key is a wrong one: it gives noise. Warns by
+    UncheckedKeyWarning of a header that cannot tell, and raises and warns as open does."""
+    if (volume_key is None) == (volume_key_file is None):
+        raise TypeError("either volume_key or volume_key_file is needed")
+    if cipher not in _MODES:
+        raise ValueError(f"cipher is {cipher!r}, none of {', '.join(_MODES)}")
+    if not 0 <= payload_offset < 1 << 64:
+        raise ValueError(f"payload_offset is {payload_offset}, not from 0 to 2**64 - 1")
+    if sector_size not in (512, 1024, 2048, 4096):
+        raise ValueError(f"sector_size is {sector_size}, not 512, 1024, 2048 or 4096")
+    options = _options(header, None, max_iterations)
+    descriptor, image_len = _open_image(path)
+    try:
+        head = _read_header(header, descriptor, image_len)
+        if volume_key_file is not None:
+            secret = _read_file(volume_key_file, _KEY_BYTES + 1)
+        else:
+            secret = _copy_of(b"" if volume_key is None else volume_key)
+        try:
+            opened = _volume_with(secret, _MODES[cipher], payload_offset, sector_size)
+            key, unchecked = _use_volume_key(secret, opened, head, options, image_len)
+        finally:
+            secret[:] = bytes(len(secret))
+    except BaseException:
+        os.close(descriptor)
+        raise
+    if unchecked:
+        message = f"{os.fsdecode(path)}: the volume key is not compared: {unchecked}"
+        warnings.warn(message, UncheckedKeyWarning, stacklevel=2)
+    return _opened_volume(path, descriptor, key)

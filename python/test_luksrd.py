@@ -64,6 +64,7 @@ def test_whole(kind):
 
 @every_kind
 def test_ranges(kind):
+    print("seed", kind.image)
     chance = random.Random(kind.image)
     with kind.open() as volume:
         for _ in range(40):
@@ -272,6 +273,73 @@ def test_wrong_image(image, error):
         luksrd.open(FOLDER / image, passphrase="a passphrase")
     assert os.fspath(caught.value.filename) == os.fspath(FOLDER / image)
     assert caught.value.errno != errno.EINVAL or "neither a regular file nor a block device" in str(caught.value)
+
+
+def by_key(image, key=VOLUME2, **options):
+    """The volume in this image, by the volume key of another, whose payload starts at the same place."""
+    start = int((FOLDER / f"{key}.start").read_text())
+    sector = 4096 if key == VOLUME2 else 512
+    options = {"volume_key_file": FOLDER / f"{key}.key", "payload_offset": start, "sector_size": sector} | options
+    return luksrd.open_by_volume_key(FOLDER / image, **options)
+
+
+@pytest.mark.parametrize("key", [VOLUME1, VOLUME2])
+def test_volume_key(key):
+    """A volume key opens its volume, whether or not the header is there, without a warning."""
+    with warnings.catch_warnings():
+        warnings.simplefilter("error")
+        for image in (key, f"{key}.lost"):
+            with by_key(image, key) as volume:
+                assert volume.read() == named(key).text
+        volume_key = bytearray((FOLDER / f"{key}.key").read_bytes())
+        with by_key(f"{key}.lost", key, volume_key_file=None, volume_key=volume_key, header=FOLDER / key) as volume:
+            assert volume.read() == named(key).text
+        assert volume_key == (FOLDER / f"{key}.key").read_bytes()
+
+
+@pytest.mark.parametrize("changed", [0, 63])
+def test_another_volume_key(changed):
+    """It is refused if a header is there, and gives noise if there is none."""
+    other = bytearray((FOLDER / f"{VOLUME2}.key").read_bytes())
+    other[changed] ^= 1
+    for image, header in ((VOLUME2, None), (f"{VOLUME2}.lost", FOLDER / VOLUME2)):
+        with pytest.raises(luksrd.LuksError) as caught:
+            by_key(image, volume_key_file=None, volume_key=other, header=header)
+        assert (caught.value.code, caught.value.status) == (18, 2)
+        assert str(caught.value) == "luksrd: volume key does not match the digest in the header"
+    with by_key(f"{VOLUME2}.lost", volume_key_file=None, volume_key=other) as volume:
+        assert volume.size == len(named(VOLUME2).text) and volume.read() != named(VOLUME2).text
+
+
+def test_unchecked_volume_key():
+    """A header that cannot tell is warned of, and the volume is read."""
+    for image, options in (("of no digest", {}), (VOLUME2, {"max_iterations": 1})):
+        with pytest.warns(luksrd.UncheckedKeyWarning, match="no digest to compare the volume key with"):
+            volume = by_key(image, **options)
+        with volume:
+            assert volume.read() == named(VOLUME2).text
+
+
+@pytest.mark.parametrize("options, error", [
+    ({"volume_key": b"k" * 64}, TypeError),
+    ({"volume_key_file": None}, TypeError),
+    ({"cipher": "aes-ecb"}, ValueError),
+    ({"cipher": "aes-cbc-plain64"}, ValueError),
+    ({"sector_size": 513}, ValueError),
+    ({"payload_offset": -1}, ValueError),
+    ({"payload_offset": 2 ** 64}, ValueError),
+    ({"max_iterations": 0}, ValueError),
+    ({"volume_key_file": None, "volume_key": b""}, ValueError),
+    ({"volume_key_file": None, "volume_key": b"k" * 65}, ValueError),
+    ({"volume_key_file": "plain"}, ValueError),
+    ({"volume_key_file": "absent"}, FileNotFoundError),
+], ids=str)
+def test_wrong_volume_key_arguments(options, error):
+    options = {key: FOLDER / value if key == "volume_key_file" and value else value for key, value in options.items()}
+    descriptors = len(os.listdir("/proc/self/fd"))
+    with pytest.raises(error):
+        by_key(VOLUME2, **options)
+    assert len(os.listdir("/proc/self/fd")) == descriptors
 
 
 def test_close():

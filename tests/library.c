@@ -12,6 +12,11 @@
  * prints each field of the open volume, and for an image of each length the number of bytes of
  * plain text that it has, and how its payload ends.
  *
+ *     library key IMAGE HEADER KEY LIMIT
+ *
+ * prints what comparing a volume key with a header gives: the code, the status and the sentence.
+ * LIMIT is that of the iterations, or 0.
+ *
  *     library stack IMAGE PASSPHRASE
  *
  * prints for each call whether it needs no more stack than luksrd.h states.
@@ -271,12 +276,12 @@ static void read_texts(void)
   struct luksrd_message message;
   luksrd_status_text(LUKSRD_OK, &message);
   must(all_zero(&message, sizeof message), "the text of LUKSRD_OK");
-  for (uint32_t code = 1; code <= LUKSRD_BAD_RANGE; code++) {
+  for (uint32_t code = 1; code <= LUKSRD_NO_DIGEST; code++) {
     luksrd_status_text(code, &message);
     check_message(&message);
     must(strlen(none) != message.len || memcmp(message.text, none, message.len) != 0, "a code");
   }
-  luksrd_status_text(LUKSRD_BAD_RANGE + 1, &message);
+  luksrd_status_text(LUKSRD_NO_DIGEST + 1, &message);
   check_message(&message);
   must(strlen(none) == message.len && memcmp(message.text, none, message.len) == 0, "no code");
 }
@@ -395,6 +400,15 @@ static void *call_open(void *argument)
   return NULL;
 }
 
+static void *call_check_key(void *argument)
+{
+  struct calls *calls = argument;
+  must(luksrd_check_key(calls->header.at, calls->header.len, calls->volume.key,
+                        calls->volume.key_size, &calls->options, &calls->message) == LUKSRD_OK,
+       "a key on a stack of its own");
+  return NULL;
+}
+
 static void *call_prepare(void *argument)
 {
   struct calls *calls = argument;
@@ -456,6 +470,7 @@ static int print_stacks(char **argv)
     size_t most;
   } rows[] = {
     { "luksrd_open", call_open, STACK_OPEN },
+    { "luksrd_check_key", call_check_key, STACK_OPEN },
     { "luksrd_prepare", call_prepare, STACK_PREPARE },
     { "luksrd_plan", call_plan, STACK_READ },
     { "luksrd_finish", call_finish, STACK_READ },
@@ -472,6 +487,34 @@ static int print_stacks(char **argv)
   }
   free(calls.header.at);
   free(calls.passphrase.at);
+  return 0;
+}
+
+static int print_check(char **argv)
+{
+  struct luksrd_options options = {
+    .size = sizeof options,
+    .detached = strcmp(argv[1], "-") != 0,
+    .max_iterations = (uint32_t)strtoul(argv[3], NULL, 10),
+  };
+  struct bytes header = header_in(options.detached ? argv[1] : argv[0]), key = contents(argv[2]);
+  struct luksrd_message message;
+  struct luksrd_options wrong[3] = { options, options, options };
+  wrong[0].has_key_slot = 1;
+  wrong[1].size--;
+  wrong[2].reserved[43] = 1;
+  for (int i = 0; i < 3; i++)
+    must(luksrd_check_key(header.at, header.len, key.at, key.len, &wrong[i], &message) ==
+             LUKSRD_BAD_OPTIONS,
+         "options for a key");
+  const uint32_t code = luksrd_check_key(header.at, header.len, key.at, key.len, &options, &message);
+  if (code == LUKSRD_OK)
+    must(all_zero(&message, sizeof message), "the message of a key that matches");
+  else
+    check_message(&message);
+  printf("%" PRIu32 " %" PRIu32 " %s\n", code, message.status, message.text);
+  free(header.at);
+  free(key.at);
   return 0;
 }
 
@@ -510,6 +553,7 @@ static void *open_and_wipe(void *argument)
 {
   const struct opening *opening = argument;
   call_open(opening->calls);
+  call_check_key(opening->calls);
   call_prepare(opening->calls);
   if (opening->is_wiped)
     luksrd_wipe_stack();
@@ -556,6 +600,8 @@ int main(int argc, char **argv)
     return print_stacks(argv + 2);
   if (argc == 4 && strcmp(argv[1], "left") == 0)
     return print_left(argv + 2);
+  if (argc == 6 && strcmp(argv[1], "key") == 0)
+    return print_check(argv + 2);
   if (argc > 4 && strcmp(argv[1], "fields") == 0)
     return print_volume(argc - 4, argv + 2);
   must(argc == 4, "the arguments");

@@ -2,7 +2,8 @@
 # Runs small programs over luksrd.h, one in C that is built with AddressSanitizer and also run under valgrind, and one
 # in Python by ctypes: each writes what luksCat does, with the same messages, for both sample volumes and for volumes
 # that are truncated, detached or not opened: with the library for all processors, and with that for x86-64-v3. The
-# one in C also prints each field of a volume that is made here, and looks for keys on the stack. What luksrd.h declares is compared with what the library's source does.
+# one in C also prints each field of a volume that is made here, compares volume keys with headers, and looks for keys
+# on the stack. What luksrd.h declares is compared with what the library's source does.
 sources=$(realpath "$(dirname "$0")/..")
 library=$(realpath "${2:?the built library}")
 shared=$(realpath "${3:?the same as a shared one}")
@@ -151,8 +152,68 @@ offset=528384 size=0 iv_tweak=8 has_size=0 sector_size=4096 mode=1 key_size=32 k
 TEXT
 fields 'no fixed size' wanted
 
+# what luksrd_check_key finds, by volumes whose keys are given to cryptsetup
+head -c 64 /dev/urandom >key
+head -c 32 key >half
+{ cat key; printf '\0'; } >longer
+{ head -c 63 key; tail -c 1 key | tr '\000-\377' '\001-\377\000'; } >other
+# key_finds NAME WANTED IMAGE KEY [LIMIT [HEADER]]: comparing the key gives this, also with each shared library
+key_finds() {
+    local processor
+    same "$1, AddressSanitizer" "$(./sanitized key "$3" "${6--}" "$4" "${5-0}" 2>&1; echo $?)" "$2"$'\n'0
+    for processor in "${processors[@]}"; do
+        same "$1, shared, $processor" "$(LD_LIBRARY_PATH=$work/$processor ./shared key "$3" "${6--}" "$4" "${5-0}" 2>&1
+            echo $?)" "$2"$'\n'0
+    done
+}
+other_key='18 2 luksrd: volume key does not match the digest in the header'
+no_digest='19 1 luksrd: no digest to compare the volume key with'
+for type in luks1 luks2; do
+    truncate -s 20M $type
+    cryptsetup -q luksFormat --type $type --pbkdf pbkdf2 --pbkdf-force-iterations 1000 --cipher aes-xts-plain64 \
+        --key-size 512 --volume-key-file key --key-file pass $type >log 2>&1 || { cat log; exit 1; }
+    key_finds "$type, its key" '0 0 ' $type key
+    key_finds "$type, a detached header" '0 0 ' empty key 0 $type
+    for wrong in other half longer empty; do
+        key_finds "$type, another key: $wrong" "$other_key" $type $wrong
+    done
+    # (cryptsetup may have given the digest more iterations than it was asked for)
+    iterations=$(cryptsetup luksDump $type | sed -n '/^Digests:/,$s/^\tIterations: *//p; s/^MK iterations: *//p')
+    key_finds "$type, the limit" '0 0 ' $type key "$iterations"
+    key_finds "$type, a lower limit" "$no_digest" $type key $((iterations - 1))
+    cryptsetup -q luksErase $type || exit 1
+    key_finds "$type, no key slot left" '0 0 ' $type key
+done
+head -c 500 luks1 >shorter
+key_finds 'no header' '1 4 luksrd: not a LUKS image' empty key
+key_finds 'a truncated header' '2 4 luksrd: image ends inside the header or a key area' shorter key
+# digests <<<STATEMENT: luks2 with these digests
+digests() {
+    cp luks2 digests
+    edited digests "$(cat)"
+}
+digests <<<"d = tree['digests']; d['31'] = d.pop('0')"
+key_finds 'a digest of another number' '0 0 ' digests key
+digests <<<"d = tree['digests']; d['31'] = d.pop('0'); d['4'] = {**d['31'], 'segments': ['1']}; d['4']['digest'] = 'AAAA' * 8"
+key_finds 'the digest of another segment' '0 0 ' digests key
+digests <<<"d = tree['digests']; d['31'] = d.pop('0'); d['4'] = {**d['31'], 'digest': 'AAAA' * 8}"
+key_finds 'two digests, of which the first is of another key' "$other_key" digests key
+digests <<<"d = tree['digests']; d['31'] = d.pop('0'); d['4'] = {**d['31'], 'digest': 'AAAA' * 8, 'hash': 'md5'}"
+key_finds 'two digests, of which the first is not usable' '0 0 ' digests key
+digests <<<"d = tree['digests']['0']; d['digest'] = d['digest'][:24] + 'AAAA' * ((len(d['digest']) - 28) // 4) + d['digest'][-4:]"
+key_finds 'a digest of which only a prefix matches' "$other_key" digests key
+digests <<<"tree['digests']['0']['segments'] = []"
+key_finds 'a digest of no segment' "$no_digest" digests key
+digests <<<"tree['digests'] = {}"
+key_finds 'no digest' "$no_digest" digests key
+digests <<<"tree['segments']['0']['encryption'] = 'aes-ecb'"
+key_finds 'a segment that is refused' '4 1 luksrd: segment refused: encryption' digests key
+digests <<<"tree.pop('digests')"
+key_finds 'JSON that is not readable' '3 4 luksrd: LUKS2 JSON area is not readable' digests key
+
 # each call needs no more stack than luksrd.h states
 stacks='luksrd_open: enough
+luksrd_check_key: enough
 luksrd_prepare: enough
 luksrd_plan: enough
 luksrd_finish: enough
@@ -187,7 +248,8 @@ same 'its version' "$(pkg-config --modversion luksrd)" "$(make -s -C "$sources" 
 same "its header's version" "$(sed -n 's/^#define LUKSRD_VERSION 0x\(..\)\(..\)\(..\)$/\1 \2 \3/p' \
     "$sources/c/luksrd.h" | { read -r major minor patch; echo "$((16#$major)).$((16#$minor)).$((16#$patch))"; })" \
     "$(pkg-config --modversion luksrd)"
-exported='luksrd_decrypt luksrd_ending luksrd_finish luksrd_len luksrd_open luksrd_plan luksrd_prepare '
+exported='luksrd_check_key luksrd_decrypt luksrd_ending luksrd_finish luksrd_len luksrd_open luksrd_plan '
+exported+='luksrd_prepare '
 exported+='luksrd_status_text luksrd_version luksrd_wipe '
 for file in "$shared" "$shared_v3"; do
     same "what ${file##*/} exports" "$(nm -D --defined-only "$file" | awk '{ print $3 }' | sort | tr '\n' ' ')" \

@@ -1,3 +1,4 @@
+pub mod Keys
 pub mod Opens
 pub mod Sectors
 pub mod Steps

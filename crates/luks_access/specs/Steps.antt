@@ -74,9 +74,10 @@ abbrev pub given_by : List StepDone → List ℕ
 given_by [] = []
 given_by (done ∷ rest) = done.given ++ given_by rest
 
--- whoever reads the bytes that each step names, until the range is done, has that range of the plaintext
+-- whoever reads the bytes that each step names, until the range is done, has that range of the plaintext, after at most
+-- three steps
 abbrev pub StepsReadRange : Type 0
 StepsReadRange =
     (s : Segment) (cipher : Cipher) (image : List ℕ) (offset count : ℕ) (steps : List StepDone)
     → AreSteps s cipher image (plaintext_len s image) offset count steps
-    → given_by steps ≡ plain_at s cipher image offset count
+    → (given_by steps ≡ plain_at s cipher image offset count) × (length steps ≤ 3)

@@ -11,6 +11,7 @@ pub use luks_runs::location::HeaderLocation;
 pub mod fault;
 pub mod file;
 pub mod image;
+pub mod key;
 pub mod memory;
 pub mod options;
 pub mod range;

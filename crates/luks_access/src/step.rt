@@ -139,7 +139,7 @@ pub fn finish(segment: &Segment, keys: &ExpandedKeys, step: &ReadStep, bytes: &m
 }
 
 /// Whoever reads the bytes that each step of a range names, and decrypts them as [`finish`] does,
-/// has that range of the plaintext when none is left.
+/// has that range of the plaintext when none is left, and that is after at most three steps.
 pub fn steps_read_range()
     ensures { StepsReadRange }
 {}

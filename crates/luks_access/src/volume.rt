@@ -179,7 +179,7 @@ impl Volume {
     ///
     /// [`VolumeFault::CutBeforePayload`], [`VolumeFault::Tail`] or [`VolumeFault::Short`] if the
     /// image is truncated.
-    pub fn ending(&self, image_len: u64) -> Result<Step, VolumeFault>
+    pub fn payload_ending(&self, image_len: u64) -> Result<Step, VolumeFault>
         ensures { (image : List ℕ) → length image ≡ image_len
             → result ≡ ending_of self.now.segment image }
     {

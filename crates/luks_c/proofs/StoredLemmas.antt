@@ -1,9 +1,13 @@
 -- What is read from the struct of a volume is what was stored in it.
-use Rattle.std.proofs.Common.{◌≡◌, ◌∙◌, ℕ, ◌-◌, ◌*◌, ◌/◌, true, List, length, Option, None, Some, sym, ap, subst, refl}
+use Rattle.std.proofs.Common.{◌≡◌, ◌≢◌, ◌∙◌, arith, ℕ, ◌-◌, ◌*◌, ◌/◌, true, List, length, Option, None, Some, sym, ap, subst, refl}
 use Rattle.std.proofs.lemmas.Option.{same_Some}
-use Rattle.std.specs.Prelude.{◌==◌, unwrap_or}
+use Rattle.std.specs.Prelude.{◌==◌, ◌+◌, if◌then◌else◌, nat_le, unwrap_or}
 use Rattle.luks_access.proofs.RangeLemmas.{plaintext_length}
 use Rattle.luks_access.specs.Opens.{cipher_of, plaintext_of}
+use Rattle.luks_io.specs.Devices.{counted}
+use Rattle.luks_report.specs.declared.message.Message.{Message}
+use Rattle.luks_report.specs.declared.message.Message.TheVariants.{ReadFailed}
+use Rattle.luks_runs.specs.Run.{is_run_read_failure}
 use Rattle.luks_unlock.specs.declared.unlocked.UnlockedVolume.{UnlockedVolume}
 use Rattle.luks_cipher.specs.Sector.{Cipher}
 use Rattle.luks_cipher.specs.declared.mode.Mode.{Mode}
@@ -15,9 +19,18 @@ use Rattle.luks_verdict.specs.SectorSize.{HasWholeSectors, has_whole_sectors, by
 use Rattle.luks_verdict.specs.declared.sector_size.SectorSize.{SectorSize}
 use Rattle.luks_verdict.specs.declared.segment.Segment.{Segment}
 use Rattle.luks_payload.specs.Plain.{payload_bytes}
-use Rattle.luks_c.specs.Stored.{decrypt_code, range_code, segment_code, Stores, cipher_in, has_size_of}
+use Rattle.luks_access.specs.Steps.{IsNextStep}
+use Rattle.luks_access.specs.declared.step.ReadStep.{ReadStep}
+use Rattle.luks_c.specs.Steps.{Plans, plan_code, plan_code_by, plain_len_of, prepare_code, prepare_code_by, step_in}
+use Rattle.luks_c.specs.Stored.{decrypt_code, range_code, segment_code, Filled, Stores, cipher_in, has_size_of}
 use Rattle.luks_c.specs.Stored.{mode_in, mode_number, segment_in, size_stored_in}
+use Rattle.luks_c.specs.declared.step.LuksrdStep.{LuksrdStep}
 use Rattle.luks_c.specs.declared.volume.LuksrdVolume.{LuksrdVolume}
+
+-- no read of a source over memory fails
+pub no_read : (m : Message) → 0 ≡ counted (is_run_read_failure m) 0 → m ≢ ReadFailed
+no_read ReadFailed count = absurd (omega (arith, count))
+no_read _ count = λ is. cc
 
 pub mode_again : (mode : Mode) → mode_in (mode_number mode) ≡ Some mode
 mode_again XtsPlain64 = refl
@@ -77,3 +90,31 @@ module _ (c : LuksrdVolume) (v : UnlockedVolume) (stored : Stores c v) where
       let z_is : z ≡ v.segment.sector_size = same_Some z v.segment.sector_size (sector ∙ stored_sector) in
       let size_is : size ≡ v.segment.size = fixed ∙ stored_size in
       plaintext_length v.segment (cipher_of v) image image_len len long (rw (z_is, size_is, stored.offset) at is)
+
+  -- the length of the segment's plaintext is that of the volume's
+  plain_len_is : (image : List ℕ) (image_len : ℕ) → length image ≡ image_len
+      → plain_len_of v.segment image_len ≡ length (plaintext_of v image)
+  plain_len_is image image_len long =
+      plaintext_length v.segment (cipher_of v) image image_len (plain_len_of v.segment image_len) long refl
+
+  -- a step that is planned is the next one of the volume's plaintext
+  pub planned : (image : List ℕ) (image_len offset count : ℕ) (step : LuksrdStep) → length image ≡ image_len
+      → Plans c image_len offset count step
+      → IsNextStep v.segment (length (plaintext_of v image)) offset count (step_in step)
+  planned image image_len offset count step long plans =
+      subst (λ len. IsNextStep v.segment len offset count (step_in step)) (plain_len_is image image_len long)
+      (plans v.segment stored_segment)
+
+  -- a step is refused exactly if the range ends past the volume's plaintext
+  pub planned_code : (image : List ℕ) (image_len offset count : ℕ) → length image ≡ image_len
+      → plan_code c image_len offset count
+      ≡ (if nat_le (offset + count) (length (plaintext_of v image)) then 0 else 17)
+  planned_code image image_len offset count long =
+      ap (λ (s : Option Segment). plan_code_by s image_len offset count) stored_segment
+      ∙ ap (λ len. if nat_le (offset + count) len then 0 else 17) (plain_len_is image image_len long)
+
+-- the keys of a volume that was opened are expanded
+pub filled_code : (c : LuksrdVolume) (v : UnlockedVolume) → Filled c v → prepare_code c ≡ 0
+filled_code c v filled =
+    ap (λ (s : Option Segment). prepare_code_by s c.key_size) (stored_segment c v filled.stores)
+    ∙ rw (filled.key_size, v.key_length) refl

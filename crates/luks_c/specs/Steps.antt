@@ -52,7 +52,7 @@ abbrev pub prepare_code_by : Option Segment → ℕ → ℕ
 prepare_code_by None key_size = 16
 prepare_code_by (Some s) key_size = if is_mode_key_length s.mode key_size then 0 else 16
 
--- the same for a struct, whatever it holds
+-- the code of expanding the key that the struct has, for the segment that its fields make, if they make one
 abbrev pub prepare_code : LuksrdVolume → ℕ
 prepare_code c = prepare_code_by (segment_in c) c.key_size
 
@@ -85,7 +85,7 @@ abbrev pub plan_code_by : Option Segment → ℕ → ℕ → ℕ → ℕ
 plan_code_by None image_len offset count = 16
 plan_code_by (Some s) image_len offset count = if nat_le (offset + count) (plain_len_of s image_len) then 0 else 17
 
--- the same for a struct, whatever it holds
+-- the code of such a step for the segment that the struct's fields make, if they make one
 abbrev pub plan_code : LuksrdVolume → ℕ → ℕ → ℕ → ℕ
 plan_code c image_len offset count = plan_code_by (segment_in c) image_len offset count
 
@@ -106,6 +106,6 @@ finish_code_by None step len = 16
 finish_code_by (Some s) step len =
     if nat_le (step.skip + step.count) len then range_code s.sector_size step.first_sector len else 17
 
--- the same for a struct, whatever it holds
+-- the code of finishing such a step for the segment that the struct's fields make, if they make one
 abbrev pub finish_code : LuksrdVolume → LuksrdStep → ℕ → ℕ
 finish_code c step len = finish_code_by (segment_in c) step len

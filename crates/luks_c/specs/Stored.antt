@@ -18,6 +18,7 @@ use Rattle.luks_report.specs.declared.message.Message.TheVariants.{Done, NotLuks
 use Rattle.luks_report.specs.declared.message.Message.TheVariants.{SlotDisabled, SlotSkipped, NothingTried, NoKey}
 use Rattle.luks_report.specs.declared.message.Message.TheVariants.{KeyFileLength, CutBeforePayload, Tail, Short}
 use Rattle.luks_report.specs.declared.message.Message.TheVariants.{ReadFailed}
+use Rattle.luks_runs.specs.declared.location.HeaderLocation.{HeaderLocation}
 use Rattle.luks_runs.specs.declared.location.HeaderLocation.TheVariants.{Attached, Detached}
 use Rattle.luks_c.specs.declared.message.LuksrdMessage.{LuksrdMessage}
 use Rattle.luks_c.specs.declared.options.LuksrdOptions.{LuksrdOptions}
@@ -72,6 +73,8 @@ sentence_for code =
     else if code == 15 then (1, codes "luksrd: key slot number is above 31, or options of another version")
     else if code == 16 then (1, codes "luksrd: not an open volume")
     else if code == 17 then (1, codes "luksrd: not whole sectors, or not a range of the plaintext")
+    else if code == 18 then (2, codes "luksrd: volume key does not match the digest in the header")
+    else if code == 19 then (1, codes "luksrd: no digest to compare the volume key with")
     else (1, codes "luksrd: no such code")
 
 -- the struct holds this status and this text, as much of the text as fits, and zeros after it
@@ -110,9 +113,13 @@ are_bad c = if is_of_this_version c then names_no_slot c else true
 abbrev pub limit_in : LuksrdOptions → Option ℕ
 limit_in c = if c.max_iterations == 0 then None else Some c.max_iterations
 
+-- where the header is
+abbrev pub location_in : LuksrdOptions → HeaderLocation
+location_in c = if c.detached == 0 then Attached else Detached
+
 -- the struct has these options
 pub record AreOptions (c : LuksrdOptions) (options : Options) : Type 0 where
-  pub location : options.location ≡ (if c.detached == 0 then Attached else Detached)
+  pub location : options.location ≡ location_in c
   pub named : options.slots.named ≡ named_in c
   pub max_iterations : options.slots.max_iterations ≡ limit_in c
 

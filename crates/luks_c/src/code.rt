@@ -1,9 +1,11 @@
 //! The results of the functions: the numbers of `enum luksrd_code`.
 
 ghost use Rattle.std.specs.Prelude.{◌≡◌};
+ghost use Rattle.luks_c.specs.Keys.{check_code};
 ghost use Rattle.luks_c.specs.Stored.{code_for, sentence_for};
 
 use luks_access::Message;
+use luks_access::key::KeyCheck;
 
 /// Success.
 pub(crate) const OK: u32 = 0;
@@ -17,6 +19,12 @@ pub(crate) const BAD_VOLUME: u32 = 16;
 /// The bytes are not whole sectors, the sector numbers are too large, or the range ends past the
 /// plaintext.
 pub(crate) const BAD_RANGE: u32 = 17;
+
+/// A volume key does not match the digest in a header.
+pub(crate) const OTHER_KEY: u32 = 18;
+
+/// A header has no digest that a volume key can be compared with.
+pub(crate) const NO_DIGEST: u32 = 19;
 
 /// The number of success, a refusal or an ending. Any other message gets that of "out of memory".
 pub(crate) fn code_of(message: &Message) -> u32
@@ -38,6 +46,17 @@ pub(crate) fn code_of(message: &Message) -> u32
         Message::Tail(_) => 13,
         Message::Short(_) => 14,
         _ => 11,
+    }
+}
+
+/// The number of what comparing a volume key with a header gives.
+pub(crate) fn code_of_check(check: KeyCheck) -> u32
+    ensures { result ≡ check_code check }
+{
+    match check {
+        KeyCheck::Matches => OK,
+        KeyCheck::Differs => OTHER_KEY,
+        KeyCheck::NoDigest => NO_DIGEST,
     }
 }
 
@@ -71,6 +90,11 @@ pub(crate) fn sentence(code: u32) -> (u32, &'static str)
             1,
             "luksrd: not whole sectors, or not a range of the plaintext",
         ),
+        18 => (
+            2,
+            "luksrd: volume key does not match the digest in the header",
+        ),
+        19 => (1, "luksrd: no digest to compare the volume key with"),
         _ => (1, "luksrd: no such code"),
     }
 }

@@ -5,26 +5,30 @@
 #![tactic(auto)]
 
 ghost use Rattle.std.specs.Prelude.{◌≡◌, ◌≢◌, ◌+◌, ◌*◌, ◌/◌, ◌%◌, ◌^◌, ◌<◌, List, ℕ, length};
-ghost use Rattle.std.specs.Prelude.{replicate, take};
-ghost use Rattle.std.specs.Prelude.{true};
+ghost use Rattle.std.specs.Prelude.{if◌then◌else◌, replicate, take};
+ghost use Rattle.std.specs.Prelude.{false, nat_le, true};
 ghost use Rattle.luks_access.specs.Opens.{cipher_of, plaintext_of};
 ghost use Rattle.luks_access.specs.Sectors.{AreStored, IsRangeOf, plain_at};
+ghost use Rattle.luks_access.specs.Steps.{IsNextStep};
 ghost use Rattle.luks_unlock.specs.declared.unlocked.UnlockedVolume.{UnlockedVolume};
 ghost use Rattle.luks_payload.specs.Plain.{ending_of, sector_len};
 ghost use Rattle.luks_verdict.specs.SectorSize.{bytes_of};
-ghost use Rattle.luks_c.specs.Stored.{DecryptsAs, EndsAs, EndsIn, IsCleared, Opened, Refused};
+ghost use Rattle.luks_c.specs.Keys.{ComparesKey, RefusesKey, are_bad_for_a_key, is_compared};
+ghost use Rattle.luks_c.specs.Stored.{DecryptsAs, EndsAs, EndsIn, Filled, IsCleared, Opened};
+ghost use Rattle.luks_c.specs.Stored.{Refused};
 ghost use Rattle.luks_c.specs.Stored.{Stores, StoresCode, decrypt_code, fault_bytes, is_range};
 ghost use Rattle.luks_c.specs.Stored.{are_bad, plaintext_len_in};
 ghost use Rattle.luks_c.specs.Steps.{Finishes, IsNoCipher, IsNoStep, IsPrepared, Plans};
-ghost use Rattle.luks_c.specs.Steps.{finish_code, plan_code, prepare_code};
+ghost use Rattle.luks_c.specs.Steps.{finish_code, plan_code, prepare_code, step_in};
 
 use crate::cipher::LuksrdCipher;
-use crate::code::{BAD_OPTIONS, BAD_RANGE, BAD_VOLUME, OK, code_of, sentence};
+use crate::code::{BAD_OPTIONS, BAD_RANGE, BAD_VOLUME, OK, code_of, code_of_check, sentence};
 use crate::message::LuksrdMessage;
-use crate::options::{LuksrdOptions, options_in};
+use crate::options::{LuksrdOptions, header_in, options_in};
 use crate::step::LuksrdStep;
 use crate::volume::LuksrdVolume;
 use luks_access::Message;
+use luks_access::key::check_key_from;
 use luks_access::sectors::{decrypt_sectors, payload_ending, plaintext_len};
 use luks_access::step::{finish, plan};
 use luks_access::volume::Volume;
@@ -82,6 +86,37 @@ pub extern "C" fn luksrd_open(
     }
 }
 
+/// Compares a volume key with the digest in a header, from the first bytes of its image or of the
+/// file of a detached header.
+#[unsafe(no_mangle)]
+pub extern "C" fn luksrd_check_key(
+    alloc: Global,
+    header: &[u8],
+    key: &[u8],
+    options: &LuksrdOptions,
+    message: &mut LuksrdMessage,
+) -> u32
+    ensures compares { is_compared result ≡ true
+        → ComparesKey options.now header.now key.now result message.new }
+    ensures refuses { is_compared result ≡ false → result ≢ 15
+        → RefusesKey options.now header.now key.now result message.new }
+    ensures bad { are_bad_for_a_key options.now ≡ true
+        → (result ≡ 15) × StoresCode message.new 15 }
+    ensures bad_options { result ≡ 15 → are_bad_for_a_key options.now ≡ true }
+{
+    let Some((location, max_iterations)) = header_in(options) else {
+        return answer_code(BAD_OPTIONS, message);
+    };
+    let source = &mut MemSource::new(header);
+    match check_key_from(alloc, location, max_iterations, source, key) {
+        Ok(check) => answer_code(code_of_check(check), message),
+        Err(fault) => {
+            message.set(&fault);
+            code_of(&fault)
+        }
+    }
+}
+
 /// Stores the status and the sentence of a code, and returns the code.
 fn answer_code(code: u32, message: &mut LuksrdMessage) -> u32
     ensures code { result ≡ code }
@@ -101,7 +136,7 @@ pub extern "C" fn luksrd_len(volume: &LuksrdVolume, image_len: u64) -> u64
         → length image ≡ image_len
         → result ≡ length (plaintext_of v image) }
 {
-    match volume::sector_size(volume) {
+    match volume::sector_size_with(volume.sector_size) {
         Some(sector_size) => {
             plaintext_len(volume.offset, volume::size(volume), sector_size, image_len)
         }
@@ -123,7 +158,7 @@ pub extern "C" fn luksrd_ending(
         → EndsAs (ending_of v.segment image) result bytes.new message.new }
 {
     *bytes = 0;
-    let Some(sector_size) = volume::sector_size(volume) else {
+    let Some(sector_size) = volume::sector_size_with(volume.sector_size) else {
         return answer_code(BAD_VOLUME, message);
     };
     match payload_ending(volume.offset, volume::size(volume), sector_size, image_len) {
@@ -165,6 +200,7 @@ fn is_range(sector_size: SectorSize, first: u64, len: usize) -> bool
 #[unsafe(no_mangle)]
 pub extern "C" fn luksrd_prepare(volume: &LuksrdVolume, cipher: &mut LuksrdCipher) -> u32
     ensures code { result ≡ prepare_code volume.now }
+    ensures filled { (v : UnlockedVolume) → Filled volume.now v → result ≡ 0 }
     ensures volume { result ≡ 0 → cipher.new.volume ≡ volume.now }
     ensures prepared { result ≡ 0 → IsPrepared cipher.new }
     ensures cleared { result ≢ 0 → IsNoCipher cipher.new }
@@ -193,6 +229,12 @@ pub extern "C" fn luksrd_plan(
 ) -> u32
     ensures code { result ≡ plan_code cipher.now.volume image_len offset len }
     ensures plans { result ≡ 0 → Plans cipher.now.volume image_len offset len step.new }
+    ensures stored { (v : UnlockedVolume) (image : List ℕ) → Stores cipher.now.volume v
+        → length image ≡ image_len → result ≡ 0
+        → IsNextStep v.segment (length (plaintext_of v image)) offset len (step_in step.new) }
+    ensures within { (v : UnlockedVolume) (image : List ℕ) → Stores cipher.now.volume v
+        → length image ≡ image_len
+        → result ≡ (if nat_le (offset + len) (length (plaintext_of v image)) then 0 else 17) }
     ensures cleared { result ≢ 0 → IsNoStep step.new }
 {
     let Some(segment) = volume::segment(&cipher.volume) else {

@@ -1,8 +1,9 @@
 //! How a volume is opened, as C passes it.
 
 ghost use Rattle.std.specs.Prelude.{◌≡◌, IfSome, MatchOption, false, true};
-ghost use Rattle.luks_c.specs.Stored.{AreOptions, are_bad, is_of_this_version, limit_in, named_in};
-ghost use Rattle.luks_c.specs.Stored.{names_no_slot};
+ghost use Rattle.luks_c.specs.Keys.{are_bad_for_a_key};
+ghost use Rattle.luks_c.specs.Stored.{AreOptions, are_bad, is_of_this_version, limit_in};
+ghost use Rattle.luks_c.specs.Stored.{location_in, named_in, names_no_slot};
 
 use luks_access::options::Options;
 use luks_access::{HeaderLocation, SlotChoice};
@@ -57,6 +58,17 @@ fn max_iterations(options: &LuksrdOptions) -> Option<u32>
     }
 }
 
+// Where the header is.
+fn location(options: &LuksrdOptions) -> HeaderLocation
+    ensures { result ≡ location_in options.now }
+{
+    if options.detached == 0 {
+        HeaderLocation::Attached
+    } else {
+        HeaderLocation::Detached
+    }
+}
+
 /// The options that C passes, or `None` if they name a key slot by a number above 31 or are of
 /// another version.
 pub(crate) fn options_in(options: &LuksrdOptions) -> Option<Options>
@@ -68,11 +80,7 @@ pub(crate) fn options_in(options: &LuksrdOptions) -> Option<Options>
         return None;
     }
     let named = named_slot(options)?;
-    let location = if options.detached == 0 {
-        HeaderLocation::Attached
-    } else {
-        HeaderLocation::Detached
-    };
+    let location = location(options);
     let max_iterations = max_iterations(options);
     Some(Options {
         location,
@@ -81,4 +89,17 @@ pub(crate) fn options_in(options: &LuksrdOptions) -> Option<Options>
             max_iterations,
         },
     })
+}
+
+/// Where the header is that a volume key is compared with, and the limit on iterations, or `None` if
+/// the options name a key slot or are of another version.
+pub(crate) fn header_in(options: &LuksrdOptions) -> Option<(HeaderLocation, Option<u32>)>
+    ensures { MatchOption result (are_bad_for_a_key options.now ≡ true)
+        (λ header. (are_bad_for_a_key options.now ≡ false)
+        × (header.0 ≡ location_in options.now) × (header.1 ≡ limit_in options.now)) }
+{
+    if !is_of_this_version(options) || options.has_key_slot != 0 {
+        return None;
+    }
+    Some((location(options), max_iterations(options)))
 }

@@ -66,11 +66,11 @@ fn mode_of_number(number: u32) -> Option<Mode>
     }
 }
 
-/// The sector size of a volume that C keeps.
-pub(crate) fn sector_size(volume: &LuksrdVolume) -> Option<SectorSize>
-    ensures { result ≡ sector_size_with volume.now.sector_size }
+/// The sector size with this number of bytes.
+pub(crate) fn sector_size_with(bytes: u32) -> Option<SectorSize>
+    ensures { result ≡ sector_size_with bytes }
 {
-    match volume.sector_size {
+    match bytes {
         512 => Some(SectorSize::B512),
         1024 => Some(SectorSize::B1024),
         2048 => Some(SectorSize::B2048),
@@ -98,7 +98,7 @@ pub(crate) fn segment(volume: &LuksrdVolume) -> Option<Segment>
         offset: Some(volume.offset),
         size: Some(size(volume)),
         iv_tweak: Some(volume.iv_tweak),
-        sector_size: sector_size(volume),
+        sector_size: sector_size_with(volume.sector_size),
         mode: mode_of_number(volume.mode),
     })
 }

@@ -1,19 +1,13 @@
 use Rattle.std.proofs.Common.{◌∙◌, Some, ap, sym, ◌≡◌, ◌≢◌, arith}
 use Rattle.luks_io.specs.Counts.{MemSourceModel}
 use Rattle.luks_cipher.proofs.ModeLemmas.{max_mode_key}
-use Rattle.luks_io.specs.Devices.{counted}
 use Rattle.luks_report.specs.declared.message.Message.{Message}
-use Rattle.luks_report.specs.declared.message.Message.TheVariants.{Done, ReadFailed}
-use Rattle.luks_runs.specs.Run.{is_run_read_failure}
+use Rattle.luks_report.specs.declared.message.Message.TheVariants.{Done}
 use Rattle.luks_unlock.proofs.VolumeLemmas.{outcome_decided}
 use Rattle.luks_unlock.specs.Volume.{OpeningMessage}
+use Rattle.luks_c.proofs.StoredLemmas.{no_read}
 use Rattle.luks_c.specs.Stored.{code_for}
 use Rattle.luks_c.proofs.luksrd_open.Goals as goal
-
--- no read of a source over memory fails
-no_read : (m : Message) → 0 ≡ counted (is_run_read_failure m) 0 → m ≢ ReadFailed
-no_read ReadFailed count = absurd (omega (arith, count))
-no_read _ count = λ is. cc
 
 -- the code of a refusal is not that of success
 some_code : (m : Message) → OpeningMessage m → code_for m ≢ 0

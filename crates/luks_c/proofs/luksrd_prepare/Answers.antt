@@ -1,9 +1,10 @@
-use Rattle.std.proofs.Common.{◌∙◌, List, ℕ, ap, subst, sym}
+use Rattle.std.proofs.Common.{◌∙◌, List, ℕ, ap, rules, subst, sym}
 use Rattle.std.proofs.lemmas.Option.{same_Some}
 use Rattle.luks_cipher.specs.Expanded.{AreExpanded}
 use Rattle.luks_verdict.specs.declared.segment.Segment.{Segment}
 use Rattle.luks_c.specs.Stored.{key_in, segment_in}
 use Rattle.luks_c.specs.declared.volume.LuksrdVolume.{LuksrdVolume}
+use Rattle.luks_c.proofs.StoredLemmas.{filled_code}
 use Rattle.luks_c.proofs.luksrd_prepare.Goals as goal
 
 pub returns-clause-prepared : goal.returns-clause-prepared
@@ -17,3 +18,17 @@ returns-clause-prepared c done = record {
       subst (λ (w : LuksrdVolume). AreExpanded (key_in w) s.mode new.keys) (sym c.store.ensures.volume)
       (subst (λ (t : Segment). AreExpanded (key_in c.args.volume.now) t.mode new.keys) same key);
 }
+
+pub returns-in_default-clause-code : goal.returns-in_default-clause-code
+returns-in_default-clause-code c = search rules
+
+pub returns-in_default-clause-filled : goal.returns-in_default-clause-filled
+returns-in_default-clause-filled c v filled =
+    returns-in_default-clause-code c ∙ filled_code c.args.volume.now v filled
+
+pub returns-in_default-key-clause-code : goal.returns-in_default-key-clause-code
+returns-in_default-key-clause-code c = search rules
+
+pub returns-in_default-key-clause-filled : goal.returns-in_default-key-clause-filled
+returns-in_default-key-clause-filled c v filled =
+    returns-in_default-key-clause-code c ∙ filled_code c.args.volume.now v filled

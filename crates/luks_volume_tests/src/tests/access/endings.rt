@@ -35,7 +35,7 @@ static FIXED: [Ending; 6] = [
 
 // Whether an image of this length has a plaintext of this length and this ending.
 fn has_ending(volume: &Volume, (image_len, len, ending): &Ending) -> bool {
-    (volume.len(*image_len) == *len) & (volume.ending(*image_len) == *ending)
+    (volume.len(*image_len) == *len) & (volume.payload_ending(*image_len) == *ending)
 }
 
 // The plaintext of the image of this length is a prefix of the text.

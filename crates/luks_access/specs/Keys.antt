@@ -1,0 +1,42 @@
+-- What comparing a known volume key with the header of an image gives.
+use Rattle.std.specs.Prelude.{ℕ, List, Option, Result, Ok, Err, if◌then◌else◌, length}
+use Rattle.luks_cipher.specs.Sector.{is_mode_key_length}
+use Rattle.luks_area.specs.declared.fault.HeaderFault.{HeaderFault}
+use Rattle.luks_verdict.specs.declared.refusal.SegmentFault.{SegmentFault}
+use Rattle.luks_verdict.specs.declared.segment.Segment.{Segment}
+use Rattle.luks_header.specs.HeaderSegment.{segment_of}
+use Rattle.luks_header.specs.declared.header.Header.{Header}
+use Rattle.luks_open.specs.VolumeKey.{compared, key_digest_of}
+use Rattle.luks_open.specs.declared.volume_key.KeyCheck.{KeyCheck}
+use Rattle.luks_open.specs.declared.volume_key.KeyCheck.TheVariants.{Differs}
+use Rattle.luks_report.specs.Faults.{message_for_header}
+use Rattle.luks_report.specs.declared.message.Message.{Message}
+use Rattle.luks_report.specs.declared.message.Message.TheVariants.{NotLuks, Cut, Json, SegmentRefused}
+use Rattle.luks_report.specs.declared.message.Message.TheVariants.{OutOfMemory, ReadFailed}
+use Rattle.luks_runs.specs.Location.{reader_for}
+use Rattle.luks_runs.specs.declared.location.HeaderLocation.{HeaderLocation}
+
+-- comparing a key may end with this message
+abbrev pub KeyCheckMessage : Message → Type 0
+KeyCheckMessage NotLuks = Unit {0}
+KeyCheckMessage Cut = Unit {0}
+KeyCheckMessage Json = Unit {0}
+KeyCheckMessage (SegmentRefused _) = Unit {0}
+KeyCheckMessage OutOfMemory = Unit {0}
+KeyCheckMessage ReadFailed = Unit {0}
+KeyCheckMessage _ = ⊥
+
+-- a key of a length that the segment's mode has is compared with the header's digest; any other differs
+abbrev pub check_in_segment : Header → Option ℕ → List ℕ → Result Segment SegmentFault → Result KeyCheck Message
+check_in_segment header limit key (Ok s) =
+    Ok (if is_mode_key_length s.mode (length key) then compared limit (key_digest_of header) key else Differs)
+check_in_segment header limit key (Err fault) = Err (SegmentRefused fault)
+
+-- the same for the header that was read, or the message if none was
+abbrev pub check_in_header : Option ℕ → List ℕ → Result Header HeaderFault → Result KeyCheck Message
+check_in_header limit key (Ok header) = check_in_segment header limit key (segment_of header)
+check_in_header limit key (Err fault) = Err (message_for_header fault)
+
+-- what comparing a key with the header at the start of an image, or of its own file, gives
+unfoldable pub key_check_of : HeaderLocation → Option ℕ → List ℕ → List ℕ → Result KeyCheck Message
+key_check_of location limit image key = check_in_header limit key (reader_for location image)

@@ -1,0 +1,53 @@
+//! Comparing a known volume key with a header.
+
+ghost use Rattle.std.specs.Prelude.{◌≡◌, Bool, IfErr, IfOk, Ok, Err, false};
+ghost use Rattle.luks_io.specs.Counts.{Reads};
+ghost use Rattle.luks_io.specs.Devices.{IfKnown};
+ghost use Rattle.luks_runs.specs.Run.{aborts, is_run_read_failure, result_message};
+ghost use Rattle.luks_access.specs.Keys.{KeyCheckMessage, key_check_of};
+
+use luks_header::payload::segment;
+use luks_io::source::Source;
+use luks_kdf::Work;
+use luks_open::volume_key;
+pub use luks_open::volume_key::KeyCheck;
+use luks_report::message::Message;
+use luks_runs::location::{HeaderLocation, read_header_at};
+use std::alloc::Global;
+
+/// Compares a volume key with the digest in a header: the lowest-numbered usable digest that lists
+/// segment 0; LUKS1 has one digest. A key whose length is not one of the cipher's differs. The
+/// source gives the bytes of the image, or of the detached header; no key area is read.
+///
+/// PBKDF2 does not distinguish a key from the same key with zeros after it, up to the block length
+/// of the hash function.
+///
+/// # Errors
+///
+/// The message of `luksCat` if there is no header, its segment is refused, a read fails or memory
+/// runs out.
+pub fn check_key_from<S: Source>(
+    alloc: Global,
+    location: HeaderLocation,
+    max_iterations: Option<u32>,
+    source: &mut S,
+    key: &[u8],
+) -> Result<KeyCheck, Message>
+    ensures checks { IfOk result (λ check. IfKnown (S.to_come source.old)
+        (λ known. key_check_of location max_iterations known key.now ≡ Ok check)) }
+    ensures refuses { IfErr result (λ message. aborts message ≡ false
+        → IfKnown (S.to_come source.old)
+        (λ known. key_check_of location max_iterations known key.now ≡ Err message)) }
+    ensures only { IfErr result KeyCheckMessage }
+    ensures reads { (ended : Bool) × Reads (is_run_read_failure (result_message result)) ended
+        (S.counts source.old) (S.counts source.new) }
+{
+    let (header, _area) = read_header_at(alloc, location, source)?;
+    let segment = segment(&header)?;
+    if !segment.mode.has_key_length(key.len()) {
+        return Ok(KeyCheck::Differs);
+    }
+    let work = &mut Work::new(0);
+    let check = volume_key::check_key(alloc, &header, max_iterations, key, work)?;
+    Ok(check)
+}

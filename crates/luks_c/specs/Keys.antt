@@ -1,0 +1,44 @@
+-- What `luksrd_check_key` answers: a known volume key compared with a header.
+use Rattle.std.specs.Prelude.{ℕ, ◌≡◌, ◌≢◌, ◌==◌, Bool, false, true, List, Ok, Err, if◌then◌else◌}
+use Rattle.luks_access.specs.Keys.{KeyCheckMessage, key_check_of}
+use Rattle.luks_open.specs.declared.volume_key.KeyCheck.{KeyCheck}
+use Rattle.luks_open.specs.declared.volume_key.KeyCheck.TheVariants.{Matches, Differs, NoDigest}
+use Rattle.luks_report.specs.declared.message.Message.{Message}
+use Rattle.luks_report.specs.declared.message.Message.TheVariants.{ReadFailed}
+use Rattle.luks_runs.specs.Run.{aborts}
+use Rattle.luks_c.specs.Stored.{BeginsAs, StoresCode, StoresMessage, code_for, is_of_this_version, limit_in, location_in}
+use Rattle.luks_c.specs.declared.message.LuksrdMessage.{LuksrdMessage}
+use Rattle.luks_c.specs.declared.options.LuksrdOptions.{LuksrdOptions}
+
+-- the options name a key slot, which is not looked at here, or are of another version
+abbrev pub are_bad_for_a_key : LuksrdOptions → Bool
+are_bad_for_a_key c = if is_of_this_version c then (if c.has_key_slot == 0 then false else true) else true
+
+-- the number of what comparing gives, in `enum luksrd_code`
+abbrev pub check_code : KeyCheck → ℕ
+check_code Matches = 0
+check_code Differs = 18
+check_code NoDigest = 19
+
+-- a key was compared: with the header of each image that starts with these bytes, comparing gives this
+pub record ComparesKey (c : LuksrdOptions) (header key : List ℕ) (code : ℕ) (message : LuksrdMessage) : Type 0 where
+  pub check : KeyCheck
+  pub is_code : code ≡ check_code check
+  pub says : StoresCode message code
+  pub gives : (image : List ℕ) → BeginsAs image header
+      → key_check_of (location_in c) (limit_in c) image key ≡ Ok check
+
+-- a key was not compared: the message is that of `luksCat` for the header of each image that starts with these bytes, or
+-- memory ran out
+pub record RefusesKey (c : LuksrdOptions) (header key : List ℕ) (code : ℕ) (message : LuksrdMessage) : Type 0 where
+  pub refusal : Message
+  pub is_code : code ≡ code_for refusal
+  pub says : StoresMessage message refusal
+  pub only : KeyCheckMessage refusal
+  pub read : refusal ≢ ReadFailed
+  pub gives : aborts refusal ≡ false → (image : List ℕ) → BeginsAs image header
+      → key_check_of (location_in c) (limit_in c) image key ≡ Err refusal
+
+-- the code is one of a comparison
+abbrev pub is_compared : ℕ → Bool
+is_compared code = if code == 0 then true else if code == 18 then true else code == 19
