@@ -20,7 +20,6 @@ use Rattle.luks_verdict.specs.declared.sector_size.SectorSize.{SectorSize}
 use Rattle.luks_verdict.specs.declared.segment.Segment.{Segment}
 use Rattle.luks_payload.specs.Plain.{payload_bytes}
 use Rattle.luks_access.specs.Steps.{IsNextStep}
-use Rattle.luks_access.specs.declared.step.ReadStep.{ReadStep}
 use Rattle.luks_c.specs.Steps.{Plans, plan_code, plan_code_by, plain_len_of, prepare_code, prepare_code_by, step_in}
 use Rattle.luks_c.specs.Stored.{decrypt_code, range_code, segment_code, Filled, Stores, cipher_in, has_size_of}
 use Rattle.luks_c.specs.Stored.{mode_in, mode_number, segment_in, size_stored_in}

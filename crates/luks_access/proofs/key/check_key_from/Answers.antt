@@ -10,7 +10,6 @@ use Rattle.luks_header.specs.Header.{ReadsNoHeader}
 use Rattle.luks_header.specs.HeaderSegment.{segment_of}
 use Rattle.luks_header.specs.declared.header.Header.{Header}
 use Rattle.luks_open.specs.VolumeKey.{compared, key_digest_of}
-use Rattle.luks_open.specs.declared.volume_key.KeyCheck.{KeyCheck}
 use Rattle.luks_open.specs.declared.volume_key.KeyCheck.TheVariants.{Differs}
 use Rattle.luks_report.specs.Faults.{message_for_header}
 use Rattle.luks_report.specs.declared.message.Message.TheVariants.{SegmentRefused}
