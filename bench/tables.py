@@ -120,7 +120,15 @@ TABLES = {
     "plugin": Table("nbd", "Instructions over the cipher's", {
         "luksrd's plugin": ("ours",), "luksrd's plugin, v3": ("ours-v3",),
     }, (Column("times", "{0} instructions over the cipher", 3),), last_version),
-    "reads": Table("reads", "Instructions", None, (Column("per read", "{0}"),), last_version),
+    "reads": Table("reads", "A read", {
+        "512 bytes": ("512 512",), "4,096 bytes in sectors of 512": ("4096 512",),
+        "4,096 bytes in sectors of 4,096": ("4096 4096",),
+    }, (
+        Column("instructions, v2", "{0} ours"),
+        Column("over the cipher's", "{0} ours over the cipher", 3),
+        Column("v3", "{0} ours-v3"),
+        Column("over the cipher's", "{0} ours-v3 over the cipher", 3),
+    ), last_version),
     "search": Table("search", "1 GiB", {"luksrd-audit --search": ("search",), "cat": ("cat",)}, (
         Column("seconds at best", "{0}", 2, is_best=True),
     )),
