@@ -18,7 +18,7 @@ export LC_ALL=C
 # what each root gets: the packages, and a folder that anyone can read, with the sample volume and the sources of C
 packages=(libluksrd-dev libluksrd2 luksrd nbdkit-plugin-luksrd python3-luksrd)
 make -s -C "$sources" deb PROGRAM_V2="$program" PROGRAM_V3="$program_v3" LIBRARY="$library" SHARED="$shared" \
-    SHARED_V3="$shared_v3" PLUGIN="$plugin" FILTER="$filter" DEBS="$work/debs" >log 2>&1
+    SHARED_V3="$shared_v3" PLUGIN="$plugin" FILTER="$filter" AUDIT=absent DEBS="$work/debs" >log 2>&1
 same 'the packages are made' "$? $(find debs -name '*.deb' | wc -l)" "0 ${#packages[@]}"
 mkdir given
 cp -r "$sources"/{Makefile,c,nbdkit,sample} given

@@ -18,7 +18,7 @@ export LC_ALL=C
 # made FOLDER: `make deb` of all that is built, into this folder
 made() {
     make -s -C "$sources" deb PROGRAM_V2="$program" PROGRAM_V3="$program_v3" LIBRARY="$library" SHARED="$shared" \
-        SHARED_V3="$shared_v3" PLUGIN="$plugin" FILTER="$filter" DEBS="$1"
+        SHARED_V3="$shared_v3" PLUGIN="$plugin" FILTER="$filter" AUDIT=absent DEBS="$1"
 }
 
 # what is missing, and which command makes it
@@ -87,8 +87,8 @@ made "$work/again" >log
 same 'the packages made again' "$(diff -r 'a folder' again 2>&1)" ''
 # packed ARGUMENT..: the packages that `make deb` makes with these arguments
 packed() {
-    make -s -C "$sources" deb PROGRAM_V2="$program" PROGRAM_V3="$program_v3" DEBS="$work/fewer" "$@" 2>&1 |
-        sed 's/.*\///; s/_.*//'
+    make -s -C "$sources" deb PROGRAM_V2="$program" PROGRAM_V3="$program_v3" AUDIT=absent DEBS="$work/fewer" "$@" \
+        2>&1 | sed 's/.*\///; s/_.*//'
 }
 same 'a package of the program alone' "$(packed LIBRARY=no-library PLUGIN=no-plugin FILTER=no-filter)" luksrd
 same 'packages of the library too' "$(packed LIBRARY="$library" SHARED="$shared" SHARED_V3="$shared_v3" \
