@@ -6,20 +6,28 @@ audit=$(realpath "${2:?the built luksrd-audit}")
 . "$(dirname "$0")/documents.sh"
 ln -s "$audit" luksrd-audit
 
-# a folder with a volume of each version, an empty image, and a short one
+# a folder with a volume of each version, one that ends in its second header, an empty image, and a short one
 truncate -s 1M plain
 mkdir folder
 format1 folder/disk.img aes-cbc-essiv:sha256 sha1 256
 seal folder/second.img aes-xts-plain64 512
 : >folder/empty.img
+head -c 20000 folder/second.img >folder/cut.img
 head -c 500 folder/disk.img >folder/short.img
 cooks folder '' README.md:'4. Audit of a folder'
 tab=$'\t'
-recipes_say folder "../disk.img${tab}1${tab}segment cbc, slot 0 iterations, slot 0 sha1, slot 0 cbc, \
-slot 5 iterations, slot 5 sha1, slot 5 cbc, digest 0 sha1
-../empty.img${tab}no LUKS header$tab
-../second.img${tab}2${tab}slot 0 iterations, slot 1 iterations
-../short.img${tab}header is truncated$tab"
+# tabbed COLUMN..: a line of these columns
+tabbed() {
+    local IFS=$tab
+    echo "$*"
+}
+weak=(2 'slot 0 iterations' 'slot 1 iterations')
+recipes_say folder "$(tabbed ../cut.img "${weak[@]}" 'secondary header: not valid')
+$(tabbed ../disk.img 1 'segment cbc' 'slot 0 iterations' 'slot 0 sha1' 'slot 0 cbc' 'slot 5 iterations' 'slot 5 sha1' \
+    'slot 5 cbc' 'digest 0 sha1')
+$(tabbed ../empty.img 'no LUKS header')
+$(tabbed ../second.img "${weak[@]}")
+$(tabbed ../short.img 'header is truncated')"
 
 # two volumes in a disk without a partition table
 mkdir disk
