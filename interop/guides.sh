@@ -74,6 +74,19 @@ recipes_give no_header plain.img ext4
 recipes_give no_header plain2.img ext4
 recipes_say no_header 'TYPE="ext4"'
 
+# a partition of a whole disk, whose volume has a key slot by Argon2 alone
+mkdir argon2
+cp ext4 volume
+truncate -s +8M volume
+run_cryptsetup reencrypt --encrypt --type luks2 --reduce-device-size 8M --force-offline-reencrypt \
+    --luks2-keyslots-size 1m "${by_argon2[@]}" --key-file pass volume
+truncate -s 32M argon2/whole.img
+printf 'label: gpt\nstart=2048, size=4096\nstart=6144\n' | sfdisk -q argon2/whole.img
+dd if=volume of=argon2/whole.img bs=512 seek=6144 conv=notrunc status=none
+cp volume argon2/disk.img
+cooks argon2 whole.img RESCUE.md:'# 6144: the start of partition 2'
+recipes_give argon2 fstab files/etc/fstab
+
 # a truncated image, of which nothing is missing that is in use
 volume truncated ext4
 truncate -s -1500000 truncated/disk.img
