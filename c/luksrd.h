@@ -36,7 +36,7 @@
  * not be called from a signal handler, nor from the forked child of a process with threads.
  *
  * luksrd_open and luksrd_check_key need at most 256 KiB of stack, luksrd_prepare 128 KiB, and every
- * other function 32 KiB.
+ * other function 32 KiB, except luksrd_wipe_stack, which needs 257 KiB.
  *
  * What is left of keys: the caller wipes the passphrase, the volume and the cipher (luksrd_wipe).
  * Copies of keys and of parts of them stay on the stack of the thread that called luksrd_open,
@@ -94,7 +94,8 @@ enum luksrd_code {
   LUKSRD_ENDS_BEFORE_SEGMENT = 14, /* before the end of a payload of fixed size */
 
   /* a call that no caller should make */
-  LUKSRD_BAD_OPTIONS = 15, /* a key slot number above 31, or options of another version */
+  LUKSRD_BAD_OPTIONS = 15, /* a key slot number above 31, a key slot named where none may be, or
+                            * options of another version */
   LUKSRD_BAD_VOLUME = 16,  /* a struct without an open volume */
   LUKSRD_BAD_RANGE = 17,   /* no whole sectors, sector numbers that are too large, or a range that
                             * ends past the plaintext */
@@ -250,7 +251,8 @@ uint32_t luksrd_plan(const struct luksrd_cipher *cipher, uint64_t image_len, uin
                      uint64_t len, struct luksrd_step *step) LUKSRD_CHECKED;
 
 /* Decrypts the bytes that a step reads, and moves the part that the range gets to their beginning:
- * the first `step->count` of the bytes are those of the range. What is after them is not said.
+ * the first `step->count` of the bytes are those of the range. The bytes after them are
+ * unspecified.
  *
  * A caller that read fewer bytes than the step names must not pass the rest.
  *
@@ -283,9 +285,10 @@ static __attribute__((noinline, unused)) void luksrd_wipe_below(void)
   luksrd_wipe(below, sizeof below);
 }
 
-/* Fills the 256 KiB of stack below the caller with zeros, where functions that it called before have
- * left copies of keys. Call it from the function that called luksrd_open, luksrd_check_key or
- * luksrd_prepare, in the same thread. */
+/* Fills the 256 KiB of stack below the caller with zeros, where functions that it called before
+ * have left copies of keys. Call it from the function that called luksrd_open, luksrd_check_key or
+ * luksrd_prepare, in the same thread. In a thread with a smaller stack, do not call it: wipe that
+ * stack when the thread has ended. */
 static __attribute__((noinline, unused)) void luksrd_wipe_stack(void)
 {
   /* When the loader looks up a function, it saves registers: here, where they are wiped. */
