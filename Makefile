@@ -291,9 +291,8 @@ test: toolchain
 
 # What the measurements need, before the first of them begins. MACHINE and AS_BUILT reach them by the environment.
 BENCH_TOOLS := cryptsetup valgrind python3 cc openssl /usr/bin/time qemu-img nbdkit nbdcopy grub-fstest gnuplot
-MACHINE ?= $(shell uname -n)
 
-bench: export MACHINE := $(MACHINE)
+bench: export MACHINE ?= $(shell uname -n)
 bench: $(if $(AS_BUILT),,all)
 	@for tool in $(BENCH_TOOLS); do \
 	    command -v $$tool >/dev/null || { echo "$$tool is missing: CONTRIBUTING.md lists the packages" >&2; exit 1; }; \
