@@ -3,7 +3,6 @@
 # how these are found, and how they are run in a folder with images. nbdkit loads the plugin and the filter from where
 # they are built (plugin, filter); a script without them runs no command that loads them.
 sources=$(realpath "$(dirname "${BASH_SOURCE[0]}")/..")
-pages=$sources/docs
 # shellcheck source=interop/common.sh
 . "$sources/interop/common.sh"
 # shellcheck disable=SC2154
@@ -34,16 +33,6 @@ recipe() {
         !found && index($0, text) { found = 1; comment = /^    # / }
         found && /^    / && !(comment && /^    # /) { inside = 1; print substr($0, 5); next }
         inside { exit }' "$(document "$1")"
-}
-
-# example PAGE TEXT: the example in a man page that follows this text
-example() {
-    awk -v text="$2" '
-        !/^\./ && index($0, text) { found = 1 }
-        found && /^\.Ed/ { exit }
-        inside
-        found && /^\.Bd/ { inside = 1 }
-        found && /^\.Dl / { print substr($0, 5); exit }' "$pages/$1" | sed 's/\\(dq/"/g; s/\\e/\\/g'
 }
 
 # commands_in NAME:TEXT: the recipe of a document, or the example in a man page
