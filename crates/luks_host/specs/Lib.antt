@@ -1,6 +1,10 @@
+pub mod Descriptors
 pub mod DeviceNumbers
 pub mod Endings
 pub mod Inputs
 pub mod LoopDevices
+pub mod Modes
+pub mod Openings
 pub mod Outputs
 pub mod Storages
+pub mod Targets

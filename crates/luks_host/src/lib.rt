@@ -1,11 +1,15 @@
-//! What the program does with the devices of its host, apart from the calls of the system: which
-//! reader an input is read through, which files standard output must not write to, and how a run
-//! ends.
+//! What the programs do with the files and the devices of their host: what they ask of the system,
+//! how inputs are opened, which files standard output must not write to, and how a run ends.
 #![tactic(auto)]
 
+pub mod descriptors;
 pub mod device_number;
 pub mod ending;
 pub mod input;
 pub mod loop_device;
+pub mod mode;
+pub mod opening;
 pub mod output;
 pub mod storage;
+pub mod system;
+pub mod target;

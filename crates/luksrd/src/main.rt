@@ -1,21 +1,20 @@
 //! `luksrd`: reads its arguments, opens the inputs, runs the command, and reports how it ended.
 //!
-//! What a run does is specified by `plan`, `execute` and `execute_detached` of `luks_cli`, and what
-//! is decided about devices by `luks_host`; only calls of the system are here.
+//! What a run does is specified by `plan`, `execute` and `execute_detached` of `luks_cli`, and how
+//! files are opened and a run ends by `luks_host`; only their calls, and calls of std, are here.
 #![tactic(auto)]
 
-mod descriptors;
 mod input;
-mod target;
 
-use descriptors::stand_in;
-use input::{HostInput, InputFault, open_input};
+use input::{HostInput, open_host_input};
 use luks_cli::execute::{execute, execute_detached};
 use luks_cli::plan_fault::report_of_fault;
 use luks_cli::{Command, Message, NOT_OPENED, Report, not_opened_text, plan};
+use luks_host::descriptors::stand_ins;
 use luks_host::ending::{Ending, end_run, print_ending};
 use luks_host::input::Input;
 use luks_host::output::{RawFlush, RetryingWriter};
+use luks_host::system::InputFault;
 use luks_io::adapters::{ReadSource, WriteSink};
 use luks_io::ahead::ReadAheadSource;
 use std::env;
@@ -26,7 +25,7 @@ use std::process::ExitCode;
 const BUFFER: usize = 65536;
 
 fn main(rt: HostRuntime) -> ExitCode {
-    let _stand_ins = [stand_in(&rt), stand_in(&rt), stand_in(&rt)];
+    let _stand_ins = stand_ins(&rt);
     let args = match env::args(&rt) {
         Ok(args) => args,
         Err(e) if e.kind() == ErrorKind::OutOfMemory => return end(&rt, Message::OutOfMemory),
@@ -107,7 +106,7 @@ fn open<'a>(rt: &HostRuntime, name: Option<&'a str>) -> Result<HostInput, StartF
     let Some(name) = name else {
         return Ok(Input::Empty);
     };
-    open_input(rt, name).map_err(|fault| match fault {
+    open_host_input(rt, name).map_err(|fault| match fault {
         InputFault::NotOpened => StartFault::NotOpened(name),
         InputFault::Memory => StartFault::OutOfMemory,
     })

@@ -1,11 +1,11 @@
-//! Opens images: files by name, standard input by `-`.
+//! Opens images, with the readers of this program.
 
-use crate::target::{facts_of, is_output};
 use luks_audit_run::counted::CountedSource;
 use luks_audit_run::host::{Images, NotOpened};
-use luks_host::input::{Access, Input, access_to};
+use luks_host::input::Input;
+use luks_host::opening::{OpenedInput, open_input};
 use luks_io::adapters::ReadSource;
-use std::fs::{self, File, Metadata};
+use std::fs::File;
 use std::io::Stdin;
 
 /// An open image. Files are read as requested: a header is read in a few large pieces.
@@ -48,22 +48,9 @@ impl<'r> Images for HostImages<'r> {
 
 /// Opens the image of this name, unless standard output writes to it.
 fn open_image(rt: &HostRuntime, name: &str) -> Result<HostImage, NotOpened> {
-    if name == "-" {
-        return match fs::metadata(rt, "/dev/stdin") {
-            Ok(found) if is_refused(rt, &found) => Err(NotOpened),
-            _ => Ok(Input::Standard(rt.stdin())),
-        };
+    match open_input(rt, rt.alloc(), name) {
+        Ok(OpenedInput::Standard) => Ok(Input::Standard(rt.stdin())),
+        Ok(OpenedInput::Buffered(file) | OpenedInput::AsRequested(file)) => Ok(Input::Stream(file)),
+        Err(_) => Err(NotOpened),
     }
-    let Ok(file) = fs::open(rt, name) else {
-        return Err(NotOpened);
-    };
-    match file.metadata() {
-        Ok(found) if !is_refused(rt, &found) => Ok(Input::Stream(file)),
-        _ => Err(NotOpened),
-    }
-}
-
-/// Whether the image with this metadata is a folder, or the target of standard output.
-fn is_refused(rt: &HostRuntime, found: &Metadata) -> bool {
-    access_to(facts_of(found).kind, is_output(rt, found)) == Access::Refused
 }

@@ -1,19 +1,17 @@
 //! `luksrd-audit`: reads its arguments, audits the images, and reports how that ended.
 //!
-//! What a run writes is specified by `run` of `luks_audit_run`; only calls of the system and the
-//! command line are here.
+//! What a run writes is specified by `run` of `luks_audit_run`, and how images are opened by
+//! `luks_host`; only their calls, calls of std and the command line are here.
 #![tactic(auto)]
 
 mod arguments;
-mod descriptors;
 mod images;
-mod target;
 
 use arguments::{Request, command, request_in};
 use clap::ArgMatches;
-use descriptors::stand_in;
 use images::HostImages;
 use luks_audit_run::run::{Ending, run};
+use luks_host::descriptors::stand_ins;
 use luks_host::output::{RawFlush, RetryingWriter};
 use luks_io::adapters::WriteSink;
 use std::env;
@@ -27,7 +25,7 @@ const BUFFER: usize = 65536;
 const USAGE: u8 = 2;
 
 fn main(rt: HostRuntime) -> ExitCode {
-    let _stand_ins = [stand_in(&rt), stand_in(&rt), stand_in(&rt)];
+    let _stand_ins = stand_ins(&rt);
     let args = match env::args(&rt) {
         Ok(args) => args,
         Err(e) if e.kind() == ErrorKind::OutOfMemory => return end(&rt, Ending::OutOfMemory),

@@ -4,6 +4,8 @@
 
 ghost use Rattle.std.specs.Prelude.{None, []};
 
+mod opening;
+
 use luks_host::device_number::{DeviceParts, device_parts};
 use luks_host::ending::{Ending, end_run};
 use luks_host::loop_device::{backing_entry, backing_name};

@@ -1,0 +1,68 @@
+-- Whether standard output writes to a file, from what a system may answer.
+use Rattle.std.specs.Prelude.{◌≡◌, ◌≢◌, ◌⊎◌, ◌↔◌, ◌++◌, ◌∷◌, [], ℕ, List, Bool, false, Option, Some, None, IsTrue, codes}
+use Rattle.luks_host.specs.declared.storage.FileFacts.{FileFacts}
+use Rattle.luks_host.specs.declared.storage.FileKind.{FileKind}
+use Rattle.luks_host.specs.declared.storage.FileKind.TheVariants.{Regular, Directory, BlockDevice, Other}
+use Rattle.luks_host.specs.declared.storage.SeenFile.{SeenFile}
+use Rattle.luks_host.specs.LoopDevices.{IsBackingEntry}
+use Rattle.luks_host.specs.Storages.{SharesStorage}
+
+-- whether a system may find this under a name: the facts of a file, or none
+abbrev pub Finds : Type 1
+Finds = List ℕ → Option FileFacts → Type 0
+
+-- whether a system may show this under a name: the text of a file, or none
+abbrev pub Shows : Type 1
+Shows = List ℕ → Option (List ℕ) → Type 0
+
+-- the file whose name is in this text, before the only newline at the text's end; none without that newline
+abbrev pub IsNamedIn : Finds → List ℕ → Option FileFacts → Type 0
+IsNamedIn finds text below = ((name : List ℕ) × (text ≡ name ++ 10 ∷ []) × finds name below)
+    ⊎ (((name : List ℕ) → text ≢ name ++ 10 ∷ []) × (below ≡ None))
+
+-- the file whose name is in this text, if there is a text
+abbrev pub IsNamedInAny : Finds → Option (List ℕ) → Option FileFacts → Type 0
+IsNamedInAny finds (Some text) below = IsNamedIn finds text below
+IsNamedInAny finds None below = below ≡ None
+
+-- the file that an entry of `/sys` names
+pub record IsBelowEntry (finds : Finds) (shows : Shows) (entry : List ℕ) (below : Option FileFacts) : Type 0 where
+  pub text : Option (List ℕ)
+  pub shown : shows entry text
+  pub named : IsNamedInAny finds text below
+
+-- the file under the block device with this number, by its entry; none if memory runs out for that entry's name
+abbrev pub IsBelowDevice : Finds → Shows → ℕ → Option FileFacts → Type 0
+IsBelowDevice finds shows number below =
+    ((entry : List ℕ) × IsBackingEntry number entry × IsBelowEntry finds shows entry below) ⊎ (below ≡ None)
+
+-- the file under a file of this kind and number: only a block device has one
+abbrev pub IsBelowKind : Finds → Shows → FileKind → ℕ → Option FileFacts → Type 0
+IsBelowKind finds shows BlockDevice number below = IsBelowDevice finds shows number below
+IsBelowKind finds shows Regular number below = below ≡ None
+IsBelowKind finds shows Directory number below = below ≡ None
+IsBelowKind finds shows Other number below = below ≡ None
+
+-- the file with these facts, and what is under it
+abbrev pub IsSeen : Finds → Shows → FileFacts → SeenFile → Type 0
+IsSeen finds shows facts seen =
+    (seen.facts ≡ facts) × IsBelowKind finds shows facts.kind facts.number seen.backing
+
+-- whether two files, as they are seen, store their bytes in one storage
+pub record SharesSeen (finds : Finds) (shows : Shows) (input output : FileFacts) (answer : Bool) : Type 0 where
+  pub a : SeenFile
+  pub b : SeenFile
+  pub input_seen : IsSeen finds shows input a
+  pub output_seen : IsSeen finds shows output b
+  pub shared : IsTrue answer ↔ SharesStorage a b
+
+-- whether an input shares its storage with this target of standard output; not if the target cannot be looked at
+abbrev pub SharesTarget : Finds → Shows → FileFacts → Option FileFacts → Bool → Type 0
+SharesTarget finds shows input (Some output) answer = SharesSeen finds shows input output answer
+SharesTarget finds shows input None answer = answer ≡ false
+
+-- whether standard output writes to the input with these facts
+pub record TellsOutput (finds : Finds) (shows : Shows) (input : FileFacts) (answer : Bool) : Type 0 where
+  pub output : Option FileFacts
+  pub found : finds (codes "/dev/stdout") output
+  pub shared : SharesTarget finds shows input output answer

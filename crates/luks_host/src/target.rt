@@ -1,0 +1,68 @@
+//! Whether standard output writes to an input.
+
+ghost use Rattle.luks_host.specs.Targets.{IsBelowEntry, IsBelowKind, IsNamedIn, IsSeen};
+ghost use Rattle.luks_host.specs.Targets.{TellsOutput};
+
+use crate::loop_device::{backing_entry, backing_name};
+use crate::storage::{FileFacts, FileKind, SeenFile, share_storage};
+use crate::system::System;
+use std::alloc::Global;
+
+/// Whether standard output writes to the input with these facts, under any name. Without `/dev` or
+/// `/sys`, or if the file under a loop device was deleted or has a name that is not UTF-8, or if
+/// memory runs out, fewer cases are found.
+pub fn is_output<S: System>(system: &S, alloc: Global, input: &FileFacts) -> bool
+    ensures { TellsOutput (S.finds system.now) (S.shows system.now) input.now result }
+{
+    match system.facts_at("/dev/stdout") {
+        Some(output) => {
+            let (a, b) = (seen(system, alloc, input), seen(system, alloc, &output));
+            share_storage(&a, &b)
+        }
+        None => false,
+    }
+}
+
+/// The file with these facts, and what is under it.
+fn seen<S: System>(system: &S, alloc: Global, facts: &FileFacts) -> SeenFile
+    ensures { IsSeen (S.finds system.now) (S.shows system.now) facts.now result }
+{
+    SeenFile {
+        facts: *facts,
+        backing: backing_of(system, alloc, facts),
+    }
+}
+
+/// The file under a loop device, if `/sys` shows it.
+fn backing_of<S: System>(system: &S, alloc: Global, facts: &FileFacts) -> Option<FileFacts>
+    ensures { IsBelowKind (S.finds system.now) (S.shows system.now) facts.now.kind
+        facts.now.number result }
+{
+    match facts.kind {
+        FileKind::BlockDevice => match backing_entry(alloc, facts.number) {
+            Ok(entry) => below_entry(system, alloc, entry.as_str()),
+            Err(_) => None,
+        },
+        FileKind::Regular | FileKind::Directory | FileKind::Other => None,
+    }
+}
+
+/// The file that this entry of `/sys` names.
+fn below_entry<S: System>(system: &S, alloc: Global, entry: &str) -> Option<FileFacts>
+    ensures { IsBelowEntry (S.finds system.now) (S.shows system.now) entry.now result }
+{
+    match system.text_at(alloc, entry) {
+        Some(text) => named_in(system, text.as_str()),
+        None => None,
+    }
+}
+
+/// The file whose name is in this text.
+fn named_in<S: System>(system: &S, text: &str) -> Option<FileFacts>
+    ensures { IsNamedIn (S.finds system.now) text.now result }
+{
+    match backing_name(text) {
+        Some(name) => system.facts_at(name),
+        None => None,
+    }
+}
