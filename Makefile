@@ -18,13 +18,13 @@
 # make nbdkit     builds the plugin for nbdkit, out/nbdkit-luksrd-plugin.so, the filter,
 #                 out/nbdkit-luksrd-filter.so, for the installed version of nbdkit, and the library, which both load.
 #                 With SHARED and SHARED_V3 it takes the library that these name, and needs no toolchain
-# make install    puts the program and luksrd-candidates, their man pages, completions, README.md and FORMATS.md below
+# make install    puts the program and luksrd-candidates, their man pages, completions, README.md and the guides below
 #                 PREFIX (/usr/local if it is not given), in DESTDIR if that is given; if the library is built, it and
 #                 its module for Python with luksrd-lvm too; and the plugin and the filter if they are built: for /usr
 #                 and /usr/local in nbdkit's own folders, with a systemd unit, for any other PREFIX in
 #                 lib/nbdkit/plugins and lib/nbdkit/filters below it, or in PLUGINS and FILTERS if these are given;
-#                 luksrd-audit, its man page, its completions and AUDIT.md too, if it is built. With CPU=x86-64-v3 it
-#                 installs the luksrd for that, if it runs here
+#                 luksrd-audit, its man page and its completions too, if it is built. With CPU=x86-64-v3 it installs
+#                 the luksrd for that, if it runs here
 # make uninstall  removes them again, except what a Debian package has put there
 # make deb        makes Debian packages in DEBS (out if it is not given): of the program as it is built for both
 #                 processors; if the library is built, of it, of what programs are built with, and of its module for
@@ -74,6 +74,9 @@ PAGES = $(DESTDIR)$(PREFIX)/share/man/man1
 DOCUMENTS = $(DESTDIR)$(PREFIX)/share/doc/luksrd
 BASH_COMPLETIONS = $(DESTDIR)$(PREFIX)/share/bash-completion/completions
 ZSH_COMPLETIONS = $(DESTDIR)$(ZSH_FUNCTIONS)
+# README.md and what a user reads of what it leads to; packaging/documents installs them
+GUIDES := README.md $(patsubst %,docs/%.md,AUDIT FORMATS GLOSSARY LIBRARY MIGRATION PROGRAMMERS PROOFS RECIPES RESCUE \
+    SECURITY SPEED) docs/growth.svg
 # Debian's packages have libraries in another folder below PREFIX
 LIBDIR ?= $(PREFIX)/lib
 LIBRARIES = $(DESTDIR)$(LIBDIR)
@@ -190,7 +193,7 @@ check: $(PROGRAM_V2) $(PROGRAM_V3) $(AUDIT) $(TOOLS_V2) $(TOOLS_V3) library nbdk
 # output of each comes when it has ended. Some need the tools, or what is built from C.
 TESTS := stripes volumes devices pipes faults interruptions install memory hostile completions candidates
 INTEROP := headers headers2 volumes volumes2 detached filesystems
-SOURCE_SCRIPTS := test-names test-counts test-versions test-headline test-contracts test-speed
+SOURCE_SCRIPTS := test-names test-counts test-versions test-links test-headline test-contracts test-speed
 PROGRAM_SCRIPTS := $(SOURCE_SCRIPTS) $(TESTS:%=test-%) $(INTEROP:%=interop-%)
 C_SCRIPTS := test-package test-fresh-root test-library test-processors test-service interop-library interop-nbd \
     interop-filter interop-python interop-lvm interop-recipes interop-guides
@@ -226,7 +229,7 @@ v3-scripts v3-tool-scripts:
 	    echo 'SKIPPED $@: this processor is older'; \
 	fi
 
-test-names test-counts test-versions: test-%:
+test-names test-counts test-versions test-links: test-%:
 	tests/$*
 
 # They fail if a page is not as the script makes it from the sources, or from the results of measurements.
@@ -334,21 +337,20 @@ install: built $(if $(filter-out x86-64-v2,$(CPU)),runs-here) \
 
 install-audit:
 	@test -f "$(AUDIT)" -a -x "$(AUDIT)" || { echo "luksrd-audit is not built: run make first" >&2; exit 1; }
-	install -d "$(BINARIES)" "$(PAGES)" "$(DOCUMENTS)" "$(BASH_COMPLETIONS)" "$(ZSH_COMPLETIONS)"
+	install -d "$(BINARIES)" "$(PAGES)" "$(BASH_COMPLETIONS)" "$(ZSH_COMPLETIONS)"
 	install -m 755 "$(AUDIT)" "$(BINARIES)/luksrd-audit"
 	install -m 644 docs/luksrd-audit.1 "$(PAGES)/luksrd-audit.1"
-	install -m 644 docs/AUDIT.md "$(DOCUMENTS)"
 	install -m 644 completions/luksrd-audit.bash "$(BASH_COMPLETIONS)/luksrd-audit"
 	install -m 644 completions/_luksrd-audit "$(ZSH_COMPLETIONS)/_luksrd-audit"
 
 install-program: built $(if $(filter-out x86-64-v2,$(CPU)),runs-here)
 	@name=$$($(call packaged,$(BINARIES)/luksrd)); [ -z "$$name" ] || \
 	    { echo "$(BINARIES)/luksrd is of $$name: run apt-get remove luksrd, or give a PREFIX" >&2; exit 1; }
-	install -d "$(BINARIES)" "$(PAGES)" "$(DOCUMENTS)" "$(BASH_COMPLETIONS)" "$(ZSH_COMPLETIONS)"
+	install -d "$(BINARIES)" "$(PAGES)" "$(BASH_COMPLETIONS)" "$(ZSH_COMPLETIONS)"
 	install -m 755 "$(PROGRAM)" "$(BINARIES)/luksrd"
 	install -m 755 scripts/luksrd-candidates "$(BINARIES)/luksrd-candidates"
 	install -m 644 docs/luksrd.1 docs/luksrd-candidates.1 "$(PAGES)"
-	install -m 644 README.md docs/FORMATS.md "$(DOCUMENTS)"
+	packaging/documents "$(DOCUMENTS)" $(GUIDES)
 	install -m 644 completions/luksrd.bash "$(BASH_COMPLETIONS)/luksrd"
 	install -m 644 completions/_luksrd "$(ZSH_COMPLETIONS)/_luksrd"
 
@@ -414,9 +416,9 @@ install-python: | $(if $(filter-out x86-64-v2,$(CPU)),runs-here)
 	install -m 644 docs/luksrd-lvm.1 "$(PAGES)"
 
 INSTALLED = "$(BINARIES)/luksrd" "$(PAGES)/luksrd.1" \
-    "$(BINARIES)/luksrd-candidates" "$(PAGES)/luksrd-candidates.1" "$(DOCUMENTS)/README.md" "$(DOCUMENTS)/FORMATS.md" \
+    "$(BINARIES)/luksrd-candidates" "$(PAGES)/luksrd-candidates.1" $(GUIDES:%="$(DOCUMENTS)/%") \
     "$(BASH_COMPLETIONS)/luksrd" "$(ZSH_COMPLETIONS)/_luksrd" \
-    "$(BINARIES)/luksrd-audit" "$(PAGES)/luksrd-audit.1" "$(DOCUMENTS)/AUDIT.md" \
+    "$(BINARIES)/luksrd-audit" "$(PAGES)/luksrd-audit.1" \
     "$(BASH_COMPLETIONS)/luksrd-audit" "$(ZSH_COMPLETIONS)/_luksrd-audit" \
     "$(HEADERS)/luksrd.h" "$(LIBRARIES)/libluksrd.a" $(SHARED_NAMES:%="$(LIBRARIES)/%") \
     "$(LIBRARIES)/pkgconfig/luksrd.pc" \
@@ -432,7 +434,7 @@ uninstall:
 	    [ ! -e "$$file" ] && [ ! -L "$$file" ] || [ -n "$$($(call packaged,$$file))" ] || \
 	        { echo "rm $$file"; rm "$$file" || exit; }; \
 	done
-	@for folder in "$(DOCUMENTS)" "$(LIBRARIES)/$(HWCAPS)" "$(LIBRARIES)/glibc-hwcaps" \
+	@for folder in "$(DOCUMENTS)/docs" "$(DOCUMENTS)" "$(LIBRARIES)/$(HWCAPS)" "$(LIBRARIES)/glibc-hwcaps" \
 	    "$(DESTDIR)$(MODULES)/__pycache__"; do \
 	    [ ! -d "$$folder" ] || rmdir --ignore-fail-on-non-empty "$$folder"; \
 	done

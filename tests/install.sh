@@ -14,9 +14,19 @@ find 'a folder' -type f -printf '%m %P\n' | LC_ALL=C sort >files
 same 'what is installed, and its modes' "$(cat files)" \
     '644 usr/share/bash-completion/completions/luksrd
 644 usr/share/bash-completion/completions/luksrd-audit
-644 usr/share/doc/luksrd/AUDIT.md
-644 usr/share/doc/luksrd/FORMATS.md
 644 usr/share/doc/luksrd/README.md
+644 usr/share/doc/luksrd/docs/AUDIT.md
+644 usr/share/doc/luksrd/docs/FORMATS.md
+644 usr/share/doc/luksrd/docs/GLOSSARY.md
+644 usr/share/doc/luksrd/docs/LIBRARY.md
+644 usr/share/doc/luksrd/docs/MIGRATION.md
+644 usr/share/doc/luksrd/docs/PROGRAMMERS.md
+644 usr/share/doc/luksrd/docs/PROOFS.md
+644 usr/share/doc/luksrd/docs/RECIPES.md
+644 usr/share/doc/luksrd/docs/RESCUE.md
+644 usr/share/doc/luksrd/docs/SECURITY.md
+644 usr/share/doc/luksrd/docs/SPEED.md
+644 usr/share/doc/luksrd/docs/growth.svg
 644 usr/share/man/man1/luksrd-audit.1
 644 usr/share/man/man1/luksrd-candidates.1
 644 usr/share/man/man1/luksrd.1
@@ -27,16 +37,45 @@ same 'what is installed, and its modes' "$(cat files)" \
 755 usr/bin/luksrd-candidates'
 for file in bin/luksrd:"$program" share/man/man1/luksrd.1:"$sources/docs/luksrd.1" \
     share/bash-completion/completions/luksrd:"$sources/completions/luksrd.bash" \
-    share/doc/luksrd/FORMATS.md:"$sources/docs/FORMATS.md" share/doc/luksrd/README.md:"$sources/README.md" \
+    share/doc/luksrd/docs/FORMATS.md:"$sources/docs/FORMATS.md" \
+    share/doc/luksrd/docs/growth.svg:"$sources/docs/growth.svg" \
     share/zsh/site-functions/_luksrd:"$sources/completions/_luksrd" \
     bin/luksrd-candidates:"$sources/scripts/luksrd-candidates" \
     share/man/man1/luksrd-candidates.1:"$sources/docs/luksrd-candidates.1" \
     bin/luksrd-audit:"$program" share/man/man1/luksrd-audit.1:"$sources/docs/luksrd-audit.1" \
-    share/doc/luksrd/AUDIT.md:"$sources/docs/AUDIT.md" \
     share/bash-completion/completions/luksrd-audit:"$sources/completions/luksrd-audit.bash" \
     share/zsh/site-functions/_luksrd-audit:"$sources/completions/_luksrd-audit"; do
     same "what is installed as ${file%%:*}" "$(cmp "a folder/usr/${file%%:*}" "${file#*:}" 2>&1)" ''
 done
+# The documents are those of the sources, but for links to what is not installed.
+documents='a folder/usr/share/doc/luksrd'
+unlinked() { sed 's/\[\([^]]*\)\]([^)]*)/\1/g; s/ ([A-Za-z./]* in the sources)//g' "$1"; }
+same 'README.md' "$(unlinked "$documents/README.md")" "$(unlinked "$sources/README.md")"
+same 'what README.md leads to in the sources' "$(grep -o '[^(]* in the sources' "$documents/README.md")" \
+    'docs/ARCHITECTURE.md in the sources
+docs/HEADLINE.md in the sources
+docs/DECISIONS.md in the sources
+CONTRIBUTING.md in the sources
+CHANGELOG.md in the sources'
+same 'links in documents' "$("$sources/tests/links" "$documents" 2>&1 | sed 's/^[1-9][0-9]* links/links/')" \
+    'links, 0 broken'
+# links FOLDER: what a check of links says of this folder
+links() { "$sources/tests/links" "$1" 2>&1; echo $?; }
+mkdir -p 'some links/docs'
+printf '# A heading: of `two`\n\n[a](#a-heading-of-two) [b](docs/b.md#b) `[c](d)`\n\n    [e](f)\n' >'some links/a.md'
+printf '# B\n\n[a](../a.md) [a\nand b](../a.md#a-heading-of-two)\n' >'some links/docs/b.md'
+same 'links that lead somewhere' "$(links 'some links')" '4 links, 0 broken
+0'
+printf '[a](../a.md#another) [c](../c.md)\n[out](../../files) [a][b]\n' >>'some links/docs/b.md'
+same 'links that lead nowhere' "$(links 'some links')" 'docs/b.md: ../a.md#another has no such heading
+docs/b.md: ../c.md is not there
+docs/b.md: ../../files is outside
+docs/b.md: [b] is not defined
+7 links, 4 broken
+1'
+rm 'some links/a.md' 'some links/docs/b.md'
+same 'no links' "$(links 'some links')" '0 links, 0 broken
+1'
 gzip -dc "$sources/sample/volume.img.gz" >volume
 'a folder/usr/bin/luksrd' luksCat --key-file "$sources/sample/passphrase" volume >out 2>err
 echo $? >status

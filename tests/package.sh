@@ -133,16 +133,26 @@ holds() {
 needs() {
     dpkg -f "$work/a folder/$1"_* Depends | sed 's/, /\n/g' | grep -cxE "$2"
 }
-holds luksrd '-rwxr-xr-x ./usr/bin/luksrd-candidates
+# README.md and the guides, below the folder of documents
+guides=(README.md docs/{AUDIT,FORMATS,GLOSSARY,LIBRARY,MIGRATION,PROGRAMMERS,PROOFS,RECIPES,RESCUE,SECURITY,SPEED}.md
+    docs/growth.svg)
+holds luksrd "-rwxr-xr-x ./usr/bin/luksrd-candidates
 -rwxr-xr-x ./usr/libexec/luksrd/x86-64-v2/luksrd
 -rwxr-xr-x ./usr/libexec/luksrd/x86-64-v3/luksrd
 -rw-r--r-- ./usr/share/bash-completion/completions/luksrd
--rw-r--r-- ./usr/share/doc/luksrd/FORMATS.md.gz
--rw-r--r-- ./usr/share/doc/luksrd/README.md.gz
+$(printf -- '-rw-r--r-- ./usr/share/doc/luksrd/%s\n' "${guides[@]}")
 -rw-r--r-- ./usr/share/lintian/overrides/luksrd
 -rw-r--r-- ./usr/share/man/man1/luksrd-candidates.1.gz
 -rw-r--r-- ./usr/share/man/man1/luksrd.1.gz
--rw-r--r-- ./usr/share/zsh/vendor-completions/_luksrd'
+-rw-r--r-- ./usr/share/zsh/vendor-completions/_luksrd"
+# links FOLDER: what a check of the links in its documents says
+links() { "$sources/tests/links" "$1" 2>&1 | sed 's/^[1-9][0-9]* links/links/'; }
+same 'links in the packaged documents' "$(links luksrd/usr/share/doc/luksrd)" 'links, 0 broken'
+packed AUDIT="$program" LIBRARY=no-library PLUGIN=no-plugin FILTER=no-filter >log
+dpkg -x fewer/luksrd-audit_* audit
+gunzip -r audit/usr/share/doc/luksrd-audit
+same "links in the document of luksrd-audit" "$("$sources/tests/links" audit/usr/share/doc/luksrd-audit 2>&1 |
+    sed '/^0 links, 0 broken$/d; s/^[1-9][0-9]* links, 0 broken$//')" ''
 same 'the program depends on the C library' "$(needs luksrd 'libc6 \(>= 2\.[0-9]+\)')" 1
 libraries=/usr/lib/x86_64-linux-gnu
 holds libluksrd2 "-rw-r--r-- .$libraries/glibc-hwcaps/x86-64-v3/libluksrd.so.2
@@ -261,8 +271,8 @@ cat >tools/pkg-config <<TEXT
 case \$* in *filterdir) echo /nbdkit/filters ;; *) echo /nbdkit/plugins ;; esac
 TEXT
 chmod +x tools/pkg-config
-program_files=(bin/luksrd bin/luksrd-candidates share/bash-completion/completions/luksrd share/doc/luksrd/FORMATS.md
-    share/doc/luksrd/README.md
+program_files=(bin/luksrd bin/luksrd-candidates share/bash-completion/completions/luksrd
+    "${guides[@]/#/share/doc/luksrd/}"
     share/man/man1/luksrd-candidates.1 share/man/man1/luksrd.1 share/zsh/site-functions/_luksrd)
 library_files=(include/luksrd.h lib/glibc-hwcaps/x86-64-v3/libluksrd.so.2 lib/libluksrd.a lib/libluksrd.so
     lib/libluksrd.so.2 "lib/libluksrd.so.$version" lib/pkgconfig/luksrd.pc)
@@ -338,7 +348,7 @@ put_by_another() {
         PLUGIN="../built/$name" FILTER="../built/$filter_name" "$@" >log 2>&1
 }
 mkdir tree built own
-cp -r "$sources"/{Makefile,README.md,c,completions,docs,python,scripts} tree
+cp -r "$sources"/{Makefile,README.md,c,completions,docs,packaging,python,scripts} tree
 cp "$program" built/luksrd
 cp "$library" built/libluksrd.a
 cp "$shared" built/libluksrd.so
@@ -358,6 +368,7 @@ if another test -r tree/Makefile; then
     works "$work/own/it/bin/luksrd" "$work/own/it/share/bash-completion/completions/luksrd"
     serves_sample "$work/own/it/lib/nbdkit/plugins/$name" "$work/own/it/lib/nbdkit/filters/$filter_name"
     module_gives "$work/own/it/${module%/*}"
+    same 'links in the documents of another user' "$(links own/it/share/doc/luksrd)" 'links, 0 broken'
     put_by_another uninstall PREFIX="$work/own/it"
     same 'make uninstall by another user' "$? $(files own/it)" '0 '
     same "luksrd's own folder" "$(find own/it -name luksrd)" ''
