@@ -221,6 +221,30 @@ same 'a hostile text' "$("$audit" hostile | jq -c '[.uuid, (.weak | length)]')" 
     '["x\",\"weak\":[],\"y\":\"\\x0a\\x09\\x5c",5]'
 same 'a hostile text in a column' "$("$audit" --tsv hostile | wc -l)" 2
 
+# truncated headers, and how much of an image is read
+# of_start BYTES IMAGE: what is listed of the first bytes of an image
+of_start() { head -c "$1" "$2" | "$audit" - | jq -c '[.version, .header, .other_header, .error]'; }
+same 'LUKS1, a byte too short' "$(of_start 591 sha1)" '[null,null,null,"header is truncated"]'
+same 'LUKS1, of the least length' "$(of_start 592 sha1)" '[1,null,null,null]'
+same 'LUKS2, cut in its primary header' "$(of_start 16383 several)" '[null,null,null,"no LUKS header"]'
+same 'LUKS2, cut in its secondary header' "$(of_start 32767 several)" '[2,"primary","not valid",null]'
+same 'LUKS2, cut after both headers' "$(of_start 32768 several)" '[2,"primary",null,null]'
+same 'LUKS2 without its primary, cut in its secondary' "$(of_start 32767 'primary wiped')" \
+    '[null,null,null,"no LUKS header"]'
+head -c 16384 several >area
+edited_area() { python3 -c '
+import hashlib, sys
+header = bytearray(open("area", "rb").read())
+header[4096:4097], header[448:512] = b"[", bytes(64)
+header[448:480] = hashlib.sha256(header).digest()
+sys.stdout.buffer.write(header)'; }
+same 'JSON that cannot be read' "$(edited_area | "$audit" - | jq -r .error; echo "${PIPESTATUS[1]}")" \
+    $'JSON area cannot be read\n1'
+# left_of IMAGE: how many bytes of standard input are not read
+left_of() { { "$audit" - >/dev/null; cat | wc -c; } <"$1"; }
+same 'what is read of LUKS1' "$(left_of sha1)" $(($(stat -c %s sha1) - 592))
+same 'what is read of LUKS2' "$(left_of several)" $(($(stat -c %s several) - 32768))
+
 # --search: a whole disk with partitions, one without its partition table, and volumes without their primary headers
 places() { "$audit" --search "$1" | jq -c '[.offset, .version, .header, .error]'; echo "${PIPESTATUS[0]}"; }
 truncate -s 100M disk
@@ -261,6 +285,16 @@ printf 'SKUL\xba\xbe\0\2' | dd of=magic bs=512 seek=36000 conv=notrunc status=no
 same 'magic bytes in a payload' "$(places magic)" '[0,2,"primary",null]
 1'
 
+# as a hostile image may have it: primary headers of 4 MiB, all of which fit and have a wrong checksum, side by side
+python3 - >many <<'PYTHON'
+import struct, sys
+header = struct.pack(">6sHQQ48s32s64s40s48sQ", b"LUKS\xba\xbe", 2, 4 << 20, 1, b"", b"sha256", b"", b"", b"", 0)
+sys.stdout.buffer.write(header.ljust(512, b"\0") * 64 + bytes(4 << 20))
+PYTHON
+dd if=sha1 of=many bs=512 seek=64 conv=notrunc status=none
+same 'headers with wrong checksums' "$(places many)" '[32768,1,null,null]
+1'
+
 # the recipes, as they are written there: a folder with two images, and a disk with a header at its start and another
 # one after a MiB
 mkdir bin images
@@ -283,7 +317,14 @@ images/b.img
 [1048576,1,true]
 LUKS1'
 
-# the man page
+# the man page, and its examples
+# page_example TEXT: what the example after this text writes
+page_example() { PATH=$work/bin:$PATH bash <(example luksrd-audit.1 "$1") 2>&1; }
+same 'the example of a table' "$(page_example 'What is weak in a hundred images')" \
+    $'images/a.img\t-\tslot 0 iterations, slot 0 sha1, slot 5 iterations, slot 5 sha1, digest 0 sha1
+images/b.img\t-\tslot 0 iterations, slot 10 iterations, slot 31 argon2-memory'
+same 'the example of a partition' "$(page_example 'A partition that begins after' | jq -c '[.file, .uuid]')" \
+    "$("$audit" sha1 | jq -c '["-", .uuid]')"
 same 'what man says of the page' "$(man --warnings -l "$pages/luksrd-audit.1" 2>&1 >/dev/null)" ''
 same 'what mandoc says of it' "$(mandoc -Tlint -Wwarning "$pages/luksrd-audit.1" 2>&1)" ''
 same 'the version' "$("$audit" --version)" "luksrd-audit $(sed -n 's/^\.Os luksrd //p' "$pages/luksrd-audit.1")"
