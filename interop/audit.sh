@@ -294,6 +294,24 @@ PYTHON
 dd if=sha1 of=many bs=512 seek=64 conv=notrunc status=none
 same 'headers with wrong checksums' "$(places many)" '[32768,1,null,null]
 1'
+# and JSON text of 4 MiB whose tree is much larger
+python3 - >deep <<'PYTHON'
+import hashlib, struct, sys
+SIZE = 4 << 20
+binary = struct.pack(">6sHQQ48s32s64s40s48sQ", b"LUKS\xba\xbe", 2, SIZE, 1, b"", b"sha256", b"", b"", b"", 0)
+objects = b'{"":' * 120 + b"0" + b"}" * 120 + b","
+text = b'{"keyslots":{},"segments":{},"digests":{},"config":{},"x":[' + objects * (4000000 // len(objects)) + b"0]}"
+header = (binary.ljust(4096, b"\0") + text).ljust(SIZE, b"\0")
+sys.stdout.buffer.write(header[:448] + hashlib.sha256(header).digest() + header[480:])
+PYTHON
+for search in '' --search; do
+    # shellcheck disable=SC2086
+    (ulimit -v 200000; exec "$audit" $search deep sha1) >out
+    echo $? >status
+    same "little memory, $search" "$(jq -c '[.error, .version]' out; cat status)" '["out of memory",null]
+[null,1]
+4'
+done
 
 # the recipes, as they are written there: a folder with two images, and a disk with a header at its start and another
 # one after a MiB
@@ -316,6 +334,12 @@ images/b.img
 [0,2,true]
 [1048576,1,true]
 LUKS1'
+
+# the command that sets limits, as it is written there
+cp many suspect.img
+sed -n '/^## What a hostile/,/^## Recipes/s/^    //p' "$pages/AUDIT.md" >limits
+PATH=$work/bin:$PATH bash limits
+same 'a search with limits' "$? $(jq -c .offset headers)" '1 32768'
 
 # the man page, and its examples
 # page_example TEXT: what the example after this text writes
