@@ -273,7 +273,8 @@ same 'a disk without its table' "$(places disk)" "$found"
 same 'a disk through a pipe' "$("$audit" --search - <disk | jq -c .offset)" '1048576
 20971520
 51200512'
-same 'a header that is found is that of the rest' "$("$audit" --search disk | sed -n 2p | jq -c 'del(.file, .offset)')" \
+same 'a header that is found is that of the rest' \
+    "$("$audit" --search disk | sed -n 2p | jq -c 'del(.file, .offset)')" \
     "$(dd if=disk bs=1M skip=20 status=none | "$audit" - | jq -c 'del(.file, .offset)')"
 same 'a volume without its primary header' "$(places 'primary wiped')" '[0,2,"secondary",null]
 1'
