@@ -163,6 +163,12 @@ else
     skip 'requirements of an unfinished volume' 'cryptsetup does not begin to encrypt here'
 fi
 
+# requirements, one of which cryptsetup does not know
+cp 'aes-xts-plain64 512 512' required
+edited required "tree['config']['requirements'] = {'mandatory': ['offline-reencrypt', 'mine']}"
+lists required primary
+same 'both requirements' "$("$audit" required | jq -c .requirements)" '["offline-reencrypt","mine"]'
+
 # a primary header that is wiped, a secondary one that is, and neither
 cp several 'primary wiped'
 dd if=/dev/zero of='primary wiped' bs=4096 count=1 conv=notrunc status=none
