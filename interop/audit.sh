@@ -1,99 +1,41 @@
 #!/usr/bin/env bash
-# Compares the fields that luksrd-audit lists with what cryptsetup reports: luksDump for LUKS1, the JSON metadata and
-# luksDump for LUKS2. Runs the recipes of docs/AUDIT.md. The first argument is the built luksrd, the second the built
-# luksrd-audit.
+# Compares each field that luksrd-audit lists with what cryptsetup reports: luksDump for LUKS1, the JSON metadata and
+# luksDump for LUKS2; of volumes of every kind (interop/kinds.sh), with headers of each length, converted, damaged, and
+# in a disk with partitions. Runs the recipes of docs/AUDIT.md. The first argument is the built luksrd, the second the
+# built luksrd-audit.
 audit=$(realpath "${2:?the built luksrd-audit}")
-pages=$(realpath "$(dirname "$0")/../docs")
-# shellcheck source=interop/common.sh
-. "$(dirname "$0")/common.sh"
+fields=$(realpath "$(dirname "$0")/fields.py")
+# shellcheck source=interop/kinds.sh
+. "$(dirname "$0")/kinds.sh"
 
 printf 'a passphrase' >pass
 printf 'another one' >pass2
 fast=(--pbkdf pbkdf2 --pbkdf-force-iterations 1000)
 
-# listed IMAGE: the object of an image, with sorted names, without what is judged
-listed() { "$audit" "$1" | jq -S 'del(.file, .findings, .weak) | .slots |= map(del(.state, .reason, .can_try))'; }
-
-# object1 IMAGE: what cryptsetup's luksDump prints of a LUKS1 header, as that object
-object1() {
-    theirs1 "$1" | python3 -c '
-import json, re, sys
-lines = [line.split(": ", 1) if ": " in line else (re.match(r"(Slot \d+) (.*)", line).groups())
-         for line in sys.stdin.read().splitlines()]
-f = dict(lines)
-bits = int(f["Key bytes"]); cipher = f["Cipher"]; hash = f["Hash"]
-def slot(n, text):
-    got = dict(re.findall(r"(\w+)=(\S+)", text))
-    stripes = int(got["stripes"])
-    size = (bits * stripes + 511) // 512 * 512
-    return dict(number=n, priority=1, key_bytes=bits, kdf="pbkdf2", hash=hash, salt=got["salt"],
-                iterations=int(got["iterations"]), time=None, memory=None, threads=None, af_hash=hash,
-                stripes=stripes, area_cipher=cipher, area_key_bytes=bits,
-                area_offset=int(got["offset"]) * 512, area_size=size)
-slots = [slot(int(k.split()[1]), v) for k, v in f.items() if k.startswith("Slot ") and v.startswith("ENABLED")]
-print(json.dumps(dict(version=1, offset=0, uuid=f["UUID"], label=None, subsystem=None, header=None, other_header=None,
-    seqid=None, header_size=None, checksum_hash=None, salt=None, cipher=cipher, key_bytes=bits, sector_size=512,
-    iv_tweak=0,  segment_offset=int(f["Payload offset"]) * 512, segment_size="dynamic", requirements=[],
-    slots=slots, tokens=[], digests=[dict(number=0, type="pbkdf2", hash=hash, salt=f["MK salt"],
-    iterations=int(f["MK iterations"]), digest=f["MK digest"], bytes=20, keyslots=[], segments=[])])))' | jq -S .
+# agrees NAME OBJECT FILE ROLE OTHER [IMAGE]: the object, which was listed of the header in FILE, has each field as
+# cryptsetup reports it about a copy, since it repairs what it reads. ROLE is which header of LUKS2 is listed, and empty
+# for LUKS1; OTHER is what is wrong with the other one, or empty; IMAGE has the payload if the header is detached
+agrees() {
+    local arguments=(copy) others=()
+    cp "$3" copy
+    [ -z "${6-}" ] || arguments=(--header copy "$6")
+    cryptsetup luksDump "${arguments[@]}" >dump 2>err || { cat err; exit 1; }
+    if [ -n "$4" ]; then
+        cryptsetup luksDump --dump-json-metadata "${arguments[@]}" >metadata 2>err || { cat err; exit 1; }
+        others=(metadata "$3" "$4" ${5:+"$5"})
+    fi
+    same "$1" "$(python3 "$fields" $((${#others[@]} ? 2 : 1)) dump "${others[@]}" 2>&1 <<<"$2")" 'as cryptsetup reports'
 }
 
-# object2 IMAGE ROLE OTHER: what cryptsetup prints of a LUKS2 header, as that object. The hash function of the checksum
-# and the salt are those bytes of the header that the standard gives for them (LUKS2 On-Disk Format Specification 1.1,
-# section 2.1), as cryptsetup does not print them
-object2() {
-    cp "$1" copy
-    { cryptsetup luksDump copy >fields && cryptsetup luksDump --dump-json-metadata copy >metadata; } 2>err ||
-        { cat err; exit 1; }
-    python3 - "$2" "$3" "$1" <<'PYTHON' | jq -S .
-import base64, json, re, sys
-fields = dict(re.findall(r'^([A-Z][a-z A-Z]*):\s+(.*)$', open('fields').read(), re.M))
-tree = json.load(open('metadata'))
-s = tree['segments']['0']
-number = lambda text: text if text == 'dynamic' else int(text)
-hexed = lambda text: None if text is None else base64.b64decode(text).hex()
-size = int(fields['Metadata area'].split()[0])
-image = open(sys.argv[3], 'rb').read()
-binary = image[size if sys.argv[1] == 'secondary' else 0:][:4096]
-def slot(n):
-    k = tree['keyslots'][n]; kdf = k['kdf']; af = k['af']; area = k['area']
-    return dict(number=int(n), priority=k.get('priority', 1), key_bytes=k['key_size'], kdf=kdf['type'],
-                hash=kdf.get('hash'),
-                salt=hexed(kdf.get('salt')), iterations=kdf.get('iterations'), time=kdf.get('time'),
-                memory=kdf.get('memory'), threads=kdf.get('cpus'),
-                af_hash=af['hash'], stripes=af['stripes'], area_cipher=area['encryption'], area_key_bytes=area['key_size'],
-                area_offset=int(area['offset']), area_size=int(area['size']))
-def digest(n):
-    d = tree['digests'][n]
-    return dict(number=int(n), type=d['type'], hash=d['hash'], salt=hexed(d['salt']), iterations=d['iterations'],
-                digest=hexed(d['digest']), bytes=len(base64.b64decode(d['digest'])),
-                keyslots=d['keyslots'], segments=d['segments'])
-def token(n):
-    t = tree['tokens'][n]
-    return dict(number=int(n), type=t['type'], keyslots=t['keyslots'], stored=t)
-order = lambda name: sorted(tree[name], key=int)
-print(json.dumps(dict(version=2, offset=0, uuid=fields['UUID'], label=fields['Label'].replace('(no label)', ''),
-    subsystem=fields['Subsystem'].replace('(no subsystem)', ''), seqid=int(fields['Epoch']), header_size=size,
-    checksum_hash=binary[72:104].split(b'\0')[0].decode(), salt=binary[104:168].hex(), header=sys.argv[1],
-    other_header=sys.argv[2] or None,
-    cipher=s['encryption'], key_bytes=tree['keyslots'][order('keyslots')[0]]['key_size'] if tree['keyslots'] else None,
-    sector_size=s['sector_size'], iv_tweak=int(s['iv_tweak']), segment_offset=int(s['offset']),
-    segment_size=number(s['size']),
-    requirements=tree['config'].get('requirements', {}).get('mandatory', []), slots=[slot(n) for n in order('keyslots')],
-    digests=[digest(n) for n in order('digests')], tokens=[token(n) for n in order('tokens')])))
-PYTHON
+# lists FILE [ROLE [OTHER [IMAGE]]]: what is listed of the header in FILE is what cryptsetup reports, and what luksCheck
+# does
+lists() {
+    local object
+    object=$("$audit" "$1")
+    agrees "$1" "$object" "$1" "${2-}" "${3-}" "${4-}"
+    same "$1: findings" "$(jq -r 'if .findings == [] then "clean" else .findings[] end' <<<"$object")" \
+        "$("$program" luksCheck "$1" 2>/dev/null)"
 }
-
-# lists_as_cryptsetup1 IMAGE: the object of a LUKS1 image, but for slots that are not in use, is what cryptsetup reports
-lists_as_cryptsetup1() {
-    same "$1" "$("$audit" "$1" | jq -S \
-        'del(.file, .findings, .weak) | .slots |= map(select(.state != "disabled") | del(.state, .reason, .can_try))')" \
-        "$(object1 "$1")"
-    same "$1: eight slots" "$("$audit" "$1" | jq '.slots | length')" 8
-}
-
-# lists_as_cryptsetup2 IMAGE ROLE [OTHER]: the object of a LUKS2 image is what cryptsetup reports
-lists_as_cryptsetup2() { same "$1" "$(listed "$1")" "$(object2 "$1" "$2" "${3-}")"; }
 
 # weak IMAGE STATUS NAME..: the names and places of weaknesses, and the exit status
 weak() {
@@ -108,12 +50,10 @@ weak() {
 # LUKS1: hash functions, also one that luksrd does not know, and modes
 for hash in sha1 sha224 sha256 sha384 sha512 ripemd160; do
     format1 "$hash" aes-xts-plain64 "$hash" 512
-    lists_as_cryptsetup1 "$hash"
+    lists "$hash"
 done
 format1 cbc aes-cbc-essiv:sha256 sha256 128
-lists_as_cryptsetup1 cbc
-format1 plain aes-xts-plain sha256 512
-lists_as_cryptsetup1 plain
+lists cbc
 
 weak sha1 1 'slot 0 iterations' 'slot 0 sha1' 'slot 5 iterations' 'slot 5 sha1' 'digest 0 sha1'
 weak ripemd160 1 'slot 0 iterations' 'slot 5 iterations'
@@ -151,18 +91,24 @@ format() {
     truncate -s 20M "$image"
     cryptsetup -q luksFormat --type luks2 --key-file pass "$@" "$image" >out 2>err || { cat err; exit 1; }
 }
-for size in 16 64 1024 4096; do
-    format "of $size KiB" "${fast[@]}" --luks2-metadata-size "${size}k" --luks2-keyslots-size 1m
-    lists_as_cryptsetup2 "of $size KiB" primary
+# each length of a header, with key areas of some lengths; and if the header that is listed then is damaged
+for lengths in '16 252' '32 256' '64 512' '128 1024' '256 2048' '512 4096' '1024 8192' '2048 1024' '4096 256'; do
+    name="of ${lengths% *} KiB"
+    format "$name" "${fast[@]}" --luks2-metadata-size "${lengths% *}k" --luks2-keyslots-size "${lengths#* }k"
+    lists "$name" primary
+    same "$name: header_size" "$("$audit" "$name" | jq .header_size)" $((${lengths% *} * 1024))
+    cp "$name" "$name, without the primary"
+    printf x | dd of="$name, without the primary" bs=4096 seek=1 conv=notrunc status=none
+    lists "$name, without the primary" secondary 'not valid'
 done
 for hash in sha1 sha224 sha256 sha384 sha512 ripemd160; do
     format "2 $hash" "${fast[@]}" --hash "$hash"
-    lists_as_cryptsetup2 "2 $hash" primary
+    lists "2 $hash" primary
 done
 for sealed in 'aes-xts-plain64 512 512' 'aes-xts-plain64 256 4096' 'aes-cbc-essiv:sha256 128 512'; do
     read -r cipher bits sector <<<"$sealed"
     format "$sealed" "${fast[@]}" --cipher "$cipher" --key-size "$bits" --sector-size "$sector"
-    lists_as_cryptsetup2 "$sealed" primary
+    lists "$sealed" primary
 done
 weak 'aes-cbc-essiv:sha256 128 512' 1 'segment cbc' 'segment short-key' 'slot 0 iterations' 'slot 0 cbc' \
     'slot 0 short-key'
@@ -179,10 +125,33 @@ cryptsetup -q config --priority prefer --key-slot 10 several || exit 1
 cryptsetup -q config --priority ignore --key-slot 2 several || exit 1
 printf '{"type":"mine\\t\\"","keyslots":["0","10"],"x":{"\\"}":[-1,null,"\\u0007"]}}' >token
 cryptsetup -q token import --token-id 3 --json-file token several || exit 1
-lists_as_cryptsetup2 several primary
+lists several primary
 weak several 1 'slot 0 iterations' 'slot 10 iterations' 'slot 31 argon2-memory'
 same 'states' "$("$audit" several | jq -c '[.slots[] | [.number, .state, .reason, .can_try]]')" \
     '[[0,"usable",null,true],[2,"skipped","argon2id",false],[10,"usable",null,true],[31,"skipped","argon2i",false]]'
+
+# volumes of every kind, also with detached headers and truncated
+# listed_kind IMAGE KEY_FILE HEADER ..: what is listed of the header of such a volume
+listed_kind() {
+    local header=${3:-$1} role=primary
+    ! cryptsetup isLuks --type luks1 "$header" || role=
+    lists "$header" "$role" '' ${3:+"$1"}
+}
+each_kind listed_kind
+
+# a volume of LUKS1 that cryptsetup converts to LUKS2, and back
+for bits in 256 512; do
+    name="of $bits bits"
+    format1 "$name" aes-xts-plain64 sha512 "$bits"
+    cp "$name" "$name, converted"
+    run_cryptsetup convert --type luks2 "$name, converted"
+    lists "$name, converted" primary
+    cp "$name, converted" "$name, converted back"
+    run_cryptsetup convert --type luks1 "$name, converted back"
+    lists "$name, converted back"
+    same "$name: what both conversions change" "$("$audit" "$name, converted back" | jq -S 'del(.file)')" \
+        "$("$audit" "$name" | jq -S 'del(.file)')"
+done
 
 # a volume in the middle of being encrypted has a requirement and several segments
 cp 'aes-xts-plain64 512 512' unfinished
@@ -194,10 +163,16 @@ else
     skip 'requirements of an unfinished volume' 'cryptsetup does not begin to encrypt here'
 fi
 
+# requirements, one of which cryptsetup does not know
+cp 'aes-xts-plain64 512 512' required
+edited required "tree['config']['requirements'] = {'mandatory': ['offline-reencrypt', 'mine']}"
+lists required primary
+same 'both requirements' "$("$audit" required | jq -c .requirements)" '["offline-reencrypt","mine"]'
+
 # a primary header that is wiped, a secondary one that is, and neither
 cp several 'primary wiped'
 dd if=/dev/zero of='primary wiped' bs=4096 count=1 conv=notrunc status=none
-lists_as_cryptsetup2 'primary wiped' secondary 'not valid'
+lists 'primary wiped' secondary 'not valid'
 same 'findings' "$("$audit" 'primary wiped' | jq -c .findings)" '["primary header: not valid"]'
 cp several 'secondary wiped'
 dd if=/dev/zero of='secondary wiped' bs=4096 count=1 seek=4 conv=notrunc status=none
@@ -252,6 +227,30 @@ same 'a hostile text' "$("$audit" hostile | jq -c '[.uuid, (.weak | length)]')" 
     '["x\",\"weak\":[],\"y\":\"\\x0a\\x09\\x5c",5]'
 same 'a hostile text in a column' "$("$audit" --tsv hostile | wc -l)" 2
 
+# truncated headers, and how much of an image is read
+# of_start BYTES IMAGE: what is listed of the first bytes of an image
+of_start() { head -c "$1" "$2" | "$audit" - | jq -c '[.version, .header, .other_header, .error]'; }
+same 'LUKS1, a byte too short' "$(of_start 591 sha1)" '[null,null,null,"header is truncated"]'
+same 'LUKS1, of the least length' "$(of_start 592 sha1)" '[1,null,null,null]'
+same 'LUKS2, cut in its primary header' "$(of_start 16383 several)" '[null,null,null,"no LUKS header"]'
+same 'LUKS2, cut in its secondary header' "$(of_start 32767 several)" '[2,"primary","not valid",null]'
+same 'LUKS2, cut after both headers' "$(of_start 32768 several)" '[2,"primary",null,null]'
+same 'LUKS2 without its primary, cut in its secondary' "$(of_start 32767 'primary wiped')" \
+    '[null,null,null,"no LUKS header"]'
+head -c 16384 several >area
+edited_area() { python3 -c '
+import hashlib, sys
+header = bytearray(open("area", "rb").read())
+header[4096:4097], header[448:512] = b"[", bytes(64)
+header[448:480] = hashlib.sha256(header).digest()
+sys.stdout.buffer.write(header)'; }
+same 'JSON that cannot be read' "$(edited_area | "$audit" - | jq -r .error; echo "${PIPESTATUS[1]}")" \
+    $'JSON area cannot be read\n1'
+# left_of IMAGE: how many bytes of standard input are not read
+left_of() { { "$audit" - >/dev/null; cat | wc -c; } <"$1"; }
+same 'what is read of LUKS1' "$(left_of sha1)" $(($(stat -c %s sha1) - 592))
+same 'what is read of LUKS2' "$(left_of several)" $(($(stat -c %s several) - 32768))
+
 # --search: a whole disk with partitions, one without its partition table, and volumes without their primary headers
 places() { "$audit" --search "$1" | jq -c '[.offset, .version, .header, .error]'; echo "${PIPESTATUS[0]}"; }
 truncate -s 100M disk
@@ -264,12 +263,24 @@ found='[1048576,1,null,null]
 1'
 printf 'label: dos\n2048 8192 83\n40960 40960 83\n' | sfdisk -q disk || exit 1
 same 'a disk with partitions' "$(places disk)" "$found"
+same 'where they begin' "$(sfdisk -d disk | sed -n 's/.*start= *\([0-9]*\),.*/\1/p')" $'2048\n40960'
+# listed_at OFFSET VOLUME [ROLE SIZE [OTHER]]: what is listed at this offset is what cryptsetup reports of the volume
+# there, and so is luksrd's dump from there on
+listed_at() {
+    agrees "at $1" "$("$audit" --search disk | jq -c "select(.offset == $1) | .offset = 0")" "$2" "${3-}" "${5-}"
+    same "luksDump at $1" "$(dd if=disk bs=512 skip=$(($1 / 512)) status=none | "$program" luksDump -)" \
+        "$(if [ -n "${3-}" ]; then theirs2 "$3" "$4" copy; else theirs1 copy; fi)"
+}
+listed_at 1048576 sha1
+listed_at 20971520 several primary 16384
+listed_at 51200512 'primary wiped' secondary 16384 'not valid'
 dd if=/dev/zero of=disk bs=512 count=1 conv=notrunc status=none
 same 'a disk without its table' "$(places disk)" "$found"
 same 'a disk through a pipe' "$("$audit" --search - <disk | jq -c .offset)" '1048576
 20971520
 51200512'
-same 'a header that is found is that of the rest' "$("$audit" --search disk | sed -n 2p | jq -c 'del(.file, .offset)')" \
+same 'a header that is found is that of the rest' \
+    "$("$audit" --search disk | sed -n 2p | jq -c 'del(.file, .offset)')" \
     "$(dd if=disk bs=1M skip=20 status=none | "$audit" - | jq -c 'del(.file, .offset)')"
 same 'a volume without its primary header' "$(places 'primary wiped')" '[0,2,"secondary",null]
 1'
@@ -280,6 +291,34 @@ printf 'LUKS\xba\xbe\0\2' | dd of=magic bs=512 seek=35000 conv=notrunc status=no
 printf 'SKUL\xba\xbe\0\2' | dd of=magic bs=512 seek=36000 conv=notrunc status=none
 same 'magic bytes in a payload' "$(places magic)" '[0,2,"primary",null]
 1'
+
+# as a hostile image may have it: primary headers of 4 MiB, all of which fit and have a wrong checksum, side by side
+python3 - >many <<'PYTHON'
+import struct, sys
+header = struct.pack(">6sHQQ48s32s64s40s48sQ", b"LUKS\xba\xbe", 2, 4 << 20, 1, b"", b"sha256", b"", b"", b"", 0)
+sys.stdout.buffer.write(header.ljust(512, b"\0") * 64 + bytes(4 << 20))
+PYTHON
+dd if=sha1 of=many bs=512 seek=64 conv=notrunc status=none
+same 'headers with wrong checksums' "$(places many)" '[32768,1,null,null]
+1'
+# and JSON text of 4 MiB whose tree is much larger
+python3 - >deep <<'PYTHON'
+import hashlib, struct, sys
+SIZE = 4 << 20
+binary = struct.pack(">6sHQQ48s32s64s40s48sQ", b"LUKS\xba\xbe", 2, SIZE, 1, b"", b"sha256", b"", b"", b"", 0)
+objects = b'{"":' * 120 + b"0" + b"}" * 120 + b","
+text = b'{"keyslots":{},"segments":{},"digests":{},"config":{},"x":[' + objects * (4000000 // len(objects)) + b"0]}"
+header = (binary.ljust(4096, b"\0") + text).ljust(SIZE, b"\0")
+sys.stdout.buffer.write(header[:448] + hashlib.sha256(header).digest() + header[480:])
+PYTHON
+for search in '' --search; do
+    # shellcheck disable=SC2086
+    (ulimit -v 200000; exec "$audit" $search deep sha1) >out
+    echo $? >status
+    same "little memory, $search" "$(jq -c '[.error, .version]' out; cat status)" '["out of memory",null]
+[null,1]
+4'
+done
 
 # the recipes, as they are written there: a folder with two images, and a disk with a header at its start and another
 # one after a MiB
@@ -303,7 +342,20 @@ images/b.img
 [1048576,1,true]
 LUKS1'
 
-# the man page
+# the command that sets limits, as it is written there
+cp many suspect.img
+sed -n '/^## What a hostile/,/^## Recipes/s/^    //p' "$pages/AUDIT.md" >limits
+PATH=$work/bin:$PATH bash limits
+same 'a search with limits' "$? $(jq -c .offset headers)" '1 32768'
+
+# the man page, and its examples
+# page_example TEXT: what the example after this text writes
+page_example() { PATH=$work/bin:$PATH bash <(example luksrd-audit.1 "$1") 2>&1; }
+same 'the example of a table' "$(page_example 'What is weak in a hundred images')" \
+    $'images/a.img\t-\tslot 0 iterations, slot 0 sha1, slot 5 iterations, slot 5 sha1, digest 0 sha1
+images/b.img\t-\tslot 0 iterations, slot 10 iterations, slot 31 argon2-memory'
+same 'the example of a partition' "$(page_example 'A partition that begins after' | jq -c '[.file, .uuid]')" \
+    "$("$audit" sha1 | jq -c '["-", .uuid]')"
 same 'what man says of the page' "$(man --warnings -l "$pages/luksrd-audit.1" 2>&1 >/dev/null)" ''
 same 'what mandoc says of it' "$(mandoc -Tlint -Wwarning "$pages/luksrd-audit.1" 2>&1)" ''
 same 'the version' "$("$audit" --version)" "luksrd-audit $(sed -n 's/^\.Os luksrd //p' "$pages/luksrd-audit.1")"

@@ -19,6 +19,7 @@ import os
 import pty
 import random
 import sys
+import termios
 import threading
 import time
 
@@ -173,7 +174,8 @@ def ask(answer, command):
         while b"assword" not in said:
             said += os.read(terminal, 4096)
         # (what is typed before it has turned the echo off is lost)
-        time.sleep(0.2)
+        while termios.tcgetattr(terminal)[3] & termios.ECHO:
+            time.sleep(0.01)
         os.write(terminal, answer.encode() + b"\n")
         while os.read(terminal, 4096):
             pass

@@ -1,6 +1,6 @@
 #!/usr/bin/env bash
-# Compares what bash and zsh offer for luksrd-audit's arguments with the options that its help lists: each of them, and nothing
-# else. The first argument is the built luksrd, the second the built luksrd-audit.
+# Compares what bash and zsh offer for luksrd-audit's arguments with the options that its help lists: each of them, and
+# nothing else. The first argument is the built luksrd, the second the built luksrd-audit.
 audit=$(realpath "${2:?the built luksrd-audit}")
 completions=$(realpath "$(dirname "$0")/../completions")
 # shellcheck source=tests/common.sh
@@ -34,7 +34,8 @@ same 'bash: files' "$(offered luksrd-audit --search '')" 'first second third one
 same 'bash: a file' "$(offered luksrd-audit first sec)" 'second'
 
 # the options that zsh's completion names, and its syntax
-same 'zsh: options' "$(grep -o -e '--[a-z][a-z-]*' "$completions/_luksrd-audit" | sort -u | paste -sd' ')" "$(paste -sd' ' ../options)"
+same 'zsh: options' "$(grep -o -e '--[a-z][a-z-]*' "$completions/_luksrd-audit" | sort -u | paste -sd' ')" \
+    "$(paste -sd' ' ../options)"
 same 'zsh: what it sees of the file' "$(zsh -n "$completions/_luksrd-audit" 2>&1)" ''
 
 finish

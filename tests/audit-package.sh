@@ -12,7 +12,8 @@ same 'the packages are made' "$? $(sed 's|.*/||; s/_.*//' made | paste -sd' ')" 
 package=$(echo packages/luksrd-audit_*.deb)
 same 'what lintian says' "$(lintian --allow-root --display-info --pedantic --fail-on none "$package" 2>&1)" ''
 papers=/usr/share/doc/luksrd-audit
-same 'what is in it' "$(dpkg-deb --fsys-tarfile "$package" | tar -tv | awk '!/^d/ { print $1, $6 }' | LC_ALL=C sort -k 2)" \
+same 'what is in it' "$(dpkg-deb --fsys-tarfile "$package" | tar -tv | awk '!/^d/ { print $1, $6 }' |
+    LC_ALL=C sort -k 2)" \
     "-rwxr-xr-x ./usr/bin/luksrd-audit
 -rw-r--r-- ./usr/share/bash-completion/completions/luksrd-audit
 -rw-r--r-- .$papers/AUDIT.md.gz

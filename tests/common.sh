@@ -6,9 +6,10 @@ set -u
 unset MAKEFLAGS
 program=$(realpath "${1:?the built program}")
 pages=$(realpath "$(dirname "${BASH_SOURCE[0]}")/../docs")
-# The seconds after which one run or one wait hangs, and a script: at least ten times what an idle machine needs
+# The seconds after which one run or one wait hangs, and a script: at least ten times what an idle machine needs. A
+# script of very many runs sets longer, since a busy machine can take ten times as long
 patience=${PATIENCE:-300}
-limit=$((patience * 10))
+limit=$((patience * ${longer:-10}))
 passed=0
 failed=0
 skipped=0

@@ -84,12 +84,18 @@ files() {
 }
 installed() { dpkg-query --admindir="$root/var/lib/dpkg" -W -f '${Package}\n' | sort; }
 
+# again COMMAND..: runs a command up to three times, until it succeeds: a mirror may be busy, or change meanwhile
+again() {
+    "$@" || { sleep 10; "$@"; } || { sleep 60; "$@"; }
+}
 # made_root RELEASE: makes the root, with apt's settings of this machine
 made_root() {
+    rm -rf "$root"
     apart debootstrap --variant=minbase "$1" "$root" "$mirror" >"$root.log" 2>&1 || return
-    apt-config dump | grep -E '^Acquire::(https?|Check|Retries)' >"$root/etc/apt/apt.conf.d/99as-here"
+    { echo 'Acquire::Retries "5";'; apt-config dump | grep -E '^Acquire::(https?|Check|Retries)'; } \
+        >"$root/etc/apt/apt.conf.d/99as-here"
     cp -r given debs "$root"
-    in_root apt-get update >"$root.log"
+    in_root apt-get -o APT::Update::Error-Mode=any update >"$root.log"
 }
 
 # tried NAME: all checks in a root
@@ -103,8 +109,8 @@ tried() {
     # what they need, and what they are tried with
     mapfile -t needed < <(install -s "${here[@]}" | sed -n 's/^Inst \([^ ]*\) .*/\1/p' |
         grep -vxF "$(printf '%s\n' "${packages[@]}")")
-    install "${needed[@]}" gcc libc6-dev libnbd-bin make nbdkit nbdkit-plugin-dev pkg-config >log
-    same "$name: what they need" $? 0
+    again install "${needed[@]}" gcc libc6-dev libnbd-bin make nbdkit nbdkit-plugin-dev pkg-config >log
+    same "$name: what they need" "$? $([ $? = 0 ] || grep '^E: ' log | tail -n 3)" '0 '
     files >before
     installed >had
     install "${here[@]}" >log
@@ -159,7 +165,7 @@ for release in 12:bookworm 13:trixie; do
         skip "$name" "$name cannot be had here"
         continue
     fi
-    if made_root "${release#*:}"; then
+    if again made_root "${release#*:}"; then
         tried "$name"
     else
         same "$name is made" "$(tail -n 3 "$root.log")" ''

@@ -4,6 +4,9 @@
 # and go on to the payload (tests/hostile.py). SEED gives the same again, and RUNS another number of them.
 sample=$(realpath "$(dirname "$0")/../sample")
 generator=$(realpath "$(dirname "$0")/hostile.py")
+# each run has a limit of its own
+# shellcheck disable=SC2034
+longer=40
 # shellcheck source=interop/common.sh
 . "$(dirname "$0")/../interop/common.sh"
 

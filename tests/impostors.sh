@@ -55,7 +55,7 @@ done
 # tried TARGET IMPOSTOR PROGRAM: how this script ends, in a file of its own. It may take long, unless it can only
 # hang. Packages are installed by one script at a time.
 tried() {
-    local seconds=100 name="$1, $2, program ${3##*/}"
+    local seconds=300 name="$1, $2, program ${3##*/}"
     [ "$2" != sleep ] || seconds=1
     [ "$1" != test-package ] || { exec 9>lock && flock 9; }
     PATIENCE=$seconds RUNS=500 make -s -C "$sources" "$1" PROGRAM="$3" PROGRAM_V2="$3" PROGRAM_V3="$work/$2" \

@@ -4,6 +4,8 @@
 # space of a start, of the bytes that the command has to hold, and of SLACK, it succeeds: so nothing is held twice,
 # and no buffer is larger than what it is for. Before that it runs each command on as little stack as a process may
 # have then.
+# shellcheck disable=SC2034
+longer=30
 # shellcheck source=tests/inputs.sh
 . "$(dirname "$0")/inputs.sh"
 gzip -dc "$sample/volume2.img.gz" >volume2

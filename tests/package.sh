@@ -440,12 +440,24 @@ make_built uninstall PLUGINS= FILTERS=
 same 'make uninstall of the library' "$? $(loads | grep -c 'cannot open shared object file')" '0 1'
 same 'what is left of the library' "$(find /usr/local -name '*luksrd*'; ldconfig -p | grep luksrd)" ''
 
+# by_dpkg ARGUMENT..: dpkg with these arguments, once no other program has its lock; if it fails, it is shown why
+by_dpkg() {
+    local _
+    for _ in $(seq 60); do
+        dpkg "$@" >log 2>&1 && return
+        grep 'locked by another process' log >/dev/null || break
+        sleep 5
+    done
+    tail -n 5 log
+    return 1
+}
+
 # chosen: the program that the administrator's choice leads to
 chosen() {
     readlink -f /usr/bin/luksrd
 }
 trap 'dpkg -r "${packages[@]}" >/dev/null 2>&1; rm -rf "$work"' EXIT
-dpkg -i "${debs[@]}" >log 2>&1
+by_dpkg -i "${debs[@]}"
 same 'they install' $? 0
 works /usr/bin/luksrd /usr/share/bash-completion/completions/luksrd
 same 'the program that is installed' "$(chosen)" /usr/libexec/luksrd/x86-64-v2/luksrd
@@ -481,12 +493,12 @@ else
     same 'what it says here' "$(/usr/bin/luksrd 2>err | wc -c; echo "${PIPESTATUS[0]}")" '0
 127'
 fi
-dpkg -i "${debs[0]}" >log 2>&1
+by_dpkg -i "${debs[0]}"
 same 'the choice after the package is installed again' "$? $(chosen)" '0 /usr/libexec/luksrd/x86-64-v3/luksrd'
 update-alternatives --auto luksrd >log 2>&1
 same 'no choice' "$? $(chosen)" '0 /usr/libexec/luksrd/x86-64-v2/luksrd'
 update-alternatives --set luksrd /usr/libexec/luksrd/x86-64-v3/luksrd >log 2>&1
-dpkg -P "${packages[@]}" >log 2>&1
+by_dpkg -P "${packages[@]}"
 same 'they go' $? 0
 same 'what is left' "$(xargs -d '\n' ls -d <paths 2>/dev/null;
     ls -d /usr/bin/luksrd /etc/alternatives/luksrd /var/lib/dpkg/alternatives/luksrd 2>/dev/null)" ''
