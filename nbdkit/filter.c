@@ -17,15 +17,26 @@
 static struct parameters parameters;
 static struct bytes passphrase;
 
-/* The volume is opened by the first connection that needs it, or, if its header is detached, before
+/* How many first bytes tell one volume from another: the header of LUKS1 with its key slots, or the
+ * binary header of LUKS2, which has the checksum of the rest. */
+#define HEADER_START 4096
+
+/* The volume is opened by the first connection that can, or, if its header is detached, before
  * there is one. The others wait for that. Nobody holds the lock while bytes are read or keys are
- * derived, and once the volume is open or refused, it does not change. */
-enum state { NOT_OPEN, BEING_OPENED, IS_OPEN, IS_REFUSED };
+ * derived, and once the volume is open, it does not change. A client chooses which export it
+ * connects to, so that one that is refused ends nothing for the clients of others. */
+enum state { NOT_OPEN, BEING_OPENED, IS_OPEN };
 static pthread_mutex_t lock = PTHREAD_MUTEX_INITIALIZER;
 static pthread_cond_t is_known = PTHREAD_COND_INITIALIZER;
 static enum state state;
-static char *served_name; /* the export with the volume, or NULL before it is known */
+static char *refused_name; /* the export that was refused last, or NULL */
+static char *served_name;  /* the export with the volume, or NULL before it is known */
+static uint64_t served_len; /* the length in bytes of what is below that, if it is known */
 static struct volume volume;
+
+/* The first bytes of the image, once the volume is open; none if they are not those of a header. */
+static uint8_t header_start[HEADER_START];
+static size_t header_start_len;
 
 /* A connection. */
 struct connection {
@@ -38,20 +49,33 @@ static void unload(void)
   close_volume(&volume);
   wipe(&passphrase);
   free_parameters(&parameters);
+  free(refused_name);
+  refused_name = NULL;
   free(served_name);
   served_name = NULL;
+}
+
+/* For nbdkit, which ends after an error without unload(). Returns -1. */
+static int give_up(void)
+{
+  forget_passphrase(&parameters);
+  wipe(&passphrase);
+  return -1;
 }
 
 static int config(nbdkit_next_config *next, nbdkit_backend *backend, const char *key,
                   const char *value)
 {
-  const int taken = take_parameter(&parameters, key, value);
-  return taken <= 0 ? taken : next(backend, key, value);
+  /* (plugins below have a parameter of this name, too) */
+  const bool is_below = strcmp(key, "size") == 0 && !parameters.volume_key_file;
+  const int taken = is_below ? 1 : take_parameter(&parameters, key, value);
+  const int status = taken > 0 ? next(backend, key, value) : taken;
+  return status < 0 ? give_up() : status;
 }
 
 static int config_complete(nbdkit_next_config_complete *next, nbdkit_backend *backend)
 {
-  return check_parameters(&parameters) < 0 ? -1 : next(backend);
+  return check_parameters(&parameters) < 0 || next(backend) < 0 ? give_up() : 0;
 }
 
 /* Reads the detached header. */
@@ -97,12 +121,12 @@ static int open_now(void)
 static int get_ready(int thread_model)
 {
   (void)thread_model;
-  if (!parameters.header)
-    return take_secret();
-  const int status = open_now();
-  if (status == 0)
+  const int status = parameters.header ? open_now() : take_secret();
+  if (status < 0)
+    return give_up();
+  if (parameters.header)
     state = IS_OPEN;
-  return status;
+  return 0;
 }
 
 static void *open_connection(nbdkit_next_open *next, nbdkit_context *context, int readonly,
@@ -133,6 +157,16 @@ static void close_connection(void *handle)
   free(connection);
 }
 
+/* Keeps the first bytes of the image, if these are those of a header. */
+static void keep_start(const struct bytes *header)
+{
+  static const uint8_t magic[] = { 'L', 'U', 'K', 'S', 0xba, 0xbe };
+  if (header->len < sizeof magic || memcmp(header->at, magic, sizeof magic) != 0)
+    return;
+  header_start_len = header->len < HEADER_START ? header->len : HEADER_START;
+  memcpy(header_start, header->at, header_start_len);
+}
+
 /* Reads the header below, and tries the passphrase or the volume key. */
 static enum outcome open_below(struct below *below)
 {
@@ -144,63 +178,82 @@ static enum outcome open_below(struct below *below)
     outcome = unlock(&volume, &header, &passphrase, &parameters);
   else
     nbdkit_error("luksrd: reading the first %zu bytes: %s", header.len, strerror(errno));
+  if (outcome == OPENED)
+    keep_start(&header);
   free(header.at);
   return outcome;
 }
 
-/* Whether the export of this connection is the one with the volume; the first one is. Another
- * export is another image, with which this key would give noise. The caller holds the lock. */
+/* Whether the export of this connection has the name of the one with the volume; the first one
+ * has. The caller holds the lock. */
 static bool has_volume(const struct connection *connection)
 {
   if (!served_name) {
     served_name = connection->export_name;
+    served_len = connection->below.len;
     report_ending(&volume, connection->below.len);
   }
   return strcmp(served_name, connection->export_name) == 0;
 }
 
-/* Opens the volume, for this connection and for all others. If a read failed or there was no
- * memory, a later connection tries again. Returns the new state. */
-static enum state open_for_all(struct connection *connection)
+/* Opens the volume, for this connection and for all others. If this export is refused, that of a
+ * later connection may be another one; if a read failed or there was no memory, a later connection
+ * tries again. Returns whether it is open. */
+static bool open_for_all(struct connection *connection)
 {
   const enum outcome outcome = open_below(&connection->below);
-  const enum state next = outcome == OPENED    ? IS_OPEN
-                          : outcome == REFUSED ? IS_REFUSED
-                                               : NOT_OPEN;
-  if (next != NOT_OPEN)
+  if (outcome == OPENED)
     wipe(&passphrase);
   pthread_mutex_lock(&lock);
-  state = next;
-  if (next == IS_OPEN)
+  state = outcome == OPENED ? IS_OPEN : NOT_OPEN;
+  if (outcome == OPENED)
     has_volume(connection);
+  if (outcome == REFUSED) {
+    free(refused_name);
+    refused_name = strdup(connection->export_name);
+  }
   pthread_cond_broadcast(&is_known);
   pthread_mutex_unlock(&lock);
-  return next;
+  return outcome == OPENED;
 }
 
-/* Waits while another connection opens the volume. Returns IS_OPEN or IS_REFUSED; or BEING_OPENED,
- * and then this connection has to open it. */
-static enum state wait_for_volume(void)
+/* Waits while another connection opens the volume. Returns IS_OPEN; BEING_OPENED, and then this
+ * connection has to open it; or NOT_OPEN, if its export was refused before. */
+static enum state wait_for_volume(const struct connection *connection)
 {
   pthread_mutex_lock(&lock);
   while (state == BEING_OPENED)
     pthread_cond_wait(&is_known, &lock);
-  const enum state found = state;
-  if (found == NOT_OPEN)
+  if (state == NOT_OPEN &&
+      (!refused_name || strcmp(refused_name, connection->export_name) != 0))
     state = BEING_OPENED;
+  const enum state found = state;
   pthread_mutex_unlock(&lock);
-  return found == NOT_OPEN ? BEING_OPENED : found;
+  return found;
+}
+
+/* Whether what is below an export of another name is the same image, as if what is below does not
+ * look at names: it has the same header or, if that is not in it, the same length. Another image
+ * would give noise with this key. */
+static bool has_same_image(struct below *below)
+{
+  uint8_t start[HEADER_START];
+  if (header_start_len == 0)
+    return below->len == served_len;
+  return below->len >= header_start_len && read_below(below, start, header_start_len, 0) &&
+         memcmp(start, header_start, header_start_len) == 0;
 }
 
 /* Whether this connection is served; reports why not. */
-static bool is_served(const struct connection *connection)
+static bool is_served(struct connection *connection)
 {
   pthread_mutex_lock(&lock);
   const bool is_same = has_volume(connection);
   pthread_mutex_unlock(&lock);
-  if (!is_same)
-    nbdkit_error("luksrd: this server has opened another export, and serves no second one");
-  return is_same;
+  if (is_same || has_same_image(&connection->below))
+    return true;
+  nbdkit_error("luksrd: this server has opened another export, and serves no second one");
+  return false;
 }
 
 static int prepare(nbdkit_next *next, void *handle, int readonly)
@@ -209,12 +262,15 @@ static int prepare(nbdkit_next *next, void *handle, int readonly)
   (void)readonly;
   if (look_below(&connection->below, next) < 0)
     return -1;
-  enum state found = wait_for_volume();
-  if (found == BEING_OPENED)
-    found = open_for_all(connection);
-  else if (found == IS_REFUSED)
-    nbdkit_error("luksrd: the first connection has not opened the volume");
-  return found == IS_OPEN && is_served(connection) ? 0 : -1;
+  switch (wait_for_volume(connection)) {
+  case BEING_OPENED:
+    return open_for_all(connection) ? 0 : -1;
+  case IS_OPEN:
+    return is_served(connection) ? 0 : -1;
+  default:
+    nbdkit_error("luksrd: this export was refused before");
+    return -1;
+  }
 }
 
 static int64_t get_size(nbdkit_next *next, void *handle)
