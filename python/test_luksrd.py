@@ -465,6 +465,7 @@ class Left:
         return self
 
     def __exit__(self, *_):
+        gc.collect()
         assert len(os.listdir("/proc/self/fd")) == self.descriptors
         assert self.keys and not any(any(bytes(key)) for key in self.keys)
         # a secret was there, and is no more
@@ -495,44 +496,48 @@ def test_warnings_as_errors(left, use, warning):
     assert warning is None or caught.value is not None
 
 
-@pytest.mark.parametrize("name", ["_read_header", "_library", "_warn", "unlock", "_prepare", "plain_len", "ending"])
-def test_open_fails(left, monkeypatch, name):
+@pytest.mark.parametrize("is_done", [False, True])
+@pytest.mark.parametrize("owner, name, turn", [
+    (luksrd, "_library", 2), (luksrd, "_library", 3), (luksrd, "_library", 4), (luksrd, "_read_header", 1),
+    (luksrd._Key, "unlock", 1), (luksrd._Key, "_prepare", 1), (luksrd._Key, "plain_len", 1),
+    (luksrd._Key, "ending", 1), (warnings, "warn", 1)])
+def test_open_interrupted(left, monkeypatch, owner, name, turn, is_done):
     """Nothing is left if opening is interrupted before or after one of these calls."""
-    owner = luksrd._Key if hasattr(luksrd._Key, name) else luksrd if hasattr(luksrd, name) else warnings
-    name = name if hasattr(owner, name) else "warn"
-    call = getattr(owner, name)
+    call, calls = getattr(owner, name), []
 
     def interrupted(*arguments, **named):
-        with contextlib.suppress(StopIteration):
-            next(turns)
-            return call(*arguments, **named)
-        call(*arguments, **named)
-        raise KeyboardInterrupt
+        calls.append(name)
+        if len(calls) == turn and not is_done:
+            raise KeyboardInterrupt
+        answer = call(*arguments, **named)
+        if len(calls) == turn:
+            raise KeyboardInterrupt
+        return answer
 
     with left:
-        # (a call that is right, so that there is a secret; then one that fails at each turn)
+        # (one that is opened, so that there is a secret)
         luksrd.open(FOLDER / VOLUME1, key_file=FOLDER / "pass").close()
         monkeypatch.setattr(owner, name, interrupted)
-        for before in range(2):
-            turns = iter(range(before))
-            with contextlib.suppress(KeyboardInterrupt, luksrd.IncompleteImageWarning), warnings.catch_warnings():
-                warnings.simplefilter("always")
-                luksrd.open(FOLDER / "truncated inside a sector", key_file=FOLDER / "pass").close()
-        monkeypatch.setattr(owner, name, call)
+        with pytest.raises(KeyboardInterrupt), warnings.catch_warnings():
+            warnings.simplefilter("always")
+            luksrd.open(FOLDER / "truncated inside a sector", key_file=FOLDER / "pass")
+        assert len(calls) >= turn
 
 
 def test_reading_a_secret_fails(left, monkeypatch):
     """What was read before is wiped."""
-    reads = iter((os.readv,))
+    read, reads = os.readv, []
 
     def readv(descriptor, buffers):
-        if os.readlink(f"/proc/self/fd/{descriptor}").endswith("/pass"):
-            return next(reads)(descriptor, [buffers[0][:5]])
-        return real(descriptor, buffers)
+        if not os.readlink(f"/proc/self/fd/{descriptor}").endswith("/pass"):
+            return read(descriptor, buffers)
+        reads.append(descriptor)
+        if len(reads) > 1:
+            raise OSError(errno.EIO, "a part of the disk is gone")
+        return read(descriptor, [buffers[0][:5]])
 
-    real = os.readv
     monkeypatch.setattr(os, "readv", readv)
-    with left, pytest.raises(StopIteration):
+    with left, pytest.raises(OSError, match="a part of the disk is gone"):
         luksrd.open(FOLDER / VOLUME1, key_file=FOLDER / "pass")
     assert [len(buffer) for _, buffer in left.secrets] == [8388609]
 
