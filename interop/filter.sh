@@ -80,7 +80,7 @@ says 'another export' 'luksrd: this server has opened another export, and serves
 exports 'plain plain two plain one' file dir=exports key-file=pass
 same 'exports that are refused: sizes' "$(grep -c '^300032$' said) $(grep -c '^303104$' said)" '0 1'
 same 'exports that are refused: reasons' \
-    "$(grep -c 'luksrd: not a LUKS image' said) $(grep -c 'luksrd: this export was refused before' said) $(grep -c \
+    "$(grep -c 'luksrd: not a LUKS image' said) $(grep -c 'luksrd: this image was refused before' said) $(grep -c \
         'luksrd: this server has opened another export' said)" '1 1 2'
 exports 'detached1 other1 shorter detached1' file dir=exports key-file=pass header=header1
 same 'exports and a detached header: sizes' "$(grep -c '^303104$' said) $(grep -c '^200704$' said)" '3 0'
@@ -90,7 +90,7 @@ exports 'any ""' file detached1 key-file=pass header=header1
 same 'the same with a detached header' "$? $(grep -c '^303104$' said)" '0 2'
 served 'nbdinfo --size "$uri"; nbdinfo --size "$uri"' file plain key-file=pass
 says 'the reason' 'luksrd: not a LUKS image'
-says 'a second connection' 'luksrd: this export was refused before'
+says 'a second connection' 'luksrd: this image was refused before'
 served 'for name in plain plain plain; do nbdinfo --size "nbd+unix:///$name?socket=$unixsocket" & done
     nbdinfo --size "nbd+unix:///two?socket=$unixsocket"; status=$?; wait; exit $status' file dir=exports key-file=pass
 same 'exports that are refused at once' "$? $(grep -c '^303104$' said)" '0 1'

@@ -17,10 +17,6 @@
 static struct parameters parameters;
 static struct bytes passphrase;
 
-/* How many first bytes tell one volume from another: the header of LUKS1 with its key slots, or the
- * binary header of LUKS2, which has the checksum of the rest. */
-#define HEADER_START 4096
-
 /* The volume is opened by the first connection that can, or, if its header is detached, before
  * there is one. The others wait for that. Nobody holds the lock while bytes are read or keys are
  * derived, and once the volume is open, it does not change. A client chooses which export it
@@ -29,14 +25,20 @@ enum state { NOT_OPEN, BEING_OPENED, IS_OPEN };
 static pthread_mutex_t lock = PTHREAD_MUTEX_INITIALIZER;
 static pthread_cond_t is_known = PTHREAD_COND_INITIALIZER;
 static enum state state;
-static char *refused_name; /* the export that was refused last, or NULL */
-static char *served_name;  /* the export with the volume, or NULL before it is known */
+static char *served_name;   /* the export with the volume, or NULL before it is known */
 static uint64_t served_len; /* the length in bytes of what is below that, if it is known */
 static struct volume volume;
 
-/* The first bytes of the image, once the volume is open; none if they are not those of a header. */
-static uint8_t header_start[HEADER_START];
-static size_t header_start_len;
+/* The first bytes of an image, or none. They tell one volume from another: they have the header of
+ * LUKS1 with its key slots, or the binary header of LUKS2 with the checksum of the rest. */
+struct start {
+  uint8_t at[4096];
+  size_t len;
+};
+
+/* The image that was opened, if its header is in it, and the one that was refused last. Only the
+ * connection that opens the volume changes them. */
+static struct start opened_start, refused_start;
 
 /* A connection. */
 struct connection {
@@ -49,8 +51,6 @@ static void unload(void)
   close_volume(&volume);
   wipe(&passphrase);
   free_parameters(&parameters);
-  free(refused_name);
-  refused_name = NULL;
   free(served_name);
   served_name = NULL;
 }
@@ -157,21 +157,38 @@ static void close_connection(void *handle)
   free(connection);
 }
 
-/* Keeps the first bytes of the image, if these are those of a header. */
-static void keep_start(const struct bytes *header)
+/* Keeps the first bytes of an image. */
+static void keep_start(struct start *start, const struct bytes *header)
 {
-  static const uint8_t magic[] = { 'L', 'U', 'K', 'S', 0xba, 0xbe };
-  if (header->len < sizeof magic || memcmp(header->at, magic, sizeof magic) != 0)
-    return;
-  header_start_len = header->len < HEADER_START ? header->len : HEADER_START;
-  memcpy(header_start, header->at, header_start_len);
+  start->len = header->len < sizeof start->at ? header->len : sizeof start->at;
+  memcpy(start->at, header->at, start->len);
 }
 
-/* Reads the header below, and tries the passphrase or the volume key. */
+/* Whether they begin a header, the first one of LUKS2 or that of LUKS1. */
+static bool has_magic(const struct start *start)
+{
+  static const uint8_t magic[] = { 'L', 'U', 'K', 'S', 0xba, 0xbe };
+  return start->len >= sizeof magic && memcmp(start->at, magic, sizeof magic) == 0;
+}
+
+/* Whether what is below begins with these bytes, of which there are some. */
+static bool begins_with(struct below *below, const struct start *start)
+{
+  uint8_t found[sizeof start->at];
+  return start->len > 0 && below->len >= start->len && read_below(below, found, start->len, 0) &&
+         memcmp(found, start->at, start->len) == 0;
+}
+
+/* Reads the header below, and tries the passphrase or the volume key, but not a second time on an
+ * image that was refused: clients could cost the server what they like. */
 static enum outcome open_below(struct below *below)
 {
   struct bytes header = { 0 };
   enum outcome outcome = TRY_LATER;
+  if (begins_with(below, &refused_start)) {
+    nbdkit_error("luksrd: this image was refused before");
+    return REFUSED;
+  }
   if (allocate(&header, below->len < MAX_HEADER ? (size_t)below->len : MAX_HEADER) < 0)
     return TRY_LATER;
   if (read_below(below, header.at, header.len, 0))
@@ -179,7 +196,9 @@ static enum outcome open_below(struct below *below)
   else
     nbdkit_error("luksrd: reading the first %zu bytes: %s", header.len, strerror(errno));
   if (outcome == OPENED)
-    keep_start(&header);
+    keep_start(&opened_start, &header);
+  else if (outcome == REFUSED)
+    keep_start(&refused_start, &header);
   free(header.at);
   return outcome;
 }
@@ -208,28 +227,23 @@ static bool open_for_all(struct connection *connection)
   state = outcome == OPENED ? IS_OPEN : NOT_OPEN;
   if (outcome == OPENED)
     has_volume(connection);
-  if (outcome == REFUSED) {
-    free(refused_name);
-    refused_name = strdup(connection->export_name);
-  }
   pthread_cond_broadcast(&is_known);
   pthread_mutex_unlock(&lock);
   return outcome == OPENED;
 }
 
-/* Waits while another connection opens the volume. Returns IS_OPEN; BEING_OPENED, and then this
- * connection has to open it; or NOT_OPEN, if its export was refused before. */
-static enum state wait_for_volume(const struct connection *connection)
+/* Waits while another connection opens the volume. Returns whether it is open; if not, this
+ * connection has to open it. */
+static bool wait_for_volume(void)
 {
   pthread_mutex_lock(&lock);
   while (state == BEING_OPENED)
     pthread_cond_wait(&is_known, &lock);
-  if (state == NOT_OPEN &&
-      (!refused_name || strcmp(refused_name, connection->export_name) != 0))
+  const bool is_open = state == IS_OPEN;
+  if (!is_open)
     state = BEING_OPENED;
-  const enum state found = state;
   pthread_mutex_unlock(&lock);
-  return found;
+  return is_open;
 }
 
 /* Whether what is below an export of another name is the same image, as if what is below does not
@@ -237,11 +251,7 @@ static enum state wait_for_volume(const struct connection *connection)
  * would give noise with this key. */
 static bool has_same_image(struct below *below)
 {
-  uint8_t start[HEADER_START];
-  if (header_start_len == 0)
-    return below->len == served_len;
-  return below->len >= header_start_len && read_below(below, start, header_start_len, 0) &&
-         memcmp(start, header_start, header_start_len) == 0;
+  return has_magic(&opened_start) ? begins_with(below, &opened_start) : below->len == served_len;
 }
 
 /* Whether this connection is served; reports why not. */
@@ -262,15 +272,8 @@ static int prepare(nbdkit_next *next, void *handle, int readonly)
   (void)readonly;
   if (look_below(&connection->below, next) < 0)
     return -1;
-  switch (wait_for_volume(connection)) {
-  case BEING_OPENED:
-    return open_for_all(connection) ? 0 : -1;
-  case IS_OPEN:
-    return is_served(connection) ? 0 : -1;
-  default:
-    nbdkit_error("luksrd: this export was refused before");
-    return -1;
-  }
+  const bool is_prepared = wait_for_volume() ? is_served(connection) : open_for_all(connection);
+  return is_prepared ? 0 : -1;
 }
 
 static int64_t get_size(nbdkit_next *next, void *handle)
