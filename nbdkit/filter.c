@@ -29,13 +29,6 @@ static char *served_name;   /* the export with the volume, or NULL before it is 
 static uint64_t served_len; /* the length in bytes of what is below that, if it is known */
 static struct volume volume;
 
-/* The first bytes of an image, or none. They tell one volume from another: they have the header of
- * LUKS1 with its key slots, or the binary header of LUKS2 with the checksum of the rest. */
-struct start {
-  uint8_t at[4096];
-  size_t len;
-};
-
 /* The image that was opened, if its header is in it, and the one that was refused last. Only the
  * connection that opens the volume changes them. */
 static struct start opened_start, refused_start;
@@ -155,28 +148,6 @@ static void close_connection(void *handle)
   if (!is_kept)
     free(connection->export_name);
   free(connection);
-}
-
-/* Keeps the first bytes of an image. */
-static void keep_start(struct start *start, const struct bytes *header)
-{
-  start->len = header->len < sizeof start->at ? header->len : sizeof start->at;
-  memcpy(start->at, header->at, start->len);
-}
-
-/* Whether they begin a header, the first one of LUKS2 or that of LUKS1. */
-static bool has_magic(const struct start *start)
-{
-  static const uint8_t magic[] = { 'L', 'U', 'K', 'S', 0xba, 0xbe };
-  return start->len >= sizeof magic && memcmp(start->at, magic, sizeof magic) == 0;
-}
-
-/* Whether what is below begins with these bytes, of which there are some. */
-static bool begins_with(struct below *below, const struct start *start)
-{
-  uint8_t found[sizeof start->at];
-  return start->len > 0 && below->len >= start->len && read_below(below, found, start->len, 0) &&
-         memcmp(found, start->at, start->len) == 0;
 }
 
 /* Reads the header below, and tries the passphrase or the volume key, but not a second time on an
