@@ -114,7 +114,8 @@ says 'a sector that cannot be read' 'luksrd: reading 512 bytes at offset '
 # While a read below does not end, others are answered, and the volume opens for others.
 served "/usr/bin/python3 '$here/clients.py' side-by-side \"\$uri\" text go >answer" eval thread_model='echo parallel' \
     get_size="stat -c %s '$work/$volume1'" \
-    pread="[ \$4 -lt $(($(start_of1 "$volume1") + 200000)) ] || until [ -e '$work/go' ] || [ ! -d '$work' ]; do sleep 0.05; done
+    pread="[ \$4 -lt $(($(start_of1 "$volume1") + 200000)) ] ||
+            until [ -e '$work/go' ] || [ ! -d '$work' ]; do sleep 0.05; done
         tail -c +\$((\$4 + 1)) '$work/$volume1' | head -c \$3" key-file=pass
 same 'a read that waits' "$? $(cat answer)" '0 all the same'
 
@@ -122,7 +123,8 @@ same 'a read that waits' "$? $(cat answer)" '0 all the same'
 rm go
 served "/usr/bin/python3 '$here/clients.py' beside-others \"\$uri\" text go >answer" eval \
     thread_model='echo parallel' get_size="stat -c %s '$work/$volume1'" \
-    pread="[ \$4 -lt $(($(start_of1 "$volume1") + 200000)) ] || until [ -e '$work/go' ] || [ ! -d '$work' ]; do sleep 0.05; done
+    pread="[ \$4 -lt $(($(start_of1 "$volume1") + 200000)) ] ||
+            until [ -e '$work/go' ] || [ ! -d '$work' ]; do sleep 0.05; done
         tail -c +\$((\$4 + 1)) '$work/$volume1' | head -c \$3" key-file=pass
 same 'beside clients that are interrupted' "$? $(cat answer)" '0 all the same'
 finish

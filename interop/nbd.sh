@@ -202,8 +202,8 @@ volume_keys() {
         "$volume1.key: a key of 64 bytes, this cipher and this sector size do not go together" "$volume1" \
         volume-key-file="$volume1.key" payload-offset=512 cipher=aes-cbc-plain64
     for long in plain huge; do
-        refused "a volume key that is too long, $long" "$long: longer than the longest volume key, 64 bytes" "$volume1" \
-            volume-key-file=$long payload-offset=512
+        refused "a volume key that is too long, $long" "$long: longer than the longest volume key, 64 bytes" \
+            "$volume1" volume-key-file=$long payload-offset=512
     done
     for number in '' 1M -1 +1 ' 1' 1x 0x1 9223372036854775808 18446744073709551617 00000000000000000001; do
         for name in payload-offset size; do
@@ -234,7 +234,8 @@ volume_keys() {
 }
 with volume_keys
 refused 'a size without a volume key' \
-    'cipher=, payload-offset=, sector-size=, iv-offset= and size= need volume-key-file=' "$volume1" key-file=pass size=512
+    'cipher=, payload-offset=, sector-size=, iv-offset= and size= need volume-key-file=' "$volume1" key-file=pass \
+    size=512
 
 # an image that is truncated while it is served. (What is below the filter may give zeros from its last page)
 cp "$volume1" image

@@ -41,7 +41,7 @@ static uint32_t mode_of(const char *cipher)
 }
 
 /* Compares the volume key with the header, if one is there. A volume whose header is lost or
- * damaged is opened without that; this is reported, unless no header was named and there is none. */
+ * damaged is opened without that. This is reported, unless there is none and none was named. */
 static enum outcome check_volume_key(const struct volume *volume, const struct bytes *header,
                                      const struct bytes *key, const struct parameters *parameters)
 {
