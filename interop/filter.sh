@@ -74,6 +74,9 @@ cp detached1 exports/detached1
 cp encrypted1 exports/other1
 cp detached2 exports/shorter
 truncate -s 200704 exports/shorter
+head -c 20000 "$volume1" >exports/cut
+cp "$volume1" exports/damaged
+dd if=/dev/zero of=exports/damaged bs=4096 seek=1 count=300 conv=notrunc status=none
 exports 'one two copy one' file dir=exports key-file=pass
 same 'exports: sizes' "$(grep -c '^300032$' said) $(grep -c '^303104$' said)" '3 0'
 says 'another export' 'luksrd: this server has opened another export, and serves no second one'
@@ -82,6 +85,8 @@ same 'exports that are refused: sizes' "$(grep -c '^300032$' said) $(grep -c '^3
 same 'exports that are refused: reasons' \
     "$(grep -c 'luksrd: not a LUKS image' said) $(grep -c 'luksrd: this image was refused before' said) $(grep -c \
         'luksrd: this server has opened another export' said)" '1 1 2'
+exports 'cut damaged one' file dir=exports key-file=pass
+same 'exports that are refused, with the same header: sizes' "$? $(grep -c '^300032$' said)" '0 1'
 exports 'detached1 other1 shorter detached1' file dir=exports key-file=pass header=header1
 same 'exports and a detached header: sizes' "$(grep -c '^303104$' said) $(grep -c '^200704$' said)" '3 0'
 exports 'any name of ""' file "$volume1" key-file=pass

@@ -29,9 +29,10 @@ static char *served_name;   /* the export with the volume, or NULL before it is 
 static uint64_t served_len; /* the length in bytes of what is below that, if it is known */
 static struct volume volume;
 
-/* The image that was opened, if its header is in it, and the one that was refused last. Only the
- * connection that opens the volume changes them. */
-static struct start opened_start, refused_start;
+/* The first bytes of the image that was opened, if its header is in it, and all that decides about
+ * the one that was refused last. Only the connection that opens the volume changes them. */
+static struct start opened_start;
+static struct bytes refused_header;
 
 /* A connection. */
 struct connection {
@@ -44,6 +45,7 @@ static void unload(void)
   close_volume(&volume);
   wipe(&passphrase);
   free_parameters(&parameters);
+  free(refused_header.at);
   free(served_name);
   served_name = NULL;
 }
@@ -150,26 +152,35 @@ static void close_connection(void *handle)
   free(connection);
 }
 
-/* Reads the header below, and tries the passphrase or the volume key, but not a second time on an
- * image that was refused: clients could cost the server what they like. */
+/* Tries the passphrase or the volume key on a header, but not a second time on one that was
+ * refused: clients could cost the server what they like. */
+static enum outcome try_header(const struct bytes *header)
+{
+  if (!refused_header.at || refused_header.len != header->len ||
+      memcmp(refused_header.at, header->at, header->len) != 0)
+    return unlock(&volume, header, &passphrase, &parameters);
+  nbdkit_error("luksrd: this image was refused before");
+  return REFUSED;
+}
+
+/* Reads the header below, and opens the volume. */
 static enum outcome open_below(struct below *below)
 {
   struct bytes header = { 0 };
   enum outcome outcome = TRY_LATER;
-  if (begins_with(below, &refused_start)) {
-    nbdkit_error("luksrd: this image was refused before");
-    return REFUSED;
-  }
   if (allocate(&header, below->len < MAX_HEADER ? (size_t)below->len : MAX_HEADER) < 0)
     return TRY_LATER;
   if (read_below(below, header.at, header.len, 0))
-    outcome = unlock(&volume, &header, &passphrase, &parameters);
+    outcome = try_header(&header);
   else
     nbdkit_error("luksrd: reading the first %zu bytes: %s", header.len, strerror(errno));
   if (outcome == OPENED)
     keep_start(&opened_start, &header);
-  else if (outcome == REFUSED)
-    keep_start(&refused_start, &header);
+  if (outcome == REFUSED) {
+    const struct bytes before = refused_header;
+    refused_header = header;
+    header = before;
+  }
   free(header.at);
   return outcome;
 }
