@@ -574,7 +574,8 @@ def test_close_interrupted(left, monkeypatch, step, ending):
             monkeypatch.setattr(volume, "flush", interrupts(volume.flush))
         with pytest.raises(KeyboardInterrupt):
             volume.close()
-        assert not volume.closed
+        # (Python itself takes it for closed once nothing is left to do)
+        assert volume.closed == (step == "marking")
         for use in (volume.read, volume.tell, lambda: volume.pread(1, 0)):
             with pytest.raises(ValueError):
                 use()
