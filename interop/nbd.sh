@@ -176,7 +176,7 @@ volume_keys() {
     done
     cp whole text
     opens 'a volume key and a greater size' "$volume2.lost" volume-key-file="$volume2.key" \
-        payload-offset="$start2" sector-size=4096 size=307200
+        payload-offset="$start2" sector-size=4096 size=$(($(stat -c %s whole) + 4096))
     says 'a volume key and a greater size' 'luksrd: image ends 4096 bytes before the segment does'
     served 'nbdinfo --size "$uri"' "$volume1" volume-key-file="$volume1.key" payload-offset="$start1" \
         iv-offset=18446744073709551615 size=9223372036854775296

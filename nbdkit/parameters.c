@@ -11,16 +11,15 @@
 #include <nbdkit-plugin.h>
 
 /* Reads a number as luksrd's command line does: decimal digits and nothing else, no more than the
- * largest number has. */
+ * largest number of 32, 63 or 64 bits has. */
 static int take_number(const char *key, const char *value, uint64_t min, uint64_t max,
                        uint64_t *number)
 {
-  char largest[32];
-  const int max_digits = snprintf(largest, sizeof largest, "%llu", (unsigned long long)max);
+  const size_t max_digits = max > INT64_MAX ? 20 : max > UINT32_MAX ? 19 : 10;
   const size_t digits = strspn(value, "0123456789");
   errno = 0;
   const unsigned long long read = strtoull(value, NULL, 10);
-  if (digits >= 1 && digits <= (size_t)max_digits && value[digits] == '\0' && errno == 0 &&
+  if (digits >= 1 && digits <= max_digits && value[digits] == '\0' && errno == 0 &&
       read >= min && read <= max) {
     *number = read;
     return 0;
