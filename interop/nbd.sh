@@ -464,6 +464,20 @@ instrumented() {
         run 'nbdinfo --size "$uri"' "$volume1" "$key"
         same "$build, $way, $key" $? 1
     done
+    # a volume key: with a file that is no header, and refused
+    text "$volume2" pass
+    tail -c +8193 text | head -c 200704 >rest
+    run 'nbdcopy "$uri" copy' "$volume2.lost" volume-key-file="$volume2.key" header=plain iv-offset=16 size=200704 \
+        payload-offset=$(($(cat "$volume2.start") + 8192)) sector-size=4096
+    same "$build, $way, a volume key" "$? $(sha256sum <copy)" "0 $(sha256sum <rest)"
+    for key in other_key huge; do
+        run 'nbdinfo --size "$uri"; nbdinfo --size "$uri"' "$volume2" volume-key-file=$key \
+            payload-offset="$(cat "$volume2.start")" sector-size=4096
+        same "$build, $way, a volume key, $key" $? 1
+    done
+    [ $way = plugin ] || run 'nbdinfo --size "nbd+unix:///a?socket=$unixsocket"
+        nbdinfo --size "nbd+unix:///b?socket=$unixsocket"' "$volume2" key-file=pass
+    same "$build, $way, another name" $? 0
 }
 # nbdkit loses some memory of its own if it ends while clients are connected, and the loader compares words of which the
 # end may be no part of a name
