@@ -475,9 +475,9 @@ instrumented() {
             payload-offset="$(cat "$volume2.start")" sector-size=4096
         same "$build, $way, a volume key, $key" $? 1
     done
-    [ $way = plugin ] || run 'nbdinfo --size "nbd+unix:///a?socket=$unixsocket"
-        nbdinfo --size "nbd+unix:///b?socket=$unixsocket"' "$volume2" key-file=pass
-    same "$build, $way, another name" $? 0
+    run 'nbdinfo --size "nbd+unix:///a?socket=$unixsocket"; nbdinfo --size "nbd+unix:///b?socket=$unixsocket"' \
+        "$volume2" key-file=pass
+    same "$build, $way, two names" "$? $(grep -c "^$(stat -c %s text)$" said)" '0 2'
 }
 # nbdkit loses some memory of its own if it ends while clients are connected, and the loader compares words of which the
 # end may be no part of a name
