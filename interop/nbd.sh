@@ -337,6 +337,7 @@ for length in 80 400; do
     head -c $((length / 2)) /dev/urandom | od -An -v -tx1 | tr -d ' \n' >secret$length
     run_cryptsetup luksAddKey --pbkdf-force-iterations 1000 --key-file pass remembered secret$length
 done
+{ cat secret80; printf '\0'; cat secret400; } >both
 run_cryptsetup luksDump --dump-volume-key --volume-key-file volume_key --key-file pass remembered
 # finds WHAT: where this is in the server's memory
 finds() {
@@ -363,6 +364,8 @@ memories() {
         remembers nowhere $secret passphrase=- /usr/bin/python3 "$here/clients.py" asks "$(cat $secret)"
         remembers arguments $secret "passphrase=$(cat $secret)"
     done
+    # (nor what nbdkit reads after a zero byte, which ends the passphrase)
+    remembers nowhere both passphrase=+both
 }
 with memories
 
