@@ -7,6 +7,7 @@
     clients.py caches URI TEXT          announces what it reads, and then reads it
     clients.py fails URI TEXT FILE      reads nothing while the file is there, and all once it is gone
     clients.py side-by-side URI TEXT GO reads the first bytes while a read of the last ones waits for the file GO
+    clients.py beside-others URI TEXT GO reads beside clients that end in the middle of a request, or send nonsense
     clients.py asks ANSWER COMMAND..    runs a command on a terminal of its own, and types an answer
     clients.py finds SECRET PID         whether a piece of the secret, 16 bytes, is in the memory of this process:
                                         `everywhere`, `arguments` (there alone) or `nowhere`
@@ -18,10 +19,13 @@ import errno
 import os
 import pty
 import random
+import socket
+import struct
 import sys
 import termios
 import threading
 import time
+import urllib.parse
 
 import nbd
 
@@ -164,6 +168,67 @@ def read_side_by_side(uri, text, go):
         yield "the last bytes"
 
 
+def speak(uri, said):
+    """A connection that says this after the server's greeting, and then no more."""
+    path = urllib.parse.parse_qs(urllib.parse.urlparse(uri).query)["socket"][0]
+    with socket.socket(socket.AF_UNIX) as other:
+        other.settimeout(60)
+        other.connect(path)
+        other.recv(18)
+        try:
+            other.sendall(said)
+            other.shutdown(socket.SHUT_WR)
+            while other.recv(4096):
+                pass
+        except (BrokenPipeError, ConnectionResetError):
+            pass
+
+
+def hostile():
+    """What clients say that are interrupted, or mean harm, by name."""
+    flags, option = struct.pack(">I", 1), b"IHAVEOPT" + struct.pack(">I", 1)
+    chosen = flags + option + struct.pack(">I", 0)
+
+    def request(kind, offset, count, magic=0x25609513, bits=0):
+        return chosen + struct.pack(">IHHQQI", magic, bits, kind, 1, offset, count)
+
+    return {
+        "nothing": b"",
+        "nonsense": random.Random(1).randbytes(4096),
+        "half of a choice": chosen[:9],
+        "a name that is too long": flags + option + struct.pack(">I", 2 ** 32 - 1),
+        "a name without an end": flags + option + struct.pack(">I", 100) + b"name",
+        "half of a request": request(0, 0, 4096)[:-8],
+        "the longest request": request(0, 0, 2 ** 32 - 1),
+        "a request past the end": request(0, 2 ** 63, 1),
+        "a request of nothing": request(0, 0, 0),
+        "a write": request(1, 0, 4096) + bytes(4096),
+        "half of a write": request(1, 0, 2 ** 26),
+        "an unknown request": request(999, 0, 1, bits=65535),
+        "no request": request(0, 0, 1, magic=0),
+        "many requests": request(0, 0, 65536) + request(0, 0, 65536)[len(chosen):] * 99,
+    }
+
+
+def read_beside_others(uri, text, go):
+    """What another client does, and where it ends, changes nothing for this one."""
+    for name, said in hostile().items():
+        speak(uri, said)
+        # (the volume is opened by one of those that say more)
+        if name != "nothing" and read(connected(uri), 5000, 300) != text[300:5300]:
+            yield f"the first bytes, after {name}"
+    interrupted, waiting = connected(uri), nbd.Buffer(1000)
+    interrupted.aio_pread(waiting, len(text) - 1000)
+    with socket.socket(fileno=os.dup(interrupted.aio_get_fd())) as line:
+        line.shutdown(socket.SHUT_RDWR)
+    if read(connected(uri), 5000, 300) != text[300:5300]:
+        yield "the first bytes, while the read of a client that has gone waits"
+    with open(go, "wb"):
+        pass
+    if read(connected(uri), 1000, len(text) - 1000) != text[-1000:]:
+        yield "the last bytes, after that"
+
+
 def ask(answer, command):
     """Runs the command with a terminal, types the answer once it asks for a password, and ends as it does."""
     child, terminal = pty.fork()
@@ -239,7 +304,8 @@ def main():
         problems = open_at_once(arguments[0], int(arguments[1]))
     else:
         reads = {"ranges": read_ranges, "shrinks": read_shrinking, "shorter": read_shorter, "caches": read_cached,
-                 "fails": read_failing, "side-by-side": read_side_by_side}[what]
+                 "fails": read_failing, "side-by-side": read_side_by_side,
+                 "beside-others": read_beside_others}[what]
         extra = [int(arguments[2])] if what == "ranges" else [name for name in arguments[2:] if name]
         problems = list(reads(arguments[0], contents(arguments[1]), *extra))
     print("\n".join(problems[:5]) or "all the same")

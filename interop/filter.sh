@@ -59,17 +59,52 @@ $hole $((8388608 - start - hole)) hole"
 served 'nbdinfo --map "$uri"' --filter=noextents file sparse key-file=pass
 same 'the map of an image without one' "$(awk '{ print $1, $2, $4 }' said)" "0 $((8388608 - start)) data"
 
-# one export, the first that is opened
+# exports NAMES ARGUMENT..: as served, nbdinfo prints the size of each of these exports
+exports() {
+    served "for name in $1; do nbdinfo --size \"nbd+unix:///\$name?socket=\$unixsocket\"; done" "${@:2}"
+}
+
+# one export, the first that is opened, also by another name; the clients of others that are refused end nothing
 mkdir exports
 cp "$volume1" exports/one
+cp "$volume1" exports/copy
 cp "$volume2" exports/two
-served 'for name in one two one; do nbdinfo --size "nbd+unix:///$name?socket=$unixsocket"; done' file dir=exports \
-    key-file=pass
-same 'exports: sizes' "$(grep -c '^300032$' said) $(grep -c '^303104$' said)" '2 0'
+cp plain exports/plain
+cp detached1 exports/detached1
+cp encrypted1 exports/other1
+cp detached2 exports/shorter
+truncate -s 200704 exports/shorter
+head -c 20000 "$volume1" >exports/cut
+cp "$volume1" exports/damaged
+dd if=/dev/zero of=exports/damaged bs=4096 seek=1 count=300 conv=notrunc status=none
+text "$volume2" pass
+size2=$(stat -c %s text)
+exports 'one two copy one' file dir=exports key-file=pass
+same 'exports: sizes' "$(grep -c '^300032$' said) $(grep -c "^$size2$" said)" '3 0'
 says 'another export' 'luksrd: this server has opened another export, and serves no second one'
+exports 'plain plain two plain one' file dir=exports key-file=pass
+same 'exports that are refused: sizes' "$(grep -c '^300032$' said) $(grep -c "^$size2$" said)" '0 1'
+same 'exports that are refused: reasons' \
+    "$(grep -c 'luksrd: not a LUKS image' said) $(grep -c 'luksrd: this image was refused before' said) $(grep -c \
+        'luksrd: this server has opened another export' said)" '1 1 2'
+exports 'cut damaged one' file dir=exports key-file=pass
+same 'exports that are refused, with the same header: sizes' "$? $(grep -c '^300032$' said)" '0 1'
+exports 'detached1 other1 shorter detached1' file dir=exports key-file=pass header=header1
+same 'exports and a detached header: sizes' "$(grep -c '^303104$' said) $(grep -c '^200704$' said)" '3 0'
+exports 'any name of ""' file "$volume1" key-file=pass
+same 'a plugin that looks at no names' "$? $(grep -c '^300032$' said)" '0 4'
+exports 'any ""' file detached1 key-file=pass header=header1
+same 'the same with a detached header' "$? $(grep -c '^303104$' said)" '0 2'
 served 'nbdinfo --size "$uri"; nbdinfo --size "$uri"' file plain key-file=pass
 says 'the reason' 'luksrd: not a LUKS image'
-says 'a second connection' 'luksrd: the first connection has not opened the volume'
+says 'a second connection' 'luksrd: this image was refused before'
+served 'for name in plain plain plain; do nbdinfo --size "nbd+unix:///$name?socket=$unixsocket" & done
+    nbdinfo --size "nbd+unix:///two?socket=$unixsocket"; status=$?; wait; exit $status' file dir=exports key-file=pass
+same 'exports that are refused at once' "$? $(grep -c "^$size2$" said)" '0 1'
+
+# a parameter of what is below
+served 'nbdinfo --size "$uri"' memory size=65536 key-file=pass
+says 'size= below' 'luksrd: not a LUKS image'
 
 # a read that fails: that of the header ends the connection, and a later one opens the volume; that of a sector ends the
 # request
@@ -86,7 +121,17 @@ says 'a sector that cannot be read' 'luksrd: reading 512 bytes at offset '
 # While a read below does not end, others are answered, and the volume opens for others.
 served "/usr/bin/python3 '$here/clients.py' side-by-side \"\$uri\" text go >answer" eval thread_model='echo parallel' \
     get_size="stat -c %s '$work/$volume1'" \
-    pread="[ \$4 -lt $(($(start_of1 "$volume1") + 200000)) ] || until [ -e '$work/go' ] || [ ! -d '$work' ]; do sleep 0.05; done
+    pread="[ \$4 -lt $(($(start_of1 "$volume1") + 200000)) ] ||
+            until [ -e '$work/go' ] || [ ! -d '$work' ]; do sleep 0.05; done
         tail -c +\$((\$4 + 1)) '$work/$volume1' | head -c \$3" key-file=pass
 same 'a read that waits' "$? $(cat answer)" '0 all the same'
+
+# Clients that are interrupted, or do not speak the protocol, end nothing for the others.
+rm go
+served "/usr/bin/python3 '$here/clients.py' beside-others \"\$uri\" text go >answer" eval \
+    thread_model='echo parallel' get_size="stat -c %s '$work/$volume1'" \
+    pread="[ \$4 -lt $(($(start_of1 "$volume1") + 200000)) ] ||
+            until [ -e '$work/go' ] || [ ! -d '$work' ]; do sleep 0.05; done
+        tail -c +\$((\$4 + 1)) '$work/$volume1' | head -c \$3" key-file=pass
+same 'beside clients that are interrupted' "$? $(cat answer)" '0 all the same'
 finish

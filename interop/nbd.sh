@@ -119,12 +119,15 @@ for sealed in "$volume1" "$volume2" "$essiv"; do keeps "$sealed"; done
 { head -c 63 "$volume2.key"; tail -c 1 "$volume2.key" | tr '\000-\377' '\001-\377\000'; } >other_key
 cp "$volume2" 'of no digest'
 edited 'of no digest' "tree['digests']['0']['segments'] = []"
+truncate -s 4294967360 huge
 volume_keys() {
-    local start1 start2
+    local start1 start2 more size long number name
     start1=$(cat "$volume1.start")
     start2=$(cat "$volume2.start")
     text "$volume1" pass
+    cp text whole1
     opens 'a volume key' "$volume1.lost" volume-key-file="$volume1.key" payload-offset="$start1"
+    same "a volume key without a header, $way: what is said" "$(cat said)" ''
     opens 'a volume key from a pipe' "$volume1.lost" volume-key-file=<(cat "$volume1.key") payload-offset="$start1" \
         cipher=aes-xts-plain64 sector-size=512
     text "$volume2" pass
@@ -150,13 +153,44 @@ volume_keys() {
     opens 'a volume key and a lower limit' "$volume2" volume-key-file="$volume2.key" payload-offset="$start2" \
         sector-size=4096 max-iterations=1
     says 'a volume key and a lower limit' 'luksrd: no digest to compare the volume key with'
+    # a file that is named as the header, and has none
+    for more in plain /dev/null; do
+        opens "a volume key and header=$more" "$volume2.lost" volume-key-file="$volume2.key" \
+            payload-offset="$start2" sector-size=4096 header=$more
+        says "a volume key and header=$more" "$more: luksrd: not a LUKS image"
+        says "a volume key and header=$more, and then" "$volume2.key: the volume key is not compared with a header"
+    done
+    # what else the header said
+    cp text whole
+    tail -c +8193 whole >text
+    opens 'a volume key and the number of a data unit' "$volume2.lost" volume-key-file="$volume2.key" \
+        payload-offset=$((start2 + 8192)) sector-size=4096 iv-offset=16
+    tail -c +1025 whole1 >text
+    opens 'the same for sectors of 512' "$volume1.lost" volume-key-file="$volume1.key" \
+        payload-offset=$((start1 + 1024)) iv-offset=0000000002
+    for size in 0 8192 303104; do
+        head -c $size whole >text
+        opens "a volume key and a size of $size" "$volume2.lost" volume-key-file="$volume2.key" \
+            payload-offset="$start2" sector-size=4096 size=$size
+        same "a volume key and a size of $size, $way: what is said" "$(cat said)" ''
+    done
+    cp whole text
+    opens 'a volume key and a greater size' "$volume2.lost" volume-key-file="$volume2.key" \
+        payload-offset="$start2" sector-size=4096 size=$(($(stat -c %s whole) + 4096))
+    says 'a volume key and a greater size' 'luksrd: image ends 4096 bytes before the segment does'
+    served 'nbdinfo --size "$uri"' "$volume1" volume-key-file="$volume1.key" payload-offset="$start1" \
+        iv-offset=18446744073709551615 size=9223372036854775296
+    same "the last data unit, and the greatest size, $way" "$? $(grep -c '^300032$' said)" '0 1'
     text "$essiv" pass
     opens 'a volume key for CBC' "$essiv.lost" volume-key-file="$essiv.key" payload-offset="$(cat "$essiv.start")" \
         sector-size=4096 cipher=aes-cbc-essiv:sha256
     refused 'a volume key without an offset' 'volume-key-file= needs payload-offset=' "$volume1" \
         volume-key-file="$volume1.key"
-    refused 'an offset without a volume key' 'cipher=, payload-offset= and sector-size= need volume-key-file=' \
-        "$volume1" key-file=pass payload-offset=512
+    for more in payload-offset=512 cipher=aes-xts-plain64 sector-size=512 iv-offset=0; do
+        refused "$more without a volume key" \
+            'cipher=, payload-offset=, sector-size=, iv-offset= and size= need volume-key-file=' "$volume1" \
+            key-file=pass $more
+    done
     for more in key-file=pass passphrase=+pass key-slot=0; do
         refused "a volume key and $more" 'volume-key-file= does not go with key-file=, passphrase= or key-slot=' \
             "$volume1" volume-key-file="$volume1.key" payload-offset=512 $more
@@ -164,21 +198,44 @@ volume_keys() {
     refused 'a volume key and an unknown cipher' \
         'cipher=aes-ecb: none of aes-xts-plain64 aes-xts-plain aes-cbc-essiv:sha256 aes-cbc-plain64' "$volume1" \
         volume-key-file="$volume1.key" payload-offset=512 cipher=aes-ecb
-    for more in cipher=aes-cbc-plain64 sector-size=513; do
-        refused "a volume key and $more" \
-            "$volume1.key: a key of 64 bytes, this cipher and this sector size do not go together" "$volume1" \
-            volume-key-file="$volume1.key" payload-offset=512 $more
+    refused 'a volume key and another cipher' \
+        "$volume1.key: a key of 64 bytes, this cipher and this sector size do not go together" "$volume1" \
+        volume-key-file="$volume1.key" payload-offset=512 cipher=aes-cbc-plain64
+    for long in plain huge; do
+        refused "a volume key that is too long, $long" "$long: longer than the longest volume key, 64 bytes" \
+            "$volume1" volume-key-file=$long payload-offset=512
     done
-    refused 'a volume key that is too long' \
-        'plain: a key of 303104 bytes, this cipher and this sector size do not go together' "$volume1" \
-        volume-key-file=plain payload-offset=512
-    refused 'an offset that is no number' 'payload-offset=1M: not a number from 0 to 9223372036854775807' "$volume1" \
-        volume-key-file="$volume1.key" payload-offset=1M
+    for number in '' 1M -1 +1 ' 1' 1x 0x1 9223372036854775808 18446744073709551617 00000000000000000001; do
+        for name in payload-offset size; do
+            refused "$name '$number'" "$name=$number: not a number from 0 to 9223372036854775807" "$volume1" \
+                volume-key-file="$volume1.key" $name="$number"
+        done
+    done
+    for number in '' 1M -1 18446744073709551616 99999999999999999999 000000000000000000001; do
+        refused "data unit '$number'" "iv-offset=$number: not a number from 0 to 18446744073709551615" "$volume1" \
+            volume-key-file="$volume1.key" iv-offset="$number"
+    done
+    for number in '' 511 4097 1k; do
+        refused "sector size '$number'" "sector-size=$number: not a number from 512 to 4096" "$volume1" \
+            volume-key-file="$volume1.key" sector-size="$number"
+    done
+    for number in 513 1536 4095; do
+        refused "sector size $number" "sector-size=$number: none of 512 1024 2048 4096" "$volume1" \
+            volume-key-file="$volume1.key" sector-size=$number
+    done
+    refused 'a size that is no multiple of 512' 'size=513: not a multiple of the sector size, 512' "$volume1" \
+        volume-key-file="$volume1.key" payload-offset=512 size=513
+    refused 'a size that is no multiple of 4096' 'size=512: not a multiple of the sector size, 4096' "$volume1" \
+        volume-key-file="$volume1.key" payload-offset=512 size=512 sector-size=4096
+    refused 'a size twice' 'size= is given twice' "$volume1" volume-key-file="$volume1.key" size=512 size=512
     served 'nbdinfo --size "$uri"' "$volume1" volume-key-file="$volume1.key" payload-offset=9223372036854775807
     same "an offset past the end, $way" "$? $(grep -c '^0$' said) $(grep -c 'luksrd: image ends before the payload' \
         said)" '0 1 1'
 }
 with volume_keys
+refused 'a size without a volume key' \
+    'cipher=, payload-offset=, sector-size=, iv-offset= and size= need volume-key-file=' "$volume1" key-file=pass \
+    size=512
 
 # an image that is truncated while it is served. (What is below the filter may give zeros from its last page)
 cp "$volume1" image
@@ -208,6 +265,8 @@ refusals() {
     refused 'a folder for a header' 'luksrd: cannot open .: Is a directory' "$volume1" header=. key-file=pass
     refused 'a folder for a key file' 'luksrd: cannot open .: Is a directory' "$volume1" key-file=.
     refused 'a key file that is too long' 'long: luksrd: key file is longer than 8388608 bytes' "$volume1" key-file=long
+    refused 'a key file of more than 4 GiB' 'huge: luksrd: key file is longer than 8388608 bytes' "$volume1" \
+        key-file=huge
     refused 'a key file without end' 'luksrd: key file is longer than 8388608 bytes' "$volume1" key-file=/dev/zero
     refused 'the longest key file' 'luksrd: no key opens the volume' "$volume1" key-file=longest
     for number in '' 32 -1 +1 ' 1' 1x 0x1 00000000001 4294967296; do
@@ -222,7 +281,7 @@ refusals() {
     refused 'a key file and a passphrase' 'key-file= and passphrase= do not go together' "$volume1" key-file=pass \
         passphrase=+pass
     for twice in header=pipe key-file=pass key-slot=5 max-iterations=9 passphrase=+pass volume-key-file=pass \
-        payload-offset=512 cipher=aes-xts-plain64 sector-size=512; do
+        payload-offset=512 cipher=aes-xts-plain64 sector-size=512 iv-offset=0; do
         refused "$twice twice" "${twice%%=*}= is given twice" "$volume1" "$twice" "$twice"
     done
 }
@@ -245,7 +304,7 @@ done
 about() {
     nbdkit "${server[@]}" --help >helped
     for parameter in key-file passphrase header key-slot max-iterations volume-key-file payload-offset cipher \
-        sector-size; do
+        sector-size iv-offset size; do
         same "--help, $way: $parameter" "$(grep -c "^$parameter=" helped)" 1
     done
     served 'nbdinfo --json "$uri"' "$volume2" key-file=pass
@@ -278,6 +337,7 @@ for length in 80 400; do
     head -c $((length / 2)) /dev/urandom | od -An -v -tx1 | tr -d ' \n' >secret$length
     run_cryptsetup luksAddKey --pbkdf-force-iterations 1000 --key-file pass remembered secret$length
 done
+{ cat secret80; printf '\0'; cat secret400; } >both
 run_cryptsetup luksDump --dump-volume-key --volume-key-file volume_key --key-file pass remembered
 # finds WHAT: where this is in the server's memory
 finds() {
@@ -304,8 +364,41 @@ memories() {
         remembers nowhere $secret passphrase=- /usr/bin/python3 "$here/clients.py" asks "$(cat $secret)"
         remembers arguments $secret "passphrase=$(cat $secret)"
     done
+    # (nor what nbdkit reads after a zero byte, which ends the passphrase)
+    remembers nowhere both passphrase=+both
 }
 with memories
+
+# What copies leave in the vector registers is cleared, on this processor and on one without AVX.
+cat >registers.c <<'TEXT'
+#include "volume.c"
+void nbdkit_error(const char *format, ...) { (void)format; }
+#define EACH(do) do(0) do(1) do(2) do(3) do(4) do(5) do(6) do(7) \
+  do(8) do(9) do(10) do(11) do(12) do(13) do(14) do(15)
+#define FILL(number) __asm__ volatile("movdqu (%0), %%xmm" #number :: "r"(secret));
+#define KEEP(number) __asm__ volatile("movdqu %%xmm" #number ", (%0)" :: "r"(left[number]) : "memory");
+int main(int argc, char **argv)
+{
+  static const uint8_t secret[16] = "fifteen letters";
+  static uint8_t left[16][16];
+  int remaining = 0;
+  (void)argv;
+  EACH(FILL)
+  if (argc == 1)
+    forget_copies();
+  EACH(KEEP)
+  for (int number = 0; number < 16; number++)
+    remaining += memcmp(left[number], secret, sizeof secret) == 0;
+  printf("%d\n", remaining);
+  return 0;
+}
+TEXT
+gcc -O0 -std=c11 -D_GNU_SOURCE -Wno-unused -I"$here/../nbdkit" -I"$here/../c" -o registers registers.c "$shared" \
+    -Wl,-rpath,"$work" || exit 1
+for on in '' 'qemu-x86_64 -cpu Nehalem'; do
+    same "registers, ${on:-this processor}: with and without a secret" \
+        "$($on ./registers 2>err) $($on ./registers left 2>err)" '0 16'
+done
 
 # a block device
 device() {
@@ -376,6 +469,20 @@ instrumented() {
         run 'nbdinfo --size "$uri"' "$volume1" "$key"
         same "$build, $way, $key" $? 1
     done
+    # a volume key: with a file that is no header, and refused
+    text "$volume2" pass
+    tail -c +8193 text | head -c 200704 >rest
+    run 'nbdcopy "$uri" copy' "$volume2.lost" volume-key-file="$volume2.key" header=plain iv-offset=16 size=200704 \
+        payload-offset=$(($(cat "$volume2.start") + 8192)) sector-size=4096
+    same "$build, $way, a volume key" "$? $(sha256sum <copy)" "0 $(sha256sum <rest)"
+    for key in other_key huge; do
+        run 'nbdinfo --size "$uri"; nbdinfo --size "$uri"' "$volume2" volume-key-file=$key \
+            payload-offset="$(cat "$volume2.start")" sector-size=4096
+        same "$build, $way, a volume key, $key" $? 1
+    done
+    run 'nbdinfo --size "nbd+unix:///a?socket=$unixsocket"; nbdinfo --size "nbd+unix:///b?socket=$unixsocket"' \
+        "$volume2" key-file=pass
+    same "$build, $way, two names" "$? $(grep -c "^$(stat -c %s text)$" said)" '0 2'
 }
 # nbdkit loses some memory of its own if it ends while clients are connected, and the loader compares words of which the
 # end may be no part of a name

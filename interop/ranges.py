@@ -21,6 +21,9 @@ class Ranges(http.server.SimpleHTTPRequestHandler):
         size = os.path.getsize(path)
         wanted = re.fullmatch(r"bytes=(\d+)-(\d+)", self.headers.get("Range", ""))
         first, last = (int(wanted[1]), min(int(wanted[2]), size - 1)) if wanted else (0, size - 1)
+        if wanted and first > last:
+            self.send_error(416)
+            return None, 0
         self.send_response(206 if wanted else 200)
         if wanted:
             self.send_header("Content-Range", f"bytes {first}-{last}/{size}")

@@ -68,6 +68,25 @@ bool read_below(void *from, uint8_t *to, size_t size, uint64_t offset)
   return is_read;
 }
 
+void keep_start(struct start *start, const struct bytes *header)
+{
+  start->len = header->len < sizeof start->at ? header->len : sizeof start->at;
+  memcpy(start->at, header->at, start->len);
+}
+
+bool has_magic(const struct start *start)
+{
+  static const uint8_t magic[] = { 'L', 'U', 'K', 'S', 0xba, 0xbe };
+  return start->len >= sizeof magic && memcmp(start->at, magic, sizeof magic) == 0;
+}
+
+bool begins_with(struct below *below, const struct start *start)
+{
+  uint8_t found[sizeof start->at];
+  return start->len > 0 && below->len >= start->len && read_below(below, found, start->len, 0) &&
+         memcmp(found, start->at, start->len) == 0;
+}
+
 struct blocks blocks_of(const struct below *below, uint32_t count, uint64_t offset)
 {
   const uint64_t first = offset - offset % below->minimum;

@@ -2,6 +2,8 @@
 #ifndef LUKSRD_NBDKIT_BELOW_H
 #define LUKSRD_NBDKIT_BELOW_H
 
+#include "input.h"
+
 #include <nbdkit-filter.h>
 
 #include <stdbool.h>
@@ -22,6 +24,22 @@ int look_below(struct below *below, nbdkit_next *next);
 /* Reads exactly `size` bytes from `offset` on, which are within it, for struct image. Returns
  * whether it did; if not, errno says why. */
 bool read_below(void *below, uint8_t *to, size_t size, uint64_t offset);
+
+/* The first bytes of an image, or none. They tell one volume from another: they have the header of
+ * LUKS1 with its key slots, or the binary header of LUKS2 with the checksum of the rest. */
+struct start {
+  uint8_t at[4096];
+  size_t len;
+};
+
+/* Keeps the first bytes of an image. */
+void keep_start(struct start *start, const struct bytes *header);
+
+/* Whether they begin a header, the first one of LUKS2 or that of LUKS1. */
+bool has_magic(const struct start *start);
+
+/* Whether there are some, and what is below begins with them. */
+bool begins_with(struct below *below, const struct start *start);
 
 /* The blocks that contain `count` bytes from `offset` on, at most as many as a request may name. */
 struct blocks {

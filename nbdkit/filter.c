@@ -17,15 +17,22 @@
 static struct parameters parameters;
 static struct bytes passphrase;
 
-/* The volume is opened by the first connection that needs it, or, if its header is detached, before
+/* The volume is opened by the first connection that can, or, if its header is detached, before
  * there is one. The others wait for that. Nobody holds the lock while bytes are read or keys are
- * derived, and once the volume is open or refused, it does not change. */
-enum state { NOT_OPEN, BEING_OPENED, IS_OPEN, IS_REFUSED };
+ * derived, and once the volume is open, it does not change. A client chooses which export it
+ * connects to, so that one that is refused ends nothing for the clients of others. */
+enum state { NOT_OPEN, BEING_OPENED, IS_OPEN };
 static pthread_mutex_t lock = PTHREAD_MUTEX_INITIALIZER;
 static pthread_cond_t is_known = PTHREAD_COND_INITIALIZER;
 static enum state state;
-static char *served_name; /* the export with the volume, or NULL before it is known */
+static char *served_name;   /* the export with the volume, or NULL before it is known */
+static uint64_t served_len; /* the length in bytes of what is below that, if it is known */
 static struct volume volume;
+
+/* The first bytes of the image that was opened, if its header is in it, and all that decides about
+ * the one that was refused last. Only the connection that opens the volume changes them. */
+static struct start opened_start;
+static struct bytes refused_header;
 
 /* A connection. */
 struct connection {
@@ -38,20 +45,32 @@ static void unload(void)
   close_volume(&volume);
   wipe(&passphrase);
   free_parameters(&parameters);
+  free(refused_header.at);
   free(served_name);
   served_name = NULL;
+}
+
+/* For nbdkit, which ends after an error without unload(). Returns -1. */
+static int give_up(void)
+{
+  forget_passphrase(&parameters);
+  wipe(&passphrase);
+  return -1;
 }
 
 static int config(nbdkit_next_config *next, nbdkit_backend *backend, const char *key,
                   const char *value)
 {
-  const int taken = take_parameter(&parameters, key, value);
-  return taken <= 0 ? taken : next(backend, key, value);
+  /* (plugins below have a parameter of this name, too) */
+  const bool is_below = strcmp(key, "size") == 0 && !parameters.volume_key_file;
+  const int taken = is_below ? 1 : take_parameter(&parameters, key, value);
+  const int status = taken > 0 ? next(backend, key, value) : taken;
+  return status < 0 ? give_up() : status;
 }
 
 static int config_complete(nbdkit_next_config_complete *next, nbdkit_backend *backend)
 {
-  return check_parameters(&parameters) < 0 ? -1 : next(backend);
+  return check_parameters(&parameters) < 0 || next(backend) < 0 ? give_up() : 0;
 }
 
 /* Reads the detached header. */
@@ -97,12 +116,12 @@ static int open_now(void)
 static int get_ready(int thread_model)
 {
   (void)thread_model;
-  if (!parameters.header)
-    return take_secret();
-  const int status = open_now();
-  if (status == 0)
+  const int status = parameters.header ? open_now() : take_secret();
+  if (status < 0)
+    return give_up();
+  if (parameters.header)
     state = IS_OPEN;
-  return status;
+  return 0;
 }
 
 static void *open_connection(nbdkit_next_open *next, nbdkit_context *context, int readonly,
@@ -133,7 +152,18 @@ static void close_connection(void *handle)
   free(connection);
 }
 
-/* Reads the header below, and tries the passphrase or the volume key. */
+/* Tries the passphrase or the volume key on a header, but not a second time on one that was
+ * refused: clients could cost the server what they like. */
+static enum outcome try_header(const struct bytes *header)
+{
+  if (!refused_header.at || refused_header.len != header->len ||
+      memcmp(refused_header.at, header->at, header->len) != 0)
+    return unlock(&volume, header, &passphrase, &parameters);
+  nbdkit_error("luksrd: this image was refused before");
+  return REFUSED;
+}
+
+/* Reads the header below, and opens the volume. */
 static enum outcome open_below(struct below *below)
 {
   struct bytes header = { 0 };
@@ -141,66 +171,81 @@ static enum outcome open_below(struct below *below)
   if (allocate(&header, below->len < MAX_HEADER ? (size_t)below->len : MAX_HEADER) < 0)
     return TRY_LATER;
   if (read_below(below, header.at, header.len, 0))
-    outcome = unlock(&volume, &header, &passphrase, &parameters);
+    outcome = try_header(&header);
   else
     nbdkit_error("luksrd: reading the first %zu bytes: %s", header.len, strerror(errno));
+  if (outcome == OPENED)
+    keep_start(&opened_start, &header);
+  if (outcome == REFUSED) {
+    const struct bytes before = refused_header;
+    refused_header = header;
+    header = before;
+  }
   free(header.at);
   return outcome;
 }
 
-/* Whether the export of this connection is the one with the volume; the first one is. Another
- * export is another image, with which this key would give noise. The caller holds the lock. */
+/* Whether the export of this connection has the name of the one with the volume; the first one
+ * has. The caller holds the lock. */
 static bool has_volume(const struct connection *connection)
 {
   if (!served_name) {
     served_name = connection->export_name;
+    served_len = connection->below.len;
     report_ending(&volume, connection->below.len);
   }
   return strcmp(served_name, connection->export_name) == 0;
 }
 
-/* Opens the volume, for this connection and for all others. If a read failed or there was no
- * memory, a later connection tries again. Returns the new state. */
-static enum state open_for_all(struct connection *connection)
+/* Opens the volume, for this connection and for all others. If this export is refused, that of a
+ * later connection may be another one; if a read failed or there was no memory, a later connection
+ * tries again. Returns whether it is open. */
+static bool open_for_all(struct connection *connection)
 {
   const enum outcome outcome = open_below(&connection->below);
-  const enum state next = outcome == OPENED    ? IS_OPEN
-                          : outcome == REFUSED ? IS_REFUSED
-                                               : NOT_OPEN;
-  if (next != NOT_OPEN)
+  if (outcome == OPENED)
     wipe(&passphrase);
   pthread_mutex_lock(&lock);
-  state = next;
-  if (next == IS_OPEN)
+  state = outcome == OPENED ? IS_OPEN : NOT_OPEN;
+  if (outcome == OPENED)
     has_volume(connection);
   pthread_cond_broadcast(&is_known);
   pthread_mutex_unlock(&lock);
-  return next;
+  return outcome == OPENED;
 }
 
-/* Waits while another connection opens the volume. Returns IS_OPEN or IS_REFUSED; or BEING_OPENED,
- * and then this connection has to open it. */
-static enum state wait_for_volume(void)
+/* Waits while another connection opens the volume. Returns whether it is open; if not, this
+ * connection has to open it. */
+static bool wait_for_volume(void)
 {
   pthread_mutex_lock(&lock);
   while (state == BEING_OPENED)
     pthread_cond_wait(&is_known, &lock);
-  const enum state found = state;
-  if (found == NOT_OPEN)
+  const bool is_open = state == IS_OPEN;
+  if (!is_open)
     state = BEING_OPENED;
   pthread_mutex_unlock(&lock);
-  return found == NOT_OPEN ? BEING_OPENED : found;
+  return is_open;
+}
+
+/* Whether what is below an export of another name is the same image, as if what is below does not
+ * look at names: it has the same header or, if that is not in it, the same length. Another image
+ * would give noise with this key. */
+static bool has_same_image(struct below *below)
+{
+  return has_magic(&opened_start) ? begins_with(below, &opened_start) : below->len == served_len;
 }
 
 /* Whether this connection is served; reports why not. */
-static bool is_served(const struct connection *connection)
+static bool is_served(struct connection *connection)
 {
   pthread_mutex_lock(&lock);
   const bool is_same = has_volume(connection);
   pthread_mutex_unlock(&lock);
-  if (!is_same)
-    nbdkit_error("luksrd: this server has opened another export, and serves no second one");
-  return is_same;
+  if (is_same || has_same_image(&connection->below))
+    return true;
+  nbdkit_error("luksrd: this server has opened another export, and serves no second one");
+  return false;
 }
 
 static int prepare(nbdkit_next *next, void *handle, int readonly)
@@ -209,12 +254,8 @@ static int prepare(nbdkit_next *next, void *handle, int readonly)
   (void)readonly;
   if (look_below(&connection->below, next) < 0)
     return -1;
-  enum state found = wait_for_volume();
-  if (found == BEING_OPENED)
-    found = open_for_all(connection);
-  else if (found == IS_REFUSED)
-    nbdkit_error("luksrd: the first connection has not opened the volume");
-  return found == IS_OPEN && is_served(connection) ? 0 : -1;
+  const bool is_prepared = wait_for_volume() ? is_served(connection) : open_for_all(connection);
+  return is_prepared ? 0 : -1;
 }
 
 static int64_t get_size(nbdkit_next *next, void *handle)

@@ -2,7 +2,6 @@
 
 #include <errno.h>
 #include <fcntl.h>
-#include <malloc.h>
 #include <stdlib.h>
 #include <string.h>
 #include <sys/stat.h>
@@ -13,22 +12,21 @@
 
 void wipe(struct bytes *bytes)
 {
-  /* all of it: more than these bytes may have been read */
   if (bytes->at)
-    explicit_bzero(bytes->at, malloc_usable_size(bytes->at));
+    explicit_bzero(bytes->at, bytes->capacity);
   free(bytes->at);
   *bytes = (struct bytes){ 0 };
 }
 
 int allocate(struct bytes *bytes, size_t len)
 {
-  bytes->at = malloc(len > 0 ? len : 1);
-  if (!bytes->at) {
-    nbdkit_error("luksrd: out of memory");
-    return -1;
-  }
-  bytes->len = len;
-  return 0;
+  const size_t capacity = len > 0 ? len : 1;
+  *bytes = (struct bytes){ .at = malloc(capacity), .len = len, .capacity = capacity };
+  if (bytes->at)
+    return 0;
+  *bytes = (struct bytes){ 0 };
+  nbdkit_error("luksrd: out of memory");
+  return -1;
 }
 
 /* Reports that a file cannot be opened, and closes it if it was opened. Returns -1. */
@@ -97,8 +95,9 @@ int read_first(const char *name, int fd, size_t max, struct bytes *bytes)
     return -1;
   const ssize_t got = read_next(fd, bytes->at, max);
   if (got < 0) {
-    /* all bytes are wiped later: it is unknown what was read before that */
     nbdkit_error("%s: luksrd: read failed: %s", name, strerror(errno));
+    /* what was read before that may be a part of a secret */
+    wipe(bytes);
     return -1;
   }
   bytes->len = (size_t)got;

@@ -11,9 +11,10 @@
 struct bytes {
   uint8_t *at;
   size_t len;
+  size_t capacity; /* how many were allocated, at least `len` */
 };
 
-/* Wipes and frees bytes. */
+/* Wipes and frees bytes, all that were allocated. */
 void wipe(struct bytes *bytes);
 
 /* Makes room for this many bytes. Returns 0, or -1 and reports that there is no memory. */
@@ -27,7 +28,8 @@ int open_stream(const char *name);
  * and puts its length in bytes there, or -1 and reports why. */
 int open_image(const char *name, uint64_t *len);
 
-/* Reads all of a file, or its first `max` bytes. Returns 0, or -1 and reports why not. */
+/* Reads all of a file, or its first `max` bytes. Returns 0; or -1 and reports why not, and then
+ * there are no bytes. */
 int read_first(const char *name, int fd, size_t max, struct bytes *bytes);
 
 /* Reads exactly `size` bytes from `offset` on. Returns whether it did; if not, errno says why, and

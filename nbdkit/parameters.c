@@ -1,6 +1,7 @@
 #include "parameters.h"
 #include "volume.h"
 
+#include <errno.h>
 #include <malloc.h>
 #include <stdio.h>
 #include <stdlib.h>
@@ -10,18 +11,18 @@
 #include <nbdkit-plugin.h>
 
 /* Reads a number as luksrd's command line does: decimal digits and nothing else, no more than the
- * largest number has. */
+ * largest number of 32, 63 or 64 bits has. */
 static int take_number(const char *key, const char *value, uint64_t min, uint64_t max,
                        uint64_t *number)
 {
+  const size_t max_digits = max > INT64_MAX ? 20 : max > UINT32_MAX ? 19 : 10;
   const size_t digits = strspn(value, "0123456789");
-  const size_t max_digits = max > UINT32_MAX ? 19 : 10;
-  if (digits >= 1 && digits <= max_digits && value[digits] == '\0') {
-    const unsigned long long read = strtoull(value, NULL, 10);
-    if (read >= min && read <= max) {
-      *number = read;
-      return 0;
-    }
+  errno = 0;
+  const unsigned long long read = strtoull(value, NULL, 10);
+  if (digits >= 1 && digits <= max_digits && value[digits] == '\0' && errno == 0 &&
+      read >= min && read <= max) {
+    *number = read;
+    return 0;
   }
   nbdkit_error("%s=%s: not a number from %llu to %llu", key, value, (unsigned long long)min,
                (unsigned long long)max);
@@ -69,19 +70,35 @@ static void wipe_freed(void)
   }
 }
 
+/* Moves the passphrase that nbdkit has read to memory of a length that is known: what nbdkit has
+ * allocated may be longer. */
+static int keep_passphrase(char *read, struct bytes *passphrase)
+{
+  const size_t len = strlen(read);
+  const int status = allocate(passphrase, len);
+  if (status == 0)
+    memcpy(passphrase->at, read, len);
+  explicit_bzero(read, len);
+  free(read);
+  return status;
+}
+
 /* Reads the passphrase as nbdkit does for all plugins. It leaves what it has read in freed memory,
  * in the buffer of standard input, on the stack and in registers: the second is not used, and the
- * others are overwritten. */
-static int take_passphrase(const char *value, char **passphrase)
+ * others are overwritten. So is what comes after a zero byte, which ends the passphrase. */
+static int take_passphrase(const char *value, struct bytes *passphrase)
 {
-  if (*passphrase) {
+  if (passphrase->at) {
     nbdkit_error("passphrase= is given twice");
     return -1;
   }
   if (strcmp(value, "-") == 0)
     setvbuf(stdin, NULL, _IONBF, 0);
+  char *read = NULL;
   mallopt(M_PERTURB, 0xff);
-  const int status = nbdkit_read_password(value, passphrase);
+  int status = nbdkit_read_password(value, &read);
+  if (status == 0)
+    status = keep_passphrase(read, passphrase);
   mallopt(M_PERTURB, 0);
   wipe_freed();
   forget_copies();
@@ -118,14 +135,16 @@ static int take_cipher(const char *key, const char *value, const char **cipher)
   return 0;
 }
 
-static int take_offset(const char *key, const char *value, struct parameters *parameters)
+/* Reads a number from 0 to `max`, and notes that there is one. */
+static int take_once(const char *key, const char *value, uint64_t max, bool *is_given,
+                     uint64_t *number)
 {
-  if (parameters->has_payload_offset) {
+  if (*is_given) {
     nbdkit_error("%s= is given twice", key);
     return -1;
   }
-  parameters->has_payload_offset = true;
-  return take_number(key, value, 0, INT64_MAX, &parameters->payload_offset);
+  *is_given = true;
+  return take_number(key, value, 0, max, number);
 }
 
 static int take_sector_size(const char *key, const char *value, uint32_t *sector_size)
@@ -134,7 +153,12 @@ static int take_sector_size(const char *key, const char *value, uint32_t *sector
     nbdkit_error("%s= is given twice", key);
     return -1;
   }
-  return take_number32(key, value, 512, 4096, sector_size);
+  if (take_number32(key, value, 512, 4096, sector_size) < 0)
+    return -1;
+  if ((*sector_size & (*sector_size - 1)) == 0)
+    return 0;
+  nbdkit_error("%s=%s: none of 512 1024 2048 4096", key, value);
+  return -1;
 }
 
 /* Reads a parameter that goes with a volume key. */
@@ -145,7 +169,12 @@ static int take_key_parameter(struct parameters *parameters, const char *key, co
   if (strcmp(key, "cipher") == 0)
     return take_cipher(key, value, &parameters->cipher);
   if (strcmp(key, "payload-offset") == 0)
-    return take_offset(key, value, parameters);
+    return take_once(key, value, INT64_MAX, &parameters->has_payload_offset,
+                     &parameters->payload_offset);
+  if (strcmp(key, "iv-offset") == 0)
+    return take_once(key, value, UINT64_MAX, &parameters->has_iv_offset, &parameters->iv_offset);
+  if (strcmp(key, "size") == 0)
+    return take_once(key, value, INT64_MAX, &parameters->has_size, &parameters->size);
   if (strcmp(key, "sector-size") == 0)
     return take_sector_size(key, value, &parameters->sector_size);
   return 1;
@@ -166,36 +195,49 @@ int take_parameter(struct parameters *parameters, const char *key, const char *v
   return take_key_parameter(parameters, key, value);
 }
 
-/* Whether the parameters go with a volume key, or without one; reports why not. */
-static bool is_consistent(const struct parameters *parameters)
+/* Whether the parameters of a volume key go together; reports why not. */
+static bool is_whole(const struct parameters *parameters)
 {
-  const bool is_given = parameters->cipher || parameters->has_payload_offset ||
-                        parameters->sector_size > 0;
-  if (!parameters->volume_key_file) {
-    if (is_given)
-      nbdkit_error("cipher=, payload-offset= and sector-size= need volume-key-file=");
-    return !is_given;
-  }
-  if (parameters->key_file || parameters->passphrase || parameters->has_key_slot) {
+  const uint32_t sector_size = parameters->sector_size > 0 ? parameters->sector_size : 512;
+  if (parameters->key_file || parameters->passphrase.at || parameters->has_key_slot) {
     nbdkit_error("volume-key-file= does not go with key-file=, passphrase= or key-slot=");
     return false;
   }
-  if (!parameters->has_payload_offset)
+  if (!parameters->has_payload_offset) {
     nbdkit_error("volume-key-file= needs payload-offset=");
-  return parameters->has_payload_offset;
+    return false;
+  }
+  if (parameters->size % sector_size != 0) {
+    nbdkit_error("size=%llu: not a multiple of the sector size, %u",
+                 (unsigned long long)parameters->size, sector_size);
+    return false;
+  }
+  return true;
+}
+
+/* Whether there is nothing that goes with a volume key alone; reports what is. */
+static bool is_without_key(const struct parameters *parameters)
+{
+  const bool is_given = parameters->cipher || parameters->has_payload_offset ||
+                        parameters->sector_size > 0 || parameters->has_iv_offset ||
+                        parameters->has_size;
+  if (is_given)
+    nbdkit_error("cipher=, payload-offset=, sector-size=, iv-offset= and size= need "
+                 "volume-key-file=");
+  return !is_given;
 }
 
 int check_parameters(const struct parameters *parameters)
 {
-  if (!is_consistent(parameters))
-    return -1;
   if (parameters->volume_key_file)
-    return 0;
-  if (!parameters->key_file && !parameters->passphrase) {
+    return is_whole(parameters) ? 0 : -1;
+  if (!is_without_key(parameters))
+    return -1;
+  if (!parameters->key_file && !parameters->passphrase.at) {
     nbdkit_error("key-file=FILE or passphrase=PASSPHRASE is needed");
     return -1;
   }
-  if (parameters->key_file && parameters->passphrase) {
+  if (parameters->key_file && parameters->passphrase.at) {
     nbdkit_error("key-file= and passphrase= do not go together");
     return -1;
   }
@@ -204,11 +246,7 @@ int check_parameters(const struct parameters *parameters)
 
 void forget_passphrase(struct parameters *parameters)
 {
-  /* all of it: a zero byte ends the passphrase, but not what nbdkit read */
-  if (parameters->passphrase)
-    explicit_bzero(parameters->passphrase, malloc_usable_size(parameters->passphrase));
-  free(parameters->passphrase);
-  parameters->passphrase = NULL;
+  wipe(&parameters->passphrase);
 }
 
 const char *secret_file(const struct parameters *parameters)
@@ -218,14 +256,11 @@ const char *secret_file(const struct parameters *parameters)
 
 int get_passphrase(struct parameters *parameters, int key_file, struct bytes *passphrase)
 {
+  const size_t longest = parameters->volume_key_file ? MAX_VOLUME_KEY : MAX_PASSPHRASE;
   if (secret_file(parameters))
-    return read_first(secret_file(parameters), key_file, MAX_PASSPHRASE + 1, passphrase);
-  /* (it is not copied: that would leave bytes in registers) */
-  *passphrase = (struct bytes){
-    .at = (uint8_t *)parameters->passphrase,
-    .len = strlen(parameters->passphrase),
-  };
-  parameters->passphrase = NULL;
+    return read_first(secret_file(parameters), key_file, longest + 1, passphrase);
+  *passphrase = parameters->passphrase;
+  parameters->passphrase = (struct bytes){ 0 };
   return 0;
 }
 

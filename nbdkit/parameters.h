@@ -8,9 +8,9 @@
 #include <stdint.h>
 
 struct parameters {
-  char *header;     /* the file with the detached header, or NULL */
-  char *key_file;   /* the file whose bytes are the passphrase, or NULL */
-  char *passphrase; /* the passphrase, or NULL; one of the two is given */
+  char *header;            /* the file with the detached header, or NULL */
+  char *key_file;          /* the file whose bytes are the passphrase, or NULL */
+  struct bytes passphrase; /* the passphrase, or none; one of the two is given */
   bool has_key_slot;
   uint32_t key_slot;       /* the only key slot to try, if there is one */
   uint32_t max_iterations; /* the limit of iterations, or 0 */
@@ -21,6 +21,10 @@ struct parameters {
   bool has_payload_offset; /* if there is a volume key */
   uint64_t payload_offset; /* in bytes */
   uint32_t sector_size;    /* in bytes, or 0 */
+  bool has_iv_offset;
+  uint64_t iv_offset; /* the data unit number of the first sector, in units of 512 bytes */
+  bool has_size;
+  uint64_t size; /* of a payload of fixed size, in bytes */
 };
 
 /* What `nbdkit --help` calls both. */
@@ -36,7 +40,9 @@ struct parameters {
   "volume-key-file=FILE  The file with the volume key: no header is needed.\n"          \
   "payload-offset=N      With that: the first byte of the payload.\n"                   \
   "cipher=NAME           With that: aes-xts-plain64, or another of luksrd's.\n"         \
-  "sector-size=N         With that: 512 (if it is not given) to 4096 bytes."
+  "sector-size=N         With that: 512 (if it is not given) to 4096 bytes.\n"            \
+  "iv-offset=N           With that: the data unit number of the first sector, or 0.\n"   \
+  "size=N                With that: the payload's length, if it has a fixed one."
 
 /* Reads one parameter. Returns 0; -1, and reports why not; or 1 if it is none of these. */
 int take_parameter(struct parameters *parameters, const char *key, const char *value);
@@ -51,8 +57,8 @@ int check_parameters(const struct parameters *parameters);
 const char *secret_file(const struct parameters *parameters);
 
 /* Moves the passphrase out of the parameters, or reads it, or the volume key, from the descriptor
- * of its file, up to one byte more than the longest passphrase, so that luksrd_open refuses a
- * longer one. Returns 0, or -1 and reports why not. */
+ * of its file, up to one byte more than the longest one, so that a longer one is refused. Returns
+ * 0; or -1 and reports why not, and then there are no bytes. */
 int get_passphrase(struct parameters *parameters, int key_file, struct bytes *passphrase);
 
 /* Wipes and frees the passphrase. */

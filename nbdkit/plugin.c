@@ -44,19 +44,23 @@ static int config(const char *key, const char *value)
   if (strcmp(key, "file") == 0)
     return take_name(key, value, &file);
   const int taken = take_parameter(&parameters, key, value);
-  if (taken <= 0)
-    return taken;
-  nbdkit_error("unknown parameter '%s'", key);
+  if (taken == 0)
+    return 0;
+  if (taken > 0)
+    nbdkit_error("unknown parameter '%s'", key);
+  /* nbdkit ends, without unload() */
+  forget_passphrase(&parameters);
   return -1;
 }
 
 static int config_complete(void)
 {
-  if (!file) {
+  if (!file)
     nbdkit_error("file=IMAGE is needed");
-    return -1;
-  }
-  return check_parameters(&parameters);
+  else if (check_parameters(&parameters) == 0)
+    return 0;
+  forget_passphrase(&parameters);
+  return -1;
 }
 
 /* The inputs besides the image: a descriptor of the header, which is the image's own if the header

@@ -41,7 +41,7 @@ static uint32_t mode_of(const char *cipher)
 }
 
 /* Compares the volume key with the header, if one is there. A volume whose header is lost or
- * damaged is opened without that. */
+ * damaged is opened without that. This is reported, unless there is none and none was named. */
 static enum outcome check_volume_key(const struct volume *volume, const struct bytes *header,
                                      const struct bytes *key, const struct parameters *parameters)
 {
@@ -52,21 +52,17 @@ static enum outcome check_volume_key(const struct volume *volume, const struct b
   };
   const char *name = parameters->header ? parameters->header : volume->name;
   struct luksrd_message message;
-  switch (luksrd_check_key(header->at, header->len, key->at, key->len, &options, &message)) {
-  case LUKSRD_OTHER_KEY:
-    report(name, &message);
+  const uint32_t code =
+      luksrd_check_key(header->at, header->len, key->at, key->len, &options, &message);
+  if (code == LUKSRD_OK || (code == LUKSRD_NOT_LUKS && !parameters->header))
+    return OPENED;
+  report(name, &message);
+  if (code == LUKSRD_OTHER_KEY)
     return REFUSED;
-  case LUKSRD_OUT_OF_MEMORY:
-    report(name, &message);
+  if (code == LUKSRD_OUT_OF_MEMORY)
     return TRY_LATER;
-  case LUKSRD_OK:
-  case LUKSRD_NOT_LUKS:
-    return OPENED;
-  default:
-    report(name, &message);
-    nbdkit_error("%s: the volume key is not compared with a header", parameters->volume_key_file);
-    return OPENED;
-  }
+  nbdkit_error("%s: the volume key is not compared with a header", parameters->volume_key_file);
+  return OPENED;
 }
 
 /* Opens a volume by its key, and by what the parameters say of its payload. */
@@ -74,19 +70,25 @@ static enum outcome use_volume_key(struct volume *volume, const struct bytes *he
                                    const struct bytes *key, const struct parameters *parameters)
 {
   struct luksrd_volume *opened = &volume->opened;
+  if (key->len > sizeof opened->key) {
+    nbdkit_error("%s: longer than the longest volume key, %zu bytes", parameters->volume_key_file,
+                 sizeof opened->key);
+    return REFUSED;
+  }
   *opened = (struct luksrd_volume){
     .offset = parameters->payload_offset,
+    .size = parameters->size,
+    .iv_tweak = parameters->iv_offset,
+    .has_size = parameters->has_size,
     .sector_size = parameters->sector_size > 0 ? parameters->sector_size : 512,
     .mode = mode_of(parameters->cipher ? parameters->cipher : "aes-xts-plain64"),
     .key_size = (uint32_t)key->len,
   };
   if (opened->mode == 0)
     return REFUSED;
-  if (key->len <= sizeof opened->key) {
-    memcpy(opened->key, key->at, key->len);
-    if (luksrd_prepare(opened, &volume->cipher) == LUKSRD_OK)
-      return check_volume_key(volume, header, key, parameters);
-  }
+  memcpy(opened->key, key->at, key->len);
+  if (luksrd_prepare(opened, &volume->cipher) == LUKSRD_OK)
+    return check_volume_key(volume, header, key, parameters);
   nbdkit_error("%s: a key of %zu bytes, this cipher and this sector size do not go together",
                parameters->volume_key_file, key->len);
   return REFUSED;
@@ -124,14 +126,23 @@ enum outcome unlock(struct volume *volume, const struct bytes *header, const str
   const enum outcome outcome = parameters->volume_key_file
                                    ? use_volume_key(volume, header, secret, parameters)
                                    : use_passphrase(volume, header, secret, parameters);
+  if (outcome != OPENED)
+    close_volume(volume);
   forget_copies();
   return outcome;
 }
 
-void forget_copies(void)
-{
-  luksrd_wipe_stack();
 #ifdef __x86_64__
+/* Clears the vector registers that this processor has: all have 16 of 128 bits, those with AVX
+ * longer ones, and those with AVX-512 16 more. The assembler knows all of these, whatever processor
+ * the compiler builds for. */
+static void clear_registers(void)
+{
+#define CLEAR(number) \
+  __asm__ volatile("pxor %%xmm" #number ", %%xmm" #number ::: "xmm" #number)
+  CLEAR(0); CLEAR(1); CLEAR(2); CLEAR(3); CLEAR(4); CLEAR(5); CLEAR(6); CLEAR(7);
+  CLEAR(8); CLEAR(9); CLEAR(10); CLEAR(11); CLEAR(12); CLEAR(13); CLEAR(14); CLEAR(15);
+#undef CLEAR
   __builtin_cpu_init();
   if (__builtin_cpu_supports("avx"))
     __asm__ volatile("vzeroall" ::: "xmm0", "xmm1", "xmm2", "xmm3", "xmm4", "xmm5", "xmm6", "xmm7",
@@ -144,6 +155,14 @@ void forget_copies(void)
     CLEAR(24); CLEAR(25); CLEAR(26); CLEAR(27); CLEAR(28); CLEAR(29); CLEAR(30); CLEAR(31);
 #undef CLEAR
   }
+}
+#endif
+
+void forget_copies(void)
+{
+  luksrd_wipe_stack();
+#ifdef __x86_64__
+  clear_registers();
 #endif
 }
 

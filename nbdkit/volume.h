@@ -12,8 +12,9 @@
 /* How many first bytes of an image, or of a detached header, a volume is opened from. */
 #define MAX_HEADER LUKSRD_HEADER_BYTES
 
-/* The longest passphrase. */
+/* The longest passphrase, and the longest volume key. */
 #define MAX_PASSPHRASE LUKSRD_PASSPHRASE_BYTES
+#define MAX_VOLUME_KEY sizeof(((struct luksrd_volume *)0)->key)
 
 /* It does not change after it is opened, so threads may read it at the same time. */
 struct volume {
@@ -37,13 +38,13 @@ enum outcome { OPENED, REFUSED, TRY_LATER };
 
 /* Tries a passphrase on a header, the detached one if the parameters name one; or, if they name a
  * file with the volume key, takes that and what they say of the payload, unless the header has the
- * digest of another key. If the volume does not open, reports why not. */
+ * digest of another key. If the volume does not open, reports why not, and keeps no key. */
 enum outcome unlock(struct volume *volume, const struct bytes *header, const struct bytes *secret,
                     const struct parameters *parameters);
 
 /* Writes over what functions that the caller called before have left on the stack, and clears the
- * vector registers, in which copying leaves bytes: the loader saves these on the stack when it looks
- * up a function. Called after a secret was read or used. */
+ * vector registers, in which copying leaves bytes: the loader saves these on the stack when it
+ * looks up a function. Called after a secret was read or used. */
 void forget_copies(void);
 
 /* The length of the plaintext that is served, whole sectors, if the image has this length. */

@@ -36,7 +36,7 @@ import pathlib
 import stat
 import threading
 import warnings
-from typing import Iterator, Optional, Union
+from typing import Iterator, NoReturn, Optional, Union
 
 __all__ = ["IncompleteImageWarning", "LuksError", "UncheckedKeyWarning", "Volume", "library_version",
            "open", "open_by_volume_key"]
@@ -164,16 +164,61 @@ def _bytes_at(buffer: Union[bytearray, memoryview]) -> object:
     return ctypes.byref(ctypes.c_uint8.from_buffer(buffer))
 
 
-class _Key:
-    """An open volume, as the library has it, in an image of this length."""
+def _zero(buffer: Union[bytearray, memoryview]) -> None:
+    """Fills the bytes of a buffer with zeros, in one call and without memory for them."""
+    if len(buffer) > 0:
+        ctypes.memset(_bytes_at(buffer), 0, len(buffer))
 
-    def __init__(self, opened: _Opened, image_len: int) -> None:
-        self._opened, self._cipher = opened, _Cipher()
-        self.is_prepared = _library().luksrd_prepare(
-            ctypes.byref(self._opened), ctypes.byref(self._cipher)) == 0
-        self.slot: int = self._opened.key_slot
-        self.sector_size: int = self._opened.sector_size
+
+class _Keys(ctypes.Structure):
+    """All that has keys, in one piece, so that one call wipes it."""
+
+    _fields_ = [("opened", _Opened), ("cipher", _Cipher)]
+
+
+class _Key:
+    """A volume, as the library has it, in an image of this length. It has no key until `unlock` or
+    `use` opens it; whoever makes one wipes it, also after a failure."""
+
+    def __init__(self, image_len: int) -> None:
+        self._keys = _Keys()
+        self._opened, self._cipher = self._keys.opened, self._keys.cipher
         self._image_len = image_len
+
+    def unlock(self, header: memoryview, passphrase: memoryview, options: _Options) -> None:
+        """Opens the volume by a passphrase."""
+        message = _Message()
+        code = _library().luksrd_open(
+            _bytes_at(header.obj), len(header), _bytes_at(passphrase.obj), len(passphrase),
+            ctypes.byref(options), ctypes.byref(self._opened), ctypes.byref(message))
+        if code:
+            raise message.error(code)
+        # (what luksrd_open has filled is never refused)
+        self._prepare()
+
+    def use(self, key: memoryview, fields: dict[str, int]) -> None:
+        """Opens the volume by its key and these fields of the struct, without a header."""
+        if len(key) > _KEY_BYTES:
+            raise ValueError(f"the volume key is longer than {_KEY_BYTES} bytes")
+        for name, value in fields.items():
+            setattr(self._opened, name, value)
+        self._opened.key_size = len(key)
+        ctypes.memmove(self._opened.key, _bytes_at(key.obj), len(key))
+        if not self._prepare():
+            raise ValueError(
+                f"a key of {len(key)} bytes, this cipher and this sector size do not go together")
+
+    def _prepare(self) -> bool:
+        return not _library().luksrd_prepare(
+            ctypes.byref(self._opened), ctypes.byref(self._cipher))
+
+    @property
+    def slot(self) -> int:
+        return self._opened.key_slot
+
+    @property
+    def sector_size(self) -> int:
+        return self._opened.sector_size
 
     def plain_len(self) -> int:
         return _library().luksrd_len(ctypes.byref(self._opened), self._image_len)
@@ -203,19 +248,8 @@ class _Key:
             raise OSError(errno.EIO, f"luksrd refuses {len(read)} bytes with {code}")
 
     def wipe(self) -> None:
-        for struct in (self._opened, self._cipher):
-            _library().luksrd_wipe(ctypes.byref(struct), ctypes.sizeof(struct))
-
-
-def _opened_by(header: memoryview, passphrase: memoryview, options: _Options) -> _Opened:
-    """The volume that the passphrase opens."""
-    opened, message = _Opened(), _Message()
-    code = _library().luksrd_open(
-        _bytes_at(header.obj), len(header), _bytes_at(passphrase.obj), len(passphrase),
-        ctypes.byref(options), ctypes.byref(opened), ctypes.byref(message))
-    if code:
-        raise message.error(code)
-    return opened
+        """Wipes all keys; a second time does no harm."""
+        _library().luksrd_wipe(ctypes.byref(self._keys), ctypes.sizeof(self._keys))
 
 
 def _compared(header: memoryview, key: memoryview, options: _Options) -> Optional[LuksError]:
@@ -238,51 +272,44 @@ def library_version() -> tuple[int, int, int]:
 _NOT_AN_IMAGE = "neither a regular file nor a block device"
 
 
-def _open_file(path: Path, flags: int = 0) -> tuple[int, os.stat_result]:
-    """A descriptor of a file that is not a folder, and what kind of file it is."""
-    descriptor = os.open(path, os.O_RDONLY | os.O_CLOEXEC | os.O_NOCTTY | flags)
-    found = os.fstat(descriptor)
-    if stat.S_ISDIR(found.st_mode):
-        os.close(descriptor)
-        raise IsADirectoryError(errno.EISDIR, os.strerror(errno.EISDIR), path)
-    return descriptor, found
+def _open_file(path: Path, flags: int = 0) -> io.FileIO:
+    """A file that is not a folder. It closes its descriptor once, whoever interrupts that."""
+    # (a number would be taken for a descriptor)
+    return io.FileIO(os.fspath(path), opener=lambda name, mode: os.open(
+        path, mode | os.O_NOCTTY | flags))
 
 
-def _open_image(path: Path) -> tuple[int, int]:
-    """A descriptor of an image, which is read at offsets, and its length in bytes."""
+def _open_image(path: Path) -> tuple[io.FileIO, int]:
+    """An image, which is read at offsets, and its length in bytes."""
     # a blocking open would wait for the writer of a pipe
-    descriptor, found = _open_file(path, os.O_NONBLOCK)
-    if not stat.S_ISREG(found.st_mode) and not stat.S_ISBLK(found.st_mode):
-        os.close(descriptor)
-        raise OSError(errno.EINVAL, _NOT_AN_IMAGE, path)
-    # the length of a block device is known only by its end
-    image_len = os.lseek(descriptor, 0, os.SEEK_END)
-    os.lseek(descriptor, 0, os.SEEK_SET)
-    return descriptor, image_len
-
-
-def _read_first(descriptor: int, most: int) -> memoryview:
-    """The file, or its first bytes: a part of a new bytearray, which has at least one byte."""
-    view, done = memoryview(bytearray(most)), 0
+    file = _open_file(path, os.O_NONBLOCK)
     try:
-        while done < most:
-            got = os.readv(descriptor, [view[done:]])
-            if not got:
-                break
-            done += got
+        mode = os.fstat(file.fileno()).st_mode
+        if not stat.S_ISREG(mode) and not stat.S_ISBLK(mode):
+            raise OSError(errno.EINVAL, _NOT_AN_IMAGE, path)
+        # the length of a block device is known only by its end
+        image_len = file.seek(0, os.SEEK_END)
+        file.seek(0)
     except BaseException:
-        # these may be parts of a secret
-        view[:] = bytes(most)
+        file.close()
         raise
+    return file, image_len
+
+
+def _read_first(file: io.FileIO, buffer: bytearray) -> memoryview:
+    """The file, or as many of its first bytes as the buffer has room for: a part of the buffer."""
+    view, done = memoryview(buffer), 0
+    while done < len(view):
+        got = os.readv(file.fileno(), [view[done:]])
+        if not got:
+            break
+        done += got
     return view[:done]
 
 
-def _read_file(path: Path, most: int) -> memoryview:
-    descriptor, _ = _open_file(path)
-    try:
-        return _read_first(descriptor, most)
-    finally:
-        os.close(descriptor)
+def _read_file(path: Path, buffer: bytearray) -> memoryview:
+    with _open_file(path) as file:
+        return _read_first(file, buffer)
 
 
 def _read_exactly(descriptor: int, view: memoryview, offset: int) -> None:
@@ -301,22 +328,22 @@ def _read_exactly(descriptor: int, view: memoryview, offset: int) -> None:
         raise OSError(errno.EIO, f"{what}: the image has become shorter")
 
 
-def _secret(passphrase: Optional[Passphrase], key_file: Optional[Path]) -> memoryview:
-    """A copy of the passphrase that is wiped after use."""
-    if key_file is not None:
-        # (one byte more than the longest one, so that the library refuses a longer one)
-        return _read_file(key_file, _PASSPHRASE_BYTES + 1)
-    if isinstance(passphrase, str):
-        passphrase = passphrase.encode()
-    return _copy_of(b"" if passphrase is None else passphrase)
-
-
-def _copy_of(secret: KeyBytes) -> memoryview:
-    """A part of a new bytearray, which has at least one byte."""
-    given = memoryview(secret).cast("B")
-    copy = memoryview(bytearray(len(given) or 1))
-    copy[:len(given)] = given
-    return copy[:len(given)]
+@contextlib.contextmanager
+def _secret(given: Optional[KeyBytes], path: Optional[Path], longest: int) -> Iterator[memoryview]:
+    """A copy of a passphrase or of a volume key, or what its file has: a part of a bytearray that
+    is wiped at the end of the block, however that ends. One that is too long is cut after one byte
+    more than the longest one, and refused for its length later."""
+    view = None if given is None else memoryview(given).cast("B")[:longest + 1]
+    copy = bytearray(longest + 1 if view is None else len(view) or 1)
+    try:
+        if view is None:
+            yield _read_file(path, copy)
+        else:
+            filled = memoryview(copy)[:len(view)]
+            filled[:] = view
+            yield filled
+    finally:
+        _zero(copy)
 
 
 class Volume(io.RawIOBase):
@@ -324,16 +351,18 @@ class Volume(io.RawIOBase):
 
     Threads may share it. `pread` and `pread_into` read any range without moving the position, side
     by side; `read`, `readinto` and `seek` take turns. `close`, or the end of a `with` block, waits
-    for reads that run, and wipes the volume key."""
+    for reads that run, and wipes the volume key. A volume cannot be copied or pickled."""
 
     mode = "rb"
 
-    def __init__(self, name: Path, descriptor: int, key: _Key) -> None:
+    def __init__(self, name: Path, file: io.FileIO, key: _Key) -> None:
+        self._file, self._key = file, key
+        self._position, self._moving = 0, threading.Lock()
+        # one object for each read that runs
+        self._readers: set[object] = set()
+        self._idle, self._is_closing = threading.Condition(), False
         #: the path of the image
         self.name = name
-        self._descriptor, self._key = descriptor, key
-        self._position, self._moving = 0, threading.Lock()
-        self._readers, self._idle = 0, threading.Condition()
         #: the length of the plaintext in bytes, whole sectors
         self.size = key.plain_len()
         #: the length of a sector in bytes
@@ -347,31 +376,49 @@ class Volume(io.RawIOBase):
         closed = ", closed" if self.closed else ""
         return f"<luksrd.Volume {self.name!r}, {self.size} bytes{closed}>"
 
+    def __reduce__(self) -> NoReturn:
+        # (a copy would close the image under this volume, and pickling would write its key out)
+        raise TypeError("a volume cannot be copied or pickled")
+
     @contextlib.contextmanager
     def _reading(self) -> Iterator[int]:
         """The descriptor, which stays open until the end of the block."""
-        with self._idle:
-            if self._descriptor < 0:
-                raise ValueError("I/O operation on closed volume")
-            self._readers += 1
+        reader = object()
         try:
-            yield self._descriptor
-        finally:
             with self._idle:
-                self._readers -= 1
+                self._check_open()
+                self._readers.add(reader)
+            yield self._file.fileno()
+        finally:
+            # (first of all, since waiting for the lock may be interrupted)
+            self._readers.discard(reader)
+            with self._idle:
+                if self._is_closing and not self._readers:
+                    self._release()
                 self._idle.notify_all()
 
+    def _release(self) -> None:
+        """Wipes the key and closes the image; a second time does no harm. The caller has the lock,
+        and no read runs."""
+        try:
+            self._key.wipe()
+        finally:
+            self._file.close()
+
     def close(self) -> None:
-        """Waits for reads that run, wipes the volume key and closes the image."""
+        """Waits for reads that run, wipes the volume key and closes the image.
+
+        If this is interrupted, as by KeyboardInterrupt, no further read begins. The key is wiped
+        and the image closed by the read that ends last, by another `close`, or when the volume is
+        no longer used."""
         if self.closed:
             return
         with self._idle:
-            descriptor, self._descriptor = self._descriptor, -1
+            self._is_closing = True
             while self._readers:
-                self._idle.wait()
-        if descriptor >= 0:
-            self._key.wipe()
-            os.close(descriptor)
+                # (a read that is interrupted may end without a notice)
+                self._idle.wait(1)
+            self._release()
         super().close()
 
     def _read_step(self, descriptor: int, view: memoryview, offset: int) -> int:
@@ -402,7 +449,7 @@ class Volume(io.RawIOBase):
                     done += self._read_step(descriptor, view[done:], offset + done)
             except BaseException:
                 # neither what was decrypted before nor what is still encrypted is an answer
-                view[:] = bytes(len(view))
+                _zero(view)
                 raise
         return done
 
@@ -459,7 +506,7 @@ class Volume(io.RawIOBase):
         raise io.UnsupportedOperation("a volume is read-only")
 
     def _check_open(self) -> None:
-        if self.closed:
+        if self.closed or self._is_closing:
             raise ValueError("I/O operation on closed volume")
 
 
@@ -474,39 +521,31 @@ def _options(header: Optional[Path], key_slot: Optional[int],
                     max_iterations=max_iterations or 0)
 
 
-def _unlock(head: memoryview, passphrase: Optional[Passphrase], key_file: Optional[Path],
-            options: _Options, image_len: int) -> _Key:
-    """Tries the passphrase on a header."""
-    secret = _secret(passphrase, key_file)
-    try:
-        # (what luksrd_open has filled is never refused)
-        return _Key(_opened_by(head, secret, options), image_len)
-    finally:
-        secret[:] = bytes(len(secret))
+def _fields(cipher: str, payload_offset: int, sector_size: int, iv_offset: int,
+            size: Optional[int]) -> dict[str, int]:
+    """What a header says of its payload, as fields of the library's struct."""
+    if cipher not in _MODES:
+        raise ValueError(f"cipher is {cipher!r}, none of {', '.join(_MODES)}")
+    if sector_size not in (512, 1024, 2048, 4096):
+        raise ValueError(f"sector_size is {sector_size}, not 512, 1024, 2048 or 4096")
+    for name, value in (("payload_offset", payload_offset), ("iv_offset", iv_offset),
+                        ("size", size or 0)):
+        if not 0 <= value < 1 << 64:
+            raise ValueError(f"{name} is {value}, not from 0 to 2**64 - 1")
+    if (size or 0) % sector_size:
+        raise ValueError(f"size is {size}, not a multiple of sector_size, {sector_size}")
+    return {"mode": _MODES[cipher], "offset": payload_offset, "sector_size": sector_size,
+            "iv_tweak": iv_offset, "has_size": size is not None, "size": size or 0}
 
 
-def _volume_with(secret: memoryview, mode: int, payload_offset: int, sector_size: int) -> _Opened:
-    """The volume with this key, without a header."""
-    opened = _Opened(offset=payload_offset, sector_size=sector_size, mode=mode,
-                     key_size=len(secret))
-    if len(secret) <= _KEY_BYTES:
-        ctypes.memmove(opened.key, _bytes_at(secret.obj), len(secret))
-    return opened
-
-
-def _use_volume_key(secret: memoryview, opened: _Opened, head: memoryview, options: _Options,
-                    image_len: int) -> tuple[_Key, Optional[LuksError]]:
-    """The open volume, and why its key was not compared with a header, if one is there."""
-    key = _Key(opened, image_len)
-    if not key.is_prepared:
-        key.wipe()
-        raise ValueError(
-            f"a key of {len(secret)} bytes, this cipher and this sector size do not go together")
+def _unchecked(head: memoryview, secret: memoryview, options: _Options) -> Optional[LuksError]:
+    """Why the volume key was not compared with a header, if one is there or was named; raises what
+    was found if that is another key."""
     answer = _compared(head, secret, options)
     if answer and answer.code in (_OTHER_KEY, _OUT_OF_MEMORY):
-        key.wipe()
         raise answer
-    return key, answer if answer and answer.code != _NOT_LUKS else None
+    is_lost = answer and answer.code == _NOT_LUKS and not options.detached
+    return None if is_lost else answer
 
 
 def open(path: Path, *, passphrase: Optional[Passphrase] = None, key_file: Optional[Path] = None,
@@ -528,26 +567,40 @@ def open(path: Path, *, passphrase: Optional[Passphrase] = None, key_file: Optio
     if (passphrase is None) == (key_file is None):
         raise TypeError("either passphrase or key_file is needed")
     options = _options(header, key_slot, max_iterations)
-    descriptor, image_len = _open_image(path)
-    try:
-        head = _read_header(header, descriptor, image_len)
-        key = _unlock(head, passphrase, key_file, options, image_len)
-    except BaseException:
-        os.close(descriptor)
-        raise
-    return _opened_volume(path, descriptor, key)
+    with contextlib.ExitStack() as cleanup:
+        file, head, key = _begin(cleanup, path, header)
+        given = passphrase.encode() if isinstance(passphrase, str) else passphrase
+        with _secret(given, key_file, _PASSPHRASE_BYTES) as secret:
+            key.unlock(head, secret, options)
+        volume = _opened_volume(path, file, key)
+        cleanup.pop_all()
+    return volume
 
 
-def _read_header(header: Optional[Path], descriptor: int, image_len: int) -> memoryview:
+def _begin(cleanup: contextlib.ExitStack, path: Path,
+           header: Optional[Path]) -> tuple[io.FileIO, memoryview, _Key]:
+    """The image, the first bytes of its header, and a key that has to be opened. Unless the caller
+    takes that back, the image is closed and the key wiped in the end."""
+    # (before anything that has to be undone)
+    _library()
+    file, image_len = _open_image(path)
+    cleanup.enter_context(file)
+    head = _read_header(header, file, image_len)
+    key = _Key(image_len)
+    cleanup.callback(key.wipe)
+    return file, head, key
+
+
+def _read_header(header: Optional[Path], file: io.FileIO, image_len: int) -> memoryview:
     """The first bytes of the image, or of the file with the detached header."""
     if header is not None:
-        return _read_file(header, _HEADER_BYTES)
-    return _read_first(descriptor, min(_HEADER_BYTES, image_len or 1))
+        return _read_file(header, bytearray(_HEADER_BYTES))
+    return _read_first(file, bytearray(min(_HEADER_BYTES, image_len or 1)))
 
 
-def _opened_volume(path: Path, descriptor: int, key: _Key) -> Volume:
+def _opened_volume(path: Path, file: io.FileIO, key: _Key) -> Volume:
     """The volume; warns if its image is incomplete."""
-    volume = Volume(path, descriptor, key)
+    volume = Volume(path, file, key)
     if volume.incomplete:
         message = f"{os.fsdecode(path)}: {volume.incomplete}"
         warnings.warn(message, IncompleteImageWarning, stacklevel=3)
@@ -556,7 +609,8 @@ def _opened_volume(path: Path, descriptor: int, key: _Key) -> Volume:
 
 def open_by_volume_key(path: Path, *, payload_offset: int, volume_key: Optional[KeyBytes] = None,
                        volume_key_file: Optional[Path] = None, cipher: str = "aes-xts-plain64",
-                       sector_size: int = 512, header: Optional[Path] = None,
+                       sector_size: int = 512, iv_offset: int = 0, size: Optional[int] = None,
+                       header: Optional[Path] = None,
                        max_iterations: Optional[int] = None) -> Volume:
     """Opens a volume by its volume key, as `cryptsetup luksDump --dump-volume-key` saves it: one
     whose header is lost, too.
@@ -566,37 +620,27 @@ def open_by_volume_key(path: Path, *, payload_offset: int, volume_key: Optional[
     volume_key_file  in its place, the file with the volume key
     cipher           as headers name it: also aes-xts-plain, aes-cbc-essiv:sha256, aes-cbc-plain64
     sector_size      512, 1024, 2048 or 4096
+    iv_offset        the data unit number of the first sector, in units of 512 bytes
+    size             the payload's length in bytes, if that is fixed; else it ends with the image
     header           the file with the detached header, if there is one
     max_iterations   a digest with more iterations of PBKDF2 is not compared with the key
 
     If the image, or the detached header, has the digest of another key, this raises LuksError. If
     there is no header, nothing can tell that the key is a wrong one: it gives noise. Warns by
-    UncheckedKeyWarning of a header that cannot tell, and raises and warns as open does."""
+    UncheckedKeyWarning of a header that cannot tell, as of a file with a detached header that has
+    none, and raises and warns as open does."""
     if (volume_key is None) == (volume_key_file is None):
         raise TypeError("either volume_key or volume_key_file is needed")
-    if cipher not in _MODES:
-        raise ValueError(f"cipher is {cipher!r}, none of {', '.join(_MODES)}")
-    if not 0 <= payload_offset < 1 << 64:
-        raise ValueError(f"payload_offset is {payload_offset}, not from 0 to 2**64 - 1")
-    if sector_size not in (512, 1024, 2048, 4096):
-        raise ValueError(f"sector_size is {sector_size}, not 512, 1024, 2048 or 4096")
+    fields = _fields(cipher, payload_offset, sector_size, iv_offset, size)
     options = _options(header, None, max_iterations)
-    descriptor, image_len = _open_image(path)
-    try:
-        head = _read_header(header, descriptor, image_len)
-        if volume_key_file is not None:
-            secret = _read_file(volume_key_file, _KEY_BYTES + 1)
-        else:
-            secret = _copy_of(b"" if volume_key is None else volume_key)
-        try:
-            opened = _volume_with(secret, _MODES[cipher], payload_offset, sector_size)
-            key, unchecked = _use_volume_key(secret, opened, head, options, image_len)
-        finally:
-            secret[:] = bytes(len(secret))
-    except BaseException:
-        os.close(descriptor)
-        raise
-    if unchecked:
-        message = f"{os.fsdecode(path)}: the volume key is not compared: {unchecked}"
-        warnings.warn(message, UncheckedKeyWarning, stacklevel=2)
-    return _opened_volume(path, descriptor, key)
+    with contextlib.ExitStack() as cleanup:
+        file, head, key = _begin(cleanup, path, header)
+        with _secret(volume_key, volume_key_file, _KEY_BYTES) as secret:
+            key.use(secret, fields)
+            unchecked = _unchecked(head, secret, options)
+        if unchecked:
+            message = f"{os.fsdecode(path)}: the volume key is not compared: {unchecked}"
+            warnings.warn(message, UncheckedKeyWarning, stacklevel=2)
+        volume = _opened_volume(path, file, key)
+        cleanup.pop_all()
+    return volume

@@ -2,13 +2,20 @@
 writes beside each what luksCat gives."""
 
 import concurrent.futures
+import contextlib
+import copy
 import ctypes
 import errno
+import gc
 import io
+import mmap
 import os
 import pathlib
 import pickle
 import random
+import re
+import subprocess
+import sys
 import threading
 import time
 import warnings
@@ -208,12 +215,14 @@ class from_pipe:
         return f"/dev/fd/{self.reader}"
 
     def write(self, writer):
-        with open(writer, "wb") as file:
+        # (if the reader is closed before it has read all)
+        with contextlib.suppress(BrokenPipeError), open(writer, "wb") as file:
             file.write(self.path.read_bytes())
 
     def __exit__(self, *_):
-        self.writing.join()
+        # the writer waits for a reader that does not read, until there is none
         os.close(self.reader)
+        self.writing.join()
 
 
 REFUSED = {
@@ -257,9 +266,12 @@ def test_refused(name):
     ({"key_file": "."}, IsADirectoryError),
     ({"key_file": "pass", "header": "absent"}, FileNotFoundError),
     ({"key_file": "pass", "header": "."}, IsADirectoryError),
+    ({"key_file": 0}, TypeError),
+    ({"key_file": "pass", "header": 0}, TypeError),
 ], ids=str)
 def test_wrong_arguments(options, error):
-    options = {key: FOLDER / value if key in ("key_file", "header") else value for key, value in options.items()}
+    options = {key: FOLDER / value if key in ("key_file", "header") and value else value
+               for key, value in options.items()}
     descriptors = len(os.listdir("/proc/self/fd"))
     with pytest.raises(error):
         luksrd.open(FOLDER / VOLUME1, **options)
@@ -269,10 +281,14 @@ def test_wrong_arguments(options, error):
 @pytest.mark.parametrize("image, error", [
     ("absent", FileNotFoundError), (".", IsADirectoryError), ("pipe", OSError), ("/dev/null", OSError)])
 def test_wrong_image(image, error):
+    descriptors = len(os.listdir("/proc/self/fd"))
     with pytest.raises(error) as caught:
         luksrd.open(FOLDER / image, passphrase="a passphrase")
     assert os.fspath(caught.value.filename) == os.fspath(FOLDER / image)
     assert caught.value.errno != errno.EINVAL or "neither a regular file nor a block device" in str(caught.value)
+    assert len(os.listdir("/proc/self/fd")) == descriptors
+    with pytest.raises(TypeError):
+        luksrd.open(0, passphrase="a passphrase")
 
 
 def by_key(image, key=VOLUME2, **options):
@@ -313,11 +329,66 @@ def test_another_volume_key(changed):
 
 def test_unchecked_volume_key():
     """A header that cannot tell is warned of, and the volume is read."""
-    for image, options in (("of no digest", {}), (VOLUME2, {"max_iterations": 1})):
-        with pytest.warns(luksrd.UncheckedKeyWarning, match="no digest to compare the volume key with"):
+    no_digest = "no digest to compare the volume key with"
+    for image, options, reason in (("of no digest", {}, no_digest), (VOLUME2, {"max_iterations": 1}, no_digest),
+                                   (VOLUME2, {"header": FOLDER / "plain"}, "not a LUKS image"),
+                                   (f"{VOLUME2}.lost", {"header": "/dev/null"}, "not a LUKS image")):
+        with pytest.warns(luksrd.UncheckedKeyWarning, match=reason):
             volume = by_key(image, **options)
         with volume:
             assert volume.read() == named(VOLUME2).text
+
+
+def test_what_a_header_said():
+    """The numbers of data units, and the size, that the header of another volume said."""
+    text = named(VOLUME2).text
+    start = int((FOLDER / f"{VOLUME2}.start").read_text())
+    with by_key(f"{VOLUME2}.lost", payload_offset=start + 8192, iv_offset=16) as volume:
+        assert volume.read() == text[8192:]
+    with by_key(f"{VOLUME2}.lost", payload_offset=start + 8192) as volume:
+        assert volume.read()[:4096] != text[8192:12288]
+    for size in (0, 4096, 200704):
+        with by_key(f"{VOLUME2}.lost", size=size) as volume:
+            assert volume.size == size and volume.incomplete is None and volume.read() == text[:size]
+    with pytest.warns(luksrd.IncompleteImageWarning, match="image ends 4096 bytes before the segment does"):
+        volume = by_key(f"{VOLUME2}.lost", size=len(text) + 4096)
+    with volume:
+        assert volume.read() == text
+
+
+def test_structs():
+    """The library's structs have the sizes and offsets that luksrd.h states."""
+    stated = re.findall(r"_Static_assert\((sizeof|offsetof)\(struct luksrd_(\w+)(?:, (\w+))?\) == (\d+)",
+                        (pathlib.Path(__file__).parents[1] / "c" / "luksrd.h").read_text())
+    structs = {"options": luksrd._Options, "volume": luksrd._Opened, "cipher": luksrd._Cipher, "step": luksrd._Step,
+               "message": luksrd._Message}
+    assert {struct for _, struct, _, _ in stated} == set(structs)
+    for what, struct, field, number in stated:
+        assert int(number) == (ctypes.sizeof(structs[struct]) if what == "sizeof"
+                               else getattr(structs[struct], field).offset), (struct, field)
+    for name, struct in structs.items():
+        assert [field for field, *_ in struct._fields_] == [field for what, other, field, _ in stated
+                                                            if other == name and what == "offsetof"]
+
+
+@pytest.fixture
+def huge(tmp_path):
+    """A file of 4 GiB and 64 bytes, without any but zeros."""
+    path = tmp_path / "huge"
+    with open(path, "wb") as file:
+        file.truncate(2 ** 32 + 64)
+    return path
+
+
+def test_huge_secrets(huge):
+    """A passphrase or a volume key is refused by its whole length, and not read to its end."""
+    with open(huge, "rb") as file, mmap.mmap(file.fileno(), 0, access=mmap.ACCESS_READ) as given:
+        for options in ({"passphrase": given}, {"key_file": huge}):
+            with pytest.raises(luksrd.LuksError, match="key file is longer than 8388608 bytes"):
+                luksrd.open(FOLDER / VOLUME1, **options)
+        for options in ({"volume_key": given}, {"volume_key": None, "volume_key_file": huge}):
+            with pytest.raises(ValueError, match="longer than 64 bytes"):
+                by_key(f"{VOLUME1}.lost", VOLUME1, **{"volume_key_file": None} | options)
 
 
 @pytest.mark.parametrize("options, error", [
@@ -328,6 +399,14 @@ def test_unchecked_volume_key():
     ({"sector_size": 513}, ValueError),
     ({"payload_offset": -1}, ValueError),
     ({"payload_offset": 2 ** 64}, ValueError),
+    ({"payload_offset": 1.5}, TypeError),
+    ({"iv_offset": -1}, ValueError),
+    ({"iv_offset": 2 ** 64}, ValueError),
+    ({"iv_offset": "1"}, TypeError),
+    ({"size": -4096}, ValueError),
+    ({"size": 2 ** 64}, ValueError),
+    ({"size": 512}, ValueError),
+    ({"volume_key_file": None, "volume_key": "k" * 64}, TypeError),
     ({"max_iterations": 0}, ValueError),
     ({"volume_key_file": None, "volume_key": b""}, ValueError),
     ({"volume_key_file": None, "volume_key": b"k" * 65}, ValueError),
@@ -360,6 +439,214 @@ def test_close():
 def key_of(volume):
     """The bytes in which the module keeps the key."""
     return bytes(volume._key._opened) + bytes(volume._key._cipher)
+
+
+class Left:
+    """What a block leaves: descriptors, and bytes of the keys and secrets that the module made in it."""
+
+    def __init__(self, monkeypatch):
+        self.keys, self.secrets = [], []
+        make_keys, fill = luksrd._Keys, luksrd._zero
+
+        def keys():
+            self.keys.append(make_keys())
+            return self.keys[-1]
+
+        def zero(buffer):
+            self.secrets.append((any(buffer), buffer))
+            fill(buffer)
+
+        monkeypatch.setattr(luksrd, "_Keys", keys)
+        monkeypatch.setattr(luksrd, "_zero", zero)
+
+    def __enter__(self):
+        gc.collect()
+        self.descriptors = len(os.listdir("/proc/self/fd"))
+        return self
+
+    def __exit__(self, *_):
+        gc.collect()
+        assert len(os.listdir("/proc/self/fd")) == self.descriptors
+        assert self.keys and not any(any(bytes(key)) for key in self.keys)
+        # a secret was there, and is no more
+        assert any(had for had, _ in self.secrets) and not any(any(buffer) for _, buffer in self.secrets)
+
+
+@pytest.fixture
+def left(monkeypatch):
+    return Left(monkeypatch)
+
+
+@pytest.mark.parametrize("use, warning", [
+    (lambda: named("truncated inside a sector").open(), None),
+    (lambda: luksrd.open(FOLDER / "truncated inside a sector", key_file=FOLDER / "pass"),
+     luksrd.IncompleteImageWarning),
+    (lambda: by_key("of no digest"), luksrd.UncheckedKeyWarning),
+    (lambda: by_key(VOLUME2, size=2 ** 40), luksrd.IncompleteImageWarning),
+])
+def test_warnings_as_errors(left, use, warning):
+    """Nothing is left, though the error itself is kept."""
+    with warnings.catch_warnings(), left:
+        warnings.simplefilter("error")
+        if warning is None:
+            use().close()
+        else:
+            with pytest.raises(warning) as caught:
+                use()
+    assert warning is None or caught.value is not None
+
+
+@pytest.mark.parametrize("is_done", [False, True])
+@pytest.mark.parametrize("owner, name, turn", [
+    (luksrd, "_library", 2), (luksrd, "_library", 3), (luksrd, "_library", 4), (luksrd, "_read_header", 1),
+    (luksrd._Key, "unlock", 1), (luksrd._Key, "_prepare", 1), (luksrd._Key, "plain_len", 1),
+    (luksrd._Key, "ending", 1), (warnings, "warn", 1)])
+def test_open_interrupted(left, monkeypatch, owner, name, turn, is_done):
+    """Nothing is left if opening is interrupted before or after one of these calls."""
+    call, calls = getattr(owner, name), []
+
+    def interrupted(*arguments, **named):
+        calls.append(name)
+        if len(calls) == turn and not is_done:
+            raise KeyboardInterrupt
+        answer = call(*arguments, **named)
+        if len(calls) == turn:
+            raise KeyboardInterrupt
+        return answer
+
+    with left:
+        # (one that is opened, so that there is a secret)
+        luksrd.open(FOLDER / VOLUME1, key_file=FOLDER / "pass").close()
+        monkeypatch.setattr(owner, name, interrupted)
+        with pytest.raises(KeyboardInterrupt), warnings.catch_warnings():
+            warnings.simplefilter("always")
+            luksrd.open(FOLDER / "truncated inside a sector", key_file=FOLDER / "pass")
+        assert len(calls) >= turn
+
+
+def test_reading_a_secret_fails(left, monkeypatch):
+    """What was read before is wiped."""
+    read, reads = os.readv, []
+
+    def readv(descriptor, buffers):
+        if not os.readlink(f"/proc/self/fd/{descriptor}").endswith("/pass"):
+            return read(descriptor, buffers)
+        reads.append(descriptor)
+        if len(reads) > 1:
+            raise OSError(errno.EIO, "a part of the disk is gone")
+        return read(descriptor, [buffers[0][:5]])
+
+    monkeypatch.setattr(os, "readv", readv)
+    with left, pytest.raises(OSError, match="a part of the disk is gone"):
+        luksrd.open(FOLDER / VOLUME1, key_file=FOLDER / "pass")
+    assert [len(buffer) for _, buffer in left.secrets] == [8388609]
+
+
+def interrupts(call):
+    """The call, which is interrupted the first time, before it does anything."""
+    calls = []
+
+    def interrupted(*arguments):
+        calls.append(arguments)
+        if len(calls) == 1:
+            raise KeyboardInterrupt
+        return call(*arguments)
+
+    return interrupted
+
+
+@pytest.mark.parametrize("ending", ["close", "forget"])
+@pytest.mark.parametrize("step", ["wait", "wipe", "closing", "marking"])
+def test_close_interrupted(left, monkeypatch, step, ending):
+    """A close that is interrupted leaves a volume that cannot be read, and the next one, or the end of the object,
+    completes it."""
+    with left:
+        volume = named(VOLUME2).open()
+        reading = contextlib.ExitStack()
+        if step == "wait":
+            reading.enter_context(volume._reading())
+            monkeypatch.setattr(volume._idle, "wait", interrupts(volume._idle.wait))
+        elif step == "wipe":
+            monkeypatch.setattr(volume._key, "wipe", interrupts(volume._key.wipe))
+        elif step == "closing":
+            monkeypatch.setattr(volume, "_release", interrupts(volume._release))
+        else:
+            monkeypatch.setattr(volume, "flush", interrupts(volume.flush))
+        with pytest.raises(KeyboardInterrupt):
+            volume.close()
+        # (Python itself takes it for closed once nothing is left to do)
+        assert volume.closed == (step == "marking")
+        for use in (volume.read, volume.tell, lambda: volume.pread(1, 0)):
+            with pytest.raises(ValueError):
+                use()
+        if step == "wait":
+            # the read that ends last does what close() could not
+            assert any(key_of(volume)) and not volume._file.closed
+            reading.close()
+            assert not any(key_of(volume)) and volume._file.closed
+        monkeypatch.undo()
+        if ending == "close":
+            volume.close()
+            assert volume.closed
+        del volume, reading, use
+
+
+def test_close_in_threads(left, monkeypatch):
+    """The image is closed once, and no close returns before that: none closes a file of another that has got the
+    same descriptor."""
+    text = named(VOLUME2).text
+    with left, concurrent.futures.ThreadPoolExecutor(8) as threads:
+        for _ in range(50):
+            volume, gate = named(VOLUME2).open(), threading.Barrier(8)
+
+            def close(number):
+                gate.wait()
+                if number == 0:
+                    with contextlib.suppress(ValueError):
+                        assert volume.pread(9000, 100) == text[100:9100]
+                volume.close()
+                assert volume.closed and volume._file.closed and not any(key_of(volume))
+                with open(FOLDER / "pass", "rb") as other:
+                    time.sleep(0.001)
+                    return other.read()
+
+            assert set(threads.map(close, range(8))) == {b"a passphrase"}
+
+
+def test_strict():
+    """Python reports no file that was not closed, and no error that it ignores, when all warnings are errors."""
+    program = """
+import gc, sys, warnings, luksrd
+image, key, short = sys.argv[1:]
+luksrd.open(image, key_file=key).close()
+volume = luksrd.open(image, key_file=key)
+del volume
+for options in ({"key_file": key + ".absent"}, {"passphrase": "a wrong one"}, {"key_file": key, "header": key}):
+    try:
+        luksrd.open(image, **options)
+        print("opened")
+    except (OSError, luksrd.LuksError):
+        pass
+try:
+    luksrd.open(short, key_file=key)
+    print("opened")
+except luksrd.IncompleteImageWarning:
+    pass
+gc.collect()
+volume = luksrd.open(image, key_file=key)
+"""
+    names = [FOLDER / VOLUME1, FOLDER / "pass", FOLDER / "truncated inside a sector"]
+    run = subprocess.run([sys.executable, "-W", "error", "-X", "dev", "-c", program, *names], capture_output=True,
+                         timeout=60, check=False)
+    assert (run.returncode, run.stdout, run.stderr) == (0, b"", b"")
+
+
+def test_no_copies(volume):
+    """A volume cannot be copied or pickled."""
+    for copies in (copy.copy, copy.deepcopy, pickle.dumps):
+        with pytest.raises(TypeError, match="a volume cannot be copied or pickled"):
+            copies(volume)
+    assert volume.read() == named(VOLUME2).text
 
 
 def test_forgotten():
