@@ -38,11 +38,12 @@
  * luksrd_open and luksrd_check_key need at most 256 KiB of stack, luksrd_prepare 128 KiB, and every
  * other function 32 KiB, except luksrd_wipe_stack, which needs 257 KiB.
  *
- * What is left of keys: the caller wipes the passphrase, the volume and the cipher (luksrd_wipe).
- * Copies of keys and of parts of them stay on the stack of the thread that called luksrd_open,
- * luksrd_check_key or luksrd_prepare, until luksrd_wipe_stack or something else writes over them.
- * After that they can be in registers that nothing has used since, which the loader may save on the
- * stack when it looks up a function. The library puts no copy elsewhere.
+ * What is left of keys: luksrd_open, luksrd_check_key and luksrd_prepare write over the stack that
+ * they used before they return, whatever they return. The caller wipes the passphrase, the volume
+ * and the cipher (luksrd_wipe), and what its own functions leave on the stack (luksrd_wipe_stack).
+ * Parts of keys can stay in registers that nothing has used since. The loader saves registers on the
+ * stack when it looks up a function for the first time, unless the program is linked with
+ * `-Wl,-z,now`. The library puts no copy elsewhere.
  */
 #ifndef LUKSRD_H
 #define LUKSRD_H
@@ -129,7 +130,8 @@ enum luksrd_mode {
  *
  * If the volume key is known, the caller can fill the struct by hand, without a passphrase and even
  * without a header: each field as stated here, all others 0. luksrd_prepare refuses a struct whose
- * fields do not go together. luksrd_check_key compares the key with a header, if there is one. */
+ * fields do not go together; luksrd_len and luksrd_ending use `offset`, `size`, `has_size` and
+ * `sector_size` alone. luksrd_check_key compares the key with a header, if there is one. */
 struct luksrd_volume {
   uint64_t offset;      /* the first byte of the payload in its image */
   uint64_t size;        /* the payload's length in bytes, if has_size is 1; else 0 */
@@ -215,7 +217,7 @@ uint32_t luksrd_check_key(const uint8_t *header, size_t header_len, const uint8_
 
 /* The length in bytes of a volume's plaintext, if its payload's image has `image_len` bytes: its
  * whole sectors, a multiple of the sector size. 0 if `sector_size` is none of its four values, as
- * in a struct that luksrd_open has set to zero. */
+ * in a struct that luksrd_open has set to zero, or `has_size` is above 1. */
 uint64_t luksrd_len(const struct luksrd_volume *volume, uint64_t image_len) LUKSRD_CHECKED;
 
 /* How the payload ends in an image of `image_len` bytes.
@@ -226,16 +228,18 @@ uint64_t luksrd_len(const struct luksrd_volume *volume, uint64_t image_len) LUKS
  * is the one with which `luksrd luksCat` ends.
  *
  * Returns LUKSRD_BAD_VOLUME, with 0 in `bytes` and the message of luksrd_status_text, exactly if
- * `sector_size` is none of its four values, as in a struct that luksrd_open has set to zero. */
+ * `sector_size` is none of its four values, as in a struct that luksrd_open has set to zero, or
+ * `has_size` is above 1. */
 uint32_t luksrd_ending(const struct luksrd_volume *volume, uint64_t image_len, uint64_t *bytes,
                        struct luksrd_message *message) LUKSRD_CHECKED;
 
 /* Expands a volume's keys. This is done once: no other function does it.
  *
  * Returns LUKSRD_OK. Or returns LUKSRD_BAD_VOLUME, with a cipher that is all zero, exactly if
- * `sector_size` or `mode` is none of its values, `has_size` is 1 and `size` is not a multiple of
- * the sector size, or `key_size` is not a key length of the mode: 32 or 64 for XTS, 16 or 32 for
- * CBC. A struct that luksrd_open has filled is never refused. */
+ * `sector_size` or `mode` is none of its values, `has_size` is above 1, `has_size` is 1 and `size`
+ * is not a multiple of the sector size, `key_size` is not a key length of the mode (32 or 64 for
+ * XTS, 16 or 32 for CBC), or `reserved` is not 0. A struct that luksrd_open has filled is never
+ * refused. */
 uint32_t luksrd_prepare(const struct luksrd_volume *volume, struct luksrd_cipher *cipher)
     LUKSRD_CHECKED;
 
@@ -286,9 +290,9 @@ static __attribute__((noinline, unused)) void luksrd_wipe_below(void)
 }
 
 /* Fills the 256 KiB of stack below the caller with zeros, where functions that it called before
- * have left copies of keys. Call it from the function that called luksrd_open, luksrd_check_key or
- * luksrd_prepare, in the same thread. In a thread with a smaller stack, do not call it: wipe that
- * stack when the thread has ended. */
+ * may have left copies of passphrases and keys: its own, and the loader. The library's functions
+ * leave none. Call it from the function that called them, in the same thread. In a thread with a
+ * smaller stack, do not call it: wipe that stack when the thread has ended. */
 static __attribute__((noinline, unused)) void luksrd_wipe_stack(void)
 {
   /* When the loader looks up a function, it saves registers: here, where they are wiped. */

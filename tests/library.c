@@ -15,39 +15,16 @@
  *     library key IMAGE HEADER KEY LIMIT
  *
  * prints what comparing a volume key with a header gives: the code, the status and the sentence.
- * LIMIT is that of the iterations, or 0.
- *
- *     library stack IMAGE PASSPHRASE
- *
- * prints for each call whether it needs no more stack than luksrd.h states.
- *
- *     library left IMAGE PASSPHRASE
- *
- * prints whether parts of the passphrase and of keys are on the stack of a thread, after it has
- * opened the volume, and after luksrd_wipe_stack. */
-#include "luksrd.h"
+ * LIMIT is that of the iterations, or 0. */
+#include "library.h"
 
 #include <inttypes.h>
 #include <pthread.h>
-#include <stdbool.h>
-#include <stdio.h>
-#include <stdlib.h>
-#include <string.h>
-
-/* the bytes of stack that luksrd.h states */
-#define STACK_OPEN (256 * 1024)
-#define STACK_PREPARE (128 * 1024)
-#define STACK_READ (32 * 1024)
 
 #define THREADS 4
 #define RANGES 200
 #define SEED "1" /* of the ranges, which are the same in each run */
 #define GARBAGE 300
-
-struct bytes {
-  uint8_t *at;
-  size_t len;
-};
 
 /* A volume, its expanded keys, its image and its plain text. */
 struct job {
@@ -56,34 +33,6 @@ struct job {
   struct bytes image;
   struct bytes plain;
 };
-
-static void must(bool holds, const char *what)
-{
-  if (!holds) {
-    fprintf(stderr, "FAILED: %s\n", what);
-    exit(99);
-  }
-}
-
-static struct bytes copy_of(const uint8_t *at, size_t len)
-{
-  struct bytes copy = { malloc(len > 0 ? len : 1), len };
-  must(copy.at != NULL, "memory");
-  memcpy(copy.at, at, len);
-  return copy;
-}
-
-static struct bytes contents(const char *name)
-{
-  FILE *file = fopen(name, "rb");
-  must(file != NULL && fseek(file, 0, SEEK_END) == 0, name);
-  const long len = ftell(file);
-  must(len >= 0 && fseek(file, 0, SEEK_SET) == 0, name);
-  struct bytes all = { malloc(len > 0 ? (size_t)len : 1), (size_t)len };
-  must(all.at != NULL && fread(all.at, 1, all.len, file) == all.len, name);
-  fclose(file);
-  return all;
-}
 
 /* Ends with luksrd's message. */
 static void end_with(const struct luksrd_message *message)
@@ -213,6 +162,30 @@ static void pass_garbage(const struct job *job)
   }
 }
 
+/* A struct with other values than luksrd.h states is no volume, as far as a function uses them. */
+static void refuse_fields(const struct job *job)
+{
+  static struct luksrd_cipher made;
+  struct luksrd_message message;
+  uint64_t bytes = 1;
+  const uint64_t len = luksrd_len(job->volume, job->image.len);
+  const uint32_t values[] = { 2, 256, UINT32_MAX };
+  for (size_t i = 0; i < sizeof values / sizeof values[0]; i++) {
+    struct luksrd_volume wrong = *job->volume;
+    wrong.has_size = values[i];
+    must(luksrd_prepare(&wrong, &made) == LUKSRD_BAD_VOLUME && all_zero(&made, sizeof made),
+         "neither a fixed size nor none");
+    must(luksrd_len(&wrong, job->image.len) == 0, "the length without either");
+    must(luksrd_ending(&wrong, job->image.len, &bytes, &message) == LUKSRD_BAD_VOLUME && bytes == 0,
+         "the ending without either");
+    wrong = *job->volume;
+    wrong.reserved = values[i];
+    must(luksrd_prepare(&wrong, &made) == LUKSRD_BAD_VOLUME && all_zero(&made, sizeof made),
+         "a reserved field");
+    must(luksrd_len(&wrong, job->image.len) == len, "the length with a reserved field");
+  }
+}
+
 /* Calls that no caller should make are refused, and change nothing. */
 static void make_bad_calls(const struct job *job)
 {
@@ -251,6 +224,7 @@ static void make_bad_calls(const struct job *job)
   must(luksrd_prepare(&wrong, &made) == LUKSRD_BAD_VOLUME, "no length of a key");
   must(luksrd_prepare(&none, &made) == LUKSRD_BAD_VOLUME && all_zero(&made, sizeof made),
        "no volume");
+  refuse_fields(job);
   luksrd_wipe(two.at, two.len);
   must(all_zero(two.at, two.len), "bytes that are wiped");
   must(luksrd_len(&none, UINT64_MAX) == 0, "the length of no volume");
@@ -351,15 +325,6 @@ static void print_ending(const struct luksrd_volume *volume, uint64_t image_len)
          image_len, luksrd_len(volume, image_len), code, bytes, message.status, message.text);
 }
 
-/* The image's or the header's first bytes, which are all that opening needs. */
-static struct bytes header_in(const char *name)
-{
-  struct bytes header = contents(name);
-  if (header.len > LUKSRD_HEADER_BYTES)
-    header.len = LUKSRD_HEADER_BYTES;
-  return header;
-}
-
 static int print_volume(int lengths, char **argv)
 {
   struct luksrd_options options = { .size = sizeof options };
@@ -371,122 +336,6 @@ static int print_volume(int lengths, char **argv)
     print_ending(&volume, strtoull(argv[2 + i], NULL, 10));
   free(header.at);
   free(passphrase.at);
-  return 0;
-}
-
-/* What calls with the volume in this image need. */
-struct calls {
-  struct bytes header, passphrase;
-  struct luksrd_options options;
-  struct luksrd_volume volume;
-  struct luksrd_cipher cipher;
-  struct luksrd_message message;
-  struct luksrd_step step;
-  uint8_t payload[2 * LUKSRD_SECTOR_BYTES];
-};
-
-static void *call_nothing(void *argument)
-{
-  return argument;
-}
-
-static void *call_open(void *argument)
-{
-  struct calls *calls = argument;
-  must(luksrd_open(calls->header.at, calls->header.len, calls->passphrase.at,
-                   calls->passphrase.len, &calls->options, &calls->volume,
-                   &calls->message) == LUKSRD_OK,
-       "opening on a stack of its own");
-  return NULL;
-}
-
-static void *call_check_key(void *argument)
-{
-  struct calls *calls = argument;
-  must(luksrd_check_key(calls->header.at, calls->header.len, calls->volume.key,
-                        calls->volume.key_size, &calls->options, &calls->message) == LUKSRD_OK,
-       "a key on a stack of its own");
-  return NULL;
-}
-
-static void *call_prepare(void *argument)
-{
-  struct calls *calls = argument;
-  must(luksrd_prepare(&calls->volume, &calls->cipher) == LUKSRD_OK, "keys on a stack of their own");
-  return NULL;
-}
-
-static void *call_plan(void *argument)
-{
-  struct calls *calls = argument;
-  must(luksrd_plan(&calls->cipher, UINT32_MAX, 1, 9000, &calls->step) == LUKSRD_OK, "a plan");
-  return NULL;
-}
-
-static void *call_finish(void *argument)
-{
-  struct calls *calls = argument;
-  must(luksrd_finish(&calls->cipher, &calls->step, calls->payload, calls->step.read_len) ==
-           LUKSRD_OK,
-       "a step");
-  return NULL;
-}
-
-static void *call_decrypt(void *argument)
-{
-  struct calls *calls = argument;
-  must(luksrd_decrypt(&calls->cipher, 0, calls->payload, sizeof calls->payload) == LUKSRD_OK,
-       "sectors");
-  return NULL;
-}
-
-/* The bytes of a stack that a call writes to. */
-static size_t stack_of(void *(*call)(void *), struct calls *calls)
-{
-  enum { SIZE = 1 << 20 };
-  pthread_attr_t attributes;
-  pthread_t thread;
-  uint8_t *stack = aligned_alloc(4096, SIZE);
-  size_t unused = 0;
-  must(stack != NULL, "a stack");
-  memset(stack, 0xa5, SIZE);
-  must(pthread_attr_init(&attributes) == 0 &&
-           pthread_attr_setstack(&attributes, stack, SIZE) == 0 &&
-           pthread_create(&thread, &attributes, call, calls) == 0 &&
-           pthread_join(thread, NULL) == 0,
-       "a thread with a stack");
-  while (unused < SIZE && stack[unused] == 0xa5)
-    unused++;
-  free(stack);
-  return SIZE - unused;
-}
-
-static int print_stacks(char **argv)
-{
-  static struct calls calls = { .options = { .size = sizeof(struct luksrd_options) } };
-  static const struct {
-    const char *name;
-    void *(*call)(void *);
-    size_t most;
-  } rows[] = {
-    { "luksrd_open", call_open, STACK_OPEN },
-    { "luksrd_check_key", call_check_key, STACK_OPEN },
-    { "luksrd_prepare", call_prepare, STACK_PREPARE },
-    { "luksrd_plan", call_plan, STACK_READ },
-    { "luksrd_finish", call_finish, STACK_READ },
-    { "luksrd_decrypt", call_decrypt, STACK_READ },
-  };
-  calls.header = header_in(argv[0]);
-  calls.passphrase = contents(argv[1]);
-  const size_t least = stack_of(call_nothing, &calls);
-  for (size_t i = 0; i < sizeof rows / sizeof rows[0]; i++) {
-    const size_t used = stack_of(rows[i].call, &calls) - least;
-    printf("%s: %s\n", rows[i].name, used <= rows[i].most ? "enough" : "too little");
-    if (used > rows[i].most)
-      fprintf(stderr, "%s needs %zu bytes\n", rows[i].name, used);
-  }
-  free(calls.header.at);
-  free(calls.passphrase.at);
   return 0;
 }
 
@@ -518,88 +367,9 @@ static int print_check(char **argv)
   return 0;
 }
 
-/* A part of a secret that is looked for. */
-#define PART 8
-
-/* Whether bytes look random: those that repeat, as in round keys that are bitsliced, can be
- * anywhere. */
-static bool is_random(const uint8_t *at)
-{
-  int repeated = 0;
-  for (int i = 1; i < PART; i++)
-    repeated += memchr(at, at[i], (size_t)i) != NULL;
-  return repeated <= 2;
-}
-
-/* Whether a part of the secret is in these bytes. */
-static bool has_part(const uint8_t *at, size_t len, const void *secret, size_t secret_len)
-{
-  const uint8_t *part = secret;
-  for (size_t i = 0; i + PART <= secret_len; i += PART)
-    if (is_random(part + i) && memmem(at, len, part + i, PART) != NULL)
-      return true;
-  return false;
-}
-
-enum { STACK = 1 << 20 };
-
-/* A thread that opens a volume, and its stack. */
-struct opening {
-  struct calls *calls;
-  bool is_wiped;
-};
-
-static void *open_and_wipe(void *argument)
-{
-  const struct opening *opening = argument;
-  call_open(opening->calls);
-  call_check_key(opening->calls);
-  call_prepare(opening->calls);
-  if (opening->is_wiped)
-    luksrd_wipe_stack();
-  return NULL;
-}
-
-/* Whether a part of the passphrase, of the volume key or of its expanded forms is left. */
-static bool is_left(struct calls *calls, bool is_wiped)
-{
-  struct opening opening = { calls, is_wiped };
-  pthread_attr_t attributes;
-  pthread_t thread;
-  uint8_t *stack = aligned_alloc(4096, STACK);
-  must(stack != NULL, "a stack");
-  memset(stack, 0, STACK);
-  must(pthread_attr_init(&attributes) == 0 &&
-           pthread_attr_setstack(&attributes, stack, STACK) == 0 &&
-           pthread_create(&thread, &attributes, open_and_wipe, &opening) == 0 &&
-           pthread_join(thread, NULL) == 0,
-       "a thread with a stack");
-  const bool is = has_part(stack, STACK, calls->passphrase.at, calls->passphrase.len) ||
-                  has_part(stack, STACK, calls->volume.key, calls->volume.key_size) ||
-                  has_part(stack, STACK, &calls->cipher, sizeof calls->cipher);
-  free(stack);
-  return is;
-}
-
-static int print_left(char **argv)
-{
-  static struct calls calls = { .options = { .size = sizeof(struct luksrd_options) } };
-  calls.header = header_in(argv[0]);
-  calls.passphrase = contents(argv[1]);
-  printf("left by the calls: %s; ", is_left(&calls, false) ? "some" : "none");
-  printf("after luksrd_wipe_stack: %s\n", is_left(&calls, true) ? "some" : "none");
-  free(calls.header.at);
-  free(calls.passphrase.at);
-  return 0;
-}
-
 int main(int argc, char **argv)
 {
   must(luksrd_version() == LUKSRD_VERSION, "the version");
-  if (argc == 4 && strcmp(argv[1], "stack") == 0)
-    return print_stacks(argv + 2);
-  if (argc == 4 && strcmp(argv[1], "left") == 0)
-    return print_left(argv + 2);
   if (argc == 6 && strcmp(argv[1], "key") == 0)
     return print_check(argv + 2);
   if (argc > 4 && strcmp(argv[1], "fields") == 0)

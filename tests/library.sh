@@ -2,8 +2,8 @@
 # Runs small programs over luksrd.h, one in C that is built with AddressSanitizer and also run under valgrind, and one
 # in Python by ctypes: each writes what luksCat does, with the same messages, for both sample volumes and for volumes
 # that are truncated, detached or not opened: with the library for all processors, and with that for x86-64-v3. The
-# one in C also prints each field of a volume that is made here, compares volume keys with headers, and looks for keys
-# on the stack. What luksrd.h declares is compared with what the library's source does.
+# one in C also prints each field of a volume that is made here, compares volume keys with headers, and looks for parts
+# of keys on the stack. What luksrd.h declares is compared with what the library's source does.
 sources=$(realpath "$(dirname "$0")/..")
 library=$(realpath "${2:?the built library}")
 shared=$(realpath "${3:?the same as a shared one}")
@@ -11,19 +11,20 @@ shared_v3=$(realpath "${4:?the same for x86-64-v3}")
 # shellcheck source=tests/common.sh
 . "$(dirname "$0")/common.sh"
 
-# compile_checked NAME ARGUMENT..: the program in C, with these arguments for the compiler
+# compile_checked NAME SOURCE ARGUMENT..: a program in C, with these arguments for the compiler
 compile_checked() {
-    gcc -std=c11 -D_GNU_SOURCE -Wall -Wextra -Werror -O1 -g -o "$1" "$sources/tests/library.c" "${@:2}" -lpthread ||
-        exit 1
+    gcc -std=c11 -D_GNU_SOURCE -Wall -Wextra -Werror -O1 -g -o "$1" "$sources/tests/$2" "${@:3}" -lpthread || exit 1
 }
-compile_checked checked -I"$sources/c" "$library"
-compile_checked sanitized -I"$sources/c" "$library" -fsanitize=address,undefined -fno-sanitize-recover=all
+compile_checked checked library.c -I"$sources/c" "$library"
+compile_checked sanitized library.c -I"$sources/c" "$library" -fsanitize=address,undefined -fno-sanitize-recover=all
 # as it is installed, with the shared library and the flags of pkg-config
 make -s -C "$sources" install-library LIBRARY="$library" SHARED="$shared" SHARED_V3="$shared_v3" \
     PREFIX="$work/installed" >log 2>&1 || { cat log; exit 1; }
 export PKG_CONFIG_PATH=$work/installed/lib/pkgconfig LD_LIBRARY_PATH=$work/installed/lib
 read -ra flags <<<"$(pkg-config --cflags --libs luksrd)"
-compile_checked shared "${flags[@]}"
+compile_checked shared library.c "${flags[@]}"
+# (the loader saves registers on the stack when it looks up a function)
+compile_checked stack stack.c "${flags[@]}" -Wl,-z,now
 # a folder for each library alone
 mkdir x86-64-v2 x86-64-v3
 cp "$shared" x86-64-v2/libluksrd.so.2
@@ -211,17 +212,63 @@ key_finds 'a segment that is refused' '4 1 luksrd: segment refused: encryption' 
 digests <<<"tree.pop('digests')"
 key_finds 'JSON that is not readable' '3 4 luksrd: LUKS2 JSON area is not readable' digests key
 
-# each call needs no more stack than luksrd.h states
-stacks='luksrd_open: enough
-luksrd_check_key: enough
-luksrd_prepare: enough
-luksrd_plan: enough
-luksrd_finish: enough
-luksrd_decrypt: enough'
+# derived_key IMAGE PASSPHRASE SLOT: the key that PBKDF2 derives for this key slot
+derived_key() {
+    python3 - "$@" <<'TEXT'
+import base64, hashlib, json, sys
+image, secret = (open(name, "rb").read() for name in sys.argv[1:3])
+if image[6:8] == b"\0\1":
+    name, size = image[72:104].rstrip(b"\0").decode(), int.from_bytes(image[108:112], "big")
+    slot = image[208 + 48 * int(sys.argv[3]):]
+    salt, count = slot[8:40], int.from_bytes(slot[4:8], "big")
+else:
+    slot = json.loads(image[4096:image.index(b"\0", 4096)])["keyslots"][sys.argv[3]]
+    name, salt, count = slot["kdf"]["hash"], base64.b64decode(slot["kdf"]["salt"]), slot["kdf"]["iterations"]
+    size = slot["area"]["key_size"]
+sys.stdout.buffer.write(hashlib.pbkdf2_hmac(name, secret, salt, count, size))
+TEXT
+}
+# made NAME TYPE CIPHER BITS HASH: a volume whose passphrase is a random one
+head -c 40 /dev/urandom >random
+made() {
+    truncate -s 20M "$1"
+    cryptsetup -q luksFormat --type "$2" --pbkdf pbkdf2 --pbkdf-force-iterations 1000 --cipher "$3" --key-size "$4" \
+        --hash "$5" --key-file random "$1" >log 2>&1 || { cat log; exit 1; }
+    derived_key "$1" random 0 >"$1.derived"
+}
+made xts luks2 aes-xts-plain64 512 sha256
+made essiv luks1 aes-cbc-essiv:sha256 256 sha512
+made plain-iv luks2 aes-cbc-plain64 128 sha1
+# the deepest JSON that is read
+cp xts nested
+cp xts.derived nested.derived
+edited nested 'x = 0
+for i in range(125): x = {"a": x}
+tree["config"]["x"] = x'
+# each call needs no more stack than luksrd.h states, and leaves no part of a passphrase or of a key on it
+wanted='luksrd_open: enough, no part of a key
+luksrd_open, another passphrase: enough, no part of a key
+luksrd_open, a long passphrase: enough, no part of a key
+luksrd_open, a truncated header: enough, no part of a key
+luksrd_open, bad options: enough, no part of a key
+luksrd_check_key: enough, no part of a key
+luksrd_check_key, another key: enough, no part of a key
+luksrd_check_key, no header: enough, no part of a key
+luksrd_check_key, bad options: enough, no part of a key
+luksrd_prepare: enough, no part of a key
+luksrd_prepare, no volume: enough, no part of a key
+luksrd_plan: enough, no part of a key
+luksrd_finish: enough, no part of a key
+luksrd_decrypt: enough, no part of a key
+luksrd_decrypt, one sector: enough, no part of a key
+luksrd_decrypt, a part of a sector: enough, no part of a key
+a copy: enough, a part of a key
+a copy, luksrd_wipe_stack: enough, no part of a key'
 for processor in "${processors[@]}"; do
-    same "the stack, $processor" "$(LD_LIBRARY_PATH=$work/$processor ./shared stack fixed pass5 2>&1)" "$stacks"
-    same "keys on the stack, $processor" "$(LD_LIBRARY_PATH=$work/$processor ./shared left fixed pass5 2>&1)" \
-        'left by the calls: some; after luksrd_wipe_stack: none'
+    for volume in xts essiv plain-iv nested; do
+        same "the stack, $volume, $processor" \
+            "$(LD_LIBRARY_PATH=$work/$processor ./stack $volume random $volume.derived 2>&1)" "$wanted"
+    done
 done
 
 # what both sources declare

@@ -1,9 +1,11 @@
 -- What comparing a known volume key with the header of an image gives.
-use Rattle.std.specs.Prelude.{ℕ, List, Option, Result, Ok, Err, if◌then◌else◌, length}
+use Rattle.std.specs.Prelude.{ℕ, List, MatchBool, Option, Result, Ok, Err, if◌then◌else◌, length}
+use Rattle.luks_io.specs.Devices.{ConsumedAtMost, ConsumedExactly}
 use Rattle.luks_cipher.specs.Sector.{is_mode_key_length}
 use Rattle.luks_area.specs.declared.fault.HeaderFault.{HeaderFault}
 use Rattle.luks_verdict.specs.declared.refusal.SegmentFault.{SegmentFault}
 use Rattle.luks_verdict.specs.declared.segment.Segment.{Segment}
+use Rattle.luks_header.specs.Header.{header_read_len}
 use Rattle.luks_header.specs.HeaderSegment.{segment_of}
 use Rattle.luks_header.specs.declared.header.Header.{Header}
 use Rattle.luks_open.specs.VolumeKey.{compared, key_digest_of}
@@ -14,6 +16,7 @@ use Rattle.luks_report.specs.declared.message.Message.{Message}
 use Rattle.luks_report.specs.declared.message.Message.TheVariants.{NotLuks, Cut, Json, SegmentRefused}
 use Rattle.luks_report.specs.declared.message.Message.TheVariants.{OutOfMemory, ReadFailed}
 use Rattle.luks_runs.specs.Location.{reader_for}
+use Rattle.luks_runs.specs.Run.{aborts}
 use Rattle.luks_runs.specs.declared.location.HeaderLocation.{HeaderLocation}
 
 -- comparing a key may end with this message
@@ -40,3 +43,10 @@ check_in_header limit key (Err fault) = Err (message_for_header fault)
 -- what comparing a key with the header at the start of an image, or of its own file, gives
 unfoldable pub key_check_of : HeaderLocation → Option ℕ → List ℕ → List ℕ → Result KeyCheck Message
 key_check_of location limit image key = check_in_header limit key (reader_for location image)
+
+-- comparing a key ended with this message, or with an answer: the bytes that are read for the header were consumed, or no
+-- more than these if a read failed or memory ran out
+abbrev pub ConsumesToCheck : List ℕ → Message → Option (List ℕ) → Type 0
+ConsumesToCheck header message left =
+    MatchBool (aborts message) (ConsumedAtMost header left (header_read_len header))
+    (ConsumedExactly header left (header_read_len header))

@@ -4,7 +4,7 @@ ghost use Rattle.std.specs.Prelude.{◌≡◌, Bool, IfErr, IfOk, Ok, Err, false
 ghost use Rattle.luks_io.specs.Counts.{Reads};
 ghost use Rattle.luks_io.specs.Devices.{IfKnown};
 ghost use Rattle.luks_runs.specs.Run.{aborts, is_run_read_failure, result_message};
-ghost use Rattle.luks_access.specs.Keys.{KeyCheckMessage, key_check_of};
+ghost use Rattle.luks_access.specs.Keys.{ConsumesToCheck, KeyCheckMessage, key_check_of};
 
 use luks_header::payload::segment;
 use luks_io::source::Source;
@@ -17,7 +17,8 @@ use std::alloc::Global;
 
 /// Compares a volume key with the digest in a header: the lowest-numbered usable digest that lists
 /// segment 0; LUKS1 has one digest. A key whose length is not one of the cipher's differs. The
-/// source gives the bytes of the image, or of the detached header; no key area is read.
+/// source gives the bytes of the image, or of the detached header. As many of them are consumed as
+/// `luksUUID` consumes, which are those that are read for the header, and none for a key area.
 ///
 /// PBKDF2 does not distinguish a key from the same key with zeros after it, up to the block length
 /// of the hash function.
@@ -38,6 +39,8 @@ pub fn check_key_from<S: Source>(
     ensures refuses { IfErr result (λ message. aborts message ≡ false
         → IfKnown (S.to_come source.old)
         (λ known. key_check_of location max_iterations known key.now ≡ Err message)) }
+    ensures consumes { IfKnown (S.to_come source.old) (λ known. ConsumesToCheck known
+        (result_message result) (S.to_come source.new)) }
     ensures only { IfErr result KeyCheckMessage }
     ensures reads { (ended : Bool) × Reads (is_run_read_failure (result_message result)) ended
         (S.counts source.old) (S.counts source.new) }

@@ -54,10 +54,10 @@ module _ (c : LuksrdVolume) (v : UnlockedVolume) (stored : Stores c v) where
   stored_mode : mode_in c.mode ≡ Some v.segment.mode
   stored_mode = ap mode_in stored.mode ∙ mode_again v.segment.mode
 
-  pub stored_size : size_stored_in c ≡ v.segment.size
+  pub stored_size : size_stored_in c ≡ Some v.segment.size
   stored_size = by v.segment.size stored.has_size stored.size
     where
-      by : (size : Option ℕ) → c.has_size ≡ has_size_of size → c.size ≡ unwrap_or size 0 → size_stored_in c ≡ size
+      by : (size : Option ℕ) → c.has_size ≡ has_size_of size → c.size ≡ unwrap_or size 0 → size_stored_in c ≡ Some size
       by None has is = rw has refl
       by (Some size) has is = rw (has, is) refl
 
@@ -83,11 +83,11 @@ module _ (c : LuksrdVolume) (v : UnlockedVolume) (stored : Stores c v) where
 
   -- the length that is computed from the fields is that of the plaintext
   pub len_for : (z : SectorSize) (size : Option ℕ) (image : List ℕ) (image_len len : ℕ)
-      → Some z ≡ sector_size_with c.sector_size → size ≡ size_stored_in c → length image ≡ image_len
+      → Some z ≡ sector_size_with c.sector_size → Some size ≡ size_stored_in c → length image ≡ image_len
       → len ≡ payload_bytes size (image_len - c.offset) / bytes_of z * bytes_of z → len ≡ length (plaintext_of v image)
   len_for z size image image_len len sector fixed long is =
       let z_is : z ≡ v.segment.sector_size = same_Some z v.segment.sector_size (sector ∙ stored_sector) in
-      let size_is : size ≡ v.segment.size = fixed ∙ stored_size in
+      let size_is : size ≡ v.segment.size = same_Some size v.segment.size (fixed ∙ stored_size) in
       plaintext_length v.segment (cipher_of v) image image_len len long (rw (z_is, size_is, stored.offset) at is)
 
   -- the length of the segment's plaintext is that of the volume's
@@ -115,5 +115,5 @@ module _ (c : LuksrdVolume) (v : UnlockedVolume) (stored : Stores c v) where
 -- the keys of a volume that was opened are expanded
 pub filled_code : (c : LuksrdVolume) (v : UnlockedVolume) → Filled c v → prepare_code c ≡ 0
 filled_code c v filled =
-    ap (λ (s : Option Segment). prepare_code_by s c.key_size) (stored_segment c v filled.stores)
-    ∙ rw (filled.key_size, v.key_length) refl
+    rw filled.reserved (ap (λ (s : Option Segment). prepare_code_by s c.key_size) (stored_segment c v filled.stores)
+    ∙ rw (filled.key_size, v.key_length) refl)

@@ -1,5 +1,5 @@
 -- The structs of `c/luksrd.h` with which a range of a plaintext is read, and what the functions over them answer.
-use Rattle.std.specs.Prelude.{ℕ, ◌≡◌, ◌+◌, ◌-◌, ◌*◌, ◌/◌, if◌then◌else◌, drop, nat_le, replicate, take, Option, None, Some}
+use Rattle.std.specs.Prelude.{ℕ, ◌≡◌, ◌==◌, ◌+◌, ◌-◌, ◌*◌, ◌/◌, if◌then◌else◌, drop, nat_le, replicate, take, Option, None, Some}
 use Rattle.std.specs.Prelude.{List}
 use Rattle.luks_aes_batch.specs.declared.round_key.RoundKey.{RoundKey}
 use Rattle.luks_cipher.specs.Expanded.{AreExpanded}
@@ -52,9 +52,10 @@ abbrev pub prepare_code_by : Option Segment → ℕ → ℕ
 prepare_code_by None key_size = 16
 prepare_code_by (Some s) key_size = if is_mode_key_length s.mode key_size then 0 else 16
 
--- the code of expanding the key that the struct has, for the segment that its fields make, if they make one
+-- the code of expanding the key that the struct has, for the segment that its fields make, if they make one, and if the
+-- reserved field is 0
 abbrev pub prepare_code : LuksrdVolume → ℕ
-prepare_code c = prepare_code_by (segment_in c) c.key_size
+prepare_code c = if c.reserved == 0 then prepare_code_by (segment_in c) c.key_size else 16
 
 -- ---- steps
 

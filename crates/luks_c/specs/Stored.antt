@@ -173,14 +173,15 @@ mode_in n =
     if n == 1 then Some XtsPlain64 else if n == 2 then Some XtsPlain else if n == 3 then Some CbcEssivSha256
     else if n == 4 then Some CbcPlain64 else None
 
-abbrev pub size_stored_in : LuksrdVolume → Option ℕ
-size_stored_in c = if c.has_size == 1 then Some c.size else None
+-- the payload's length, if it is fixed: `has_size` is 0 or 1, and says whether it is
+abbrev pub size_stored_in : LuksrdVolume → Option (Option ℕ)
+size_stored_in c = if c.has_size == 0 then Some None else if c.has_size == 1 then Some (Some c.size) else None
 
 -- the segment of the payload
 abbrev pub segment_in : LuksrdVolume → Option Segment
 segment_in c = segment_from record {
   offset = Some c.offset;
-  size = Some (size_stored_in c);
+  size = size_stored_in c;
   iv_tweak = Some c.iv_tweak;
   sector_size = sector_size_with c.sector_size;
   mode = mode_in c.mode;
@@ -194,22 +195,23 @@ key_in c = take c.key_size c.key
 abbrev pub cipher_in : LuksrdVolume → Mode → Cipher
 cipher_in c mode = (mode, key_in c)
 
--- the length of the plaintext in an image of `image_len` bytes: all whole sectors of this size. 0 if there is no sector
--- size
-abbrev pub plaintext_len_by : Option SectorSize → LuksrdVolume → ℕ → ℕ
-plaintext_len_by None c image_len = 0
-plaintext_len_by (Some sector_size) c image_len =
-    payload_bytes (size_stored_in c) (image_len - c.offset) / bytes_of sector_size * bytes_of sector_size
+-- the length of the plaintext in an image of `image_len` bytes: all whole sectors of this size, of a payload that has
+-- this length if it is fixed. 0 if there is no sector size, or the struct does not say whether the length is fixed
+abbrev pub plaintext_len_by : Option SectorSize → Option (Option ℕ) → LuksrdVolume → ℕ → ℕ
+plaintext_len_by None fixed c image_len = 0
+plaintext_len_by (Some sector_size) None c image_len = 0
+plaintext_len_by (Some sector_size) (Some size) c image_len =
+    payload_bytes size (image_len - c.offset) / bytes_of sector_size * bytes_of sector_size
 
--- the same for the struct's own sector size, whatever else the struct holds
+-- the same by the struct's own `sector_size`, `has_size` and `size`, whatever else the struct holds
 abbrev pub plaintext_len_in : LuksrdVolume → ℕ → ℕ
-plaintext_len_in c = plaintext_len_by (sector_size_with c.sector_size) c
+plaintext_len_in c = plaintext_len_by (sector_size_with c.sector_size) (size_stored_in c) c
 
--- how the payload ends in an image of `image_len` bytes, in sectors of this size
-abbrev pub ending_by : SectorSize → LuksrdVolume → ℕ → Result Step VolumeFault
-ending_by sector_size c image_len =
+-- how a payload, which has this length if it is fixed, ends in an image of `image_len` bytes, in sectors of this size
+abbrev pub ending_by : SectorSize → Option ℕ → LuksrdVolume → ℕ → Result Step VolumeFault
+ending_by sector_size size c image_len =
     if nat_lt image_len c.offset then Err FaultCut
-    else ending_of_len (size_stored_in c) (bytes_of sector_size) (image_len - c.offset)
+    else ending_of_len size (bytes_of sector_size) (image_len - c.offset)
 
 -- ---- the results of the functions for C
 
@@ -254,16 +256,17 @@ EndsAs (Err fault) code bytes message =
     (code ≡ code_for (message_for_payload fault)) × (bytes ≡ fault_bytes fault)
     × StoresMessage message (message_for_payload fault)
 
--- the result is the ending of the payload in an image of `image_len` bytes, if there is a sector size; otherwise its
--- code is 16
-abbrev pub EndsBy : Option SectorSize → LuksrdVolume → ℕ → ℕ → ℕ → LuksrdMessage → Type 0
-EndsBy None c image_len code bytes message = (code ≡ 16) × (bytes ≡ 0) × StoresCode message 16
-EndsBy (Some sector_size) c image_len code bytes message =
-    EndsAs (ending_by sector_size c image_len) code bytes message
+-- the result is the ending of the payload in an image of `image_len` bytes, if there is a sector size, and the struct
+-- says whether the payload's length is fixed; otherwise its code is 16
+abbrev pub EndsBy : Option SectorSize → Option (Option ℕ) → LuksrdVolume → ℕ → ℕ → ℕ → LuksrdMessage → Type 0
+EndsBy None fixed c image_len code bytes message = (code ≡ 16) × (bytes ≡ 0) × StoresCode message 16
+EndsBy (Some sector_size) None c image_len code bytes message = (code ≡ 16) × (bytes ≡ 0) × StoresCode message 16
+EndsBy (Some sector_size) (Some size) c image_len code bytes message =
+    EndsAs (ending_by sector_size size c image_len) code bytes message
 
--- the same for the struct's own sector size, whatever else the struct holds
+-- the same by the struct's own `sector_size`, `has_size` and `size`, whatever else the struct holds
 abbrev pub EndsIn : LuksrdVolume → ℕ → ℕ → ℕ → LuksrdMessage → Type 0
-EndsIn c = EndsBy (sector_size_with c.sector_size) c
+EndsIn c = EndsBy (sector_size_with c.sector_size) (size_stored_in c) c
 
 -- whole sectors were decrypted in place, from sector `first` on, by the segment and the cipher that the struct holds
 abbrev pub DecryptsAs : LuksrdVolume → ℕ → List ℕ → List ℕ → Type 0

@@ -1,11 +1,14 @@
 //! An open volume with its expanded keys, as C keeps it.
 
-ghost use Rattle.std.specs.Prelude.{◌≡◌, List, length, true};
+ghost use Rattle.std.specs.Prelude.{◌≡◌, ◌≢◌, List, length, true};
 ghost use Rattle.luks_cipher.specs.Expanded.{AreExpanded};
 ghost use Rattle.luks_cipher.specs.Sector.{is_mode_key_length};
-ghost use Rattle.luks_c.specs.Steps.{IsNoCipher, no_keys, zero_key};
+ghost use Rattle.luks_c.specs.Steps.{IsNoCipher, IsPrepared, no_keys, prepare_code, zero_key};
+ghost use Rattle.luks_c.specs.Stored.{Filled};
+ghost use Rattle.luks_unlock.specs.declared.unlocked.UnlockedVolume.{UnlockedVolume};
 
-use crate::volume::LuksrdVolume;
+use crate::code::{BAD_VOLUME, OK};
+use crate::volume::{LuksrdVolume, key, segment};
 use luks_aes::KeySchedule;
 use luks_aes_batch::{KeyPlane, RoundKey, RoundKeys};
 use luks_cipher::{ExpandedKeys, Mode};
@@ -75,4 +78,31 @@ impl LuksrdCipher {
         self.keys = no_keys();
         self.reserved = [0; 82];
     }
+}
+
+/// Expands the keys of a volume. If the code is not 0, the struct is all zero.
+///
+/// It is not inlined in the function for C, which writes over the stack that this uses.
+#[inline(never)]
+pub(crate) fn prepare(volume: &LuksrdVolume, cipher: &mut LuksrdCipher) -> u32
+    ensures code { result ≡ prepare_code volume.now }
+    ensures filled { (v : UnlockedVolume) → Filled volume.now v → result ≡ 0 }
+    ensures volume { result ≡ 0 → cipher.new.volume ≡ volume.now }
+    ensures prepared { result ≡ 0 → IsPrepared cipher.new }
+    ensures cleared { result ≢ 0 → IsNoCipher cipher.new }
+{
+    if volume.reserved != 0 {
+        cipher.clear();
+        return BAD_VOLUME;
+    }
+    let Some(segment) = segment(volume) else {
+        cipher.clear();
+        return BAD_VOLUME;
+    };
+    let Some(key) = key(volume, segment.mode) else {
+        cipher.clear();
+        return BAD_VOLUME;
+    };
+    cipher.store(volume, segment.mode, key);
+    OK
 }

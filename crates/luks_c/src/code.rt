@@ -2,8 +2,9 @@
 
 ghost use Rattle.std.specs.Prelude.{◌≡◌};
 ghost use Rattle.luks_c.specs.Keys.{check_code};
-ghost use Rattle.luks_c.specs.Stored.{code_for, sentence_for};
+ghost use Rattle.luks_c.specs.Stored.{StoresCode, code_for, sentence_for};
 
+use crate::message::LuksrdMessage;
 use luks_access::Message;
 use luks_access::key::KeyCheck;
 
@@ -60,8 +61,18 @@ pub(crate) fn code_of_check(check: KeyCheck) -> u32
     }
 }
 
+/// Stores the status and the sentence of a code, and returns the code.
+pub(crate) fn answer_code(code: u32, message: &mut LuksrdMessage) -> u32
+    ensures code { result ≡ code }
+    ensures message { StoresCode message.new code }
+{
+    let (status, text) = sentence(code);
+    message.set_text(status, text);
+    code
+}
+
 /// The exit status and the sentence of a number alone.
-pub(crate) fn sentence(code: u32) -> (u32, &'static str)
+fn sentence(code: u32) -> (u32, &'static str)
     ensures status { result.0 ≡ (sentence_for code).0 }
     ensures text { result.1.now ≡ (sentence_for code).1 }
 {

@@ -21,18 +21,17 @@ ghost use Rattle.luks_c.specs.Stored.{are_bad, plaintext_len_in};
 ghost use Rattle.luks_c.specs.Steps.{Finishes, IsNoCipher, IsNoStep, IsPrepared, Plans};
 ghost use Rattle.luks_c.specs.Steps.{finish_code, plan_code, prepare_code, step_in};
 
-use crate::cipher::LuksrdCipher;
-use crate::code::{BAD_OPTIONS, BAD_RANGE, BAD_VOLUME, OK, code_of, code_of_check, sentence};
+use crate::cipher::{LuksrdCipher, prepare};
+use crate::code::{BAD_RANGE, BAD_VOLUME, OK, answer_code, code_of};
 use crate::message::LuksrdMessage;
-use crate::options::{LuksrdOptions, header_in, options_in};
+use crate::opening::{compare_key, open_volume};
+use crate::options::LuksrdOptions;
 use crate::step::LuksrdStep;
 use crate::volume::LuksrdVolume;
+use crate::wiping::{wiped_after_opening, wiped_after_preparing};
 use luks_access::Message;
-use luks_access::key::check_key_from;
 use luks_access::sectors::{decrypt_sectors, payload_ending, plaintext_len};
 use luks_access::step::{finish, plan};
-use luks_access::volume::Volume;
-use luks_io::memory::MemSource;
 use luks_payload::fault::VolumeFault;
 use luks_verdict::sector_size::SectorSize;
 use std::alloc::Global;
@@ -40,9 +39,11 @@ use std::alloc::Global;
 pub mod cipher;
 mod code;
 pub mod message;
+mod opening;
 pub mod options;
 pub mod step;
 pub mod volume;
+mod wiping;
 
 /// The version of this library: major * 65536 + minor * 256 + patch.
 const VERSION: u32 = 0x0001_0200;
@@ -68,22 +69,7 @@ pub extern "C" fn luksrd_open(
         → (result ≡ 15) × StoresCode message.new 15 }
     ensures bad_options { result ≡ 15 → are_bad options.now ≡ true }
 {
-    let Some(options) = options_in(options) else {
-        volume.clear();
-        return answer_code(BAD_OPTIONS, message);
-    };
-    match Volume::open_from(alloc, &options, &mut MemSource::new(header), passphrase) {
-        Ok(opened) => {
-            volume.store(&opened);
-            message.set(&Message::Done);
-            OK
-        }
-        Err(refusal) => {
-            volume.clear();
-            message.set(&refusal);
-            code_of(&refusal)
-        }
-    }
+    wiped_after_opening(open_volume(alloc, header, passphrase, options, volume, message))
 }
 
 /// Compares a volume key with the digest in a header, from the first bytes of its image or of the
@@ -104,31 +90,11 @@ pub extern "C" fn luksrd_check_key(
         → (result ≡ 15) × StoresCode message.new 15 }
     ensures bad_options { result ≡ 15 → are_bad_for_a_key options.now ≡ true }
 {
-    let Some((location, max_iterations)) = header_in(options) else {
-        return answer_code(BAD_OPTIONS, message);
-    };
-    let source = &mut MemSource::new(header);
-    match check_key_from(alloc, location, max_iterations, source, key) {
-        Ok(check) => answer_code(code_of_check(check), message),
-        Err(fault) => {
-            message.set(&fault);
-            code_of(&fault)
-        }
-    }
-}
-
-/// Stores the status and the sentence of a code, and returns the code.
-fn answer_code(code: u32, message: &mut LuksrdMessage) -> u32
-    ensures code { result ≡ code }
-    ensures message { StoresCode message.new code }
-{
-    let (status, text) = sentence(code);
-    message.set_text(status, text);
-    code
+    wiped_after_opening(compare_key(alloc, header, key, options, message))
 }
 
 /// The length in bytes of the volume's plaintext, if its payload's image has this length. It is 0
-/// for a struct without a sector size.
+/// for a struct without a sector size, or that does not say whether the payload's length is fixed.
 #[unsafe(no_mangle)]
 pub extern "C" fn luksrd_len(volume: &LuksrdVolume, image_len: u64) -> u64
     ensures value { result ≡ plaintext_len_in volume.now image_len }
@@ -136,15 +102,17 @@ pub extern "C" fn luksrd_len(volume: &LuksrdVolume, image_len: u64) -> u64
         → length image ≡ image_len
         → result ≡ length (plaintext_of v image) }
 {
-    match volume::sector_size_with(volume.sector_size) {
-        Some(sector_size) => {
-            plaintext_len(volume.offset, volume::size(volume), sector_size, image_len)
-        }
-        None => 0,
-    }
+    let Some(sector_size) = volume::sector_size_with(volume.sector_size) else {
+        return 0;
+    };
+    let Some(size) = volume::size(volume) else {
+        return 0;
+    };
+    plaintext_len(volume.offset, size, sector_size, image_len)
 }
 
-/// How the payload ends in an image of this length, if the struct has a sector size.
+/// How the payload ends in an image of this length, if the struct has a sector size and says
+/// whether the payload's length is fixed.
 #[unsafe(no_mangle)]
 pub extern "C" fn luksrd_ending(
     volume: &LuksrdVolume,
@@ -161,7 +129,10 @@ pub extern "C" fn luksrd_ending(
     let Some(sector_size) = volume::sector_size_with(volume.sector_size) else {
         return answer_code(BAD_VOLUME, message);
     };
-    match payload_ending(volume.offset, volume::size(volume), sector_size, image_len) {
+    let Some(size) = volume::size(volume) else {
+        return answer_code(BAD_VOLUME, message);
+    };
+    match payload_ending(volume.offset, size, sector_size, image_len) {
         Ok(_) => {
             message.set(&Message::Done);
             OK
@@ -205,16 +176,7 @@ pub extern "C" fn luksrd_prepare(volume: &LuksrdVolume, cipher: &mut LuksrdCiphe
     ensures prepared { result ≡ 0 → IsPrepared cipher.new }
     ensures cleared { result ≢ 0 → IsNoCipher cipher.new }
 {
-    let Some(segment) = volume::segment(volume) else {
-        cipher.clear();
-        return BAD_VOLUME;
-    };
-    let Some(key) = volume::key(volume, segment.mode) else {
-        cipher.clear();
-        return BAD_VOLUME;
-    };
-    cipher.store(volume, segment.mode, key);
-    OK
+    wiped_after_preparing(prepare(volume, cipher))
 }
 
 /// The next step of reading `len` bytes of the plaintext from `offset` on. If the code is not 0,

@@ -79,14 +79,14 @@ pub(crate) fn sector_size_with(bytes: u32) -> Option<SectorSize>
     }
 }
 
-/// The length of its payload, if that is fixed.
-pub(crate) fn size(volume: &LuksrdVolume) -> Option<u64>
+/// The length of its payload, if that is fixed, or `None` if the struct does not say whether it is.
+pub(crate) fn size(volume: &LuksrdVolume) -> Option<Option<u64>>
     ensures { result ≡ size_stored_in volume.now }
 {
-    if volume.has_size == 1 {
-        Some(volume.size)
-    } else {
-        None
+    match volume.has_size {
+        0 => Some(None),
+        1 => Some(Some(volume.size)),
+        _ => None,
     }
 }
 
@@ -96,7 +96,7 @@ pub(crate) fn segment(volume: &LuksrdVolume) -> Option<Segment>
 {
     Segment::from_parts(SegmentParts {
         offset: Some(volume.offset),
-        size: Some(size(volume)),
+        size: size(volume),
         iv_tweak: Some(volume.iv_tweak),
         sector_size: sector_size_with(volume.sector_size),
         mode: mode_of_number(volume.mode),

@@ -1,4 +1,4 @@
-use Rattle.std.proofs.Common.{◌≡◌, ◌∙◌, ℕ, Bool, List, Option, Ok, Err, ap, false, length, sym, true}
+use Rattle.std.proofs.Common.{◌≡◌, ◌∙◌, ℕ, Bool, List, Option, Ok, Err, ap, arith, false, length, sym, true}
 use Rattle.std.specs.Prelude.{if◌then◌else◌}
 use Rattle.luks_io.proofs.ErrorLemmas.{given_error}
 use Rattle.luks_cipher.specs.Sector.{is_mode_key_length}
@@ -6,7 +6,8 @@ use Rattle.luks_area.specs.declared.fault.HeaderFault.{HeaderFault}
 use Rattle.luks_area.specs.declared.fault.HeaderFault.TheVariants.{Read as HeaderRead, Memory as HeaderMemory}
 use Rattle.luks_verdict.specs.declared.refusal.SegmentFault.{SegmentFault}
 use Rattle.luks_verdict.specs.declared.segment.Segment.{Segment}
-use Rattle.luks_header.specs.Header.{ReadsNoHeader}
+use Rattle.luks_header.proofs.KnownLemmas.{memory_below}
+use Rattle.luks_header.specs.Header.{ReadsNoHeader, header_read_len}
 use Rattle.luks_header.specs.HeaderSegment.{segment_of}
 use Rattle.luks_header.specs.declared.header.Header.{Header}
 use Rattle.luks_open.specs.VolumeKey.{compared, key_digest_of}
@@ -17,7 +18,7 @@ use Rattle.luks_runs.proofs.RunLemmas.{reading_fault}
 use Rattle.luks_runs.specs.Location.{reader_for}
 use Rattle.luks_runs.specs.Run.{aborts}
 use Rattle.luks_runs.specs.declared.location.HeaderLocation.{HeaderLocation}
-use Rattle.luks_access.specs.Keys.{check_in_header, check_in_segment, key_check_of}
+use Rattle.luks_access.specs.Keys.{ConsumesToCheck, check_in_header, check_in_segment, key_check_of}
 use Rattle.luks_access.proofs.key.check_key_from.Goals as goal
 
 module _ (location : HeaderLocation) (limit : Option ℕ) (image key : List ℕ) where
@@ -49,6 +50,13 @@ module _ (location : HeaderLocation) (limit : Option ℕ) (image key : List ℕ)
         ∙ (ap (check_in_segment header limit key) is
         ∙ ap (λ (b : Bool). Ok (if b then compared limit (key_digest_of header) key else Differs)) tested)
 
+-- no header was read: the bytes that are read for it were consumed, or no more than these
+consumed_unread : (image : List ℕ) (left : Option (List ℕ)) (ends ends' : ℕ) (fault : HeaderFault)
+    → ReadsNoHeader image left ends ends' fault → ConsumesToCheck image (message_for_header fault) left
+consumed_unread image left ends ends' HeaderRead stop = stop.0
+consumed_unread image left ends ends' HeaderMemory stop = memory_below image left ends ends' stop
+consumed_unread image left ends ends' fault stop = stop.1.0
+
 pub returns-in_err-header-clause-refuses : goal.returns-in_err-header-clause-refuses
 returns-in_err-header-clause-refuses g c =
     rw (given_error _ _ c.from_residual.ensures.1) (λ never known is.
@@ -73,3 +81,25 @@ returns-clause-checks g c known is =
     (c.in_ok-header.ensures.consumed known is).0 c.in_ok-segment.segment (sym c.in_ok-segment.ensures) true
     (sym c.has_key_length.ensures ∙ c.if-not-has_key_length.false)
     ∙ ap Ok (sym c.in_ok-check.ensures.value)
+
+pub returns-in_err-header-clause-consumes : goal.returns-in_err-header-clause-consumes
+returns-in_err-header-clause-consumes g c =
+    rw (given_error _ _ c.from_residual.ensures.1) (λ known is.
+    consumed_unread known _ _ _ c.in_err-header.field-0.0 (c.in_err-header.ensures.no_header known is))
+
+pub returns-in_err-segment-clause-consumes : goal.returns-in_err-segment-clause-consumes
+returns-in_err-segment-clause-consumes g c =
+    rw (given_error _ _ c.from_residual-in_err-segment.ensures.1) (λ known is.
+    (c.in_ok-header.ensures.consumed known is).2)
+
+pub returns-then-not-has_key_length-clause-consumes : goal.returns-then-not-has_key_length-clause-consumes
+returns-then-not-has_key_length-clause-consumes g c known is = (c.in_ok-header.ensures.consumed known is).2
+
+-- memory ran out after the header was read
+pub returns-in_err-check-clause-consumes : goal.returns-in_err-check-clause-consumes
+returns-in_err-check-clause-consumes g c =
+    rw (given_error _ _ c.from_residual-in_err-check.ensures.1) (λ known is.
+    (header_read_len known, omega arith, (c.in_ok-header.ensures.consumed known is).2))
+
+pub returns-clause-consumes : goal.returns-clause-consumes
+returns-clause-consumes g c known is = (c.in_ok-header.ensures.consumed known is).2

@@ -1,4 +1,4 @@
-use Rattle.std.proofs.Common.{◌∙◌, Some, ap, sym, ◌≡◌, ◌≢◌, arith}
+use Rattle.std.proofs.Common.{◌∙◌, Some, ap, sym, ◌≢◌, arith}
 use Rattle.luks_io.specs.Counts.{MemSourceModel}
 use Rattle.luks_cipher.proofs.ModeLemmas.{max_mode_key}
 use Rattle.luks_report.specs.declared.message.Message.{Message}
@@ -7,7 +7,7 @@ use Rattle.luks_unlock.proofs.VolumeLemmas.{outcome_decided}
 use Rattle.luks_unlock.specs.Volume.{OpeningMessage}
 use Rattle.luks_c.proofs.StoredLemmas.{no_read}
 use Rattle.luks_c.specs.Stored.{code_for}
-use Rattle.luks_c.proofs.luksrd_open.Goals as goal
+use Rattle.luks_c.proofs.opening.open_volume.Goals as goal
 
 -- the code of a refusal is not that of success
 some_code : (m : Message) → OpeningMessage m → code_for m ≢ 0

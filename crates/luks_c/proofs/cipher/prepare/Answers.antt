@@ -5,7 +5,7 @@ use Rattle.luks_verdict.specs.declared.segment.Segment.{Segment}
 use Rattle.luks_c.specs.Stored.{key_in, segment_in}
 use Rattle.luks_c.specs.declared.volume.LuksrdVolume.{LuksrdVolume}
 use Rattle.luks_c.proofs.StoredLemmas.{filled_code}
-use Rattle.luks_c.proofs.luksrd_prepare.Goals as goal
+use Rattle.luks_c.proofs.cipher.prepare.Goals as goal
 
 pub returns-clause-prepared : goal.returns-clause-prepared
 returns-clause-prepared c done = record {

@@ -12,7 +12,7 @@ use Rattle.luks_c.specs.Stored.{BeginsAs, code_for, limit_in, location_in}
 use Rattle.luks_c.specs.declared.options.LuksrdOptions.{LuksrdOptions}
 use Rattle.luks_runs.specs.Location.{reader_for}
 use Rattle.luks_runs.specs.declared.location.HeaderLocation.{HeaderLocation}
-use Rattle.luks_c.proofs.luksrd_check_key.Goals as goal
+use Rattle.luks_c.proofs.opening.compare_key.Goals as goal
 
 -- the code of a comparison is one, and that of a refusal is none
 compared_code : (check : KeyCheck) → is_compared (check_code check) ≡ true

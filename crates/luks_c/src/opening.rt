@@ -1,0 +1,83 @@
+//! Opening a volume by a passphrase, and comparing a volume key with a header. Nothing here is
+//! inlined in the functions for C, which write over the stack that this uses.
+
+ghost use Rattle.std.specs.Prelude.{◌≡◌, ◌≢◌, false, true};
+ghost use Rattle.luks_c.specs.Keys.{ComparesKey, RefusesKey, are_bad_for_a_key, is_compared};
+ghost use Rattle.luks_c.specs.Stored.{IsCleared, Opened, Refused, StoresCode, are_bad};
+
+use crate::code::{BAD_OPTIONS, OK, answer_code, code_of, code_of_check};
+use crate::message::LuksrdMessage;
+use crate::options::{LuksrdOptions, header_in, options_in};
+use crate::volume::LuksrdVolume;
+use luks_access::Message;
+use luks_access::key::check_key_from;
+use luks_access::volume::Volume;
+use luks_io::memory::MemSource;
+use std::alloc::Global;
+
+/// Opens a volume by a passphrase. If the code is not 0, the struct of the volume is all zero.
+#[inline(never)]
+pub(crate) fn open_volume(
+    alloc: Global,
+    header: &[u8],
+    passphrase: &[u8],
+    options: &LuksrdOptions,
+    volume: &mut LuksrdVolume,
+    message: &mut LuksrdMessage,
+) -> u32
+    ensures opens { result ≡ 0
+        → Opened options.now header.now passphrase.now volume.new message.new }
+    ensures refuses { result ≢ 0 → result ≢ 15
+        → Refused options.now header.now passphrase.now result message.new }
+    ensures cleared { result ≢ 0 → IsCleared volume.new }
+    ensures bad { are_bad options.now ≡ true
+        → (result ≡ 15) × StoresCode message.new 15 }
+    ensures bad_options { result ≡ 15 → are_bad options.now ≡ true }
+{
+    let Some(options) = options_in(options) else {
+        volume.clear();
+        return answer_code(BAD_OPTIONS, message);
+    };
+    match Volume::open_from(alloc, &options, &mut MemSource::new(header), passphrase) {
+        Ok(opened) => {
+            volume.store(&opened);
+            message.set(&Message::Done);
+            OK
+        }
+        Err(refusal) => {
+            volume.clear();
+            message.set(&refusal);
+            code_of(&refusal)
+        }
+    }
+}
+
+/// Compares a volume key with the digest in a header.
+#[inline(never)]
+pub(crate) fn compare_key(
+    alloc: Global,
+    header: &[u8],
+    key: &[u8],
+    options: &LuksrdOptions,
+    message: &mut LuksrdMessage,
+) -> u32
+    ensures compares { is_compared result ≡ true
+        → ComparesKey options.now header.now key.now result message.new }
+    ensures refuses { is_compared result ≡ false → result ≢ 15
+        → RefusesKey options.now header.now key.now result message.new }
+    ensures bad { are_bad_for_a_key options.now ≡ true
+        → (result ≡ 15) × StoresCode message.new 15 }
+    ensures bad_options { result ≡ 15 → are_bad_for_a_key options.now ≡ true }
+{
+    let Some((location, max_iterations)) = header_in(options) else {
+        return answer_code(BAD_OPTIONS, message);
+    };
+    let source = &mut MemSource::new(header);
+    match check_key_from(alloc, location, max_iterations, source, key) {
+        Ok(check) => answer_code(code_of_check(check), message),
+        Err(fault) => {
+            message.set(&fault);
+            code_of(&fault)
+        }
+    }
+}
