@@ -99,10 +99,10 @@ fn push_slot1(
 fn push_slot2(alloc: Global, fields: &mut Object, slot: &Value) -> Result<(), AllocError>
     ensures { OnOk result (fields.new ≡ with_slot2 (data_of slot.now) fields.old) }
 {
-    luks2::slot::push_derivation(alloc, fields, slot)?;
-    luks2::slot::push_cost(alloc, fields, slot)?;
-    luks2::slot::push_stripes(alloc, fields, slot)?;
-    luks2::slot::push_area(alloc, fields, slot)
+    luks2::push_derivation(alloc, fields, slot)?;
+    luks2::push_cost(alloc, fields, slot)?;
+    luks2::push_stripes(alloc, fields, slot)?;
+    luks2::push_area(alloc, fields, slot)
 }
 
 // Adds the stored members of the slot of this number, if the header has it.
@@ -197,7 +197,7 @@ fn digest2_tree(alloc: Global, number: u8, digest: &Value) -> Result<Tree, Alloc
     ensures { IfOk result (λ tree. tree ≡ digest2_value number (data_of digest.now)) }
 {
     let mut fields = numbered(alloc, number)?;
-    luks2::digest::push_digest(alloc, &mut fields, digest)?;
+    luks2::push_digest(alloc, &mut fields, digest)?;
     Ok(fields.into_tree())
 }
 
@@ -207,7 +207,7 @@ fn token_tree(alloc: Global, number: u8, token: &Value) -> Result<Tree, AllocErr
     ensures { IfOk result (λ tree. tree ≡ token_value number (data_of token.now)) }
 {
     let mut fields = numbered(alloc, number)?;
-    luks2::digest::push_token(alloc, &mut fields, token)?;
+    luks2::push_token(alloc, &mut fields, token)?;
     Ok(fields.into_tree())
 }
 
@@ -296,10 +296,10 @@ fn push_volume(alloc: Global, fields: &mut Object, header: &Header) -> Result<()
             luks1::push_segment(alloc, fields, header)
         }
         Header::V2(binary, metadata) => {
-            luks2::binary::push_volume(alloc, fields, binary)?;
-            luks2::binary::push_binary(alloc, fields, binary)?;
-            luks2::payload::push_encryption(alloc, fields, metadata.tree())?;
-            luks2::payload::push_segment(alloc, fields, metadata.tree())
+            luks2::push_volume(alloc, fields, binary)?;
+            luks2::push_binary(alloc, fields, binary)?;
+            luks2::push_encryption(alloc, fields, metadata.tree())?;
+            luks2::push_segment(alloc, fields, metadata.tree())
         }
     }
 }
