@@ -11,7 +11,7 @@ use Rattle.luks_area.specs.declared.fault.HeaderFault.{HeaderFault}
 use Rattle.luks_header.specs.Header.{header_of}
 use Rattle.luks_header.specs.declared.header.Header.{Header}
 use Rattle.luks_search.specs.Magic.{begins_magic}
-use Rattle.luks_search.specs.Places.{found_in, header_at, max_sectors, place_if, places_below, places_of, sectors_in}
+use Rattle.luks_search.specs.Places.{found_in, header_at, max_searched_sectors, place_if, places_below, places_of, sectors_in}
 use Rattle.luks_search.specs.Search.{IsIn, IsNear, SearchModel}
 use Rattle.luks_search.proofs.HorizonLemmas.{header_by_start}
 use Rattle.luks_search.proofs.MagicLemmas.{nothing_none, quiet_at, quiet_none}
@@ -45,24 +45,24 @@ past_end image n few =
     ∙ nothing_none))
 
 -- a search that has come to the image's end has found all its places
-pub places_end : (image : List ℕ) (n : ℕ) → n ≤ max_sectors → length image ≤ 512 * n
+pub places_end : (image : List ℕ) (n : ℕ) → n ≤ max_searched_sectors → length image ≤ 512 * n
     → places_of image ≡ places_below image n
 places_end image n bound end =
     let few : sectors_in image ≤ n = omega (arith, end) in
-    let all : min (sectors_in image) max_sectors ≡ sectors_in image = omega (arith, few, bound) in
+    let all : min (sectors_in image) max_searched_sectors ≡ sectors_in image = omega (arith, few, bound) in
     ap (places_below image) all ∙ past_end image n few
 
 -- so has one that has tried all sectors that are searched, however long the image is
-pub behind_all : (image : List ℕ) → places_of image ≡ places_below image max_sectors
-behind_all image = by (nat_le (sectors_in image) max_sectors) refl where
-  by : (b : Bool) → nat_le (sectors_in image) max_sectors ≡ b → places_of image ≡ places_below image max_sectors
+pub behind_all : (image : List ℕ) → places_of image ≡ places_below image max_searched_sectors
+behind_all image = by (nat_le (sectors_in image) max_searched_sectors) refl where
+  by : (b : Bool) → nat_le (sectors_in image) max_searched_sectors ≡ b → places_of image ≡ places_below image max_searched_sectors
   by true e =
-      let few = leb-true (sectors_in image) max_sectors e in
-      let all : min (sectors_in image) max_sectors ≡ sectors_in image = omega (arith, few) in
-      ap (places_below image) all ∙ past_end image max_sectors few
+      let few = leb-true (sectors_in image) max_searched_sectors e in
+      let all : min (sectors_in image) max_searched_sectors ≡ sectors_in image = omega (arith, few) in
+      ap (places_below image) all ∙ past_end image max_searched_sectors few
   by false e =
-      let many = leb-false (sectors_in image) max_sectors e in
-      let all : min (sectors_in image) max_sectors ≡ max_sectors = omega (arith, many) in
+      let many = leb-false (sectors_in image) max_searched_sectors e in
+      let all : min (sectors_in image) max_searched_sectors ≡ max_searched_sectors = omega (arith, many) in
       ap (places_below image) all
 
 found_ok : (read : Result Header HeaderFault) (header : Header) → found_in read ≡ Some header → read ≡ Ok header
@@ -157,7 +157,7 @@ module _ (image : List ℕ) (search : SearchModel) (left : Option (List ℕ)) (i
           (omega (arith, far, below), inr (omega (arith, far, below)))
 
   -- there are no further bytes
-  pub nothing_left : search.sector ≤ max_sectors → search.bytes ≡ [] → search.ended ≡ true
+  pub nothing_left : search.sector ≤ max_searched_sectors → search.bytes ≡ [] → search.ended ≡ true
       → places_of image ≡ places_below image search.sector
   nothing_left bound none ended = places_end image search.sector bound (by_length (ap length all)) where
     all : drop (512 * search.sector) image ≡ []
@@ -185,7 +185,7 @@ nil_of (byte ∷ bytes) none = absurd (omega (arith, none))
 
 -- no bytes are loaded, although the next sector could be tried
 pub none_left : (image : List ℕ) (search : SearchModel) (left : Option (List ℕ)) → IsIn image search left
-    → search.sector ≤ max_sectors → (search.ended ≡ true) ⊎ (8388608 ≤ length search.bytes)
+    → search.sector ≤ max_searched_sectors → (search.ended ≡ true) ⊎ (8388608 ≤ length search.bytes)
     → length search.bytes ≡ 0 → places_of image ≡ places_below image search.sector
 none_left image search left is bound (inl ended) none =
     nothing_left image search left is bound (nil_of search.bytes none) ended

@@ -30,9 +30,9 @@ abbrev pub sectors_in : List ℕ → ℕ
 sectors_in image = (length image + 511) / 512
 
 -- how many sectors are searched at most: those of 2^63 bytes. No file is longer
-abbrev pub max_sectors : ℕ
-max_sectors = 2 ^ 54
+abbrev pub max_searched_sectors : ℕ
+max_searched_sectors = 2 ^ 54
 
 -- the places of an image in its first 2^63 bytes, ascending: however long it is, it is searched so far
 abbrev pub places_of : List ℕ → List ℕ
-places_of image = places_below image (min (sectors_in image) max_sectors)
+places_of image = places_below image (min (sectors_in image) max_searched_sectors)
