@@ -55,7 +55,8 @@ places_end image n bound end =
 -- so has one that has tried all sectors that are searched, however long the image is
 pub behind_all : (image : List ℕ) → places_of image ≡ places_below image max_searched_sectors
 behind_all image = by (nat_le (sectors_in image) max_searched_sectors) refl where
-  by : (b : Bool) → nat_le (sectors_in image) max_searched_sectors ≡ b → places_of image ≡ places_below image max_searched_sectors
+  by : (b : Bool) → nat_le (sectors_in image) max_searched_sectors ≡ b
+      → places_of image ≡ places_below image max_searched_sectors
   by true e =
       let few = leb-true (sectors_in image) max_searched_sectors e in
       let all : min (sectors_in image) max_searched_sectors ≡ sectors_in image = omega (arith, few) in
