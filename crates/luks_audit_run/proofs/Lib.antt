@@ -1,3 +1,7 @@
-pub mod ImageLemmas
+pub mod FileLemmas
+pub mod ResultLemmas
 pub mod RunLemmas
+pub mod SearchLemmas
 pub mod SearchedLemmas
+pub mod StartLemmas
+pub mod TextLemmas

@@ -1,8 +1,7 @@
 -- Runs over the first images, and one more.
-use Rattle.std.proofs.Common.{◌≡◌, ◌∙◌, ℕ, ◌+◌, List, [], ◌∷◌, ◌++◌, Option, Result, Ok, Err, refl, sym, ap}
+use Rattle.std.proofs.Common.{◌≡◌, ◌∙◌, ℕ, ◌+◌, List, [], ◌∷◌, ◌++◌, Option, refl, sym, ap}
 use Rattle.std.proofs.Common.{append_assoc, drop, subst, take}
 use Rattle.std.proofs.lemmas.List.{append-nil, take-append-drop}
-use Rattle.std.specs.Prelude.{OnErr}
 use Rattle.luks_io.proofs.EffectLemmas.{appended-more}
 use Rattle.luks_io.specs.Devices.{Appended, counted}
 use Rattle.luks_audit.specs.Line.{head_of}
@@ -159,10 +158,6 @@ module _ (policy : Policy) (scope : Scope) (stored : List ℕ → Stored) where
   }
 
 -- ---- what is known stays known
-
-pub on_err : {T E : Type 0} (P : Type 0) (result : Result T E) → P → OnErr result P
-on_err P (Ok _) holds = tt
-on_err P (Err _) holds = holds
 
 pub moved_file : (policy : Policy) (scope : Scope) (now stored : List ℕ → Stored) (file : List ℕ)
     (failures failures' : ℕ) (before after : Option (List ℕ)) (state : State) → now ≡ stored

@@ -1,6 +1,5 @@
 -- What a run writes, and how it ends.
-use Rattle.std.specs.Prelude.{◌≡◌, ◌<◌, ℕ, ◌++◌, Bool, true, false, List, [], ◌∷◌, Option, Result, Err, codes}
-use Rattle.std.specs.Prelude.{length, take}
+use Rattle.std.specs.Prelude.{◌≡◌, ℕ, ◌++◌, Bool, true, false, List, [], ◌∷◌, Option, Result, Err, codes, take}
 use Rattle.luks_area.specs.Area.{is_read_fault}
 use Rattle.luks_area.specs.declared.fault.HeaderFault.{HeaderFault}
 use Rattle.luks_area.specs.declared.fault.HeaderFault.TheVariants.{Read, Memory}
@@ -8,7 +7,7 @@ use Rattle.luks_header.specs.Header.{header_of}
 use Rattle.luks_header.specs.declared.header.Header.{Header}
 use Rattle.luks_io.specs.Devices.{Appended, IfKnown, counted}
 use Rattle.luks_search.specs.Places.{places_below}
-use Rattle.luks_search.specs.Search.{IsNear, max_image_len}
+use Rattle.luks_search.specs.Search.{IsNear}
 use Rattle.luks_audit.specs.Image.{IsSomeHeader, fault_line, line_by, state_by}
 use Rattle.luks_audit.specs.Line.{error_value, head_of, line_text}
 use Rattle.luks_audit.specs.declared.image.Policy.{Policy}
@@ -82,12 +81,7 @@ is_failed (found header) = is_read_fault header
 is_failed (untold failed text state) = failed
 is_failed _ = false
 
--- what a search writes of an image is not known if the image is longer than any file, as it does not reach the end of
--- that, or if nobody knows its bytes
-abbrev pub IsTooLong : Scope → List ℕ → Type 0
-IsTooLong Start bytes = ⊥
-IsTooLong Everywhere bytes = max_image_len < length bytes
-
+-- what a search writes of an image is not known if nobody knows its bytes
 abbrev pub IsSearched : Scope → Type 0
 IsSearched Start = ⊥
 IsSearched Everywhere = Unit {0}
@@ -96,7 +90,7 @@ IsSearched Everywhere = Unit {0}
 abbrev pub IsPossible : Scope → Stored → Course → Type 0
 IsPossible scope (image bytes) not_opened = ⊥
 IsPossible scope (image bytes) (found header) = ⊥
-IsPossible scope (image bytes) (untold failed text state) = IsTooLong scope bytes
+IsPossible scope (image bytes) (untold failed text state) = ⊥
 IsPossible scope (image bytes) _ = Unit {0}
 IsPossible scope absent not_opened = Unit {0}
 IsPossible scope absent _ = ⊥

@@ -3,16 +3,16 @@ use Rattle.std.proofs.Common.{◌≡◌, ◌∙◌, ℕ, zero, suc, ◌+◌, ◌
 use Rattle.std.proofs.Common.{Option, Some, None, refl, length, take, drop, arith, Result, Ok, Err, add-one, length-drop}
 use Rattle.std.proofs.Common.{◌⊎◌, inl, inr, min, append_assoc}
 use Rattle.std.proofs.lemmas.List.{append-nil, drop-append-le, drop-drop, drop_all, take-append-drop}
-use Rattle.std.proofs.lemmas.Bool.{ltb-true}
+use Rattle.std.proofs.lemmas.Bool.{leb-false, leb-true, ltb-true}
 use Rattle.std.proofs.Math.Seq.{take-add}
-use Rattle.std.specs.Prelude.{OnErr, nat_lt}
+use Rattle.std.specs.Prelude.{OnErr, nat_le, nat_lt}
 use Rattle.luks_io.specs.Devices.{ConsumedInto}
 use Rattle.luks_area.specs.declared.fault.HeaderFault.{HeaderFault}
 use Rattle.luks_header.specs.Header.{header_of}
 use Rattle.luks_header.specs.declared.header.Header.{Header}
 use Rattle.luks_search.specs.Magic.{begins_magic}
-use Rattle.luks_search.specs.Places.{found_in, header_at, place_if, places_below, places_of, sectors_in}
-use Rattle.luks_search.specs.Search.{IsIn, IsNear, SearchModel, max_image_len}
+use Rattle.luks_search.specs.Places.{found_in, header_at, max_searched_sectors, place_if, places_below, places_of, sectors_in}
+use Rattle.luks_search.specs.Search.{IsIn, IsNear, SearchModel}
 use Rattle.luks_search.proofs.HorizonLemmas.{header_by_start}
 use Rattle.luks_search.proofs.MagicLemmas.{nothing_none, quiet_at, quiet_none}
 
@@ -36,13 +36,35 @@ places_none image n (suc count) none =
     ∙ append-nil (places_below image (n + count)) ∙ before
 
 -- no place is after the image's end
-pub places_end : (image : List ℕ) (n : ℕ) → length image ≤ 512 * n → places_of image ≡ places_below image n
-places_end image n end =
-    let few : sectors_in image ≤ n = omega (arith, end) in
+past_end : (image : List ℕ) (n : ℕ) → sectors_in image ≤ n
+    → places_below image (sectors_in image) ≡ places_below image n
+past_end image n few =
     let all : sectors_in image + (n - sectors_in image) ≡ n = omega (arith, few) in
     sym (ap (places_below image) (sym all) ∙ places_none image (sectors_in image) (n - sectors_in image) (λ j below.
     ap (λ bytes. found_in (header_of bytes)) (drop_all (512 * (sectors_in image + j)) image (omega arith))
     ∙ nothing_none))
+
+-- a search that has come to the image's end has found all its places
+pub places_end : (image : List ℕ) (n : ℕ) → n ≤ max_searched_sectors → length image ≤ 512 * n
+    → places_of image ≡ places_below image n
+places_end image n bound end =
+    let few : sectors_in image ≤ n = omega (arith, end) in
+    let all : min (sectors_in image) max_searched_sectors ≡ sectors_in image = omega (arith, few, bound) in
+    ap (places_below image) all ∙ past_end image n few
+
+-- so has one that has tried all sectors that are searched, however long the image is
+pub behind_all : (image : List ℕ) → places_of image ≡ places_below image max_searched_sectors
+behind_all image = by (nat_le (sectors_in image) max_searched_sectors) refl where
+  by : (b : Bool) → nat_le (sectors_in image) max_searched_sectors ≡ b
+      → places_of image ≡ places_below image max_searched_sectors
+  by true e =
+      let few = leb-true (sectors_in image) max_searched_sectors e in
+      let all : min (sectors_in image) max_searched_sectors ≡ sectors_in image = omega (arith, few) in
+      ap (places_below image) all ∙ past_end image max_searched_sectors few
+  by false e =
+      let many = leb-false (sectors_in image) max_searched_sectors e in
+      let all : min (sectors_in image) max_searched_sectors ≡ max_searched_sectors = omega (arith, many) in
+      ap (places_below image) all
 
 found_ok : (read : Result Header HeaderFault) (header : Header) → found_in read ≡ Some header → read ≡ Ok header
 found_ok (Ok found) header e = (let same : found ≡ header = cc in ap Ok same)
@@ -136,8 +158,9 @@ module _ (image : List ℕ) (search : SearchModel) (left : Option (List ℕ)) (i
           (omega (arith, far, below), inr (omega (arith, far, below)))
 
   -- there are no further bytes
-  pub nothing_left : search.bytes ≡ [] → search.ended ≡ true → places_of image ≡ places_below image search.sector
-  nothing_left none ended = places_end image search.sector (by_length (ap length all)) where
+  pub nothing_left : search.sector ≤ max_searched_sectors → search.bytes ≡ [] → search.ended ≡ true
+      → places_of image ≡ places_below image search.sector
+  nothing_left bound none ended = places_end image search.sector bound (by_length (ap length all)) where
     all : drop (512 * search.sector) image ≡ []
     all = is.here ∙ ap (λ bytes. bytes ++ is.rest) none ∙ is.ends ended
 
@@ -163,10 +186,11 @@ nil_of (byte ∷ bytes) none = absurd (omega (arith, none))
 
 -- no bytes are loaded, although the next sector could be tried
 pub none_left : (image : List ℕ) (search : SearchModel) (left : Option (List ℕ)) → IsIn image search left
-    → (search.ended ≡ true) ⊎ (8388608 ≤ length search.bytes) → length search.bytes ≡ 0
-    → places_of image ≡ places_below image search.sector
-none_left image search left is (inl ended) none = nothing_left image search left is (nil_of search.bytes none) ended
-none_left image search left is (inr long) none = absurd (omega (arith, long, none))
+    → search.sector ≤ max_searched_sectors → (search.ended ≡ true) ⊎ (8388608 ≤ length search.bytes)
+    → length search.bytes ≡ 0 → places_of image ≡ places_below image search.sector
+none_left image search left is bound (inl ended) none =
+    nothing_left image search left is bound (nil_of search.bytes none) ended
+none_left image search left is bound (inr long) none = absurd (omega (arith, long, none))
 
 -- the next sector was tried
 module _ (image : List ℕ) (search : SearchModel) (left : Option (List ℕ)) (is : IsIn image search left)
@@ -223,11 +247,6 @@ loaded_in image bytes buffer known left sector kept count here front consumed al
   loaded =
       take-add kept count buffer ∙ ap (λ start. start ++ take count (drop kept buffer)) front
       ∙ ap (λ more. bytes ++ more) consumed.1
-
--- a search that is behind the longest image has found all its places
-pub behind_all : (image : List ℕ) (n : ℕ) → length image ≤ max_image_len → 18014398509481984 ≤ n
-    → places_of image ≡ places_below image n
-behind_all image n short far = places_end image n (omega (arith, short, far))
 
 -- what is behind the loaded bytes
 behind_bytes : (image bytes rest : List ℕ) (start : ℕ) → drop start image ≡ bytes ++ rest

@@ -1,7 +1,7 @@
 -- At which places of an image headers are: the multiples of 512 bytes at which the rest of the image has a header. So
 -- the place of a volume whose primary header is wiped is where that was, as its secondary header is found from there.
-use Rattle.std.specs.Prelude.{ℕ, zero, suc, ◌+◌, ◌*◌, ◌/◌, ◌++◌, List, [], ◌∷◌, Option, Some, None, Result, Ok, Err, drop}
-use Rattle.std.specs.Prelude.{length}
+use Rattle.std.specs.Prelude.{ℕ, zero, suc, ◌+◌, ◌*◌, ◌/◌, ◌^◌, ◌++◌, List, [], ◌∷◌, Option, Some, None, Result, Ok, Err, drop}
+use Rattle.std.specs.Prelude.{length, min}
 use Rattle.luks_area.specs.declared.fault.HeaderFault.{HeaderFault}
 use Rattle.luks_header.specs.Header.{header_of}
 use Rattle.luks_header.specs.declared.header.Header.{Header}
@@ -29,6 +29,10 @@ places_below image (suc n) = places_below image n ++ place_if (512 * n) (found_i
 abbrev pub sectors_in : List ℕ → ℕ
 sectors_in image = (length image + 511) / 512
 
--- the places of an image, ascending
+-- how many sectors are searched at most: those of 2^63 bytes. No file is longer
+abbrev pub max_searched_sectors : ℕ
+max_searched_sectors = 2 ^ 54
+
+-- the places of an image in its first 2^63 bytes, ascending: however long it is, it is searched so far
 abbrev pub places_of : List ℕ → List ℕ
-places_of image = places_below image (sectors_in image)
+places_of image = places_below image (min (sectors_in image) max_searched_sectors)

@@ -1,5 +1,5 @@
 -- A search for headers in an image that is read once, from its start to its end.
-use Rattle.std.specs.Prelude.{◌≡◌, ◌≤◌, ◌+◌, ◌^◌, ◌*◌, ◌++◌, ℕ, Bool, true, false, List, [], ◌∷◌, Option, Some, None, Result}
+use Rattle.std.specs.Prelude.{◌≡◌, ◌≤◌, ◌+◌, ◌*◌, ◌++◌, ℕ, Bool, true, false, List, [], ◌∷◌, Option, Some, None, Result}
 use Rattle.std.specs.Prelude.{Ok, Err, drop}
 use Rattle.luks_search.specs.Places.{header_at, places_below, places_of}
 use Rattle.luks_search.specs.declared.place.SearchFault.{SearchFault}
@@ -17,10 +17,6 @@ pub record SearchModel : Type 0 where
 -- the bytes of both headers of the largest length: no more are read to learn which header there is
 abbrev pub horizon : ℕ
 horizon = 8388608
-
--- longer images are not searched to their end: no file is so long
-abbrev pub max_image_len : ℕ
-max_image_len = 2 ^ 63
 
 -- the search is at its sector of this image: the loaded bytes are there, and those after them remain in the source
 pub record IsIn (image : List ℕ) (search : SearchModel) (left : Option (List ℕ)) : Type 0 where

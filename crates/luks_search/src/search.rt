@@ -4,7 +4,7 @@ ghost use Rattle.std.specs.Prelude.{◌≡◌, ◌⊎◌, ◌+◌, ◌*◌, ◌<
 ghost use Rattle.std.specs.Prelude.{IfOk, IfSome, OnErr, OnOk, drop, false, length, true};
 ghost use Rattle.luks_io.specs.Devices.{counted};
 ghost use Rattle.luks_search.specs.Search.{FindsNext, FindsNone, IsEnd, IsIn, IsNear, StepsOn};
-ghost use Rattle.luks_search.specs.Search.{reports_failed_read, max_image_len};
+ghost use Rattle.luks_search.specs.Search.{reports_failed_read};
 
 use crate::buffer::{fill_after, move_to_front};
 use crate::magic::{SECTOR_LEN, is_quiet};
@@ -19,7 +19,7 @@ const CAPACITY: usize = 33_554_432;
 /// The bytes of both headers of the largest length.
 const HORIZON: usize = 8_388_608;
 
-/// The sectors of the longest images that are searched to their end: those of 2^63 bytes.
+/// The sectors of an image that are searched at most: those of 2^63 bytes.
 const MAX_SECTORS: u64 = 18_014_398_509_481_984;
 
 /// A search for headers in an image that is read once, from its start to its end. A clause sees the
@@ -47,7 +47,7 @@ impl Model for Search {
         } };
 
     ghost invariant = { λ s. (vec_len s.buffer ≡ 33554432) × (s.start ≤ s.end) × (s.end ≤ 33554432)
-        × (s.sector ≤ 18014398509547520) };
+        × (s.sector ≤ 18014398509481984) };
 }
 
 impl Search {
@@ -80,7 +80,7 @@ impl Search {
     // Leaves this many sectors behind.
     fn advance(&mut self, count: usize)
         requires few { count ≤ 65536 }
-        requires more { self.old.sector < 18014398509481984 }
+        requires more { self.old.sector + count ≤ 18014398509481984 }
         ensures { self.new ≡ record {
           sector = self.old.sector + count;
           bytes = drop (512 * count) self.old.bytes;
@@ -134,12 +134,33 @@ impl Search {
         (len - HORIZON) / SECTOR_LEN + 1
     }
 
+    // How many of the next sectors can be left behind: those that can be tried, up to the last one
+    // that is searched.
+    fn skippable(&self) -> usize
+        requires few { length self.now.bytes ≤ 33554432 }
+        requires more { self.now.sector < 18014398509481984 }
+        ensures most { result ≤ 65536 }
+        ensures within { self.now.sector + result ≤ 18014398509481984 }
+        ensures ended { self.now.ended ≡ true → 512 * result ≤ length self.now.bytes + 511 }
+        ensures loaded { self.now.ended ≡ false → 0 < result
+            → 512 * result + 8388096 ≤ length self.now.bytes }
+        ensures some { 0 < length self.now.bytes
+            → (self.now.ended ≡ true) ⊎ (8388608 ≤ length self.now.bytes) → 0 < result }
+    {
+        let left = MAX_SECTORS - self.sector;
+        let count = self.decidable();
+        if left < count as u64 {
+            return left as usize;
+        }
+        count
+    }
+
     // Loads further bytes. If there are no magic bytes among those that are loaded then, leaves the
     // sectors behind that can be tried, and returns how many.
     fn load_and_skip<S: Source>(&mut self, source: &mut S) -> Result<usize, SearchFault>
         requires { self.old.sector < 18014398509481984 }
         ensures sector { IfOk result (λ count. self.new.sector ≡ self.old.sector + count) }
-        ensures most { IfOk result (λ count. count ≤ 65536) }
+        ensures within { OnOk result (self.new.sector ≤ 18014398509481984) }
         ensures enough { IfOk result (λ count. count ≡ 0 →
             (self.new.ended ≡ true) ⊎ (8388608 ≤ length self.new.bytes)) }
         ensures held { (image : List ℕ) → IsIn image self.old (S.to_come source.old)
@@ -155,7 +176,7 @@ impl Search {
         if !is_quiet(self.bytes()) {
             return Ok(0);
         }
-        let count = self.decidable();
+        let count = self.skippable();
         self.advance(count);
         Ok(count)
     }
@@ -165,7 +186,7 @@ impl Search {
     fn load_if_needed<S: Source>(&mut self, source: &mut S) -> Result<usize, SearchFault>
         requires { self.old.sector < 18014398509481984 }
         ensures sector { IfOk result (λ count. self.new.sector ≡ self.old.sector + count) }
-        ensures most { IfOk result (λ count. count ≤ 65536) }
+        ensures within { OnOk result (self.new.sector ≤ 18014398509481984) }
         ensures enough { IfOk result (λ count. count ≡ 0 →
             (self.new.ended ≡ true) ⊎ (8388608 ≤ length self.new.bytes)) }
         ensures held { (image : List ℕ) → IsIn image self.old (S.to_come source.old)
@@ -229,7 +250,7 @@ impl Search {
     fn step<S: Source>(&mut self, alloc: Global, source: &mut S) -> Result<Step, SearchFault>
         requires { self.old.sector < 18014398509481984 }
         ensures on { IfOk result (λ step. IsEnd step ⊎ (self.old.sector < self.new.sector)) }
-        ensures range { OnOk result (self.new.sector ≤ 18014398509547520) }
+        ensures range { OnOk result (self.new.sector ≤ 18014398509481984) }
         ensures held { (image : List ℕ) → IsIn image self.old (S.to_come source.old)
             → OnOk result (IsIn image self.new (S.to_come source.new))
             × StepsOn image self.old.sector self.new.sector result }
@@ -251,8 +272,8 @@ impl Search {
     /// where the one before ended.
     ///
     /// A call reads 24 MiB of the source at a time, and never a byte twice. It reads no further
-    /// than it has to for the last place, up to the next 32 MiB. An image of more than 2^63 bytes
-    /// is not searched to its end; no file is so long.
+    /// than it has to for the last place, up to the next 32 MiB. An image of any length is searched
+    /// up to its first 2^63 bytes; no file is longer.
     ///
     /// # Errors
     ///
@@ -263,18 +284,17 @@ impl Search {
         alloc: Global,
         source: &mut S,
     ) -> Result<Option<Place>, SearchFault>
-        ensures found { (image : List ℕ) → length image ≤ max_image_len
-            → IsIn image self.old (S.to_come source.old)
+        ensures found { (image : List ℕ) → IsIn image self.old (S.to_come source.old)
             → OnOk result (IsIn image self.new (S.to_come source.new))
             × FindsNext image self.old.sector self.new.sector result }
         ensures behind { (image : List ℕ) → IsIn image self.old (S.to_come source.old)
             → OnErr result (IsNear image self.new.sector (S.to_come source.new)) }
         ensures on { IfOk result (λ found. IfSome found (λ _. self.old.sector < self.new.sector)) }
-        ensures range { self.new.sector ≤ 18014398509547520 }
+        ensures range { self.new.sector ≤ 18014398509481984 }
         ensures failures { (S.counts source.new).failures
             ≡ counted (reports_failed_read result) (S.counts source.old).failures }
     {
-        prove!(self.sector <= MAX_SECTORS + 65_536);
+        prove!(self.sector <= MAX_SECTORS);
         while self.sector < MAX_SECTORS {
             match self.step(alloc, source)? {
                 Step::End => return Ok(None),

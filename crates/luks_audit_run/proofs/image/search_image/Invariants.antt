@@ -1,5 +1,5 @@
 use Rattle.std.proofs.Common.{◌≡◌, ◌-◌}
-use Rattle.luks_audit_run.proofs.ImageLemmas.{Searches}
+use Rattle.luks_audit_run.proofs.SearchLemmas.{Searches}
 use Rattle.luks_audit_run.proofs.image.search_image.Given as goal
 
 -- what was written so far, and that no read and no write has failed
@@ -12,4 +12,4 @@ invariant-loop-place g l = record {
 }
 
 abbrev pub decreases-loop-place : goal.decreases-loop-place
-decreases-loop-place g l = 18014398509547521 - l.search.sector
+decreases-loop-place g l = 18014398509481985 - l.search.sector

@@ -1,4 +1,5 @@
-use Rattle.luks_audit_run.proofs.ImageLemmas.{file_opened, file_opened_part, file_unopened, file_unopened_part, if_ok, when_err}
+use Rattle.luks_audit_run.proofs.FileLemmas.{file_opened, file_opened_part, file_unopened, file_unopened_part}
+use Rattle.luks_audit_run.proofs.ResultLemmas.{if_ok, when_err}
 use Rattle.luks_audit_run.proofs.run.audit_file.Goals as goal
 
 pub returns-in-Ok-clause-ok : goal.returns-in-Ok-clause-ok

@@ -2,7 +2,8 @@ use Rattle.std.proofs.Common.{◌≡◌, ◌∙◌, ◌+◌, ℕ, List, ap, arit
 use Rattle.std.proofs.Common.{take}
 use Rattle.std.proofs.lemmas.List.{map_more, take-map}
 use Rattle.std.proofs.Math.Seq.{take-length}
-use Rattle.luks_audit_run.proofs.RunLemmas.{moved_file, moved_part, on_err, partly_more, partly_none, runs_more, runs_none}
+use Rattle.luks_audit_run.proofs.RunLemmas.{moved_file, moved_part, partly_more, partly_none, runs_more, runs_none}
+use Rattle.luks_audit_run.proofs.ResultLemmas.{on_err}
 use Rattle.luks_audit_run.specs.Run.{Runs, RunsPartly}
 use Rattle.luks_audit_run.proofs.run.write_all.Goals as goal
 

@@ -9,14 +9,14 @@ pub returns-clause-held : goal.returns-clause-held
 returns-clause-held g c image is =
     let search = c.load.new.self in
     let loaded = c.in_ok-load.ensures.held image is in
-    let count = c.decidable-count.result in
+    let count = c.skippable-count.result in
     let quiet = c.is_quiet.ensures c.if-not-is_quiet.false in (
       subst (λ (s : SearchModel). IsIn image s (g.S.Source.to_come c.load.new.source)) (sym c.advance.ensures)
           (advanced_in image search _ loaded count
-          (skips search count c.decidable-count.ensures.ended c.decidable-count.ensures.loaded)),
+          (skips search count c.skippable-count.ensures.ended c.skippable-count.ensures.loaded)),
       ap (λ (s : SearchModel). places_below image s.sector) c.advance.ensures
           ∙ skipped_none image search _ loaded count
           (λ k. ap (λ bytes. begins_magic (drop (512 * k) bytes)) (sym c.bytes.ensures.value) ∙ quiet k)
-          c.decidable-count.ensures.ended c.decidable-count.ensures.loaded
+          c.skippable-count.ensures.ended c.skippable-count.ensures.loaded
           ∙ ap (places_below image) c.in_ok-load.ensures.sector,
     )

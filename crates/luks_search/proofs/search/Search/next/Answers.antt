@@ -1,10 +1,11 @@
-use Rattle.std.proofs.Common.{◌∙◌, ◌++◌, ◌∷◌, [], List, ℕ, ap, arith, inl, inr}
+use Rattle.std.proofs.Common.{◌≡◌, ◌∙◌, ◌++◌, ◌∷◌, [], List, ℕ, ap, arith, inl, inr}
 use Rattle.luks_search.proofs.PlaceLemmas.{behind_all, on_fault}
+use Rattle.luks_search.specs.Places.{places_below}
 use Rattle.luks_search.specs.Search.{SearchModel}
 use Rattle.luks_search.proofs.search.Search.next.Goals as goal
 
 pub returns-in-Found-clause-found : goal.returns-in-Found-clause-found
-returns-in-Found-clause-found g c image short is =
+returns-in-Found-clause-found g c image is =
     let before = c.loop-self.invariant.held image is in
     let here = rw c.in-Found.is at (c.in_ok-step.ensures.held image before.0) in
     let place = c.in-Found.place in
@@ -17,10 +18,11 @@ returns-in-Found-clause-on g c =
     elim on [ inl end ↦ absurd end | inr next ↦ omega (arith, from, next) ]
 
 pub returns-clause-found : goal.returns-clause-found
-returns-clause-found g c image short is =
+returns-clause-found g c image is =
     let before = c.loop-self.invariant.held image is in
     let sector = ap (λ (s : SearchModel). s.sector) c.self-in-loop-self.view_is in
-    (before.0, behind_all image c.loop-self.self.sector short (omega (arith, c.loop-self-test.false, sector)) ∙ before.1)
+    let end : 18014398509481984 ≡ c.loop-self.self.sector = omega (arith, c.loop-self-test.false, sector) in
+    (before.0, behind_all image ∙ ap (places_below image) end ∙ before.1)
 
 pub returns-in_err-step-clause-behind : goal.returns-in_err-step-clause-behind
 returns-in_err-step-clause-behind g c image is =

@@ -8,7 +8,7 @@ invariant-loop-self g l = record {
   held : (image : List ℕ) → IsIn image l.initial.self (g.S.Source.to_come l.initial.source)
       → IsIn image l.self (g.S.Source.to_come l.source) × FindsNone image l.initial.self.sector l.self.sector;
   onwards : l.initial.self.sector ≤ l.self.sector;
-  range : l.self.sector ≤ 18014398509547520;
+  range : l.self.sector ≤ 18014398509481984;
   failures : (g.S.Source.counts l.source).failures ≡ (g.S.Source.counts l.initial.source).failures;
 }
 
