@@ -12,13 +12,16 @@
  *       if (luksrd_plan(&cipher, image_len, offset, len, &step))
  *         return failed;
  *       uint8_t *bytes = step.read_len == step.count ? to : sector;
- *       if (pread(fd, bytes, step.read_len, step.read_offset) != (ssize_t)step.read_len ||
+ *       if (!read_all(fd, bytes, step.read_len, step.read_offset) ||
  *           luksrd_finish(&cipher, &step, bytes, step.read_len))
  *         return failed;
  *       if (bytes == sector)
  *         memcpy(to, sector, step.count);
  *       to += step.count, offset += step.count, len -= step.count;
  *     }
+ *
+ * read_all is the caller's: it repeats pread until all bytes are there, since one call may be
+ * interrupted or give fewer. If the image ends before that, or a read fails, it returns false.
  *
  * Sector n of the payload begins at byte `offset + n * sector_size` of the image, and holds the
  * bytes from `n * sector_size` on of what `luksrd luksCat` writes. luksrd_decrypt decrypts sectors

@@ -19,9 +19,9 @@ module, or else the one that the loader finds.
 Secrets: `close` wipes the volume key and its expanded forms, and the module overwrites its own copy
 of a passphrase or volume key once the volume is open or refused. Python cannot overwrite a str or
 bytes: those that the caller passes stay until their memory is used again, and so do the bytes that
-a str is encoded to. Pass a bytearray and overwrite it afterwards, or name a file. Copies of keys
-and of parts of them stay on the stack of the thread that opened the volume until something else
-writes over them, and plaintext is not wiped.
+a str is encoded to. Pass a bytearray and overwrite it afterwards, or name a file. The library
+writes over the stack that it used. What Python itself leaves there, and in registers, is not wiped,
+nor is plaintext.
 """
 
 from __future__ import annotations
