@@ -1,24 +1,20 @@
 //! A header as one JSON object, and whether anything about it is wrong or weak.
 
-ghost use Rattle.std.specs.Prelude.{◌≡◌, ◌++◌, IfOk, OnOk, option_map};
+ghost use Rattle.std.specs.Prelude.{◌≡◌, ◌&&◌, ◌==◌, ◌++◌, IfOk, OnOk, length};
 ghost use Rattle.luks_audit.specs.Audit.{audit_of, by_number, digest1_value, digest2_value};
-ghost use Rattle.luks_audit.specs.Audit.{digest_values, is_kind_usable, judged_fields, list_fields};
-ghost use Rattle.luks_audit.specs.Audit.{numbered, place_fields, reason_in, slot_value};
-ghost use Rattle.luks_audit.specs.Audit.{slot_values, kind_text, token_value, token_values};
-ghost use Rattle.luks_audit.specs.Audit.{verdict_fields, with_slot, with_slot1, with_slot2};
-ghost use Rattle.luks_audit.specs.Audit.{with_volume};
+ghost use Rattle.luks_audit.specs.Audit.{digest_values, judged_fields, list_fields, numbered};
+ghost use Rattle.luks_audit.specs.Audit.{place_fields, token_value, token_values, with_volume};
 ghost use Rattle.luks_audit.specs.Tree.{empty_object, with_fields};
 ghost use Rattle.luks_verdict.specs.Rule.{max_slots};
 ghost use Rattle.serde_json.specs.View.{view as data_of};
 
 use crate::finding::finding_array;
+use crate::slots::slot_array;
 use crate::tree::{Array, Object, Tree};
 use crate::weakness::weak_array;
 use crate::{luks1, luks2};
-use luks_header::header::{Header, Header1, StoredSlot};
-use luks_header::slot::verdict_kind;
+use luks_header::header::{Header, Header1};
 use luks_verdict::rule::MAX_SLOTS;
-use luks_verdict::slot::VerdictKind;
 use luks2_json::numbered::object_numbered;
 use serde_json::Value;
 use std::alloc::{AllocError, Global};
@@ -30,144 +26,6 @@ pub struct Audit {
     pub tree: Tree,
     /// Whether there is no finding and no weakness.
     pub is_clean: bool,
-}
-
-// ---- key slots
-
-// Whether luksrd can try a slot, as it is printed.
-fn kind_text(kind: VerdictKind) -> &'static str
-    ensures { result.now ≡ kind_text kind }
-{
-    match kind {
-        VerdictKind::Usable(_) => "usable",
-        VerdictKind::Disabled => "disabled",
-        VerdictKind::Skipped(_) => "skipped",
-    }
-}
-
-// Why a slot is skipped.
-fn reason_text(kind: VerdictKind) -> Option<&'static str>
-    ensures { option_map (λ t. t.now) result ≡ reason_in kind }
-{
-    match kind {
-        VerdictKind::Skipped(reason) => Some(reason.text()),
-        VerdictKind::Usable(_) | VerdictKind::Disabled => None,
-    }
-}
-
-// Whether luksrd can try a slot.
-fn is_kind_usable(kind: VerdictKind) -> bool
-    ensures { result ≡ is_kind_usable kind }
-{
-    matches!(kind, VerdictKind::Usable(_))
-}
-
-// Adds the number of a slot and its verdict.
-#[tactic(auto, unfolding(crate::specs::Audit::verdict_fields))]
-fn push_verdict(
-    alloc: Global,
-    fields: &mut Object,
-    number: u8,
-    kind: VerdictKind,
-) -> Result<(), AllocError>
-    ensures { OnOk result (fields.new ≡ with_fields (verdict_fields number kind) fields.old) }
-{
-    fields.push_number(alloc, "number", u64::from(number))?;
-    fields.push_text(alloc, "state", kind_text(kind))?;
-    fields.push_optional_text(alloc, "reason", reason_text(kind))?;
-    fields.push(alloc, "can_try", Tree::boolean(is_kind_usable(kind)))
-}
-
-// Adds the stored members of a LUKS1 slot.
-#[tactic(auto, unfolding(crate::specs::Audit::with_slot1))]
-fn push_slot1(
-    alloc: Global,
-    fields: &mut Object,
-    header: &Header1,
-    slot: &StoredSlot,
-) -> Result<(), AllocError>
-    ensures { OnOk result (fields.new ≡ with_slot1 header.now slot.now fields.old) }
-{
-    luks1::push_derivation(alloc, fields, header, slot)?;
-    luks1::push_cost(alloc, fields)?;
-    luks1::push_stripes(alloc, fields, header, slot)?;
-    luks1::push_area(alloc, fields, header, slot)
-}
-
-// Adds the stored members of a LUKS2 slot.
-#[tactic(auto, unfolding(crate::specs::Audit::with_slot2))]
-fn push_slot2(alloc: Global, fields: &mut Object, slot: &Value) -> Result<(), AllocError>
-    ensures { OnOk result (fields.new ≡ with_slot2 (data_of slot.now) fields.old) }
-{
-    luks2::push_derivation(alloc, fields, slot)?;
-    luks2::push_cost(alloc, fields, slot)?;
-    luks2::push_stripes(alloc, fields, slot)?;
-    luks2::push_area(alloc, fields, slot)
-}
-
-// Adds the stored members of the slot of this number, if the header has it.
-#[tactic(auto, unfolding(crate::specs::Audit::with_slot))]
-fn push_stored(
-    alloc: Global,
-    fields: &mut Object,
-    header: &Header,
-    number: u8,
-) -> Result<(), AllocError>
-    ensures { OnOk result (fields.new ≡ with_slot header.now number fields.old) }
-{
-    match header {
-        Header::V1(header) => match header.slots.get(usize::from(number)) {
-            Some(slot) => push_slot1(alloc, fields, header, slot),
-            None => Ok(()),
-        },
-        Header::V2(_, metadata) => match object_numbered(metadata.tree(), "keyslots", number) {
-            Some(slot) => push_slot2(alloc, fields, slot),
-            None => Ok(()),
-        },
-    }
-}
-
-// The slot of this number, with its verdict.
-#[tactic(auto, unfolding(crate::specs::Audit::slot_value))]
-fn slot_tree(
-    alloc: Global,
-    header: &Header,
-    number: u8,
-    kind: VerdictKind,
-) -> Result<Tree, AllocError>
-    ensures { IfOk result (λ tree. tree ≡ slot_value header.now number kind) }
-{
-    let mut fields = Object::new(alloc);
-    push_verdict(alloc, &mut fields, number, kind)?;
-    push_stored(alloc, &mut fields, header, number)?;
-    Ok(fields.into_tree())
-}
-
-// Adds the slot of this number, if the header has it.
-#[tactic(auto, unfolding(crate::specs::Audit::slot_values))]
-fn push_slot(
-    alloc: Global,
-    slots: &mut Array,
-    header: &Header,
-    number: u8,
-) -> Result<(), AllocError>
-    ensures { OnOk result (slots.new ≡ slots.old ++ slot_values header.now number) }
-{
-    match verdict_kind(header, None, number) {
-        Some(kind) => slots.push(slot_tree(alloc, header, number, kind)?),
-        None => Ok(()),
-    }
-}
-
-// The key slots by ascending number.
-fn slot_array(alloc: Global, header: &Header) -> Result<Array, AllocError>
-    ensures { IfOk result (λ slots. slots ≡ by_number (slot_values header.now) max_slots) }
-{
-    let mut slots = Array::new(alloc);
-    for number in 0..MAX_SLOTS {
-        push_slot(alloc, &mut slots, header, number)?;
-    }
-    Ok(slots)
 }
 
 // ---- digests and tokens
@@ -197,7 +55,7 @@ fn digest2_tree(alloc: Global, number: u8, digest: &Value) -> Result<Tree, Alloc
     ensures { IfOk result (λ tree. tree ≡ digest2_value number (data_of digest.now)) }
 {
     let mut fields = numbered(alloc, number)?;
-    luks2::push_digest(alloc, &mut fields, digest)?;
+    luks2::digest::push_digest(alloc, &mut fields, digest)?;
     Ok(fields.into_tree())
 }
 
@@ -207,7 +65,7 @@ fn token_tree(alloc: Global, number: u8, token: &Value) -> Result<Tree, AllocErr
     ensures { IfOk result (λ tree. tree ≡ token_value number (data_of token.now)) }
 {
     let mut fields = numbered(alloc, number)?;
-    luks2::push_token(alloc, &mut fields, token)?;
+    luks2::digest::push_token(alloc, &mut fields, token)?;
     Ok(fields.into_tree())
 }
 
@@ -296,10 +154,10 @@ fn push_volume(alloc: Global, fields: &mut Object, header: &Header) -> Result<()
             luks1::push_segment(alloc, fields, header)
         }
         Header::V2(binary, metadata) => {
-            luks2::push_volume(alloc, fields, binary)?;
-            luks2::push_binary(alloc, fields, binary)?;
-            luks2::push_encryption(alloc, fields, metadata.tree())?;
-            luks2::push_segment(alloc, fields, metadata.tree())
+            luks2::binary::push_volume(alloc, fields, binary)?;
+            luks2::binary::push_binary(alloc, fields, binary)?;
+            luks2::payload::push_encryption(alloc, fields, metadata.tree())?;
+            luks2::payload::push_segment(alloc, fields, metadata.tree())
         }
     }
 }
@@ -352,6 +210,13 @@ fn header_tree(
     Ok(fields.into_tree())
 }
 
+// Whether there are neither findings nor weaknesses.
+fn are_empty(findings: &Array, weak: &Array) -> bool
+    ensures { result ≡ ((length findings.now == 0) && (length weak.now == 0)) }
+{
+    findings.len() == 0 && weak.len() == 0
+}
+
 /// Lists a header that was found in a file at this offset, with what is wrong and what is weak. If
 /// no minimum of iterations is requested, OWASP's applies.
 ///
@@ -370,7 +235,7 @@ pub fn audit_header(
 {
     let findings = finding_array(alloc, header)?;
     let weak = weak_array(alloc, minimum, header)?;
-    let is_clean = findings.len() == 0 && weak.len() == 0;
+    let is_clean = are_empty(&findings, &weak);
     let tree = header_tree(alloc, file, offset, header, findings, weak)?;
     Ok(Audit { tree, is_clean })
 }

@@ -14,6 +14,7 @@ pub mod line;
 mod luks1;
 mod luks2;
 pub mod policy;
+mod slots;
 mod strength;
 pub mod tree;
 mod weakness;

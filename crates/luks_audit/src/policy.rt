@@ -1,10 +1,11 @@
 //! What is weak.
 
-ghost use Rattle.std.specs.Prelude.{◌≡◌, ◌++◌, IfOk, OnOk, option_map};
+ghost use Rattle.std.specs.Prelude.{◌≡◌, ◌&&◌, ◌||◌, ◌++◌, IfOk, OnOk, nat_le, nat_lt, option_map};
 ghost use Rattle.luks_audit.specs.Policy.{begins_cbc, digest_weaknesses, ends_word, found_if};
 ghost use Rattle.luks_audit.specs.Policy.{is_by_argon2, is_by_pbkdf2};
 ghost use Rattle.luks_audit.specs.Policy.{has_word_cbc, is_capi_cbc, is_cbc, is_mark, is_sha1};
-ghost use Rattle.luks_audit.specs.Policy.{least_iterations, owasp_iterations};
+ghost use Rattle.luks_audit.specs.Policy.{least_iterations, least_memory, owasp_iterations};
+ghost use Rattle.luks_audit.specs.Policy.{short_key_len};
 ghost use Rattle.luks_audit.specs.Policy.{segment_weaknesses, slot_weaknesses, weakness_name};
 ghost use Rattle.luks_audit.specs.Policy.{weakness_of};
 
@@ -219,6 +220,29 @@ fn push_if(
     Ok(())
 }
 
+// Whether a slot has too few iterations of PBKDF2.
+fn has_few_iterations(minimum: Option<u32>, slot: SlotStrength) -> bool
+    ensures { result ≡ (is_by_pbkdf2 slot.derivation
+        && nat_lt slot.iterations (least_iterations minimum slot.kdf_hash)) }
+{
+    is_by_pbkdf2(slot.derivation) && slot.iterations < least_iterations(minimum, slot.kdf_hash)
+}
+
+// Whether the volume key, or that of the key material, is short.
+fn has_short_key(slot: SlotStrength) -> bool
+    ensures { result ≡ (nat_le slot.key_bytes short_key_len
+        || nat_le slot.area_key_bytes short_key_len) }
+{
+    slot.key_bytes <= SHORT_KEY_LEN || slot.area_key_bytes <= SHORT_KEY_LEN
+}
+
+// Whether a slot has too little memory of Argon2.
+fn has_little_memory(slot: SlotStrength) -> bool
+    ensures { result ≡ (is_by_argon2 slot.derivation && nat_lt slot.memory least_memory) }
+{
+    is_by_argon2(slot.derivation) && slot.memory < LEAST_MEMORY
+}
+
 /// Adds the weaknesses of a key slot. If no minimum of iterations is requested, OWASP's applies.
 #[tactic(auto, unfolding(crate::specs::Policy::slot_weaknesses))]
 pub fn push_slot_weaknesses(
@@ -231,11 +255,10 @@ pub fn push_slot_weaknesses(
     ensures { OnOk result
         (weak.new ≡ weak.old ++ slot_weaknesses minimum place.now slot) }
 {
-    let few = is_by_pbkdf2(slot.derivation)
-        && slot.iterations < least_iterations(minimum, slot.kdf_hash);
+    let few = has_few_iterations(minimum, slot);
     let broken = is_sha1(slot.kdf_hash) || is_sha1(slot.af_hash);
-    let short = slot.key_bytes <= SHORT_KEY_LEN || slot.area_key_bytes <= SHORT_KEY_LEN;
-    let little = is_by_argon2(slot.derivation) && slot.memory < LEAST_MEMORY;
+    let short = has_short_key(slot);
+    let little = has_little_memory(slot);
     push_if(alloc, weak, few, place, Weakness::FewIterations)?;
     push_if(alloc, weak, broken, place, Weakness::BrokenHash)?;
     push_if(alloc, weak, slot.is_cbc, place, Weakness::CbcMode)?;

@@ -9,7 +9,7 @@ ghost use Rattle.luks2_metadata.specs.Slot2.{af_hash_of, area_key_size_of, itera
 ghost use Rattle.luks2_metadata.specs.Slot2.{kdf_hash_of, key_size_of};
 ghost use Rattle.serde_json.specs.View.{view as data_of};
 
-use crate::luks2::{integer_in, text_within};
+use crate::luks2::member::{integer_in, text_within};
 use crate::policy::{Derivation, DigestStrength, SlotStrength, is_capi_cbc, is_cbc};
 use luks_kdf::Hash;
 use luks2_json::derivation::{hash_member, iterations_in};

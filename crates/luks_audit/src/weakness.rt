@@ -98,8 +98,8 @@ fn push_segment(alloc: Global, weak: &mut Array, header: &Header) -> Result<(), 
             push_segment_weaknesses(alloc, weak, cbc, Some(u64::from(header.key_bytes)))
         }
         Header::V2(_, metadata) => {
-            let cbc = names_cbc(luks2::segment_cipher(metadata.tree()));
-            let key_bytes = luks2::volume_key_size(metadata.tree());
+            let cbc = names_cbc(luks2::payload::segment_cipher(metadata.tree()));
+            let key_bytes = luks2::payload::volume_key_size(metadata.tree());
             push_segment_weaknesses(alloc, weak, cbc, key_bytes)
         }
     }

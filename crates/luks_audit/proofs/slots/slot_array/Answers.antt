@@ -1,7 +1,7 @@
 use Rattle.std.proofs.Common.{◌≡◌, ◌∙◌, ap, arith, sym}
 use Rattle.luks_audit.proofs.NumberLemmas.{by_number_made, by_number_none}
 use Rattle.luks_audit.specs.Audit.{by_number, slot_values}
-use Rattle.luks_audit.proofs.audit.slot_array.Goals as goal
+use Rattle.luks_audit.proofs.slots.slot_array.Goals as goal
 
 pub loop-number-init : goal.loop-number-init
 loop-number-init c = c.new-slots.ensures ∙ sym (by_number_none (slot_values c.args.header.now))

@@ -1,5 +1,5 @@
 use Rattle.luks_audit.specs.Audit2.{segment2_fields}
-use Rattle.luks_audit.proofs.luks2.push_segment.Goals as goal
+use Rattle.luks_audit.proofs.luks2.payload.push_segment.Goals as goal
 
 pub returns : goal.returns
 unfolding segment2_fields

@@ -1,5 +1,5 @@
 use Rattle.luks_audit.specs.Audit2.{binary2_fields}
-use Rattle.luks_audit.proofs.luks2.push_binary.Goals as goal
+use Rattle.luks_audit.proofs.luks2.binary.push_binary.Goals as goal
 
 pub returns : goal.returns
 unfolding binary2_fields

@@ -3,7 +3,7 @@ use Rattle.std.specs.Prelude.{is_some}
 use Rattle.luks2_json.proofs.NumberedLemmas.{lowest_found, lowest_next, lowest_none, none_from_not_some}
 use Rattle.luks2_json.specs.Numbered.{lowest}
 use Rattle.luks_audit.specs.Audit2.{key_size_at, volume_key_size}
-use Rattle.luks_audit.proofs.luks2.volume_key_size.Goals as goal
+use Rattle.luks_audit.proofs.luks2.payload.volume_key_size.Goals as goal
 use Rattle.serde_json.specs.View.{view}
 
 pub loop-number-init : goal.loop-number-init
