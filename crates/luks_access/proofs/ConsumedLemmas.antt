@@ -18,13 +18,13 @@ use Rattle.luks_runs.proofs.RunLemmas.{header_read_len_within}
 use Rattle.luks_runs.specs.KeyFile.{max_key_file_len}
 use Rattle.luks_runs.specs.Location.{reader_for}
 use Rattle.luks_runs.specs.Run.{Outcome, aborts, result_message}
-use Rattle.luks_unlock.proofs.VolumeLemmas.{area_cut, area_loaded, area_more, found_cut, found_is, found_long}
-use Rattle.luks_unlock.proofs.VolumeLemmas.{found_whole, outcome_is, prefix_length, tried_is}
-use Rattle.luks_unlock.specs.Volume.{FindsNoVolume, MatchesHeader, OnOpened, OpeningMessage, Volume, found_outcome}
-use Rattle.luks_unlock.specs.Volume.{opened_of, opened_outcome, outcome_after, slot_outcome, unlock_read_len, volume_by}
-use Rattle.luks_unlock.specs.Volume.{volume_outcome_by}
-use Rattle.luks_unlock.specs.declared.found.FoundVolume.{FoundVolume}
-use Rattle.luks_unlock.specs.declared.unlocked.UnlockedVolume.{UnlockedVolume}
+use Rattle.luks_runs.proofs.VolumeLemmas.{area_cut, area_loaded, area_more, found_cut, found_is, found_long}
+use Rattle.luks_runs.proofs.VolumeLemmas.{found_whole, outcome_is, prefix_length, tried_is}
+use Rattle.luks_runs.specs.Volume.{FindsNoVolume, MatchesHeader, OnOpened, OpeningMessage, Volume, found_outcome}
+use Rattle.luks_runs.specs.Volume.{opened_of, opened_outcome, outcome_after, slot_outcome, unlock_read_len, volume_by}
+use Rattle.luks_runs.specs.Volume.{volume_outcome_by}
+use Rattle.luks_runs.specs.declared.found.FoundVolume.{FoundVolume}
+use Rattle.luks_runs.specs.declared.unlocked.UnlockedVolume.{UnlockedVolume}
 use Rattle.luks_access.specs.Opens.{ConsumesToOpen, UnlocksVolume, open_read_len}
 use Rattle.luks_access.specs.declared.options.Options.{Options}
 

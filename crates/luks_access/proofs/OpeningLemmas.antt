@@ -14,13 +14,13 @@ use Rattle.luks_runs.specs.Run.{Outcome, aborts, no_output}
 use Rattle.luks_runs.specs.Location.{reader_for}
 use Rattle.luks_runs.specs.declared.location.HeaderLocation.{HeaderLocation}
 use Rattle.luks_runs.specs.declared.location.HeaderLocation.TheVariants.{Attached, Detached}
-use Rattle.luks_unlock.proofs.HonestVolumes.{unsealed}
-use Rattle.luks_unlock.proofs.VolumeLemmas.{area_cut, found_cut, found_is, found_long, outcome_is, tried_is}
-use Rattle.luks_unlock.specs.Volume.{FindsNoVolume, MatchesHeader, opened_of, OnOpened, Volume, OpeningMessage}
-use Rattle.luks_unlock.specs.Volume.{detached_payload_outcome, found_outcome, payload_outcome, unlock_read_len}
-use Rattle.luks_unlock.specs.Volume.{volume_outcome_by}
-use Rattle.luks_unlock.specs.declared.found.FoundVolume.{FoundVolume}
-use Rattle.luks_unlock.specs.declared.unlocked.UnlockedVolume.{UnlockedVolume}
+use Rattle.luks_runs.proofs.HonestVolumes.{unsealed}
+use Rattle.luks_runs.proofs.VolumeLemmas.{area_cut, found_cut, found_is, found_long, outcome_is, tried_is}
+use Rattle.luks_runs.specs.Volume.{FindsNoVolume, MatchesHeader, opened_of, OnOpened, Volume, OpeningMessage}
+use Rattle.luks_runs.specs.Volume.{detached_payload_outcome, found_outcome, payload_outcome, unlock_read_len}
+use Rattle.luks_runs.specs.Volume.{volume_outcome_by}
+use Rattle.luks_runs.specs.declared.found.FoundVolume.{FoundVolume}
+use Rattle.luks_runs.specs.declared.unlocked.UnlockedVolume.{UnlockedVolume}
 use Rattle.luks_verdict.specs.declared.segment.Segment.{Segment}
 use Rattle.luks_payload.proofs.SectorLemmas.{by_ending}
 use Rattle.luks_payload.specs.Plain.{ending_of, ending_of_len, bytes_from_start, sector_len}

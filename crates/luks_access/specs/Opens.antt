@@ -11,11 +11,11 @@ use Rattle.luks_runs.specs.Run.{Outcome, aborts, no_output}
 use Rattle.luks_runs.specs.Location.{detached_header_of, reader_for}
 use Rattle.luks_runs.specs.declared.location.HeaderLocation.{HeaderLocation}
 use Rattle.luks_runs.specs.declared.location.HeaderLocation.TheVariants.{Attached, Detached}
-use Rattle.luks_unlock.specs.Honest.{OpensHonest}
-use Rattle.luks_unlock.specs.Volume.{TriesSlots, opened_of, OnOpened, detached_payload_outcome, payload_outcome}
-use Rattle.luks_unlock.specs.declared.found.FoundVolume.{FoundVolume}
-use Rattle.luks_unlock.specs.declared.unlocked.UnlockedVolume.{UnlockedVolume}
-use Rattle.luks_unlock.specs.Volume.{slot_outcome, volume_outcome, volume_outcome_by}
+use Rattle.luks_runs.specs.Honest.{OpensHonest}
+use Rattle.luks_runs.specs.Volume.{TriesSlots, opened_of, OnOpened, detached_payload_outcome, payload_outcome}
+use Rattle.luks_runs.specs.declared.found.FoundVolume.{FoundVolume}
+use Rattle.luks_runs.specs.declared.unlocked.UnlockedVolume.{UnlockedVolume}
+use Rattle.luks_runs.specs.Volume.{slot_outcome, volume_outcome, volume_outcome_by}
 use Rattle.luks_payload.specs.Plain.{ending_of, plain_of}
 use Rattle.luks_payload.specs.declared.state.Step.TheVariants.{End}
 use Rattle.luks_access.specs.declared.options.Options.{Options}

@@ -7,9 +7,9 @@ ghost use Rattle.luks_runs.specs.KeyFile.{max_key_file_len};
 ghost use Rattle.luks_io.specs.Counts.{Reads};
 ghost use Rattle.luks_io.specs.Devices.{IfKnown};
 ghost use Rattle.luks_runs.specs.Run.{is_run_read_failure, result_message};
-ghost use Rattle.luks_unlock.specs.Volume.{MatchesHeader};
-ghost use Rattle.luks_unlock.specs.Volume.{OpeningMessage};
-ghost use Rattle.luks_unlock.specs.Volume.{CountsTrials};
+ghost use Rattle.luks_runs.specs.Volume.{MatchesHeader};
+ghost use Rattle.luks_runs.specs.Volume.{OpeningMessage};
+ghost use Rattle.luks_runs.specs.Volume.{CountsTrials};
 ghost use Rattle.luks_payload.specs.Plain.{ending_of, sector_len};
 ghost use Rattle.luks_access.specs.Sectors.{FailsInRange, IsRangeOf};
 ghost use Rattle.luks_access.specs.Opens.{ConsumesToOpen, OpensVolume, RefusesVolume};
@@ -30,9 +30,9 @@ use luks_payload::fault::VolumeFault;
 use luks_payload::state::Step;
 use luks_report::message::Message;
 use luks_request::command::SlotChoice;
-use luks_unlock::found::{FoundVolume, find_volume};
-use luks_unlock::trying::try_slots;
-use luks_unlock::unlocked::UnlockedVolume;
+use luks_runs::found::{FoundVolume, find_volume};
+use luks_runs::trying::try_slots;
+use luks_runs::unlocked::UnlockedVolume;
 use std::alloc::Global;
 use std::marker::Model;
 
@@ -49,7 +49,7 @@ pub struct Volume {
 
 impl Model for Volume {
     ghost use Rattle.luks_cipher.specs.Expanded.{AreExpanded};
-    ghost use Rattle.luks_unlock.specs.declared.unlocked.UnlockedVolume.{UnlockedVolume};
+    ghost use Rattle.luks_runs.specs.declared.unlocked.UnlockedVolume.{UnlockedVolume};
 
     ghost Value = { UnlockedVolume };
 

@@ -1,7 +1,7 @@
 -- What is listed of a LUKS1 header (LUKS1 On-Disk Format Specification 1.2.3, section 2.1 and figures 1 to 3).
 use Rattle.std.specs.Prelude.{ℕ, ◌*◌, ◌++◌, ◌||◌, Bool, List, [], ◌∷◌, Option, Some, None, codes, if◌then◌else◌}
 use Rattle.std.specs.Prelude.{option_and_then, slice_get}
-use Rattle.luks_dump.specs.DumpLine.{escaped}
+use Rattle.luks_report.specs.DumpLine.{escaped}
 use Rattle.luks_verdict.specs.Rule.{need_of}
 use Rattle.luks1_header.specs.Slot1.{hash1_of, is_disabled}
 use Rattle.luks1_header.specs.declared.header.Header1.{Header1}

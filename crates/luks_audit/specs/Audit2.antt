@@ -2,8 +2,8 @@
 -- missing or of the wrong type is listed as null.
 use Rattle.std.specs.Prelude.{ℕ, ◌+◌, ◌==◌, ◌||◌, Bool, false, List, [], ◌∷◌, Option, Some, None, codes, drop}
 use Rattle.std.specs.Prelude.{if◌then◌else◌, length, map, option_and_then, option_map, position, unwrap_or}
-use Rattle.luks_dump.specs.DumpLine.{escaped}
-use Rattle.luks_dump.specs.Dump2.{role_text}
+use Rattle.luks_report.specs.DumpLine.{escaped}
+use Rattle.luks_report.specs.Dump2.{role_text}
 use Rattle.luks_kdf.specs.Hash.{hash_name}
 use Rattle.luks_verdict.specs.Rule.{max_slots}
 use Rattle.luks2_binary.specs.declared.header.Header2.{Header2}

@@ -1,7 +1,7 @@
 -- The findings of `luksCheck` as an array of texts.
 use Rattle.std.specs.Prelude.{ℕ, ◌++◌, ◌==◌, List, [], ◌∷◌, if◌then◌else◌}
-use Rattle.luks_check.specs.Findings.{findings_of}
-use Rattle.luks_dump.specs.DumpLine.{escaped}
+use Rattle.luks_report.specs.Findings.{findings_of}
+use Rattle.luks_report.specs.DumpLine.{escaped}
 use Rattle.luks_header.specs.declared.header.Header.{Header}
 use Rattle.serde_json.specs.Data.{Data, string}
 

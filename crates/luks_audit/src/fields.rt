@@ -4,7 +4,7 @@ ghost use Rattle.std.specs.Prelude.{◌≡◌, ◌++◌, IfOk, OnOk, map, option
 ghost use Rattle.hex.specs.Hex.{encode_lower};
 ghost use Rattle.luks_audit.specs.Tree.{array_of, hex_text, num, optional_num, optional_text};
 ghost use Rattle.luks_audit.specs.Tree.{with_member};
-ghost use Rattle.luks_dump.specs.DumpLine.{escaped, escaped_byte};
+ghost use Rattle.luks_report.specs.DumpLine.{escaped, escaped_byte};
 ghost use Rattle.serde_json.specs.Data.{string};
 
 use crate::tree::{Array, Object, Tree};
@@ -80,7 +80,7 @@ impl Object {
 
 /// Adds a text of a binary header: all bytes but visible ASCII and spaces as `\xHH`, and so the
 /// backslash.
-#[tactic(auto, unfolding(luks_dump::specs::DumpLine::escaped))]
+#[tactic(auto, unfolding(luks_report::specs::DumpLine::escaped))]
 pub(crate) fn escape(alloc: Global, printed: &mut String, text: &[u8]) -> Result<(), AllocError>
     ensures { OnOk result
         (string_bytes printed.new ≡ string_bytes printed.old ++ escaped text.now) }
@@ -92,7 +92,7 @@ pub(crate) fn escape(alloc: Global, printed: &mut String, text: &[u8]) -> Result
 }
 
 // Adds one byte.
-#[tactic(auto, unfolding(luks_dump::specs::DumpLine::escaped_byte))]
+#[tactic(auto, unfolding(luks_report::specs::DumpLine::escaped_byte))]
 fn escape_byte(alloc: Global, printed: &mut String, byte: u8) -> Result<(), AllocError>
     ensures { OnOk result
         (string_bytes printed.new ≡ string_bytes printed.old ++ escaped_byte byte) }

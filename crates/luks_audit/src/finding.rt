@@ -2,13 +2,13 @@
 
 ghost use Rattle.std.specs.Prelude.{◌≡◌, ◌++◌, ◌∷◌, [], IfOk, List, OnOk, ℕ};
 ghost use Rattle.luks_audit.specs.Findings.{finding_list, lines_from};
-ghost use Rattle.luks_dump.specs.DumpLine.{escaped};
+ghost use Rattle.luks_report.specs.DumpLine.{escaped};
 ghost use Rattle.serde_json.specs.Data.{string};
 
 use crate::fields::escape;
 use crate::tree::{Array, Tree};
-use luks_check::check::findings;
 use luks_header::header::Header;
+use luks_report::findings::findings;
 use std::alloc::{AllocError, Global};
 
 // A text of a line.

@@ -8,7 +8,7 @@ use Rattle.luks_io.specs.Devices.{counted}
 use Rattle.luks_report.specs.declared.message.Message.{Message}
 use Rattle.luks_report.specs.declared.message.Message.TheVariants.{ReadFailed}
 use Rattle.luks_runs.specs.Run.{is_run_read_failure}
-use Rattle.luks_unlock.specs.declared.unlocked.UnlockedVolume.{UnlockedVolume}
+use Rattle.luks_runs.specs.declared.unlocked.UnlockedVolume.{UnlockedVolume}
 use Rattle.luks_cipher.specs.Sector.{Cipher}
 use Rattle.luks_cipher.specs.declared.mode.Mode.{Mode}
 use Rattle.luks_cipher.specs.declared.mode.Mode.TheVariants.{XtsPlain64, XtsPlain, CbcEssivSha256, CbcPlain64}

@@ -10,7 +10,7 @@ ghost use Rattle.std.specs.Prelude.{false, nat_le, true};
 ghost use Rattle.luks_access.specs.Opens.{cipher_of, plaintext_of};
 ghost use Rattle.luks_access.specs.Sectors.{AreStored, IsRangeOf, plain_at};
 ghost use Rattle.luks_access.specs.Steps.{IsNextStep};
-ghost use Rattle.luks_unlock.specs.declared.unlocked.UnlockedVolume.{UnlockedVolume};
+ghost use Rattle.luks_runs.specs.declared.unlocked.UnlockedVolume.{UnlockedVolume};
 ghost use Rattle.luks_payload.specs.Plain.{ending_of, sector_len};
 ghost use Rattle.luks_verdict.specs.SectorSize.{bytes_of};
 ghost use Rattle.luks_c.specs.Keys.{ComparesKey, RefusesKey, are_bad_for_a_key, is_compared};

@@ -16,8 +16,8 @@ use Rattle.luks_cli.proofs.VolumeRuns.{same_segment_by}
 use Rattle.luks_runs.specs.Run.{Outcome, Prints, Aborted, AnyPromptness, Completed, ConsumedNothing}
 use Rattle.luks_runs.specs.Run.{DetachedRunMatches, Promptness, RunMatches, aborts, is_run_read_failure}
 use Rattle.luks_runs.specs.Run.{is_run_write_failure, result_message}
-use Rattle.luks_unlock.specs.Volume.{payload_outcome, slot_outcome, volume_outcome, volume_outcome_by}
-use Rattle.luks_unlock.specs.Volume.{detached_payload_outcome, HitsMaterialEof, OpeningMessage}
+use Rattle.luks_runs.specs.Volume.{payload_outcome, slot_outcome, volume_outcome, volume_outcome_by}
+use Rattle.luks_runs.specs.Volume.{detached_payload_outcome, HitsMaterialEof, OpeningMessage}
 use Rattle.luks_request.specs.Request.{Request, VolumeRequest, luks_cat}
 use Rattle.luks_cli.specs.Headline.{CatAllows, ConsumedAtLeast, ConsumedOfPayload, CountsCalls, CountsReads}
 use Rattle.luks_cli.specs.Headline.{CountsTried, EndsWithoutKey, KnowsPayload, PromptCat, ReadsOnce, ReadsPayload}
@@ -37,7 +37,7 @@ use Rattle.luks_io.proofs.EffectLemmas.{consumed-none, no_reads, no_writes, read
 use Rattle.luks_io.specs.Counts.{Reads, Writes, allowed_to}
 use Rattle.luks_io.specs.declared.counts.ReadCounts.{ReadCounts}
 use Rattle.luks_io.specs.declared.counts.WriteCounts.{WriteCounts}
-use Rattle.luks_unlock.proofs.VolumeLemmas.{reads_on}
+use Rattle.luks_runs.proofs.VolumeLemmas.{reads_on}
 
 pub slot_consumes_loaded : (secret : List ℕ) → ConsumesLoaded secret (slot_outcome secret)
 slot_consumes_loaded secret =

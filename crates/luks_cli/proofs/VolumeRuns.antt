@@ -14,11 +14,11 @@ use Rattle.luks_open.specs.Opening.{opening_of, work_of, OrderModel, key_materia
 use Rattle.luks_open.specs.declared.fault.OpenFault.{OpenFault}
 use Rattle.luks_open.specs.declared.fault.OpenFault.TheVariants.{Memory}
 use Rattle.luks_open.specs.declared.opening.Opened.{Opened}
-use Rattle.luks_unlock.proofs.VolumeLemmas.{area_cut, area_loaded, area_more, found_cut, found_is, found_long}
-use Rattle.luks_unlock.proofs.VolumeLemmas.{found_whole, prefix_length, outcome_is, tried_is, volume_is, volume_with}
+use Rattle.luks_runs.proofs.VolumeLemmas.{area_cut, area_loaded, area_more, found_cut, found_is, found_long}
+use Rattle.luks_runs.proofs.VolumeLemmas.{found_whole, prefix_length, outcome_is, tried_is, volume_is, volume_with}
 use Rattle.luks_report.specs.Faults.{message_for_header, message_for_opening}
-use Rattle.luks_unlock.specs.Volume.{OnOpened, found_outcome, opened_outcome, outcome_after, volume_outcome_by, Volume}
-use Rattle.luks_unlock.specs.Volume.{unlock_read_len, volume_by, ConsumedMaterial, CountsTrials, TriesSlots, opened_of}
+use Rattle.luks_runs.specs.Volume.{OnOpened, found_outcome, opened_outcome, outcome_after, volume_outcome_by, Volume}
+use Rattle.luks_runs.specs.Volume.{unlock_read_len, volume_by, ConsumedMaterial, CountsTrials, TriesSlots, opened_of}
 use Rattle.luks_request.specs.declared.command.SlotChoice.{SlotChoice}
 use Rattle.luks_runs.specs.Run.{RunMatches, result_message}
 use Rattle.luks_runs.proofs.RunLemmas.{aborted_unwritten, header_read_len_within}
@@ -28,8 +28,8 @@ use Rattle.luks_io.specs.declared.counts.ReadCounts.{ReadCounts}
 use Rattle.luks_runs.specs.KeyFile.{NoKeyFileRead, hits_key_file_eof, max_key_file_len}
 use Rattle.luks_cli.specs.Headline.{CountsOpening, CountsTried, PromptCat, PromptForwarding}
 use Rattle.luks_cli.specs.Unlocking.{ConsumesLoaded, UnlockEffect, Unlocks}
-use Rattle.luks_unlock.specs.Volume.{OpeningMessage, ends_untried, FindsNoVolume, HasSegmentBy}
-use Rattle.luks_unlock.specs.declared.unlocked.UnlockedVolume.{UnlockedVolume}
+use Rattle.luks_runs.specs.Volume.{OpeningMessage, ends_untried, FindsNoVolume, HasSegmentBy}
+use Rattle.luks_runs.specs.declared.unlocked.UnlockedVolume.{UnlockedVolume}
 use Rattle.luks_runs.specs.Location.{reader_for, HeaderReader}
 use Rattle.luks_runs.specs.declared.location.HeaderLocation.{HeaderLocation}
 use Rattle.luks_runs.specs.declared.location.HeaderLocation.TheVariants.{Attached, Detached}

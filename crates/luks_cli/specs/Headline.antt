@@ -17,11 +17,11 @@ use Rattle.luks_runs.specs.Payload.{max_payload_end}
 use Rattle.luks_runs.specs.Run.{Promptness, ConsumedNothing, AnyPromptness, is_run_read_failure}
 use Rattle.luks_runs.specs.Run.{is_run_write_failure, DetachedRunMatches, aborts, Outcome}
 use Rattle.luks_runs.specs.Stripe.{max_key_len, PromptSplit, merge_outcome, split_outcome}
-use Rattle.luks_unlock.specs.Volume.{HasSegmentBy, HasSegment, slot_outcome, volume_by, OnOpened}
-use Rattle.luks_unlock.specs.Volume.{Volume, volume_outcome_by, OpeningMessage, unlock_read_len}
-use Rattle.luks_unlock.specs.Volume.{ends_untried}
-use Rattle.luks_unlock.specs.Volume.{detached_payload_outcome, payload_outcome}
-use Rattle.luks_unlock.specs.Honest.{OpensHonest}
+use Rattle.luks_runs.specs.Volume.{HasSegmentBy, HasSegment, slot_outcome, volume_by, OnOpened}
+use Rattle.luks_runs.specs.Volume.{Volume, volume_outcome_by, OpeningMessage, unlock_read_len}
+use Rattle.luks_runs.specs.Volume.{ends_untried}
+use Rattle.luks_runs.specs.Volume.{detached_payload_outcome, payload_outcome}
+use Rattle.luks_runs.specs.Honest.{OpensHonest}
 use Rattle.luks_verdict.specs.declared.segment.Segment.{Segment}
 use Rattle.luks_report.specs.declared.message.Message.{Message}
 use Rattle.luks_report.specs.declared.message.Message.TheVariants.{Done, ReadFailed, WriteFailed}

@@ -7,15 +7,15 @@ use Rattle.luks_runs.specs.Location.{reader_for}
 use Rattle.luks_runs.specs.declared.location.HeaderLocation.{HeaderLocation}
 use Rattle.luks_runs.specs.declared.location.HeaderLocation.TheVariants.{Attached}
 use Rattle.luks_runs.specs.Run.{RunMatches}
-use Rattle.luks_unlock.specs.Volume.{HasSegmentBy, OnOpened}
-use Rattle.luks_unlock.specs.Volume.{volume_outcome_by, TriesSlots}
+use Rattle.luks_runs.specs.Volume.{HasSegmentBy, OnOpened}
+use Rattle.luks_runs.specs.Volume.{volume_outcome_by, TriesSlots}
 use Rattle.luks_verdict.specs.declared.segment.Segment.{Segment}
 use Rattle.luks_report.specs.declared.message.Message.{Message}
 use Rattle.luks_header.specs.Header.{header_read_len}
 use Rattle.luks_open.specs.Opening.{OrderModel}
 use Rattle.luks_open.specs.declared.opening.Opened.{Opened}
 use Rattle.luks_runs.specs.KeyFile.{NoKeyFileRead, max_key_file_len}
-use Rattle.luks_unlock.specs.declared.unlocked.UnlockedVolume.{UnlockedVolume}
+use Rattle.luks_runs.specs.declared.unlocked.UnlockedVolume.{UnlockedVolume}
 use Rattle.luks_cli.specs.Headline.{PromptCat}
 
 -- whatever is done with a volume consumes at least the bytes of its image that are loaded, and the whole key file

@@ -1,3 +1,7 @@
+pub mod Dump
+pub mod Dump1
+pub mod Dump2
+pub mod DumpLine
 pub mod Faults
+pub mod Findings
 pub mod Texts
-pub use Rattle.luks_dump.specs.Dump

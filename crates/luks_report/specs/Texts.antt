@@ -3,7 +3,7 @@
 use Prim.Native.String.{String}
 use Rattle.std.specs.Prelude.{ℕ, List, [], ◌∷◌, ◌++◌, ◌==◌, codes, flat_map, if◌then◌else◌, length, Result, Ok, Err}
 use Rattle.std.specs.Fmt.{decimal}
-pub use Rattle.luks_check.specs.Findings.{findings_of}
+pub use Rattle.luks_report.specs.Findings.{findings_of}
 use Rattle.luks_header.specs.SegmentFault.{fault_text}
 use Rattle.luks_header.specs.SkipReason.{reason_text}
 use Rattle.luks_header.specs.declared.header.Header.{Header}

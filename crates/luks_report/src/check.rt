@@ -3,8 +3,8 @@
 ghost use Rattle.std.specs.Prelude.{◌≡◌, IfOk, string_bytes};
 ghost use Rattle.luks_report.specs.Texts.{check_of, message_for_check, result_message};
 
+use crate::findings::findings;
 use crate::message::Message;
-use luks_check::check::findings;
 use luks_header::header::Header;
 use std::alloc::{AllocError, Global};
 

@@ -1,9 +1,13 @@
-//! Every text that luksrd prints: messages with their statuses, and the texts of a header, which
-//! `luks_dump` makes.
+//! Every text that luksrd prints: messages with their statuses, and the texts of a header, which are
+//! its UUID, its dump and the findings in it.
 #![tactic(auto)]
 
 pub mod check;
+pub mod dump;
+mod escaping;
 mod faults;
+pub mod field;
+pub mod findings;
 pub mod input;
 pub mod line;
 pub mod message;
@@ -11,5 +15,3 @@ pub mod opened;
 pub mod report;
 pub mod usage;
 mod wording;
-
-pub use luks_dump::dump;

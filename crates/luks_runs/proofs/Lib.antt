@@ -1,3 +1,5 @@
+pub mod HonestVolumes
 pub mod PayloadLemmas
 pub mod RunLemmas
 pub mod StripeLemmas
+pub mod VolumeLemmas

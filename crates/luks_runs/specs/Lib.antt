@@ -1,7 +1,9 @@
 pub mod HeaderOutcome
+pub mod Honest
 pub mod KeyFile
 pub mod Location
 pub mod Payload
 pub mod Run
 pub mod RunMessages
 pub mod Stripe
+pub mod Volume

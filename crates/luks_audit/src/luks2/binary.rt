@@ -3,7 +3,7 @@
 ghost use Rattle.std.specs.Prelude.{◌≡◌, OnOk, option_map};
 ghost use Rattle.luks_audit.specs.Audit2.{binary2_fields, other_header_of, volume2_fields};
 ghost use Rattle.luks_audit.specs.Tree.{with_fields};
-ghost use Rattle.luks_dump.specs.Dump2.{role_text};
+ghost use Rattle.luks_report.specs.Dump2.{role_text};
 
 use crate::tree::Object;
 use luks_header::header::{Header2, HeaderRole, PairFinding};

@@ -1,5 +1,5 @@
 use Rattle.std.proofs.Common.{◌≡◌, ◌++◌, take, string_bytes}
-use Rattle.luks_dump.specs.DumpLine.{escaped}
+use Rattle.luks_report.specs.DumpLine.{escaped}
 use Rattle.luks_audit.proofs.fields.escape.Given as goal
 
 -- the bytes so far are appended, escaped

@@ -2,7 +2,7 @@
 
 use super::fixture::{assert_text, check_findings, read};
 use crate::tests::shared::joined;
-use luks_dump::dump::{dump_text, uuid_text};
+use luks_report::dump::{dump_text, uuid_text};
 use luks_test_support::header2::{SIZE, empty_image, write_header};
 use std::process::Abort;
 

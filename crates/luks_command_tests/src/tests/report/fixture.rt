@@ -1,9 +1,9 @@
 //! The findings in a header.
 
-use luks_check::check::findings;
 use luks_header::header::{Header, read_header};
 use luks_io::memory::MemSource;
 use luks_report::check::check_text;
+use luks_report::findings::findings;
 use luks_report::message::Message;
 use std::process::Abort;
 

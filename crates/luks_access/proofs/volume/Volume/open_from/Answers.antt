@@ -3,7 +3,7 @@ use Rattle.luks_io.proofs.ErrorLemmas.{given_error}
 use Rattle.luks_access.proofs.ConsumedLemmas.{consumed_unfound, consumed_unlocked}
 use Rattle.luks_access.proofs.OpeningLemmas.{opened_by, refused_unfound, refused_unopened, volume_opened}
 use Rattle.luks_access.proofs.OpeningLemmas.{volume_refused}
-use Rattle.luks_unlock.proofs.VolumeLemmas.{none_remain, reads_on}
+use Rattle.luks_runs.proofs.VolumeLemmas.{none_remain, reads_on}
 use Rattle.luks_access.proofs.volume.Volume.open_from.Goals as goal
 
 pub returns-clause-opens : goal.returns-clause-opens

@@ -1,6 +1,6 @@
 use Rattle.std.proofs.Common.{inl}
 use Rattle.luks_io.proofs.ErrorLemmas.{given_error}
-use Rattle.luks_unlock.specs.Volume.{slot_outcome}
+use Rattle.luks_runs.specs.Volume.{slot_outcome}
 use Rattle.luks_runs.specs.Run.{AnyPromptness, ConsumedNothing, result_message}
 use Rattle.luks_cli.proofs.OpenedRuns.{no_write_unopened, runs_at, runs_slot, slot_message, slot_consumes_loaded}
 use Rattle.luks_cli.proofs.execute.volumes.test_passphrase.Goals as goal

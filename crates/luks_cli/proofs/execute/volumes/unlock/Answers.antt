@@ -1,6 +1,6 @@
 use Rattle.std.proofs.Common.{◌∙◌, [], Some, ap, false, inl, inr, refl}
 use Rattle.luks_io.proofs.ErrorLemmas.{given_error}
-use Rattle.luks_unlock.proofs.VolumeLemmas.{none_remain, reads_within, there_is_volume}
+use Rattle.luks_runs.proofs.VolumeLemmas.{none_remain, reads_within, there_is_volume}
 use Rattle.luks_cli.proofs.OpenedRuns.{reads_before, reads_of_image}
 use Rattle.luks_cli.proofs.VolumeRuns.{counts_opening, counts_unlocked, early_without_volume, runs_without_key, runs_without_volume}
 use Rattle.luks_cli.proofs.VolumeRuns.{unlocks_volume}

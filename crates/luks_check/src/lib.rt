@@ -1,4 +1,0 @@
-//! The findings in a header, which `luksCheck` prints.
-#![tactic(auto)]
-
-pub mod check;

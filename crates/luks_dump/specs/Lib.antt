@@ -1,4 +1,0 @@
-pub mod Dump
-pub mod Dump1
-pub mod Dump2
-pub mod DumpLine

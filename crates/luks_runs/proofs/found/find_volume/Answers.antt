@@ -1,0 +1,27 @@
+use Rattle.luks_io.proofs.ErrorLemmas.{given_error}
+use Rattle.luks_runs.proofs.VolumeLemmas.{aborts_without_header, aborts_without_slots}
+use Rattle.luks_runs.proofs.found.find_volume.Goals as goal
+
+pub returns-in_err-header-clause-err : goal.returns-in_err-header-clause-err
+returns-in_err-header-clause-err g c =
+    rw (given_error _ _ c.from_residual.ensures.1) (λ known is.
+    aborts_without_header c.args.location _ known _ _ _ c.in_err-header.field-0.0
+    (c.in_err-header.ensures.no_header known is))
+
+pub returns-in_err-segment-clause-err : goal.returns-in_err-segment-clause-err
+returns-in_err-segment-clause-err g c =
+    rw (given_error _ _ c.from_residual-in_err-segment.ensures.1) (λ known is.
+    let read = c.in_ok-header.ensures.consumed known is in
+    aborts_without_slots c.args.location c.args.slots known _ c.in_ok-header.header read.0 read.2
+    _ c.in_err-segment.ensures.err)
+
+pub returns-clause-found : goal.returns-clause-found
+returns-clause-found g c =
+    let read = c.in_ok-header.ensures in
+    record {
+      slots = record { segment = c.in_ok-segment.ensures.segment; order = c.in_ok-segment.ensures.order };
+      of_area = read.of_area;
+      area = read.whole_area;
+      header = read.consumed;
+      loaded = read.loaded;
+    }

@@ -1,0 +1,225 @@
+-- The outcomes of the commands that open volumes: first the volume that an image's header describes, before any key
+-- slot is tried, then the outcome of a run. Then what finding a volume and trying its key slots leave in the device.
+use Rattle.std.specs.Prelude.{ℕ, ◌+◌, List, length, max, nat_lt, if◌then◌else◌, Option, Result, Ok, Err, ◌≡◌, take, ◌-◌}
+use Rattle.std.specs.Prelude.{◌<◌, ◌≤◌, ◌⊎◌, min, Bool, false, true}
+use Rattle.luks_header.specs.Header.{header_read_len, header_of}
+use Rattle.luks_header.specs.HeaderSegment.{segment_of}
+use Rattle.luks_header.specs.declared.header.Header.{Header}
+use Rattle.luks_area.specs.declared.fault.HeaderFault.{HeaderFault}
+use Rattle.luks_verdict.specs.declared.refusal.SegmentFault.{SegmentFault}
+use Rattle.luks_verdict.specs.declared.segment.Segment.{Segment}
+use Rattle.luks_open.specs.Opening.{OrderModel, key_material_end, order_of, opening_of, work_of}
+use Rattle.luks_open.specs.declared.fault.OpenFault.{OpenFault}
+use Rattle.luks_report.specs.Faults.{message_for_header, message_for_opening, message_at_end}
+use Rattle.luks_request.specs.declared.command.SlotChoice.{SlotChoice}
+use Rattle.luks_open.specs.declared.opening.Opened.{Opened}
+use Rattle.luks_payload.specs.Plain.{ending_of, payload_end_of, plain_of}
+use Rattle.luks_report.specs.Texts.{opened_line}
+use Rattle.luks_report.specs.declared.message.Message.TheVariants.{Done, Cut, KeyFileLength, SegmentRefused}
+use Rattle.luks_report.specs.declared.message.Message.TheVariants.{OutOfMemory, ReadFailed, NotLuks, Json, NoSuchSlot}
+use Rattle.luks_report.specs.declared.message.Message.TheVariants.{SlotDisabled, SlotSkipped, NothingTried, NoKey}
+use Rattle.luks_report.specs.declared.message.Message.TheVariants.{CutBeforePayload, Tail, Short, WriteFailed}
+use Rattle.luks_runs.specs.KeyFile.{max_key_file_len}
+use Rattle.luks_runs.specs.Run.{Outcome, no_output}
+use Rattle.luks_runs.specs.Location.{HeaderReader, LoadedFrom, reader_for}
+use Rattle.luks_report.specs.declared.message.Message.{Message}
+use Rattle.luks_io.specs.Devices.{ConsumedExactly, ConsumedAtMost, IfKnown}
+use Rattle.luks_io.specs.declared.counts.ReadCounts.{ReadCounts}
+use Rattle.luks_runs.specs.declared.location.HeaderLocation.{HeaderLocation}
+use Rattle.luks_runs.specs.declared.found.FoundVolume.{FoundVolume}
+use Rattle.luks_header.specs.Area.{AbortsConsuming, ConsumedOnto}
+use Rattle.luks_kdf.specs.Pbkdf2.{capped}
+use Rattle.luks_runs.specs.declared.unlocked.UnlockedVolume.{UnlockedVolume}
+
+-- ---- the messages with which opening a volume may end
+
+-- opening a volume may end with this message
+abbrev pub OpeningMessage : Message → Type 0
+OpeningMessage NotLuks = Unit {0}
+OpeningMessage Cut = Unit {0}
+OpeningMessage Json = Unit {0}
+OpeningMessage (SegmentRefused _) = Unit {0}
+OpeningMessage (NoSuchSlot _) = Unit {0}
+OpeningMessage (SlotDisabled _) = Unit {0}
+OpeningMessage (SlotSkipped _ _) = Unit {0}
+OpeningMessage (NothingTried _) = Unit {0}
+OpeningMessage KeyFileLength = Unit {0}
+OpeningMessage (NoKey _) = Unit {0}
+OpeningMessage OutOfMemory = Unit {0}
+OpeningMessage ReadFailed = Unit {0}
+OpeningMessage _ = ⊥
+
+-- a run may end with this message before it tries a key slot
+abbrev pub ends_untried : Message → Bool
+ends_untried Done = false
+ends_untried (NoKey _) = false
+ends_untried CutBeforePayload = false
+ends_untried (Tail _) = false
+ends_untried (Short _) = false
+ends_untried WriteFailed = false
+ends_untried _ = true
+
+-- ---- volumes and outcomes
+
+-- a volume: its header, its segment, and the key slots to be tried
+pub record Volume : Type 0 where
+  pub header : Header
+  pub segment : Segment
+  pub order : OrderModel
+
+-- the volume with this order of key slots
+abbrev pub volume_in_order : Option ℕ → Header → Segment → Result OrderModel OpenFault → Result Volume Message
+volume_in_order named header segment (Ok order) = Ok (record { header = header; segment = segment; order = order })
+volume_in_order named header segment (Err fault) = Err (message_for_opening named fault)
+
+-- the volume with this segment
+abbrev pub volume_in_segment : Option ℕ → Option ℕ → Header → Result Segment SegmentFault → Result Volume Message
+volume_in_segment named limit header (Ok segment) = volume_in_order named header segment (order_of header named limit)
+volume_in_segment named limit header (Err fault) = Err (SegmentRefused fault)
+
+-- the volume with this header, by the named key slot and the limit on iterations
+abbrev pub volume_in_header : Option ℕ → Option ℕ → Result Header HeaderFault → Result Volume Message
+volume_in_header named limit (Ok header) = volume_in_segment named limit header (segment_of header)
+volume_in_header named limit (Err fault) = Err (message_for_header fault)
+
+-- the volume whose header is read in this way, or the message if there is none: about its header first, then about its
+-- segment, then about the order of its key slots
+unfoldable pub volume_by : HeaderReader → SlotChoice → List ℕ → Result Volume Message
+volume_by read slots image = volume_in_header slots.named slots.max_iterations (read image)
+
+-- the volume of an image
+abbrev pub volume_of : SlotChoice → List ℕ → Result Volume Message
+volume_of = volume_by header_of
+
+-- the number of bytes of the image that are consumed to open the volume: up to the end of those read for the header or
+-- of the last key material of the slots to be tried, whichever comes last
+abbrev pub unlock_read_len : List ℕ → Volume → ℕ
+unlock_read_len image volume = max (header_read_len image) (key_material_end volume.order.entries)
+
+-- what a command does with an opened volume, by its segment, the key slot and key that opened it, and the number of
+-- bytes of its image that were consumed so far
+abbrev pub OnOpened : Type 0
+OnOpened = Segment → Opened → ℕ → Outcome
+
+-- `testPassphrase`: the line about the key slot that opens is written
+abbrev pub slot_outcome : List ℕ → OnOpened
+slot_outcome secret segment opened loaded =
+    record (no_output Done loaded (length secret)) { output = opened_line opened.slot }
+
+-- `luksCat`: the payload is written as plaintext
+abbrev pub payload_outcome : List ℕ → List ℕ → OnOpened
+payload_outcome image secret segment opened loaded = record {
+  output = plain_of segment (segment.mode, opened.key) image;
+  message = message_at_end (ending_of segment image);
+  input_consumed = max loaded (payload_end_of segment image);
+  secret_consumed = length secret;
+  payload_consumed = 0;
+}
+
+-- `luksCat` with a detached header: the image holds the payload alone
+abbrev pub detached_payload_outcome : List ℕ → List ℕ → OnOpened
+detached_payload_outcome image secret segment opened loaded =
+    record (payload_outcome image secret segment opened loaded)
+    { input_consumed = loaded; payload_consumed = payload_end_of segment image }
+
+-- the outcome after the key slots were tried
+abbrev pub opened_outcome : OnOpened → Option ℕ → Volume → List ℕ → List ℕ → Result Opened OpenFault → Outcome
+opened_outcome on_opened named volume image secret (Ok opened) =
+    on_opened volume.segment opened (unlock_read_len image volume)
+opened_outcome on_opened named volume image secret (Err fault) =
+    no_output (message_for_opening named fault) (unlock_read_len image volume) (length secret)
+
+-- the outcome if a volume was found: the key file is read whole, then the image up to the end of the last key material,
+-- and the key slots are tried
+unfoldable pub found_outcome : OnOpened → Option ℕ → Volume → List ℕ → List ℕ → Outcome
+found_outcome on_opened named volume image secret =
+    if nat_lt max_key_file_len (length secret) then no_output KeyFileLength (header_read_len image)
+    (max_key_file_len + 1)
+    else (if nat_lt (length image) (key_material_end volume.order.entries)
+    then no_output Cut (length image) (length secret)
+    else opened_outcome on_opened named volume image secret (opening_of volume.order image secret))
+
+-- the outcome, whether or not a volume was found
+abbrev pub outcome_after : OnOpened → Option ℕ → List ℕ → List ℕ → Result Volume Message → Outcome
+outcome_after on_opened named image secret (Ok volume) = found_outcome on_opened named volume image secret
+outcome_after on_opened named image secret (Err message) = no_output message (header_read_len image) 0
+
+-- the outcome of a command that opens a volume whose header is read in this way
+unfoldable pub volume_outcome_by : HeaderReader → OnOpened → SlotChoice → List ℕ → List ℕ → Outcome
+volume_outcome_by read on_opened slots image secret =
+    outcome_after on_opened slots.named image secret (volume_by read slots image)
+
+-- the outcome of a command that opens a volume
+abbrev pub volume_outcome : OnOpened → SlotChoice → List ℕ → List ℕ → Outcome
+volume_outcome = volume_outcome_by header_of
+
+-- ---- finding the volume that a header describes
+
+-- the header that is read in this way has this segment
+abbrev pub HasSegmentBy : HeaderReader → List ℕ → Segment → Type 0
+HasSegmentBy read image segment = (header : Header) × (read image ≡ Ok header) × (segment_of header ≡ Ok segment)
+
+-- the image has a header with this segment
+abbrev pub HasSegment : List ℕ → Segment → Type 0
+HasSegment = HasSegmentBy header_of
+
+-- no volume whose header is read in this way was found, for this reason: a read failed, memory ran out, or the image
+-- has none
+abbrev pub FindsNoVolume : HeaderReader → SlotChoice → List ℕ → Option (List ℕ) → Message → Type 0
+FindsNoVolume read slots image left ReadFailed = ConsumedAtMost image left (header_read_len image)
+FindsNoVolume read slots image left OutOfMemory = ConsumedAtMost image left (header_read_len image)
+FindsNoVolume read slots image left message =
+    (volume_by read slots image ≡ Err message) × ConsumedExactly image left (header_read_len image)
+
+-- a volume has the segment of its header, and the order of its header's key slots
+pub record MatchesHeader (slots : SlotChoice) (volume : FoundVolume) : Type 0 where
+  pub segment : segment_of volume.header ≡ Ok volume.segment
+  pub order : order_of volume.header slots.named slots.max_iterations ≡ Ok volume.order
+
+-- a volume was found: its area has the bytes that were consumed and no more, and its header is the one read from them
+pub record FindsVolume (location : HeaderLocation) (choice : SlotChoice) (volume : FoundVolume)
+    (before after : Option (List ℕ)) (counts counts' : ReadCounts) : Type 0 where
+  pub slots : MatchesHeader choice volume
+  pub of_area : reader_for location volume.area.bytes ≡ Ok volume.header
+  pub area : length volume.area.bytes ≡ header_read_len volume.area.bytes
+  pub header : IfKnown before (λ known. (reader_for location known ≡ Ok volume.header)
+      × (volume.area.bytes ≡ take (header_read_len known) known) × ConsumedExactly known after (header_read_len known))
+  pub loaded : LoadedFrom volume.area before after counts counts'
+
+-- ---- trying the key slots of a volume
+
+-- the key slot that opened a volume, and the key that it gave
+abbrev pub opened_of : UnlockedVolume → Opened
+opened_of volume = record { slot = volume.slot; key = volume.key }
+
+-- the image was consumed up to the end of the last key material, or up to its own end if that comes first
+abbrev pub ConsumedMaterial : OrderModel → List ℕ → List ℕ → List ℕ → Option (List ℕ) → Type 0
+ConsumedMaterial order area area' rest left =
+    ConsumedOnto area area' rest left (min (key_material_end order.entries - length area) (length rest))
+
+-- the key slots of a volume whose header was read were tried: the image was consumed up to the end of the last key
+-- material, and the result is the volume with this segment that those key slots open under this passphrase, or their
+-- fault. Otherwise a read failed, or memory ran out, or the image ended before that
+abbrev pub TriesSlots : Option ℕ → Segment → OrderModel → List ℕ → List ℕ → List ℕ → List ℕ → Option (List ℕ)
+    → Result UnlockedVolume Message → Type 0
+TriesSlots named segment order pass area area' rest left (Ok volume) = ConsumedMaterial order area area' rest left
+    × (key_material_end order.entries ≤ length area') × (volume.segment ≡ segment)
+    × (opening_of order area' pass ≡ Ok (opened_of volume))
+TriesSlots named segment order pass area area' rest left (Err message) =
+    ((fault : HeaderFault) × (message ≡ message_for_header fault)
+    × AbortsConsuming (key_material_end order.entries - length area) area area' rest left fault)
+    ⊎ (ConsumedMaterial order area area' rest left × ((message ≡ Cut × (length area' < key_material_end order.entries))
+    ⊎ ((fault : OpenFault) × (message ≡ message_for_opening named fault)
+    × (key_material_end order.entries ≤ length area') × (opening_of order area' pass ≡ Err fault))))
+
+-- if the key material is loaded, the key slots were tried, and the count of work was raised once by the evaluations of
+-- HMAC that this costs; otherwise they were not tried, and the count is what it was
+abbrev pub CountsTrials : OrderModel → List ℕ → List ℕ → Message → ℕ → ℕ → Type 0
+CountsTrials order area pass message work work' =
+    ((key_material_end order.entries ≤ length area) × (work' ≡ capped (work + work_of order area pass)))
+    ⊎ ((length area < key_material_end order.entries) × (ends_untried message ≡ true) × (work' ≡ work))
+
+-- trying the key slots hit EOF on the image only if the message is that the image ended
+abbrev pub HitsMaterialEof : Message → Bool → Type 0
+HitsMaterialEof Cut ended = Unit {0}
+HitsMaterialEof _ ended = ended ≡ false

@@ -1,2 +1,0 @@
-pub mod HonestVolumes
-pub mod VolumeLemmas
