@@ -5,7 +5,7 @@ use Rattle.luks_open.specs.declared.volume_key.KeyCheck.{KeyCheck}
 use Rattle.luks_open.specs.declared.volume_key.KeyCheck.TheVariants.{Matches, Differs, NoDigest}
 use Rattle.luks_report.specs.declared.message.Message.{Message}
 use Rattle.luks_report.specs.declared.message.Message.TheVariants.{Done}
-use Rattle.luks_runs.proofs.VolumeLemmas.{header_decided}
+use Rattle.luks_runs.proofs.PrefixLemmas.{header_decided}
 use Rattle.luks_c.proofs.StoredLemmas.{no_read}
 use Rattle.luks_c.specs.Keys.{check_code, is_compared}
 use Rattle.luks_c.specs.Stored.{BeginsAs, code_for, limit_in, location_in}

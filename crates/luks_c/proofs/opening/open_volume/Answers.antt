@@ -3,7 +3,7 @@ use Rattle.luks_io.specs.Counts.{MemSourceModel}
 use Rattle.luks_cipher.proofs.ModeLemmas.{max_mode_key}
 use Rattle.luks_report.specs.declared.message.Message.{Message}
 use Rattle.luks_report.specs.declared.message.Message.TheVariants.{Done}
-use Rattle.luks_runs.proofs.VolumeLemmas.{outcome_decided}
+use Rattle.luks_runs.proofs.PrefixLemmas.{outcome_decided}
 use Rattle.luks_runs.specs.Volume.{OpeningMessage}
 use Rattle.luks_c.proofs.StoredLemmas.{no_read}
 use Rattle.luks_c.specs.Stored.{code_for}
