@@ -17,7 +17,7 @@ use Rattle.luks_runs.specs.Payload.{max_payload_end}
 use Rattle.luks_runs.specs.Run.{Promptness, ConsumedNothing, AnyPromptness, is_run_read_failure}
 use Rattle.luks_runs.specs.Run.{is_run_write_failure, DetachedRunMatches, aborts, Outcome}
 use Rattle.luks_runs.specs.Stripe.{max_key_len, PromptSplit, merge_outcome, split_outcome}
-use Rattle.luks_runs.specs.Volume.{HasSegmentBy, HasSegment, slot_outcome, volume_by, OnOpened}
+use Rattle.luks_runs.specs.Volume.{HasSegmentBy, slot_outcome, volume_by, OnOpened}
 use Rattle.luks_runs.specs.Volume.{Volume, volume_outcome_by, OpeningMessage, unlock_read_len}
 use Rattle.luks_runs.specs.Volume.{ends_untried}
 use Rattle.luks_runs.specs.Volume.{detached_payload_outcome, payload_outcome}
@@ -25,7 +25,7 @@ use Rattle.luks_runs.specs.Honest.{OpensHonest}
 use Rattle.luks_verdict.specs.declared.segment.Segment.{Segment}
 use Rattle.luks_report.specs.declared.message.Message.{Message}
 use Rattle.luks_report.specs.declared.message.Message.TheVariants.{Done, ReadFailed, WriteFailed}
-use Rattle.luks_header.specs.Header.{header_read_len}
+use Rattle.luks_header.specs.Header.{header_of, header_read_len}
 use Rattle.luks_kdf.specs.Pbkdf2.{capped}
 use Rattle.luks_open.specs.Opening.{work_of}
 use Rattle.luks_open.specs.declared.opening.Opened.{Opened}
@@ -80,7 +80,7 @@ PromptForwarding s header_len _ consumed output = Unit {0}
 -- is in an image of its own, and no byte of that image is consumed for a header
 abbrev pub PromptCat : HeaderLocation → List ℕ → Promptness
 PromptCat Attached image message input_consumed payload_consumed secret_consumed output =
-    (segment : Segment) → HasSegment image segment
+    (segment : Segment) → HasSegmentBy header_of image segment
     → PromptForwarding segment (header_read_len image) message input_consumed output
 PromptCat Detached file message input_consumed payload_consumed secret_consumed output =
     (segment : Segment) → HasSegmentBy detached_header_of file segment

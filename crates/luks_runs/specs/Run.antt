@@ -19,13 +19,8 @@ pub record Outcome : Type 0 where
 
 -- an outcome without output
 abbrev pub no_output : Message → ℕ → ℕ → Outcome
-no_output message input_consumed secret_consumed = record {
-  output = [];
-  message = message;
-  input_consumed = input_consumed;
-  secret_consumed = secret_consumed;
-  payload_consumed = 0;
-}
+no_output message input secret =
+    record { output = []; message = message; input_consumed = input; secret_consumed = secret; payload_consumed = 0 }
 
 -- an allocation, a read or a write failed
 abbrev pub aborts : Message → Bool

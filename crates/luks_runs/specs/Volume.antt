@@ -159,10 +159,6 @@ volume_outcome = volume_outcome_by header_of
 abbrev pub HasSegmentBy : HeaderReader → List ℕ → Segment → Type 0
 HasSegmentBy read image segment = (header : Header) × (read image ≡ Ok header) × (segment_of header ≡ Ok segment)
 
--- the image has a header with this segment
-abbrev pub HasSegment : List ℕ → Segment → Type 0
-HasSegment = HasSegmentBy header_of
-
 -- no volume whose header is read in this way was found, for this reason: a read failed, memory ran out, or the image
 -- has none
 abbrev pub FindsNoVolume : HeaderReader → SlotChoice → List ℕ → Option (List ℕ) → Message → Type 0
