@@ -5,7 +5,7 @@
 pub mod check;
 pub mod dump;
 mod escaping;
-mod faults;
+mod fault_messages;
 pub mod field;
 pub mod findings;
 pub mod input;

@@ -6,5 +6,5 @@ mod digests;
 mod fixture;
 mod generated;
 mod header;
-mod second;
+mod luks2;
 mod validation;

@@ -4,9 +4,9 @@
 mod digests;
 mod fixture;
 mod kinds;
-mod rows;
 mod segments;
 mod slots;
+mod tables;
 mod trees;
 
 use std::process::Abort;

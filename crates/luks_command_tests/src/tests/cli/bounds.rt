@@ -1,7 +1,7 @@
 //! Numbers in a header on both sides of each bound, and devices that fail after a number of bytes.
 
-use super::rows::{CAT_ROW, Output, Row, check_rows, opened};
 use super::runs::{ALL, NO_KEY, OFFSET, TEST, WRITE_FAILED};
+use super::tables::{CAT_ROW, Output, Row, check_rows, opened};
 use super::volume::{Changes, PASSPHRASE, changed, usual};
 
 // Offsets in a LUKS1 header.

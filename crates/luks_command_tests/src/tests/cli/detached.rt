@@ -1,10 +1,10 @@
 //! Detached headers.
 
-use super::rows::Output;
 use super::runs::{
     BEFORE, CAT, CAT_DETACHED, CUT, DONE, Ends, FINDINGS, Inputs, Left, NO_KEY, NOT_LUKS, OFFSET,
     TEST_DETACHED, TORN_511, check,
 };
+use super::tables::Output;
 use super::volume::{
     AT_START, Changes, PASSPHRASE, PLAIN, USUAL_LEN, changed, payload_of, prefix2, usual,
 };

@@ -1,7 +1,7 @@
 //! The commands on headers, over LUKS1 and over images without a header.
 
-use super::rows::{CAT_ROW, HEADER_ROW, Output, Row, check_rows};
 use super::runs::{ALL, CUT, DONE, FINDINGS, NOT_LUKS, WRITE_FAILED};
+use super::tables::{CAT_ROW, HEADER_ROW, Output, Row, check_rows};
 use super::volume::{Changes, changed};
 
 // The state of a key slot that is not in use.

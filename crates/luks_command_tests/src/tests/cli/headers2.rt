@@ -1,8 +1,8 @@
 //! The commands on headers, over LUKS2.
 
 use super::headers::PrintedText;
-use super::rows::{HEADER_ROW, Output, Row, check_rows};
 use super::runs::{FINDINGS, NOT_LUKS};
+use super::tables::{HEADER_ROW, Output, Row, check_rows};
 use luks_test_support::header2::{SIZE, image_of};
 use std::process::Abort;
 

@@ -1,7 +1,7 @@
 //! Volumes in each mode, with attached and detached headers.
 
-use super::rows::{CAT_ROW, Output, Row, check_rows, opened, refused, written};
 use super::runs::{CAT_DETACHED, DONE, Inputs, NO_KEY, check};
+use super::tables::{CAT_ROW, Output, Row, check_rows, opened, refused, written};
 use super::volume::{
     AT_START, KEY, PASSPHRASE, PLAIN, PLAIN_LEN, USUAL, changed, payload_of, sealed, usual,
 };

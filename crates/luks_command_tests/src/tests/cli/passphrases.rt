@@ -1,8 +1,8 @@
 //! Key files, key slots and options of the commands that open a volume.
 
-use super::rows::{CAT_ROW, Output, Row, check_rows, opened, refused, written};
 use super::runs::{ALL, CAT, DONE, Ends, Inputs, NO_KEY, OPENS, TEST, check, run_over, sink};
 use super::same::assert_same_in;
+use super::tables::{CAT_ROW, Output, Row, check_rows, opened, refused, written};
 use super::volume::{
     Changes, NEWEST, PASSPHRASE, PLAIN_LEN, SMALL, SMALL_LEN, USUAL_LEN, changed, sealed, usual,
 };

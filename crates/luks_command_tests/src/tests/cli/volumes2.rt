@@ -3,10 +3,10 @@
 
 use super::calls::{Hardship, check_trial};
 use super::devices::Trial;
-use super::rows::{CAT_ROW, Output, Row, check_rows, opened, refused, written};
 use super::runs::{
     ALL, BEFORE, CAT, DONE, Inputs, NO_KEY, TEST, WRITE_FAILED, check, check_within,
 };
+use super::tables::{CAT_ROW, Output, Row, check_rows, opened, refused, written};
 use super::volume::{
     Changes, KEY, NAMES_64_KIB, PASSPHRASE, PLAIN, PLAIN_LEN, SLOT, SMALL_LEN, changed, followed,
     plain_of, prefix2_of, sealed2, text_of,

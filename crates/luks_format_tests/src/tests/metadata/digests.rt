@@ -1,7 +1,7 @@
 //! Which digests are usable, and which one a slot is opened against.
 
 use super::fixture::{ATTACHED, joined, metadata};
-use super::rows::{Subject, check_rows};
+use super::tables::{Subject, check_rows};
 use crate::tests::shared::assert_of;
 use luks_kdf::Hash;
 use luks_verdict::digest::KeyDigest;

@@ -1,7 +1,7 @@
 //! The faults of a segment, each bound from both sides, attached and detached.
 
 use super::fixture::{ATTACHED, metadata};
-use super::rows::{Subject, check_rows};
+use super::tables::{Subject, check_rows};
 use crate::tests::shared::assert_of;
 use luks_cipher::Mode;
 use luks_verdict::sector_size::SectorSize;

@@ -2,7 +2,7 @@
 
 use super::assert_answer;
 use super::fixture::{ATTACHED, changed, metadata, read, text_with};
-use super::rows::{Subject, check_rows, check_verdicts};
+use super::tables::{Subject, check_rows, check_verdicts};
 use crate::tests::shared::assert_of;
 use luks_cipher::Mode;
 use luks_kdf::Hash;

@@ -1,8 +1,8 @@
 //! Volumes that are truncated at every offset where it matters.
 
-use super::rows::{CAT_ROW, Output, Row, check_rows};
 use super::runs::{BEFORE, CAT, CUT, DONE, Inputs, NOT_LUKS, TORN_511, check};
 use super::same::assert_same_in;
+use super::tables::{CAT_ROW, Output, Row, check_rows};
 use super::volume::{PASSPHRASE, PLAIN, PLAIN_LEN, SMALL_LEN, sealed2, small, usual};
 use luks_seal_fixtures::bytes::at;
 use std::process::Abort;
