@@ -1,7 +1,6 @@
 //! Where the payload is, or why it cannot be read.
 
 ghost use Rattle.std.specs.Prelude.{◌≡◌, option_map};
-ghost use Rattle.luks_verdict.specs.SectorSize.{sector_size_with};
 ghost use Rattle.luks_verdict.specs.Table.{first_match};
 ghost use Rattle.luks2_metadata.specs.Segment2.{has_none_of, has_requirement, has_segment_members};
 ghost use Rattle.luks2_metadata.specs.Segment2.{is_empty_array, is_segment, size_is_wrong};
@@ -90,25 +89,12 @@ fn size(segment: &Value) -> Option<Option<u64>>
     Some(Some(decimal_member(segment, "size")?))
 }
 
-// The sector size of this many bytes, if there is one.
-fn sector_size_with(bytes: u64) -> Option<SectorSize>
-    ensures { result ≡ sector_size_with bytes }
-{
-    match bytes {
-        512 => Some(SectorSize::B512),
-        1024 => Some(SectorSize::B1024),
-        2048 => Some(SectorSize::B2048),
-        4096 => Some(SectorSize::B4096),
-        _ => None,
-    }
-}
-
 // The segment's sector size.
 #[tactic(auto, unfolding(crate::specs::Segment2::sector_size_of))]
 fn sector_size(segment: &Value) -> Option<SectorSize>
     ensures { result ≡ sector_size_of (data_of segment.now) }
 {
-    sector_size_with(integer_member(segment, "sector_size")?)
+    SectorSize::with_bytes(integer_member(segment, "sector_size")?)
 }
 
 // The mode in which the segment's sectors are encrypted.

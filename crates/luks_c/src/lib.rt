@@ -102,7 +102,7 @@ pub extern "C" fn luksrd_len(volume: &LuksrdVolume, image_len: u64) -> u64
         → length image ≡ image_len
         → result ≡ length (plaintext_of v image) }
 {
-    let Some(sector_size) = volume::sector_size_with(volume.sector_size) else {
+    let Some(sector_size) = volume::sector_size(volume) else {
         return 0;
     };
     let Some(size) = volume::size(volume) else {
@@ -126,7 +126,7 @@ pub extern "C" fn luksrd_ending(
         → EndsAs (ending_of v.segment image) result bytes.new message.new }
 {
     *bytes = 0;
-    let Some(sector_size) = volume::sector_size_with(volume.sector_size) else {
+    let Some(sector_size) = volume::sector_size(volume) else {
         return answer_code(BAD_VOLUME, message);
     };
     let Some(size) = volume::size(volume) else {

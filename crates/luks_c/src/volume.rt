@@ -66,17 +66,11 @@ fn mode_of_number(number: u32) -> Option<Mode>
     }
 }
 
-/// The sector size with this number of bytes.
-pub(crate) fn sector_size_with(bytes: u32) -> Option<SectorSize>
-    ensures { result ≡ sector_size_with bytes }
+/// The sector size of its payload, if the struct has one.
+pub(crate) fn sector_size(volume: &LuksrdVolume) -> Option<SectorSize>
+    ensures { result ≡ sector_size_with volume.now.sector_size }
 {
-    match bytes {
-        512 => Some(SectorSize::B512),
-        1024 => Some(SectorSize::B1024),
-        2048 => Some(SectorSize::B2048),
-        4096 => Some(SectorSize::B4096),
-        _ => None,
-    }
+    SectorSize::with_bytes(u64::from(volume.sector_size))
 }
 
 /// The length of its payload, if that is fixed, or `None` if the struct does not say whether it is.
@@ -98,7 +92,7 @@ pub(crate) fn segment(volume: &LuksrdVolume) -> Option<Segment>
         offset: Some(volume.offset),
         size: size(volume),
         iv_tweak: Some(volume.iv_tweak),
-        sector_size: sector_size_with(volume.sector_size),
+        sector_size: sector_size(volume),
         mode: mode_of_number(volume.mode),
     })
 }

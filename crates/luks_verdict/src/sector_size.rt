@@ -16,7 +16,20 @@ pub enum SectorSize {
 }
 
 impl SectorSize {
-    ghost use Rattle.luks_verdict.specs.SectorSize.{bytes_of};
+    ghost use Rattle.luks_verdict.specs.SectorSize.{bytes_of, sector_size_with};
+
+    /// The sector size of this many bytes, if there is one.
+    pub fn with_bytes(bytes: u64) -> Option<SectorSize>
+        ensures { result ≡ sector_size_with bytes }
+    {
+        match bytes {
+            512 => Some(SectorSize::B512),
+            1024 => Some(SectorSize::B1024),
+            2048 => Some(SectorSize::B2048),
+            4096 => Some(SectorSize::B4096),
+            _ => None,
+        }
+    }
 
     /// The length in bytes.
     pub fn bytes(self) -> usize
