@@ -44,8 +44,25 @@ end_children() {
 disown
 
 work=$(mktemp -d)
-trap 'rm -rf "$work"' EXIT
+# a script that fails or is ended leaves no server either
+trap 'each_server kill; rm -rf "$work"' EXIT
 cd "$work" || exit 1
+
+# each_server COMMAND..: runs this with the process of each server that the script started and that still runs. Those in
+# the background are no children of the script, but have its folder in their environment. This starts no process by
+# itself: while a script that hangs is ended, all that it starts is killed.
+each_server() {
+    local process name variable
+    for process in /proc/[0-9]*; do
+        read -r name <"$process/comm" || continue
+        case $name in nbdkit | nbdfuse | qemu-nbd) ;; *) continue ;; esac
+        while IFS= read -r -d '' variable; do
+            case $variable in *"$work"*) "$@" "${process#/proc/}"; break ;; esac
+        done <"$process/environ"
+    done 2>/dev/null
+}
+servers() { each_server ps -o args= -p; }
+no_servers() { [ -z "$(servers)" ]; }
 
 # wait_until PID COMMAND..: waits until the command succeeds. It fails if it still does not when this process has
 # ended, or hangs.
@@ -211,8 +228,10 @@ scarce() {
     passed=$((before + (failed == failures)))
 }
 
-# finish: the counts, and whether all was as expected; a script of which no check was made fails
+# finish: the counts, and whether all was as expected, and no server is left, once those that were killed have had the
+# time to end; a script of which no check was made fails
 finish() {
+    wait_until $$ no_servers || same 'servers that still run' "$(servers)" ''
     echo "$passed passed, $failed failed, $skipped skipped"
     [ "$failed" = 0 ] && [ "$passed" -gt 0 ]
 }

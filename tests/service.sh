@@ -22,7 +22,6 @@ setting() {
         sed -e "s|%t|$work/run|g" -e "s|%d|$work/credentials|g" -e 's|%i|srv-disk.img|g' -e "s|%f|$work/disk.img|g" \
             -e "s| luksrd | $plugin |"
 }
-trap '{ kill "$(cat "$(setting PIDFile)")"; } 2>/dev/null; rm -rf "$work"' EXIT
 gzip -dc "$sources/sample/volume.img.gz" >disk.img
 mkdir credentials libraries
 ln -s "$shared" libraries/libluksrd.so.2
