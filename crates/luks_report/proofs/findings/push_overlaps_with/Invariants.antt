@@ -1,6 +1,6 @@
 use Rattle.std.proofs.Common.{◌≡◌, ◌++◌, flat_map, take, string_bytes}
 use Rattle.luks_report.specs.Findings.{overlap}
-use Rattle.luks_report.proofs.check.push_overlaps_with.Given as goal
+use Rattle.luks_report.proofs.findings.push_overlaps_with.Given as goal
 
 -- the findings so far
 abbrev pub invariant-loop-second : goal.invariant-loop-second

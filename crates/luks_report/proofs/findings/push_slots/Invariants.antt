@@ -1,6 +1,6 @@
 use Rattle.std.proofs.Common.{◌≡◌, ◌++◌, flat_map, take, string_bytes}
 use Rattle.luks_report.specs.Findings.{slot_finding}
-use Rattle.luks_report.proofs.check.push_slots.Given as goal
+use Rattle.luks_report.proofs.findings.push_slots.Given as goal
 
 -- the findings so far
 abbrev pub invariant-loop-verdict : goal.invariant-loop-verdict
