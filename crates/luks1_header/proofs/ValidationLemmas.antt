@@ -1,7 +1,7 @@
 -- Properties of a header whose segment is valid, and of a slot that there is no reason to skip.
-use Rattle.std.proofs.Common.{◌≡◌, ◌∙◌, ℕ, ◌+◌, ◌*◌, ◌≤◌, ap, sym, subst, refl, Bool, true, false, Option, Some, None}
-use Rattle.std.proofs.Common.{Ok, Err, arith}
-use Rattle.std.specs.Prelude.{if◌then◌else◌, option_and_then, slice_get}
+use Rattle.std.proofs.Common.{◌≡◌, ◌≢◌, ◌∙◌, ℕ, ◌+◌, ◌*◌, ◌≤◌, ap, sym, subst, refl, Bool, true, false, Option, Some}
+use Rattle.std.proofs.Common.{None, Ok, Err, arith}
+use Rattle.std.specs.Prelude.{if◌then◌else◌, is_none, option_and_then, slice_get}
 use Rattle.std.proofs.lemmas.Bool.Decides.{nat_tests}
 use Rattle.std.proofs.lemmas.Bool.{ltb-false, not-false}
 use Rattle.std.proofs.lemmas.Option.{same_Some}
@@ -10,10 +10,11 @@ use Rattle.luks_cipher.specs.declared.mode.Mode.{Mode}
 use Rattle.luks_kdf.specs.declared.hash.Hash.{Hash}
 use Rattle.luks_verdict.specs.Rule.{exceeds, iterations_out_of_range, is_in_range, area_out_of_range}
 use Rattle.luks_verdict.specs.Rule.{stripes_out_of_range, need_of}
-use Rattle.luks_verdict.specs.Segment.{segment_from}
-use Rattle.luks_verdict.specs.Slot.{are_in_range, material_end, verdict_by, verdict_kind_of, slot_from, slot_of}
-use Rattle.luks_verdict.proofs.MadeLemmas.{digest_there, mapped, of_usable, parts_made, refused_or-fault}
-use Rattle.luks_verdict.proofs.MadeLemmas.{refused_or-none, refused_or-ok, slot_from-yes, some_from_not_none}
+use Rattle.luks_verdict.specs.Segment.{segment_from, segment_of_all}
+use Rattle.luks_verdict.specs.Slot.{material_end, verdict_by, verdict_kind_of, slot_from}
+use Rattle.luks_verdict.proofs.MadeLemmas.{are_in_range, digest_there, mapped, of_usable, parts_made, refused_or-err}
+use Rattle.luks_verdict.proofs.MadeLemmas.{refused_or-fault, refused_or-none, refused_or-ok, slot_from-yes, slot_of}
+use Rattle.luks_verdict.proofs.MadeLemmas.{some_from_not_none}
 use Rattle.luks_verdict.proofs.TableLemmas.{none_holds}
 use Rattle.luks_verdict.specs.declared.digest.KeyDigest.{KeyDigest}
 use Rattle.luks_verdict.specs.declared.refusal.SegmentFault.{SegmentFault}
@@ -22,7 +23,7 @@ use Rattle.luks_verdict.specs.declared.segment.Segment.{Segment}
 use Rattle.luks_verdict.specs.declared.slot.Slot.{Slot}
 use Rattle.luks_verdict.specs.declared.slot.Verdict.TheVariants.{Usable, Disabled as VerdictDisabled}
 use Rattle.luks_verdict.specs.declared.slot.VerdictKind.TheVariants.{Usable as KindUsable}
-use Rattle.luks1_header.specs.Segment1.{fault1_of, is_key_length1, made1, overlaps_header1, segment1_of}
+use Rattle.luks1_header.specs.Segment1.{fault1_of, is_key_length1, overlaps_header1, segment1_of}
 use Rattle.luks1_header.specs.Segment1.{segment_faults1, segment_parts1_of}
 use Rattle.luks1_header.specs.Slot1.{digest1_of, hash1_of, is_disabled, area1_out_of_range, mode1_of, payload1_start}
 use Rattle.luks1_header.specs.Slot1.{reason1_of, slot1_at, slot1_of, slot_parts1_of, slot_reasons1, verdict1_at}
@@ -43,12 +44,30 @@ pub record IsSegment1 (header : Header1) (segment : Segment) : Type 0 where
   pub offset : segment.offset ≡ 512 * header.payload_offset
   pub mode : mode1_of header ≡ Some segment.mode
 
+-- if the mode is known, a segment is made
+made_in : (mode : Option Mode) (offset : ℕ) → is_none mode ≡ false
+    → segment_of_all (Some offset) (Some None) (Some 0) (Some B512) mode ≢ None
+made_in None offset known none = cc
+made_in (Some mode) offset known none = cc
+
+-- a segment without a fault is made
+pub made1 : (header : Header1) → fault1_of header ≡ None → segment_from (segment_parts1_of header) ≢ None
+unfolding fault1_of segment_from
+made1 header no_fault =
+    made_in (mode1_of header) (512 * header.payload_offset) (none_holds (segment_faults1 header) no_fault).0
+
+-- so a segment that is refused has that fault
+pub segment1-refused : (header : Header1) (fault : SegmentFault) → segment1_of header ≡ Err fault
+    → fault1_of header ≡ Some fault
+unfolding segment1_of
+segment1-refused header fault is = refused_or-err _ _ (made1 header) fault is
+
 -- a header whose segment is valid has that segment and can be read
 pub IsReadable-ok : (header : Header1) (segment : Segment) → segment1_of header ≡ Ok segment
     → IsSegment1 header segment × IsReadable header
 unfolding segment1_of segment_from fault1_of overlaps_header1
 IsReadable-ok header segment is =
-    let made = refused_or-ok _ _ (made1 header) segment is in
+    let made = refused_or-ok (fault1_of header) (segment_from (segment_parts1_of header)) segment is in
     let parts = parts_made (Some (512 * header.payload_offset)) (Some None) (Some 0) (Some B512) (mode1_of header)
     segment made.1 in
     let all = none_holds (segment_faults1 header) made.0 in
@@ -65,12 +84,13 @@ IsReadable-ok header segment is =
 pub segment1-fault : (header : Header1) (fault : SegmentFault) → fault1_of header ≡ Some fault
     → segment1_of header ≡ Err fault
 unfolding segment1_of
-segment1-fault header fault is = refused_or-fault _ _ (made1 header) fault is
+segment1-fault header fault is =
+    refused_or-fault (fault1_of header) (segment_from (segment_parts1_of header)) fault is
 
 pub segment1-none : (header : Header1) (segment : Segment) → fault1_of header ≡ None
     → segment_from (segment_parts1_of header) ≡ Some segment → segment1_of header ≡ Ok segment
 unfolding segment1_of
-segment1-none header segment none made = refused_or-none _ _ (made1 header) segment none made
+segment1-none header segment none made = refused_or-none _ _ segment none made
 
 -- ---- slots
 

@@ -1,11 +1,9 @@
 -- Where the payload of LUKS1 is, or why it cannot be read.
-use Rattle.std.specs.Prelude.{◌≡◌, ◌≢◌, ◌*◌, ◌&&◌, ℕ, not, nat_lt, Bool, false, List, [], ◌∷◌, Option, Some, None}
-use Rattle.std.specs.Prelude.{Result, is_none}
+use Rattle.std.specs.Prelude.{◌*◌, ◌&&◌, ℕ, not, nat_lt, Bool, false, List, [], ◌∷◌, Option, Some, None, Result, is_none}
 use Rattle.luks_cipher.specs.Sector.{is_mode_key_length}
 use Rattle.luks_cipher.specs.declared.mode.Mode.{Mode}
-use Rattle.luks_verdict.specs.Segment.{refused_or, segment_from, segment_of_all}
+use Rattle.luks_verdict.specs.Segment.{refused_or, segment_from}
 use Rattle.luks_verdict.specs.Table.{first_match}
-use Rattle.luks_verdict.proofs.TableLemmas.{none_holds}
 use Rattle.luks_verdict.specs.declared.refusal.SegmentFault.{SegmentFault}
 use Rattle.luks_verdict.specs.declared.refusal.SegmentFault.TheVariants.{Encryption, Hash, KeyBytes, Offset}
 use Rattle.luks_verdict.specs.declared.sector_size.SectorSize.TheVariants.{B512}
@@ -47,18 +45,6 @@ segment_parts1_of header = record {
   mode = mode1_of header;
 }
 
--- if the mode is known, a segment is made
-made_in : (mode : Option Mode) (offset : ℕ) → is_none mode ≡ false
-    → segment_of_all (Some offset) (Some None) (Some 0) (Some B512) mode ≢ None
-made_in None offset known none = cc
-made_in (Some mode) offset known none = cc
-
--- a segment without a fault is made
-pub made1 : (header : Header1) → fault1_of header ≡ None → segment_from (segment_parts1_of header) ≢ None
-unfolding fault1_of segment_from
-made1 header no_fault =
-    made_in (mode1_of header) (512 * header.payload_offset) (none_holds (segment_faults1 header) no_fault).0
-
 -- the segment of a header, or its first fault
 unfoldable pub segment1_of : Header1 → Result Segment SegmentFault
-segment1_of header = refused_or (fault1_of header) (segment_from (segment_parts1_of header)) (made1 header)
+segment1_of header = refused_or (fault1_of header) (segment_from (segment_parts1_of header))

@@ -4,11 +4,12 @@ use Rattle.std.proofs.Common.{◌≡◌, ◌∙◌, ℕ, ◌+◌, ◌*◌, true,
 use Rattle.std.proofs.Common.{List, [], ◌∷◌, get_or, bytes_eq, option_map, sym}
 use Rattle.luks_kdf.proofs.Pbkdf2Lemmas.{length-derived_key}
 use Rattle.luks_verdict.specs.Rule.{need_of}
-use Rattle.luks_verdict.specs.Segment.{segment_by, segment_from}
-use Rattle.luks_verdict.specs.Slot.{are_in_range, digest_of, has_no_usable_digest, is_usable, slot_from, slot_of}
+use Rattle.luks_verdict.specs.Segment.{segment_from}
+use Rattle.luks_verdict.specs.Slot.{has_no_usable_digest, slot_from}
 use Rattle.luks_verdict.specs.declared.sector_size.SectorSize.TheVariants.{B512}
 use Rattle.luks_verdict.specs.declared.slot.Verdict.TheVariants.{Usable}
-use Rattle.luks_verdict.proofs.MadeLemmas.{digest_from-yes, no_usable_digest-yes, slot_from-yes}
+use Rattle.luks_verdict.proofs.MadeLemmas.{are_in_range, digest_from-yes, digest_of, is_usable, no_usable_digest-yes}
+use Rattle.luks_verdict.proofs.MadeLemmas.{segment_by, slot_from-yes, slot_of}
 use Rattle.luks1_header.specs.Segment1.{fault1_of, segment1_of, overlaps_header1}
 use Rattle.luks1_header.specs.Slot1.{digest1_of, digest_parts1_of, hash1_of, area1_out_of_range, mode1_of}
 use Rattle.luks1_header.specs.Slot1.{payload1_start, reason1_of, slot1_of, slot_parts1_of, verdict1_of, verdict1_at}
@@ -70,7 +71,7 @@ module _ (p : Seal1) (fits : AreParameters1 p) (typed : AreTyped1 p) where
       rw (mode1_is, hash1_is, fits.key, le-ltb (512 * p.payload_sectors) 592 (omega (arith, fits.counts.3))) refl
 
   segment1_is : segment1_of (found_header p) ≡ Ok (segment1 p)
-  unfolding segment_from
+  unfolding segment_from segment_by
   segment1_is = segment1-none (found_header p) (segment1 p) no_fault (rw mode1_is refl)
 
   -- ---- the digest

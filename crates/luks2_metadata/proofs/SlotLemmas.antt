@@ -1,20 +1,19 @@
--- Properties of usable digests, of a slot that there is no reason to skip, and of the segment of a header.
-use Rattle.std.proofs.Common.{◌≡◌, ◌∙◌, ℕ, ◌<◌, ◌≤◌, ap, sym, subst, refl, true, false, Option, Some, None, arith, ◌≢◌}
-use Rattle.std.proofs.Common.{List, [], ◌∷◌, Result, Ok, Err, String, Global, length}
-use Rattle.std.specs.Prelude.{not, codes, is_none, is_some, option_and_then, option_map, unwrap_or, ◌==◌, ◌%◌}
-use Rattle.std.specs.Prelude.{◌||◌, nat_lt, if◌then◌else◌}
+-- Properties of usable digests, and of a slot that there is no reason to skip.
+use Rattle.std.proofs.Common.{◌≡◌, ◌∙◌, ℕ, ◌<◌, ◌≤◌, ap, sym, subst, refl, true, false, Option, Some, None, arith}
+use Rattle.std.proofs.Common.{length}
+use Rattle.std.specs.Prelude.{not, codes, is_none, is_some, option_and_then, option_map, unwrap_or}
 use Rattle.std.proofs.lemmas.Bool.Decides.{nat_tests}
-use Rattle.std.proofs.lemmas.Bool.{and_parts, ltb-false, not-false, or_parts, ne_eqb}
+use Rattle.std.proofs.lemmas.Bool.{and_parts, ltb-false, not-false, or_parts}
 use Rattle.std.proofs.lemmas.Option.{same_Some}
 use Rattle.luks_cipher.specs.declared.mode.Mode.{Mode}
 use Rattle.luks_cipher.proofs.ModeLemmas.{max_mode_key}
-use Rattle.luks_verdict.specs.Rule.{exceeds, in_range, iterations_out_of_range, is_in_range, area_out_of_range}
+use Rattle.luks_verdict.specs.Rule.{exceeds, iterations_out_of_range, is_in_range, area_out_of_range}
 use Rattle.luks_verdict.specs.Rule.{is_digest, stripes_out_of_range, max_iteration_count}
-use Rattle.luks_verdict.specs.Slot.{are_in_range, digest_of, has_no_usable_digest, material_end, parts_end, slot_of}
+use Rattle.luks_verdict.specs.Slot.{has_no_usable_digest, material_end, parts_end}
 use Rattle.luks_verdict.specs.Slot.{slot_from, verdict_kind_of}
-use Rattle.luks_verdict.proofs.MadeLemmas.{digest_from-no, digest_from-yes, digest_there, mapped, of_usable}
-use Rattle.luks_verdict.proofs.MadeLemmas.{slot_from-yes, some_from_not_none, parts_made, refused_or-fault}
-use Rattle.luks_verdict.proofs.MadeLemmas.{refused_or-none, refused_or-ok}
+use Rattle.luks_verdict.proofs.MadeLemmas.{are_in_range, digest_from-no, digest_from-yes, digest_of, digest_there}
+use Rattle.luks_verdict.proofs.MadeLemmas.{mapped, of_usable, slot_from-yes, slot_of, some_from_not_none}
+use Rattle.luks_verdict.proofs.RangeLemmas.{in_range}
 use Rattle.luks_verdict.specs.declared.digest.KeyDigest.{KeyDigest}
 use Rattle.luks_verdict.specs.declared.slot.Slot.{Slot}
 use Rattle.luks_verdict.specs.declared.slot.Verdict.TheVariants.{Usable}
@@ -27,24 +26,12 @@ use Rattle.luks_verdict.proofs.TableLemmas.{none_holds}
 use Rattle.luks2_metadata.specs.Digest2.{digest2_for, digest2_of, digest_parts2_of, is_digest2, iterations_of_digest}
 use Rattle.luks2_metadata.specs.Digest2.{value_in}
 use Rattle.luks2_metadata.specs.declared.bounds.Bounds.{Bounds}
-use Rattle.luks2_metadata.specs.Segment2.{payload2_start, payload_mode2_of, are_none, fault2_of, has_requirement}
-use Rattle.luks2_metadata.specs.Segment2.{is_empty_array, iv_tweak_of, made2, mode2_of, offset_of, only_member}
-use Rattle.luks2_metadata.specs.Segment2.{sector_size_of, segment2_of, segment_faults, segment_parts2_of, segment_value}
-use Rattle.luks2_metadata.specs.Segment2.{size_member, overlaps_headers2, offset_is_wrong, the_segment}
+use Rattle.luks2_metadata.specs.Segment2.{payload2_start, payload_mode2_of}
 use Rattle.luks2_metadata.specs.Slot2.{slot_reasons, af_hash_of, are_key_sizes, area_key_size_of, area_mode_of}
 use Rattle.luks2_metadata.specs.Slot2.{area_offset_of, area2_out_of_range, has_unknown_hash, iterations_of_slot}
 use Rattle.luks2_metadata.specs.Slot2.{kdf_hash_of, key_size_of, priority_of, reason2_of, slot2_at, slot2_of}
 use Rattle.luks2_metadata.specs.Slot2.{slot_parts2_of, stripe_count_of, verdict2_at, verdict2_of}
-use Rattle.serde_json.specs.Data.{Data, Members, object}
-use Rattle.std.specs.Result.{result_ok}
-use Rattle.luks_verdict.specs.Segment.{segment_from}
-use Rattle.luks_verdict.specs.Table.{first_match}
-use Rattle.luks_verdict.specs.declared.refusal.SegmentFault.{SegmentFault}
-use Rattle.luks_verdict.specs.declared.refusal.SegmentFault.TheVariants.{Requirement, Segments}
-use Rattle.luks_verdict.specs.declared.segment.Segment.{Segment}
-use Rattle.serde_json.specs.Find.{as_array, as_object, get, get_member}
-use Rattle.serde_json.specs.View.{items_view, members_view}
-use Rattle.serde_json.specs.declared.value.Value.{Value}
+use Rattle.serde_json.specs.Data.{Data}
 
 -- ---- usable digests
 
@@ -255,119 +242,3 @@ usable2_at tree bounds limit number usable is =
     (Usable usable) is in
     let known = usable_is tree bounds limit number slot.0 usable slot.2 in
     (known.0, ap (option_and_then (slot2_of tree bounds number)) slot.1 ∙ known.1)
-
--- ---- empty arrays
-
-none_viewed : (values : List Value) → (length values == 0) ≡ are_none (items_view values)
-none_viewed [] = refl
-none_viewed (value ∷ rest) = ne_eqb (length (value ∷ rest)) 0 (λ e. omega (arith, e))
-
-pub empty_viewed : (value : Data) (values : List Value) (len : ℕ) → Some (items_view values) ≡ as_array value
-    → len ≡ length values → (len == 0) ≡ is_empty_array value
-empty_viewed value values len is same = rw (← is, same) (none_viewed values)
-
--- ---- the only member
-
-get_only : (name : List ℕ) (entries : List (String Global × Value)) → length entries ≡ 1
-    → get_member name (members_view entries) ≡ only_member name (members_view entries)
-get_only name [] one = absurd (omega arith)
-get_only name (entry ∷ []) one = refl
-get_only name (entry ∷ next ∷ rest) one = absurd (omega arith)
-
-none_only : (name : List ℕ) (entries : List (String Global × Value)) → length entries ≢ 1
-    → only_member name (members_view entries) ≡ None
-none_only name [] more = refl
-none_only name (entry ∷ []) more = absurd (more refl)
-none_only name (entry ∷ next ∷ rest) more = refl
-
--- looking up a name in an object looks it up among its members
-get_object : (name : List ℕ) (value : Data) (all : Members) → as_object value ≡ Some all
-    → get name value ≡ get_member name all
-get_object name (object found) all is = let same : found ≡ all = cc in ap (get_member name) same
-get_object name _ all is = absurd cc
-
--- the segment, if the object of segments has exactly one member, and if it has another number of members
-pub segment_only : (tree segments : Data) (entries : List (String Global × Value)) (found : Option Data)
-    → Some segments ≡ get (codes "segments") tree → Some (members_view entries) ≡ as_object segments
-    → length entries ≡ 1 → found ≡ get (codes "0") segments → found ≡ the_segment tree
-unfolding the_segment
-segment_only tree segments entries found there all one is =
-    let got = get_object (codes "0") segments (members_view entries) (sym all) in
-    rw (← there, ← all) (is ∙ (got ∙ get_only (codes "0") entries one))
-
-pub segment_none : (tree segments : Data) (entries : List (String Global × Value))
-    → Some segments ≡ get (codes "segments") tree → Some (members_view entries) ≡ as_object segments
-    → length entries ≢ 1 → None ≡ the_segment tree
-unfolding the_segment
-segment_none tree segments entries there all more = rw (← there, ← all) (sym (none_only (codes "0") entries more))
-
--- ---- the fault of a segment
-
-pub fault2-requirement : (tree : Data) (bounds : Bounds) → has_requirement tree ≡ true
-    → fault2_of tree bounds ≡ Some Requirement
-unfolding fault2_of
-fault2-requirement tree bounds requires = rw requires refl
-
-pub fault2-segments : (tree : Data) (bounds : Bounds) → has_requirement tree ≡ false → the_segment tree ≡ None
-    → fault2_of tree bounds ≡ Some Segments
-unfolding fault2_of
-fault2-segments tree bounds requires none = rw (requires, none) refl
-
--- if nothing is required and there is a segment, the first fault is that of the segment
-pub fault2-there : (tree : Data) (bounds : Bounds) (segment : Data) → has_requirement tree ≡ false
-    → the_segment tree ≡ Some segment → fault2_of tree bounds ≡ first_match (segment_faults bounds segment)
-unfolding fault2_of
-fault2-there tree bounds segment requires there = rw (requires, there) refl
-
--- a segment with a fault is refused with its first one; a segment without a fault is made from its parts
-pub segment2-fault : (tree : Data) (bounds : Bounds) (fault : SegmentFault) → fault2_of tree bounds ≡ Some fault
-    → segment2_of tree bounds ≡ Err fault
-unfolding segment2_of
-segment2-fault tree bounds fault is = refused_or-fault _ _ (made2 tree bounds) fault is
-
-pub segment2-none : (tree : Data) (bounds : Bounds) (segment : Segment) → fault2_of tree bounds ≡ None
-    → segment_from (segment_parts2_of (segment_value tree)) ≡ Some segment → segment2_of tree bounds ≡ Ok segment
-unfolding segment2_of
-segment2-none tree bounds segment none made = refused_or-none _ _ (made2 tree bounds) segment none made
-
--- if there is a segment, `segment_value` is its value
-pub segment_value-there : (tree segment : Data) → the_segment tree ≡ Some segment → segment_value tree ≡ segment
-segment_value-there tree segment there = rw there refl
-
--- ---- a segment that is not refused
-
--- with an attached header, a payload with a valid offset starts after the header
-starts_right : (bounds : Bounds) (offset : ℕ) → offset_is_wrong bounds (Some offset) ≡ false → bounds.detached ≡ false
-    → bounds.end ≤ offset
-unfolding offset_is_wrong overlaps_headers2
-starts_right bounds offset is attached =
-    let right : (nat_lt offset bounds.end || not (offset % 512 == 0)) ≡ false = rw attached at is in
-    grind (arith, nat_tests)
-
--- a segment that is not refused has the mode that key slots are checked against; with an attached header, it also has
--- the offset that they are checked against, and starts after the header
-pub record IsSegment2 (tree : Data) (bounds : Bounds) (segment : Segment) : Type 0 where
-  pub start : bounds.detached ≡ false → payload2_start tree bounds ≡ Some segment.offset
-  pub mode : payload_mode2_of tree bounds ≡ Some segment.mode
-  pub after_header : bounds.detached ≡ false → bounds.end ≤ segment.offset
-
-pub segment2-ok : (tree : Data) (bounds : Bounds) (segment : Segment) → segment2_of tree bounds ≡ Ok segment
-    → IsSegment2 tree bounds segment
-unfolding segment2_of payload2_start payload_mode2_of fault2_of segment_from segment_parts2_of
-segment2-ok tree bounds segment is =
-    let value = segment_value tree in
-    let made = refused_or-ok _ _ (made2 tree bounds) segment is in
-    let all = none_holds ((has_requirement tree, Requirement) ∷ (is_none (the_segment tree), Segments)
-    ∷ segment_faults bounds value) made.0 in
-    let parts = parts_made (offset_of value) (size_member value) (iv_tweak_of value) (sector_size_of value)
-    (mode2_of value) segment made.1 in
-    let wrong : offset_is_wrong bounds (offset_of value) ≡ false = all.1.1.1.1.1.1.1.0 in
-    let offset_in : Result Segment SegmentFault → Option ℕ =
-    λ read. option_map (λ (s : Segment). s.offset) (result_ok read) in
-    record {
-      start = λ attached.
-          subst (λ detached. (if detached then None else offset_in (segment2_of tree bounds)) ≡ Some segment.offset)
-          (sym attached) (ap offset_in is);
-      mode = rw is refl;
-      after_header = starts_right bounds segment.offset (subst (λ o. offset_is_wrong bounds o ≡ false) parts.0 wrong);
-    }

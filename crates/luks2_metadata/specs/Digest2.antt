@@ -45,13 +45,11 @@ unfoldable pub is_of_slot : ℕ → Data → Bool
 is_of_slot number digest =
     array_contains (codes "keyslots") (decimal number) digest && array_contains (codes "segments") (codes "0") digest
 
--- the digest, if it is usable and belongs to the key slot with this number
-unfoldable pub own_digest : ℕ → Data → Option KeyDigest
-own_digest number digest = if is_of_slot number digest then digest2_of digest else None
-
 -- digest number n, if it is usable and belongs to the key slot with this number
 unfoldable pub own_digest_at : Data → ℕ → ℕ → Option KeyDigest
-own_digest_at tree number n = option_and_then (own_digest number) (object_numbered (codes "digests") tree n)
+own_digest_at tree number n =
+    option_and_then (λ digest. if is_of_slot number digest then digest2_of digest else None)
+    (object_numbered (codes "digests") tree n)
 
 -- the digest that the key slot with this number is opened against: the lowest-numbered usable digest that belongs to it
 unfoldable pub digest2_for : Data → ℕ → Option KeyDigest

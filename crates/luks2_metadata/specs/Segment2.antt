@@ -1,15 +1,12 @@
 -- Where the payload of LUKS2 is, or why it cannot be read (LUKS2 On-Disk Format Specification 1.1, section 3, the
 -- segments object and the config object).
-use Rattle.std.specs.Prelude.{◌≡◌, ◌≢◌, ℕ, ◌%◌, ◌==◌, ◌&&◌, ◌||◌, not, nat_lt, Bool, true, false, List, [], ◌∷◌}
-use Rattle.std.specs.Prelude.{Option, Some, None, Result, codes, is_none, is_some, if◌then◌else◌}
-use Rattle.std.specs.Prelude.{option_and_then, option_map, unwrap_or}
+use Rattle.std.specs.Prelude.{ℕ, ◌%◌, ◌==◌, ◌&&◌, ◌||◌, not, nat_lt, Bool, true, false, List, [], ◌∷◌, Option, Some, None}
+use Rattle.std.specs.Prelude.{Result, codes, is_none, is_some, if◌then◌else◌, option_and_then, option_map, unwrap_or}
 use Rattle.std.specs.Result.{result_ok}
 use Rattle.luks_cipher.specs.declared.mode.Mode.{Mode}
-use Rattle.luks_verdict.specs.Rule.{evidence_if}
 use Rattle.luks_verdict.specs.SectorSize.{has_whole_sectors, sector_size_with}
-use Rattle.luks_verdict.specs.Segment.{refused_or, segment_by, segment_from, segment_of_all}
+use Rattle.luks_verdict.specs.Segment.{refused_or, segment_from}
 use Rattle.luks_verdict.specs.Table.{first_match}
-use Rattle.luks_verdict.proofs.TableLemmas.{none_holds}
 use Rattle.luks_verdict.specs.declared.refusal.SegmentFault.{SegmentFault}
 use Rattle.luks_verdict.specs.declared.refusal.SegmentFault.TheVariants.{Requirement, Segments, Member, Kind, Integrity}
 use Rattle.luks_verdict.specs.declared.refusal.SegmentFault.TheVariants.{Encryption, SectorSize, Offset, Size}
@@ -19,18 +16,15 @@ use Rattle.luks_verdict.specs.declared.segment.SegmentParts.{SegmentParts}
 use Rattle.luks2_metadata.specs.declared.bounds.Bounds.{Bounds}
 use Rattle.luks2_json.specs.Member.{decimal_member, has, string_is, is_type, string_member, integer_member, in_member}
 use Rattle.luks2_json.specs.Member.{encryption_mode}
-use Rattle.serde_json.specs.Data.{Data, null, Items, no_items, item, Members, no_members, member}
-use Rattle.serde_json.specs.Find.{as_array, as_object, get, get_member}
+use Rattle.serde_json.specs.Data.{Data, array, null, no_items, Members, no_members, member}
+use Rattle.serde_json.specs.Find.{as_object, get, get_member}
 
 -- ---- requirements
 
 -- the value is an empty array
-abbrev pub are_none : Items → Bool
-are_none no_items = true
-are_none (item value rest) = false
-
 abbrev pub is_empty_array : Data → Bool
-is_empty_array value = unwrap_or (option_map are_none (as_array value)) false
+is_empty_array (array no_items) = true
+is_empty_array _ = false
 
 -- the member with this name is missing or an empty array
 unfoldable pub has_none_of : List ℕ → Data → Bool
@@ -102,14 +96,10 @@ is_segment segment =
 
 -- ---- the table of faults
 
--- the segment starts inside an attached header
-unfoldable pub overlaps_headers2 : Bounds → ℕ → Bool
-overlaps_headers2 bounds offset = not bounds.detached && nat_lt offset bounds.end
-
 -- the segment has no offset, or starts inside an attached header or not at a multiple of 512 bytes
 unfoldable pub offset_is_wrong : Bounds → Option ℕ → Bool
 offset_is_wrong bounds None = true
-offset_is_wrong bounds (Some offset) = overlaps_headers2 bounds offset || not (offset % 512 == 0)
+offset_is_wrong bounds (Some offset) = (not bounds.detached && nat_lt offset bounds.end) || not (offset % 512 == 0)
 
 -- the segment's length or sector size is missing, or its length is fixed and not a multiple of the sector size
 unfoldable pub size_is_wrong : Option (Option ℕ) → Option Sector → Bool
@@ -145,50 +135,12 @@ segment_parts2_of segment = record {
   mode = mode2_of segment;
 }
 
--- ---- the segment that parts without a fault make
-
--- if a test holds, `make` gives a segment
-made_of_test : (test : Bool) (make : test ≡ true → Segment) → not test ≡ false
-    → option_map make (evidence_if test) ≢ None
-made_of_test true make holds none = cc
-made_of_test false make holds none = cc
-
--- parts that are all present make a segment, if its length is whole sectors or not fixed
-made_of_parts : (offset : Option ℕ) (size : Option (Option ℕ)) (iv_tweak : Option ℕ) (sector_size : Option Sector)
-    (mode : Option Mode) (encryption sized : Bool)
-    → (is_some offset && is_some size && is_some iv_tweak && encryption && sized) ≡ true
-    → is_none sector_size ≡ false → is_none mode ≡ false → size_is_wrong size sector_size ≡ false
-    → segment_of_all offset size iv_tweak sector_size mode ≢ None
-unfolding size_is_wrong
-made_of_parts (Some offset) (Some size) (Some iv_tweak) (Some sector_size) (Some mode) _ _ members z m whole =
-    made_of_test (has_whole_sectors size sector_size) (segment_by offset size iv_tweak sector_size mode) whole
-made_of_parts _ _ _ _ _ _ _ members z m whole = absurd cc
-
--- a valid segment of type crypt has its members
-members_there : (typed crypt members : Bool) → not (typed && (not crypt || members)) ≡ false → not crypt ≡ false
-    → members ≡ true
-members_there true true true is kind = cc
-members_there _ _ _ is kind = absurd cc
-
--- the values of a segment without a fault make a segment
-pub made2 : (tree : Data) (bounds : Bounds) → fault2_of tree bounds ≡ None
-    → segment_from (segment_parts2_of (segment_value tree)) ≢ None
-unfolding fault2_of segment_from segment_parts2_of is_segment has_segment_members
-made2 tree bounds no_fault =
-    let segment = segment_value tree in
-    let all = none_holds ((has_requirement tree, Requirement) ∷ (is_none (the_segment tree), Segments)
-    ∷ segment_faults bounds segment) no_fault in
-    let lines = all.1.1 in
-    let members = members_there _ _ _ lines.0 lines.1.0 in
-    made_of_parts (offset_of segment) (size_member segment) (iv_tweak_of segment) (sector_size_of segment)
-    (mode2_of segment) _ _ members lines.1.1.1.1.0 lines.1.1.1.0 lines.1.1.1.1.1.1.0
-
 -- ---- the segment
 
 -- the segment, or its first fault
 unfoldable pub segment2_of : Data → Bounds → Result Segment SegmentFault
 segment2_of tree bounds =
-    refused_or (fault2_of tree bounds) (segment_from (segment_parts2_of (segment_value tree))) (made2 tree bounds)
+    refused_or (fault2_of tree bounds) (segment_from (segment_parts2_of (segment_value tree)))
 
 -- ---- values that key slots are checked against
 

@@ -13,7 +13,7 @@ use Rattle.luks_verdict.specs.declared.refusal.SkipReason.TheVariants.{Stripes, 
 use Rattle.luks_verdict.specs.declared.slot.Slot.{Slot}
 use Rattle.luks_verdict.specs.declared.slot.SlotParts.{SlotParts}
 use Rattle.luks_verdict.specs.declared.slot.Verdict.{Verdict}
-use Rattle.luks2_json.specs.Member.{base64_member, decimal_member, is_type, passes, string_member, integer_member}
+use Rattle.luks2_json.specs.Member.{base64_member, decimal_member, has, is_type, passes, string_member, integer_member}
 use Rattle.luks2_json.specs.Member.{in_member, hash_member, iterations_in, salt_in, is_length_for, encryption_mode}
 use Rattle.luks2_metadata.specs.Digest2.{digest2_for}
 use Rattle.luks2_json.specs.Numbered.{object_numbered}
@@ -25,13 +25,10 @@ use Rattle.serde_json.specs.Find.{get}
 -- ---- members and their types
 
 -- the priority of a slot: 0, 1 or 2, and 1 if it has none; `None` for any other value
-abbrev pub priority_if_present : Option Data → Data → Option ℕ
-priority_if_present None slot = Some 1
-priority_if_present (Some _) slot =
-    option_and_then (λ n. if nat_le n 2 then Some n else None) (integer_member (codes "priority") slot)
-
 unfoldable pub priority_of : Data → Option ℕ
-priority_of slot = priority_if_present (get (codes "priority") slot) slot
+priority_of slot =
+    if has (codes "priority") slot
+    then option_and_then (λ n. if nat_le n 2 then Some n else None) (integer_member (codes "priority") slot) else Some 1
 
 -- the value is an `af` object of type luks1 with all its members: how the key material is split into stripes
 unfoldable pub is_af : Data → Bool
@@ -56,6 +53,7 @@ is_pbkdf2 kdf =
     && is_some (integer_member (codes "iterations") kdf)
     && is_some (base64_member (codes "salt") kdf)
 
+-- the value is a `kdf` object: its type is a string, and one of type pbkdf2 has all its parameters
 unfoldable pub is_kdf : Data → Bool
 is_kdf kdf = is_some (string_member (codes "type") kdf) && (not (is_type (codes "pbkdf2") kdf) || is_pbkdf2 kdf)
 
@@ -74,18 +72,23 @@ has_members slot =
 abbrev pub is_kdf_type : List ℕ → Data → Bool
 is_kdf_type type slot = passes (codes "kdf") (is_type type) slot
 
+-- the hash function of the key derivation
 abbrev pub kdf_hash_of : Data → Option Hash
 kdf_hash_of slot = in_member (codes "kdf") hash_member slot
 
+-- its iterations
 abbrev pub iterations_of_slot : Data → ℕ
 iterations_of_slot slot = unwrap_or (option_map iterations_in (get (codes "kdf") slot)) 0
 
+-- its salt
 abbrev pub salt_of : Data → List ℕ
 salt_of slot = unwrap_or (option_map salt_in (get (codes "kdf") slot)) []
 
+-- the hash function of the stripes
 abbrev pub af_hash_of : Data → Option Hash
 af_hash_of slot = in_member (codes "af") hash_member slot
 
+-- the number of stripes
 abbrev pub stripe_count_of : Data → ℕ
 stripe_count_of slot = unwrap_or (in_member (codes "af") (integer_member (codes "stripes")) slot) 0
 
@@ -101,9 +104,11 @@ area_key_size_of slot = unwrap_or (in_member (codes "area") (integer_member (cod
 abbrev pub area_mode_of : Data → Option Mode
 area_mode_of slot = option_and_then encryption_mode (in_member (codes "area") (string_member (codes "encryption")) slot)
 
+-- the first byte of the key material
 abbrev pub area_offset_of : Data → ℕ
 area_offset_of slot = unwrap_or (in_member (codes "area") (decimal_member (codes "offset")) slot) 0
 
+-- the number of bytes that are reserved for the key material
 abbrev pub area_size_of : Data → ℕ
 area_size_of slot = unwrap_or (in_member (codes "area") (decimal_member (codes "size")) slot) 0
 

@@ -108,7 +108,7 @@ fn usable_iterations(digest: &Value) -> Option<u32>
 }
 
 // The digest with a number, if it is usable and belongs to the key slot.
-#[tactic(auto, unfolding(crate::specs::Digest2::own_digest, crate::specs::Digest2::own_digest_at))]
+#[tactic(auto, unfolding(crate::specs::Digest2::own_digest_at))]
 fn own_digest_at(
     alloc: Global,
     tree: &Value,
@@ -124,7 +124,7 @@ fn own_digest_at(
 }
 
 // The iterations of the digest with a number, if it is usable and belongs to the key slot.
-#[tactic(auto, unfolding(crate::specs::Digest2::own_digest, crate::specs::Digest2::own_digest_at))]
+#[tactic(auto, unfolding(crate::specs::Digest2::own_digest_at))]
 fn own_iterations_at(tree: &Value, slot: u8, number: u8) -> Option<u32>
     ensures { result
         ≡ option_map iterations_of_digest (own_digest_at (data_of tree.now) slot number) }

@@ -8,7 +8,7 @@ ghost use Rattle.luks2_metadata.specs.Segment2.{mode2_of};
 ghost use Rattle.luks2_metadata.specs.Segment2.{payload2_start, payload_mode2_of, requires_nothing};
 ghost use Rattle.luks2_metadata.specs.Segment2.{sector_size_of, segment2_of};
 ghost use Rattle.luks2_metadata.specs.Segment2.{segment_faults, segment_parts2_of, size_member};
-ghost use Rattle.luks2_metadata.specs.Segment2.{overlaps_headers2, offset_is_wrong, the_segment};
+ghost use Rattle.luks2_metadata.specs.Segment2.{offset_is_wrong, the_segment};
 ghost use Rattle.serde_json.specs.View.{view as data_of};
 
 use crate::bounds::Bounds;
@@ -125,21 +125,13 @@ fn is_segment(segment: &Value) -> bool
     string_member(segment, "type").is_some() && (!is_type(segment, "crypt") || has_members(segment))
 }
 
-// The segment starts inside an attached header.
-#[tactic(auto, unfolding(crate::specs::Segment2::overlaps_headers2))]
-fn overlaps_headers2(bounds: Bounds, offset: u64) -> bool
-    ensures { result ≡ overlaps_headers2 bounds offset }
-{
-    !bounds.detached && offset < bounds.end
-}
-
 // The segment has no offset, or starts inside an attached header or not at a multiple of 512 bytes.
 #[tactic(auto, unfolding(crate::specs::Segment2::offset_is_wrong))]
 fn offset_is_wrong(bounds: Bounds, offset: Option<u64>) -> bool
     ensures { result ≡ offset_is_wrong bounds offset }
 {
     match offset {
-        Some(offset) => overlaps_headers2(bounds, offset) || offset % 512 != 0,
+        Some(offset) => !bounds.detached && offset < bounds.end || offset % 512 != 0,
         None => true,
     }
 }

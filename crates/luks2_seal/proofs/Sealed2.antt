@@ -36,7 +36,7 @@ use Rattle.luks_header.specs.Header.{bounds2_of, header_of as read_header}
 use Rattle.luks_header.specs.declared.header.Header.TheVariants.{V2}
 use Rattle.luks2_seal.proofs.MetadataLemmas.{area_after_headers}
 use Rattle.std.proofs.lemmas.List.Elements.{All-map}
-use Rattle.luks_verdict.specs.Segment.{segment_by}
+use Rattle.luks_verdict.proofs.MadeLemmas.{segment_by}
 use Rattle.luks_verdict.specs.declared.digest.KeyDigest.{KeyDigest}
 use Rattle.luks_verdict.specs.declared.slot.SlotParts.{SlotParts}
 use Rattle.luks2_metadata.specs.Segment2.{segment2_of}

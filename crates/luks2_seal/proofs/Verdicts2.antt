@@ -4,18 +4,20 @@ use Rattle.std.proofs.Common.{◌≡◌, ◌∙◌, ◌*◌, ◌%◌, ◌<◌, �
 use Rattle.std.proofs.Common.{ap, arith, refl, sym, codes, ◌+◌, le-leb, lt-ltb}
 use Rattle.std.proofs.lemmas.Bool.{eq-eqb, le-ltb}
 use Rattle.luks_verdict.specs.SectorSize.{has_whole_sectors}
-use Rattle.luks_verdict.specs.Segment.{segment_by, segment_from}
+use Rattle.luks_verdict.specs.Segment.{segment_from}
 use Rattle.luks_verdict.specs.declared.segment.Segment.{Segment}
-use Rattle.luks_verdict.proofs.MadeLemmas.{segment_of_all-yes, digest_from-yes, slot_from-yes}
+use Rattle.luks_verdict.proofs.MadeLemmas.{are_in_range, digest_from-yes, digest_of, is_usable, segment_by}
+use Rattle.luks_verdict.proofs.MadeLemmas.{segment_of_all-yes, slot_from-yes, slot_of}
 use Rattle.luks_verdict.proofs.SectorLemmas.{sector_size_again}
 use Rattle.luks2_json.specs.Member.{decimal_member, string_is, string_member, integer_member, base64_member}
 use Rattle.luks2_json.specs.Member.{hash_member, iterations_in, salt_in, is_length_for}
 use Rattle.luks2_metadata.specs.Segment2.{fault2_of, has_requirement, has_segment_members, is_segment, size_is_wrong}
 use Rattle.luks2_metadata.specs.Segment2.{iv_tweak_of, mode2_of, offset_of, sector_size_of}
-use Rattle.luks2_metadata.specs.Segment2.{segment2_of, segment_parts2_of, size_member, overlaps_headers2}
+use Rattle.luks2_metadata.specs.Segment2.{segment2_of, segment_parts2_of, size_member}
 use Rattle.luks2_metadata.specs.Segment2.{offset_is_wrong, the_segment, payload2_start, payload_mode2_of}
 use Rattle.luks2_metadata.specs.declared.bounds.Bounds.{Bounds}
-use Rattle.luks2_metadata.proofs.SlotLemmas.{segment2-none, segment2-ok, slot_there}
+use Rattle.luks2_metadata.proofs.SegmentLemmas.{segment2-none, segment2-ok}
+use Rattle.luks2_metadata.proofs.SlotLemmas.{slot_there}
 use Rattle.luks2_seal.specs.Layout2.{config_object, metadata_of, segment_object, digest_object, af_object}
 use Rattle.luks2_seal.specs.Layout2.{area_object, kdf_object, keyslot_object}
 use Rattle.luks2_seal.specs.Ranges2.{AreParameters2, FitsSlot2, AreTyped2, IsTypedSlot2, slot_numbered, area_size}
@@ -31,7 +33,7 @@ use Rattle.luks_verdict.specs.declared.digest.KeyDigest.{KeyDigest}
 use Rattle.luks2_json.specs.List.{has_strings, array_contains}
 use Rattle.luks2_json.specs.Numbered.{object_numbered}
 use Rattle.luks2_json.proofs.NumberedLemmas.{lowest_found, lowest_none}
-use Rattle.luks2_metadata.specs.Digest2.{digest2_for, digest2_of, is_digest2, is_of_slot, own_digest}
+use Rattle.luks2_metadata.specs.Digest2.{digest2_for, digest2_of, is_digest2, is_of_slot}
 use Rattle.luks2_metadata.specs.Digest2.{own_digest_at, value_in}
 use Rattle.luks_seal.specs.Sealed.{IsDigestOf}
 use Rattle.luks_seal.proofs.MaterialLemmas.{derived_bytes}
@@ -42,7 +44,7 @@ use Rattle.luks2_metadata.specs.Slot2.{kdf_hash_of, priority_of, slot_parts2_of,
 use Rattle.luks2_metadata.specs.Slot2.{area2_out_of_range, iterations_of_slot, reason2_of, slot2_of}
 use Rattle.luks2_metadata.specs.Slot2.{stripe_count_of, verdict2_at, verdict2_of}
 use Rattle.luks_verdict.specs.Rule.{iterations_out_of_range, stripes_out_of_range, need_of}
-use Rattle.luks_verdict.specs.Slot.{are_in_range, digest_of, has_no_usable_digest, is_usable, slot_of}
+use Rattle.luks_verdict.specs.Slot.{has_no_usable_digest}
 use Rattle.luks_verdict.specs.declared.slot.Slot.{Slot}
 use Rattle.luks_verdict.specs.declared.slot.Verdict.TheVariants.{Usable}
 use Rattle.luks2_json.specs.Member.{decimal_member, string_is, string_member, integer_member, base64_member}
@@ -131,7 +133,7 @@ module _ (p : Seal2) (fits : AreParameters2 p) (typed : AreTyped2 p) where
   requires_none = refl
 
   starts_right : offset_is_wrong (bounds_of p) (Some p.offset) ≡ false
-  unfolding offset_is_wrong overlaps_headers2
+  unfolding offset_is_wrong
   starts_right =
       let behind : 2 * p.hdr_size ≤ p.offset = omega (arith, area_after_headers p 32, fits.offset.2) in
       rw (le-ltb p.offset (2 * p.hdr_size) behind, eq-eqb (p.offset % 512) 0 (omega (arith, fits.offset.0))) refl
@@ -211,7 +213,7 @@ module _ (p : Seal2) (fits : AreParameters2 p) (typed : AreTyped2 p) where
 
     -- the digest belongs to the slot
     own_is : own_digest_at (metadata_of p) slot.number 0 ≡ Some digest_is
-    unfolding own_digest_at own_digest is_of_slot array_contains digest_object
+    unfolding own_digest_at is_of_slot array_contains digest_object
     own_is = rw (first_there, slot_listed p slot.number 32 slot used.numbered low, digest_found) refl
 
     digest_read : digest2_for (metadata_of p) slot.number ≡ Some digest_is

@@ -1,7 +1,7 @@
 -- What is read from the struct of a volume is what was stored in it.
-use Rattle.std.proofs.Common.{◌≡◌, ◌≢◌, ◌∙◌, arith, ℕ, ◌-◌, ◌*◌, ◌/◌, true, List, length, Option, None, Some, sym, ap, subst, refl}
+use Rattle.std.proofs.Common.{◌≡◌, ◌≢◌, ◌∙◌, arith, ℕ, ◌-◌, ◌*◌, ◌/◌, List, length, Option, None, Some, ap, subst, refl}
 use Rattle.std.proofs.lemmas.Option.{same_Some}
-use Rattle.std.specs.Prelude.{◌==◌, ◌+◌, if◌then◌else◌, nat_le, unwrap_or}
+use Rattle.std.specs.Prelude.{◌+◌, if◌then◌else◌, nat_le, unwrap_or}
 use Rattle.luks_access.proofs.RangeLemmas.{plaintext_length}
 use Rattle.luks_access.specs.Opens.{cipher_of, plaintext_of}
 use Rattle.luks_io.specs.Devices.{counted}
@@ -12,10 +12,10 @@ use Rattle.luks_runs.specs.declared.unlocked.UnlockedVolume.{UnlockedVolume}
 use Rattle.luks_cipher.specs.Sector.{Cipher}
 use Rattle.luks_cipher.specs.declared.mode.Mode.{Mode}
 use Rattle.luks_cipher.specs.declared.mode.Mode.TheVariants.{XtsPlain64, XtsPlain, CbcEssivSha256, CbcPlain64}
-use Rattle.luks_verdict.proofs.MadeLemmas.{segment_made}
+use Rattle.luks_verdict.proofs.MadeLemmas.{segment_by, segment_of_all-yes}
 use Rattle.luks_verdict.proofs.SectorLemmas.{sector_size_again}
 use Rattle.luks_verdict.specs.Segment.{segment_from}
-use Rattle.luks_verdict.specs.SectorSize.{HasWholeSectors, has_whole_sectors, bytes_of, sector_size_with}
+use Rattle.luks_verdict.specs.SectorSize.{bytes_of, sector_size_with}
 use Rattle.luks_verdict.specs.declared.sector_size.SectorSize.{SectorSize}
 use Rattle.luks_verdict.specs.declared.segment.Segment.{Segment}
 use Rattle.luks_payload.specs.Plain.{payload_bytes}
@@ -37,11 +37,6 @@ mode_again XtsPlain = refl
 mode_again CbcEssivSha256 = refl
 mode_again CbcPlain64 = refl
 
--- a length of whole sectors passes the test
-whole_are : (size : Option ℕ) (z : SectorSize) → HasWholeSectors size z → has_whole_sectors size z ≡ true
-whole_are None z whole = refl
-whole_are (Some bytes) z whole = ap (λ n. n == 0) (whole bytes refl)
-
 -- what holds of the segment that was read from the struct holds of the one that it holds
 pub for_segment : (P : Segment → Type 0) (c : LuksrdVolume) (s t : Segment) → Some s ≡ segment_in c
     → segment_in c ≡ Some t → P s → P t
@@ -62,12 +57,11 @@ module _ (c : LuksrdVolume) (v : UnlockedVolume) (stored : Stores c v) where
       by (Some size) has is = rw (has, is) refl
 
   pub stored_segment : segment_in c ≡ Some v.segment
-  unfolding segment_from
+  unfolding segment_from segment_by
   stored_segment =
       let s = v.segment in
       rw (stored_sector, stored_mode, stored.offset, stored_size, stored.iv_tweak)
-      (sym (segment_made s.offset s.size s.iv_tweak s.sector_size s.mode s.whole_sectors
-      (whole_are s.size s.sector_size s.whole_sectors)))
+      (segment_of_all-yes s.offset s.size s.iv_tweak s.sector_size s.mode s.whole_sectors)
 
   -- the code of decrypting is that of the range: the struct is not refused as one that holds no volume
   pub stored_code : (first len : ℕ) → decrypt_code c first len ≡ range_code v.segment.sector_size first len

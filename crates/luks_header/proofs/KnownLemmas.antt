@@ -26,7 +26,8 @@ use Rattle.luks2_json.specs.Member.{is_length_for}
 use Rattle.luks2_json.specs.Tree.{tree_of}
 use Rattle.serde_json.specs.Data.{Data}
 use Rattle.luks2_metadata.specs.Segment2.{payload2_start}
-use Rattle.luks2_metadata.proofs.SlotLemmas.{segment2-ok, usable2_at}
+use Rattle.luks2_metadata.proofs.SegmentLemmas.{segment2-ok}
+use Rattle.luks2_metadata.proofs.SlotLemmas.{usable2_at}
 use Rattle.luks_verdict.specs.Rule.{exceeds}
 use Rattle.luks_header.specs.HeaderDigests.{digest_for}
 use Rattle.luks_header.specs.Header.{bounds2_of, header_of, is_detached, with_metadata, with_text, ConsumedHeaderLen}

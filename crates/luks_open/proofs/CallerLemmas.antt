@@ -26,18 +26,17 @@ use Rattle.luks_verdict.specs.declared.slot.Verdict.{Verdict}
 use Rattle.luks_verdict.specs.declared.slot.Verdict.TheVariants.{Usable}
 use Rattle.luks_verdict.specs.declared.slot.VerdictKind.TheVariants.{Usable as KindUsable}
 use Rattle.luks_verdict.proofs.MadeLemmas.{usable_from_kind}
+use Rattle.luks_verdict.proofs.RangeLemmas.{slot_range}
 use Rattle.luks_verdict.proofs.TableLemmas.{AllByRecursion-append, All-ascending}
 use Rattle.luks_header.specs.Header.{is_detached}
 use Rattle.luks_header.specs.HeaderSegment.{segment_of}
 use Rattle.luks_header.specs.SlotVerdicts.{can_be_tried, verdict_at}
 use Rattle.luks_header.specs.declared.header.Header.{Header}
 use Rattle.luks_header.proofs.KnownLemmas.{IsKnown, before_payload, known_usable}
-use Rattle.luks_open.specs.Candidate.{candidate_by, candidate_of, decrypted_material, material_sector, recovered}
-use Rattle.luks_open.specs.Candidate.{matches_digest}
+use Rattle.luks_open.specs.Candidate.{candidate_by, candidate_of, decrypted_material, material_sector, matches_digest, recovered}
 use Rattle.luks_open.specs.Opening.{first_opening, if_matches_digest, slot_key, opened_or, opening_of, answer_of}
-use Rattle.luks_open.specs.Opening.{evaluations_of, tried_of, work_of}
 use Rattle.luks_open.specs.Opening.{OrderModel, entry_with_priority, key_material_end, order_of, order_of_all}
-use Rattle.luks_open.specs.Opening.{order_of_named, skipped_at, tried_with, unless_none}
+use Rattle.luks_open.specs.Opening.{order_of_named, skipped_at, tried_with, unless_none, evaluations_of, tried_of, work_of}
 use Rattle.luks_open.specs.Trial.{IsTriable}
 use Rattle.luks_open.specs.declared.entry.Entry.{Entry}
 use Rattle.luks_open.specs.declared.opening.Opened.{Opened}
@@ -155,7 +154,8 @@ All-key_material_end most (entry ∷ entries) all = (omega arith, All-key_materi
 pub key_material_end-within : (entries : List Entry) → key_material_end entries ≤ max_loaded_len
 unfolding key_material_end
 key_material_end-within [] = omega arith
-key_material_end-within (entry ∷ entries) = omega (arith, key_material_end-within entries, entry.slot.in_range.loadable)
+key_material_end-within (entry ∷ entries) =
+    omega (arith, key_material_end-within entries, (slot_range entry.slot).loadable)
 
 -- the entries from number i on: this entry, and then the remaining ones
 pub from_entry : (entries : List Entry) (i : ℕ) (entry : Entry) → i < length entries → entry ≡ get_or entries i entry
@@ -298,7 +298,7 @@ candidate_length slot image pass key triable is =
         same_Some _ _ h in
         ap length (sym same)
         ∙ length-recovered af (mode, area_key) image parts.area_offset parts.key_bytes parts.stripes triable.volume_key
-        slot.in_range.some_stripes triable.there
+        (slot_range slot).some_stripes triable.there
     of_names _ _ _ h = absurd cc
 
 -- so is the volume key that it gives

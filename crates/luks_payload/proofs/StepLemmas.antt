@@ -16,6 +16,7 @@ use Rattle.luks_payload.specs.PumpEffects.{PositionedAt, AbortsDiscarding, Abort
 use Rattle.luks_payload.specs.PumpEffects.{is_cut_before_payload, is_pump_write_failure, max_sectors}
 use Rattle.luks_payload.specs.Plain.{payload_end_in, ending_of_len, payload_end_of, bytes_from_start, sector_len}
 use Rattle.luks_payload.specs.Plain.{sector_plaintext, sector_start, unit_number, unit_plain}
+use Rattle.luks_verdict.proofs.RangeLemmas.{segment_whole}
 use Rattle.luks_verdict.proofs.SectorLemmas.{sector_blocks}
 use Rattle.luks_payload.specs.PumpEffects.{EndEffect, EndsAt, MayAnswer, PumpModel, SkipEffect, SkipsAgain}
 use Rattle.luks_payload.specs.PumpEffects.{PositionedIn, StepEffect, ConsumesSector}
@@ -128,7 +129,7 @@ module _ (s : Segment) (image : List ℕ) (count : ℕ) where
         let some : 0 < sector_len s = omega arith in
         let from : sector_start s count ≤ length image = omega (arith, there) in
         let behind : nat_lt (length image) s.offset ≡ false = le-ltb (length image) s.offset (omega (arith, there)) in
-        let ends = at_limit (sector_len s) some s.size count s.offset (length image) least s.whole_sectors is from
+        let ends = at_limit (sector_len s) some s.size count s.offset (length image) least (segment_whole s) is from
         few in
         let same : max next_byte (s.offset + count * sector_len s) ≡ next_byte = omega arith in
         record {

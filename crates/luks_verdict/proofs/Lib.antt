@@ -1,3 +1,4 @@
 pub mod MadeLemmas
+pub mod RangeLemmas
 pub mod SectorLemmas
 pub mod TableLemmas

@@ -1,16 +1,13 @@
 -- Values made from parts that were read and are in range, and the verdicts on key slots that they give.
-use Rattle.std.proofs.Common.{◌≡◌, ◌≢◌, ◌∙◌, ℕ, Bool, true, false, Option, Some, None, Ok, Err, ap, sym, refl, length}
+use Rattle.std.proofs.Common.{◌≡◌, ◌≢◌, ℕ, Bool, true, false, Option, Some, None, Ok, Err, ap, sym, refl, length}
 use Rattle.std.specs.Prelude.{is_none, option_map}
-use Rattle.std.specs.Coded.{le_prop}
 use Rattle.std.proofs.Math.Bool.{Bool-set}
-use Rattle.std.proofs.Math.Nat.{ℕ_set}
 use Rattle.std.proofs.lemmas.Option.{none-some, same_Some}
 use Rattle.luks_cipher.specs.declared.mode.Mode.{Mode}
-use Rattle.luks_verdict.specs.Slot.{digest_from, digest_of, digest_with, has_no_usable_digest, is_usable}
-use Rattle.luks_verdict.specs.Rule.{InRange, IsDigest, evidence_if, in_range, iterations_out_of_range, usable_digest}
-use Rattle.luks_verdict.specs.SectorSize.{HasWholeSectors, has_whole_sectors, whole_by_test}
-use Rattle.luks_verdict.specs.Segment.{refused_or, segment_by, segment_of_all, segment_with}
-use Rattle.luks_verdict.specs.Slot.{are_in_range, parts_end, slot_from, slot_of, slot_with, verdict_by, verdict_kind_of}
+use Rattle.luks_verdict.specs.Rule.{evidence_if, is_digest, is_in_range, iterations_out_of_range}
+use Rattle.luks_verdict.specs.SectorSize.{has_whole_sectors}
+use Rattle.luks_verdict.specs.Segment.{refused_or, segment_of_all}
+use Rattle.luks_verdict.specs.Slot.{digest_from, has_no_usable_digest, parts_end, slot_from, verdict_by, verdict_kind_of}
 use Rattle.luks_verdict.specs.declared.digest.DigestParts.{DigestParts}
 use Rattle.luks_verdict.specs.declared.digest.KeyDigest.{KeyDigest}
 use Rattle.luks_verdict.specs.declared.refusal.SegmentFault.{SegmentFault}
@@ -32,60 +29,63 @@ pub evidence_if-no : (test : Bool) → test ≡ false → evidence_if test ≡ N
 evidence_if-no true is = absurd cc
 evidence_if-no false is = refl
 
+-- the parts of a key slot are in range
+abbrev pub are_in_range : SlotParts → Bool
+are_in_range parts = is_in_range parts.iterations parts.stripes (parts_end parts)
+
+-- the key slot with these parts, which are in range, and this digest
+unfoldable pub slot_of : (parts : SlotParts) (digest : KeyDigest) → are_in_range parts ≡ true → Slot
+slot_of parts digest is = record { parts = parts; digest = digest; in_range = is }
+
 pub slot_from-yes : (parts : SlotParts) (digest : KeyDigest) (is : are_in_range parts ≡ true)
     → slot_from parts (Some digest) ≡ Some (slot_of parts digest is)
-unfolding slot_from
+unfolding slot_from slot_of
 slot_from-yes parts digest is = ap (option_map (slot_of parts digest)) (evidence_if-yes (are_in_range parts) is)
 
 pub slot_from-no : (parts : SlotParts) (digest : Option KeyDigest) → are_in_range parts ≡ false
     → slot_from parts digest ≡ None
-unfolding slot_from
+unfolding slot_from slot_of
 slot_from-no parts (Some digest) is = ap (option_map (slot_of parts digest)) (evidence_if-no (are_in_range parts) is)
 slot_from-no parts None is = refl
 
-pub slot_made : (parts : SlotParts) (digest : KeyDigest)
-    (range : InRange parts.iterations parts.stripes (parts_end parts))
-    → are_in_range parts ≡ true → Some (slot_with parts digest range) ≡ slot_from parts (Some digest)
-unfolding slot_of
-slot_made parts digest range is =
-    let all : IsProp (InRange parts.iterations parts.stripes (parts_end parts)) = hlevel (le_prop) in
-    ap (λ (r : InRange parts.iterations parts.stripes (parts_end parts)). Some (slot_with parts digest r))
-    (all range (in_range parts.iterations parts.stripes (parts_end parts) is)) ∙ sym (slot_from-yes parts digest is)
+-- the parts of a digest are in range
+abbrev pub is_usable : DigestParts → Bool
+is_usable parts = is_digest parts.iterations (length parts.value)
+
+-- the digest with these parts, which are in range
+unfoldable pub digest_of : (parts : DigestParts) → is_usable parts ≡ true → KeyDigest
+digest_of parts is =
+    record { hash = parts.hash; iterations = parts.iterations; salt = parts.salt; value = parts.value; usable = is }
 
 pub digest_from-yes : (parts : DigestParts) (is : is_usable parts ≡ true)
     → digest_from parts ≡ Some (digest_of parts is)
-unfolding digest_from
+unfolding digest_from digest_of
 digest_from-yes parts is = ap (option_map (digest_of parts)) (evidence_if-yes (is_usable parts) is)
 
 pub digest_from-no : (parts : DigestParts) → is_usable parts ≡ false → digest_from parts ≡ None
-unfolding digest_from
+unfolding digest_from digest_of
 digest_from-no parts is = ap (option_map (digest_of parts)) (evidence_if-no (is_usable parts) is)
 
-pub digest_made : (parts : DigestParts) (usable : IsDigest parts.iterations (length parts.value))
-    → is_usable parts ≡ true → Some (digest_with parts usable) ≡ digest_from parts
-unfolding digest_of
-digest_made parts usable is =
-    let all : IsProp (IsDigest parts.iterations (length parts.value)) = hlevel (le_prop) in
-    ap (λ (u : IsDigest parts.iterations (length parts.value)). Some (digest_with parts u))
-    (all usable (usable_digest parts.iterations (length parts.value) is)) ∙ sym (digest_from-yes parts is)
+-- the segment with these parts, whose length is whole sectors or not fixed
+unfoldable pub segment_by : (offset : ℕ) (size : Option ℕ) (iv_tweak : ℕ) (sector_size : SectorSize) (mode : Mode)
+    → has_whole_sectors size sector_size ≡ true → Segment
+segment_by offset size iv_tweak sector_size mode is = record {
+  offset = offset;
+  size = size;
+  iv_tweak = iv_tweak;
+  sector_size = sector_size;
+  mode = mode;
+  whole_sectors = is;
+}
 
 pub segment_of_all-yes : (offset : ℕ) (size : Option ℕ) (iv_tweak : ℕ) (sector_size : SectorSize) (mode : Mode)
     (is : has_whole_sectors size sector_size ≡ true)
     → segment_of_all (Some offset) (Some size) (Some iv_tweak) (Some sector_size) (Some mode)
     ≡ Some (segment_by offset size iv_tweak sector_size mode is)
+unfolding segment_by
 segment_of_all-yes offset size iv_tweak sector_size mode is =
     ap (option_map (segment_by offset size iv_tweak sector_size mode))
     (evidence_if-yes (has_whole_sectors size sector_size) is)
-
-pub segment_made : (offset : ℕ) (size : Option ℕ) (iv_tweak : ℕ) (sector_size : SectorSize) (mode : Mode)
-    (whole : HasWholeSectors size sector_size) → has_whole_sectors size sector_size ≡ true
-    → Some (segment_with offset size iv_tweak sector_size mode whole)
-    ≡ segment_of_all (Some offset) (Some size) (Some iv_tweak) (Some sector_size) (Some mode)
-unfolding segment_by
-segment_made offset size iv_tweak sector_size mode whole is =
-    let all : IsProp (HasWholeSectors size sector_size) = hlevel (ℕ_set) in
-    ap (λ (w : HasWholeSectors size sector_size). Some (segment_with offset size iv_tweak sector_size mode w))
-    (all whole (whole_by_test size sector_size is)) ∙ sym (segment_of_all-yes offset size iv_tweak sector_size mode is)
 
 -- what was mapped, if a function was mapped over an option and there is a result
 pub mapped : {A B : Type 0} (f : A → B) (o : Option A) (y : B) → option_map f o ≡ Some y
@@ -105,24 +105,31 @@ parts_made (Some offset) (Some size) (Some iv_tweak) (Some sector_size) (Some mo
 parts_made _ _ _ _ _ segment is = absurd cc
 
 -- a segment with a fault is refused with that fault
-pub refused_or-fault : (found : Option SegmentFault) (segment : Option Segment) (made : found ≡ None → segment ≢ None)
-    (fault : SegmentFault) → found ≡ Some fault → refused_or found segment made ≡ Err fault
-refused_or-fault (Some found) segment made fault is = ap Err (same_Some found fault is)
-refused_or-fault None segment made fault is = absurd (none-some fault is)
+pub refused_or-fault : (found : Option SegmentFault) (segment : Option Segment) (fault : SegmentFault)
+    → found ≡ Some fault → refused_or found segment ≡ Err fault
+refused_or-fault (Some found) segment fault is = ap Err (same_Some found fault is)
+refused_or-fault None segment fault is = absurd (none-some fault is)
 
 -- a segment without a fault is the one that was made
-pub refused_or-none : (found : Option SegmentFault) (there : Option Segment) (made : found ≡ None → there ≢ None)
-    (segment : Segment) → found ≡ None → there ≡ Some segment → refused_or found there made ≡ Ok segment
-refused_or-none (Some found) there made segment none is = absurd (none-some found (sym none))
-refused_or-none None (Some there) made segment none is = ap Ok (same_Some there segment is)
-refused_or-none None None made segment none is = absurd (none-some segment is)
+pub refused_or-none : (found : Option SegmentFault) (there : Option Segment) (segment : Segment) → found ≡ None
+    → there ≡ Some segment → refused_or found there ≡ Ok segment
+refused_or-none (Some found) there segment none is = absurd (none-some found (sym none))
+refused_or-none None (Some there) segment none is = ap Ok (same_Some there segment is)
+refused_or-none None None segment none is = absurd (none-some segment is)
 
 -- a segment that is not refused has no fault and was made
-pub refused_or-ok : (found : Option SegmentFault) (there : Option Segment) (made : found ≡ None → there ≢ None)
-    (segment : Segment) → refused_or found there made ≡ Ok segment → (found ≡ None) × (there ≡ Some segment)
-refused_or-ok (Some found) there made segment is = absurd cc
-refused_or-ok None (Some there) made segment is = (refl, cc)
-refused_or-ok None None made segment is = absurd (made refl refl)
+pub refused_or-ok : (found : Option SegmentFault) (there : Option Segment) (segment : Segment)
+    → refused_or found there ≡ Ok segment → (found ≡ None) × (there ≡ Some segment)
+refused_or-ok (Some found) there segment is = absurd cc
+refused_or-ok None (Some there) segment is = (refl, cc)
+refused_or-ok None None segment is = absurd cc
+
+-- a segment that is refused has that fault, if one without a fault is made: the third case does not occur
+pub refused_or-err : (found : Option SegmentFault) (there : Option Segment) → (found ≡ None → there ≢ None)
+    → (fault : SegmentFault) → refused_or found there ≡ Err fault → found ≡ Some fault
+refused_or-err (Some found) there made fault is = cc
+refused_or-err None (Some there) made fault is = absurd cc
+refused_or-err None None made fault is = absurd (made refl refl)
 
 -- if the parts of a digest are in range, it is unusable only if its iterations are out of range under the limit
 pub no_usable_digest-yes : (limit : Option ℕ) (parts : DigestParts) → is_usable parts ≡ true

@@ -1,9 +1,7 @@
 -- Rules for both formats. They are about numbers: a limit and a payload's start, which may be missing, and the size of
 -- an area.
-use Rattle.std.specs.Prelude.{◌≡◌, ℕ, ◌+◌, ◌*◌, ◌/◌, ◌≤◌, ◌==◌, ◌&&◌, ◌||◌, not, nat_lt, Bool, true, false, Option}
+use Rattle.std.specs.Prelude.{◌≡◌, ℕ, ◌+◌, ◌*◌, ◌/◌, ◌==◌, ◌&&◌, ◌||◌, not, nat_lt, Bool, true, false, Option}
 use Rattle.std.specs.Prelude.{Some, None, refl}
-use Rattle.std.proofs.Common.{arith}
-use Rattle.std.proofs.lemmas.Bool.Decides.{nat_tests}
 use Rattle.luks_area.specs.Area.{max_loaded_len}
 
 -- the largest number of slots in a header; they are numbered from 0
@@ -18,10 +16,11 @@ max_stripes = 4000
 abbrev pub max_iteration_count : ℕ
 max_iteration_count = 4294967295
 
--- the smallest and the largest length of a digest in bytes
+-- the smallest length of a digest in bytes
 abbrev pub min_digest_len : ℕ
 min_digest_len = 20
 
+-- the largest length of a digest in bytes
 abbrev pub max_digest_len : ℕ
 max_digest_len = 64
 
@@ -63,37 +62,3 @@ is_digest iterations len = not (iterations_out_of_range None iterations) && not 
 abbrev pub evidence_if : (test : Bool) → Option (test ≡ true)
 evidence_if true = Some refl
 evidence_if false = None
-
--- the bounds of a slot's numbers that are in range
-pub record InRange (iterations stripes end : ℕ) : Type 0 where
-  pub some_iterations : 1 ≤ iterations
-  pub few_iterations : iterations ≤ max_iteration_count
-  pub some_stripes : 1 ≤ stripes
-  pub few_stripes : stripes ≤ max_stripes
-  pub loadable : end ≤ max_loaded_len
-
-pub in_range : (iterations stripes end : ℕ) → is_in_range iterations stripes end ≡ true → InRange iterations stripes end
-unfolding is_in_range iterations_out_of_range stripes_out_of_range
-in_range iterations stripes end is = record {
-  some_iterations = grind (arith, nat_tests);
-  few_iterations = grind (arith, nat_tests);
-  some_stripes = grind (arith, nat_tests);
-  few_stripes = grind (arith, nat_tests);
-  loadable = grind (arith, nat_tests);
-}
-
--- the bounds of the numbers of a digest that can be used
-pub record IsDigest (iterations len : ℕ) : Type 0 where
-  pub some_iterations : 1 ≤ iterations
-  pub few_iterations : iterations ≤ max_iteration_count
-  pub enough : min_digest_len ≤ len
-  pub few : len ≤ max_digest_len
-
-pub usable_digest : (iterations len : ℕ) → is_digest iterations len ≡ true → IsDigest iterations len
-unfolding is_digest iterations_out_of_range
-usable_digest iterations len is = record {
-  some_iterations = grind (arith, nat_tests);
-  few_iterations = grind (arith, nat_tests);
-  enough = grind (arith, nat_tests);
-  few = grind (arith, nat_tests);
-}

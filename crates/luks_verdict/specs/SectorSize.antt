@@ -1,9 +1,5 @@
 -- The lengths of sectors.
-use Rattle.std.specs.Prelude.{◌≡◌, ◌%◌, ◌==◌, if◌then◌else◌, ℕ, Bool, true, Option, Some, None}
-use Rattle.std.proofs.Common.{ap, sym, ◌∙◌}
-use Rattle.std.proofs.lemmas.Bool.{eqb-true}
-use Rattle.std.proofs.lemmas.Option.{none-some, same_Some}
-use Rattle.std.specs.Option.{ForSome}
+use Rattle.std.specs.Prelude.{◌%◌, ◌==◌, if◌then◌else◌, ℕ, Bool, true, Option, Some, None}
 use Rattle.luks_verdict.specs.declared.sector_size.SectorSize.{SectorSize}
 use Rattle.luks_verdict.specs.declared.sector_size.SectorSize.TheVariants.{B512, B1024, B2048, B4096}
 
@@ -24,13 +20,3 @@ sector_size_with bytes =
 abbrev pub has_whole_sectors : Option ℕ → SectorSize → Bool
 has_whole_sectors None sector_size = true
 has_whole_sectors (Some bytes) sector_size = bytes % bytes_of sector_size == 0
-
--- what `has_whole_sectors` tests, as a type
-abbrev pub HasWholeSectors : Option ℕ → SectorSize → Type 0
-HasWholeSectors size sector_size = ForSome size (λ bytes. bytes % bytes_of sector_size ≡ 0)
-
-pub whole_by_test : (size : Option ℕ) (sector_size : SectorSize) → has_whole_sectors size sector_size ≡ true
-    → HasWholeSectors size sector_size
-whole_by_test None sector_size is = λ bytes some. absurd (none-some bytes some)
-whole_by_test (Some fixed) sector_size is = λ bytes some.
-    ap (λ n. n % bytes_of sector_size) (sym (same_Some fixed bytes some)) ∙ eqb-true (fixed % bytes_of sector_size) 0 is

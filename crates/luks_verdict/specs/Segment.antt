@@ -1,48 +1,37 @@
 -- Segments, made from the parts that were read.
-use Rattle.std.specs.Prelude.{◌≡◌, ◌≢◌, ℕ, ◌+◌, ◌*◌, ◌/◌, ◌%◌, ◌^◌, true, Option, Some, None, Result, Ok, Err}
-use Rattle.std.specs.Prelude.{option_map, refl}
+use Rattle.std.specs.Prelude.{ℕ, ◌+◌, ◌*◌, ◌/◌, ◌%◌, ◌^◌, Option, Some, None, Result, Ok, Err, option_map}
 use Rattle.luks_cipher.specs.declared.mode.Mode.{Mode}
 use Rattle.luks_verdict.specs.Rule.{evidence_if}
-use Rattle.luks_verdict.specs.SectorSize.{HasWholeSectors, bytes_of, has_whole_sectors, whole_by_test}
+use Rattle.luks_verdict.specs.SectorSize.{bytes_of, has_whole_sectors}
 use Rattle.luks_verdict.specs.declared.refusal.SegmentFault.{SegmentFault}
+use Rattle.luks_verdict.specs.declared.refusal.SegmentFault.TheVariants.{Member}
 use Rattle.luks_verdict.specs.declared.sector_size.SectorSize.{SectorSize}
 use Rattle.luks_verdict.specs.declared.segment.Segment.{Segment}
 use Rattle.luks_verdict.specs.declared.segment.SegmentParts.{SegmentParts}
 
--- the segment with these numbers. Its length is a multiple of the sectors' length, if it is fixed
-abbrev pub segment_with : (offset : ℕ) (size : Option ℕ) (iv_tweak : ℕ) (sector_size : SectorSize) (mode : Mode)
-    → HasWholeSectors size sector_size → Segment
-segment_with offset size iv_tweak sector_size mode whole = record {
-  offset = offset;
-  size = size;
-  iv_tweak = iv_tweak;
-  sector_size = sector_size;
-  mode = mode;
-  whole_sectors = whole;
-}
-
--- the same segment, from a test of its length
-unfoldable pub segment_by : (offset : ℕ) (size : Option ℕ) (iv_tweak : ℕ) (sector_size : SectorSize) (mode : Mode)
-    → has_whole_sectors size sector_size ≡ true → Segment
-segment_by offset size iv_tweak sector_size mode is =
-    segment_with offset size iv_tweak sector_size mode (whole_by_test size sector_size is)
-
--- the segment with these parts, if each is present and in range
+-- the segment with these parts, if each is present, and the length is a multiple of the sectors' length if it is fixed
 abbrev pub segment_of_all : Option ℕ → Option (Option ℕ) → Option ℕ → Option SectorSize → Option Mode → Option Segment
 segment_of_all (Some offset) (Some size) (Some iv_tweak) (Some sector_size) (Some mode) =
-    option_map (segment_by offset size iv_tweak sector_size mode) (evidence_if (has_whole_sectors size sector_size))
+    option_map (λ is. record {
+      offset = offset;
+      size = size;
+      iv_tweak = iv_tweak;
+      sector_size = sector_size;
+      mode = mode;
+      whole_sectors = is;
+    }) (evidence_if (has_whole_sectors size sector_size))
 segment_of_all _ _ _ _ _ = None
 
 -- the segment with the parts that were read, if each is present and in range
 unfoldable pub segment_from : SegmentParts → Option Segment
 segment_from parts = segment_of_all parts.offset parts.size parts.iv_tweak parts.sector_size parts.mode
 
--- the payload's segment, or its fault. Without a fault its parts are present and in range: a segment was made from them
-abbrev pub refused_or : (fault : Option SegmentFault) (segment : Option Segment) → (fault ≡ None → segment ≢ None)
-    → Result Segment SegmentFault
-refused_or (Some fault) segment made = Err fault
-refused_or None (Some segment) made = Ok segment
-refused_or None None made = absurd (made refl refl)
+-- the payload's segment, or its fault. The third case does not occur: a segment without a fault has all its parts, and
+-- they are in range
+abbrev pub refused_or : Option SegmentFault → Option Segment → Result Segment SegmentFault
+refused_or (Some fault) segment = Err fault
+refused_or None (Some segment) = Ok segment
+refused_or None None = Err Member
 
 -- the unit number of sector i: unit numbers count in steps of 512 bytes, whatever the sector's length, and wrap at 2^64
 abbrev pub unit_number : Segment → ℕ → ℕ

@@ -1,7 +1,7 @@
 //! Digests, which identify a volume key.
 
-ghost use Rattle.std.specs.Prelude.{◌≡◌, length};
-ghost use Rattle.luks_verdict.specs.Rule.{IsDigest};
+ghost use Rattle.std.specs.Prelude.{◌≡◌, length, true};
+ghost use Rattle.luks_verdict.specs.Rule.{is_digest};
 
 use crate::bytes::HeaderBytes;
 use crate::rule::{iterations_out_of_range, usable_digest};
@@ -34,7 +34,7 @@ pub struct KeyDigest {
     pub salt: HeaderBytes,
     /// The output of PBKDF2.
     pub value: HeaderBytes,
-    ghost usable: { IsDigest iterations (length value) },
+    ghost usable: { is_digest iterations (length value) ≡ true },
 }
 
 impl DigestParts {

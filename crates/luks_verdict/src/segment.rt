@@ -1,7 +1,7 @@
 //! Where the payload is, and how it is divided into sectors.
 
-ghost use Rattle.std.specs.Prelude.{◌≡◌};
-ghost use Rattle.luks_verdict.specs.SectorSize.{HasWholeSectors, has_whole_sectors};
+ghost use Rattle.std.specs.Prelude.{◌≡◌, true};
+ghost use Rattle.luks_verdict.specs.SectorSize.{has_whole_sectors};
 
 use crate::sector_size::SectorSize;
 use luks_cipher::Mode;
@@ -19,7 +19,7 @@ pub struct Segment {
     pub sector_size: SectorSize,
     /// The mode in which sectors are encrypted.
     pub mode: Mode,
-    ghost whole_sectors: { HasWholeSectors size sector_size },
+    ghost whole_sectors: { has_whole_sectors size sector_size ≡ true },
 }
 
 /// The parts of a segment that are read, before they are checked: each one if it could be read.

@@ -1,7 +1,7 @@
 //! Key slots and the verdicts on them.
 
-ghost use Rattle.std.specs.Prelude.{◌≡◌, ◌+◌};
-ghost use Rattle.luks_verdict.specs.Rule.{InRange, need_of};
+ghost use Rattle.std.specs.Prelude.{◌≡◌, ◌+◌, true};
+ghost use Rattle.luks_verdict.specs.Rule.{is_in_range, need_of};
 
 use crate::bytes::HeaderBytes;
 use crate::digest::KeyDigest;
@@ -47,8 +47,8 @@ pub struct Slot {
     pub parts: SlotParts,
     /// The digest that its volume key must match.
     pub digest: KeyDigest,
-    ghost in_range: { InRange parts.iterations parts.stripes
-        (parts.area_offset + need_of parts.key_bytes parts.stripes) },
+    ghost in_range: { is_in_range parts.iterations parts.stripes
+        (parts.area_offset + need_of parts.key_bytes parts.stripes) ≡ true },
 }
 
 impl Slot {

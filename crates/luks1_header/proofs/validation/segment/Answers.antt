@@ -1,7 +1,7 @@
 use Rattle.std.proofs.Common.{◌≡◌, Some, None, sym}
 use Rattle.luks_verdict.specs.Segment.{segment_from}
-use Rattle.luks1_header.specs.Segment1.{fault1_of, made1, segment_parts1_of}
-use Rattle.luks1_header.proofs.ValidationLemmas.{segment1-fault, segment1-none}
+use Rattle.luks1_header.specs.Segment1.{fault1_of, segment_parts1_of}
+use Rattle.luks1_header.proofs.ValidationLemmas.{made1, segment1-fault, segment1-none}
 use Rattle.luks1_header.proofs.validation.segment.Goals as goal
 
 pub returns-in-Some : goal.returns-in-Some

@@ -1,5 +1,6 @@
 use Rattle.std.proofs.Common.{◌≡◌, true, option_map, sym, ap, arith}
-use Rattle.luks_verdict.specs.Rule.{is_digest, usable_digest}
+use Rattle.luks_verdict.specs.Rule.{is_digest}
+use Rattle.luks_verdict.proofs.RangeLemmas.{usable_digest}
 use Rattle.luks2_metadata.specs.Digest2.{iterations_of_digest}
 use Rattle.luks2_metadata.proofs.SlotLemmas.{digest_in_range, not_digest, out_of_range}
 use Rattle.luks2_metadata.proofs.digest.usable_iterations.Goals as goal

@@ -1,5 +1,5 @@
 use Rattle.std.proofs.Common.{arith, ◌∙◌}
-use Rattle.luks2_metadata.proofs.SlotLemmas.{empty_viewed}
+use Rattle.luks2_metadata.proofs.SegmentLemmas.{empty_viewed, not_array}
 use Rattle.luks2_metadata.proofs.payload.is_empty_array.Goals as goal
 use Rattle.serde_json.specs.View.{view}
 
@@ -8,3 +8,6 @@ returns-in-Some c =
     c.is_empty.ensures
     ∙ empty_viewed (view c.args.value.now) c.in-Some.values.now.items _ c.in-Some.ensures
     (omega (arith, c.in-Some.values.now.ok.0))
+
+pub returns-in-None : goal.returns-in-None
+returns-in-None c = not_array (view c.args.value.now) c.in-None.ensures

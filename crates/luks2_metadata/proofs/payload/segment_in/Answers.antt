@@ -1,9 +1,9 @@
 use Rattle.std.proofs.Common.{◌∙◌, ap, sym}
 use Rattle.luks_verdict.specs.Segment.{segment_from}
 use Rattle.luks_verdict.specs.declared.refusal.SegmentFault.TheVariants.{Requirement, Segments}
-use Rattle.luks2_metadata.specs.Segment2.{made2, segment_parts2_of}
-use Rattle.luks2_metadata.proofs.SlotLemmas.{fault2-requirement, fault2-segments, fault2-there, segment_value-there}
-use Rattle.luks2_metadata.proofs.SlotLemmas.{segment2-fault, segment2-none}
+use Rattle.luks2_metadata.specs.Segment2.{segment_parts2_of}
+use Rattle.luks2_metadata.proofs.SegmentLemmas.{fault2-requirement, fault2-segments, fault2-there, made2}
+use Rattle.luks2_metadata.proofs.SegmentLemmas.{segment_value-there, segment2-fault, segment2-none}
 use Rattle.luks2_metadata.proofs.payload.segment_in.Goals as goal
 use Rattle.serde_json.specs.View.{view}
 

@@ -1,5 +1,5 @@
 use Rattle.std.proofs.Common.{arith}
-use Rattle.luks2_metadata.proofs.SlotLemmas.{segment_none, segment_only}
+use Rattle.luks2_metadata.proofs.SegmentLemmas.{segment_none, segment_only}
 use Rattle.luks2_metadata.proofs.payload.the_segment.Goals as goal
 use Rattle.serde_json.specs.View.{view}
 

@@ -3,6 +3,7 @@ use Rattle.std.proofs.lemmas.Option.{same_Some}
 use Rattle.luks_cipher.specs.Sector.{is_mode_key_length}
 use Rattle.luks_cipher.specs.declared.mode.Mode.{Mode}
 use Rattle.luks_kdf.proofs.Pbkdf2Lemmas.{length-derived_key}
+use Rattle.luks_verdict.proofs.RangeLemmas.{slot_range}
 use Rattle.luks_open.proofs.opening.candidate.Goals as goal
 
 -- the key of the key material has a length that its mode allows
@@ -15,3 +16,12 @@ expanded-requires c =
     ap (is_mode_key_length c.in_ok-mode.mode) len
     ∙ (ap (λ (mode : Mode). is_mode_key_length mode c.args.slot.now.parts.area_key_bytes) (sym same)
     ∙ c.requires.area.2)
+
+pub derived-area_key-requires-clause-iterations : goal.derived-area_key-requires-clause-iterations
+derived-area_key-requires-clause-iterations c = (slot_range c.args.slot.now).some_iterations
+
+pub recovered-requires-clause-some : goal.recovered-requires-clause-some
+recovered-requires-clause-some c = (slot_range c.args.slot.now).some_stripes
+
+pub recovered-requires-clause-few : goal.recovered-requires-clause-few
+recovered-requires-clause-few c = (slot_range c.args.slot.now).few_stripes

@@ -1,0 +1,71 @@
+-- The bounds of numbers that pass a test, and those of the values that are made only if it holds.
+use Rattle.std.proofs.Common.{◌≡◌, ◌∙◌, ℕ, ◌%◌, ◌≤◌, true, Option, Some, None, ap, sym, length, arith}
+use Rattle.std.proofs.lemmas.Bool.Decides.{nat_tests}
+use Rattle.std.proofs.lemmas.Bool.{eqb-true}
+use Rattle.std.proofs.lemmas.Option.{none-some, same_Some}
+use Rattle.std.specs.Option.{ForSome}
+use Rattle.luks_area.specs.Area.{max_loaded_len}
+use Rattle.luks_verdict.specs.Rule.{is_digest, is_in_range, iterations_out_of_range, max_digest_len, max_iteration_count}
+use Rattle.luks_verdict.specs.Rule.{max_stripes, min_digest_len, stripes_out_of_range}
+use Rattle.luks_verdict.specs.SectorSize.{bytes_of, has_whole_sectors}
+use Rattle.luks_verdict.specs.Slot.{material_end}
+use Rattle.luks_verdict.specs.declared.digest.KeyDigest.{KeyDigest}
+use Rattle.luks_verdict.specs.declared.sector_size.SectorSize.{SectorSize}
+use Rattle.luks_verdict.specs.declared.segment.Segment.{Segment}
+use Rattle.luks_verdict.specs.declared.slot.Slot.{Slot}
+
+-- the bounds of a slot's numbers that are in range
+pub record InRange (iterations stripes end : ℕ) : Type 0 where
+  pub some_iterations : 1 ≤ iterations
+  pub few_iterations : iterations ≤ max_iteration_count
+  pub some_stripes : 1 ≤ stripes
+  pub few_stripes : stripes ≤ max_stripes
+  pub loadable : end ≤ max_loaded_len
+
+pub in_range : (iterations stripes end : ℕ) → is_in_range iterations stripes end ≡ true → InRange iterations stripes end
+unfolding is_in_range iterations_out_of_range stripes_out_of_range
+in_range iterations stripes end is = record {
+  some_iterations = grind (arith, nat_tests);
+  few_iterations = grind (arith, nat_tests);
+  some_stripes = grind (arith, nat_tests);
+  few_stripes = grind (arith, nat_tests);
+  loadable = grind (arith, nat_tests);
+}
+
+-- the numbers of every slot that can be opened are in range
+pub slot_range : (slot : Slot) → InRange slot.parts.iterations slot.parts.stripes (material_end slot)
+slot_range slot = in_range slot.parts.iterations slot.parts.stripes (material_end slot) slot.in_range
+
+-- the bounds of the numbers of a digest that can be used
+pub record IsDigest (iterations len : ℕ) : Type 0 where
+  pub some_iterations : 1 ≤ iterations
+  pub few_iterations : iterations ≤ max_iteration_count
+  pub enough : min_digest_len ≤ len
+  pub few : len ≤ max_digest_len
+
+pub usable_digest : (iterations len : ℕ) → is_digest iterations len ≡ true → IsDigest iterations len
+unfolding is_digest iterations_out_of_range
+usable_digest iterations len is = record {
+  some_iterations = grind (arith, nat_tests);
+  few_iterations = grind (arith, nat_tests);
+  enough = grind (arith, nat_tests);
+  few = grind (arith, nat_tests);
+}
+
+-- every digest that identifies a volume key can be used
+pub digest_range : (digest : KeyDigest) → IsDigest digest.iterations (length digest.value)
+digest_range digest = usable_digest digest.iterations (length digest.value) digest.usable
+
+-- what `has_whole_sectors` tests, as a type
+abbrev pub HasWholeSectors : Option ℕ → SectorSize → Type 0
+HasWholeSectors size sector_size = ForSome size (λ bytes. bytes % bytes_of sector_size ≡ 0)
+
+pub whole_by_test : (size : Option ℕ) (sector_size : SectorSize) → has_whole_sectors size sector_size ≡ true
+    → HasWholeSectors size sector_size
+whole_by_test None sector_size is = λ bytes some. absurd (none-some bytes some)
+whole_by_test (Some fixed) sector_size is = λ bytes some.
+    ap (λ n. n % bytes_of sector_size) (sym (same_Some fixed bytes some)) ∙ eqb-true (fixed % bytes_of sector_size) 0 is
+
+-- the length of every segment is whole sectors, if it is fixed
+pub segment_whole : (segment : Segment) → HasWholeSectors segment.size segment.sector_size
+segment_whole segment = whole_by_test segment.size segment.sector_size segment.whole_sectors
