@@ -25,3 +25,11 @@ returns-in-Json-clause-found c =
     let knows = ap (λ (s : MemSourceModel). Some s.left) c.new.ensures in
     let none = rw c.in-Json.is at (c.in-Err.ensures.no_header c.args.bytes.now knows) in
     sym (ap found_in none.0)
+
+pub returns-in-Ok-clause-found : goal.returns-in-Ok-clause-found
+returns-in-Ok-clause-found c =
+    let knows = ap (λ (s : MemSourceModel). Some s.left) c.new.ensures in
+    sym (ap found_in (c.in-Ok.ensures.consumed c.args.bytes.now knows).0)
+
+pub returns-clause-found : goal.returns-clause-found
+returns-clause-found c = tt

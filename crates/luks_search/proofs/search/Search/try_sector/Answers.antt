@@ -36,3 +36,6 @@ pub returns-in_err-found-clause-behind : goal.returns-in_err-found-clause-behind
 returns-in_err-found-clause-behind c image left is =
     on_fault _ _
     (in_near image c.args.self.now left is (omega (arith, ap length c.bytes.ensures.value, c.bytes.ensures.within)))
+
+pub advance-requires-clause-more : goal.advance-requires-clause-more
+advance-requires-clause-more c = omega arith
