@@ -14,7 +14,7 @@ use luks_io::source::Source;
 use std::alloc::{AllocError, Global};
 
 /// How headers are audited and printed.
-#[derive(Clone, Copy, PartialEq, Eq, Debug)]
+#[derive(Clone, Copy)]
 pub struct Policy {
     /// The least number of PBKDF2 iterations that is not weak; without one, OWASP's figures apply.
     pub minimum: Option<u32>,
@@ -23,7 +23,7 @@ pub struct Policy {
 }
 
 /// What the audit of an image showed.
-#[derive(Clone, Copy, PartialEq, Eq, Debug)]
+#[derive(Clone, Copy)]
 pub enum State {
     /// Nothing is wrong and nothing weak.
     Clean,

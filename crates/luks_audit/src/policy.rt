@@ -23,7 +23,7 @@ const LEAST_MEMORY: u64 = 65_536;
 const LEAST_DIGEST_ITERATIONS: u64 = 1000;
 
 /// How the key of a slot is derived from a passphrase.
-#[derive(Clone, Copy, PartialEq, Eq, Debug)]
+#[derive(Clone, Copy)]
 pub enum Derivation {
     /// By PBKDF2.
     Pbkdf2,
@@ -34,7 +34,7 @@ pub enum Derivation {
 }
 
 /// The numbers of a key slot that are judged. A number that the header lacks is 0.
-#[derive(Clone, Copy, PartialEq, Eq, Debug)]
+#[derive(Clone, Copy)]
 pub struct SlotStrength {
     /// How its key is derived.
     pub derivation: Derivation,
@@ -55,7 +55,7 @@ pub struct SlotStrength {
 }
 
 /// The numbers of a digest that are judged.
-#[derive(Clone, Copy, PartialEq, Eq, Debug)]
+#[derive(Clone, Copy)]
 pub struct DigestStrength {
     /// The hash function, if its name is known.
     pub hash: Option<Hash>,
@@ -64,7 +64,7 @@ pub struct DigestStrength {
 }
 
 /// What is weak about a part of a header.
-#[derive(Clone, Copy, PartialEq, Eq, Debug)]
+#[derive(Clone, Copy)]
 pub enum Weakness {
     /// A key slot has fewer iterations of PBKDF2 than are requested, or than OWASP recommends.
     FewIterations,

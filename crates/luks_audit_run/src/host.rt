@@ -7,7 +7,7 @@ ghost use Rattle.luks_audit_run.specs.Host.{OpensAs, Stored};
 use luks_io::source::Source;
 
 /// An image was not opened.
-#[derive(Clone, Copy, PartialEq, Eq, Debug)]
+#[derive(Clone, Copy)]
 pub struct NotOpened;
 
 /// Opens images by their names.

@@ -16,7 +16,7 @@ use luks_search::search::Search;
 use std::alloc::{AllocError, Global};
 
 /// Where headers are sought in an image.
-#[derive(Clone, Copy, PartialEq, Eq, Debug)]
+#[derive(Clone, Copy)]
 pub enum Scope {
     /// At its start.
     Start,
@@ -25,7 +25,7 @@ pub enum Scope {
 }
 
 /// Why a run is aborted.
-#[derive(Clone, Copy, PartialEq, Eq, Debug)]
+#[derive(Clone, Copy)]
 pub(crate) enum RunFault {
     OutOfMemory,
     WriteFailed,

@@ -17,7 +17,7 @@ use luks_io::source::Source;
 use std::alloc::{AllocError, Global};
 
 /// How a run ends.
-#[derive(Clone, Copy, PartialEq, Eq, Debug)]
+#[derive(Clone, Copy)]
 pub enum Ending {
     /// Each image has its line. The gravest state of all is this one.
     Done(State),

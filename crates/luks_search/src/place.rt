@@ -21,7 +21,7 @@ pub struct Place {
 }
 
 /// Why a search was aborted.
-#[derive(Clone, Copy, PartialEq, Eq, Debug)]
+#[derive(Clone, Copy)]
 pub enum SearchFault {
     /// A read of the image failed.
     Read,
