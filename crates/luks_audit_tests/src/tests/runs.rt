@@ -1,18 +1,15 @@
 //! Whole runs over images in memory.
 
-use super::fixture::{PLAIN, header1, image2};
+use super::fixture::{COLUMNS, PLAIN, assert_of, header1, image2};
 use luks_audit::image::Policy;
-use luks_audit::line::Format;
 use luks_audit_run::counted::CountedSource;
 use luks_audit_run::host::{Images, NotOpened};
 use luks_audit_run::image::Scope;
 use luks_audit_run::run::run;
 use luks_test_support::bytes::put;
 use luks_test_support::devices::{BrokenSource, FlakySink};
-use luks_test_support::same::{holds_in, same_in};
 use std::process::Abort;
 use std::str;
-use std::test::Fail;
 
 // Images by name: the bytes, and how many of them are given before reads fail.
 #[derive(Drop)]
@@ -52,6 +49,33 @@ impl<'a> Images for Table<'a> {
     }
 }
 
+impl<'a> Table<'a> {
+    // Images of these bytes, none of which was closed.
+    fn new(good: &'a [u8], weak: &'a [u8], disk: &'a [u8]) -> Table<'a> {
+        Table {
+            good,
+            weak,
+            disk,
+            failures: 0,
+        }
+    }
+}
+
+// The exit status of a run over these images, and what was written. Call `failing` of the sink
+// fails, counted from 0.
+fn run_of(
+    rt: &(impl Abort + AllocGlobal),
+    policy: Policy,
+    scope: Scope,
+    files: &[&str],
+    host: &mut Table<'_>,
+    failing: u64,
+) -> (u8, FlakySink) {
+    let mut out = FlakySink::new(rt.alloc(), 100_000, 77, failing).expect(rt, "memory");
+    let ending = run(rt.alloc(), policy, scope, files, host, &mut out);
+    (ending.status(), out)
+}
+
 // The names of images, the exit status, and the lines after the header's own.
 static RUNS: [(&[&str], u8, usize); 7] = [
     (&["good"], 0, 1),
@@ -68,90 +92,56 @@ fn lines(text: &[u8]) -> usize {
 }
 
 #[test]
-fn statuses(rt: HostRuntime) -> Result<(), Fail> {
-    let good = header1(&rt, "xts-plain64", "sha256", &[(212, 600_000)]);
-    let weak = header1(&rt, "xts-plain64", "sha256", &[]);
-    for row in &RUNS {
-        let (files, status, count) = *row;
-        let mut host = Table {
-            good: good.as_slice(),
-            weak: weak.as_slice(),
-            disk: b"",
-            failures: 0,
-        };
-        let mut out = FlakySink::new(rt.alloc(), 100_000, 77, u64::MAX)?;
-        let ending = run(rt.alloc(), PLAIN, Scope::Start, files, &mut host, &mut out);
-        same_in(&files.len(), ending.status(), status)?;
-        same_in(&files.len(), lines(out.as_slice()), count)?;
+fn statuses(rt: HostRuntime) {
+    let good = header1(&rt, "xts-plain64", "sha256", &[(212, 600_000)]).leak();
+    let weak = header1(&rt, "xts-plain64", "sha256", &[]).leak();
+    for (files, status, count) in &RUNS {
+        let mut host = Table::new(good, weak, b"");
+        let (ended, out) = run_of(&rt, PLAIN, Scope::Start, files, &mut host, u64::MAX);
+        let last = files.last().copied().unwrap_or("");
+        assert_of(&rt, last, ended == *status);
+        assert_of(&rt, last, lines(out.as_slice()) == *count);
     }
-    Ok(())
 }
 
+// The names of the columns, and two lines of errors.
+const ERRORS: &[u8] =
+    b"file\toffset\terror\tversion\tuuid\tlabel\tsubsystem\theader\tother_header\tcipher\tkey_bytes\tsector_size\tsegment_offset\tsegment_size\trequirements\tslots\tdigests\ttokens\tfindings\tweak\tseqid\theader_size\tchecksum_hash\tsalt\tiv_tweak\nnone\t\tno LUKS header\t\t\t\t\t\t\t\t\t\t\t\t\t\t\t\t\t\t\t\t\t\t\nmissing\t\tcannot be opened\t\t\t\t\t\t\t\t\t\t\t\t\t\t\t\t\t\t\t\t\t\t\n";
+
 #[test]
-fn columns(rt: HostRuntime) -> Result<(), Fail> {
-    let policy = Policy {
-        minimum: None,
-        format: Format::Tsv,
-    };
-    let good = header1(&rt, "xts-plain64", "sha256", &[]);
-    let mut host = Table {
-        good: good.as_slice(),
-        weak: good.as_slice(),
-        disk: b"",
-        failures: 0,
-    };
-    let mut out = FlakySink::new(rt.alloc(), 100_000, 77, u64::MAX)?;
-    run(
-        rt.alloc(),
-        policy,
-        Scope::Start,
-        &["none", "missing"],
-        &mut host,
-        &mut out,
-    );
-    same_in(
-        &"columns",
-        out.as_slice(),
-        b"file\toffset\terror\tversion\tuuid\tlabel\tsubsystem\theader\tother_header\tcipher\tkey_bytes\tsector_size\tsegment_offset\tsegment_size\trequirements\tslots\tdigests\ttokens\tfindings\tweak\tseqid\theader_size\tchecksum_hash\tsalt\tiv_tweak\nnone\t\tno LUKS header\t\t\t\t\t\t\t\t\t\t\t\t\t\t\t\t\t\t\t\t\t\t\nmissing\t\tcannot be opened\t\t\t\t\t\t\t\t\t\t\t\t\t\t\t\t\t\t\t\t\t\t\n".as_slice(),
-    )?;
-    Ok(())
+fn columns(rt: HostRuntime) {
+    let mut host = Table::new(b"", b"", b"");
+    let files = ["none", "missing"];
+    let (_, out) = run_of(&rt, COLUMNS, Scope::Start, &files, &mut host, u64::MAX);
+    assert_of(&rt, "columns", out.as_slice() == ERRORS);
 }
+
+// Whether a run of which this call of the sink fails ends with what was written before.
+fn is_cut(rt: &(impl Abort + AllocGlobal), host: &mut Table<'_>, call: u64, whole: &[u8]) -> bool {
+    let (status, out) = run_of(rt, PLAIN, Scope::Start, &WRITTEN, host, call);
+    (status == 6) & whole.starts_with(out.as_slice()) & (out.as_slice().len() < whole.len())
+}
+
+// Images whose lines are written.
+const WRITTEN: [&str; 3] = ["good", "missing", "weak"];
 
 // A write that fails ends the run with what was written before, whichever write it is.
 #[test]
-fn failing_writes(rt: HostRuntime) -> Result<(), Fail> {
-    let good = header1(&rt, "xts-plain64", "sha256", &[]);
-    let files = ["good", "missing", "weak"];
-    let mut host = Table {
-        good: good.as_slice(),
-        weak: good.as_slice(),
-        disk: b"",
-        failures: 0,
-    };
-    let mut whole = FlakySink::new(rt.alloc(), 100_000, 500, u64::MAX)?;
-    run(
-        rt.alloc(),
-        PLAIN,
-        Scope::Start,
-        &files,
-        &mut host,
-        &mut whole,
-    );
+fn failing_writes(rt: HostRuntime) {
+    let good = header1(&rt, "xts-plain64", "sha256", &[]).leak();
+    let mut host = Table::new(good, good, b"");
+    let (_, whole) = run_of(&rt, PLAIN, Scope::Start, &WRITTEN, &mut host, u64::MAX);
     for call in 0..whole.calls() {
-        let mut out = FlakySink::new(rt.alloc(), 100_000, 500, call)?;
-        let ending = run(rt.alloc(), PLAIN, Scope::Start, &files, &mut host, &mut out);
-        same_in(&call, ending.status(), 6)?;
-        holds_in(&call, whole.as_slice().starts_with(out.as_slice()))?;
-        holds_in(&call, out.as_slice().len() < whole.as_slice().len())?;
+        let cut = is_cut(&rt, &mut host, call, whole.as_slice());
+        assert_of(&rt, "failing write", cut);
     }
-    Ok(())
 }
 
 // A disk: zeros, a LUKS1 header, a LUKS2 volume, and one whose primary header is wiped.
 fn disk(rt: &(impl Abort + AllocGlobal)) -> Vec<u8> {
     let mut bytes = vec![in rt.alloc(); 0; 200_000].expect(rt, "memory");
     let first = header1(rt, "xts-plain64", "sha256", &[]);
-    let second = image2(rt, "{\"type\":\"luks2\",\"key_size\":64}", 1000);
+    let second = image2(rt, "{\"type\":\"luks2\",\"key_size\":64}", "1000");
     let disk = bytes.as_mut_slice();
     put(disk, 1024, first.as_slice());
     put(disk, 4096, second.as_slice());
@@ -163,60 +153,49 @@ fn disk(rt: &(impl Abort + AllocGlobal)) -> Vec<u8> {
     bytes
 }
 
-// Names of images, the exit status, and the offsets and errors that are printed.
-static SEARCHES: [(&[&str], u8, &str); 4] = [
-    (&["disk"], 1, "1024 4096 65536 "),
-    (&["none", "disk"], 1, "no LUKS header 1024 4096 65536 "),
-    (&["broken disk", "disk"], 4, "read failed 1024 4096 65536 "),
-    (&["missing"], 4, "cannot be opened "),
+// Names of images, the exit status, how many images there are of which a read failed, and the
+// offsets and errors that are printed.
+static SEARCHES: [(&[&str], u8, u64, &str); 4] = [
+    (&["disk"], 1, 0, "1024 4096 65536 "),
+    (&["none", "disk"], 1, 0, "no LUKS header 1024 4096 65536 "),
+    (
+        &["broken disk", "disk"],
+        4,
+        1,
+        "read failed 1024 4096 65536 ",
+    ),
+    (&["missing"], 4, 0, "cannot be opened "),
 ];
 
 // The offsets and errors in these columns.
-fn offsets(rt: &(impl Abort + AllocGlobal), text: &str) -> String {
+fn offsets_in(rt: &(impl Abort + AllocGlobal), text: &[u8]) -> String {
     let mut found = String::new(rt.alloc());
-    for line in text.lines().skip(1) {
+    for line in str::from_utf8(text).unwrap_or("").lines().skip(1) {
         for column in line.split('\t').skip(1).take(2) {
             if !column.is_empty() {
-                write!(found, "{column} ").expect(rt, "memory");
+                push_word(rt, &mut found, column);
             }
         }
     }
     found
 }
 
+// Adds a word, and a space after it.
+fn push_word(rt: &(impl Abort + AllocGlobal), text: &mut String, word: &str) {
+    text.push_str(word).expect(rt, "memory");
+    text.push(' ').expect(rt, "memory");
+}
+
 #[test]
-fn searches(rt: HostRuntime) -> Result<(), Fail> {
-    let good = header1(&rt, "xts-plain64", "sha256", &[]);
-    let disk = disk(&rt);
-    let policy = Policy {
-        minimum: None,
-        format: Format::Tsv,
-    };
-    for row in &SEARCHES {
-        let (files, status, wanted) = *row;
-        let mut host = Table {
-            good: good.as_slice(),
-            weak: good.as_slice(),
-            disk: disk.as_slice(),
-            failures: 0,
-        };
-        let mut out = FlakySink::new(rt.alloc(), 100_000, 77, u64::MAX)?;
-        let ending = run(
-            rt.alloc(),
-            policy,
-            Scope::Everywhere,
-            files,
-            &mut host,
-            &mut out,
-        );
-        same_in(&wanted, ending.status(), status)?;
-        let text = str::from_utf8(out.as_slice()).expect(&rt, "text");
-        same_in(&wanted, offsets(&rt, text).as_str(), wanted)?;
-        same_in(
-            &wanted,
-            host.failures,
-            u64::from(wanted.starts_with("read failed")),
-        )?;
+fn searches(rt: HostRuntime) {
+    let good = header1(&rt, "xts-plain64", "sha256", &[]).leak();
+    let disk = disk(&rt).leak();
+    for (files, status, failures, offsets) in &SEARCHES {
+        let mut host = Table::new(good, good, disk);
+        let (ended, out) = run_of(&rt, COLUMNS, Scope::Everywhere, files, &mut host, u64::MAX);
+        let found = offsets_in(&rt, out.as_slice());
+        assert_of(&rt, offsets, ended == *status);
+        assert_of(&rt, offsets, host.failures == *failures);
+        assert_of(&rt, offsets, found.as_str() == *offsets);
     }
-    Ok(())
 }

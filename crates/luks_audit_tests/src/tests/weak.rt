@@ -1,11 +1,8 @@
 //! What is weak, by the numbers of a slot.
 
-use super::fixture::{PLAIN, header1, image2, member};
+use super::fixture::{PLAIN, assert_member, header1, image2, text_of};
 use luks_audit::image::Policy;
-use luks_audit::line::Format;
-use luks_test_support::same::same_in;
 use std::process::Abort;
-use std::test::Fail;
 
 // A mode, a hash function, other numbers, and what is weak.
 type Row1 = (
@@ -64,109 +61,119 @@ static ROWS1: [Row1; 7] = [
 ];
 
 #[test]
-fn weak1(rt: HostRuntime) -> Result<(), Fail> {
-    for row in &ROWS1 {
-        let (mode, hash, numbers, weak) = *row;
+fn weak1(rt: HostRuntime) {
+    for (mode, hash, numbers, weak) in &ROWS1 {
         let image = header1(&rt, mode, hash, numbers);
-        let found = member(&rt, PLAIN, image.as_slice(), "weak");
-        same_in(&hash, found.as_str(), weak)?;
+        assert_member(&rt, PLAIN, image.as_slice(), "weak", weak);
     }
-    Ok(())
 }
 
 // What encrypts key material, with the length of its key, how keys are derived, and what is weak.
-type Row2 = (&'static str, u32, &'static str, u32, &'static str);
+type Row2 = (
+    &'static str,
+    &'static str,
+    &'static str,
+    &'static str,
+    &'static str,
+);
 
 static ROWS2: [Row2; 10] = [
     (
         "aes-xts-plain64",
-        64,
+        "64",
         "{\"type\":\"argon2id\",\"time\":4,\"memory\":65536,\"cpus\":1,\"salt\":\"\"}",
-        1000,
+        "1000",
         "[]",
     ),
     (
         "aes-xts-plain64",
-        64,
+        "64",
         "{\"type\":\"argon2i\",\"time\":4,\"memory\":65535,\"cpus\":1,\"salt\":\"\"}",
-        1000,
+        "1000",
         "[{\"name\":\"argon2-memory\",\"place\":\"slot 7\"}]",
     ),
     (
         "aes-xts-plain64",
-        64,
+        "64",
         "{\"type\":\"argon2id\"}",
-        999,
+        "999",
         "[{\"name\":\"argon2-memory\",\"place\":\"slot 7\"},{\"name\":\"digest-iterations\",\"place\":\"digest 0\"}]",
     ),
     (
         "aes-cbc-plain64",
-        16,
+        "16",
         "{\"type\":\"pbkdf2\",\"hash\":\"sha256\",\"iterations\":600000,\"salt\":\"\"}",
-        1000,
+        "1000",
         "[{\"name\":\"cbc\",\"place\":\"slot 7\"},{\"name\":\"short-key\",\"place\":\"slot 7\"}]",
     ),
     (
         "aes-xts-plain64",
-        32,
+        "32",
         "{\"type\":\"pbkdf2\",\"hash\":\"sha1\",\"iterations\":1000,\"salt\":\"\"}",
-        1000,
+        "1000",
         "[{\"name\":\"iterations\",\"place\":\"slot 7\"},{\"name\":\"sha1\",\"place\":\"slot 7\"}]",
     ),
-    ("aes-xts-plain64", 32, "{\"type\":\"scrypt\"}", 1000, "[]"),
+    (
+        "aes-xts-plain64",
+        "32",
+        "{\"type\":\"scrypt\"}",
+        "1000",
+        "[]",
+    ),
     (
         "capi:cbc(aes)-essiv:sha256",
-        32,
+        "32",
         "{\"type\":\"scrypt\"}",
-        1000,
+        "1000",
         "[{\"name\":\"cbc\",\"place\":\"slot 7\"}]",
     ),
     (
         "capi:authenc(hmac(sha256),cbc(aes))-random",
-        32,
+        "32",
         "{\"type\":\"scrypt\"}",
-        1000,
+        "1000",
         "[{\"name\":\"cbc\",\"place\":\"slot 7\"}]",
     ),
     (
         "capi:authenc(xcbc(aes),xts(aes))-random",
-        32,
+        "32",
         "{\"type\":\"scrypt\"}",
-        1000,
+        "1000",
         "[]",
     ),
     (
         "xcapi:cbc(aes)-essiv:sha256",
-        32,
+        "32",
         "{\"type\":\"scrypt\"}",
-        1000,
+        "1000",
         "[]",
     ),
 ];
 
+// A LUKS2 image whose key slot is of this row.
+fn image_of_row(rt: &(impl Abort + AllocGlobal), row: &Row2) -> Vec<u8> {
+    let (cipher, key_size, kdf, iterations, _) = *row;
+    let slot = text_of(
+        rt,
+        &[
+            "{\"type\":\"luks2\",\"key_size\":64,\"kdf\":",
+            kdf,
+            ",\"af\":{\"type\":\"luks1\",\"stripes\":4000,\"hash\":\"sha256\"},\"area\":{\"type\":\"raw\",\"offset\":\"32768\",\"size\":\"258048\",\"encryption\":\"",
+            cipher,
+            "\",\"key_size\":",
+            key_size,
+            "}}",
+        ],
+    );
+    image2(rt, slot.as_str(), iterations)
+}
+
 #[test]
-fn weak2(rt: HostRuntime) -> Result<(), Fail> {
+fn weak2(rt: HostRuntime) {
     for row in &ROWS2 {
-        let (cipher, key_size, kdf, digest, weak) = *row;
-        let mut slot = String::new(rt.alloc());
-        write!(slot, "{{\"type\":\"luks2\",\"key_size\":64,\"kdf\":{kdf},")?;
-        write!(
-            slot,
-            "\"af\":{{\"type\":\"luks1\",\"stripes\":4000,\"hash\":\"sha256\"}},"
-        )?;
-        write!(
-            slot,
-            "\"area\":{{\"type\":\"raw\",\"offset\":\"32768\",\"size\":\"258048\","
-        )?;
-        write!(
-            slot,
-            "\"encryption\":\"{cipher}\",\"key_size\":{key_size}}}}}"
-        )?;
-        let image = image2(&rt, slot.as_str(), digest);
-        let found = member(&rt, PLAIN, image.as_slice(), "weak");
-        same_in(&kdf, found.as_str(), weak)?;
+        let image = image_of_row(&rt, row);
+        assert_member(&rt, PLAIN, image.as_slice(), "weak", row.4);
     }
-    Ok(())
 }
 
 // A minimum of iterations, and whether 1000 of them are weak.
@@ -177,58 +184,47 @@ static MINIMA: [(u32, &str); 3] = [
 ];
 
 #[test]
-fn minimum(rt: HostRuntime) -> Result<(), Fail> {
+fn minimum(rt: HostRuntime) {
     let image = header1(&rt, "xts-plain64", "sha256", &[]);
-    for row in &MINIMA {
-        let (minimum, weak) = *row;
+    for (minimum, weak) in &MINIMA {
         let policy = Policy {
-            minimum: Some(minimum),
-            format: Format::Json,
+            minimum: Some(*minimum),
+            ..PLAIN
         };
-        let found = member(&rt, policy, image.as_slice(), "weak");
-        same_in(&minimum, found.as_str(), weak)?;
+        assert_member(&rt, policy, image.as_slice(), "weak", weak);
     }
-    Ok(())
 }
 
-// Members of a skipped slot, and texts.
-#[test]
-fn members(rt: HostRuntime) -> Result<(), Fail> {
-    let slot =
-        "{\"type\":\"luks2\",\"kdf\":{\"type\":\"argon2id\",\"time\":4,\"memory\":7,\"cpus\":2,\"salt\":\"AP8=\"}}";
-    let image = image2(&rt, slot, 1000);
-    let slots = member(&rt, PLAIN, image.as_slice(), "slots");
-    same_in(
-        &"slots",
-        slots.as_str(),
+// A slot that is skipped.
+const SKIPPED: &str =
+    "{\"type\":\"luks2\",\"kdf\":{\"type\":\"argon2id\",\"time\":4,\"memory\":7,\"cpus\":2,\"salt\":\"AP8=\"}}";
+
+// Members of an image with it: the lists, a text, those on the binary header, and the number of the
+// first sector.
+static MEMBERS: [(&str, &str); 8] = [
+    (
+        "slots",
         "[{\"af_hash\":null,\"area_cipher\":null,\"area_key_bytes\":null,\"area_offset\":null,\"area_size\":null,\"can_try\":false,\"hash\":null,\"iterations\":null,\"kdf\":\"argon2id\",\"key_bytes\":null,\"memory\":7,\"number\":7,\"priority\":1,\"reason\":\"member\",\"salt\":\"00ff\",\"state\":\"skipped\",\"stripes\":null,\"threads\":2,\"time\":4}]",
-    )?;
-    let tokens = member(&rt, PLAIN, image.as_slice(), "tokens");
-    same_in(
-        &"tokens",
-        tokens.as_str(),
+    ),
+    (
+        "tokens",
         "[{\"keyslots\":[\"7\"],\"number\":3,\"stored\":{\"keyslots\":[\"7\"],\"n\":-7,\"type\":\"a\\t\\\"b\"},\"type\":\"a\\t\\\"b\"},{\"keyslots\":[],\"number\":4,\"stored\":null,\"type\":\"f\"}]",
-    )?;
-    let digests = member(&rt, PLAIN, image.as_slice(), "digests");
-    same_in(
-        &"digests",
-        digests.as_str(),
+    ),
+    (
+        "digests",
         "[{\"bytes\":5,\"digest\":\"666f6f6261\",\"hash\":\"sha256\",\"iterations\":1000,\"keyslots\":[\"7\"],\"number\":0,\"salt\":\"666f6f\",\"segments\":[\"0\"],\"type\":\"pbkdf2\"}]",
-    )?;
-    let label = member(&rt, PLAIN, image.as_slice(), "label");
-    same_in(&"label", label.as_str(), "\"a\\\\x5clabel\\\\xc3\\\\x0a~\"")?;
-    for row in &BINARY {
-        let (name, value) = *row;
-        let found = member(&rt, PLAIN, image.as_slice(), name);
-        same_in(&name, found.as_str(), value)?;
-    }
-    Ok(())
-}
-
-// Members on the binary header, and the number of the first sector.
-static BINARY: [(&str, &str); 4] = [
+    ),
+    ("label", "\"a\\\\x5clabel\\\\xc3\\\\x0a~\""),
     ("seqid", "3"),
     ("header_size", "16384"),
     ("checksum_hash", "\"sha256\""),
     ("iv_tweak", "8"),
 ];
+
+#[test]
+fn members(rt: HostRuntime) {
+    let image = image2(&rt, SKIPPED, "1000");
+    for (name, text) in &MEMBERS {
+        assert_member(&rt, PLAIN, image.as_slice(), name, text);
+    }
+}
