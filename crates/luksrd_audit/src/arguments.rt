@@ -28,20 +28,34 @@ pub fn command<'a>(alloc: Global) -> Result<Command<'a>, AllocError> {
 
 // The command with its options.
 fn with_options<'a>(alloc: Global, command: Command<'a>) -> Result<Command<'a>, AllocError> {
+    let command = with_minimum(alloc, command)?;
+    let command = with_search(alloc, command)?;
+    with_tsv(alloc, command)
+}
+
+fn with_minimum<'a>(alloc: Global, command: Command<'a>) -> Result<Command<'a>, AllocError> {
     let minimum = Arg::new(alloc, "min-iterations")
         .long("min-iterations")
         .value_name("N")
         .value_parser(value_parser!(u32))
         .help("Fewer iterations of PBKDF2 are weak, in place of OWASP's figures");
+    command.arg(minimum)
+}
+
+fn with_search<'a>(alloc: Global, command: Command<'a>) -> Result<Command<'a>, AllocError> {
     let search = Arg::new(alloc, "search")
         .long("search")
         .action(ArgAction::SetTrue)
         .help("Seeks headers at each multiple of 512 bytes");
+    command.arg(search)
+}
+
+fn with_tsv<'a>(alloc: Global, command: Command<'a>) -> Result<Command<'a>, AllocError> {
     let tsv = Arg::new(alloc, "tsv")
         .long("tsv")
         .action(ArgAction::SetTrue)
         .help("Prints columns with tabs between them, and their names first");
-    command.arg(minimum)?.arg(search)?.arg(tsv)
+    command.arg(tsv)
 }
 
 // The command with its images.
