@@ -62,7 +62,8 @@ typed=typed
 : >cooked
 
 # cooks FOLDER NEEDED NAME:TEXT..: runs these recipes in a folder with images, in each shell, with links to the other
-# files that they need; no image changes. What was run is noted in the file cooked.
+# files that they need; no image changes. Others can read no file but those that come out of a file system with its
+# modes, in the folder files, and they cannot come into the folder of these. What was run is noted in the file cooked.
 cooks() {
     local folder=$1 needed=$2 shell text
     shift 2
@@ -79,8 +80,8 @@ cooks() {
     for shell in bash 'zsh -o interactive_comments'; do
         (cd "$folder" && $shell ../script <../$typed) >"$folder, ${shell%% *}" 2>&1
         mv "$folder/rescue" "rescue $folder, ${shell%% *}"
-        same "$folder in $shell: files that others may read" "$(find "rescue $folder, ${shell%% *}" -type f -perm /077 \
-            ! -name plain.pid)" ''
+        same "$folder in $shell: files that others may read" "$(find "rescue $folder, ${shell%% *}" \
+            \( -type f ! -name plain.pid ! -path '*/files/*' -o -name "rescue $folder, ${shell%% *}" \) -perm /077)" ''
         same "$folder in $shell: the images" "$(cd "$folder" && sha256sum -- *)" "$(cat before)"
     done
 }

@@ -90,20 +90,37 @@ recipes_give argon2 fstab files/etc/fstab
 # a truncated image, of which nothing is missing that is in use
 volume truncated ext4
 truncate -s -1500000 truncated/disk.img
-cooks truncated '' RESCUE.md:'# ext2, ext3 and ext4 know their length'
+cooks truncated '' RESCUE.md:'# What is left of each file' RESCUE.md:'# They know their length'
 recipes_say truncated 'luksrd: image ends inside a sector: '
+recipes_give truncated files/etc/fstab files/etc/fstab
 recipes_say truncated 'Pass 5: Checking group summary information
 plain.img: '
 for shell in bash zsh; do
     same "truncated in $shell: its length" "$(stat -c %s "rescue truncated, $shell/plain.img")" "$(stat -c %s ext4)"
 done
 
-# which passphrase it was
+# one that ends inside a file
+cp ext4 longer
+head -c 3M /dev/urandom >random
+debugfs -w -R 'write random random' longer >err 2>&1
+volume cut longer
+truncate -s -7M cut/disk.img
+cooks cut '' RESCUE.md:'# What is left of each file'
+recipes_say cut 'short read'
+for shell in bash zsh; do
+    found=$(stat -c %s "rescue cut, $shell/files/random")
+    same "cut in $shell: the file is too short" "$((found < 3145728))" 1
+    same "cut in $shell: what is left of it" "$(head -c "$found" random | sha256sum)" \
+        "$(sha256sum <"rescue cut, $shell/files/random")"
+done
+
+# which passphrase it was: the last line, which has no newline, after one with a carriage return
 volume guessed ext4
-printf 'a secret \na secret\nanother one\n' >guessed/candidates
-cooks guessed candidates RESCUE.md:'# Lines of a file'
+printf 'a secret \r\na secret' >guessed/candidates
+cooks guessed candidates RESCUE.md:'# Without it, one after the other' RESCUE.md:'# Line 2 as the key file'
 recipes_say guessed 'Key slot 0 opens the volume.
 line 2'
+recipes_give guessed pass pass
 
 # a key area that was overwritten in part, beside an intact one
 volume damaged ext4
@@ -194,7 +211,6 @@ done
 
 # by a file over the volume: the blocks in use, and a smaller file system
 if has_fuse; then
-    head -c 3M /dev/urandom >random
     cp ext4 filled
     debugfs -w -R 'write random random' filled >err 2>&1
     debugfs -w -R 'rm random' filled >err 2>&1

@@ -49,7 +49,7 @@ for file in bin/luksrd:"$program" share/man/man1/luksrd.1:"$sources/docs/luksrd.
 done
 # The documents are those of the sources, but for links to what is not installed.
 documents='a folder/usr/share/doc/luksrd'
-unlinked() { sed 's/\[\([^]]*\)\]([^)]*)/\1/g; s/ ([A-Za-z./]* in the sources)//g' "$1"; }
+unlinked() { sed -z 's/\[\([^]]*\)\]([^)]*)/\1/g; s/ ([A-Za-z./]* in the sources)//g' "$1"; }
 same 'README.md' "$(unlinked "$documents/README.md")" "$(unlinked "$sources/README.md")"
 same 'what README.md leads to in the sources' "$(grep -o '[^(]* in the sources' "$documents/README.md")" \
     'docs/ARCHITECTURE.md in the sources

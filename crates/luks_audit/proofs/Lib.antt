@@ -1,4 +1,3 @@
 pub mod FaultLemmas
 pub mod FloatLemmas
-pub mod LineLemmas
 pub mod NumberLemmas

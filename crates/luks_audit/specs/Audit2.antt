@@ -108,47 +108,47 @@ unfoldable pub priority2_of : Data → Option ℕ
 priority2_of slot = if has (codes "priority") slot then integer_member (codes "priority") slot else Some 1
 
 -- a text or a number in an object of the slot
-abbrev pub text_within : List ℕ → List ℕ → Data → Data
-text_within object name slot = optional_text (in_member object (string_member name) slot)
+abbrev pub nested_text : List ℕ → List ℕ → Data → Data
+nested_text object name slot = optional_text (in_member object (string_member name) slot)
 
-abbrev pub integer_in : List ℕ → List ℕ → Data → Data
-integer_in object name slot = optional_num (in_member object (integer_member name) slot)
+abbrev pub nested_integer : List ℕ → List ℕ → Data → Data
+nested_integer object name slot = optional_num (in_member object (integer_member name) slot)
 
-abbrev pub decimal_in : List ℕ → List ℕ → Data → Data
-decimal_in object name slot = optional_num (in_member object (decimal_member name) slot)
+abbrev pub nested_decimal : List ℕ → List ℕ → Data → Data
+nested_decimal object name slot = optional_num (in_member object (decimal_member name) slot)
 
 unfoldable pub derivation2_fields : Data → List (List ℕ × Data)
 derivation2_fields slot =
     (codes "priority", optional_num (priority2_of slot))
     ∷ (codes "key_bytes", optional_num (integer_member (codes "key_size") slot))
-    ∷ (codes "kdf", text_within (codes "kdf") (codes "type") slot)
-    ∷ (codes "hash", text_within (codes "kdf") (codes "hash") slot)
+    ∷ (codes "kdf", nested_text (codes "kdf") (codes "type") slot)
+    ∷ (codes "hash", nested_text (codes "kdf") (codes "hash") slot)
     ∷ (codes "salt", optional_hex (in_member (codes "kdf") (base64_member (codes "salt")) slot))
-    ∷ (codes "iterations", integer_in (codes "kdf") (codes "iterations") slot)
+    ∷ (codes "iterations", nested_integer (codes "kdf") (codes "iterations") slot)
     ∷ []
 
 -- the cost of Argon2: passes, KiB and threads
 unfoldable pub cost2_fields : Data → List (List ℕ × Data)
 cost2_fields slot =
-    (codes "time", integer_in (codes "kdf") (codes "time") slot)
-    ∷ (codes "memory", integer_in (codes "kdf") (codes "memory") slot)
-    ∷ (codes "threads", integer_in (codes "kdf") (codes "cpus") slot)
+    (codes "time", nested_integer (codes "kdf") (codes "time") slot)
+    ∷ (codes "memory", nested_integer (codes "kdf") (codes "memory") slot)
+    ∷ (codes "threads", nested_integer (codes "kdf") (codes "cpus") slot)
     ∷ []
 
 -- how the key material is split
 unfoldable pub stripes2_fields : Data → List (List ℕ × Data)
 stripes2_fields slot =
-    (codes "af_hash", text_within (codes "af") (codes "hash") slot)
-    ∷ (codes "stripes", integer_in (codes "af") (codes "stripes") slot)
+    (codes "af_hash", nested_text (codes "af") (codes "hash") slot)
+    ∷ (codes "stripes", nested_integer (codes "af") (codes "stripes") slot)
     ∷ []
 
 -- where the key material is, and how it is encrypted
 unfoldable pub area2_fields : Data → List (List ℕ × Data)
 area2_fields slot =
-    (codes "area_cipher", text_within (codes "area") (codes "encryption") slot)
-    ∷ (codes "area_key_bytes", integer_in (codes "area") (codes "key_size") slot)
-    ∷ (codes "area_offset", decimal_in (codes "area") (codes "offset") slot)
-    ∷ (codes "area_size", decimal_in (codes "area") (codes "size") slot)
+    (codes "area_cipher", nested_text (codes "area") (codes "encryption") slot)
+    ∷ (codes "area_key_bytes", nested_integer (codes "area") (codes "key_size") slot)
+    ∷ (codes "area_offset", nested_decimal (codes "area") (codes "offset") slot)
+    ∷ (codes "area_size", nested_decimal (codes "area") (codes "size") slot)
     ∷ []
 
 -- ---- digests and tokens

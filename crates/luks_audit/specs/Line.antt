@@ -9,23 +9,13 @@ use Rattle.serde_json.specs.Find.{get}
 use Rattle.serde_json.specs.Written.{compact_text}
 
 -- the columns after the first one, which is the file
-abbrev pub place_columns : List (List ℕ)
-place_columns = codes "offset" ∷ codes "error" ∷ codes "version" ∷ codes "uuid" ∷ codes "label" ∷ []
-
-abbrev pub header_columns : List (List ℕ)
-header_columns =
-    codes "subsystem" ∷ codes "header" ∷ codes "other_header" ∷ codes "cipher" ∷ codes "key_bytes" ∷ []
-
-abbrev pub segment_columns : List (List ℕ)
-segment_columns =
-    codes "sector_size" ∷ codes "segment_offset" ∷ codes "segment_size" ∷ codes "requirements" ∷ codes "slots" ∷ []
-
-abbrev pub list_columns : List (List ℕ)
-list_columns = codes "digests" ∷ codes "tokens" ∷ codes "findings" ∷ codes "weak" ∷ []
-
-abbrev pub binary_columns : List (List ℕ)
-binary_columns =
-    codes "seqid" ∷ codes "header_size" ∷ codes "checksum_hash" ∷ codes "salt" ∷ codes "iv_tweak" ∷ []
+abbrev pub columns : List (List ℕ)
+columns =
+    codes "offset" ∷ codes "error" ∷ codes "version" ∷ codes "uuid" ∷ codes "label" ∷ codes "subsystem"
+    ∷ codes "header" ∷ codes "other_header" ∷ codes "cipher" ∷ codes "key_bytes" ∷ codes "sector_size"
+    ∷ codes "segment_offset" ∷ codes "segment_size" ∷ codes "requirements" ∷ codes "slots" ∷ codes "digests"
+    ∷ codes "tokens" ∷ codes "findings" ∷ codes "weak" ∷ codes "seqid" ∷ codes "header_size"
+    ∷ codes "checksum_hash" ∷ codes "salt" ∷ codes "iv_tweak" ∷ []
 
 -- what a member has in its column: nothing if it is null, a text as it stands in JSON but without quotation marks, and
 -- any other value as JSON. JSON escapes tabs and newlines
@@ -49,32 +39,19 @@ column_of value name = cell_in (get name value)
 unfoldable pub tabbed_of : Data → List ℕ → List ℕ
 tabbed_of value name = 9 ∷ column_of value name
 
--- these columns, each after a tab
-abbrev pub columns_of : Data → List (List ℕ) → List ℕ
-columns_of value [] = []
-columns_of value (name ∷ names) = tabbed_of value name ++ columns_of value names
-
 -- the columns of an object, but for the file
 unfoldable pub cells_of : Data → List ℕ
-cells_of value =
-    columns_of value place_columns ++ columns_of value header_columns ++ columns_of value segment_columns
-    ++ columns_of value list_columns ++ columns_of value binary_columns
+cells_of value = flat_map (tabbed_of value) columns
 
 -- the line of an object
 unfoldable pub line_text : Format → Data → List ℕ
 line_text Json value = compact_text value ++ 10 ∷ []
 line_text Tsv value = column_of value (codes "file") ++ cells_of value ++ 10 ∷ []
 
--- the names of columns, each after a tab
-abbrev pub tabbed_names : List (List ℕ) → List ℕ
-tabbed_names names = flat_map (λ name. 9 ∷ name) names
-
--- the line before all others: the names of the columns
+-- the line before all others: the names of the columns, each after the first one after a tab
 unfoldable pub head_of : Format → List ℕ
 head_of Json = []
-head_of Tsv =
-    codes "file" ++ tabbed_names place_columns ++ tabbed_names header_columns ++ tabbed_names segment_columns
-    ++ tabbed_names list_columns ++ tabbed_names binary_columns ++ 10 ∷ []
+head_of Tsv = codes "file" ++ flat_map (λ name. 9 ∷ name) columns ++ 10 ∷ []
 
 -- the object of an image without a header, or of one that could not be read
 unfoldable pub error_value : List ℕ → List ℕ → Data

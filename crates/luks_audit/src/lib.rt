@@ -15,6 +15,5 @@ mod luks1;
 mod luks2;
 pub mod policy;
 mod slots;
-mod strength;
 pub mod tree;
 mod weakness;

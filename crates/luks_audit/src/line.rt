@@ -1,10 +1,8 @@
 //! The lines that are printed.
 
-ghost use Rattle.std.specs.Prelude.{◌≡◌, ◌++◌, ◌∷◌, [], IfOk, List, OnOk, false, ℕ};
-ghost use Rattle.luks_audit.specs.Line.{binary_columns, cell_text, cells_of, column_of};
-ghost use Rattle.luks_audit.specs.Line.{columns_of, error_value};
-ghost use Rattle.luks_audit.specs.Line.{head_of, header_columns, line_text, list_columns};
-ghost use Rattle.luks_audit.specs.Line.{place_columns, segment_columns, tabbed_of};
+ghost use Rattle.std.specs.Prelude.{◌≡◌, ◌++◌, ◌∷◌, [], IfOk, List, OnOk, false, map, ℕ};
+ghost use Rattle.luks_audit.specs.Line.{cell_text, cells_of, column_of, columns, error_value};
+ghost use Rattle.luks_audit.specs.Line.{head_of, line_text, tabbed_of};
 ghost use Rattle.serde_json.specs.View.{view as data_of};
 ghost use Rattle.serde_json.specs.Written.{has_float};
 
@@ -20,6 +18,34 @@ pub enum Format {
     /// As lines of columns with tabs between them, after a line with the names of the columns.
     Tsv,
 }
+
+/// The columns after the first one, which is the file.
+static COLUMNS: [&str; 24] = [
+    "offset",
+    "error",
+    "version",
+    "uuid",
+    "label",
+    "subsystem",
+    "header",
+    "other_header",
+    "cipher",
+    "key_bytes",
+    "sector_size",
+    "segment_offset",
+    "segment_size",
+    "requirements",
+    "slots",
+    "digests",
+    "tokens",
+    "findings",
+    "weak",
+    "seqid",
+    "header_size",
+    "checksum_hash",
+    "salt",
+    "iv_tweak",
+];
 
 // Adds a text without the quotation marks around it.
 fn push_unquoted(line: &mut Vec<u8>, quoted: &[u8]) -> Result<(), AllocError>
@@ -68,63 +94,11 @@ fn push_tabbed(alloc: Global, line: &mut Vec<u8>, tree: &Tree, name: &str) -> Re
     push_column(alloc, line, tree, name)
 }
 
-// Adds where the header is, and the first columns about it.
-fn push_place(alloc: Global, line: &mut Vec<u8>, tree: &Tree) -> Result<(), AllocError>
-    ensures { OnOk result
-        (line.new.items ≡ line.old.items ++ columns_of tree.now place_columns) }
+// The columns after the first one.
+fn columns() -> &'static [&'static str]
+    ensures { map (λ name. name.now) result.now ≡ columns }
 {
-    push_tabbed(alloc, line, tree, "offset")?;
-    push_tabbed(alloc, line, tree, "error")?;
-    push_tabbed(alloc, line, tree, "version")?;
-    push_tabbed(alloc, line, tree, "uuid")?;
-    push_tabbed(alloc, line, tree, "label")
-}
-
-// Adds further columns about the header.
-fn push_header(alloc: Global, line: &mut Vec<u8>, tree: &Tree) -> Result<(), AllocError>
-    ensures { OnOk result
-        (line.new.items ≡ line.old.items ++ columns_of tree.now header_columns) }
-{
-    push_tabbed(alloc, line, tree, "subsystem")?;
-    push_tabbed(alloc, line, tree, "header")?;
-    push_tabbed(alloc, line, tree, "other_header")?;
-    push_tabbed(alloc, line, tree, "cipher")?;
-    push_tabbed(alloc, line, tree, "key_bytes")
-}
-
-// Adds the columns about the payload, and the key slots.
-fn push_segment(alloc: Global, line: &mut Vec<u8>, tree: &Tree) -> Result<(), AllocError>
-    ensures { OnOk result
-        (line.new.items ≡ line.old.items ++ columns_of tree.now segment_columns) }
-{
-    push_tabbed(alloc, line, tree, "sector_size")?;
-    push_tabbed(alloc, line, tree, "segment_offset")?;
-    push_tabbed(alloc, line, tree, "segment_size")?;
-    push_tabbed(alloc, line, tree, "requirements")?;
-    push_tabbed(alloc, line, tree, "slots")
-}
-
-// Adds the last columns.
-fn push_lists(alloc: Global, line: &mut Vec<u8>, tree: &Tree) -> Result<(), AllocError>
-    ensures { OnOk result
-        (line.new.items ≡ line.old.items ++ columns_of tree.now list_columns) }
-{
-    push_tabbed(alloc, line, tree, "digests")?;
-    push_tabbed(alloc, line, tree, "tokens")?;
-    push_tabbed(alloc, line, tree, "findings")?;
-    push_tabbed(alloc, line, tree, "weak")
-}
-
-// Adds the columns about the binary header of LUKS2, and the number of the first sector.
-fn push_binary(alloc: Global, line: &mut Vec<u8>, tree: &Tree) -> Result<(), AllocError>
-    ensures { OnOk result
-        (line.new.items ≡ line.old.items ++ columns_of tree.now binary_columns) }
-{
-    push_tabbed(alloc, line, tree, "seqid")?;
-    push_tabbed(alloc, line, tree, "header_size")?;
-    push_tabbed(alloc, line, tree, "checksum_hash")?;
-    push_tabbed(alloc, line, tree, "salt")?;
-    push_tabbed(alloc, line, tree, "iv_tweak")
+    &COLUMNS
 }
 
 // Adds the columns of an object, but for the file.
@@ -132,11 +106,10 @@ fn push_binary(alloc: Global, line: &mut Vec<u8>, tree: &Tree) -> Result<(), All
 fn push_cells(alloc: Global, line: &mut Vec<u8>, tree: &Tree) -> Result<(), AllocError>
     ensures { OnOk result (line.new.items ≡ line.old.items ++ cells_of tree.now) }
 {
-    push_place(alloc, line, tree)?;
-    push_header(alloc, line, tree)?;
-    push_segment(alloc, line, tree)?;
-    push_lists(alloc, line, tree)?;
-    push_binary(alloc, line, tree)
+    for name in columns() {
+        push_tabbed(alloc, line, tree, name)?;
+    }
+    Ok(())
 }
 
 /// The line of an object.

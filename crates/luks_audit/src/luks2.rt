@@ -5,3 +5,4 @@ pub(crate) mod digest;
 pub(crate) mod member;
 pub(crate) mod payload;
 pub(crate) mod slot;
+pub(crate) mod strength;

@@ -49,7 +49,7 @@ fn is_kind_usable(kind: VerdictKind) -> bool
 
 // Adds the number of a slot and its verdict.
 #[tactic(auto, unfolding(crate::specs::Audit::verdict_fields))]
-fn push_verdict(
+fn push_verdict_fields(
     alloc: Global,
     fields: &mut Object,
     number: u8,
@@ -149,7 +149,7 @@ fn slot_tree(
     ensures { IfOk result (λ tree. tree ≡ slot_value header.now number kind) }
 {
     let mut fields = Object::new(alloc);
-    push_verdict(alloc, &mut fields, number, kind)?;
+    push_verdict_fields(alloc, &mut fields, number, kind)?;
     push_stored(alloc, &mut fields, header, number)?;
     Ok(fields.into_tree())
 }

@@ -5,13 +5,13 @@ ghost use Rattle.luks_audit.specs.Audit.{by_number, digest_strength, digest_weak
 ghost use Rattle.luks_audit.specs.Audit.{segment_weak, slot_strength, slot_weak, weak_list};
 ghost use Rattle.luks_verdict.specs.Rule.{max_slots};
 
+use crate::luks2::strength::names_cbc;
 use crate::policy::{
     DigestStrength, SlotStrength, push_digest_weaknesses, push_segment_weaknesses,
     push_slot_weaknesses,
 };
-use crate::strength::names_cbc;
 use crate::tree::Array;
-use crate::{luks1, luks2, strength};
+use crate::{luks1, luks2};
 use luks_header::header::Header;
 use luks_verdict::rule::MAX_SLOTS;
 use std::alloc::{AllocError, Global};
@@ -32,7 +32,7 @@ fn slot_strength(header: &Header, number: u8) -> Option<SlotStrength>
 {
     match header {
         Header::V1(header) => luks1::slot_strength(header, number),
-        Header::V2(_, metadata) => strength::slot_strength(metadata.tree(), number),
+        Header::V2(_, metadata) => luks2::strength::slot_strength(metadata.tree(), number),
     }
 }
 
@@ -44,7 +44,7 @@ fn digest_strength(header: &Header, number: u8) -> Option<DigestStrength>
     match header {
         Header::V1(header) if number == 0 => Some(luks1::digest_strength(header)),
         Header::V1(_) => None,
-        Header::V2(_, metadata) => strength::digest_strength(metadata.tree(), number),
+        Header::V2(_, metadata) => luks2::strength::digest_strength(metadata.tree(), number),
     }
 }
 

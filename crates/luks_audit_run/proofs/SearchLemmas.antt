@@ -15,7 +15,7 @@ use Rattle.luks_audit.specs.Image.{fault_line, header_line, header_state}
 use Rattle.luks_audit.specs.declared.image.Policy.{Policy}
 use Rattle.luks_audit.specs.declared.image.State.{State}
 use Rattle.luks_audit.specs.declared.image.State.TheVariants.{Unread}
-use Rattle.luks_audit_run.specs.Host.Stored.{image, unknown}
+use Rattle.luks_audit_run.specs.Host.Stored.{unknown}
 use Rattle.luks_audit_run.specs.Run.{Audits, AuditsPartly, Tells, TellsOpen, TellsPart, image_state, image_text}
 use Rattle.luks_audit_run.specs.Run.Course.{whole, not_read, no_memory, untold}
 use Rattle.luks_audit_run.specs.Searched.{end_line, end_state, graver_of, place_lines, search_fault}

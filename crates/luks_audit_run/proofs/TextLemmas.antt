@@ -1,5 +1,5 @@
 -- What a whole run promises of the text of one image: it is said by the image's bytes, however long the image is.
-use Rattle.std.proofs.Common.{◌≡◌, ◌⊎◌, ℕ, ◌++◌, Bool, List, Err, inl, inr}
+use Rattle.std.proofs.Common.{◌≡◌, ◌⊎◌, ℕ, ◌++◌, Bool, List, inl, inr}
 use Rattle.luks_area.specs.declared.fault.HeaderFault.TheVariants.{Memory, Read}
 use Rattle.luks_header.specs.Header.{header_of}
 use Rattle.luks_search.specs.Places.{places_below}

@@ -1,10 +1,10 @@
 -- Without magic bytes there is no header.
-use Rattle.std.proofs.Common.{◌≡◌, ◌∙◌, ℕ, ◌+◌, ◌*◌, ◌<◌, ◌≤◌, List, [], ◌∷◌, Bool, true, false, None, ap, sym}
-use Rattle.std.proofs.Common.{refl, length, take, drop, arith, Err, ◌||◌, ◌==◌}
-use Rattle.std.specs.Prelude.{map, nat_lt, if◌then◌else◌, ok_or, option_and_then}
-use Rattle.std.specs.List.{find, list_any}
-use Rattle.std.proofs.lemmas.Bool.{and_parts, ltb-false, ltb-true}
-use Rattle.std.proofs.lemmas.List.{drop-drop, drop_all, take-take}
+use Rattle.std.proofs.Common.{◌≡◌, ◌∙◌, ℕ, ◌+◌, ◌-◌, ◌*◌, ◌/◌, ◌<◌, ◌≤◌, ◌++◌, List, [], ◌∷◌, Bool, true, false, None, ap, sym}
+use Rattle.std.proofs.Common.{refl, length, length-drop, take, drop, arith, Err, ◌||◌, ◌==◌}
+use Rattle.std.specs.Prelude.{map, nat_le, nat_lt, if◌then◌else◌, ok_or, option_and_then}
+use Rattle.std.specs.List.{find, list_all, list_any}
+use Rattle.std.proofs.lemmas.Bool.{and_parts, leb-true, ltb-false, ltb-true}
+use Rattle.std.proofs.lemmas.List.{drop-append-le, drop-drop, drop_all, take-append-drop, take-append-le, take-take}
 use Rattle.std.proofs.lemmas.Slice.Eq.{bytes_eq-Decides}
 use Rattle.luks_area.specs.declared.fault.HeaderFault.TheVariants.{NotLuks}
 use Rattle.luks1_header.specs.Header1.{is_luks1}
@@ -14,7 +14,7 @@ use Rattle.luks2_binary.proofs.ChoiceLemmas.{chosen_other}
 use Rattle.luks2_binary.proofs.ValidLemmas.{fits_parts, unfit-is_valid}
 use Rattle.luks_header.specs.Header.{header_of}
 use Rattle.luks_header.proofs.KnownLemmas.{header_other}
-use Rattle.luks_search.specs.Magic.{begins_magic, may_have_header}
+use Rattle.luks_search.specs.Magic.{IsQuiet, begins_magic, may_have_header}
 use Rattle.luks_search.specs.Places.{found_in}
 
 or_none : (a b : Bool) → (a || b) ≡ false → (a ≡ false) × (b ≡ false)
@@ -100,26 +100,67 @@ pub nothing_none : found_in (header_of []) ≡ None
 unfolding may_have_header begins_magic sizes
 nothing_none = quiet_none [] refl
 
--- no multiple of 512 passes a test
-any_none : (test : ℕ → Bool) (numbers : List ℕ) → ((k : ℕ) → test (512 * k) ≡ false)
-    → list_any test (map (λ k. 512 * k) numbers) ≡ false
-any_none test [] none = refl
-any_none test (k ∷ numbers) none = rw (none k) (any_none test numbers none)
+-- ---- bytes of which no sector begins with the magic bytes
 
--- if no sector begins with the magic bytes, none of the sectors passes the test
-pub quiet_at : (bytes : List ℕ) → ((k : ℕ) → begins_magic (drop (512 * k) bytes) ≡ false)
-    → (j : ℕ) → may_have_header (drop (512 * j) bytes) ≡ false
+-- the first six bytes decide
+six_decide : (bytes rest : List ℕ) → 6 ≤ length bytes → begins_magic (bytes ++ rest) ≡ begins_magic bytes
+unfolding begins_magic
+six_decide bytes rest long = rw (take-append-le 6 bytes rest long) refl
+
+-- further bytes change nothing for a sector of which six bytes are there
+pub quiet_before : (bytes rest : List ℕ) → IsQuiet bytes → (k : ℕ) → 512 * k + 6 ≤ length bytes
+    → begins_magic (drop (512 * k) (bytes ++ rest)) ≡ false
+quiet_before bytes rest quiet k within =
+    ap begins_magic (drop-append-le (512 * k) bytes rest (omega (arith, within)))
+    ∙ six_decide (drop (512 * k) bytes) rest (omega (arith, within, length-drop (512 * k) bytes))
+    ∙ quiet k
+
+-- no multiple of 512 up to the largest offset of a secondary header passes a test
+any_none : (test : ℕ → Bool) (numbers : List ℕ) → ((k : ℕ) → k ≤ 8192 → test (512 * k) ≡ false)
+    → list_all (λ k. nat_le k 8192) numbers ≡ true → list_any test (map (λ k. 512 * k) numbers) ≡ false
+any_none test [] none all = refl
+any_none test (k ∷ numbers) none all =
+    let parts = and_parts _ _ all in
+    rw (none k (leb-true k 8192 parts.0)) (any_none test numbers none parts.1)
+
+-- a sector has no header if neither it nor one of those in reach begins with the magic bytes
+pub quiet_at : (image : List ℕ) (j : ℕ)
+    → ((k : ℕ) → k ≤ 8192 → begins_magic (drop (512 * (j + k)) image) ≡ false)
+    → may_have_header (drop (512 * j) image) ≡ false
 unfolding may_have_header sizes
-quiet_at bytes none j =
-    let test : ℕ → Bool = λ size. begins_magic (drop size (drop (512 * j) bytes)) in
-    let fails : (k : ℕ) → test (512 * k) ≡ false =
-    λ k.
-    ap begins_magic (drop-drop (512 * k) (512 * j) bytes ∙ ap (λ n. drop n bytes) (same k)) ∙ none (j + k) in
-    rw (none j)
-    (any_none test (32 ∷ 64 ∷ 128 ∷ 256 ∷ 512 ∷ 1024 ∷ 2048 ∷ 4096 ∷ 8192 ∷ []) fails)
+quiet_at image j none =
+    let test : ℕ → Bool = λ size. begins_magic (drop size (drop (512 * j) image)) in
+    let fails : (k : ℕ) → k ≤ 8192 → test (512 * k) ≡ false =
+    λ k low.
+    ap begins_magic (drop-drop (512 * k) (512 * j) image ∙ ap (λ n. drop n image) (same k)) ∙ none k low in
+    rw (ap (λ n. begins_magic (drop n image)) first ∙ none 0 (omega arith))
+    (any_none test (32 ∷ 64 ∷ 128 ∷ 256 ∷ 512 ∷ 1024 ∷ 2048 ∷ 4096 ∷ 8192 ∷ []) fails refl)
   where
     same : (k : ℕ) → 512 * j + 512 * k ≡ 512 * (j + k)
     same k = omega arith
+
+    first : 512 * j ≡ 512 * (j + 0)
+    first = omega arith
+
+-- some bytes had no sector with magic bytes, and of those after more were read, neither the last of them has any nor
+-- one after it
+pub still_quiet : (old bytes : List ℕ) → take (length old) bytes ≡ old → IsQuiet old
+    → IsQuiet (drop (512 * (length old / 512)) bytes) → IsQuiet bytes
+still_quiet old bytes front before after k = by (nat_lt k (length old / 512)) refl where
+  parts : old ++ drop (length old) bytes ≡ bytes
+  parts = ap (λ start. start ++ drop (length old) bytes) (sym front) ∙ take-append-drop (length old) bytes
+
+  by : (b : Bool) → nat_lt k (length old / 512) ≡ b → begins_magic (drop (512 * k) bytes) ≡ false
+  by true e =
+      let below = ltb-true k (length old / 512) e in
+      ap (λ all. begins_magic (drop (512 * k) all)) (sym parts)
+      ∙ quiet_before old (drop (length old) bytes) before k (omega (arith, below))
+  by false e =
+      let behind = ltb-false k (length old / 512) e in
+      let whole : 512 * (length old / 512) + 512 * (k - length old / 512) ≡ 512 * k = omega (arith, behind) in
+      ap begins_magic
+      (ap (λ m. drop m bytes) (sym whole)
+      ∙ sym (drop-drop (512 * (k - length old / 512)) (512 * (length old / 512)) bytes)) ∙ after (k - length old / 512)
 
 -- nothing does not begin with the magic bytes
 nothing_begins : begins_magic [] ≡ false
@@ -128,8 +169,7 @@ nothing_begins = refl
 
 -- if none of the first n sectors begins with the magic bytes, and these are all, none does
 pub quiet_all : (bytes : List ℕ) (n : ℕ) → length bytes ≤ 512 * n
-    → ((k : ℕ) → k < n → begins_magic (drop (512 * k) bytes) ≡ false)
-    → (k : ℕ) → begins_magic (drop (512 * k) bytes) ≡ false
+    → ((k : ℕ) → k < n → begins_magic (drop (512 * k) bytes) ≡ false) → IsQuiet bytes
 quiet_all bytes n all none k = by (nat_lt k n) refl where
   by : (b : Bool) → nat_lt k n ≡ b → begins_magic (drop (512 * k) bytes) ≡ false
   by true e = none k (ltb-true k n e)

@@ -2,19 +2,19 @@
 use Rattle.std.proofs.Common.{◌≡◌, ◌∙◌, ℕ, zero, suc, ◌+◌, ◌-◌, ◌*◌, ◌<◌, ◌≤◌, ◌++◌, List, [], ◌∷◌, Bool, true, false, ap, sym}
 use Rattle.std.proofs.Common.{Option, Some, None, refl, length, take, drop, arith, Result, Ok, Err, add-one, length-drop}
 use Rattle.std.proofs.Common.{◌⊎◌, inl, inr, min, append_assoc}
-use Rattle.std.proofs.lemmas.List.{append-nil, drop-append-le, drop-drop, drop_all, take-append-drop}
+use Rattle.std.proofs.lemmas.List.{append-nil, drop-append-le, drop-drop, drop_all, length-take, take-append-drop, take-take}
 use Rattle.std.proofs.lemmas.Bool.{leb-false, leb-true, ltb-true}
-use Rattle.std.proofs.Math.Seq.{take-add}
+use Rattle.std.proofs.Math.Seq.{take-add, take-length}
 use Rattle.std.specs.Prelude.{OnErr, nat_le, nat_lt}
 use Rattle.luks_io.specs.Devices.{ConsumedInto}
 use Rattle.luks_area.specs.declared.fault.HeaderFault.{HeaderFault}
 use Rattle.luks_header.specs.Header.{header_of}
 use Rattle.luks_header.specs.declared.header.Header.{Header}
-use Rattle.luks_search.specs.Magic.{begins_magic}
+use Rattle.luks_search.specs.Magic.{IsQuiet, begins_magic}
 use Rattle.luks_search.specs.Places.{found_in, header_at, max_searched_sectors, place_if, places_below, places_of, sectors_in}
-use Rattle.luks_search.specs.Search.{IsIn, IsNear, SearchModel}
+use Rattle.luks_search.specs.Search.{IsIn, IsNear, ReadsOn, SearchModel}
 use Rattle.luks_search.proofs.HorizonLemmas.{header_by_start}
-use Rattle.luks_search.proofs.MagicLemmas.{nothing_none, quiet_at, quiet_none}
+use Rattle.luks_search.proofs.MagicLemmas.{nothing_none, quiet_at, quiet_before, quiet_none}
 
 -- one more sector
 pub places_more : (image : List ℕ) (n : ℕ)
@@ -85,18 +85,6 @@ module _ (image : List ℕ) (search : SearchModel) (left : Option (List ℕ)) (i
       same : (j : ℕ) → 512 * (search.sector + j) ≡ 512 * search.sector + 512 * j
       same j = omega arith
 
-  -- a sector whose header is decided by the loaded bytes
-  pub decided : (j : ℕ) → 512 * j ≤ length search.bytes
-      → (search.ended ≡ true) ⊎ (512 * j + 8388608 ≤ length search.bytes)
-      → header_at image (512 * (search.sector + j)) ≡ header_of (drop (512 * j) search.bytes)
-  decided j within (inl ended) =
-      ap header_of (ahead_is j within ∙ ap (λ rest. drop (512 * j) search.bytes ++ rest) (is.ends ended)
-      ∙ append-nil (drop (512 * j) search.bytes))
-  decided j within (inr long) =
-      ap header_of (ahead_is j within)
-      ∙ header_by_start (drop (512 * j) search.bytes) is.rest
-      (omega (arith, long, length-drop (512 * j) search.bytes))
-
   abbrev pub advanced : ℕ → SearchModel
   advanced count = record {
     sector = search.sector + count;
@@ -130,32 +118,56 @@ module _ (image : List ℕ) (search : SearchModel) (left : Option (List ℕ)) (i
   -- the header at the next sector is that of the loaded bytes
   pub here_is : (search.ended ≡ true) ⊎ (8388608 ≤ length search.bytes)
       → header_at image (512 * search.sector) ≡ header_of search.bytes
-  here_is enough = ap (λ n. header_at image (512 * n)) same ∙ decided 0 (omega arith) (by enough) where
-    same : search.sector ≡ search.sector + 0
-    same = omega arith
+  here_is (inl ended) =
+      ap header_of (is.here ∙ ap (λ rest. search.bytes ++ rest) (is.ends ended) ∙ append-nil search.bytes)
+  here_is (inr long) = ap header_of is.here ∙ header_by_start search.bytes is.rest long
 
-    by : (search.ended ≡ true) ⊎ (8388608 ≤ length search.bytes)
-        → (search.ended ≡ true) ⊎ (512 * 0 + 8388608 ≤ length search.bytes)
-    by (inl ended) = inl ended
-    by (inr long) = inr (omega (arith, long))
+  -- if no loaded sector begins with the magic bytes, a sector that is loaded as far as it may reach has no header
+  module _ (quiet : IsQuiet search.bytes) where
+    none_begins : (j : ℕ) → (search.ended ≡ true) ⊎ (512 * j + 6 ≤ length search.bytes)
+        → begins_magic (drop (512 * (search.sector + j)) image) ≡ false
+    none_begins j reach = ap begins_magic here ∙ by reach where
+      same : 512 * (search.sector + j) ≡ 512 * search.sector + 512 * j
+      same = omega arith
 
-  -- no place is among sectors that were left behind, as there were no magic bytes
-  pub skipped_none : (count : ℕ) → ((k : ℕ) → begins_magic (drop (512 * k) search.bytes) ≡ false)
-      → (search.ended ≡ true → 512 * count ≤ length search.bytes + 511)
-      → (search.ended ≡ false → 0 < count → 512 * count + 8388096 ≤ length search.bytes)
-      → places_below image (search.sector + count) ≡ places_below image search.sector
-  skipped_none count quiet ended loaded =
-      places_none image search.sector count (λ j below.
-      let reach = by search.ended refl j below in
-      ap found_in (decided j reach.0 reach.1) ∙ quiet_none (drop (512 * j) search.bytes) (quiet_at search.bytes quiet j))
-    where
-      by : (b : Bool) → search.ended ≡ b → (j : ℕ) → j < count
-          → (512 * j ≤ length search.bytes)
-          × ((search.ended ≡ true) ⊎ (512 * j + 8388608 ≤ length search.bytes))
-      by true e j below = (omega (arith, ended e, below), inl e)
-      by false e j below =
-          let far = loaded e (omega (arith, below)) in
-          (omega (arith, far, below), inr (omega (arith, far, below)))
+      here : drop (512 * (search.sector + j)) image ≡ drop (512 * j) (search.bytes ++ is.rest)
+      here =
+          ap (λ n. drop n image) same ∙ sym (drop-drop (512 * j) (512 * search.sector) image)
+          ∙ ap (drop (512 * j)) is.here
+
+      by : (search.ended ≡ true) ⊎ (512 * j + 6 ≤ length search.bytes)
+          → begins_magic (drop (512 * j) (search.bytes ++ is.rest)) ≡ false
+      by (inl ended) =
+          ap (λ bytes. begins_magic (drop (512 * j) bytes))
+          (ap (λ rest. search.bytes ++ rest) (is.ends ended) ∙ append-nil search.bytes) ∙ quiet j
+      by (inr within) = quiet_before search.bytes is.rest quiet j within
+
+    pub no_header : (j : ℕ) → (search.ended ≡ true) ⊎ (512 * j + 4194310 ≤ length search.bytes)
+        → found_in (header_at image (512 * (search.sector + j))) ≡ None
+    no_header j reach =
+        quiet_none (drop (512 * (search.sector + j)) image)
+        (quiet_at image (search.sector + j) (λ k low.
+        ap (λ n. begins_magic (drop (512 * n) image)) (same k) ∙ none_begins (j + k) (by k low reach)))
+      where
+        same : (k : ℕ) → search.sector + j + k ≡ search.sector + (j + k)
+        same k = omega arith
+
+        by : (k : ℕ) → k ≤ 8192 → (search.ended ≡ true) ⊎ (512 * j + 4194310 ≤ length search.bytes)
+            → (search.ended ≡ true) ⊎ (512 * (j + k) + 6 ≤ length search.bytes)
+        by k low (inl ended) = inl ended
+        by k low (inr long) = inr (omega (arith, low, long))
+
+    -- so no place is among sectors that were left behind
+    pub skipped_none : (count : ℕ)
+        → (search.ended ≡ false → 0 < count → 512 * count + 4194304 ≤ length search.bytes)
+        → places_below image (search.sector + count) ≡ places_below image search.sector
+    skipped_none count loaded =
+        places_none image search.sector count (λ j below. no_header j (by search.ended refl j below))
+      where
+        by : (b : Bool) → search.ended ≡ b → (j : ℕ) → j < count
+            → (search.ended ≡ true) ⊎ (512 * j + 4194310 ≤ length search.bytes)
+        by true e j below = inl e
+        by false e j below = (let far = loaded e (omega (arith, below)) in inr (omega (arith, far, below)))
 
   -- there are no further bytes
   pub nothing_left : search.sector ≤ max_searched_sectors → search.bytes ≡ [] → search.ended ≡ true
@@ -167,12 +179,12 @@ module _ (image : List ℕ) (search : SearchModel) (left : Option (List ℕ)) (i
     by_length : length (drop (512 * search.sector) image) ≡ 0 → length image ≤ 512 * search.sector
     by_length e = omega (arith, e, length-drop (512 * search.sector) image)
 
--- the sectors that can be tried are loaded, or the image ends after them
-pub skips : (search : SearchModel) (count : ℕ) → (search.ended ≡ true → 512 * count ≤ length search.bytes + 511)
-    → (search.ended ≡ false → 0 < count → 512 * count + 8388096 ≤ length search.bytes)
+-- the sectors that can be left behind are loaded, or the image ends after them
+pub skips : (search : SearchModel) (count : ℕ)
+    → (search.ended ≡ false → 0 < count → 512 * count + 4194304 ≤ length search.bytes)
     → (search.ended ≡ true) ⊎ (512 * count ≤ length search.bytes)
-skips search count ended loaded = by search.ended refl where
-  some_loaded : (n : ℕ) → (0 < n → 512 * n + 8388096 ≤ length search.bytes) → 512 * n ≤ length search.bytes
+skips search count loaded = by search.ended refl where
+  some_loaded : (n : ℕ) → (0 < n → 512 * n + 4194304 ≤ length search.bytes) → 512 * n ≤ length search.bytes
   some_loaded zero far = omega arith
   some_loaded (suc n) far = (let long = far (omega arith) in omega (arith, long))
 
@@ -224,29 +236,61 @@ module _ (image : List ℕ) (search : SearchModel) (left : Option (List ℕ)) (i
         (ap found_in (here_is image search left is enough) ∙ some),
   )
 
--- further bytes were loaded behind those that were moved to the buffer's front
-pub loaded_in : (image bytes buffer known : List ℕ) (left : Option (List ℕ)) (sector kept count : ℕ)
+-- further bytes, up to a limit, were loaded behind those that were moved to the buffer's front
+pub loaded_in : (image bytes buffer known : List ℕ) (left : Option (List ℕ)) (sector kept count limit : ℕ)
     → drop (512 * sector) image ≡ bytes ++ known → take kept buffer ≡ bytes
-    → ConsumedInto known left (drop kept buffer) count → count ≡ min (33554432 - kept) (length known)
+    → ConsumedInto known left (drop kept buffer) count → count ≡ min (limit - kept) (length known)
     → IsIn image (record {
       sector = sector;
       bytes = drop 0 (take (kept + count) buffer);
-      ended = nat_lt (kept + count) 33554432;
+      ended = nat_lt (kept + count) limit;
     }) left
-loaded_in image bytes buffer known left sector kept count here front consumed all = record {
+loaded_in image bytes buffer known left sector kept count limit here front consumed all = record {
   rest = drop count known;
   left_is = consumed.0.left;
   here = here ∙ ap (λ more. bytes ++ more) (sym (take-append-drop count known))
       ∙ sym (append_assoc bytes (take count known) (drop count known))
       ∙ ap (λ start. start ++ drop count known) (sym loaded);
   ends = λ ended.
-      (let short = ltb-true (kept + count) 33554432 ended in
+      (let short = ltb-true (kept + count) limit ended in
       drop_all count known (omega (arith, all, short)));
 } where
   loaded : take (kept + count) buffer ≡ bytes ++ take count known
   loaded =
       take-add kept count buffer ∙ ap (λ start. start ++ take count (drop kept buffer)) front
       ∙ ap (λ more. bytes ++ more) consumed.1
+
+-- the bytes that were moved to the front are still there
+pub front_follows : (buffer front bytes : List ℕ) (kept count : ℕ) → take kept buffer ≡ front → front ≡ bytes
+    → length front ≡ kept → take (length bytes) (drop 0 (take (kept + count) buffer)) ≡ bytes
+front_follows buffer front bytes kept count is same len =
+    ap (λ n. take n (take (kept + count) buffer)) (sym (ap length same) ∙ len)
+    ∙ take-take kept (kept + count) buffer (omega arith) ∙ is ∙ same
+
+-- no bytes are loaded
+pub loads_none : (search : SearchModel) (left : Option (List ℕ)) → ReadsOn search search left left false
+loads_none search left = record {
+  sector = refl;
+  follows = λ _. take-length search.bytes;
+  held = λ _ image is. is;
+  behind = λ failed. absurd cc;
+}
+
+-- bytes are loaded, and then some more
+pub loads_then : (before search after : SearchModel) (to_come left rest : Option (List ℕ)) (failed : Bool)
+    → ReadsOn before search to_come left false → ReadsOn search after left rest failed
+    → ReadsOn before after to_come rest failed
+loads_then before search after to_come left rest failed first second = record {
+  sector = second.sector ∙ first.sector;
+  follows = λ ok.
+      (let start = first.follows refl in
+      let long : length before.bytes ≤ length search.bytes =
+      omega (arith, ap length start, length-take (length before.bytes) search.bytes) in
+      sym (take-take (length before.bytes) (length search.bytes) after.bytes long)
+      ∙ ap (take (length before.bytes)) (second.follows ok) ∙ start);
+  held = λ ok image is. second.held ok image (first.held refl image is);
+  behind = λ fault image is. second.behind fault image (first.held refl image is);
+}
 
 -- what is behind the loaded bytes
 behind_bytes : (image bytes rest : List ℕ) (start : ℕ) → drop start image ≡ bytes ++ rest

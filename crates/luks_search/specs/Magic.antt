@@ -1,6 +1,6 @@
 -- Where a header may begin: a test that no header fails, by the magic bytes alone (LUKS1 On-Disk Format Specification
 -- 1.2.3, section 2.1; LUKS2 On-Disk Format Specification 1.1, section 2.1).
-use Rattle.std.specs.Prelude.{ℕ, ◌||◌, Bool, List, [], ◌∷◌, bytes_eq, drop, take}
+use Rattle.std.specs.Prelude.{◌≡◌, ◌*◌, ℕ, ◌||◌, Bool, false, List, [], ◌∷◌, bytes_eq, drop, take}
 use Rattle.std.specs.List.{list_any}
 use Rattle.luks2_binary.specs.Header2.{sizes}
 
@@ -13,3 +13,7 @@ begins_magic bytes =
 -- the bytes begin with the magic bytes, or have them at one of the nine offsets of secondary headers
 unfoldable pub may_have_header : List ℕ → Bool
 may_have_header bytes = begins_magic bytes || list_any (λ size. begins_magic (drop size bytes)) sizes
+
+-- no sector of 512 bytes begins with the magic bytes
+abbrev pub IsQuiet : List ℕ → Type 0
+IsQuiet bytes = (k : ℕ) → begins_magic (drop (512 * k) bytes) ≡ false

@@ -13,26 +13,30 @@ pub(crate) fn move_to_front(buffer: &mut [u8], start: usize, end: usize)
     requires within { end ≤ length buffer.old }
     ensures { take (end - start) buffer.new ≡ take (end - start) (drop start buffer.old) }
 {
-    buffer.copy_within(start..end, 0);
+    if start > 0 {
+        buffer.copy_within(start..end, 0);
+    }
 }
 
-/// Fills the buffer from `kept` on with the next bytes of the source, and returns how many there
-/// were.
-pub(crate) fn fill_after<S: Source>(
+/// Fills the buffer from `start` to `end` with the next bytes of the source, and returns how many
+/// there were.
+pub(crate) fn fill_between<S: Source>(
     buffer: &mut [u8],
-    kept: usize,
+    start: usize,
+    end: usize,
     source: &mut S,
 ) -> Result<usize, ReadFault>
-    requires { kept ≤ length buffer.old }
-    ensures kept { take kept buffer.new ≡ take kept buffer.old }
-    ensures bound { MatchResult result (λ count. count ≤ length buffer.old - kept)
-        (λ fault. fault.got ≤ length buffer.old - kept) }
+    requires order { start ≤ end }
+    requires within { end ≤ length buffer.old }
+    ensures before { take start buffer.new ≡ take start buffer.old }
+    ensures bound { MatchResult result (λ count. count ≤ end - start)
+        (λ fault. fault.got ≤ end - start) }
     ensures bytes { IfKnown (S.to_come source.old) (λ known.
-        ConsumedInto known (S.to_come source.new) (drop kept buffer.new) (got_in result)) }
+        ConsumedInto known (S.to_come source.new) (drop start buffer.new) (got_in result)) }
     ensures end { IfOk result (λ count. IfKnown (S.to_come source.old)
-        (λ known. count ≡ min (length buffer.old - kept) (length known))) }
-    ensures reads { Reads (is_err result) (is_short_read result (length buffer.old - kept))
+        (λ known. count ≡ min (end - start) (length known))) }
+    ensures reads { Reads (is_err result) (is_short_read result (end - start))
         (S.counts source.old) (S.counts source.new) }
 {
-    fill(source, &mut buffer[kept..])
+    fill(source, &mut buffer[start..end])
 }

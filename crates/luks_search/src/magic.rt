@@ -1,9 +1,9 @@
 //! Where a header may begin, by its magic bytes.
 
-ghost use Rattle.std.specs.Prelude.{◌≡◌, ◌*◌, ℕ, drop, false, true};
+ghost use Rattle.std.specs.Prelude.{◌≡◌, drop, true};
 ghost use Rattle.std.specs.List.{list_any};
 ghost use Rattle.luks2_binary.specs.Header2.{sizes};
-ghost use Rattle.luks_search.specs.Magic.{begins_magic, may_have_header};
+ghost use Rattle.luks_search.specs.Magic.{IsQuiet, begins_magic, may_have_header};
 
 /// The length of a sector in bytes.
 pub(crate) const SECTOR_LEN: usize = 512;
@@ -36,7 +36,7 @@ fn begins_magic_at(bytes: &[u8], offset: usize) -> bool
 
 /// Whether no sector begins with the magic bytes of a header.
 pub(crate) fn is_quiet(bytes: &[u8]) -> bool
-    ensures { result ≡ true → (k : ℕ) → begins_magic (drop (512 * k) bytes.now) ≡ false }
+    ensures { result ≡ true → IsQuiet bytes.now }
 {
     for sector in 0..bytes.len().div_ceil(SECTOR_LEN) {
         if begins_magic(&bytes[sector * SECTOR_LEN..]) {

@@ -1,12 +1,15 @@
 //! A search for headers in an image.
 
 ghost use Rattle.std.specs.Prelude.{◌≡◌, ◌⊎◌, ◌+◌, ◌*◌, ◌<◌, ◌≤◌, ◌^◌, ℕ, List, Option, [], Err};
-ghost use Rattle.std.specs.Prelude.{IfOk, IfSome, OnErr, OnOk, drop, false, length, true};
+ghost use Rattle.std.specs.Prelude.{IfOk, IfSome, OnErr, OnOk, drop, false, is_err, length, take};
+ghost use Rattle.std.specs.Prelude.{true};
 ghost use Rattle.luks_io.specs.Devices.{counted};
-ghost use Rattle.luks_search.specs.Search.{FindsNext, FindsNone, IsEnd, IsIn, IsNear, StepsOn};
+ghost use Rattle.luks_search.specs.Magic.{IsQuiet};
+ghost use Rattle.luks_search.specs.Search.{FindsNext, FindsNone, IsEnd, IsIn, IsNear, ReadsOn};
+ghost use Rattle.luks_search.specs.Search.{StepsOn};
 ghost use Rattle.luks_search.specs.Search.{reports_failed_read};
 
-use crate::buffer::{fill_after, move_to_front};
+use crate::buffer::{fill_between, move_to_front};
 use crate::magic::{SECTOR_LEN, is_quiet};
 use crate::place::{Place, SearchFault, Step, header_here};
 use luks_io::source::Source;
@@ -16,8 +19,15 @@ use std::marker::Model;
 /// The bytes that a search holds at most: 32 MiB.
 const CAPACITY: usize = 33_554_432;
 
-/// The bytes of both headers of the largest length.
-const HORIZON: usize = 8_388_608;
+/// The bytes that are read at a time.
+const PIECE_LEN: usize = 262_144;
+
+/// The length of both headers of LUKS2, if they have the largest length. They decide which header
+/// there is.
+const MAX_PAIR_LEN: usize = 8_388_608;
+
+/// The largest offset of a secondary header.
+const MAX_SECONDARY_OFFSET: usize = 4_194_304;
 
 /// The sectors of an image that are searched at most: those of 2^63 bytes.
 const MAX_SECTORS: u64 = 18_014_398_509_481_984;
@@ -91,36 +101,74 @@ impl Search {
         self.sector += count as u64;
     }
 
-    // Loads as many further bytes of the image as the buffer can hold.
-    fn load<S: Source>(&mut self, source: &mut S) -> Result<(), SearchFault>
-        ensures sector { self.new.sector ≡ self.old.sector }
-        ensures enough { OnOk result
-            ((self.new.ended ≡ true) ⊎ (33554432 ≤ length self.new.bytes)) }
-        ensures held { (image : List ℕ) → IsIn image self.old (S.to_come source.old)
-            → OnOk result (IsIn image self.new (S.to_come source.new)) }
-        ensures behind { (image : List ℕ) → IsIn image self.old (S.to_come source.old)
-            → OnErr result (IsNear image self.new.sector (S.to_come source.new)) }
+    // Fills the next piece of the buffer with further bytes of the image.
+    fn fill_piece<S: Source>(&mut self, source: &mut S) -> Result<(), SearchFault>
+        requires { length self.old.bytes < 33554432 }
+        ensures reads { ReadsOn self.old self.new (S.to_come source.old) (S.to_come source.new)
+            (is_err result) }
+        ensures more { OnOk result
+            ((self.new.ended ≡ true) ⊎ (length self.old.bytes < length self.new.bytes)) }
         ensures failures { (S.counts source.new).failures
             ≡ counted (reports_failed_read result) (S.counts source.old).failures }
         ensures only { result ≡ Err SearchFault.Memory → ⊥ }
     {
         move_to_front(&mut self.buffer, self.start, self.end);
         let kept = self.end - self.start;
+        let limit = CAPACITY.min(kept + PIECE_LEN);
         self.start = 0;
         self.end = kept;
-        let count = fill_after(&mut self.buffer, kept, source)?;
+        let count = fill_between(&mut self.buffer, kept, limit, source)?;
         self.end = kept + count;
-        self.ended = self.end < CAPACITY;
+        self.ended = self.end < limit;
         Ok(())
     }
 
-    // How many of the next sectors can be tried with the loaded bytes.
+    // Loads a further piece of the image, and returns whether no sector with bytes of the piece
+    // begins with magic bytes.
+    fn load_piece<S: Source>(&mut self, source: &mut S) -> Result<bool, SearchFault>
+        requires { length self.old.bytes < 33554432 }
+        ensures reads { ReadsOn self.old self.new (S.to_come source.old) (S.to_come source.new)
+            (is_err result) }
+        ensures more { OnOk result
+            ((self.new.ended ≡ true) ⊎ (length self.old.bytes < length self.new.bytes)) }
+        ensures quiet { IfOk result (λ quiet. quiet ≡ true
+            → IsQuiet self.old.bytes → IsQuiet self.new.bytes) }
+        ensures failures { (S.counts source.new).failures
+            ≡ counted (reports_failed_read result) (S.counts source.old).failures }
+        ensures only { result ≡ Err SearchFault.Memory → ⊥ }
+    {
+        let whole_sectors = self.bytes().len() / SECTOR_LEN;
+        self.fill_piece(source)?;
+        Ok(is_quiet(&self.bytes()[SECTOR_LEN * whole_sectors..]))
+    }
+
+    // Loads as many further bytes of the image as the buffer can hold, and returns whether no
+    // loaded sector begins with magic bytes.
+    fn load<S: Source>(&mut self, source: &mut S) -> Result<bool, SearchFault>
+        ensures reads { ReadsOn self.old self.new (S.to_come source.old) (S.to_come source.new)
+            (is_err result) }
+        ensures enough { OnOk result
+            ((self.new.ended ≡ true) ⊎ (33554432 ≤ length self.new.bytes)) }
+        ensures quiet { IfOk result (λ quiet. quiet ≡ true → IsQuiet self.new.bytes) }
+        ensures failures { (S.counts source.new).failures
+            ≡ counted (reports_failed_read result) (S.counts source.old).failures }
+        ensures only { result ≡ Err SearchFault.Memory → ⊥ }
+    {
+        let mut quiet = is_quiet(self.bytes());
+        while !self.ended && self.bytes().len() < CAPACITY {
+            let quiet_piece = self.load_piece(source)?;
+            quiet = quiet && quiet_piece;
+        }
+        Ok(quiet)
+    }
+
+    // How many of the next sectors have no header if no loaded sector begins with magic bytes: a
+    // secondary header of theirs would begin among the loaded bytes.
     fn decidable(&self) -> usize
-        requires { length self.now.bytes ≤ 33554432 }
         ensures most { result ≤ 65536 }
         ensures ended { self.now.ended ≡ true → 512 * result ≤ length self.now.bytes + 511 }
         ensures loaded { self.now.ended ≡ false → 0 < result
-            → 512 * result + 8388096 ≤ length self.now.bytes }
+            → 512 * result + 4194304 ≤ length self.now.bytes }
         ensures some { 0 < length self.now.bytes
             → (self.now.ended ≡ true) ⊎ (8388608 ≤ length self.now.bytes) → 0 < result }
     {
@@ -128,22 +176,18 @@ impl Search {
         if self.ended {
             return len.div_ceil(SECTOR_LEN);
         }
-        if len < HORIZON {
-            return 0;
-        }
-        (len - HORIZON) / SECTOR_LEN + 1
+        len.saturating_sub(MAX_SECONDARY_OFFSET) / SECTOR_LEN
     }
 
-    // How many of the next sectors can be left behind: those that can be tried, up to the last one
-    // that is searched.
+    // How many of the next sectors can be left behind if no loaded sector begins with magic bytes:
+    // those that have no header then, up to the last one that is searched.
     fn skippable(&self) -> usize
-        requires few { length self.now.bytes ≤ 33554432 }
-        requires more { self.now.sector < 18014398509481984 }
+        requires { self.now.sector < 18014398509481984 }
         ensures most { result ≤ 65536 }
         ensures within { self.now.sector + result ≤ 18014398509481984 }
         ensures ended { self.now.ended ≡ true → 512 * result ≤ length self.now.bytes + 511 }
         ensures loaded { self.now.ended ≡ false → 0 < result
-            → 512 * result + 8388096 ≤ length self.now.bytes }
+            → 512 * result + 4194304 ≤ length self.now.bytes }
         ensures some { 0 < length self.now.bytes
             → (self.now.ended ≡ true) ⊎ (8388608 ≤ length self.now.bytes) → 0 < result }
     {
@@ -155,34 +199,9 @@ impl Search {
         count
     }
 
-    // Loads further bytes. If there are no magic bytes among those that are loaded then, leaves the
-    // sectors behind that can be tried, and returns how many.
-    fn load_and_skip<S: Source>(&mut self, source: &mut S) -> Result<usize, SearchFault>
-        requires { self.old.sector < 18014398509481984 }
-        ensures sector { IfOk result (λ count. self.new.sector ≡ self.old.sector + count) }
-        ensures within { OnOk result (self.new.sector ≤ 18014398509481984) }
-        ensures enough { IfOk result (λ count. count ≡ 0 →
-            (self.new.ended ≡ true) ⊎ (8388608 ≤ length self.new.bytes)) }
-        ensures held { (image : List ℕ) → IsIn image self.old (S.to_come source.old)
-            → OnOk result (IsIn image self.new (S.to_come source.new)
-            × FindsNone image self.old.sector self.new.sector) }
-        ensures stopped { OnErr result (self.new.sector ≡ self.old.sector) }
-        ensures behind { (image : List ℕ) → IsIn image self.old (S.to_come source.old)
-            → OnErr result (IsNear image self.new.sector (S.to_come source.new)) }
-        ensures failures { (S.counts source.new).failures
-            ≡ counted (reports_failed_read result) (S.counts source.old).failures }
-    {
-        self.load(source)?;
-        if !is_quiet(self.bytes()) {
-            return Ok(0);
-        }
-        let count = self.skippable();
-        self.advance(count);
-        Ok(count)
-    }
-
-    // Loads further bytes if the next sector cannot be tried with those that are loaded. Returns
-    // how many sectors were left behind then.
+    // Loads further bytes if the next sector cannot be tried with those that are loaded. If then no
+    // loaded sector begins with magic bytes, leaves those behind that have no header. Returns how
+    // many were left behind.
     fn load_if_needed<S: Source>(&mut self, source: &mut S) -> Result<usize, SearchFault>
         requires { self.old.sector < 18014398509481984 }
         ensures sector { IfOk result (λ count. self.new.sector ≡ self.old.sector + count) }
@@ -198,36 +217,20 @@ impl Search {
         ensures failures { (S.counts source.new).failures
             ≡ counted (reports_failed_read result) (S.counts source.old).failures }
     {
-        if self.ended || self.bytes().len() >= HORIZON {
+        if self.ended || self.bytes().len() >= MAX_PAIR_LEN {
             return Ok(0);
         }
-        self.load_and_skip(source)
-    }
-
-    // Tries the next sector, and leaves it behind.
-    fn try_sector(&mut self, alloc: Global) -> Result<Step, SearchFault>
-        requires more { self.old.sector < 18014398509481984 }
-        requires enough { (self.old.ended ≡ true) ⊎ (8388608 ≤ length self.old.bytes) }
-        ensures on { OnOk result (self.new.sector ≡ self.old.sector + 1) }
-        ensures stopped { OnErr result (self.new.sector ≡ self.old.sector) }
-        ensures found { (image : List ℕ) (left : Option (List ℕ)) → IsIn image self.old left
-            → OnOk result (IsIn image self.new left)
-            × StepsOn image self.old.sector self.new.sector result }
-        ensures behind { (image : List ℕ) (left : Option (List ℕ)) → IsIn image self.old left
-            → OnErr result (IsNear image self.new.sector left) }
-        ensures only { reports_failed_read result ≡ false }
-    {
-        let found = header_here(alloc, self.bytes())?;
-        let offset = 512 * self.sector;
-        self.advance(1);
-        match found {
-            Some(header) => Ok(Step::Found(Place { offset, header })),
-            None => Ok(Step::Skipped),
+        let quiet = self.load(source)?;
+        if !quiet {
+            return Ok(0);
         }
+        let count = self.skippable();
+        self.advance(count);
+        Ok(count)
     }
 
-    // Tries the next sector, unless there are no further bytes.
-    fn try_if_any(&mut self, alloc: Global) -> Result<Step, SearchFault>
+    // Tries the next sector and leaves it behind, unless there are no further bytes.
+    fn try_sector(&mut self, alloc: Global) -> Result<Step, SearchFault>
         requires more { self.old.sector < 18014398509481984 }
         requires enough { (self.old.ended ≡ true) ⊎ (8388608 ≤ length self.old.bytes) }
         ensures on { IfOk result (λ step. IsEnd step ⊎ (self.new.sector ≡ self.old.sector + 1)) }
@@ -243,7 +246,13 @@ impl Search {
         if self.bytes().is_empty() {
             return Ok(Step::End);
         }
-        self.try_sector(alloc)
+        let found = header_here(alloc, self.bytes())?;
+        let offset = 512 * self.sector;
+        self.advance(1);
+        match found {
+            Some(header) => Ok(Step::Found(Place { offset, header })),
+            None => Ok(Step::Skipped),
+        }
     }
 
     // Takes a step: tries the next sector, or leaves some behind.
@@ -264,16 +273,16 @@ impl Search {
         if skipped > 0 {
             return Ok(Step::Skipped);
         }
-        self.try_if_any(alloc)
+        self.try_sector(alloc)
     }
 
     /// The next place of the image, and the header that is there; `None` if there are no further
     /// places. The image is the one that the source gave from its start on: each call continues
     /// where the one before ended.
     ///
-    /// A call reads 24 MiB of the source at a time, and never a byte twice. It reads no further
-    /// than it has to for the last place, up to the next 32 MiB. An image of any length is searched
-    /// up to its first 2^63 bytes; no file is longer.
+    /// A call reads 256 KiB of the source at a time, until it holds 32 MiB, and never a byte twice.
+    /// It reads no further than it has to for the last place, up to the next 32 MiB. An image of
+    /// any length is searched up to its first 2^63 bytes; no file is longer.
     ///
     /// # Errors
     ///

@@ -16,7 +16,7 @@ use serde_json::Value;
 use std::alloc::{AllocError, Global};
 
 /// The text of this name in an object of that one.
-pub(crate) fn text_within<'v>(owner: &'v Value, object: &str, name: &str) -> Option<&'v str>
+pub(crate) fn nested_text<'v>(owner: &'v Value, object: &str, name: &str) -> Option<&'v str>
     ensures { option_map (λ t. t.now) result
         ≡ in_member object.now (string_member name.now) (data_of owner.now) }
 {
@@ -24,14 +24,14 @@ pub(crate) fn text_within<'v>(owner: &'v Value, object: &str, name: &str) -> Opt
 }
 
 /// The number of this name in an object of that one.
-pub(crate) fn integer_in(owner: &Value, object: &str, name: &str) -> Option<u64>
+pub(crate) fn nested_integer(owner: &Value, object: &str, name: &str) -> Option<u64>
     ensures { result ≡ in_member object.now (integer_member name.now) (data_of owner.now) }
 {
     integer_member(owner.get(object)?, name)
 }
 
 /// The number in decimal digits of this name in an object of that one.
-pub(crate) fn decimal_in(owner: &Value, object: &str, name: &str) -> Option<u64>
+pub(crate) fn nested_decimal(owner: &Value, object: &str, name: &str) -> Option<u64>
     ensures { result ≡ in_member object.now (decimal_member name.now) (data_of owner.now) }
 {
     decimal_member(owner.get(object)?, name)

@@ -6,7 +6,7 @@ ghost use Rattle.luks_audit.specs.Audit2.{stripes2_fields, priority2_of};
 ghost use Rattle.luks_audit.specs.Tree.{with_fields};
 ghost use Rattle.serde_json.specs.View.{view as data_of};
 
-use crate::luks2::member::{decimal_in, integer_in, push_salt, text_within};
+use crate::luks2::member::{nested_decimal, nested_integer, nested_text, push_salt};
 use crate::tree::Object;
 use luks2_json::member::integer_member;
 use serde_json::Value;
@@ -35,10 +35,14 @@ pub(crate) fn push_derivation(
 {
     fields.push_optional_number(alloc, "priority", priority(slot))?;
     fields.push_optional_number(alloc, "key_bytes", integer_member(slot, "key_size"))?;
-    fields.push_optional_text(alloc, "kdf", text_within(slot, "kdf", "type"))?;
-    fields.push_optional_text(alloc, "hash", text_within(slot, "kdf", "hash"))?;
+    fields.push_optional_text(alloc, "kdf", nested_text(slot, "kdf", "type"))?;
+    fields.push_optional_text(alloc, "hash", nested_text(slot, "kdf", "hash"))?;
     push_salt(alloc, fields, slot)?;
-    fields.push_optional_number(alloc, "iterations", integer_in(slot, "kdf", "iterations"))
+    fields.push_optional_number(
+        alloc,
+        "iterations",
+        nested_integer(slot, "kdf", "iterations"),
+    )
 }
 
 /// Adds the cost of Argon2.
@@ -46,9 +50,9 @@ pub(crate) fn push_derivation(
 pub(crate) fn push_cost(alloc: Global, fields: &mut Object, slot: &Value) -> Result<(), AllocError>
     ensures { OnOk result (fields.new ≡ with_fields (cost2_fields (data_of slot.now)) fields.old) }
 {
-    fields.push_optional_number(alloc, "time", integer_in(slot, "kdf", "time"))?;
-    fields.push_optional_number(alloc, "memory", integer_in(slot, "kdf", "memory"))?;
-    fields.push_optional_number(alloc, "threads", integer_in(slot, "kdf", "cpus"))
+    fields.push_optional_number(alloc, "time", nested_integer(slot, "kdf", "time"))?;
+    fields.push_optional_number(alloc, "memory", nested_integer(slot, "kdf", "memory"))?;
+    fields.push_optional_number(alloc, "threads", nested_integer(slot, "kdf", "cpus"))
 }
 
 /// Adds how the key material of a slot is split.
@@ -61,8 +65,8 @@ pub(crate) fn push_stripes(
     ensures { OnOk result
         (fields.new ≡ with_fields (stripes2_fields (data_of slot.now)) fields.old) }
 {
-    fields.push_optional_text(alloc, "af_hash", text_within(slot, "af", "hash"))?;
-    fields.push_optional_number(alloc, "stripes", integer_in(slot, "af", "stripes"))
+    fields.push_optional_text(alloc, "af_hash", nested_text(slot, "af", "hash"))?;
+    fields.push_optional_number(alloc, "stripes", nested_integer(slot, "af", "stripes"))
 }
 
 /// Adds where the key material of a slot is, and how it is encrypted.
@@ -73,13 +77,13 @@ pub(crate) fn push_area(alloc: Global, fields: &mut Object, slot: &Value) -> Res
     fields.push_optional_text(
         alloc,
         "area_cipher",
-        text_within(slot, "area", "encryption"),
+        nested_text(slot, "area", "encryption"),
     )?;
     fields.push_optional_number(
         alloc,
         "area_key_bytes",
-        integer_in(slot, "area", "key_size"),
+        nested_integer(slot, "area", "key_size"),
     )?;
-    fields.push_optional_number(alloc, "area_offset", decimal_in(slot, "area", "offset"))?;
-    fields.push_optional_number(alloc, "area_size", decimal_in(slot, "area", "size"))
+    fields.push_optional_number(alloc, "area_offset", nested_decimal(slot, "area", "offset"))?;
+    fields.push_optional_number(alloc, "area_size", nested_decimal(slot, "area", "size"))
 }

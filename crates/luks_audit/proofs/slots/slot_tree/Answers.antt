@@ -7,5 +7,5 @@ pub returns : goal.returns
 unfolding slot_value
 returns c =
     c.into_tree.ensures ∙ c.in_ok-push_stored.ensures
-    ∙ ap (with_slot c.args.header.now c.args.number) (c.in_ok-push_verdict.ensures
+    ∙ ap (with_slot c.args.header.now c.args.number) (c.in_ok-push_verdict_fields.ensures
     ∙ ap (with_fields (verdict_fields c.args.number c.args.kind)) c.new-fields.ensures)

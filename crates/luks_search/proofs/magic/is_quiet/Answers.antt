@@ -4,4 +4,5 @@ use Rattle.luks_search.proofs.magic.is_quiet.Goals as goal
 
 pub returns : goal.returns
 returns c = λ _.
-    quiet_all c.args.bytes.now c.loop-sector.sector (omega (arith, c.div_ceil-sector-end.ensures)) c.loop-sector.invariant
+    quiet_all c.args.bytes.now c.loop-sector.sector (omega (arith, c.div_ceil-sector-end.ensures))
+    c.loop-sector.invariant

@@ -7,8 +7,8 @@ returns c = simp (
   c.in_ok-push_optional_text.ensures,
   c.in_ok-push_optional_number.ensures,
   c.in_ok-push_optional_number-2.ensures,
-  c.text_within.ensures,
-  c.integer_in.ensures,
-  c.decimal_in.ensures,
-  c.decimal_in-2.ensures,
+  c.nested_text.ensures,
+  c.nested_integer.ensures,
+  c.nested_decimal.ensures,
+  c.nested_decimal-2.ensures,
 ) at c.push_optional_number-3.ensures

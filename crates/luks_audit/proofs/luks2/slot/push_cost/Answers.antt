@@ -6,7 +6,7 @@ unfolding cost2_fields
 returns c = simp (
   c.in_ok-push_optional_number.ensures,
   c.in_ok-push_optional_number-2.ensures,
-  c.integer_in.ensures,
-  c.integer_in-2.ensures,
-  c.integer_in-3.ensures,
+  c.nested_integer.ensures,
+  c.nested_integer-2.ensures,
+  c.nested_integer-3.ensures,
 ) at c.push_optional_number-3.ensures

@@ -9,7 +9,7 @@ ghost use Rattle.luks2_metadata.specs.Slot2.{af_hash_of, area_key_size_of, itera
 ghost use Rattle.luks2_metadata.specs.Slot2.{kdf_hash_of, key_size_of};
 ghost use Rattle.serde_json.specs.View.{view as data_of};
 
-use crate::luks2::member::{integer_in, text_within};
+use crate::luks2::member::{nested_integer, nested_text};
 use crate::policy::{Derivation, DigestStrength, SlotStrength, is_capi_cbc, is_cbc};
 use luks_kdf::Hash;
 use luks2_json::derivation::{hash_member, iterations_in};
@@ -104,7 +104,7 @@ fn key_size(slot: &Value) -> u64
 fn area_key_size(slot: &Value) -> u64
     ensures { result ≡ area_key_size_of (data_of slot.now) }
 {
-    integer_in(slot, "area", "key_size").unwrap_or(0)
+    nested_integer(slot, "area", "key_size").unwrap_or(0)
 }
 
 // What is judged of a slot that holds a key.
@@ -116,9 +116,9 @@ fn strength(slot: &Value) -> SlotStrength
         derivation: derivation(slot),
         kdf_hash: kdf_hash(slot),
         iterations: iterations(slot),
-        memory: integer_in(slot, "kdf", "memory").unwrap_or(0),
+        memory: nested_integer(slot, "kdf", "memory").unwrap_or(0),
         af_hash: af_hash(slot),
-        is_cbc: names_cbc(text_within(slot, "area", "encryption")),
+        is_cbc: names_cbc(nested_text(slot, "area", "encryption")),
         key_bytes: key_size(slot),
         area_key_bytes: area_key_size(slot),
     }
