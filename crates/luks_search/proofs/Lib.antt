@@ -1,3 +1,4 @@
 pub mod HorizonLemmas
 pub mod MagicLemmas
 pub mod PlaceLemmas
+pub mod RingLemmas

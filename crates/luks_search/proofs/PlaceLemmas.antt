@@ -2,7 +2,8 @@
 use Rattle.std.proofs.Common.{◌≡◌, ◌∙◌, ℕ, zero, suc, ◌+◌, ◌-◌, ◌*◌, ◌<◌, ◌≤◌, ◌++◌, List, [], ◌∷◌, Bool, true, false, ap, sym}
 use Rattle.std.proofs.Common.{Option, Some, None, refl, length, take, drop, arith, Result, Ok, Err, add-one, length-drop}
 use Rattle.std.proofs.Common.{◌⊎◌, inl, inr, min, append_assoc}
-use Rattle.std.proofs.lemmas.List.{append-nil, drop-append-le, drop-drop, drop_all, length-take, take-append-drop, take-take}
+use Rattle.std.proofs.lemmas.List.{append-nil, drop-append-le, drop-drop, drop-take, drop_all, length-take, take-append-drop}
+use Rattle.std.proofs.lemmas.List.{take-take}
 use Rattle.std.proofs.lemmas.Bool.{leb-false, leb-true, ltb-true}
 use Rattle.std.proofs.Math.Seq.{take-add, take-length}
 use Rattle.std.specs.Prelude.{OnErr, nat_le, nat_lt}
@@ -236,7 +237,21 @@ module _ (image : List ℕ) (search : SearchModel) (left : Option (List ℕ)) (i
         (ap found_in (here_is image search left is enough) ∙ some),
   )
 
--- further bytes, up to a limit, were loaded behind those that were moved to the buffer's front
+-- the next bytes of the image, at most so many, were loaded behind others
+pub more_in : (image bytes all known : List ℕ) (left : Option (List ℕ)) (sector count most : ℕ) (ended : Bool)
+    → drop (512 * sector) image ≡ bytes ++ known → all ≡ bytes ++ take count known → left ≡ Some (drop count known)
+    → count ≡ min most (length known) → (ended ≡ true → count < most)
+    → IsIn image (record { sector = sector; bytes = all; ended = ended }) left
+more_in image bytes all known left sector count most ended here loaded left_is count_is short = record {
+  rest = drop count known;
+  left_is = left_is;
+  here = here ∙ ap (λ more. bytes ++ more) (sym (take-append-drop count known))
+      ∙ sym (append_assoc bytes (take count known) (drop count known))
+      ∙ ap (λ start. start ++ drop count known) (sym loaded);
+  ends = λ end. (let few = short end in drop_all count known (omega (arith, count_is, few)));
+}
+
+-- they are behind those that were moved to the buffer's front
 pub loaded_in : (image bytes buffer known : List ℕ) (left : Option (List ℕ)) (sector kept count limit : ℕ)
     → drop (512 * sector) image ≡ bytes ++ known → take kept buffer ≡ bytes
     → ConsumedInto known left (drop kept buffer) count → count ≡ min (limit - kept) (length known)
@@ -245,22 +260,23 @@ pub loaded_in : (image bytes buffer known : List ℕ) (left : Option (List ℕ))
       bytes = drop 0 (take (kept + count) buffer);
       ended = nat_lt (kept + count) limit;
     }) left
-loaded_in image bytes buffer known left sector kept count limit here front consumed all = record {
-  rest = drop count known;
-  left_is = consumed.0.left;
-  here = here ∙ ap (λ more. bytes ++ more) (sym (take-append-drop count known))
-      ∙ sym (append_assoc bytes (take count known) (drop count known))
-      ∙ ap (λ start. start ++ drop count known) (sym loaded);
-  ends = λ ended.
-      (let short = ltb-true (kept + count) limit ended in
-      drop_all count known (omega (arith, all, short)));
-} where
-  loaded : take (kept + count) buffer ≡ bytes ++ take count known
-  loaded =
-      take-add kept count buffer ∙ ap (λ start. start ++ take count (drop kept buffer)) front
-      ∙ ap (λ more. bytes ++ more) consumed.1
+loaded_in image bytes buffer known left sector kept count limit here front consumed all =
+    more_in image bytes (take (kept + count) buffer) known left sector count (limit - kept)
+    (nat_lt (kept + count) limit) here (
+    take-add kept count buffer ∙ ap (λ start. start ++ take count (drop kept buffer)) front
+    ∙ ap (λ more. bytes ++ more) consumed.1
+    ) consumed.0.left all (λ ended. (let short = ltb-true (kept + count) limit ended in omega (arith, short)))
 
--- the bytes that were moved to the front are still there
+-- the bytes were moved to the buffer's front
+pub moved_front : (items given moved : List ℕ) (start end : ℕ) → start ≤ end → given ≡ items
+    → take (end - start) moved ≡ take (end - start) (drop start given)
+    → take (end - start) moved ≡ drop start (take end items)
+moved_front items given moved start end order same is =
+    let whole : start + (end - start) ≡ end = omega (arith, order) in
+    is ∙ ap (λ all. take (end - start) (drop start all)) same ∙ sym (drop-take start (end - start) items)
+    ∙ ap (λ n. drop start (take n items)) whole
+
+-- they are still there
 pub front_follows : (buffer front bytes : List ℕ) (kept count : ℕ) → take kept buffer ≡ front → front ≡ bytes
     → length front ≡ kept → take (length bytes) (drop 0 (take (kept + count) buffer)) ≡ bytes
 front_follows buffer front bytes kept count is same len =

@@ -1,3 +1,4 @@
 pub mod Magic
 pub mod Places
+pub mod Ring
 pub mod Search

@@ -29,6 +29,7 @@ pub(crate) fn fill_between<S: Source>(
     requires order { start ≤ end }
     requires within { end ≤ length buffer.old }
     ensures before { take start buffer.new ≡ take start buffer.old }
+    ensures after { drop end buffer.new ≡ drop end buffer.old }
     ensures bound { MatchResult result (λ count. count ≤ end - start)
         (λ fault. fault.got ≤ end - start) }
     ensures bytes { IfKnown (S.to_come source.old) (λ known.

@@ -6,4 +6,5 @@
 mod buffer;
 mod magic;
 pub mod place;
+mod ring;
 pub mod search;

@@ -8,6 +8,9 @@ ghost use Rattle.luks_search.specs.Magic.{IsQuiet, begins_magic, may_have_header
 /// The length of a sector in bytes.
 pub(crate) const SECTOR_LEN: usize = 512;
 
+/// The largest offset of a secondary header.
+pub(crate) const MAX_SECONDARY_OFFSET: usize = 4_194_304;
+
 /// The first bytes of a LUKS1 header, and of a primary LUKS2 header.
 const PRIMARY_MAGIC: [u8; 6] = [0x4c, 0x55, 0x4b, 0x53, 0xba, 0xbe];
 

@@ -11,6 +11,9 @@ use luks_io::memory::MemSource;
 use luks_io::source::ReadFault;
 use std::alloc::{AllocError, Global};
 
+/// The sectors of an image that are searched at most: those of 2^63 bytes.
+pub(crate) const MAX_SECTORS: u64 = 18_014_398_509_481_984;
+
 /// A place of an image at which a header is.
 #[derive(Drop)]
 pub struct Place {

@@ -10,8 +10,9 @@ ghost use Rattle.luks_search.specs.Search.{StepsOn};
 ghost use Rattle.luks_search.specs.Search.{reports_failed_read};
 
 use crate::buffer::{fill_between, move_to_front};
-use crate::magic::{SECTOR_LEN, is_quiet};
-use crate::place::{Place, SearchFault, Step, header_here};
+use crate::magic::{MAX_SECONDARY_OFFSET, SECTOR_LEN, is_quiet};
+use crate::place::{MAX_SECTORS, Place, SearchFault, Step, header_here};
+use crate::ring::{PIECE_LEN, read_on};
 use luks_io::source::Source;
 use std::alloc::{AllocError, Global};
 use std::marker::Model;
@@ -19,18 +20,9 @@ use std::marker::Model;
 /// The bytes that a search holds at most: 32 MiB.
 const CAPACITY: usize = 33_554_432;
 
-/// The bytes that are read at a time.
-const PIECE_LEN: usize = 262_144;
-
 /// The length of both headers of LUKS2, if they have the largest length. They decide which header
 /// there is.
 const MAX_PAIR_LEN: usize = 8_388_608;
-
-/// The largest offset of a secondary header.
-const MAX_SECONDARY_OFFSET: usize = 4_194_304;
-
-/// The sectors of an image that are searched at most: those of 2^63 bytes.
-const MAX_SECTORS: u64 = 18_014_398_509_481_984;
 
 /// A search for headers in an image that is read once, from its start to its end. A clause sees the
 /// next sector to try, the loaded bytes from there on, and whether the image ends after them.
@@ -162,6 +154,36 @@ impl Search {
         Ok(quiet)
     }
 
+    // If 4 MiB are loaded and no sector of them begins with magic bytes, reads on for as long as
+    // that is so. Leaves sectors behind that have no header, and returns how many.
+    fn read_on<S: Source>(&mut self, source: &mut S) -> Result<u64, SearchFault>
+        requires more { self.old.ended ≡ false }
+        requires range { self.old.sector ≤ 18014398509481984 }
+        ensures sector { IfOk result (λ count. self.new.sector ≡ self.old.sector + count) }
+        ensures range { self.new.sector ≤ 18014398509481984 }
+        ensures none { (image : List ℕ) → IsIn image self.old (S.to_come source.old)
+            → FindsNone image self.old.sector self.new.sector }
+        ensures held { (image : List ℕ) → IsIn image self.old (S.to_come source.old)
+            → OnOk result (IsIn image self.new (S.to_come source.new)) }
+        ensures behind { (image : List ℕ) → IsIn image self.old (S.to_come source.old)
+            → OnErr result (IsNear image self.new.sector (S.to_come source.new)) }
+        ensures failures { (S.counts source.new).failures
+            ≡ counted (reports_failed_read result) (S.counts source.old).failures }
+    {
+        if self.bytes().len() != MAX_SECONDARY_OFFSET || !is_quiet(self.bytes()) {
+            return Ok(0);
+        }
+        let sector = self.sector;
+        move_to_front(&mut self.buffer, self.start, self.end);
+        self.start = 0;
+        self.end = MAX_SECONDARY_OFFSET;
+        let loaded = read_on(&mut self.buffer, &mut self.sector, source)?;
+        self.start = loaded.start;
+        self.end = loaded.end;
+        self.ended = loaded.ended;
+        Ok(self.sector - sector)
+    }
+
     // How many of the next sectors have no header if no loaded sector begins with magic bytes: a
     // secondary header of theirs would begin among the loaded bytes.
     fn decidable(&self) -> usize
@@ -202,16 +224,16 @@ impl Search {
     // Loads further bytes if the next sector cannot be tried with those that are loaded. If then no
     // loaded sector begins with magic bytes, leaves those behind that have no header. Returns how
     // many were left behind.
-    fn load_if_needed<S: Source>(&mut self, source: &mut S) -> Result<usize, SearchFault>
+    fn load_if_needed<S: Source>(&mut self, source: &mut S) -> Result<u64, SearchFault>
         requires { self.old.sector < 18014398509481984 }
         ensures sector { IfOk result (λ count. self.new.sector ≡ self.old.sector + count) }
-        ensures within { OnOk result (self.new.sector ≤ 18014398509481984) }
+        ensures within { self.new.sector ≤ 18014398509481984 }
         ensures enough { IfOk result (λ count. count ≡ 0 →
             (self.new.ended ≡ true) ⊎ (8388608 ≤ length self.new.bytes)) }
+        ensures none { (image : List ℕ) → IsIn image self.old (S.to_come source.old)
+            → FindsNone image self.old.sector self.new.sector }
         ensures held { (image : List ℕ) → IsIn image self.old (S.to_come source.old)
-            → OnOk result (IsIn image self.new (S.to_come source.new)
-            × FindsNone image self.old.sector self.new.sector) }
-        ensures stopped { OnErr result (self.new.sector ≡ self.old.sector) }
+            → OnOk result (IsIn image self.new (S.to_come source.new)) }
         ensures behind { (image : List ℕ) → IsIn image self.old (S.to_come source.old)
             → OnErr result (IsNear image self.new.sector (S.to_come source.new)) }
         ensures failures { (S.counts source.new).failures
@@ -220,13 +242,17 @@ impl Search {
         if self.ended || self.bytes().len() >= MAX_PAIR_LEN {
             return Ok(0);
         }
+        let count = self.read_on(source)?;
+        if count > 0 {
+            return Ok(count);
+        }
         let quiet = self.load(source)?;
         if !quiet {
             return Ok(0);
         }
         let count = self.skippable();
         self.advance(count);
-        Ok(count)
+        Ok(count as u64)
     }
 
     // Tries the next sector and leaves it behind, unless there are no further bytes.
@@ -259,11 +285,10 @@ impl Search {
     fn step<S: Source>(&mut self, alloc: Global, source: &mut S) -> Result<Step, SearchFault>
         requires { self.old.sector < 18014398509481984 }
         ensures on { IfOk result (λ step. IsEnd step ⊎ (self.old.sector < self.new.sector)) }
-        ensures range { OnOk result (self.new.sector ≤ 18014398509481984) }
+        ensures range { self.new.sector ≤ 18014398509481984 }
         ensures held { (image : List ℕ) → IsIn image self.old (S.to_come source.old)
             → OnOk result (IsIn image self.new (S.to_come source.new))
             × StepsOn image self.old.sector self.new.sector result }
-        ensures stopped { OnErr result (self.new.sector ≡ self.old.sector) }
         ensures behind { (image : List ℕ) → IsIn image self.old (S.to_come source.old)
             → OnErr result (IsNear image self.new.sector (S.to_come source.new)) }
         ensures failures { (S.counts source.new).failures
@@ -280,9 +305,10 @@ impl Search {
     /// places. The image is the one that the source gave from its start on: each call continues
     /// where the one before ended.
     ///
-    /// A call reads 256 KiB of the source at a time, until it holds 32 MiB, and never a byte twice.
-    /// It reads no further than it has to for the last place, up to the next 32 MiB. An image of
-    /// any length is searched up to its first 2^63 bytes; no file is longer.
+    /// A call reads 256 KiB of the source at a time, and never a byte twice. It holds at most
+    /// 32 MiB, and 4 MiB while no sector begins with magic bytes. It reads no further than it has
+    /// to for the last place, up to the next 32 MiB. An image of any length is searched up to its
+    /// first 2^63 bytes; no file is longer.
     ///
     /// # Errors
     ///

@@ -1,8 +1,8 @@
 use Rattle.std.proofs.Common.{◌≡◌, ◌∙◌, ◌+◌, ◌-◌, ◌≤◌, ap, arith, drop, length, length-drop, subst, sym, take}
-use Rattle.std.proofs.lemmas.List.{drop-take, length-take, with_items_is}
+use Rattle.std.proofs.lemmas.List.{length-take, with_items_is}
 use Rattle.std.specs.Prelude.{nat_lt}
 use Rattle.std.specs.Vec.{with_items}
-use Rattle.luks_search.proofs.PlaceLemmas.{failed_near, front_follows, loaded_in}
+use Rattle.luks_search.proofs.PlaceLemmas.{failed_near, front_follows, loaded_in, moved_front}
 use Rattle.luks_search.specs.Search.{IsIn, SearchModel}
 use Rattle.luks_search.proofs.search.Search.fill_piece.Goals as goal
 
@@ -13,9 +13,6 @@ returns-clause-reads g c =
     let kept = end - start in
     let limit = c.min-limit.result in
     let count = c.in_ok-count.count in
-    let whole : start + kept ≡ end = omega (arith, c.self.invariant.1) in
-    let cut = ap (λ n. drop start (take n c.self.inside.buffer.items)) (sym whole)
-    ∙ drop-take start kept c.self.inside.buffer.items in
     let buffer = c.self.inside.buffer in
     let moved = c.move_to_front.new.buffer in
     let filled = c.fill_between.new.buffer in
@@ -34,8 +31,9 @@ returns-clause-reads g c =
       len,
     ) in
     let front : take kept filled ≡ drop start (take end buffer.items) =
-    c.in_ok-count.ensures.before ∙ ap (take kept) (c.deref_mut-2.ensures.value ∙ first) ∙ c.move_to_front.ensures
-    ∙ ap (λ items. take kept (drop start items)) c.deref_mut.ensures.value ∙ sym cut in
+    c.in_ok-count.ensures.before ∙ ap (take kept) (c.deref_mut-2.ensures.value ∙ first)
+    ∙ moved_front buffer.items c.deref_mut.result.now moved start end (omega (arith, c.self.invariant.1))
+    c.deref_mut.ensures.value c.move_to_front.ensures in
     let second = sym (with_items_is (with_items buffer moved) filled len2) in
     record {
       sector = ap (λ (s : SearchModel). s.sector) c.self.view_is;
