@@ -87,14 +87,29 @@ cp volume argon2/disk.img
 cooks argon2 whole.img RESCUE.md:'# 6144: the start of partition 2'
 recipes_give argon2 fstab files/etc/fstab
 
+# an image that ends inside its header
+head -c 9000 argon2/disk.img >cut_header
+same 'a header that is cut' "$(reported luksDump cut_header)" 'luksrd: not a LUKS image
+4'
+same 'what blkid says of it' "$(blkid -p -o value -s TYPE cut_header)" crypto_LUKS
+
+# a volume without a file system that nbdkit's filter knows
+head -c 8M /dev/urandom >unformatted
+volume no_ext unformatted
+same 'no ext2, ext3 or ext4' "$(nbdkit -U - --filter=ext2 luksrd no_ext/disk.img key-file=pass ext2file=/etc/fstab \
+    --run 'nbdcopy "$uri" -' 2>&1 | grep -o 'Bad magic number in super-block\|server has no export named .*:')" \
+    "Bad magic number in super-block
+server has no export named '':"
+
 # a truncated image, of which nothing is missing that is in use
 volume truncated ext4
 truncate -s -1500000 truncated/disk.img
-cooks truncated '' RESCUE.md:'# What is left of each file' RESCUE.md:'# They know their length'
+cooks truncated '' RESCUE.md:'# What is left of each file' RESCUE.md:'# The file system knows its length'
 recipes_say truncated 'luksrd: image ends inside a sector: '
 recipes_give truncated files/etc/fstab files/etc/fstab
 recipes_say truncated 'Pass 5: Checking group summary information
 plain.img: '
+recipes_say truncated " of $(stat -c %s ext4) bytes are left"
 for shell in bash zsh; do
     same "truncated in $shell: its length" "$(stat -c %s "rescue truncated, $shell/plain.img")" "$(stat -c %s ext4)"
 done
