@@ -47,7 +47,7 @@ commands_in() {
 begins() {
     case $1 in
     *.1:*)
-        echo 'mkdir rescue && cd rescue && ln -s ../disk.img .'
+        echo 'mkdir -m 700 rescue && cd rescue && ln -s ../disk.img .'
         example luksrd.1 'Keep new files private'
         example luksrd.1 'Type a passphrase into a key file'
         ;;
