@@ -68,7 +68,8 @@ FILTERS ?= $(call nbdkit_folder,filter)
 # Debian's Python looks in a folder of its own version below /usr/local
 python_folder = $(filter /usr/local/%,$(shell \
     /usr/bin/python3 -c 'import site; print(*site.getsitepackages())' 2>/dev/null))
-MODULES ?= $(firstword $(if $(filter /usr/local,$(PREFIX:/=)),$(python_folder)) $(PREFIX)/lib/python3/dist-packages)
+MODULES ?= $(if $(and $(filter /usr/local,$(PREFIX:/=)),$(python_folder)),$(firstword \
+    $(python_folder)),$(PREFIX)/lib/python3/dist-packages)
 BINARIES = $(DESTDIR)$(PREFIX)/bin
 PAGES = $(DESTDIR)$(PREFIX)/share/man/man1
 DOCUMENTS = $(DESTDIR)$(PREFIX)/share/doc/luksrd
@@ -91,7 +92,8 @@ SHARED_NAMES = libluksrd.so.$(VERSION) libluksrd.so.$(INTERFACE) libluksrd.so
 
 .PHONY: all demo check scripts program-scripts audit-scripts c-scripts tool-scripts v3-scripts v3-tool-scripts test
 .PHONY: pages bench library nbdkit tools toolchain built library-built nbdkit-folders runs-here install install-program
-.PHONY: install-audit install-library install-shared install-plugin install-filter install-python uninstall deb
+.PHONY: install-parts not-packaged install-audit install-library install-shared install-plugin install-filter
+.PHONY: install-python uninstall deb
 
 all: $(PROGRAM) $(AUDIT)
 
@@ -328,14 +330,17 @@ runs-here: built
 	@"$(PROGRAM)" $(merge_a_stripe) crates/luksrd/data/stripes | cmp -s - crates/luksrd/data/stripes || \
 	    { echo "luksrd for $(CPU) does not run here: nothing is installed" >&2; exit 1; }
 
-# Plugin and filter come before the program: if their folders are not known or not writable, nothing is installed.
+# What would stop it is looked for first, with make -j, too: then nothing is installed.
 install: built $(if $(filter-out x86-64-v2,$(CPU)),runs-here) \
-    $(if $(wildcard $(PLUGIN) $(FILTER)),library-built nbdkit-folders) \
-    $(if $(wildcard $(PLUGIN)),install-plugin) $(if $(wildcard $(FILTER)),install-filter) install-program \
+    $(if $(wildcard $(PLUGIN) $(FILTER) $(LIBRARY)),library-built nbdkit-folders) not-packaged
+	@$(MAKE) --no-print-directory install-parts
+
+install-parts: install-program $(if $(wildcard $(PLUGIN)),install-plugin) $(if $(wildcard $(FILTER)),install-filter) \
     $(if $(wildcard $(AUDIT)),install-audit) \
     $(if $(wildcard $(PLUGIN) $(FILTER) $(LIBRARY)),install-library install-python)
 
 install-audit:
+	@$(call refuse_packaged,$(BINARIES)/luksrd-audit)
 	@test -f "$(AUDIT)" -a -x "$(AUDIT)" || { echo "luksrd-audit is not built: run make first" >&2; exit 1; }
 	install -d "$(BINARIES)" "$(PAGES)" "$(BASH_COMPLETIONS)" "$(ZSH_COMPLETIONS)"
 	install -m 755 "$(AUDIT)" "$(BINARIES)/luksrd-audit"
@@ -344,8 +349,7 @@ install-audit:
 	install -m 644 completions/_luksrd-audit "$(ZSH_COMPLETIONS)/_luksrd-audit"
 
 install-program: built $(if $(filter-out x86-64-v2,$(CPU)),runs-here)
-	@name=$$($(call packaged,$(BINARIES)/luksrd)); [ -z "$$name" ] || \
-	    { echo "$(BINARIES)/luksrd is of $$name: run apt-get remove luksrd, or give a PREFIX" >&2; exit 1; }
+	@$(call refuse_packaged,$(BINARIES)/luksrd)
 	install -d "$(BINARIES)" "$(PAGES)" "$(BASH_COMPLETIONS)" "$(ZSH_COMPLETIONS)"
 	install -m 755 "$(PROGRAM)" "$(BINARIES)/luksrd"
 	install -m 755 scripts/luksrd-candidates "$(BINARIES)/luksrd-candidates"
@@ -370,6 +374,7 @@ install-shared: | $(if $(filter-out x86-64-v2,$(CPU)),runs-here)
 	install -m 644 "$(SHARED_V3)" "$(LIBRARIES)/$(HWCAPS)/$(word 2,$(SHARED_NAMES))"
 
 install-library: library-built install-shared
+	@$(call refuse_packaged,$(HEADERS)/luksrd.h)
 	install -d "$(LIBRARIES)/pkgconfig" "$(HEADERS)"
 	install -m 644 c/luksrd.h "$(HEADERS)/luksrd.h"
 	install -m 644 "$(LIBRARY)" "$(LIBRARIES)/libluksrd.a"
@@ -379,21 +384,35 @@ install-library: library-built install-shared
 
 # $(call packaged,FILE): the Debian package that has put this file there, or the link of
 # update-alternatives that it is
-packaged = { dpkg-query -S "$(1)" | sed 's/: .*//'; readlink "$(1)" | grep '^/etc/alternatives/'; } 2>/dev/null
+packaged = { dpkg-query -S "$$(realpath -m "$$(dirname "$(1)")")/$$(basename "$(1)")" | sed 's/: .*//'; \
+    readlink "$(1)" | grep '^/etc/alternatives/'; } 2>/dev/null
+# $(call refuse_packaged,FILE): stops if there is one
+refuse_packaged = name=$$($(call packaged,$(1)) | sed 's|.*/||'); [ -z "$$name" ] || \
+    { echo "the package $$name has $(1): run apt-get remove $$name, or give a PREFIX" >&2; exit 1; }
+
+not-packaged:
+	@for file in "$(BINARIES)/luksrd" $(if $(wildcard $(AUDIT)),"$(BINARIES)/luksrd-audit") \
+	    $(if $(wildcard $(PLUGIN)),"$(PLUGIN_FILE)") $(if $(wildcard $(FILTER)),"$(FILTER_FILE)") \
+	    $(if $(wildcard $(PLUGIN) $(FILTER) $(LIBRARY)),"$(HEADERS)/luksrd.h" "$(MODULE_FILE)"); do \
+	    $(call refuse_packaged,$$file); \
+	done
+
+# $(call nbdkit_folder_known,FOLDER)
+nbdkit_folder_known = test -n "$(1)" || \
+    { echo "nbdkit's folder is not known: run apt-get install nbdkit-plugin-dev pkg-config" >&2; exit 1; }
 
 nbdkit-folders:
 	@for folder in $(if $(wildcard $(PLUGIN)),"$(PLUGINS)") $(if $(wildcard $(FILTER)),"$(FILTERS)"); do \
-	    [ -z "$$folder" ] || { install -d "$(DESTDIR)$$folder" && test -w "$(DESTDIR)$$folder"; } || \
+	    $(call nbdkit_folder_known,$$folder); \
+	    { install -d "$(DESTDIR)$$folder" && test -w "$(DESTDIR)$$folder"; } || \
 	        { echo "$(DESTDIR)$$folder cannot be written to: nothing is installed" >&2; exit 1; }; \
 	done
 
 # $(call install_nbdkit,plugin or filter,FILE,FOLDER,INSTALLED FILE)
 define install_nbdkit
 @test -f "$(2)" || { echo "the $(1) is not built: run make nbdkit first" >&2; exit 1; }
-@test -n "$(3)" || \
-    { echo "nbdkit's folder is not known: run apt-get install nbdkit-plugin-dev pkg-config" >&2; exit 1; }
-@name=$$($(call packaged,$(4))); [ -z "$$name" ] || \
-    { echo "the package $$name has $(4): run apt-get remove $$name, or give a PREFIX" >&2; exit 1; }
+@$(call nbdkit_folder_known,$(3))
+@$(call refuse_packaged,$(4))
 install -d "$(DESTDIR)$(3)" "$(PAGES)"
 install -m 644 "$(2)" "$(4)"
 install -m 644 docs/nbdkit-luksrd-$(1).1 "$(PAGES)/nbdkit-luksrd-$(1).1"
@@ -408,8 +427,7 @@ install-filter: | $(if $(filter-out x86-64-v2,$(CPU)),runs-here)
 	$(call install_nbdkit,filter,$(FILTER),$(FILTERS),$(FILTER_FILE))
 
 install-python: | $(if $(filter-out x86-64-v2,$(CPU)),runs-here)
-	@name=$$($(call packaged,$(MODULE_FILE))); [ -z "$$name" ] || \
-	    { echo "the package $$name has $(MODULE_FILE): run apt-get remove $$name, or give a PREFIX" >&2; exit 1; }
+	@$(call refuse_packaged,$(MODULE_FILE))
 	install -d "$(DESTDIR)$(MODULES)" "$(BINARIES)" "$(PAGES)"
 	install -m 644 python/luksrd.py "$(MODULE_FILE)"
 	install -m 755 scripts/luksrd-lvm "$(BINARIES)/luksrd-lvm"
@@ -426,7 +444,7 @@ INSTALLED = "$(BINARIES)/luksrd" "$(PAGES)/luksrd.1" \
     "$(UNIT_FILE)" "$(PAGES)/nbdkit-luksrd-plugin.1" $(if $(PLUGINS),"$(PLUGIN_FILE)") \
     "$(PAGES)/nbdkit-luksrd-filter.1" $(if $(FILTERS),"$(FILTER_FILE)") \
     "$(BINARIES)/luksrd-lvm" "$(PAGES)/luksrd-lvm.1" \
-    "$(MODULE_FILE)" $(patsubst %,"%",$(wildcard $(DESTDIR)$(MODULES)/__pycache__/luksrd.*.pyc))
+    "$(MODULE_FILE)" "$(DESTDIR)$(MODULES)/__pycache__"/luksrd.*.pyc
 
 uninstall:
 	@for file in $(INSTALLED); do \

@@ -292,16 +292,27 @@ static __attribute__((noinline, unused)) void luksrd_wipe_below(void)
   luksrd_wipe(below, sizeof below);
 }
 
-/* Fills the 256 KiB of stack below the caller with zeros, where functions that it called before
- * may have left copies of passphrases and keys: its own, and the loader. The library's functions
- * leave none. Call it from the function that called them, in the same thread. In a thread with a
- * smaller stack, do not call it: wipe that stack when the thread has ended. */
-static __attribute__((noinline, unused)) void luksrd_wipe_stack(void)
+static __attribute__((noinline, unused)) void luksrd_wipe_deep(void)
 {
   /* When the loader looks up a function, it saves registers: here, where they are wiped. */
   uint8_t first;
   luksrd_wipe(&first, sizeof first);
   luksrd_wipe_below();
+}
+
+/* Fills the 256 KiB of stack below the caller with zeros, where functions that it called before
+ * may have left copies of passphrases and keys: its own, and the loader. The library's functions
+ * leave none. Call it from the function that called them, in the same thread. In a thread with a
+ * smaller stack, do not call it: wipe that stack when the thread has ended. */
+static inline __attribute__((always_inline, unused)) void luksrd_wipe_stack(void)
+{
+  luksrd_wipe_deep();
+#ifdef __x86_64__
+  /* what is between the caller's frame and the array of luksrd_wipe_below */
+  __asm__ volatile(".irp at, 8, 16, 24, 32, 40, 48, 56, 64, 72, 80, 88, 96, 104, 112, 120, 128\n\t"
+                   "{movq $0, -\\at(%%rsp)|mov qword ptr [rsp-\\at], 0}\n\t"
+                   ".endr" ::: "memory");
+#endif
 }
 #endif
 

@@ -204,12 +204,25 @@ same 'a closed output' "$("$audit" several 2>&1 >&-; echo $?)" 'luksrd-audit: wr
 6'
 same 'a folder' "$("$audit" .; echo $?)" '{"error":"cannot be opened","file":"."}
 4'
+# an image that the output goes to stays as it is, whatever the order of the images, and nothing is written
 cp sha1 target
-size=$(stat -c %s target)
+for format in '' --tsv; do
+    # shellcheck disable=SC2094,SC2086
+    for images in target 'several target' 'target several' ./target; do
+        "$audit" $format $images 1<>target 2>err
+        same "the output goes to an image: $format $images" "$? $(cat err) $(cmp target sha1 2>&1)" \
+            '4 luksrd-audit: standard output is one of the images '
+    done
+done
 # shellcheck disable=SC2094
-"$audit" target >>target
-same 'an image that the output goes to' "$(tail -c "+$((size + 1))" target)" \
-    '{"error":"cannot be opened","file":"target"}'
+"$audit" target >>target 2>err
+same 'the output is appended to an image' "$? $(cat err) $(cmp target sha1 2>&1)" \
+    '4 luksrd-audit: standard output is one of the images '
+# shellcheck disable=SC2094
+"$audit" - <target 1<>target 2>err
+same 'the output goes to standard input' "$? $(cat err) $(cmp target sha1 2>&1)" \
+    '4 luksrd-audit: standard output is one of the images '
+same 'the output goes to another file' "$("$audit" target several >other; echo $? "$(wc -l <other)")" '1 2'
 same 'a name that is not UTF-8' "$("$audit" several $'a\377' 2>&1; echo $?)" 'luksrd-audit: an argument is not UTF-8
 2'
 same 'a slot that is disabled has not too few iterations' "$("$audit" sha256 |

@@ -14,13 +14,15 @@ asked() {
     served "/usr/bin/python3 -c '$program' \"\$uri\"" "${@:2}"
 }
 
-# it reads the header once, though all connect at once, and of the payload no sector but those of a range
+# it reads the header once, though all connect at once, and again only the UUID for each later one; and of the payload no
+# sector but those of a range
 text "$volume2" pass
 served "/usr/bin/python3 '$here/clients.py' at-once \"\$uri\" 16 >answer" --filter=log file "$volume2" logfile=log \
     key-file=pass
 same 'many connections at once' "$? $(cat answer)" '0 all the same'
-same 'many connections at once: reads' "$(grep -c ' Read ' log) $(grep -c ' Read .*offset=0x0 ' log)" \
-    "$((($(stat -c %s "$volume2") + 1048575) / 1048576)) 1"
+same 'many connections at once: reads' "$(grep ' Read ' log | grep -vc ' offset=0xa8 count=0x28 ') $(grep -c \
+    ' Read .*offset=0x0 ' log)" "$((($(stat -c %s "$volume2") + 1048575) / 1048576)) 1"
+same 'many connections at once: reads of the UUID' "$(grep -c ' Read .*offset=0xa8 count=0x28 ' log)" 15
 asked 'pread(2, 4095)' --filter=log file "$volume2" logfile=log key-file=pass
 start=$(start_of2 "$volume2")
 same 'two bytes of two sectors: reads' \
@@ -101,6 +103,20 @@ says 'a second connection' 'luksrd: this image was refused before'
 served 'for name in plain plain plain; do nbdinfo --size "nbd+unix:///$name?socket=$unixsocket" & done
     nbdinfo --size "nbd+unix:///two?socket=$unixsocket"; status=$?; wait; exit $status' file dir=exports key-file=pass
 same 'exports that are refused at once' "$? $(grep -c "^$size2$" said)" '0 1'
+
+# another volume under the same name is refused, but not the same one with another key slot
+cp "$volume1" exports/moving
+cp "$volume2" exports/moved
+served 'info() { nbdinfo --size "nbd+unix:///moving?socket=$unixsocket"; }
+    info; printf x | dd of=exports/moving bs=1 seek=560 conv=notrunc status=none; info
+    mv -f exports/moved exports/moving; info' file dir=exports key-file=pass
+same 'an export that is replaced: sizes' "$(grep -c '^300032$' said)" 2
+says 'an export that is replaced' 'luksrd: the export has another volume than the one that is open'
+
+# two of these filters would share the volume
+refused 'the filter twice' 'luksrd: this filter can be used only once' --filter="$filter" file "$volume1" key-file=pass
+refused 'the filter twice, around another one' 'luksrd: this filter can be used only once' --filter=partition \
+    --filter="$filter" file "$volume1" passphrase=secret partition=1
 
 # a parameter of what is below
 served 'nbdinfo --size "$uri"' memory size=65536 key-file=pass

@@ -129,6 +129,21 @@ for shell in bash zsh; do
         "$(sha256sum <"rescue cut, $shell/files/random")"
 done
 
+# a sector of a file that was not copied, and one that no file has
+volume holes longer
+payload=$(sed -n 's/^Segment 0: offset=\([0-9]*\) .*/\1/p' <<<"$("$program" luksDump holes/disk.img)")
+block=$(debugfs -R 'blocks random' longer 2>err | awk '{ print $3 }')
+lost="$((block * $(dumpe2fs -h longer 2>err | awk '/^Block size:/ { print $3 / 512 }') + 1))
+$(($(stat -c %s longer) / 512 - 1))"
+for sector in $lost; do
+    dd if=/dev/zero of=holes/disk.img bs=512 seek=$((payload / 512 + sector)) count=1 conv=notrunc status=none
+done
+"$program" luksCat --key-file pass holes/disk.img >holes/plain.img
+cooks holes plain.img RESCUE.md:'# LUKS2: the sectors of 512 zeros' RESCUE.md:'# The files that have such sectors'
+printf '%s\n' "$lost" >lost
+recipes_give holes zeros lost
+recipes_say holes '/random'
+
 # which passphrase it was: the last line, which has no newline, after one with a carriage return
 volume guessed ext4
 printf 'a secret \r\na secret' >guessed/candidates

@@ -149,9 +149,11 @@ for at in 512 $((512 + 24)) $((512 + 40)) $((512 + 100)) 4096 4100 $((4096 + 24)
     same "byte $at is damaged" "$(finds damaged | sed 's/^luksrd-lvm: .*\(LVM2\).*/\1/')" 'LVM2
 1'
 done
-# altered OLD NEW: the first physical volume with another text of the same length in its metadata, and its checksums
+# altered OLD NEW [FLAGS]: the first physical volume with another text of the same length in its metadata, and its
+# checksums, and with these flags
 altered() {
-    python3 - "$1" "$2" <<'PYTHON'
+    rm -f altered
+    python3 - "$1" "$2" "${3-0}" <<'PYTHON'
 import struct
 import sys
 import zlib
@@ -163,13 +165,13 @@ image = bytearray(open("first", "rb").read())
 area = memoryview(image)[4096:4096 + struct.unpack_from("<Q", image, 4096 + 32)[0]]
 start, length = struct.unpack_from("<QQ", area, 40)
 places = [at if at < len(area) else at - len(area) + 512 for at in range(start, start + length)]
-old, new = (word.encode() for word in sys.argv[1:])
+old, new = (word.encode() for word in sys.argv[1:3])
 text = bytes(area[at] for at in places)
 assert old in text and len(old) == len(new)
 text = text.replace(old, new)
 for at, byte in zip(places, text):
     area[at] = byte
-struct.pack_into("<I", area, 56, checksum(text))
+struct.pack_into("<II", area, 56, checksum(text), int(sys.argv[3]))
 struct.pack_into("<I", area, 0, checksum(area[4:512]))
 open("altered", "wb").write(image)
 PYTHON
@@ -181,10 +183,29 @@ same 'a length beyond the end' "$(altered 'extent_count = 8' 'extent_count =99' 
     'vg/root is not supported: it ends after the physical volume'
 for change in 'extent_size = 2048:extent_size = "04"' 'physical_volumes:physical_volumex' \
     'pe_start = 72:pe_start = []' 'logical_volumes {:logical_volumes }' 'segment_count = 1:segment_count = {' \
-    '"VISIBLE":"VISIBLE('; do
+    '"VISIBLE":"VISIBLE(' 'striped":stri'$'\e''ed"' 'segment_count = 2:segment_count="'$'\e''"' \
+    'segment_count = 2:segment_count = x' 'root {:"r'$'\e''" {' 'root {:ro'$'\e''t {'; do
     same "metadata with ${change#*:}" "$(altered "${change%%:*}" "${change#*:}")" \
         "luksrd-lvm: LVM2's metadata is damaged
 1"
+done
+same 'a name of digits alone' "$(altered 'root {' '0007 {' | grep 0007)" "$(ours first | sed -n 's, vg/root$, vg/0007,p')"
+same 'metadata that LVM2 does not update' "$(altered root root 1)" \
+    'luksrd-lvm: the first metadata area is not kept up to date: LVM2 uses another one
+1'
+python3 - <<'PYTHON'
+import struct
+import zlib
+image = bytearray(open("first", "rb").read())
+struct.pack_into("<Q", image, 512 + 32 + 40 + 32, 1 << 63)
+struct.pack_into("<I", image, 512 + 16, zlib.crc32(image[532:1024], 0xF597A6CF ^ 0xFFFFFFFF) ^ 0xFFFFFFFF)
+open("beyond", "wb").write(image)
+PYTHON
+same 'metadata beyond 2^63' "$(finds beyond)" "luksrd-lvm: the volume ends before LVM2's metadata does
+1"
+for option in '--key-slot 32' '--key-slot -1' '--max-iterations 0' '--max-iterations 4294967296' '--key-slot x'; do
+    # shellcheck disable=SC2086
+    same "wrong arguments: $option" "$(finds --key-file pass $option disk.img | tail -n 1)" 2
 done
 head -c 5000 first >short
 same 'a short image' "$(finds short)" "luksrd-lvm: the volume ends before LVM2's metadata does

@@ -110,10 +110,13 @@ cooks whole_first '' README.md:'2. One file of a whole disk'
 recipes_give whole_first fstab files/etc/fstab
 recipes_say whole_first 'whole.img2 : start=        6144,'
 cp volume2 whole/disk.img
-cooks whole 'whole.img whole.img.xz whole.qcow2' RECIPES.md:'One file out of it' RECIPES.md:'The same file out of xz'
+cooks whole 'whole.img whole.img.xz whole.qcow2' RECIPES.md:'What is in it' RECIPES.md:'One file out of it' \
+    RECIPES.md:'The same file out of xz'
 for file in fstab fstab2 fstab3 fstab4; do recipes_give whole $file files/etc/fstab; done
 recipes_give whole plain.img tree
 recipes_say whole 'whole.img2 : start=        6144,'
+recipes_say whole 'start: UUID="'
+recipes_say whole 'TYPE="ext4"'
 qemu-img convert -f raw -O qcow2 volume2 whole_page/disk.qcow2
 url=${url%/*}/disk.img
 cooks whole_page 'whole.img whole.img.xz disk.qcow2' nbdkit-luksrd-filter.1:'Copy one file out of the ext4' \

@@ -80,11 +80,27 @@ bool has_magic(const struct start *start)
   return start->len >= sizeof magic && memcmp(start->at, magic, sizeof magic) == 0;
 }
 
-bool begins_with(struct below *below, const struct start *start)
+/* Compares `len` of these bytes, from `from` on. */
+static enum likeness compare(struct below *below, const struct start *start, size_t from,
+                             size_t len)
 {
   uint8_t found[sizeof start->at];
-  return start->len > 0 && below->len >= start->len && read_below(below, found, start->len, 0) &&
-         memcmp(found, start->at, start->len) == 0;
+  if (start->len < from + len || below->len < from + len)
+    return OTHER;
+  if (!read_below(below, found, len, from))
+    return UNREAD;
+  return memcmp(found, start->at + from, len) == 0 ? SAME : OTHER;
+}
+
+enum likeness compare_start(struct below *below, const struct start *start)
+{
+  return compare(below, start, 0, start->len);
+}
+
+enum likeness compare_uuid(struct below *below, const struct start *start)
+{
+  enum { UUID = 168, UUID_LEN = 40 };
+  return compare(below, start, UUID, UUID_LEN);
 }
 
 struct blocks blocks_of(const struct below *below, uint32_t count, uint64_t offset)

@@ -38,8 +38,15 @@ void keep_start(struct start *start, const struct bytes *header);
 /* Whether they begin a header, the first one of LUKS2 or that of LUKS1. */
 bool has_magic(const struct start *start);
 
-/* Whether there are some, and what is below begins with them. */
-bool begins_with(struct below *below, const struct start *start);
+/* How what is below compares with an image whose first bytes these are. If it could not be read,
+ * errno says why. */
+enum likeness { SAME, OTHER, UNREAD };
+
+/* Compares all of these bytes. */
+enum likeness compare_start(struct below *below, const struct start *start);
+
+/* Compares the UUIDs of two headers, which have the same place in both formats. */
+enum likeness compare_uuid(struct below *below, const struct start *start);
 
 /* The blocks that contain `count` bytes from `offset` on, at most as many as a request may name. */
 struct blocks {

@@ -46,6 +46,7 @@ static void unload(void)
   wipe(&passphrase);
   free_parameters(&parameters);
   free(refused_header.at);
+  refused_header = (struct bytes){ 0 };
   free(served_name);
   served_name = NULL;
 }
@@ -70,6 +71,13 @@ static int config(nbdkit_next_config *next, nbdkit_backend *backend, const char 
 
 static int config_complete(nbdkit_next_config_complete *next, nbdkit_backend *backend)
 {
+  /* nbdkit loads a filter once, so two of them would share all that is above */
+  static bool is_used;
+  if (is_used) {
+    nbdkit_error("luksrd: this filter can be used only once");
+    return give_up();
+  }
+  is_used = true;
   return check_parameters(&parameters) < 0 || next(backend) < 0 ? give_up() : 0;
 }
 
@@ -152,8 +160,8 @@ static void close_connection(void *handle)
   free(connection);
 }
 
-/* Tries the passphrase or the volume key on a header, but not a second time on one that was
- * refused: clients could cost the server what they like. */
+/* Tries the passphrase or the volume key on a header, but not again on the one that was refused
+ * last: a client that comes back would cost the server a derivation of keys each time. */
 static enum outcome try_header(const struct bytes *header)
 {
   if (!refused_header.at || refused_header.len != header->len ||
@@ -228,24 +236,31 @@ static bool wait_for_volume(void)
   return is_open;
 }
 
-/* Whether what is below an export of another name is the same image, as if what is below does not
- * look at names: it has the same header or, if that is not in it, the same length. Another image
- * would give noise with this key. */
-static bool has_same_image(struct below *below)
+/* Compares what is below with the volume that is open: another image would give noise with this
+ * key. An export of the same name has the same volume unless its UUID is another one; its key slots
+ * may have changed. One of another name has the same image, as if what is below does not look at
+ * names, if it has the same header or, if that is not in it, the same length. */
+static enum likeness compare_volumes(struct below *below, bool is_same_name)
 {
-  return has_magic(&opened_start) ? begins_with(below, &opened_start) : below->len == served_len;
+  if (!has_magic(&opened_start))
+    return is_same_name || below->len == served_len ? SAME : OTHER;
+  return is_same_name ? compare_uuid(below, &opened_start) : compare_start(below, &opened_start);
 }
 
 /* Whether this connection is served; reports why not. */
 static bool is_served(struct connection *connection)
 {
   pthread_mutex_lock(&lock);
-  const bool is_same = has_volume(connection);
+  const bool is_same_name = has_volume(connection);
   pthread_mutex_unlock(&lock);
-  if (is_same || has_same_image(&connection->below))
-    return true;
-  nbdkit_error("luksrd: this server has opened another export, and serves no second one");
-  return false;
+  const enum likeness likeness = compare_volumes(&connection->below, is_same_name);
+  if (likeness == UNREAD)
+    nbdkit_error("luksrd: comparing the header with that of the open volume: %s", strerror(errno));
+  else if (likeness == OTHER && is_same_name)
+    nbdkit_error("luksrd: the export has another volume than the one that is open");
+  else if (likeness == OTHER)
+    nbdkit_error("luksrd: this server has opened another export, and serves no second one");
+  return likeness == SAME;
 }
 
 static int prepare(nbdkit_next *next, void *handle, int readonly)

@@ -41,9 +41,9 @@ static void unload(void)
 
 static int config(const char *key, const char *value)
 {
-  if (strcmp(key, "file") == 0)
-    return take_name(key, value, &file);
-  const int taken = take_parameter(&parameters, key, value);
+  const bool is_file = strcmp(key, "file") == 0;
+  const int taken =
+      is_file ? take_name(key, value, &file) : take_parameter(&parameters, key, value);
   if (taken == 0)
     return 0;
   if (taken > 0)

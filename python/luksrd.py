@@ -357,9 +357,10 @@ class Volume(io.RawIOBase):
 
     def __init__(self, name: Path, file: io.FileIO, key: _Key) -> None:
         self._file, self._key = file, key
-        self._position, self._moving = 0, threading.Lock()
-        # one object for each read that runs
-        self._readers: set[object] = set()
+        # (a signal handler may read in the thread that it interrupts)
+        self._position, self._moving = 0, threading.RLock()
+        # one object for each read that runs, with its thread
+        self._readers: dict[object, int] = {}
         self._idle, self._is_closing = threading.Condition(), False
         #: the path of the image
         self.name = name
@@ -387,11 +388,11 @@ class Volume(io.RawIOBase):
         try:
             with self._idle:
                 self._check_open()
-                self._readers.add(reader)
+                self._readers[reader] = threading.get_ident()
             yield self._file.fileno()
         finally:
             # (first of all, since waiting for the lock may be interrupted)
-            self._readers.discard(reader)
+            self._readers.pop(reader, None)
             with self._idle:
                 if self._is_closing and not self._readers:
                     self._release()
@@ -408,16 +409,20 @@ class Volume(io.RawIOBase):
     def close(self) -> None:
         """Waits for reads that run, wipes the volume key and closes the image.
 
-        If this is interrupted, as by KeyboardInterrupt, no further read begins. The key is wiped
-        and the image closed by the read that ends last, by another `close`, or when the volume is
-        no longer used."""
+        If this is interrupted, as by KeyboardInterrupt, or called by a signal handler that
+        interrupts a read, no further read begins. The key is wiped and the image closed by the read
+        that ends last, by another `close`, or when the volume is no longer used."""
         if self.closed:
             return
         with self._idle:
             self._is_closing = True
-            while self._readers:
+            # (a read of this thread goes on only when a handler that calls this has returned)
+            own = threading.get_ident()
+            while any(thread != own for thread in list(self._readers.values())):
                 # (a read that is interrupted may end without a notice)
                 self._idle.wait(1)
+            if self._readers:
+                return
             self._release()
         super().close()
 
@@ -465,15 +470,18 @@ class Volume(io.RawIOBase):
         """Fills the buffer from the position on, or up to the end of the plaintext, and moves the
         position."""
         with self._moving:
-            got = self.pread_into(buffer, self._position)
-            self._position += got
+            # (a signal handler may move the position meanwhile: nothing is left out here)
+            at = self._position
+            got = self.pread_into(buffer, at)
+            self._position = at + got
             return got
 
     def readall(self) -> bytes:
         """The plaintext from the position to its end."""
         with self._moving:
-            rest = self.pread(max(0, self.size - self._position), self._position)
-            self._position += len(rest)
+            at = self._position
+            rest = self.pread(max(0, self.size - at), at)
+            self._position = at + len(rest)
             return rest
 
     def seek(self, offset: int, whence: int = os.SEEK_SET) -> int:

@@ -564,7 +564,8 @@ def test_close_interrupted(left, monkeypatch, step, ending):
         volume = named(VOLUME2).open()
         reading = contextlib.ExitStack()
         if step == "wait":
-            reading.enter_context(volume._reading())
+            with concurrent.futures.ThreadPoolExecutor(1) as threads:
+                threads.submit(reading.enter_context, volume._reading()).result()
             monkeypatch.setattr(volume._idle, "wait", interrupts(volume._idle.wait))
         elif step == "wipe":
             monkeypatch.setattr(volume._key, "wipe", interrupts(volume._key.wipe))
@@ -589,6 +590,46 @@ def test_close_interrupted(left, monkeypatch, step, ending):
             volume.close()
             assert volume.closed
         del volume, reading, use
+
+
+@pytest.mark.parametrize("read", [lambda volume: volume.pread(5000, 300), lambda volume: volume.read(5000)])
+def test_close_by_a_handler(left, monkeypatch, read):
+    """A close in the midst of a read of the same thread, as by a signal handler, does not wait for that read, which ends
+    as usual and then does what close() could not."""
+    with left:
+        volume, read_exactly = named(VOLUME2).open(), luksrd._read_exactly
+
+        def interrupted(*arguments):
+            volume.close()
+            with pytest.raises(ValueError):
+                volume.seek(0)
+            read_exactly(*arguments)
+
+        volume.seek(300)
+        monkeypatch.setattr(luksrd, "_read_exactly", interrupted)
+        assert read(volume) == named(VOLUME2).text[300:5300]
+        assert not any(key_of(volume)) and volume._file.closed
+        volume.close()
+        assert volume.closed
+        del volume
+
+
+def test_read_by_a_handler(left, monkeypatch):
+    """A read in the midst of a read of the same thread, as by a signal handler: the next one goes on after the latter."""
+    with left, named(VOLUME2).open() as volume:
+        read_exactly, inner = luksrd._read_exactly, []
+
+        def interrupted(*arguments):
+            read_exactly(*arguments)
+            if not inner:
+                inner.append(None)
+                inner.append(volume.read(50))
+                volume.seek(7)
+
+        monkeypatch.setattr(luksrd, "_read_exactly", interrupted)
+        text = named(VOLUME2).text
+        assert volume.read(100) == text[:100] and inner[1] == text[:50]
+        assert volume.read(100) == text[100:200]
 
 
 def test_close_in_threads(left, monkeypatch):

@@ -107,6 +107,13 @@ candidates -j 1 -s absent/state lines0 volume0
 same 'a state that cannot be written' "$(cat status) $(cat out) $(tail -n 1 err)" \
     '6  luksrd-candidates: cannot write absent/state'
 
+# the line that opens is not lost if it cannot be written
+"$sources/scripts/luksrd-candidates" -s -state lines0 volume0 >/dev/full 2>err
+same 'a full device' "$? $(cat err)" '6 luksrd-candidates: write failed; line 4: Key slot 0 opens the volume.'
+same 'the lines before it' "$(cat ./-state)" 3
+"$sources/scripts/luksrd-candidates" lines0 volume0 >&- 2>err
+same 'a closed output' "$? $(cat err)" '6 luksrd-candidates: write failed; line 4: Key slot 0 opens the volume.'
+
 # what luksrd refuses ends the run with its message; so do wrong arguments
 candidates lines0 absent
 gives 'a missing image' 4 '' 'luksrd: cannot open absent'
@@ -126,6 +133,23 @@ for wrong in '' lines0 '-j 0 lines0 volume0' '-j two lines0 volume0' '-x lines0 
     gives "arguments '$wrong'" 1 '' \
         'luksrd-candidates: usage: luksrd-candidates [-j N] [-s STATE] CANDIDATES [OPTION ..] IMAGE' 0
 done
+
+# a read of the candidates that fails: no line is tried twice, and none counts as done that was not tried
+: >runs
+strace -qq -o calls -P "$work/lines0" -e trace=read -e inject=read:error=EIO:when=3 \
+    "$sources/scripts/luksrd-candidates" -j 1 -s broken "$work/lines0" volume0 >out 2>err
+echo $? >status
+gives 'a failed read of the third line' 4 '' 'luksrd-candidates: cannot read the candidates'
+same 'lines before it that are done' "$(cat broken)" 2
+candidates -j 1 -s broken lines0 volume0
+gives 'the rest after a failed read' 0 'Line 4: Key slot 0 opens the volume.' '' 2
+: >runs
+strace -qq -o calls -P "$work/lines0" -e trace=read -e inject=read:error=EIO:when=5 \
+    "$sources/scripts/luksrd-candidates" -j 4 "$work/lines0" volume0 >out 2>err
+echo $? >status
+gives 'a failed read behind the line that opens' 0 'Line 4: Key slot 0 opens the volume.' ''
+candidates /proc/self/mem volume0
+gives 'a failed read of the first line' 4 '' 'luksrd-candidates: cannot read the candidates' 0
 
 # no line is an argument, and each is written to a pipe alone; others cannot enter the folder of all files but STATE
 strace -f -y -s 200 -e trace=execve,write,openat,mkdir -o calls "$sources/scripts/luksrd-candidates" -j 2 -s state2 \

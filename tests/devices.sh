@@ -176,11 +176,13 @@ else
     skip 'a file of another file system with the same number' 'no file system can be mounted here'
 fi
 
-# an empty /dev: neither standard input nor standard output can be looked at, and there is no /dev/null
-# bare ARGUMENT..: a run there
+# an empty /dev: it has neither /dev/null nor names of standard input and output. An empty /proc: nothing tells what these
+# two are
+# bare ARGUMENT..: a run in an empty folder of this name
+folder=dev
 bare() {
     # shellcheck disable=SC2016
-    in_namespace bash -c 'mount -t tmpfs none /dev && exec "$0" "$@"' "$program" "$@" <in >out 2>err
+    in_namespace bash -c 'mount -t tmpfs none "/$1" && shift && exec "$0" "$@"' "$program" "$folder" "$@" <in >out 2>err
     echo $? >status
 }
 if declare -F in_namespace >/dev/null; then
@@ -197,6 +199,17 @@ if declare -F in_namespace >/dev/null; then
     expect 'no standard input in an empty /dev' 0 "$plain" ''
     bare luksCat --key-file pass missing
     expect 'a missing image in an empty /dev' 4 '' 'luksrd: cannot open missing'
+    cp volume onto
+    # shellcheck disable=SC2016
+    in_namespace bash -c 'mount -t tmpfs none /dev && exec "$0" luksCat --key-file pass onto' "$program" 1<>onto 2>err
+    echo $? >status
+    : >out
+    expect 'an image onto itself in an empty /dev' 4 '' 'luksrd: cannot open onto'
+    same 'an image onto itself in an empty /dev: it stays' "$(cmp onto volume 2>&1)" ''
+    folder=proc
+    cp volume in
+    bare luksCat --key-file pass -
+    expect 'an image from standard input in an empty /proc' 0 "$plain" ''
 else
     skip 'an empty /dev' 'no file system can be mounted here'
 fi

@@ -83,4 +83,57 @@ expect 'the installed program' 0 "$(hex "$sources/sample/plain.txt")" ''
 make -s -C "$sources" uninstall DESTDIR="$work/a folder" PREFIX=/usr PROGRAM="$program" >log
 same 'what is left of it' "$(find 'a folder' -type f)" ''
 
+# installs ARGUMENT..: make, many commands at once, with all that can be installed, of which any file will do here, and
+# a dpkg-query that knows the files in `owned`
+mkdir tools
+cat >tools/dpkg-query <<TEXT
+#!/bin/sh
+grep -qxF "\$2" '$work/owned' && echo "a-package: \$2"
+TEXT
+chmod +x tools/dpkg-query
+mkdir made
+for file in audit library shared v3 plugin filter; do cp "$program" made/$file; done
+installs() {
+    PATH=$work/tools:$PATH make -s -j 8 -C "$sources" PROGRAM="$program" AUDIT="$work/made/audit" \
+        LIBRARY="$work/made/library" SHARED="$work/made/shared" SHARED_V3="$work/made/v3" \
+        PLUGIN="$work/made/plugin" FILTER="$work/made/filter" "$@" 2>&1
+}
+: >owned
+same 'a PREFIX with a blank' "$(installs install PREFIX="$work/a prefix")" ''
+same 'what is outside it' "$(find . -newer owned -type f ! -path './a prefix/*')" ''
+(cd 'a prefix' && find . -type f -o -type l) | LC_ALL=C sort >all
+same 'what is in it' "$(grep -vE '^\./(share/|lib/(glibc-hwcaps/|pkgconfig/|libluksrd\.so\.))' all)" './bin/luksrd
+./bin/luksrd-audit
+./bin/luksrd-candidates
+./bin/luksrd-lvm
+./include/luksrd.h
+./lib/libluksrd.a
+./lib/libluksrd.so
+./lib/nbdkit/filters/nbdkit-luksrd-filter.so
+./lib/nbdkit/plugins/nbdkit-luksrd-plugin.so
+./lib/python3/dist-packages/luksrd.py'
+# a package has one of these files: nothing is installed; and what packages have stays
+sed "s|^\.|$work/a prefix|" all >owned
+same "uninstalling packages' files" "$(installs uninstall PREFIX="$work/a prefix/"; cd 'a prefix' &&
+    find . -type f -o -type l | LC_ALL=C sort)" "$(cat all)"
+for file in bin/luksrd bin/luksrd-audit include/luksrd.h lib/nbdkit/plugins/nbdkit-luksrd-plugin.so \
+    lib/nbdkit/filters/nbdkit-luksrd-filter.so lib/python3/dist-packages/luksrd.py; do
+    echo "$work/nothing/$file" >owned
+    same "a package has $file" "$(installs install PREFIX="$work/nothing/" | grep -v '^make'; find nothing -type f)" \
+        "the package a-package has $work/nothing//$file: run apt-get remove a-package, or give a PREFIX"
+done
+: >owned
+same 'a folder of nbdkit that cannot be made' "$(installs install PREFIX="$work/nothing" FILTERS=/dev/null/filters |
+    grep -v '^make\|^install'; find nothing -type f)" '/dev/null/filters cannot be written to: nothing is installed'
+same 'no folder of nbdkit' "$(installs install PREFIX="$work/nothing" PLUGINS= | grep -v ^make; find nothing -type f)" \
+    "nbdkit's folder is not known: run apt-get install nbdkit-plugin-dev pkg-config"
+# what Python makes of the module goes with it; a file whose name is that of the folder up to the blank stays
+mkdir 'a prefix/lib/python3/dist-packages/__pycache__'
+: >'a prefix/lib/python3/dist-packages/__pycache__/luksrd.cpython-311.pyc'
+: >a
+same 'uninstalling' "$(installs uninstall PREFIX="$work/a prefix" >log; find a 'a prefix' -type f -o -type l)" a
+ln -s /etc/alternatives/luksrd 'a prefix/bin/luksrd'
+same "a link of update-alternatives" "$(installs install PREFIX="$work/a prefix" | grep -v ^make)" \
+    "the package luksrd has $work/a prefix/bin/luksrd: run apt-get remove luksrd, or give a PREFIX"
+
 finish

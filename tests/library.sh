@@ -263,7 +263,8 @@ luksrd_decrypt: enough, no part of a key
 luksrd_decrypt, one sector: enough, no part of a key
 luksrd_decrypt, a part of a sector: enough, no part of a key
 a copy: enough, a part of a key
-a copy, luksrd_wipe_stack: enough, no part of a key'
+a copy, luksrd_wipe_stack: enough, no part of a key
+a copy nearby, luksrd_wipe_stack: enough, no part of a key'
 for processor in "${processors[@]}"; do
     for volume in xts essiv plain-iv nested; do
         same "the stack, $volume, $processor" \

@@ -27,7 +27,8 @@ mkdir credentials libraries
 ln -s "$shared" libraries/libluksrd.so.2
 folder=run/$(setting RuntimeDirectory)
 mkdir -p "$folder"
-read -ra command <<<"$(setting ExecStart)"
+same 'a dollar sign in a name stays' "$(setting ExecStart | cut -c 1)" :
+read -ra command <<<"$(setting ExecStart | sed 's/^://')"
 read -ra after <<<"$(setting ExecStartPost)"
 same 'the credential' "$(setting LoadCredential)" 'passphrase:/etc/luksrd/srv-disk.img.passphrase'
 # started PASSPHRASE: what it starts, with this passphrase; its status

@@ -147,6 +147,35 @@ static uint32_t leave_and_wipe(struct calls *calls)
   return code;
 }
 
+/* The same in a frame that is as short as that of luksrd_wipe_stack's own functions. */
+static __attribute__((noinline)) uint32_t leave_nearby(struct calls *calls)
+{
+  volatile uint8_t copy[40];
+  for (size_t i = 0; i < sizeof copy; i++)
+    copy[i] = calls->volume.key[i % PART] | 1;
+  return copy[0] & 0;
+}
+
+/* Whether the bytes right below the caller's frame are zeros: the thread's end writes over them. */
+static inline __attribute__((always_inline)) bool is_wiped_nearby(void)
+{
+  const volatile uint8_t *top;
+  __asm__ volatile("movq %%rsp, %0" : "=r"(top));
+  uint8_t others = 0;
+  for (int i = 1; i <= 128; i++)
+    others |= top[-i];
+  return others == 0;
+}
+
+static uint32_t leave_nearby_and_wipe(struct calls *calls)
+{
+  const uint32_t code = leave_nearby(calls);
+  if (is_wiped_nearby())
+    return 1;
+  luksrd_wipe_stack();
+  return is_wiped_nearby() ? code : 1;
+}
+
 /* A call by a thread, the code that it has to have, the bytes of stack that it may need, and where
  * the frame of its caller is. */
 struct call {
@@ -179,6 +208,7 @@ static struct call calls_of_each[] = {
   { "luksrd_decrypt, a part of a sector", decrypt_a_part, LUKSRD_BAD_RANGE, READ, false, 0, 0 },
   { "a copy", leave_key, 0, READ, false, 0, 0 },
   { "a copy, luksrd_wipe_stack", leave_and_wipe, 0, WIPE, false, 0, 0 },
+  { "a copy nearby, luksrd_wipe_stack", leave_nearby_and_wipe, 0, WIPE, false, 0, 0 },
 };
 
 /* ---- the parts of secrets */

@@ -5,11 +5,11 @@ use Rattle.std.specs.Prelude.{if◌then◌else◌, is_none, option_and_then, sli
 use Rattle.std.proofs.lemmas.Bool.Decides.{nat_tests}
 use Rattle.std.proofs.lemmas.Bool.{ltb-false, not-false}
 use Rattle.std.proofs.lemmas.Option.{same_Some}
-use Rattle.luks_area.specs.Area.{max_loaded_len}
+use Rattle.luks_header_area.specs.Area.{max_loaded_len}
 use Rattle.luks_cipher.specs.declared.mode.Mode.{Mode}
 use Rattle.luks_kdf.specs.declared.hash.Hash.{Hash}
 use Rattle.luks_verdict.specs.Rule.{exceeds, iterations_out_of_range, is_in_range, area_out_of_range}
-use Rattle.luks_verdict.specs.Rule.{stripes_out_of_range, need_of}
+use Rattle.luks_verdict.specs.Rule.{stripes_out_of_range, key_material_len}
 use Rattle.luks_verdict.specs.Segment.{segment_from, segment_of_all}
 use Rattle.luks_verdict.specs.Slot.{material_end, verdict_by, verdict_kind_of, slot_from}
 use Rattle.luks_verdict.proofs.MadeLemmas.{are_in_range, digest_there, mapped, of_usable, parts_made, refused_or-err}
@@ -107,8 +107,8 @@ pub record IsOf (header : Header1) (usable : Slot) : Type 0 where
 
 -- key material that is in range ends at or before the payload's start, if that is known, and can be loaded
 area_in_range : (header : Header1) (slot : StoredSlot) → area1_out_of_range header slot ≡ false
-    → (exceeds (payload1_start header) (512 * slot.offset + need_of header.key_bytes slot.stripes) ≡ false)
-    × (512 * slot.offset + need_of header.key_bytes slot.stripes ≤ max_loaded_len)
+    → (exceeds (payload1_start header) (512 * slot.offset + key_material_len header.key_bytes slot.stripes) ≡ false)
+    × (512 * slot.offset + key_material_len header.key_bytes slot.stripes ≤ max_loaded_len)
 unfolding area1_out_of_range area_out_of_range
 area_in_range header slot is = (grind (arith, nat_tests), grind (arith, nat_tests))
 

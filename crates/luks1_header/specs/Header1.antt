@@ -1,6 +1,6 @@
 -- The header of LUKS1 (LUKS1 On-Disk Format Specification 1.2.3, section 2.1 and figures 1 to 3).
 use Rattle.std.specs.Prelude.{ℕ, ◌+◌, ◌*◌, ◌==◌, Bool, false, List, [], ◌∷◌, bytes_eq, map, if◌then◌else◌}
-use Rattle.luks_area.specs.Fields.{at, be32, text_of}
+use Rattle.luks_header_area.specs.Fields.{at, be32, text_of}
 use Rattle.luks1_header.specs.declared.header.Header1.{Header1}
 use Rattle.luks1_header.specs.declared.header.StoredSlot.{StoredSlot}
 use Rattle.luks1_header.specs.declared.header.SlotState.{SlotState}

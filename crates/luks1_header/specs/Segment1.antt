@@ -1,5 +1,6 @@
 -- Where the payload of LUKS1 is, or why it cannot be read.
-use Rattle.std.specs.Prelude.{◌*◌, ◌&&◌, ℕ, not, nat_lt, Bool, false, List, [], ◌∷◌, Option, Some, None, Result, is_none}
+use Rattle.std.specs.Prelude.{◌*◌, ◌&&◌, ℕ, not, nat_lt, Bool, false, List}
+use Rattle.std.specs.Prelude.{[], ◌∷◌, Option, Some, None, Result, is_none}
 use Rattle.luks_cipher.specs.Sector.{is_mode_key_length}
 use Rattle.luks_cipher.specs.declared.mode.Mode.{Mode}
 use Rattle.luks_verdict.specs.Segment.{refused_or, segment_from}

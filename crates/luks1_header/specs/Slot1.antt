@@ -5,7 +5,7 @@ use Rattle.luks_cipher.specs.Sector.{mode_named}
 use Rattle.luks_cipher.specs.declared.mode.Mode.{Mode}
 use Rattle.luks_kdf.specs.Hash.{hash_named}
 use Rattle.luks_kdf.specs.declared.hash.Hash.{Hash}
-use Rattle.luks_verdict.specs.Rule.{iterations_out_of_range, area_out_of_range, stripes_out_of_range, need_of}
+use Rattle.luks_verdict.specs.Rule.{iterations_out_of_range, area_out_of_range, stripes_out_of_range, key_material_len}
 use Rattle.luks_verdict.specs.Slot.{digest_from, has_no_usable_digest, slot_from, verdict_by}
 use Rattle.luks_verdict.specs.Table.{first_match}
 use Rattle.luks_verdict.specs.declared.digest.DigestParts.{DigestParts}
@@ -61,7 +61,7 @@ payload1_start header = if header.detached then None else Some (512 * header.pay
 unfoldable pub area1_out_of_range : Header1 → StoredSlot → Bool
 area1_out_of_range header slot =
     area_out_of_range header1_len (payload1_start header) (512 * slot.offset)
-    (need_of header.key_bytes slot.stripes) (need_of header.key_bytes slot.stripes)
+    (key_material_len header.key_bytes slot.stripes) (key_material_len header.key_bytes slot.stripes)
 
 -- the reasons to skip a slot that is not disabled
 abbrev pub slot_reasons1 : Header1 → Option ℕ → StoredSlot → List (Bool × SkipReason)
@@ -89,7 +89,7 @@ slot_parts1_of header slot = record {
   key_bytes = header.key_bytes;
   area_key_bytes = header.key_bytes;
   area_offset = 512 * slot.offset;
-  area_size = need_of header.key_bytes slot.stripes;
+  area_size = key_material_len header.key_bytes slot.stripes;
   area_mode = mode1_of header;
 }
 

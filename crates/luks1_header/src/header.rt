@@ -4,8 +4,8 @@ ghost use Rattle.std.specs.Prelude.{◌≡◌, length};
 ghost use Rattle.luks1_header.specs.Header1.{header1_of, is_luks1, key_slot_of, key_slots_of};
 ghost use Rattle.luks1_header.specs.Header1.{slot_state};
 
-use luks_area::field::{bytes_at, number_at, text_at};
-use luks_area::text::FixedText;
+use luks_header_area::field::{bytes_at, number_at, text_at};
+use luks_header_area::text::FixedText;
 
 /// The first bytes of a LUKS1 image: the magic bytes and the version 1.
 const MAGIC_AND_VERSION: [u8; 8] = [0x4c, 0x55, 0x4b, 0x53, 0xba, 0xbe, 0x00, 0x01];

@@ -13,7 +13,9 @@ use luks_kdf::Hash;
 use luks_verdict::bytes::HeaderBytes;
 use luks_verdict::digest::{DigestParts, KeyDigest};
 use luks_verdict::refusal::{SegmentFault, SkipReason};
-use luks_verdict::rule::{area_out_of_range, iterations_out_of_range, need, stripes_out_of_range};
+use luks_verdict::rule::{
+    area_out_of_range, iterations_out_of_range, key_material_len, stripes_out_of_range,
+};
 use luks_verdict::sector_size::SectorSize;
 use luks_verdict::segment::{Segment, SegmentParts};
 use luks_verdict::slot::{Slot, SlotParts, VerdictKind};
@@ -70,9 +72,15 @@ fn payload1_start(header: &Header1) -> Option<u64>
 fn area1_out_of_range(header: &Header1, slot: &StoredSlot) -> bool
     ensures { result ≡ area1_out_of_range header.now slot.now }
 {
-    let need = need(header.key_bytes, slot.stripes);
+    let material_len = key_material_len(header.key_bytes, slot.stripes);
     let payload = payload1_start(header);
-    area_out_of_range(HEADER_END, payload, sector_offset(slot.offset), need, need)
+    area_out_of_range(
+        HEADER_END,
+        payload,
+        sector_offset(slot.offset),
+        material_len,
+        material_len,
+    )
 }
 
 // Whether there is no usable digest, or its iterations are out of range.
@@ -151,7 +159,7 @@ fn slot1_of(alloc: Global, header: &Header1, slot: &StoredSlot) -> Result<Option
         key_bytes: header.key_bytes,
         area_key_bytes: header.key_bytes,
         area_offset: sector_offset(slot.offset),
-        area_size: need(header.key_bytes, slot.stripes),
+        area_size: key_material_len(header.key_bytes, slot.stripes),
         area_mode: header.mode(),
     };
     Ok(Slot::from_parts(parts, digest(alloc, header)?))

@@ -4,14 +4,14 @@ use Rattle.std.proofs.Common.{refl, sym, arith, append_assoc, append-nil, length
 use Rattle.std.proofs.Common.{false, ap, slice_get, mul-le-mul_right}
 use Rattle.std.specs.Int.{to_be_bytes, w32}
 use Rattle.std.specs.Option.{option_map_or}
-use Rattle.luks_area.specs.Fields.{at, be32, text_of}
+use Rattle.luks_header_area.specs.Fields.{at, be32, text_of}
 use Rattle.luks_cipher.specs.Sector.{mode_name}
 use Rattle.luks_cipher.proofs.ModeLemmas.{max_mode_key}
 use Rattle.luks_kdf.specs.Bytes.{joined}
 use Rattle.luks_kdf.specs.Hash.{hash_name}
 use Rattle.luks_kdf.specs.Pbkdf2.{derived_key}
 use Rattle.luks_kdf.proofs.Pbkdf2Lemmas.{length-derived_key}
-use Rattle.luks_verdict.specs.Rule.{need_of}
+use Rattle.luks_verdict.specs.Rule.{key_material_len}
 use Rattle.luks_seal.specs.Pieces.{padded, wrapping_number}
 use Rattle.luks_seal.proofs.FieldLemmas.{Part, part, padded_begins, length-padded, at_inside, AreParts, are_parts}
 use Rattle.luks_seal.proofs.FieldLemmas.{IsThere}
@@ -195,7 +195,7 @@ module _ (p : Seal1) (fits : AreParameters1 p) (typed : AreTyped1 p) where
   -- an area is large enough for its key material
   pub material1_fits : (slot : Slot1) → FitsSlot1 ((p.stripes - 1) * length p.key.now) slot
       → length (material1_of p slot) ≤ area_sectors_of p * 512
-  unfolding material1_of need_of
+  unfolding material1_of key_material_len
   material1_fits slot of_slot =
       let len = length-material p.hash p.key.now p.stripes slot.random.now (random_stripes1 slot of_slot)
       (p.mode, area_key1_of p slot) in
@@ -252,9 +252,9 @@ module _ (p : Seal1) (fits : AreParameters1 p) (typed : AreTyped1 p) where
     low = omega (arith, used.fits.0)
 
     -- its key material ends before the payload
-    pub ends_before : 512 * (8 + slot.number * area_sectors_of p) + need_of (length p.key.now) p.stripes
+    pub ends_before : 512 * (8 + slot.number * area_sectors_of p) + key_material_len (length p.key.now) p.stripes
         ≤ 512 * p.payload_sectors
-    unfolding need_of
+    unfolding key_material_len
     ends_before =
         let below = mul-le-mul_right {m = slot.number + 1} {n = 8} (area_sectors_of p) (omega (arith, low)) in
         omega (arith, below, fits.counts.3)

@@ -3,7 +3,7 @@
 use Rattle.std.proofs.Common.{◌≡◌, ◌∙◌, ℕ, ◌+◌, ◌*◌, true, false, length, Some, None, Ok, refl, ap, arith, le-ltb}
 use Rattle.std.proofs.Common.{List, [], ◌∷◌, get_or, bytes_eq, option_map, sym}
 use Rattle.luks_kdf.proofs.Pbkdf2Lemmas.{length-derived_key}
-use Rattle.luks_verdict.specs.Rule.{need_of}
+use Rattle.luks_verdict.specs.Rule.{key_material_len}
 use Rattle.luks_verdict.specs.Segment.{segment_from}
 use Rattle.luks_verdict.specs.Slot.{has_no_usable_digest, slot_from}
 use Rattle.luks_verdict.specs.declared.sector_size.SectorSize.TheVariants.{B512}
@@ -103,8 +103,9 @@ module _ (p : Seal1) (fits : AreParameters1 p) (typed : AreTyped1 p) where
     area_ok : area1_out_of_range (found_header p) (found_slot p slot) ≡ false
     unfolding area1_out_of_range payload1_start
     area_ok =
-        let need = need_of (length p.key.now) p.stripes in
-        area_fits 592 (512 * p.payload_sectors) (512 * (8 + slot.number * area_sectors_of p)) need need (omega arith)
+        let material_len = key_material_len (length p.key.now) p.stripes in
+        area_fits 592 (512 * p.payload_sectors) (512 * (8 + slot.number * area_sectors_of p)) material_len material_len
+        (omega arith)
         (omega arith) (ends_before p fits typed slot used) (omega (arith, fits.counts.4))
 
     no_reason : reason1_of (found_header p) None (found_slot p slot) ≡ None

@@ -10,9 +10,10 @@ use Rattle.luks_io.specs.Devices.{IfKnown, counted}
 use Rattle.luks_io.specs.Counts.{Reads}
 use Rattle.luks_io.proofs.EffectLemmas.{no_reads, reads_more}
 use Rattle.luks_io.specs.declared.counts.ReadCounts.{ReadCounts}
-use Rattle.luks_area.specs.Area.{ConsumedOnto, ConsumesUpTo, HeaderAreaModel, Loads, is_read_fault, loading_hits_end}
-use Rattle.luks_area.specs.declared.fault.HeaderFault.{HeaderFault}
-use Rattle.luks_area.specs.declared.fault.HeaderFault.TheVariants.{NotLuks, Read, Memory}
+use Rattle.luks_header_area.specs.Area.{ConsumedOnto, ConsumesUpTo, HeaderAreaModel}
+use Rattle.luks_header_area.specs.Area.{Loads, is_read_fault, loading_hits_end}
+use Rattle.luks_header_area.specs.declared.fault.HeaderFault.{HeaderFault}
+use Rattle.luks_header_area.specs.declared.fault.HeaderFault.TheVariants.{NotLuks, Read, Memory}
 use Rattle.luks2_binary.specs.Choice2.{chosen2_of, header2_of}
 use Rattle.luks2_binary.specs.ReadLen2.{header2_read_len, probe2_len}
 use Rattle.luks2_binary.specs.Reading2.{AnsweredFor, IsPrefixOf, LoadedFor, LoadedPrefixOf, LoadsMore, OfEach, finished}

@@ -6,9 +6,9 @@ use Rattle.std.specs.Bool.{then_some}
 use Rattle.std.specs.List.{list_any, find}
 use Rattle.std.proofs.lemmas.Bool.{and_parts, leb-true, eqb-true, le-leb, lt-leb, ne_eqb}
 use Rattle.std.proofs.lemmas.Bool.Decides.{nat_tests}
-use Rattle.luks_area.specs.Area.{HeaderAreaModel}
-use Rattle.luks_area.specs.Fields.{at}
-use Rattle.luks_area.proofs.FieldLemmas.{at_prefix}
+use Rattle.luks_header_area.specs.Area.{HeaderAreaModel}
+use Rattle.luks_header_area.specs.Fields.{at}
+use Rattle.luks_header_area.proofs.FieldLemmas.{at_prefix}
 use Rattle.luks2_binary.specs.Choice2.{binary_at, fits, is_binary_of, is_valid, size_at, found_at, is_tried}
 use Rattle.luks2_binary.specs.Choice2.{first_valid}
 use Rattle.luks2_binary.specs.ReadLen2.{probe_end, max_of, search_len}

@@ -3,9 +3,9 @@ use Rattle.std.specs.Prelude.{◌≡◌, ◌<◌, ◌≤◌, ◌⊎◌, ◌&&◌
 use Rattle.std.specs.Prelude.{None, Result, Ok, Err, drop, length, max, take}
 use Rattle.luks_io.specs.Counts.{Reads}
 use Rattle.luks_io.specs.declared.counts.ReadCounts.{ReadCounts}
-use Rattle.luks_area.specs.Area.{HeaderAreaModel}
-use Rattle.luks_area.specs.declared.fault.HeaderFault.{HeaderFault}
-use Rattle.luks_area.specs.declared.fault.HeaderFault.TheVariants.{NotLuks, Cut, Json, Read, Memory}
+use Rattle.luks_header_area.specs.Area.{HeaderAreaModel}
+use Rattle.luks_header_area.specs.declared.fault.HeaderFault.{HeaderFault}
+use Rattle.luks_header_area.specs.declared.fault.HeaderFault.TheVariants.{NotLuks, Cut, Json, Read, Memory}
 use Rattle.luks2_binary.specs.declared.header.Header2.{Header2}
 use Rattle.luks2_binary.specs.Choice2.{header2_of, is_valid, size_at}
 use Rattle.luks2_binary.specs.ReadLen2.{header2_read_len, probe2_len}

@@ -1,7 +1,7 @@
 //! Finding the header of an image.
 
 ghost use Rattle.std.specs.Prelude.{◌≡◌, ◌≤◌, length, IfOk, IfSome, option_and_then};
-ghost use Rattle.luks_area.specs.Area.{is_read_fault, max_loaded_len};
+ghost use Rattle.luks_header_area.specs.Area.{is_read_fault, max_loaded_len};
 ghost use Rattle.luks2_binary.specs.Choice2.{chosen2_of, found_at, first_valid};
 ghost use Rattle.luks2_binary.specs.ReadLen2.{probe2_len, probe_end, search_len};
 ghost use Rattle.luks2_binary.specs.Reading2.{AnsweredFor, LoadsMore, OfEach, finished, valid_size};
@@ -10,8 +10,8 @@ ghost use Rattle.luks2_binary.specs.Reading2.{without_value};
 use crate::choice::{valid_header, with_valid_primary};
 use crate::header::{BINARY_LEN, Header2, HeaderRole, PairFinding};
 use crate::validity::{fitting_size, is_valid, offsets};
-use luks_area::area::HeaderArea;
-use luks_area::fault::HeaderFault;
+use luks_header_area::area::HeaderArea;
+use luks_header_area::fault::HeaderFault;
 use luks_io::source::Source;
 
 // Loads `end` bytes of the image in all, if it has them. The source is not read again after EOF.

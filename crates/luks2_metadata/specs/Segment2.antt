@@ -1,6 +1,7 @@
 -- Where the payload of LUKS2 is, or why it cannot be read (LUKS2 On-Disk Format Specification 1.1, section 3, the
 -- segments object and the config object).
-use Rattle.std.specs.Prelude.{ℕ, ◌%◌, ◌==◌, ◌&&◌, ◌||◌, not, nat_lt, Bool, true, false, List, [], ◌∷◌, Option, Some, None}
+use Rattle.std.specs.Prelude.{ℕ, ◌%◌, ◌==◌, ◌&&◌, ◌||◌, not, nat_lt, Bool}
+use Rattle.std.specs.Prelude.{true, false, List, [], ◌∷◌, Option, Some, None}
 use Rattle.std.specs.Prelude.{Result, codes, is_none, is_some, if◌then◌else◌, option_and_then, option_map, unwrap_or}
 use Rattle.std.specs.Result.{result_ok}
 use Rattle.luks_cipher.specs.declared.mode.Mode.{Mode}

@@ -3,7 +3,7 @@ use Rattle.std.specs.Prelude.{ℕ, ◌&&◌, ◌||◌, not, nat_le, Bool, List, 
 use Rattle.std.specs.Prelude.{is_some, if◌then◌else◌, option_and_then, option_map, unwrap_or}
 use Rattle.luks_cipher.specs.declared.mode.Mode.{Mode}
 use Rattle.luks_kdf.specs.declared.hash.Hash.{Hash}
-use Rattle.luks_verdict.specs.Rule.{iterations_out_of_range, area_out_of_range, stripes_out_of_range, need_of}
+use Rattle.luks_verdict.specs.Rule.{iterations_out_of_range, area_out_of_range, stripes_out_of_range, key_material_len}
 use Rattle.luks_verdict.specs.Slot.{has_no_usable_digest, slot_from, verdict_by}
 use Rattle.luks_verdict.specs.Table.{first_match}
 use Rattle.luks_verdict.specs.declared.refusal.SkipReason.{SkipReason}
@@ -128,7 +128,7 @@ are_key_sizes payload_mode slot =
 unfoldable pub area2_out_of_range : ℕ → Option ℕ → Data → Bool
 area2_out_of_range end payload slot =
     area_out_of_range end payload (area_offset_of slot) (area_size_of slot)
-    (need_of (key_size_of slot) (stripe_count_of slot))
+    (key_material_len (key_size_of slot) (stripe_count_of slot))
 
 -- the reasons to skip the slot of this number, in a header with these bounds
 abbrev pub slot_reasons : Data → Bounds → Option ℕ → ℕ → Data → List (Bool × SkipReason)

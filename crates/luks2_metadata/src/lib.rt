@@ -5,5 +5,5 @@
 
 pub mod bounds;
 pub mod digest;
-pub mod payload;
+pub mod segment;
 pub mod slot;

@@ -17,12 +17,14 @@ mod members;
 
 use crate::bounds::Bounds;
 use crate::digest::{digest_for, digest_iterations_for};
-use crate::payload::{payload_mode, payload2_start};
+use crate::segment::{payload_mode, payload2_start};
 use luks_cipher::Mode;
 use luks_kdf::Hash;
 use luks_verdict::bytes::HeaderBytes;
 use luks_verdict::refusal::SkipReason;
-use luks_verdict::rule::{area_out_of_range, iterations_out_of_range, need, stripes_out_of_range};
+use luks_verdict::rule::{
+    area_out_of_range, iterations_out_of_range, key_material_len, stripes_out_of_range,
+};
 use luks_verdict::slot::{Slot, SlotParts, VerdictKind};
 use luks2_json::derivation::{hash_member, iterations_in, salt_in};
 use luks2_json::encryption::{encryption_mode, is_length_for};
@@ -155,13 +157,13 @@ fn area2_out_of_range(header_end: u64, payload: Option<u64>, slot: &Value) -> bo
     requires few { stripe_count_of (data_of slot.now) ≤ 4000 }
     ensures { result ≡ area2_out_of_range header_end payload (data_of slot.now) }
 {
-    let need = need(key_size(slot) as u32, stripes(slot) as u32);
+    let material_len = key_material_len(key_size(slot) as u32, stripes(slot) as u32);
     area_out_of_range(
         header_end,
         payload,
         area_offset(slot),
         area_size(slot),
-        need,
+        material_len,
     )
 }
 

@@ -4,7 +4,7 @@ use Rattle.std.proofs.Common.{◌≡◌, ◌∙◌, ◌==◌, ℕ, zero, suc, �
 use Rattle.std.proofs.Common.{None, refl, sym, ap, arith, length-append, take_at, ◌≢◌, ◌≤◌, ◌++◌, replicate, Ok, true}
 use Rattle.std.proofs.Common.{false, get_or, slice_index, Bool, subst, le-ltb, ne_eqb, ◌∷◌, one-add}
 use Rattle.std.specs.Option.{option_map_or}
-use Rattle.luks_area.specs.Fields.{at, be64, text_of}
+use Rattle.luks_header_area.specs.Fields.{at, be64, text_of}
 use Rattle.luks_kdf.specs.Bytes.{joined}
 use Rattle.luks_verdict.proofs.SectorLemmas.{sector_blocks}
 use Rattle.luks_verdict.specs.SectorSize.{bytes_of}
@@ -19,7 +19,7 @@ use Rattle.luks2_seal.specs.Ranges2.{area_size, area_size_at, area_start, ArePar
 use Rattle.luks2_seal.specs.Ranges2.{AreTyped2, Seal2, Slot2, passphrases2_of}
 use Rattle.luks2_seal.proofs.Header2.{length-header, primary_start, secondary_start, IsReadAt, read_there}
 use Rattle.luks2_seal.proofs.Bounds.{short_key}
-use Rattle.luks2_seal.proofs.Verdicts2.{need_fits, IsUsed, bounds_of, of_key, parts_of}
+use Rattle.luks2_seal.proofs.Verdicts2.{material_fits, IsUsed, bounds_of, of_key, parts_of}
 use Rattle.luks2_seal.proofs.TextLemmas.{fixed_size}
 use Rattle.luks2_seal.proofs.Verdicts2.{segment_is, segment_read, slot_digest, slot_is, slot_parts, slot_usable}
 use Rattle.std.specs.Int.{to_be_bytes, w64}
@@ -80,7 +80,7 @@ module _ (p : Seal2) (fits : AreParameters2 p) (json : FitsJson p) (back : Reads
   material2_fits slot of_slot =
       let len = length-material slot.af_hash p.key.now slot.stripes slot.random.now (random_stripes2 slot of_slot)
       (p.area_mode, area_key_of p slot) in
-      omega (arith, len, need_fits (length p.key.now) slot.stripes)
+      omega (arith, len, material_fits (length p.key.now) slot.stripes)
 
   length-area_at : (n : ℕ) → length (area_at p n) ≡ area_size_at p n
   unfolding area_at area_of

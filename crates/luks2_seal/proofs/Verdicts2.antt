@@ -43,7 +43,7 @@ use Rattle.luks2_metadata.specs.Slot2.{af_hash_of, area_mode_of, has_members, is
 use Rattle.luks2_metadata.specs.Slot2.{kdf_hash_of, priority_of, slot_parts2_of, are_key_sizes, has_unknown_hash}
 use Rattle.luks2_metadata.specs.Slot2.{area2_out_of_range, iterations_of_slot, reason2_of, slot2_of}
 use Rattle.luks2_metadata.specs.Slot2.{stripe_count_of, verdict2_at, verdict2_of}
-use Rattle.luks_verdict.specs.Rule.{iterations_out_of_range, stripes_out_of_range, need_of}
+use Rattle.luks_verdict.specs.Rule.{iterations_out_of_range, stripes_out_of_range, key_material_len}
 use Rattle.luks_verdict.specs.Slot.{has_no_usable_digest}
 use Rattle.luks_verdict.specs.declared.slot.Slot.{Slot}
 use Rattle.luks_verdict.specs.declared.slot.Verdict.TheVariants.{Usable}
@@ -92,9 +92,9 @@ parts_of p slot = record {
 }
 
 -- an area is large enough for its key material
-pub need_fits : (key stripes : ℕ) → need_of key stripes ≤ area_size key stripes
-unfolding need_of
-need_fits key stripes = omega arith
+pub material_fits : (key stripes : ℕ) → key_material_len key stripes ≤ area_size key stripes
+unfolding key_material_len
+material_fits key stripes = omega arith
 
 module _ (p : Seal2) (fits : AreParameters2 p) (typed : AreTyped2 p) where
   -- ---- the segment: its members
@@ -306,11 +306,11 @@ module _ (p : Seal2) (fits : AreParameters2 p) (typed : AreTyped2 p) where
     unfolding area2_out_of_range keyslot_object area_object af_object integer_member segment_is segment_by
     area_ok =
         let payload = segment2-ok (metadata_of p) (bounds_of p) segment_is segment_read in
-        let need = need_fits (length p.key.now) slot.stripes in
+        let material_len = material_fits (length p.key.now) slot.stripes in
         rw (payload.start refl, area_offset_is, area_size_is)
         (area_fits (2 * p.hdr_size) p.offset (area_start p slot.number) (area_size (length p.key.now) slot.stripes)
-        (need_of (length p.key.now) slot.stripes) (area_after_headers p slot.number) need
-        (omega (arith, ends_before, need)) fits.offset.1)
+        (key_material_len (length p.key.now) slot.stripes) (area_after_headers p slot.number) material_len
+        (omega (arith, ends_before, material_len)) fits.offset.1)
 
     -- no reason to skip the slot holds
     no_reasons : reason2_of (metadata_of p) (bounds_of p) None slot.number (keyslot_object p slot) ≡ None

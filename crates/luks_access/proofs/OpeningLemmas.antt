@@ -2,9 +2,9 @@
 use Rattle.std.proofs.Common.{◌≡◌, ℕ, inl, inr, List, Option, Result, Ok, Err, ◌∙◌, ap, sym, refl, subst, take, drop}
 use Rattle.std.proofs.Common.{length, Bool, true, false}
 use Rattle.std.specs.Prelude.{nat_lt, if◌then◌else◌}
-use Rattle.luks_area.specs.declared.fault.HeaderFault.TheVariants.{Read as HeaderRead, Memory as HeaderMemory}
+use Rattle.luks_header_area.specs.declared.fault.HeaderFault.TheVariants.{Read as HeaderRead, Memory as HeaderMemory}
 use Rattle.luks_header.specs.Header.{header_read_len}
-use Rattle.luks_open.specs.Opening.{key_material_end}
+use Rattle.luks_key_slots.specs.Opening.{key_material_end}
 use Rattle.luks_report.specs.Faults.{message_at_end}
 use Rattle.luks_report.specs.declared.message.Message.{Message}
 use Rattle.luks_report.specs.declared.message.Message.TheVariants.{Done, KeyFileLength, OutOfMemory, ReadFailed}
@@ -24,8 +24,8 @@ use Rattle.luks_runs.specs.declared.unlocked.UnlockedVolume.{UnlockedVolume}
 use Rattle.luks_verdict.specs.declared.segment.Segment.{Segment}
 use Rattle.luks_payload.proofs.SectorLemmas.{by_ending}
 use Rattle.luks_payload.specs.Plain.{ending_of, ending_of_len, bytes_from_start, sector_len}
-use Rattle.luks_payload.specs.declared.fault.VolumeFault.{VolumeFault}
-use Rattle.luks_payload.specs.declared.fault.VolumeFault.TheVariants.{CutBeforePayload as VolumeCutBeforePayload}
+use Rattle.luks_payload.specs.declared.fault.PayloadFault.{PayloadFault}
+use Rattle.luks_payload.specs.declared.fault.PayloadFault.TheVariants.{CutBeforePayload as VolumeCutBeforePayload}
 use Rattle.luks_payload.specs.declared.state.Step.{Step}
 use Rattle.luks_payload.specs.declared.state.Step.TheVariants.{End}
 use Rattle.luks_access.specs.Opens.{HasPlaintext, Opens, OpensVolume, Refuses, RefusesVolume, UnlocksVolume}
@@ -113,7 +113,7 @@ module _ (slots : SlotChoice) (header image pass : List ℕ) (v : UnlockedVolume
       (ap (λ (out : Outcome). out.output) cat, ap (λ (out : Outcome). out.message) cat)
 
 -- if the message at a payload's end is `Done`, the payload is whole
-abbrev WholeIfDone : Result Step VolumeFault → Type 0
+abbrev WholeIfDone : Result Step PayloadFault → Type 0
 WholeIfDone r = message_at_end r ≡ Done → r ≡ Ok End
 
 ends_whole : (s : Segment) (image : List ℕ) → WholeIfDone (ending_of s image)

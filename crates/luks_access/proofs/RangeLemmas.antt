@@ -21,13 +21,14 @@ use Rattle.luks_runs.proofs.PayloadLemmas.{joined_length, plain_len, sector_size
 use Rattle.luks_access.proofs.FailingLemmas.{fails_more, few_sectors, some_sector, step_fails}
 use Rattle.luks_access.specs.Steps.{IsStep}
 use Rattle.luks_access.specs.declared.step.ReadStep.{ReadStep}
-use Rattle.luks_access.specs.Sectors.{AreStored, FailsInRange, FailsWithin, IsAt, IsRangeOf, ReadsRange, plain_at, plain_in}
+use Rattle.luks_access.specs.Sectors.{AreStored, FailsInRange, FailsWithin, IsAt}
+use Rattle.luks_access.specs.Sectors.{IsRangeOf, ReadsRange, plain_at, plain_in}
 use Rattle.luks_access.specs.Sectors.{plaintext_len, range_fault, sector_in}
 use Rattle.luks_access.specs.declared.image.ReadAtFault.{ReadAtFault}
 use Rattle.luks_access.specs.declared.image.ReadAtFault.TheVariants.{Failed, Ended}
 use Rattle.luks_access.specs.declared.fault.RangeFault.{RangeFault}
 use Rattle.luks_access.specs.declared.fault.RangeFault.TheVariants.{PastEnd, Read, Shorter}
-use Rattle.luks_area.proofs.FieldLemmas.{at_prefix}
+use Rattle.luks_header_area.proofs.FieldLemmas.{at_prefix}
 
 -- ---- joined pieces
 

@@ -1,10 +1,11 @@
 -- Steps that are done one after the other.
-use Rattle.std.proofs.Common.{◌≡◌, ℕ, ◌+◌, ◌-◌, ◌*◌, ◌/◌, ◌%◌, ◌<◌, ◌≤◌, ◌++◌, List, [], ◌∷◌, None, false, length, take, drop}
+use Rattle.std.proofs.Common.{◌≡◌, ℕ, ◌+◌, ◌-◌, ◌*◌, ◌/◌, ◌%◌, ◌<◌, ◌≤◌, ◌++◌}
+use Rattle.std.proofs.Common.{List, [], ◌∷◌, None, false, length, take, drop}
 use Rattle.std.proofs.Common.{arith, ap, refl, sym, ◌∙◌, inl, inr}
 use Rattle.std.proofs.Math.Nat.{add-mul-mod_self_right, mod-add-div', mod-eq_of_lt}
 use Rattle.std.proofs.Math.Seq.{take-add}
 use Rattle.std.proofs.lemmas.List.{drop-drop}
-use Rattle.luks_area.proofs.FieldLemmas.{at_prefix}
+use Rattle.luks_header_area.proofs.FieldLemmas.{at_prefix}
 use Rattle.luks_cipher.specs.Sector.{Cipher}
 use Rattle.luks_verdict.specs.declared.segment.Segment.{Segment}
 use Rattle.luks_payload.specs.Plain.{plain_of, sector_len}
@@ -80,8 +81,10 @@ module _ (s : Segment) (cipher : Cipher) (image : List ℕ) (len : ℕ) where
       let n = done.step.count in
       let few = is.most (is.skip ∙ start) in
       elim is.last [
-        | inl all ↦ (let none = none_left (offset + n) (count - n) rest after (omega (arith, all)) in omega (arith, none))
-        | inr whole ↦ (let one = one_left (offset + n) (count - n) rest after whole (omega (arith, few, is.few, is.some))
+        | inl all ↦ (let none = none_left (offset + n) (count - n) rest after (omega (arith, all)) in
+            omega (arith, none))
+        | inr whole ↦ (let one = one_left (offset + n) (count - n) rest after whole
+            (omega (arith, few, is.few, is.some))
             in omega (arith, one))
       ]
 
@@ -92,6 +95,7 @@ module _ (s : Segment) (cipher : Cipher) (image : List ℕ) (len : ℕ) where
   few_steps offset count (done ∷ rest) (is, over, after) =
       let n = done.step.count in
       elim is.last [
-        | inl all ↦ (let none = none_left (offset + n) (count - n) rest after (omega (arith, all)) in omega (arith, none))
+        | inl all ↦ (let none = none_left (offset + n) (count - n) rest after (omega (arith, all)) in
+            omega (arith, none))
         | inr whole ↦ (let two = two_left (offset + n) (count - n) rest after whole in omega (arith, two))
       ]

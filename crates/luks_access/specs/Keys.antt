@@ -2,15 +2,15 @@
 use Rattle.std.specs.Prelude.{ℕ, List, MatchBool, Option, Result, Ok, Err, if◌then◌else◌, length}
 use Rattle.luks_io.specs.Devices.{ConsumedAtMost, ConsumedExactly}
 use Rattle.luks_cipher.specs.Sector.{is_mode_key_length}
-use Rattle.luks_area.specs.declared.fault.HeaderFault.{HeaderFault}
+use Rattle.luks_header_area.specs.declared.fault.HeaderFault.{HeaderFault}
 use Rattle.luks_verdict.specs.declared.refusal.SegmentFault.{SegmentFault}
 use Rattle.luks_verdict.specs.declared.segment.Segment.{Segment}
 use Rattle.luks_header.specs.Header.{header_read_len}
 use Rattle.luks_header.specs.HeaderSegment.{segment_of}
 use Rattle.luks_header.specs.declared.header.Header.{Header}
-use Rattle.luks_open.specs.VolumeKey.{compared, key_digest_of}
-use Rattle.luks_open.specs.declared.volume_key.KeyCheck.{KeyCheck}
-use Rattle.luks_open.specs.declared.volume_key.KeyCheck.TheVariants.{Differs}
+use Rattle.luks_key_slots.specs.VolumeKey.{compared, key_digest_of}
+use Rattle.luks_key_slots.specs.declared.volume_key.KeyCheck.{KeyCheck}
+use Rattle.luks_key_slots.specs.declared.volume_key.KeyCheck.TheVariants.{Differs}
 use Rattle.luks_report.specs.Faults.{message_for_header}
 use Rattle.luks_report.specs.declared.message.Message.{Message}
 use Rattle.luks_report.specs.declared.message.Message.TheVariants.{NotLuks, Cut, Json, SegmentRefused}
@@ -44,8 +44,8 @@ check_in_header limit key (Err fault) = Err (message_for_header fault)
 unfoldable pub key_check_of : HeaderLocation → Option ℕ → List ℕ → List ℕ → Result KeyCheck Message
 key_check_of location limit image key = check_in_header limit key (reader_for location image)
 
--- comparing a key ended with this message, or with an answer: the bytes that are read for the header were consumed, or no
--- more than these if a read failed or memory ran out
+-- comparing a key ended with this message, or with an answer: the bytes that are read for the header were consumed, or
+-- no more than these if a read failed or memory ran out
 abbrev pub ConsumesToCheck : List ℕ → Message → Option (List ℕ) → Type 0
 ConsumesToCheck header message left =
     MatchBool (aborts message) (ConsumedAtMost header left (header_read_len header))

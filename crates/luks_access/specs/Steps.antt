@@ -12,11 +12,11 @@ pub record HasByteOf (s : Segment) (offset count i : ℕ) : Type 0 where
   pub before : i * sector_len s < offset + count
   pub after : offset < i * sector_len s + sector_len s
 
--- a step of reading `count` bytes, from this offset on, of a plaintext of `len` bytes. It reads whole sectors (`whole`),
--- from the one on that has the first byte (`first`, `start`), within the plaintext (`inside`); each of them has a byte
--- that the step gives (`each`). It gives the next bytes of the range (`skip`, `some`, `few`, `within`): all that it
--- reads, or a part of one sector (`placed`). After it the range is done or goes on with a sector (`last`), and if it
--- began with a sector, no whole sector of it is left (`most`)
+-- a step of reading `count` bytes, from this offset on, of a plaintext of `len` bytes. It reads whole sectors
+-- (`whole`), from the one on that has the first byte (`first`, `start`), within the plaintext (`inside`); each of them
+-- has a byte that the step gives (`each`). It gives the next bytes of the range (`skip`, `some`, `few`, `within`): all
+-- that it reads, or a part of one sector (`placed`). After it the range is done or goes on with a sector (`last`), and
+-- if it began with a sector, no whole sector of it is left (`most`)
 pub record IsStep (s : Segment) (len offset count : ℕ) (step : ReadStep) : Type 0 where
   pub first : step.first_sector ≡ offset / sector_len s
   pub start : step.read_offset ≡ sector_start s step.first_sector

@@ -9,8 +9,8 @@ ghost use Rattle.luks_access.specs.Keys.{ConsumesToCheck, KeyCheckMessage, key_c
 use luks_header::payload::segment;
 use luks_io::source::Source;
 use luks_kdf::Work;
-use luks_open::volume_key;
-pub use luks_open::volume_key::KeyCheck;
+use luks_key_slots::volume_key;
+pub use luks_key_slots::volume_key::KeyCheck;
 use luks_report::message::Message;
 use luks_runs::location::{HeaderLocation, read_header_at};
 use std::alloc::Global;

@@ -9,7 +9,7 @@ ghost use Rattle.luks_access.specs.Sectors.{AreStored, plain_at, plain_in};
 
 use luks_cipher::ExpandedKeys;
 use luks_header::segment::Segment;
-use luks_payload::fault::VolumeFault;
+use luks_payload::fault::PayloadFault;
 use luks_payload::sector::unit_number;
 use luks_payload::state::Step;
 use luks_verdict::sector_size::SectorSize;
@@ -35,25 +35,25 @@ pub fn plaintext_len(offset: u64, size: Option<u64>, sector_size: SectorSize, im
 ///
 /// # Errors
 ///
-/// [`VolumeFault::CutBeforePayload`] if the image ends before the payload's start,
-/// [`VolumeFault::Tail`] if it ends inside a sector and the size is not fixed,
-/// [`VolumeFault::Short`] if it ends before the end of a fixed size.
+/// [`PayloadFault::CutBeforePayload`] if the image ends before the payload's start,
+/// [`PayloadFault::Tail`] if it ends inside a sector and the size is not fixed,
+/// [`PayloadFault::Short`] if it ends before the end of a fixed size.
 pub fn payload_ending(
     offset: u64,
     size: Option<u64>,
     sector_size: SectorSize,
     image_len: u64,
-) -> Result<Step, VolumeFault>
-    ensures { result ≡ (if nat_lt image_len offset then Err VolumeFault.CutBeforePayload
+) -> Result<Step, PayloadFault>
+    ensures { result ≡ (if nat_lt image_len offset then Err PayloadFault.CutBeforePayload
         else ending_of_len size (bytes_of sector_size) (image_len - offset)) }
 {
     let Some(len) = image_len.checked_sub(offset) else {
-        return Err(VolumeFault::CutBeforePayload);
+        return Err(PayloadFault::CutBeforePayload);
     };
     let more = len % sector_size.bytes() as u64;
     match size {
-        Some(size) if len < size => Err(VolumeFault::Short(size - len)),
-        None if more != 0 => Err(VolumeFault::Tail(more)),
+        Some(size) if len < size => Err(PayloadFault::Short(size - len)),
+        None if more != 0 => Err(PayloadFault::Tail(more)),
         _ => Ok(Step::End),
     }
 }

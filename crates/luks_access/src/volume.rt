@@ -1,6 +1,7 @@
 //! Open volumes.
 
-ghost use Rattle.std.specs.Prelude.{◌≡◌, ◌≢◌, ◌+◌, ◌-◌, ◌%◌, ◌^◌, ◌<◌, ◌≤◌, ◌⊎◌, Bool, List, ℕ, Err};
+ghost use Rattle.std.specs.Prelude.{◌≡◌, ◌≢◌, ◌+◌, ◌-◌, ◌%◌, ◌^◌, ◌<◌};
+ghost use Rattle.std.specs.Prelude.{◌≤◌, ◌⊎◌, Bool, List, ℕ, Err};
 ghost use Rattle.std.specs.Prelude.{[], IfErr, IfOk, OnOk, is_err, length, replicate, true};
 ghost use Rattle.luks_cipher.specs.Expanded.{AreExpanded};
 ghost use Rattle.luks_runs.specs.KeyFile.{max_key_file_len};
@@ -26,7 +27,7 @@ use luks_cipher::ExpandedKeys;
 use luks_header::segment::Segment;
 use luks_io::source::Source;
 use luks_kdf::Work;
-use luks_payload::fault::VolumeFault;
+use luks_payload::fault::PayloadFault;
 use luks_payload::state::Step;
 use luks_report::message::Message;
 use luks_request::command::SlotChoice;
@@ -177,9 +178,9 @@ impl Volume {
     ///
     /// # Errors
     ///
-    /// [`VolumeFault::CutBeforePayload`], [`VolumeFault::Tail`] or [`VolumeFault::Short`] if the
+    /// [`PayloadFault::CutBeforePayload`], [`PayloadFault::Tail`] or [`PayloadFault::Short`] if the
     /// image is truncated.
-    pub fn payload_ending(&self, image_len: u64) -> Result<Step, VolumeFault>
+    pub fn payload_ending(&self, image_len: u64) -> Result<Step, PayloadFault>
         ensures { (image : List ℕ) → length image ≡ image_len
             → result ≡ ending_of self.now.segment image }
     {

@@ -14,10 +14,13 @@ use Rattle.luks2_json.specs.Numbered.{object_numbered}
 use Rattle.luks_header.specs.SlotVerdicts.{verdict_at}
 use Rattle.luks_header.specs.declared.header.Header.{Header}
 use Rattle.luks_header.specs.declared.header.Header.TheVariants.{V1, V2}
-use Rattle.luks_audit.specs.Audit1.{area1_fields, cost1_fields, derivation1_fields, only_digest_fields, digest_strength1}
-use Rattle.luks_audit.specs.Audit1.{binary1_fields, encryption1_fields, is_cbc1, segment1_fields, slot_strength1, stripes1_fields, volume1_fields}
+use Rattle.luks_audit.specs.Audit1.{area1_fields, cost1_fields, derivation1_fields}
+use Rattle.luks_audit.specs.Audit1.{only_digest_fields, digest_strength1}
+use Rattle.luks_audit.specs.Audit1.{binary1_fields, encryption1_fields, is_cbc1, segment1_fields}
+use Rattle.luks_audit.specs.Audit1.{slot_strength1, stripes1_fields, volume1_fields}
 use Rattle.luks_audit.specs.Audit2.{area2_fields, cost2_fields, derivation2_fields, digest2_fields, digest_strength2}
-use Rattle.luks_audit.specs.Audit2.{binary2_fields, encryption2_fields, names_cbc, segment0_of, segment2_fields, slot_strength2, stripes2_fields}
+use Rattle.luks_audit.specs.Audit2.{binary2_fields, encryption2_fields, names_cbc, segment0_of}
+use Rattle.luks_audit.specs.Audit2.{segment2_fields, slot_strength2, stripes2_fields}
 use Rattle.luks_audit.specs.Audit2.{token2_fields, volume2_fields, volume_key_size}
 use Rattle.luks_audit.specs.Findings.{finding_list}
 use Rattle.luks_audit.specs.Tree.{array_of, empty_object, num, optional_text, with_fields}

@@ -2,7 +2,7 @@
 use Rattle.std.specs.Prelude.{ℕ, ◌*◌, ◌++◌, ◌||◌, Bool, List, [], ◌∷◌, Option, Some, None, codes, if◌then◌else◌}
 use Rattle.std.specs.Prelude.{option_and_then, slice_get}
 use Rattle.luks_report.specs.DumpLine.{escaped}
-use Rattle.luks_verdict.specs.Rule.{need_of}
+use Rattle.luks_verdict.specs.Rule.{key_material_len}
 use Rattle.luks1_header.specs.Slot1.{hash1_of, is_disabled}
 use Rattle.luks1_header.specs.declared.header.Header1.{Header1}
 use Rattle.luks1_header.specs.declared.header.StoredSlot.{StoredSlot}
@@ -86,7 +86,7 @@ area1_fields header slot =
     (codes "area_cipher", string (cipher1_of header))
     ∷ (codes "area_key_bytes", num header.key_bytes)
     ∷ (codes "area_offset", num (512 * slot.offset))
-    ∷ (codes "area_size", num (need_of header.key_bytes slot.stripes))
+    ∷ (codes "area_size", num (key_material_len header.key_bytes slot.stripes))
     ∷ []
 
 -- the digest, by which all key slots are recognised: it names none of them

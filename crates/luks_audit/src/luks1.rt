@@ -8,7 +8,7 @@ ghost use Rattle.luks_audit.specs.Audit1.{only_digest_fields, digest_strength1, 
 ghost use Rattle.luks_audit.specs.Audit1.{is_cbc1, judged1_of, segment1_fields, slot_strength1};
 ghost use Rattle.luks_audit.specs.Audit1.{strength1_of, volume1_fields};
 ghost use Rattle.luks_audit.specs.Tree.{num, with_fields, with_member};
-ghost use Rattle.luks_verdict.specs.Rule.{need_of};
+ghost use Rattle.luks_verdict.specs.Rule.{key_material_len};
 ghost use Rattle.luks1_header.specs.Slot1.{is_disabled};
 ghost use Rattle.serde_json.specs.Data.{string};
 
@@ -16,7 +16,7 @@ use crate::fields::escape;
 use crate::policy::{Derivation, DigestStrength, SlotStrength, is_capi_cbc, is_cbc};
 use crate::tree::{Array, Object, Tree};
 use luks_header::header::{Header1, SlotState, StoredSlot};
-use luks_verdict::rule::need;
+use luks_verdict::rule::key_material_len;
 use std::alloc::{AllocError, Global};
 
 // The offset in bytes of a sector of 512 bytes.
@@ -47,9 +47,10 @@ fn push_need(
     stripes: u32,
 ) -> Result<(), AllocError>
     ensures { OnOk result (fields.new
-        ≡ with_member (codes "area_size") (num (need_of header.now.key_bytes stripes)) fields.old) }
+        ≡ with_member (codes "area_size")
+        (num (key_material_len header.now.key_bytes stripes)) fields.old) }
 {
-    let size = need(header.key_bytes, stripes);
+    let size = key_material_len(header.key_bytes, stripes);
     fields.push_number(alloc, "area_size", size)
 }
 

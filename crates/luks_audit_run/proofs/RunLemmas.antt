@@ -10,7 +10,8 @@ use Rattle.luks_audit.specs.declared.image.State.{State}
 use Rattle.luks_audit.specs.declared.image.State.TheVariants.{Clean}
 use Rattle.luks_audit_run.specs.Host.{Stored}
 use Rattle.luks_audit_run.specs.Run.{ArePossible, AuditsFile, AuditsFilePartly, Course, IsPossible, Runs, RunsPartly}
-use Rattle.luks_audit_run.specs.Run.{audit_text, bytes_in, failures_after, gravest_state, image_state, image_text, is_failed}
+use Rattle.luks_audit_run.specs.Run.{audit_text, bytes_in, failures_after, gravest_state}
+use Rattle.luks_audit_run.specs.Run.{image_state, image_text, is_failed}
 use Rattle.luks_audit_run.specs.Run.{texts_of}
 use Rattle.luks_audit_run.specs.Searched.{graver}
 use Rattle.luks_audit_run.specs.declared.image.Scope.{Scope}

@@ -4,7 +4,7 @@ use Rattle.std.proofs.Common.{Bool, false, take, drop}
 use Rattle.std.proofs.lemmas.List.{append-nil, take-append-drop}
 use Rattle.luks_io.specs.Devices.{Appended, IfKnown, counted}
 use Rattle.luks_io.proofs.EffectLemmas.{appended-more, appended-none}
-use Rattle.luks_area.specs.declared.fault.HeaderFault.TheVariants.{Memory, Read}
+use Rattle.luks_header_area.specs.declared.fault.HeaderFault.TheVariants.{Memory, Read}
 use Rattle.luks_search.specs.Places.{places_below}
 use Rattle.luks_search.specs.Search.{FindsNext, IsIn, IsNear, SearchModel, reports_failed_read}
 use Rattle.luks_search.specs.declared.place.Place.{Place}

@@ -1,7 +1,7 @@
 -- The audit of an image at whose start a header is sought, and prefixes of what is written.
 use Rattle.std.proofs.Common.{◌∙◌, ℕ, List, [], Option, Err, refl, Bool, true, false, take, drop, inl, inr}
 use Rattle.std.proofs.lemmas.List.{take-append-drop}
-use Rattle.luks_area.specs.declared.fault.HeaderFault.TheVariants.{NotLuks, Read}
+use Rattle.luks_header_area.specs.declared.fault.HeaderFault.TheVariants.{NotLuks, Read}
 use Rattle.luks_audit.specs.Image.{IsAudited, IsAuditedAnyway}
 use Rattle.luks_audit.specs.declared.image.Policy.{Policy}
 use Rattle.luks_audit.specs.declared.image.State.{State}

@@ -1,12 +1,13 @@
 -- What `luksrd_check_key` answers: a known volume key compared with a header.
 use Rattle.std.specs.Prelude.{ℕ, ◌≡◌, ◌≢◌, ◌==◌, Bool, false, true, List, Ok, Err, if◌then◌else◌}
 use Rattle.luks_access.specs.Keys.{KeyCheckMessage, key_check_of}
-use Rattle.luks_open.specs.declared.volume_key.KeyCheck.{KeyCheck}
-use Rattle.luks_open.specs.declared.volume_key.KeyCheck.TheVariants.{Matches, Differs, NoDigest}
+use Rattle.luks_key_slots.specs.declared.volume_key.KeyCheck.{KeyCheck}
+use Rattle.luks_key_slots.specs.declared.volume_key.KeyCheck.TheVariants.{Matches, Differs, NoDigest}
 use Rattle.luks_report.specs.declared.message.Message.{Message}
 use Rattle.luks_report.specs.declared.message.Message.TheVariants.{ReadFailed}
 use Rattle.luks_runs.specs.Run.{aborts}
-use Rattle.luks_c.specs.Stored.{BeginsAs, StoresCode, StoresMessage, code_for, is_of_this_version, limit_in, location_in}
+use Rattle.luks_c.specs.Stored.{BeginsAs, StoresCode, StoresMessage, code_for}
+use Rattle.luks_c.specs.Stored.{is_of_this_version, limit_in, location_in}
 use Rattle.luks_c.specs.declared.message.LuksrdMessage.{LuksrdMessage}
 use Rattle.luks_c.specs.declared.options.LuksrdOptions.{LuksrdOptions}
 
@@ -28,8 +29,8 @@ pub record ComparesKey (c : LuksrdOptions) (header key : List ℕ) (code : ℕ) 
   pub gives : (image : List ℕ) → BeginsAs image header
       → key_check_of (location_in c) (limit_in c) image key ≡ Ok check
 
--- a key was not compared: the message is that of `luksCat` for the header of each image that starts with these bytes, or
--- memory ran out
+-- a key was not compared: the message is that of `luksCat` for the header of each image that starts with these bytes,
+-- or memory ran out
 pub record RefusesKey (c : LuksrdOptions) (header key : List ℕ) (code : ℕ) (message : LuksrdMessage) : Type 0 where
   pub refusal : Message
   pub is_code : code ≡ code_for refusal

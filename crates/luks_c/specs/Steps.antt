@@ -1,5 +1,6 @@
 -- The structs of `c/luksrd.h` with which a range of a plaintext is read, and what the functions over them answer.
-use Rattle.std.specs.Prelude.{ℕ, ◌≡◌, ◌==◌, ◌+◌, ◌-◌, ◌*◌, ◌/◌, if◌then◌else◌, drop, nat_le, replicate, take, Option, None, Some}
+use Rattle.std.specs.Prelude.{ℕ, ◌≡◌, ◌==◌, ◌+◌, ◌-◌, ◌*◌, ◌/◌, if◌then◌else◌}
+use Rattle.std.specs.Prelude.{drop, nat_le, replicate, take, Option, None, Some}
 use Rattle.std.specs.Prelude.{List}
 use Rattle.luks_aes_batch.specs.declared.round_key.RoundKey.{RoundKey}
 use Rattle.luks_cipher.specs.Expanded.{AreExpanded}
@@ -34,7 +35,7 @@ zero_key = record {
 abbrev pub no_keys : ExpandedKeys
 no_keys = record {
   «data» = record { rounds = 0; first = zero_key; between = replicate 13 zero_key; last = zero_key };
-  number = record { rounds = 0; bytes = replicate 240 0 };
+  iv_or_tweak = record { rounds = 0; bytes = replicate 240 0 };
 }
 
 -- the struct holds no cipher: all of it is zero

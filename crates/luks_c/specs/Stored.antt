@@ -1,6 +1,7 @@
 -- The codes and the structs of `c/luksrd.h`, field by field, how a volume is read back, and what the functions answer.
 use Rattle.std.specs.Prelude.{ℕ, ◌≡◌, ◌-◌, ◌==◌, if◌then◌else◌, drop, length, replicate, take, Option, None, Some, []}
-use Rattle.std.specs.Prelude.{Bool, List, ◌&&◌, bytes_eq, codes, false, min, nat_lt, true, unwrap_or, ◌≢◌, ◌+◌, ◌*◌, ◌/◌, ◌%◌, ◌^◌, Result, Ok}
+use Rattle.std.specs.Prelude.{Bool, List, ◌&&◌, bytes_eq, codes, false, min, nat_lt, true}
+use Rattle.std.specs.Prelude.{unwrap_or, ◌≢◌, ◌+◌, ◌*◌, ◌/◌, ◌%◌, ◌^◌, Result, Ok}
 use Rattle.std.specs.Prelude.{Err}
 use Rattle.luks_access.specs.declared.options.Options.{Options}
 use Rattle.luks_runs.specs.declared.unlocked.UnlockedVolume.{UnlockedVolume}
@@ -24,13 +25,13 @@ use Rattle.luks_c.specs.declared.message.LuksrdMessage.{LuksrdMessage}
 use Rattle.luks_c.specs.declared.options.LuksrdOptions.{LuksrdOptions}
 use Rattle.luks_access.specs.Opens.{Opens, Refuses}
 use Rattle.luks_access.specs.Sectors.{plain_in}
-use Rattle.luks_area.specs.Area.{max_loaded_len}
+use Rattle.luks_header_area.specs.Area.{max_loaded_len}
 use Rattle.luks_report.specs.Faults.{message_for_payload}
 use Rattle.luks_runs.specs.Run.{aborts}
 use Rattle.luks_runs.specs.Volume.{OpeningMessage}
-use Rattle.luks_payload.specs.declared.fault.VolumeFault.{VolumeFault}
-use Rattle.luks_payload.specs.declared.fault.VolumeFault.TheVariants.{Tail as FaultTail, Short as FaultShort}
-use Rattle.luks_payload.specs.declared.fault.VolumeFault.TheVariants.{CutBeforePayload as FaultCut}
+use Rattle.luks_payload.specs.declared.fault.PayloadFault.{PayloadFault}
+use Rattle.luks_payload.specs.declared.fault.PayloadFault.TheVariants.{Tail as FaultTail, Short as FaultShort}
+use Rattle.luks_payload.specs.declared.fault.PayloadFault.TheVariants.{CutBeforePayload as FaultCut}
 use Rattle.luks_payload.specs.Plain.{ending_of_len, payload_bytes}
 use Rattle.luks_payload.specs.declared.state.Step.{Step}
 
@@ -208,7 +209,7 @@ abbrev pub plaintext_len_in : LuksrdVolume → ℕ → ℕ
 plaintext_len_in c = plaintext_len_by (sector_size_with c.sector_size) (size_stored_in c) c
 
 -- how a payload, which has this length if it is fixed, ends in an image of `image_len` bytes, in sectors of this size
-abbrev pub ending_by : SectorSize → Option ℕ → LuksrdVolume → ℕ → Result Step VolumeFault
+abbrev pub ending_by : SectorSize → Option ℕ → LuksrdVolume → ℕ → Result Step PayloadFault
 ending_by sector_size size c image_len =
     if nat_lt image_len c.offset then Err FaultCut
     else ending_of_len size (bytes_of sector_size) (image_len - c.offset)
@@ -244,13 +245,13 @@ pub record Refused (c : LuksrdOptions) (header pass : List ℕ) (code : ℕ) (me
   pub refuses : aborts refusal ≡ false → (image : List ℕ) → BeginsAs image header → Refuses options image pass refusal
 
 -- the number of bytes in an ending's message
-abbrev pub fault_bytes : VolumeFault → ℕ
+abbrev pub fault_bytes : PayloadFault → ℕ
 fault_bytes (FaultTail bytes) = bytes
 fault_bytes (FaultShort bytes) = bytes
 fault_bytes _ = 0
 
 -- the result is this ending: its code, its number of bytes and its message
-abbrev pub EndsAs : Result Step VolumeFault → ℕ → ℕ → LuksrdMessage → Type 0
+abbrev pub EndsAs : Result Step PayloadFault → ℕ → ℕ → LuksrdMessage → Type 0
 EndsAs (Ok _) code bytes message = (code ≡ 0) × (bytes ≡ 0) × StoresMessage message Done
 EndsAs (Err fault) code bytes message =
     (code ≡ code_for (message_for_payload fault)) × (bytes ≡ fault_bytes fault)

@@ -51,7 +51,7 @@ fn no_keys() -> ExpandedKeys
             between: [zero_key(); 13],
             last: zero_key(),
         },
-        number: KeySchedule {
+        iv_or_tweak: KeySchedule {
             rounds: 0,
             bytes: [0; 240],
         },

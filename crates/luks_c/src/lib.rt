@@ -32,7 +32,7 @@ use crate::wiping::{wiped_after_opening, wiped_after_preparing};
 use luks_access::Message;
 use luks_access::sectors::{decrypt_sectors, payload_ending, plaintext_len};
 use luks_access::step::{finish, plan};
-use luks_payload::fault::VolumeFault;
+use luks_payload::fault::PayloadFault;
 use luks_verdict::sector_size::SectorSize;
 use std::alloc::Global;
 
@@ -147,11 +147,11 @@ pub extern "C" fn luksrd_ending(
 }
 
 /// The number of bytes in an ending's message.
-fn fault_bytes(fault: VolumeFault) -> u64
+fn fault_bytes(fault: PayloadFault) -> u64
     ensures { result ≡ fault_bytes fault }
 {
     match fault {
-        VolumeFault::Tail(bytes) | VolumeFault::Short(bytes) => bytes,
+        PayloadFault::Tail(bytes) | PayloadFault::Short(bytes) => bytes,
         _ => 0,
     }
 }

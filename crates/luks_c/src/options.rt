@@ -91,8 +91,8 @@ pub(crate) fn options_in(options: &LuksrdOptions) -> Option<Options>
     })
 }
 
-/// Where the header is that a volume key is compared with, and the limit on iterations, or `None` if
-/// the options name a key slot or are of another version.
+/// Where the header is that a volume key is compared with, and the limit on iterations, or `None`
+/// if the options name a key slot or are of another version.
 pub(crate) fn header_in(options: &LuksrdOptions) -> Option<(HeaderLocation, Option<u32>)>
     ensures { MatchOption result (are_bad_for_a_key options.now ≡ true)
         (λ header. (are_bad_for_a_key options.now ≡ false)

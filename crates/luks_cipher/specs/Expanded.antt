@@ -29,4 +29,4 @@ AreKeysOf key CbcPlain64 data' number = IsBatchKey key data'
 
 -- the struct holds the keys of the cipher of this mode and key
 pub record AreExpanded (key : List ℕ) (mode : Mode) (keys : ExpandedKeys) : Type 0 where
-  pub are : AreKeysOf key mode keys.data keys.number
+  pub are : AreKeysOf key mode keys.data keys.iv_or_tweak

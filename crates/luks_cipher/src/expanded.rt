@@ -19,7 +19,7 @@ pub struct ExpandedKeys {
     pub data: RoundKeys,
     /// The key schedule for what enters by a sector's unit number: the tweaks of XTS, and the IVs
     /// of essiv. In mode plain64 it is not used.
-    pub number: KeySchedule,
+    pub iv_or_tweak: KeySchedule,
 }
 
 // The keys of XTS: the first half for the data, the second for the tweaks (IEEE 1619, 5.3.1).
@@ -31,7 +31,7 @@ fn xts_keys(key: &[u8]) -> ExpandedKeys
     let (data_key, tweak_key) = key.split_at(key.len() / 2);
     ExpandedKeys {
         data: RoundKeys::expanded(&AesKey::expanded(data_key)),
-        number: KeySchedule::expanded(tweak_key),
+        iv_or_tweak: KeySchedule::expanded(tweak_key),
     }
 }
 
@@ -43,7 +43,7 @@ fn essiv_keys(key: &[u8]) -> ExpandedKeys
 {
     ExpandedKeys {
         data: RoundKeys::expanded(&AesKey::expanded(key)),
-        number: KeySchedule::expanded(&Sha256::digest(key)),
+        iv_or_tweak: KeySchedule::expanded(&Sha256::digest(key)),
     }
 }
 
@@ -55,7 +55,7 @@ fn plain_keys(key: &[u8]) -> ExpandedKeys
 {
     ExpandedKeys {
         data: RoundKeys::expanded(&AesKey::expanded(key)),
-        number: KeySchedule::expanded(key),
+        iv_or_tweak: KeySchedule::expanded(key),
     }
 }
 
@@ -85,7 +85,7 @@ impl ExpandedKeys {
         let keys = UnitKeys {
             mode,
             round_keys: &self.data,
-            number: &self.number,
+            iv_or_tweak: &self.iv_or_tweak,
         };
         keys.decrypt_units(first, size, units);
     }

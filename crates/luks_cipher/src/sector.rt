@@ -171,7 +171,7 @@ impl SectorCipher {
     fn unit_keys(&self) -> UnitKeys<'_>
         ensures mode { result.mode ≡ self.now.0 }
         ensures keys { AreKeysOf self.now.1 self.now.0 result.round_keys.now
-            result.number.now }
+            result.iv_or_tweak.now }
     {
         match &self.keys {
             Keys::XtsPlain64(key) => key.unit_keys(Mode::XtsPlain64),
@@ -179,12 +179,12 @@ impl SectorCipher {
             Keys::CbcEssivSha256(key, iv_key) => UnitKeys {
                 mode: Mode::CbcEssivSha256,
                 round_keys: key.round_keys(),
-                number: iv_key.schedule(),
+                iv_or_tweak: iv_key.schedule(),
             },
             Keys::CbcPlain64(key) => UnitKeys {
                 mode: Mode::CbcPlain64,
                 round_keys: key.round_keys(),
-                number: key.key().schedule(),
+                iv_or_tweak: key.key().schedule(),
             },
         }
     }

@@ -20,7 +20,7 @@ use std::simd::prelude::*;
 pub(crate) struct UnitKeys<'a> {
     pub(crate) mode: Mode,
     pub(crate) round_keys: &'a RoundKeys,
-    pub(crate) number: &'a KeySchedule,
+    pub(crate) iv_or_tweak: &'a KeySchedule,
 }
 
 // The sector's unit number, little-endian, encrypted.
@@ -45,10 +45,10 @@ impl<'a> UnitKeys<'a> {
     fn decrypt_xts(&self, number: u64, unit: &mut [u8])
         requires { length unit.old % 512 ≡ 0 }
         ensures { (key : List ℕ)
-            → AreKeysOf key Mode.XtsPlain64 self.now.round_keys.now self.now.number.now
+            → AreKeysOf key Mode.XtsPlain64 self.now.round_keys.now self.now.iv_or_tweak.now
             → unit.new ≡ sector_decrypted Mode.XtsPlain64 key number unit.old }
     {
-        let tweak = u8x16::from_array(encrypted_number(self.number, number));
+        let tweak = u8x16::from_array(encrypted_number(self.iv_or_tweak, number));
         xts::decrypt_batches(self.round_keys, tweak, unit);
     }
 
@@ -56,13 +56,13 @@ impl<'a> UnitKeys<'a> {
     fn decrypt_xts_pair(&self, first: u64, second: u64, pair: &mut [u8])
         requires { length pair.old ≡ 1024 }
         ensures { (key : List ℕ)
-            → AreKeysOf key Mode.XtsPlain64 self.now.round_keys.now self.now.number.now
+            → AreKeysOf key Mode.XtsPlain64 self.now.round_keys.now self.now.iv_or_tweak.now
             → pair.new
             ≡ sector_decrypted Mode.XtsPlain64 key first (take 512 pair.old)
             ++ sector_decrypted Mode.XtsPlain64 key second (drop 512 pair.old) }
     {
-        let tweak = u8x16::from_array(encrypted_number(self.number, first));
-        let next = u8x16::from_array(encrypted_number(self.number, second));
+        let tweak = u8x16::from_array(encrypted_number(self.iv_or_tweak, first));
+        let next = u8x16::from_array(encrypted_number(self.iv_or_tweak, second));
         xts::decrypt_both(self.round_keys, tweak, next, pair);
     }
 
@@ -70,14 +70,14 @@ impl<'a> UnitKeys<'a> {
     fn decrypt_unit(&self, number: u64, unit: &mut [u8])
         requires { length unit.old % 512 ≡ 0 }
         ensures { (key : List ℕ)
-            → AreKeysOf key self.now.mode self.now.round_keys.now self.now.number.now
+            → AreKeysOf key self.now.mode self.now.round_keys.now self.now.iv_or_tweak.now
             → unit.new ≡ sector_decrypted self.now.mode key number unit.old }
     {
         match self.mode {
             Mode::XtsPlain64 => self.decrypt_xts(number, unit),
             Mode::XtsPlain => self.decrypt_xts(number % 0x1_0000_0000, unit),
             Mode::CbcEssivSha256 => {
-                let iv = encrypted_number(self.number, number);
+                let iv = encrypted_number(self.iv_or_tweak, number);
                 cbc::decrypt_batches(self.round_keys, iv, unit);
             }
             Mode::CbcPlain64 => {
@@ -90,7 +90,7 @@ impl<'a> UnitKeys<'a> {
     fn decrypt_pair(&self, first: u64, second: u64, pair: &mut [u8])
         requires { length pair.old ≡ 1024 }
         ensures { (key : List ℕ)
-            → AreKeysOf key self.now.mode self.now.round_keys.now self.now.number.now
+            → AreKeysOf key self.now.mode self.now.round_keys.now self.now.iv_or_tweak.now
             → pair.new
             ≡ sector_decrypted self.now.mode key first (take 512 pair.old)
             ++ sector_decrypted self.now.mode key second (drop 512 pair.old) }
@@ -101,8 +101,8 @@ impl<'a> UnitKeys<'a> {
                 self.decrypt_xts_pair(first % 0x1_0000_0000, second % 0x1_0000_0000, pair);
             }
             Mode::CbcEssivSha256 => {
-                let iv = encrypted_number(self.number, first);
-                let next_iv = encrypted_number(self.number, second);
+                let iv = encrypted_number(self.iv_or_tweak, first);
+                let next_iv = encrypted_number(self.iv_or_tweak, second);
                 cbc::decrypt_both(self.round_keys, iv, next_iv, pair);
             }
             Mode::CbcPlain64 => {
@@ -120,7 +120,7 @@ impl<'a> UnitKeys<'a> {
     fn decrypt_in_pairs(&self, first: u64, units: &mut [u8])
         requires { length units.old % 512 ≡ 0 }
         ensures { (key : List ℕ)
-            → AreKeysOf key self.now.mode self.now.round_keys.now self.now.number.now
+            → AreKeysOf key self.now.mode self.now.round_keys.now self.now.iv_or_tweak.now
             → units.new ≡ units_decrypted self.now.mode key first 512 units.old }
     {
         let len = units.len();
@@ -144,7 +144,7 @@ impl<'a> UnitKeys<'a> {
         requires longest { size ≤ 4096 }
         requires whole { length units.old % size ≡ 0 }
         ensures { (key : List ℕ)
-            → AreKeysOf key self.now.mode self.now.round_keys.now self.now.number.now
+            → AreKeysOf key self.now.mode self.now.round_keys.now self.now.iv_or_tweak.now
             → units.new ≡ units_decrypted self.now.mode key first size units.old }
     {
         let step = (size / 512) as u64;
@@ -163,7 +163,7 @@ impl<'a> UnitKeys<'a> {
         requires longest { size ≤ 4096 }
         requires whole { length units.old % size ≡ 0 }
         ensures { (key : List ℕ)
-            → AreKeysOf key self.now.mode self.now.round_keys.now self.now.number.now
+            → AreKeysOf key self.now.mode self.now.round_keys.now self.now.iv_or_tweak.now
             → units.new ≡ units_decrypted self.now.mode key first size units.old }
     {
         if size == 512 {

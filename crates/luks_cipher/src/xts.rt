@@ -246,12 +246,12 @@ impl XtsKey {
     /// The same keys as they are used for whole batches, in one of the modes of XTS.
     pub(crate) fn unit_keys(&self, mode: Mode) -> UnitKeys<'_>
         ensures mode { result.mode ≡ mode }
-        ensures keys { AreXtsKeys self.now result.round_keys.now result.number.now }
+        ensures keys { AreXtsKeys self.now result.round_keys.now result.iv_or_tweak.now }
     {
         UnitKeys {
             mode,
             round_keys: self.data_key.round_keys(),
-            number: self.tweak_key.schedule(),
+            iv_or_tweak: self.tweak_key.schedule(),
         }
     }
 

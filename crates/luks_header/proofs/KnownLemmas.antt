@@ -12,9 +12,9 @@ use Rattle.luks_verdict.specs.declared.segment.Segment.{Segment}
 use Rattle.luks_verdict.specs.declared.slot.Slot.{Slot}
 use Rattle.luks_verdict.specs.declared.slot.Verdict.TheVariants.{Usable}
 use Rattle.luks1_header.proofs.ValidationLemmas.{IsReadable-ok, slot_usable_at}
-use Rattle.luks_area.specs.Fields.{at}
-use Rattle.luks_area.specs.declared.fault.HeaderFault.{HeaderFault}
-use Rattle.luks_area.specs.declared.fault.HeaderFault.TheVariants.{Cut, NotLuks, Json, Read, Memory}
+use Rattle.luks_header_area.specs.Fields.{at}
+use Rattle.luks_header_area.specs.declared.fault.HeaderFault.{HeaderFault}
+use Rattle.luks_header_area.specs.declared.fault.HeaderFault.TheVariants.{Cut, NotLuks, Json, Read, Memory}
 use Rattle.luks1_header.specs.Header1.{header1_len, header1_of, is_luks1}
 use Rattle.luks1_header.specs.Segment1.{is_key_length1}
 use Rattle.luks1_header.specs.Slot1.{payload1_start}
@@ -38,7 +38,7 @@ use Rattle.luks_header.specs.declared.header.Header.{Header}
 use Rattle.luks_header.specs.declared.header.Header.TheVariants.{V1, V2}
 use Rattle.std.proofs.lemmas.List.{take-take}
 use Rattle.luks_io.specs.Devices.{ConsumedExactly, ConsumedAtMost, counted}
-use Rattle.luks_area.specs.Area.{AbortsConsuming, ConsumedOnto, HeaderAreaModel}
+use Rattle.luks_header_area.specs.Area.{AbortsConsuming, ConsumedOnto, HeaderAreaModel}
 use Rattle.luks1_header.specs.declared.header.Header1.{Header1}
 use Rattle.luks2_binary.specs.ReadLen2.{header2_read_len, probe2_len}
 use Rattle.luks2_binary.specs.Reading2.{AnsweredFor, IsPrefixOf, LoadedFor, LoadedPrefixOf, finished}

@@ -2,8 +2,8 @@
 use Rattle.std.specs.Prelude.{◌≡◌, ◌⊎◌, ℕ, Bool, true, false, List, Option, Some, None, Result, Ok, Err, length, min}
 use Rattle.std.specs.Prelude.{nat_lt, if◌then◌else◌}
 use Rattle.luks_io.specs.Devices.{ConsumedExactly, ConsumedFewer, ConsumedAtMost, counted}
-use Rattle.luks_area.specs.Area.{HeaderAreaModel}
-use Rattle.luks_area.specs.Fields.{at}
+use Rattle.luks_header_area.specs.Area.{HeaderAreaModel}
+use Rattle.luks_header_area.specs.Fields.{at}
 use Rattle.luks1_header.specs.Header1.{header1_len, header1_of, is_luks1}
 use Rattle.luks2_binary.specs.Choice2.{header2_of}
 use Rattle.luks2_binary.specs.ReadLen2.{header2_read_len, probe2_len}
@@ -15,8 +15,8 @@ use Rattle.luks2_metadata.specs.declared.bounds.Bounds.{Bounds}
 use Rattle.serde_json.specs.Data.{Data}
 use Rattle.luks_header.specs.declared.header.Header.{Header}
 use Rattle.luks_header.specs.declared.header.Header.TheVariants.{V1, V2}
-use Rattle.luks_area.specs.declared.fault.HeaderFault.{HeaderFault}
-use Rattle.luks_area.specs.declared.fault.HeaderFault.TheVariants.{Cut, Json, Read, Memory}
+use Rattle.luks_header_area.specs.declared.fault.HeaderFault.{HeaderFault}
+use Rattle.luks_header_area.specs.declared.fault.HeaderFault.TheVariants.{Cut, Json, Read, Memory}
 
 -- the header is detached: it is in another file than the payload
 unfoldable pub is_detached : Header → Bool

@@ -2,8 +2,8 @@ pub mod Header
 pub mod HeaderDigests
 pub mod HeaderSegment
 pub mod SlotVerdicts
-pub use Rattle.luks_area.specs.Area
-pub use Rattle.luks_area.specs.Fields
+pub use Rattle.luks_header_area.specs.Area
+pub use Rattle.luks_header_area.specs.Fields
 pub use Rattle.luks_verdict.specs.Rule
 pub use Rattle.luks_verdict.specs.SectorSize
 pub use Rattle.luks_verdict.specs.SegmentFault

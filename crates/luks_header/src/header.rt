@@ -4,14 +4,14 @@ ghost use Rattle.std.specs.Prelude.{◌≡◌, ℕ, Bool, List, Some, Ok, Err, I
 ghost use Rattle.std.specs.Prelude.{[], length, take, true, false};
 ghost use Rattle.luks_io.specs.Devices.{ConsumedExactly, IfKnown};
 ghost use Rattle.luks_io.specs.Counts.{Reads};
-ghost use Rattle.luks_area.specs.Area.{is_read_fault};
+ghost use Rattle.luks_header_area.specs.Area.{is_read_fault};
 ghost use Rattle.luks1_header.specs.Header1.{is_luks1};
 ghost use Rattle.luks2_binary.specs.Reading2.{LoadedPrefixOf, OfEach};
 ghost use Rattle.luks_header.specs.Header.{IsRead, ReadsNoHeader, bounds2_of};
 ghost use Rattle.luks_header.specs.Header.{header_read_len, detached_of, falls_short, header_of};
 
-use luks_area::area::HeaderArea;
-use luks_area::fault::HeaderFault;
+use luks_header_area::area::HeaderArea;
+use luks_header_area::fault::HeaderFault;
 use luks_io::source::Source;
 use luks1_header::header::{HEADER1_LEN, is_header1};
 pub use luks1_header::header::{Header1, SlotState, StoredSlot};

@@ -13,5 +13,5 @@ pub mod header;
 pub mod payload;
 pub mod slot;
 
-pub use luks_area::{area, fault, text};
+pub use luks_header_area::{area, fault, text};
 pub use luks_verdict::{bytes, refusal, rule, sector_size, segment};

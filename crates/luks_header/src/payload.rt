@@ -19,6 +19,6 @@ pub fn segment(header: &Header) -> Result<Segment, SegmentFault>
 {
     match header {
         Header::V1(header) => luks1_header::validation::segment(header),
-        Header::V2(header, metadata) => luks2_metadata::payload::segment(metadata, bounds(header)),
+        Header::V2(header, metadata) => luks2_metadata::segment::segment(metadata, bounds(header)),
     }
 }

@@ -35,7 +35,7 @@ OpensStandard finds shows None opening = opening ≡ Ok Opened.Standard
 -- how standard input is opened
 pub record IsStandardInput {F : Type 0} (finds : Finds) (shows : Shows) (opening : Opening F) : Type 0 where
   pub facts : Option FileFacts
-  pub found : finds (codes "/dev/stdin") facts
+  pub found : finds (codes "/proc/self/fd/0") facts
   pub opened : OpensStandard finds shows facts opening
 
 -- an open file, by how it is read

@@ -1,5 +1,6 @@
 -- Whether standard output writes to a file, from what a system may answer.
-use Rattle.std.specs.Prelude.{◌≡◌, ◌≢◌, ◌⊎◌, ◌↔◌, ◌++◌, ◌∷◌, [], ℕ, List, Bool, false, Option, Some, None, IsTrue, codes}
+use Rattle.std.specs.Prelude.{◌≡◌, ◌≢◌, ◌⊎◌, ◌↔◌, ◌++◌, ◌∷◌, [], ℕ, List, Bool}
+use Rattle.std.specs.Prelude.{false, Option, Some, None, IsTrue, codes}
 use Rattle.luks_host.specs.declared.storage.FileFacts.{FileFacts}
 use Rattle.luks_host.specs.declared.storage.FileKind.{FileKind}
 use Rattle.luks_host.specs.declared.storage.FileKind.TheVariants.{Regular, Directory, BlockDevice, Other}
@@ -64,5 +65,16 @@ SharesTarget finds shows input None answer = answer ≡ false
 -- whether standard output writes to the input with these facts
 pub record TellsOutput (finds : Finds) (shows : Shows) (input : FileFacts) (answer : Bool) : Type 0 where
   pub output : Option FileFacts
-  pub found : finds (codes "/dev/stdout") output
+  pub found : finds (codes "/proc/self/fd/1") output
   pub shared : SharesTarget finds shows input output answer
+
+-- whether standard output writes to an input with these facts; not if there are none
+abbrev pub TellsOutputIf : Finds → Shows → Option FileFacts → Bool → Type 0
+TellsOutputIf finds shows (Some facts) answer = TellsOutput finds shows facts answer
+TellsOutputIf finds shows None answer = answer ≡ false
+
+-- whether standard output writes to the file with this name
+pub record TellsOutputAt (finds : Finds) (shows : Shows) (name : List ℕ) (answer : Bool) : Type 0 where
+  pub facts : Option FileFacts
+  pub found : finds name facts
+  pub told : TellsOutputIf finds shows facts answer

@@ -40,12 +40,12 @@ pub fn open_input<S: System>(
     }
 }
 
-/// Opens standard input. It is not refused if the system does not tell what it is, as in an empty
-/// `/dev`.
+/// Opens standard input. It is not refused if the system does not tell what it is, as without
+/// `/proc`.
 fn open_standard<S: System>(system: &S, alloc: Global) -> Result<OpenedInput<S::File>, InputFault>
     ensures { IsStandardInput (S.finds system.now) (S.shows system.now) result }
 {
-    match system.facts_at("/dev/stdin") {
+    match system.facts_at("/proc/self/fd/0") {
         Some(facts) => match access_of(system, alloc, &facts) {
             Access::Refused => Err(InputFault::NotOpened),
             Access::Buffered | Access::AsRequested => Ok(OpenedInput::Standard),

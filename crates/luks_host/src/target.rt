@@ -1,20 +1,36 @@
 //! Whether standard output writes to an input.
 
+ghost use Rattle.std.specs.Prelude.{◌≡◌, ◌≢◌, codes};
 ghost use Rattle.luks_host.specs.Targets.{IsBelowEntry, IsBelowKind, IsNamedIn, IsSeen};
-ghost use Rattle.luks_host.specs.Targets.{TellsOutput};
+ghost use Rattle.luks_host.specs.Targets.{TellsOutput, TellsOutputAt};
 
 use crate::loop_device::{backing_entry, backing_name};
 use crate::storage::{FileFacts, FileKind, SeenFile, share_storage};
 use crate::system::System;
 use std::alloc::Global;
 
-/// Whether standard output writes to the input with these facts, under any name. Without `/dev` or
+/// Whether standard output writes to the input of this name, or to standard input for `-`: not if
+/// there is no such file.
+pub fn is_output_named<S: System>(system: &S, alloc: Global, name: &str) -> bool
+    ensures standard { name.now ≡ codes "-" → TellsOutputAt (S.finds system.now)
+        (S.shows system.now) (codes "/proc/self/fd/0") result }
+    ensures file { name.now ≢ codes "-" → TellsOutputAt (S.finds system.now)
+        (S.shows system.now) name.now result }
+{
+    let place = if name == "-" { "/proc/self/fd/0" } else { name };
+    match system.facts_at(place) {
+        Some(facts) => is_output(system, alloc, &facts),
+        None => false,
+    }
+}
+
+/// Whether standard output writes to the input with these facts, under any name. Without `/proc` or
 /// `/sys`, or if the file under a loop device was deleted or has a name that is not UTF-8, or if
 /// memory runs out, fewer cases are found.
 pub fn is_output<S: System>(system: &S, alloc: Global, input: &FileFacts) -> bool
     ensures { TellsOutput (S.finds system.now) (S.shows system.now) input.now result }
 {
-    match system.facts_at("/dev/stdout") {
+    match system.facts_at("/proc/self/fd/1") {
         Some(output) => {
             let (a, b) = (seen(system, alloc, input), seen(system, alloc, &output));
             share_storage(&a, &b)

@@ -1,5 +1,5 @@
--- The result of a device's answers: an interrupted call is retried a limited number of times. Also the model of a source
--- over such a device.
+-- The result of a device's answers: an interrupted call is retried a limited number of times. Also the model of a
+-- source over such a device.
 use Rattle.std.specs.Prelude.{◌≡◌, ◌==◌, ℕ, zero, suc, ◌≤◌, List, [], ◌∷◌, length, take, Option, Some, Result, Ok, Err}
 use Rattle.std.specs.Prelude.{if◌then◌else◌, ◌<◌}
 use Rattle.std.specs.Io.KnownBytes.{Appends, Consumes, IsAtEnd, Keeps}

@@ -39,8 +39,8 @@ impl ReadCounts {
         }
     }
 
-    /// Counts a read into a buffer of `capacity` bytes, and returns its answer. A source calls it in
-    /// its own `read`.
+    /// Counts a read into a buffer of `capacity` bytes, and returns its answer. A source calls it
+    /// in its own `read`.
     pub fn count(
         &mut self,
         answer: Result<usize, DeviceFault>,

@@ -7,9 +7,9 @@
 #![tactic(auto)]
 
 pub mod adapters;
-pub mod ahead;
 pub mod counts;
 pub mod memory;
+pub mod read_ahead;
 pub mod sink;
 pub mod source;
 pub mod transform;

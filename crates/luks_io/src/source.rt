@@ -6,7 +6,8 @@ ghost use Rattle.std.specs.Io.{ReadsAtMost};
 ghost use Rattle.std.specs.Io.KnownBytes.{ReadConsumes};
 ghost use Rattle.luks_io.specs.Devices.{ConsumedInto, ForwardEffect, IfKnown, is_aborted};
 ghost use Rattle.luks_io.specs.Devices.{is_short_read};
-ghost use Rattle.luks_io.specs.Counts.{Reads, Writes, after_forward, after_read, allowed_to, got_in};
+ghost use Rattle.luks_io.specs.Counts.{Reads, Writes, after_forward};
+ghost use Rattle.luks_io.specs.Counts.{after_read, allowed_to, got_in};
 ghost use Rattle.luks_io.specs.declared.counts.ReadCounts.{ReadCounts};
 
 use crate::DeviceFault;

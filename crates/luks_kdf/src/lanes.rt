@@ -13,7 +13,7 @@ use crate::Work;
 use crate::derive::derive_block;
 use crate::engine::Engine;
 use crate::mac::{KeyBlocks, Keyed, key_blocks};
-use luks_sha_lanes::{chains1, chains256, chains512};
+use luks_sha_lanes::{sha1_chains, sha256_chains, sha512_chains};
 use sha1::Sha1;
 use sha2::{Sha256, Sha384, Sha512};
 
@@ -64,9 +64,9 @@ impl Lanes for Sha1 {
         xors: &mut [u8],
     ) {
         if used == 1 {
-            chains1::xor_chains::<1>(inner, outer, count, &last[..20], &mut xors[..20]);
+            sha1_chains::xor_chains::<1>(inner, outer, count, &last[..20], &mut xors[..20]);
         } else {
-            chains1::xor_chains::<4>(inner, outer, count, last, xors);
+            sha1_chains::xor_chains::<4>(inner, outer, count, last, xors);
         }
     }
 
@@ -88,7 +88,7 @@ impl Lanes for Sha256 {
         last: &[u8],
         xors: &mut [u8],
     ) {
-        chains256::xor_chains(inner, outer, count, last, xors);
+        sha256_chains::xor_chains(inner, outer, count, last, xors);
     }
 
     ghost known = { refl };
@@ -109,7 +109,7 @@ impl Lanes for Sha384 {
         last: &[u8],
         xors: &mut [u8],
     ) {
-        chains512::xor_chain384(inner, outer, count, last, xors);
+        sha512_chains::xor_chain384(inner, outer, count, last, xors);
     }
 
     ghost known = { refl };
@@ -130,7 +130,7 @@ impl Lanes for Sha512 {
         last: &[u8],
         xors: &mut [u8],
     ) {
-        chains512::xor_chain512(inner, outer, count, last, xors);
+        sha512_chains::xor_chain512(inner, outer, count, last, xors);
     }
 
     ghost known = { refl };

@@ -12,7 +12,7 @@ use Rattle.luks_io.specs.declared.counts.ReadCounts.{ReadCounts}
 use Rattle.luks_io.proofs.EffectLemmas.{consumed-prefix}
 use Rattle.luks_payload.specs.PumpEffects.{BeginsWith, FilledSector, AbortsInSector}
 use Rattle.luks_payload.specs.Plain.{unit_plain}
-use Rattle.luks_payload.specs.declared.fault.VolumeFault.TheVariants.{Write}
+use Rattle.luks_payload.specs.declared.fault.PayloadFault.TheVariants.{Write}
 use borrow.Rule.Slice.PartMut.{put_mid}
 
 -- if all requested bytes were read, EOF was not hit

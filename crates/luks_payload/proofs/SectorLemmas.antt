@@ -9,8 +9,8 @@ use Rattle.std.proofs.Math.Nat.{div-mul-le_self, mod-eq-sub-div-mul, le-div_iff_
 use Rattle.std.proofs.Math.Nat.{mul-le-mul_left, zero-div}
 use Rattle.luks_payload.specs.PumpEffects.{max_sectors_of}
 use Rattle.luks_payload.specs.Plain.{payload_end_in, ending_of_len, payload_bytes}
-use Rattle.luks_payload.specs.declared.fault.VolumeFault.{VolumeFault}
-use Rattle.luks_payload.specs.declared.fault.VolumeFault.TheVariants.{Tail, Short}
+use Rattle.luks_payload.specs.declared.fault.PayloadFault.{PayloadFault}
+use Rattle.luks_payload.specs.declared.fault.PayloadFault.TheVariants.{Tail, Short}
 use Rattle.luks_payload.specs.declared.state.Step.{Step}
 use Rattle.luks_payload.specs.declared.state.Step.TheVariants.{End}
 
@@ -83,13 +83,13 @@ payload_ends None offset len = omega arith
 payload_ends (Some size) offset len = omega arith
 
 -- a property of both outcomes of a test holds for its result
-by_test : (P : Result Step VolumeFault → Type 0) (b : Bool) (x y : Result Step VolumeFault) → P x → P y
+by_test : (P : Result Step PayloadFault → Type 0) (b : Bool) (x y : Result Step PayloadFault) → P x → P y
     → P (if b then x else y)
 by_test P true x y p q = p
 by_test P false x y p q = q
 
 -- a property of every possible ending holds for the ending of a payload whose image reaches its start
-pub by_ending : (P : Result Step VolumeFault → Type 0) → P (Ok End) → ((n : ℕ) → P (Err (Tail n)))
+pub by_ending : (P : Result Step PayloadFault → Type 0) → P (Ok End) → ((n : ℕ) → P (Err (Tail n)))
     → ((n : ℕ) → P (Err (Short n))) → (size : Option ℕ) (z len : ℕ) → P (ending_of_len size z len)
 by_ending P end tail short None z len =
     by_test P (len % z == 0) (Ok End) (Err (Tail (len % z))) end (tail (len % z))

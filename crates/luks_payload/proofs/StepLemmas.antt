@@ -23,8 +23,8 @@ use Rattle.luks_payload.specs.PumpEffects.{PositionedIn, StepEffect, ConsumesSec
 use Rattle.luks_payload.specs.PumpEffects.{WritesSectors, hits_eof_at, is_running, consumed_by, state_after_skip}
 use Rattle.luks_payload.specs.declared.state.State.{State}
 use Rattle.luks_payload.specs.declared.state.State.TheVariants.{BeforePayload, InPayload, Ended, Faulted}
-use Rattle.luks_payload.specs.declared.fault.VolumeFault.{VolumeFault}
-use Rattle.luks_payload.specs.declared.fault.VolumeFault.TheVariants.{CutBeforePayload, Read, Write}
+use Rattle.luks_payload.specs.declared.fault.PayloadFault.{PayloadFault}
+use Rattle.luks_payload.specs.declared.fault.PayloadFault.TheVariants.{CutBeforePayload, Read, Write}
 use Rattle.luks_payload.specs.declared.state.Step.{Step}
 use Rattle.luks_payload.specs.declared.state.Step.TheVariants.{Sector, End}
 use Rattle.luks_payload.proofs.SectorLemmas.{at_limit, at_torn, by_ending, is_whole, is_within, none_whole}
@@ -33,7 +33,7 @@ use Rattle.luks_payload.proofs.SectorLemmas.{payload_ends}
 module _ (s : Segment) (image : List ℕ) (count : ℕ) where
   -- an end with the specified answer is the effect of a step
   steps_from_end : (cipher : Cipher) (already : ℕ) (left' before after : Option (List ℕ))
-      (answer : Result Step VolumeFault) (len : ℕ) → answer ≡ ending_of_len s.size (sector_len s) len
+      (answer : Result Step PayloadFault) (len : ℕ) → answer ≡ ending_of_len s.size (sector_len s) len
       → EndEffect image s count already answer left' → StepEffect s cipher count already image answer left' before after
   steps_from_end cipher already l b a answer len is =
       rw is (by_ending (λ x. EndEffect image s count already x l → StepEffect s cipher count already image x l b a)
@@ -75,7 +75,7 @@ module _ (s : Segment) (image : List ℕ) (count : ℕ) where
         }
 
     -- a read or a write failed
-    pub step_aborted : (cipher : Cipher) (left' before after : Option (List ℕ)) (fault : VolumeFault)
+    pub step_aborted : (cipher : Cipher) (left' before after : Option (List ℕ)) (fault : PayloadFault)
         → count < max_sectors s → AbortsInSector cipher (unit_number s count) (sector_len s) prefix
         (drop next_byte image) left' before after fault
         → StepEffect s cipher count next_byte image (Err fault) left' before after
@@ -96,7 +96,7 @@ module _ (s : Segment) (image : List ℕ) (count : ℕ) where
     sector_appended cipher b a appends = rw joined at (appends (drop next_byte image) positioned.consumption.left)
 
     -- the image ended before the sector did
-    pub steps_torn : (cipher : Cipher) (left' before after : Option (List ℕ)) (answer : Result Step VolumeFault)
+    pub steps_torn : (cipher : Cipher) (left' before after : Option (List ℕ)) (answer : Result Step PayloadFault)
         (got : ℕ) → count < max_sectors s → IfKnown left (λ rest. (got ≡ min (sector_len s) (length (prefix ++ rest)))
         × ConsumedExactly rest left' (got - length prefix)) → got < sector_len s
         → answer ≡ ending_of_len s.size (sector_len s) (count * sector_len s + got)
@@ -139,7 +139,7 @@ module _ (s : Segment) (image : List ℕ) (count : ℕ) where
         }
 
 -- the image ends in a sector: a step may give this answer, and hit EOF if it gives it
-module _ (s : Segment) (count more : ℕ) (answer : Result Step VolumeFault) (below : count < max_sectors s)
+module _ (s : Segment) (count more : ℕ) (answer : Result Step PayloadFault) (below : count < max_sectors s)
     (is : answer ≡ ending_of_len s.size (sector_len s) (count * sector_len s + more)) where
   pub may_be_torn : more < sector_len s → MayAnswer InPayload s count answer
   may_be_torn torn =
@@ -166,7 +166,7 @@ module _ (s : Segment) (count more : ℕ) (answer : Result Step VolumeFault) (be
       s.size (sector_len s) (count * sector_len s + more))
 
 -- a read or a write failed in a sector
-module _ (s : Segment) (count : ℕ) (fault : VolumeFault) (only : (fault ≡ Read) ⊎ (fault ≡ Write)) where
+module _ (s : Segment) (count : ℕ) (fault : PayloadFault) (only : (fault ≡ Read) ⊎ (fault ≡ Write)) where
   pub may_abort : MayAnswer InPayload s count (Err fault)
   may_abort = elim only [ inl is ↦ rw is tt | inr is ↦ rw is tt ]
 
@@ -192,7 +192,7 @@ module _ (p : PumpModel) (image : List ℕ) (r r' : Option (List ℕ)) (early : 
   consumption : ConsumedExactly image r p.consumed_before
   consumption = subst (ConsumedExactly image r) (at_first p first bare) positioned.positioned.consumption
 
-  pub skips : (answer : Result (Unit {0}) VolumeFault)
+  pub skips : (answer : Result (Unit {0}) PayloadFault)
       → OnOk answer (IfKnown r (λ rest. ConsumedExactly rest r' (p.segment.offset - p.consumed_before)))
       → IfErr answer (λ fault. IfKnown r (λ l. AbortsDiscarding (p.segment.offset - p.consumed_before) l r' fault))
       → SkipEffect p image answer r'
@@ -218,7 +218,7 @@ module _ (p : PumpModel) (image : List ℕ) (r r' : Option (List ℕ)) (early : 
   skips (Err _) ok err = absurd (err (drop p.consumed_before image) consumption.left)
 
 -- if a skip failed, a running pump was before its payload
-pub was_before : (state : State) (fault : VolumeFault) (T : Type 0) → SkipsAgain state (Err fault) T
+pub was_before : (state : State) (fault : PayloadFault) (T : Type 0) → SkipsAgain state (Err fault) T
     → is_running state ≡ true → state ≡ BeforePayload
 was_before BeforePayload fault T again running = refl
 was_before InPayload fault T again running =
@@ -229,7 +229,7 @@ was_before _ fault T again running = cc
 -- a step whose skip failed
 module _ (p : PumpModel) (image : List ℕ) (r r' before after : Option (List ℕ)) (first : p.state ≡ BeforePayload)
     (fresh : (p.count ≡ 0) × (p.prefix ≡ [])) (positioned : PositionedIn image p r) where
-  pub steps_unskipped : (fault : VolumeFault) → SkipEffect p image (Err fault) r'
+  pub steps_unskipped : (fault : PayloadFault) → SkipEffect p image (Err fault) r'
       → StepEffect p.segment p.cipher p.count (consumed_by p) image (Err fault) r' before after
   steps_unskipped CutBeforePayload (cut, left) =
       let len : bytes_from_start p.segment image ≡ 0 = omega arith in
@@ -248,7 +248,7 @@ module _ (p : PumpModel) (image : List ℕ) (r r' before after : Option (List �
   steps_unskipped _ stops = absurd stops
 
 -- the reads of a failed skip are those of its step, which makes no write
-module _ (s : Segment) (count : ℕ) (fault : VolumeFault) (only : (fault ≡ CutBeforePayload) ⊎ (fault ≡ Read)) where
+module _ (s : Segment) (count : ℕ) (fault : PayloadFault) (only : (fault ≡ CutBeforePayload) ⊎ (fault ≡ Read)) where
   pub unskipped_reads : (a b : ReadCounts)
       → Reads (is_pump_read_failure {T = Unit {0}} (Err fault)) (is_cut_before_payload {T = Unit {0}} (Err fault)) a b
       → Reads (is_pump_read_failure {T = Step} (Err fault)) (hits_eof_at s count (Err fault)) a b
@@ -260,7 +260,7 @@ module _ (s : Segment) (count : ℕ) (fault : VolumeFault) (only : (fault ≡ Cu
 -- the effect of a step from the payload's start on is also the effect of one from an earlier offset
 module _ (s : Segment) (cipher : Cipher) (count already : ℕ) (image : List ℕ) (l b a : Option (List ℕ))
     (early : already ≤ s.offset) (there : s.offset ≤ length image) where
-  ends_earlier : (answer : Result Step VolumeFault) → EndEffect image s count s.offset answer l
+  ends_earlier : (answer : Result Step PayloadFault) → EndEffect image s count s.offset answer l
       → EndEffect image s count already answer l
   ends_earlier answer ends =
       let same : max s.offset (payload_end_of s image) ≡ max already (payload_end_of s image) =
@@ -273,7 +273,7 @@ module _ (s : Segment) (cipher : Cipher) (count already : ℕ) (image : List ℕ
       omega arith in
       record { is_one = consumes.is_one; consumption = rw same at consumes.consumption }
 
-  steps_earlier : (answer : Result Step VolumeFault) → StepEffect s cipher count s.offset image answer l b a
+  steps_earlier : (answer : Result Step PayloadFault) → StepEffect s cipher count s.offset image answer l b a
       → StepEffect s cipher count already image answer l b a
   steps_earlier (Ok Sector) (consumes, appends) = (consumes_earlier consumes, appends)
   steps_earlier (Err Read) (n, first, last, consumption) = (n, omega arith, last, consumption)
@@ -281,7 +281,7 @@ module _ (s : Segment) (cipher : Cipher) (count already : ℕ) (image : List ℕ
   steps_earlier ending ends = ends_earlier ending ends
 
 -- a step continues where its skip left the source
-module _ (p : PumpModel) (image : List ℕ) (r r' r'' before after : Option (List ℕ)) (answer : Result Step VolumeFault)
+module _ (p : PumpModel) (image : List ℕ) (r r' r'' before after : Option (List ℕ)) (answer : Result Step PayloadFault)
     (positioned : PositionedIn image p r) (early : p.consumed_before ≤ p.segment.offset) where
   pub steps_skipped : (state : State) (T : Type 0) → p.state ≡ state → SkipsAgain state (Ok tt) T → (T → r' ≡ r)
       → (p.state ≡ BeforePayload → (p.count ≡ 0) × (p.prefix ≡ []))

@@ -6,8 +6,8 @@ use Rattle.luks_cipher.specs.Xts.{joined}
 use Rattle.luks_verdict.specs.SectorSize.{bytes_of}
 pub use Rattle.luks_verdict.specs.Segment.{unit_number}
 use Rattle.luks_verdict.specs.declared.segment.Segment.{Segment}
-use Rattle.luks_payload.specs.declared.fault.VolumeFault.{VolumeFault}
-use Rattle.luks_payload.specs.declared.fault.VolumeFault.TheVariants.{CutBeforePayload, Tail, Short}
+use Rattle.luks_payload.specs.declared.fault.PayloadFault.{PayloadFault}
+use Rattle.luks_payload.specs.declared.fault.PayloadFault.TheVariants.{CutBeforePayload, Tail, Short}
 use Rattle.luks_payload.specs.declared.state.Step.{Step}
 use Rattle.luks_payload.specs.declared.state.Step.TheVariants.{End}
 
@@ -46,12 +46,12 @@ abbrev pub plain_of : Segment → Cipher → List ℕ → List ℕ
 plain_of s cipher image = joined (sector_plaintext s cipher image) (sectors_of s image)
 
 -- how a payload ends if the image has `len` bytes from its start on
-abbrev pub ending_of_len : Option ℕ → ℕ → ℕ → Result Step VolumeFault
+abbrev pub ending_of_len : Option ℕ → ℕ → ℕ → Result Step PayloadFault
 ending_of_len None sector len = if len % sector == 0 then Ok End else Err (Tail (len % sector))
 ending_of_len (Some size) sector len = if nat_lt len size then Err (Short (size - len)) else Ok End
 
 -- how the payload ends
-abbrev pub ending_of : Segment → List ℕ → Result Step VolumeFault
+abbrev pub ending_of : Segment → List ℕ → Result Step PayloadFault
 ending_of s image =
     if nat_lt (length image) s.offset then Err CutBeforePayload else ending_of_len s.size (sector_len s)
     (bytes_from_start s image)

@@ -6,30 +6,30 @@ use Rattle.luks_io.specs.Devices.{Appended, ConsumedBetween, ConsumedExactly, Co
 use Rattle.luks_verdict.specs.declared.segment.Segment.{Segment}
 use Rattle.luks_payload.specs.Plain.{ending_of, ending_of_len, payload_end_of, sector_len, sector_plaintext}
 use Rattle.luks_payload.specs.Plain.{sector_start, sectors_of, unit_plain}
-use Rattle.luks_payload.specs.declared.fault.VolumeFault.{VolumeFault}
-use Rattle.luks_payload.specs.declared.fault.VolumeFault.TheVariants.{CutBeforePayload, Tail, Short, Read, Write}
+use Rattle.luks_payload.specs.declared.fault.PayloadFault.{PayloadFault}
+use Rattle.luks_payload.specs.declared.fault.PayloadFault.TheVariants.{CutBeforePayload, Tail, Short, Read, Write}
 use Rattle.luks_payload.specs.declared.state.State.{State}
 use Rattle.luks_payload.specs.declared.state.State.TheVariants.{BeforePayload, InPayload, Ended, Faulted}
 use Rattle.luks_payload.specs.declared.state.Step.{Step}
 use Rattle.luks_payload.specs.declared.state.Step.TheVariants.{Sector, End}
 
 -- whether a read failed in a call with this answer
-abbrev pub is_pump_read_failure : {T : Type 0} → Result T VolumeFault → Bool
+abbrev pub is_pump_read_failure : {T : Type 0} → Result T PayloadFault → Bool
 is_pump_read_failure (Err Read) = true
 is_pump_read_failure _ = false
 
 -- whether a write failed in such a call
-abbrev pub is_pump_write_failure : {T : Type 0} → Result T VolumeFault → Bool
+abbrev pub is_pump_write_failure : {T : Type 0} → Result T PayloadFault → Bool
 is_pump_write_failure (Err Write) = true
 is_pump_write_failure _ = false
 
 -- whether such a call hit EOF on the image before the payload
-abbrev pub is_cut_before_payload : {T : Type 0} → Result T VolumeFault → Bool
+abbrev pub is_cut_before_payload : {T : Type 0} → Result T PayloadFault → Bool
 is_cut_before_payload (Err CutBeforePayload) = true
 is_cut_before_payload _ = false
 
 -- discarding the next `count` bytes of a source was aborted: the source has fewer, or a read failed
-abbrev pub AbortsDiscarding : ℕ → List ℕ → Option (List ℕ) → VolumeFault → Type 0
+abbrev pub AbortsDiscarding : ℕ → List ℕ → Option (List ℕ) → PayloadFault → Type 0
 AbortsDiscarding count known left CutBeforePayload = (length known < count) × ConsumedExactly known left (length known)
 AbortsDiscarding count known left Read = ConsumedFewer known left count
 AbortsDiscarding count known left _ = ⊥
@@ -57,7 +57,7 @@ pub record FilledSector (len : ℕ) (prefix known : List ℕ) (left' : Option (L
 
 -- forwarding a sector of `len` bytes was aborted
 abbrev pub AbortsInSector : Cipher → ℕ → ℕ → List ℕ → List ℕ → Option (List ℕ) → Option (List ℕ) → Option (List ℕ)
-    → VolumeFault → Type 0
+    → PayloadFault → Type 0
 AbortsInSector cipher number len prefix known left' before after Read = ConsumedFewer known left' (len - length prefix)
 AbortsInSector cipher number len prefix known left' before after Write =
     ConsumedExactly known left' (len - length prefix) × ((count : ℕ) × (count < len)
@@ -77,14 +77,14 @@ pub record SectorForwarded (cipher : Cipher) (number len : ℕ) (prefix : List �
   pub torn : got < len → unwritten
 
 -- a read or a write of that sector failed
-pub record SectorAborted (cipher : Cipher) (number len : ℕ) (prefix : List ℕ) (fault : VolumeFault)
+pub record SectorAborted (cipher : Cipher) (number len : ℕ) (prefix : List ℕ) (fault : PayloadFault)
     (left left' before after : Option (List ℕ)) (unwritten : Type 0) : Type 0 where
   pub known : IfKnown left (λ known. AbortsInSector cipher number len prefix known left' before after fault)
   pub unread : fault ≡ Read → unwritten
   pub only : (fault ≡ Read) ⊎ (fault ≡ Write)
 
 -- the effect of forwarding that sector
-abbrev pub SectorEffect : Cipher → ℕ → ℕ → List ℕ → Result ℕ VolumeFault → Option (List ℕ) → Option (List ℕ)
+abbrev pub SectorEffect : Cipher → ℕ → ℕ → List ℕ → Result ℕ PayloadFault → Option (List ℕ) → Option (List ℕ)
     → Option (List ℕ) → Option (List ℕ) → Type 0 → Type 0
 SectorEffect cipher number len prefix answer left left' before after unwritten = MatchResult answer
     (λ got. SectorForwarded cipher number len prefix got left left' before after unwritten)
@@ -135,7 +135,7 @@ pub record PositionedIn (image : List ℕ) (pump : PumpModel) (left' : Option (L
   pub positioned : PositionedAt image pump.prefix (position pump) left'
 
 -- the state of a pump after a skip
-abbrev pub state_after_skip : {T : Type 0} → State → Result T VolumeFault → State
+abbrev pub state_after_skip : {T : Type 0} → State → Result T PayloadFault → State
 state_after_skip BeforePayload (Ok _) = InPayload
 state_after_skip BeforePayload (Err fault) = Faulted fault
 state_after_skip InPayload _ = InPayload
@@ -143,13 +143,13 @@ state_after_skip Ended _ = Ended
 state_after_skip (Faulted fault) _ = Faulted fault
 
 -- a skip touches nothing and repeats its answer if the pump is not before its payload
-abbrev pub SkipsAgain : State → Result (Unit {0}) VolumeFault → Type 0 → Type 0
+abbrev pub SkipsAgain : State → Result (Unit {0}) PayloadFault → Type 0 → Type 0
 SkipsAgain BeforePayload answer untouched = Unit {0}
 SkipsAgain (Faulted fault) answer untouched = (answer ≡ Err fault) × untouched
 SkipsAgain _ answer untouched = (answer ≡ Ok tt) × untouched
 
 -- a skip consumed the image up to the payload's start, or was aborted
-abbrev pub SkipEffect : PumpModel → List ℕ → Result (Unit {0}) VolumeFault → Option (List ℕ) → Type 0
+abbrev pub SkipEffect : PumpModel → List ℕ → Result (Unit {0}) PayloadFault → Option (List ℕ) → Type 0
 SkipEffect p image (Ok _) left = ConsumedExactly image left p.segment.offset
 SkipEffect p image (Err CutBeforePayload) left = (length image < p.segment.offset)
     × ConsumedExactly image left (length image)
@@ -157,33 +157,33 @@ SkipEffect p image (Err Read) left = ConsumedBetween image left p.consumed_befor
 SkipEffect p image _ left = ⊥
 
 -- a pump after a step
-abbrev pub after_step : PumpModel → Result Step VolumeFault → PumpModel
+abbrev pub after_step : PumpModel → Result Step PayloadFault → PumpModel
 after_step p (Ok Sector) =
     record p { count = p.count + 1; state = InPayload; prefix = drop (sector_len p.segment) p.prefix }
 after_step p (Ok End) = record p { state = Ended }
 after_step p (Err fault) = record p { state = Faulted fault }
 
 -- a step touches nothing if the pump has ended or failed, or has forwarded as many sectors as its limit allows (`full`)
-abbrev pub StepsIdle : State → Type 0 → Result Step VolumeFault → Type 0 → Type 0
+abbrev pub StepsIdle : State → Type 0 → Result Step PayloadFault → Type 0 → Type 0
 StepsIdle BeforePayload full answer untouched = Unit {0}
 StepsIdle InPayload full answer untouched = full → (answer ≡ Ok End) × untouched
 StepsIdle Ended full answer untouched = (answer ≡ Ok End) × untouched
 StepsIdle (Faulted fault) full answer untouched = (answer ≡ Err fault) × untouched
 
 -- a step that forwards a sector has written it, and one that ends or fails before a write has written nothing
-abbrev pub WritesSectors : Result Step VolumeFault → Type 0 → Type 0 → Type 0
+abbrev pub WritesSectors : Result Step PayloadFault → Type 0 → Type 0 → Type 0
 WritesSectors (Ok Sector) written unwritten = written
 WritesSectors (Err Write) written unwritten = Unit {0}
 WritesSectors _ written unwritten = unwritten
 
 -- how the payload ends after `count` sectors: at its limit, or because less than one sector remains in the source
-abbrev pub EndsAt : Segment → ℕ → Result Step VolumeFault → Type 0
+abbrev pub EndsAt : Segment → ℕ → Result Step PayloadFault → Type 0
 EndsAt s count answer = ((count ≡ max_sectors s) × (answer ≡ Ok End))
     ⊎ ((count < max_sectors s) × ((more : ℕ) × (more < sector_len s)
     × (answer ≡ ending_of_len s.size (sector_len s) (count * sector_len s + more))))
 
 -- the answers that a step may give, whatever its devices do
-abbrev pub MayAnswer : State → Segment → ℕ → Result Step VolumeFault → Type 0
+abbrev pub MayAnswer : State → Segment → ℕ → Result Step PayloadFault → Type 0
 MayAnswer state s count (Ok Sector) = count < max_sectors s
 MayAnswer state s count (Err CutBeforePayload) = state ≡ BeforePayload
 MayAnswer state s count (Err Read) = Unit {0}
@@ -191,7 +191,7 @@ MayAnswer state s count (Err Write) = Unit {0}
 MayAnswer state s count ending = EndsAt s count ending
 
 -- whether a step after `count` sectors hit EOF; it did not if a limit ended the payload
-abbrev pub hits_eof_at : Segment → ℕ → Result Step VolumeFault → Bool
+abbrev pub hits_eof_at : Segment → ℕ → Result Step PayloadFault → Bool
 hits_eof_at s count (Ok End) = nat_lt count (max_sectors s)
 hits_eof_at s count (Err CutBeforePayload) = true
 hits_eof_at s count (Err (Tail _)) = true
@@ -206,14 +206,14 @@ pub record ConsumesSector (image : List ℕ) (segment : Segment) (count already 
 
 -- the payload came to its specified end after `count` sectors, and all of it was consumed from an image whose
 -- first `already` bytes had been consumed before
-pub record EndEffect (image : List ℕ) (segment : Segment) (count already : ℕ) (answer : Result Step VolumeFault)
+pub record EndEffect (image : List ℕ) (segment : Segment) (count already : ℕ) (answer : Result Step PayloadFault)
     (left : Option (List ℕ)) : Type 0 where
   pub all : count ≡ sectors_of segment image
   pub as_specified : answer ≡ ending_of segment image
   pub consumption : ConsumedExactly image left (max already (payload_end_of segment image))
 
 -- the effect of a step after `count` sectors, in an image whose first `already` bytes had been consumed before
-abbrev pub StepEffect : Segment → Cipher → ℕ → ℕ → List ℕ → Result Step VolumeFault → Option (List ℕ) → Option (List ℕ)
+abbrev pub StepEffect : Segment → Cipher → ℕ → ℕ → List ℕ → Result Step PayloadFault → Option (List ℕ) → Option (List ℕ)
     → Option (List ℕ) → Type 0
 StepEffect s cipher count already image (Ok Sector) left before after =
     ConsumesSector image s count already left × Appended before after (sector_plaintext s cipher image count)

@@ -5,7 +5,7 @@ use luks_io::source::ReadFault;
 
 /// Why a payload was not written to its end.
 #[derive(Clone, Copy, PartialEq, Eq, Debug)]
-pub enum VolumeFault {
+pub enum PayloadFault {
     /// The image ends before its payload begins.
     CutBeforePayload,
     /// The image ends inside a sector, and has this many bytes of it.
@@ -18,24 +18,24 @@ pub enum VolumeFault {
     Write,
 }
 
-impl From<ReadFault> for VolumeFault {
+impl From<ReadFault> for PayloadFault {
     ghost use Rattle.std.specs.Prelude.{◌≡◌};
-    ghost use Rattle.luks_payload.specs.declared.fault.VolumeFault.TheVariants.{Read};
+    ghost use Rattle.luks_payload.specs.declared.fault.PayloadFault.TheVariants.{Read};
 
     ghost from_gives = { λ _ fault. fault ≡ Read };
 
-    fn from(_fault: ReadFault) -> VolumeFault {
-        VolumeFault::Read
+    fn from(_fault: ReadFault) -> PayloadFault {
+        PayloadFault::Read
     }
 }
 
-impl From<WriteFault> for VolumeFault {
+impl From<WriteFault> for PayloadFault {
     ghost use Rattle.std.specs.Prelude.{◌≡◌};
-    ghost use Rattle.luks_payload.specs.declared.fault.VolumeFault.TheVariants.{Write};
+    ghost use Rattle.luks_payload.specs.declared.fault.PayloadFault.TheVariants.{Write};
 
     ghost from_gives = { λ _ fault. fault ≡ Write };
 
-    fn from(_fault: WriteFault) -> VolumeFault {
-        VolumeFault::Write
+    fn from(_fault: WriteFault) -> PayloadFault {
+        PayloadFault::Write
     }
 }

@@ -8,7 +8,7 @@ ghost use Rattle.luks_payload.specs.PumpEffects.{SectorEffect, is_cut_before_pay
 ghost use Rattle.luks_payload.specs.PumpEffects.{is_pump_read_failure, is_pump_write_failure};
 
 use crate::decryption::Decryption;
-use crate::fault::VolumeFault;
+use crate::fault::PayloadFault;
 use luks_cipher::SectorCipher;
 use luks_io::sink::{Sink, put_all};
 use luks_io::source::{Source, fill};
@@ -18,14 +18,14 @@ pub(crate) fn discard<S: Source>(
     source: &mut S,
     count: u64,
     piece: &mut [u8],
-) -> Result<(), VolumeFault>
+) -> Result<(), PayloadFault>
     requires { 0 < length piece.old }
     ensures ok { OnOk result (IfKnown (S.to_come source.old)
         (λ known. ConsumedExactly known (S.to_come source.new) count)) }
     ensures err { IfErr result (λ fault. IfKnown (S.to_come source.old)
         (λ known. AbortsDiscarding count known (S.to_come source.new) fault)) }
     ensures only { IfErr result
-        (λ fault. (fault ≡ VolumeFault.CutBeforePayload) ⊎ (fault ≡ VolumeFault.Read)) }
+        (λ fault. (fault ≡ PayloadFault.CutBeforePayload) ⊎ (fault ≡ PayloadFault.Read)) }
     ensures reads { Reads (is_pump_read_failure result) (is_cut_before_payload result)
         (S.counts source.old) (S.counts source.new) }
 {
@@ -33,7 +33,7 @@ pub(crate) fn discard<S: Source>(
     'pieces: while remaining > 0 {
         let size = remaining.min(piece.len() as u64);
         if fill(source, &mut piece[..size as usize])? < size as usize {
-            return Err(VolumeFault::CutBeforePayload);
+            return Err(PayloadFault::CutBeforePayload);
         }
         remaining -= size;
     }
@@ -46,7 +46,7 @@ fn fill_sector<S: Source>(
     prefix: &[u8],
     sector: &mut [u8],
     source: &mut S,
-) -> Result<usize, VolumeFault>
+) -> Result<usize, PayloadFault>
     ensures most { IfOk result (λ got. got ≤ length sector.old) }
     ensures filled_sector { IfOk result (λ got. IfKnown (S.to_come source.old)
         (λ known. FilledSector (length sector.old) prefix.now known (S.to_come source.new)
@@ -55,7 +55,7 @@ fn fill_sector<S: Source>(
     ensures err { IfErr result (λ fault. IfKnown (S.to_come source.old)
         (λ known. ConsumedFewer known (S.to_come source.new)
         (length sector.old - length prefix.now))) }
-    ensures only { IfErr result (λ fault. fault ≡ VolumeFault.Read) }
+    ensures only { IfErr result (λ fault. fault ≡ PayloadFault.Read) }
     ensures reads { Reads (is_pump_read_failure result) (is_short_read result (length sector.old))
         (S.counts source.old) (S.counts source.new) }
 {
@@ -74,7 +74,7 @@ fn forward_filled<S: Source, O: Sink>(
     sector: &mut [u8],
     source: &mut S,
     sink: &mut O,
-) -> Result<usize, VolumeFault>
+) -> Result<usize, PayloadFault>
     requires whole_blocks { length sector.old % 16 ≡ 0 }
     requires shortest { 16 ≤ length sector.old }
     requires longest { length sector.old ≤ 4096 }
@@ -105,7 +105,7 @@ pub(crate) fn forward_sector<S: Source, O: Sink>(
     sector: &mut [u8],
     source: &mut S,
     sink: &mut O,
-) -> Result<usize, VolumeFault>
+) -> Result<usize, PayloadFault>
     requires whole_blocks { length sector.old % 16 ≡ 0 }
     requires shortest { 16 ≤ length sector.old }
     requires longest { length sector.old ≤ 4096 }

@@ -11,7 +11,7 @@ ghost use Rattle.luks_payload.specs.PumpEffects.{hits_eof_at, is_cut_before_payl
 ghost use Rattle.luks_payload.specs.PumpEffects.{is_pump_read_failure, is_pump_write_failure};
 ghost use Rattle.luks_payload.specs.PumpEffects.{max_sectors, state_after_skip};
 
-use crate::fault::VolumeFault;
+use crate::fault::PayloadFault;
 use crate::forwarding::{discard, forward_sector};
 use crate::sector::{ending, max_sectors, unit_number};
 use crate::state::{State, Step};
@@ -72,7 +72,7 @@ fn next_sector<S: Source, O: Sink>(
     buffer: &mut [u8; CAPACITY],
     source: &mut S,
     sink: &mut O,
-) -> Result<Step, VolumeFault>
+) -> Result<Step, PayloadFault>
     requires { count ≤ max_sectors segment.now }
     ensures limit { count ≡ max_sectors segment.now
         → (result ≡ Ok Step.End) × (source.new ≡ source.old) × (sink.new ≡ sink.old) }
@@ -161,9 +161,9 @@ impl<'a> Pump<'a> {
     ///
     /// # Errors
     ///
-    /// [`CutBeforePayload`](VolumeFault::CutBeforePayload) if the image ends before,
-    /// [`Read`](VolumeFault::Read) if a read failed. A pump that has failed repeats its fault.
-    pub fn skip<S: Source>(&mut self, source: &mut S) -> Result<(), VolumeFault>
+    /// [`CutBeforePayload`](PayloadFault::CutBeforePayload) if the image ends before,
+    /// [`Read`](PayloadFault::Read) if a read failed. A pump that has failed repeats its fault.
+    pub fn skip<S: Source>(&mut self, source: &mut S) -> Result<(), PayloadFault>
         ensures pump { self.new
             ≡ record self.old { state = state_after_skip self.old.state result } }
         ensures again { SkipsAgain self.old.state result (source.new ≡ source.old) }
@@ -171,7 +171,7 @@ impl<'a> Pump<'a> {
             → PositionedIn image self.old (S.to_come source.old)
             → SkipEffect self.old image result (S.to_come source.new) }
         ensures only { self.old.state ≡ State.BeforePayload → IfErr result (λ fault.
-            (fault ≡ VolumeFault.CutBeforePayload) ⊎ (fault ≡ VolumeFault.Read)) }
+            (fault ≡ PayloadFault.CutBeforePayload) ⊎ (fault ≡ PayloadFault.Read)) }
         ensures fresh { self.old.state ≡ State.BeforePayload
             → (self.old.count ≡ 0) × (self.old.prefix ≡ []) }
         ensures reads { is_running self.old.state ≡ true
@@ -194,7 +194,7 @@ impl<'a> Pump<'a> {
     }
 
     /// Updates the pump with the answer of a step in the payload.
-    fn remember(&mut self, answer: Result<Step, VolumeFault>)
+    fn remember(&mut self, answer: Result<Step, PayloadFault>)
         requires running { self.old.state ≡ State.InPayload }
         requires below { answer ≡ Ok Step.Sector → self.old.count < max_sectors self.old.segment }
         ensures { self.new ≡ after_step self.old answer }
@@ -219,14 +219,14 @@ impl<'a> Pump<'a> {
     ///
     /// # Errors
     ///
-    /// [`CutBeforePayload`](VolumeFault::CutBeforePayload), [`Tail`](VolumeFault::Tail) or
-    /// [`Short`](VolumeFault::Short) if the image is truncated; [`Read`](VolumeFault::Read) or
-    /// [`Write`](VolumeFault::Write) if a read or a write failed.
+    /// [`CutBeforePayload`](PayloadFault::CutBeforePayload), [`Tail`](PayloadFault::Tail) or
+    /// [`Short`](PayloadFault::Short) if the image is truncated; [`Read`](PayloadFault::Read) or
+    /// [`Write`](PayloadFault::Write) if a read or a write failed.
     pub fn step<S: Source, O: Sink>(
         &mut self,
         source: &mut S,
         sink: &mut O,
-    ) -> Result<Step, VolumeFault>
+    ) -> Result<Step, PayloadFault>
         ensures pump { self.new ≡ after_step self.old result }
         ensures idle { StepsIdle self.old.state (self.old.count ≡ max_sectors self.old.segment)
             result ((source.new ≡ source.old) × (sink.new ≡ sink.old)) }

@@ -4,7 +4,7 @@ ghost use Rattle.std.specs.Prelude.{◌≡◌, ◌+◌, ◌*◌, ◌<◌};
 ghost use Rattle.luks_payload.specs.PumpEffects.{max_sectors};
 ghost use Rattle.luks_payload.specs.Plain.{ending_of_len, sector_len, unit_number};
 
-use crate::fault::VolumeFault;
+use crate::fault::PayloadFault;
 use crate::state::Step;
 use luks_verdict::segment::Segment;
 
@@ -28,7 +28,7 @@ pub fn unit_number(segment: &Segment, sector: u64) -> u64
 }
 
 /// How the payload ends if the image has `sectors` sectors of it and `more` bytes after them.
-pub(crate) fn ending(segment: &Segment, sectors: u64, more: usize) -> Result<Step, VolumeFault>
+pub(crate) fn ending(segment: &Segment, sectors: u64, more: usize) -> Result<Step, PayloadFault>
     requires below { sectors < max_sectors segment.now }
     requires torn { more < sector_len segment.now }
     ensures { result ≡ ending_of_len segment.now.size (sector_len segment.now)
@@ -36,8 +36,8 @@ pub(crate) fn ending(segment: &Segment, sectors: u64, more: usize) -> Result<Ste
 {
     let sector = segment.sector_size.bytes() as u64;
     match segment.size {
-        Some(size) => Err(VolumeFault::Short(size - sectors * sector - more as u64)),
+        Some(size) => Err(PayloadFault::Short(size - sectors * sector - more as u64)),
         None if more == 0 => Ok(Step::End),
-        None => Err(VolumeFault::Tail(more as u64)),
+        None => Err(PayloadFault::Tail(more as u64)),
     }
 }

@@ -1,6 +1,6 @@
 //! What a step did, and the state of a pump.
 
-use crate::fault::VolumeFault;
+use crate::fault::PayloadFault;
 
 /// What one step did.
 #[derive(Clone, Copy, PartialEq, Eq, Debug)]
@@ -21,5 +21,5 @@ pub enum State {
     /// The payload has ended without a fault.
     Ended,
     /// This fault ended it.
-    Faulted(VolumeFault),
+    Faulted(PayloadFault),
 }

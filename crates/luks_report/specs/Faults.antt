@@ -1,13 +1,13 @@
 -- The message for each fault of the layers below.
 use Rattle.std.specs.Prelude.{ℕ, Option, Result, Ok, Err, unwrap_or}
-use Rattle.luks_area.specs.declared.fault.HeaderFault.{HeaderFault}
-use Rattle.luks_area.specs.declared.fault.HeaderFault.TheVariants.{NotLuks, Cut, Json, Read as HeaderRead}
-use Rattle.luks_area.specs.declared.fault.HeaderFault.TheVariants.{Memory as HeaderMemory}
-use Rattle.luks_open.specs.declared.fault.OpenFault.{OpenFault}
-use Rattle.luks_open.specs.declared.fault.OpenFault.TheVariants.{NoSuchSlot, Disabled, NamedSkipped, NothingTried}
-use Rattle.luks_open.specs.declared.fault.OpenFault.TheVariants.{NoKey, Memory}
-use Rattle.luks_payload.specs.declared.fault.VolumeFault.{VolumeFault}
-use Rattle.luks_payload.specs.declared.fault.VolumeFault.TheVariants.{CutBeforePayload, Tail, Short, Read, Write}
+use Rattle.luks_header_area.specs.declared.fault.HeaderFault.{HeaderFault}
+use Rattle.luks_header_area.specs.declared.fault.HeaderFault.TheVariants.{NotLuks, Cut, Json, Read as HeaderRead}
+use Rattle.luks_header_area.specs.declared.fault.HeaderFault.TheVariants.{Memory as HeaderMemory}
+use Rattle.luks_key_slots.specs.declared.fault.OpenFault.{OpenFault}
+use Rattle.luks_key_slots.specs.declared.fault.OpenFault.TheVariants.{NoSuchSlot, Disabled, NamedSkipped, NothingTried}
+use Rattle.luks_key_slots.specs.declared.fault.OpenFault.TheVariants.{NoKey, Memory}
+use Rattle.luks_payload.specs.declared.fault.PayloadFault.{PayloadFault}
+use Rattle.luks_payload.specs.declared.fault.PayloadFault.TheVariants.{CutBeforePayload, Tail, Short, Read, Write}
 use Rattle.luks_payload.specs.declared.state.Step.{Step}
 use Rattle.luks_report.specs.declared.message.Message.{Message}
 use Rattle.luks_report.specs.declared.message.Message.TheVariants as M
@@ -31,7 +31,7 @@ message_for_opening named (NoKey skipped) = M.NoKey skipped
 message_for_opening named Memory = M.OutOfMemory
 
 -- the message if forwarding the payload failed, or the payload is not whole
-abbrev pub message_for_payload : VolumeFault → Message
+abbrev pub message_for_payload : PayloadFault → Message
 message_for_payload CutBeforePayload = M.CutBeforePayload
 message_for_payload (Tail bytes) = M.Tail bytes
 message_for_payload (Short bytes) = M.Short bytes
@@ -39,6 +39,6 @@ message_for_payload Read = M.ReadFailed
 message_for_payload Write = M.WriteFailed
 
 -- the message at the end of a payload
-abbrev pub message_at_end : Result Step VolumeFault → Message
+abbrev pub message_at_end : Result Step PayloadFault → Message
 message_at_end (Ok _) = M.Done
 message_at_end (Err fault) = message_for_payload fault

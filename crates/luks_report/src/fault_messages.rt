@@ -8,8 +8,8 @@ use luks_header::fault::HeaderFault;
 use luks_header::refusal::SegmentFault;
 use luks_io::sink::WriteFault;
 use luks_io::source::ReadFault;
-use luks_open::fault::OpenFault;
-use luks_payload::fault::VolumeFault;
+use luks_key_slots::fault::OpenFault;
+use luks_payload::fault::PayloadFault;
 use std::alloc::AllocError;
 
 impl Message {
@@ -65,18 +65,18 @@ impl From<SegmentFault> for Message {
     }
 }
 
-impl From<VolumeFault> for Message {
+impl From<PayloadFault> for Message {
     ghost use Rattle.luks_report.specs.Faults.{message_for_payload};
 
     ghost from_gives = { λ fault message. message ≡ message_for_payload fault };
 
-    fn from(fault: VolumeFault) -> Message {
+    fn from(fault: PayloadFault) -> Message {
         match fault {
-            VolumeFault::CutBeforePayload => Message::CutBeforePayload,
-            VolumeFault::Tail(bytes) => Message::Tail(bytes),
-            VolumeFault::Short(bytes) => Message::Short(bytes),
-            VolumeFault::Read => Message::ReadFailed,
-            VolumeFault::Write => Message::WriteFailed,
+            PayloadFault::CutBeforePayload => Message::CutBeforePayload,
+            PayloadFault::Tail(bytes) => Message::Tail(bytes),
+            PayloadFault::Short(bytes) => Message::Short(bytes),
+            PayloadFault::Read => Message::ReadFailed,
+            PayloadFault::Write => Message::WriteFailed,
         }
     }
 }

@@ -7,7 +7,7 @@ ghost use Rattle.luks_report.specs.Findings.{name_finding, overlap, overlaps};
 ghost use Rattle.luks_report.specs.Findings.{pair_finding, segment_finding, skip_finding};
 ghost use Rattle.luks_report.specs.Findings.{slot_finding};
 
-use crate::field::push_field;
+use crate::dump_line::push_field;
 use luks_header::header::Header;
 use luks_header::payload::segment;
 use luks_header::refusal::SkipReason;
@@ -181,7 +181,7 @@ fn do_overlap(a: &Slot, b: &Slot) -> bool
     ensures { result ≡ do_overlap a.now b.now }
 {
     let start = a.parts.area_offset.max(b.parts.area_offset);
-    let a_end = a.parts.area_offset + a.need();
-    let b_end = b.parts.area_offset + b.need();
+    let a_end = a.parts.area_offset + a.key_material_len();
+    let b_end = b.parts.area_offset + b.key_material_len();
     start < a_end.min(b_end)
 }

@@ -7,12 +7,12 @@ ghost use Rattle.luks_io.specs.Devices.{Appended};
 ghost use Rattle.luks_report.specs.Texts.{message_line, line_of, more_skips_text, skip_text};
 ghost use Rattle.luks_report.specs.Texts.{skips_text};
 
-use crate::line::Line;
 use crate::message::Message;
+use crate::message_line::Line;
 use crate::usage::usage;
 use luks_header::refusal::SkipReason;
 use luks_io::sink::{Sink, WriteFault, put_all};
-use luks_open::skipped::SkippedSlots;
+use luks_key_slots::skipped::SkippedSlots;
 
 impl Message {
     /// Writes the line of the message, if it has one, newline included.

@@ -25,7 +25,7 @@ use Rattle.luks_cipher.proofs.UnitsUndone.{cbc_decrypted-cbc_encrypted, le_state
 use Rattle.luks_cipher.proofs.UnitsUndone.{joined_same, joined_units}
 use Rattle.luks_cipher.specs.Xts.{joined}
 use Rattle.luks_cipher.proofs.ModeLemmas.{key_length_of_mode}
-use Rattle.luks_area.specs.Fields.{at}
+use Rattle.luks_header_area.specs.Fields.{at}
 use Rattle.luks_verdict.specs.declared.segment.Segment.{Segment}
 use Rattle.luks_verdict.proofs.SectorLemmas.{sector_blocks}
 use Rattle.luks_verdict.specs.declared.digest.KeyDigest.{KeyDigest}
@@ -33,12 +33,12 @@ use Rattle.luks_verdict.specs.declared.slot.Slot.{Slot}
 use Rattle.luks_header.specs.HeaderSegment.{segment_of}
 use Rattle.luks_header.specs.declared.header.Header.{Header}
 use Rattle.luks_header.proofs.KnownLemmas.{known_usable, slot_of_usable, is_attached}
-use Rattle.luks_open.specs.Candidate.{decrypted_material, material_sector, recovered, candidate_of, matches_digest}
-use Rattle.luks_open.specs.Opening.{first_opening, slot_key, opened_or, answer_of, opening_of}
-use Rattle.luks_open.specs.declared.entry.Entry.{Entry}
-use Rattle.luks_open.specs.Opening.{key_material_end, order_of}
-use Rattle.luks_open.specs.declared.opening.Opened.{Opened}
-use Rattle.luks_open.proofs.CallerLemmas.{All-order, IsOf, key_areas_before_payload}
+use Rattle.luks_key_slots.specs.Candidate.{decrypted_material, material_sector, recovered, candidate_of, matches_digest}
+use Rattle.luks_key_slots.specs.Opening.{first_opening, slot_key, opened_or, answer_of, opening_of}
+use Rattle.luks_key_slots.specs.declared.entry.Entry.{Entry}
+use Rattle.luks_key_slots.specs.Opening.{key_material_end, order_of}
+use Rattle.luks_key_slots.specs.declared.opening.Opened.{Opened}
+use Rattle.luks_key_slots.proofs.CallerLemmas.{All-order, IsOf, key_areas_before_payload}
 use Rattle.luks_payload.proofs.SectorLemmas.{one_more_fits}
 use Rattle.luks_payload.specs.Plain.{ending_of, ending_of_len, plain_of, sector_len, sector_plaintext, unit_number}
 use Rattle.luks_payload.specs.Plain.{unit_plain, payload_bytes}

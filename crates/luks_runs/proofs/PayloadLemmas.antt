@@ -21,8 +21,8 @@ use Rattle.luks_payload.specs.Plain.{ending_of, payload_end_of, plain_of, sector
 use Rattle.luks_payload.specs.Plain.{sector_start, sectors_of, unit_number, unit_plain, payload_bytes}
 use Rattle.luks_payload.specs.PumpEffects.{EndEffect, PumpModel, PositionedIn, StepEffect, WritesSectors, after_step}
 use Rattle.luks_payload.specs.PumpEffects.{position, consumed_by}
-use Rattle.luks_payload.specs.declared.fault.VolumeFault.{VolumeFault}
-use Rattle.luks_payload.specs.declared.fault.VolumeFault.TheVariants.{Read, Write}
+use Rattle.luks_payload.specs.declared.fault.PayloadFault.{PayloadFault}
+use Rattle.luks_payload.specs.declared.fault.PayloadFault.TheVariants.{Read, Write}
 use Rattle.luks_payload.specs.declared.state.State.TheVariants.{BeforePayload, InPayload}
 use Rattle.luks_payload.specs.declared.state.Step.{Step}
 use Rattle.luks_payload.specs.declared.state.Step.TheVariants.{Sector, End}
@@ -209,7 +209,7 @@ module _ (p : PumpModel) (image : List ℕ) (loaded : ℕ) (l b w l' w' : Option
         omega (arith, so_far.most, payload_ends p.segment.size p.segment.offset (length image))
 
     -- the payload ended as specified
-    ended : (answer : Result Step VolumeFault) → EndEffect image p.segment p.count (consumed_by p) answer l' → w' ≡ w
+    ended : (answer : Result Step PayloadFault) → EndEffect image p.segment p.count (consumed_by p) answer l' → w' ≡ w
         → (message_at_end answer ≡ message_at_end (ending_of p.segment image))
         × ConsumedExactly image l' (max loaded (payload_end_of p.segment image))
         × Appended b w' (plain_of p.segment p.cipher image)
@@ -261,7 +261,7 @@ module _ (p : PumpModel) (image : List ℕ) (loaded : ℕ) (l b w l' w' : Option
         )
 
     -- a step ended with a fault
-    pub forwarding_aborts : (fault : VolumeFault) (Wrote Same : Type 0) → (Same → w' ≡ w)
+    pub forwarding_aborts : (fault : PayloadFault) (Wrote Same : Type 0) → (Same → w' ≡ w)
         → WritesSectors (Err fault) Wrote Same
         → StepEffect p.segment p.cipher p.count (consumed_by p) image (Err fault) l' w w'
         → ForwardsPayload p.segment p.cipher image loaded l' b w' (message_for_payload fault)

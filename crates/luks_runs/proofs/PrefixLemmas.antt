@@ -4,15 +4,15 @@ use Rattle.std.proofs.Common.{Bool, sym, length, arith, ◌≤◌, Result, take}
 use Rattle.std.proofs.Common.{length-take-le, max, take-take, take_all, lit≤}
 use Rattle.std.specs.Prelude.{ok_or, if◌then◌else◌}
 use Rattle.std.proofs.lemmas.Bool.{le-ltb, cases_lt}
-use Rattle.luks_area.specs.Area.{max_loaded_len}
-use Rattle.luks_area.specs.declared.fault.HeaderFault.{HeaderFault}
-use Rattle.luks_area.specs.declared.fault.HeaderFault.TheVariants.{NotLuks}
+use Rattle.luks_header_area.specs.Area.{max_loaded_len}
+use Rattle.luks_header_area.specs.declared.fault.HeaderFault.{HeaderFault}
+use Rattle.luks_header_area.specs.declared.fault.HeaderFault.TheVariants.{NotLuks}
 use Rattle.luks_header.specs.Header.{header_read_len, header_of, with_metadata, with_text}
 use Rattle.luks_header.proofs.KnownLemmas.{begins_longer}
-use Rattle.luks_open.specs.Opening.{key_material_end, opening_of}
-use Rattle.luks_open.specs.declared.fault.OpenFault.{OpenFault}
-use Rattle.luks_open.proofs.CallerLemmas.{opening_prefix, key_material_end-within}
-use Rattle.luks_open.specs.declared.opening.Opened.{Opened}
+use Rattle.luks_key_slots.specs.Opening.{key_material_end, opening_of}
+use Rattle.luks_key_slots.specs.declared.fault.OpenFault.{OpenFault}
+use Rattle.luks_key_slots.proofs.CallerLemmas.{opening_prefix, key_material_end-within}
+use Rattle.luks_key_slots.specs.declared.opening.Opened.{Opened}
 use Rattle.luks_report.specs.declared.message.Message.{Message}
 use Rattle.luks_request.specs.declared.command.SlotChoice.{SlotChoice}
 use Rattle.luks_runs.specs.Location.{reader_for, as_detached}

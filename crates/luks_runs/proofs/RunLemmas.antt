@@ -10,8 +10,8 @@ use Rattle.std.specs.Prelude.{◌==◌, if◌then◌else◌}
 use Rattle.luks_header.specs.Header.{ReadsNoHeader, header_read_len, header_of}
 use Rattle.luks_header.proofs.KnownLemmas.{memory_below, probe_is}
 use Rattle.luks_header.specs.declared.header.Header.{Header}
-use Rattle.luks_area.specs.declared.fault.HeaderFault.{HeaderFault}
-use Rattle.luks_area.specs.declared.fault.HeaderFault.TheVariants.{Read, Memory}
+use Rattle.luks_header_area.specs.declared.fault.HeaderFault.{HeaderFault}
+use Rattle.luks_header_area.specs.declared.fault.HeaderFault.TheVariants.{Read, Memory}
 use Rattle.luks_runs.specs.HeaderOutcome.{message_for_is_luks, is_luks_outcome, print_outcome_by, printout_text}
 use Rattle.luks_runs.specs.HeaderOutcome.{printout_message}
 use Rattle.luks_report.specs.Faults.{message_for_header}

@@ -10,19 +10,19 @@ use Rattle.luks_io.proofs.EffectLemmas.{reads_more}
 use Rattle.luks_io.specs.Counts.{Reads}
 use Rattle.luks_io.specs.Devices.{ConsumedExactly, counted}
 use Rattle.luks_io.specs.declared.counts.ReadCounts.{ReadCounts}
-use Rattle.luks_area.specs.Area.{ConsumedOnto, HeaderAreaModel}
-use Rattle.luks_area.specs.declared.fault.HeaderFault.{HeaderFault}
-use Rattle.luks_area.specs.declared.fault.HeaderFault.TheVariants.{Read as HeaderRead, Memory as HeaderMemory}
+use Rattle.luks_header_area.specs.Area.{ConsumedOnto, HeaderAreaModel}
+use Rattle.luks_header_area.specs.declared.fault.HeaderFault.{HeaderFault}
+use Rattle.luks_header_area.specs.declared.fault.HeaderFault.TheVariants.{Read as HeaderRead, Memory as HeaderMemory}
 use Rattle.luks_verdict.specs.declared.segment.Segment.{Segment}
 use Rattle.luks_header.specs.Header.{ReadsNoHeader, header_read_len}
 use Rattle.luks_header.proofs.KnownLemmas.{memory_below}
 use Rattle.luks_header.specs.HeaderSegment.{segment_of}
 use Rattle.luks_header.specs.declared.header.Header.{Header}
-use Rattle.luks_open.specs.Opening.{OrderModel, order_of, key_material_end, opening_of}
-use Rattle.luks_open.specs.declared.fault.OpenFault.{OpenFault}
-use Rattle.luks_open.specs.declared.fault.OpenFault.TheVariants.{Memory}
-use Rattle.luks_open.proofs.CallerLemmas.{opening_prefix}
-use Rattle.luks_open.specs.declared.opening.Opened.{Opened}
+use Rattle.luks_key_slots.specs.Opening.{OrderModel, order_of, key_material_end, opening_of}
+use Rattle.luks_key_slots.specs.declared.fault.OpenFault.{OpenFault}
+use Rattle.luks_key_slots.specs.declared.fault.OpenFault.TheVariants.{Memory}
+use Rattle.luks_key_slots.proofs.CallerLemmas.{opening_prefix}
+use Rattle.luks_key_slots.specs.declared.opening.Opened.{Opened}
 use Rattle.luks_report.specs.Faults.{message_for_header, message_for_opening}
 use Rattle.luks_report.specs.declared.message.Message.{Message}
 use Rattle.luks_report.specs.declared.message.Message.TheVariants.{OutOfMemory, ReadFailed, Cut, KeyFileLength}

@@ -1,7 +1,7 @@
 -- Honestly sealed volumes, and the passphrases that open them.
 use Rattle.std.specs.Prelude.{◌≡◌, ℕ, ◌≤◌, All, Contains, List, ◌∷◌, ◌++◌, length, Some, Ok}
-use Rattle.luks_open.specs.Opening.{slot_key, OrderModel, order_of}
-use Rattle.luks_open.specs.declared.entry.Entry.{Entry}
+use Rattle.luks_key_slots.specs.Opening.{slot_key, OrderModel, order_of}
+use Rattle.luks_key_slots.specs.declared.entry.Entry.{Entry}
 use Rattle.luks_seal.specs.Sealed.{Sealed}
 use Rattle.luks_request.specs.declared.command.SlotChoice.{SlotChoice}
 use Rattle.luks_runs.specs.KeyFile.{max_key_file_len}

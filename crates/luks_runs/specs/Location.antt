@@ -3,12 +3,12 @@ use Rattle.std.specs.Prelude.{◌≡◌, ℕ, true, false, List, [], Option, Som
 use Rattle.luks_io.specs.Counts.{Reads}
 use Rattle.luks_io.specs.Devices.{IfKnown}
 use Rattle.luks_io.specs.declared.counts.ReadCounts.{ReadCounts}
-use Rattle.luks_area.specs.Area.{HeaderAreaModel}
+use Rattle.luks_header_area.specs.Area.{HeaderAreaModel}
 use Rattle.luks_header.specs.Header.{header_of, detached_of}
 use Rattle.luks_runs.specs.declared.location.HeaderLocation.{HeaderLocation}
 use Rattle.luks_runs.specs.declared.location.HeaderLocation.TheVariants.{Attached, Detached}
 use Rattle.luks_header.specs.declared.header.Header.{Header}
-use Rattle.luks_area.specs.declared.fault.HeaderFault.{HeaderFault}
+use Rattle.luks_header_area.specs.declared.fault.HeaderFault.{HeaderFault}
 
 -- a function that reads the header at the start of these bytes
 abbrev pub HeaderReader : Type 0

@@ -3,7 +3,7 @@
 ghost use Rattle.std.specs.Prelude.{◌≡◌, Bool, Ok, IfOk, IfErr, length, take};
 ghost use Rattle.luks_io.specs.Counts.{Reads};
 ghost use Rattle.luks_io.specs.Devices.{ConsumedExactly, IfKnown};
-ghost use Rattle.luks_area.specs.Area.{is_read_fault};
+ghost use Rattle.luks_header_area.specs.Area.{is_read_fault};
 ghost use Rattle.luks_header.specs.Header.{ReadsNoHeader, header_read_len};
 ghost use Rattle.luks_runs.specs.Location.{LoadedFrom, reader_for};
 

@@ -13,8 +13,8 @@ use crate::unlocked::UnlockedVolume;
 use luks_header::area::HeaderArea;
 use luks_io::source::Source;
 use luks_kdf::Work;
-use luks_open::opening::open;
-use luks_open::ordered::held_end;
+use luks_key_slots::opening::open;
+use luks_key_slots::order::held_end;
 use luks_report::message::Message;
 use luks_request::command::SlotChoice;
 

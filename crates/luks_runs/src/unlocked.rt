@@ -5,8 +5,8 @@ ghost use Rattle.luks_cipher.specs.Sector.{is_mode_key_length};
 
 use luks_cipher::SectorCipher;
 use luks_header::segment::Segment;
-use luks_open::key::Key;
-use luks_open::opening::Opened;
+use luks_key_slots::key::Key;
+use luks_key_slots::opening::Opened;
 
 /// A volume that a passphrase opened. The length of its key is one that its segment's mode allows.
 #[derive(Drop)]

@@ -21,14 +21,15 @@ use Rattle.luks_kdf.specs.Pbkdf2.{derived_key, t_of, u_of}
 use Rattle.luks_cipher.specs.Sector.{Cipher, mode_named, mode_name}
 use Rattle.luks_kdf.proofs.BytesLemmas.{length-xor}
 use Rattle.luks_kdf.proofs.StripesLemmas.{length-splitter_block}
-use Rattle.luks_verdict.specs.Rule.{need_of, area_out_of_range, is_digest, iterations_out_of_range, max_digest_len}
+use Rattle.luks_verdict.specs.Rule.{key_material_len, area_out_of_range, is_digest}
+use Rattle.luks_verdict.specs.Rule.{iterations_out_of_range, max_digest_len}
 use Rattle.luks_verdict.specs.Rule.{max_iteration_count, max_stripes, min_digest_len, stripes_out_of_range}
 use Rattle.luks_verdict.specs.declared.slot.SlotParts.{SlotParts}
 use Rattle.luks_seal.specs.Sealed.{IsMaterial, IsStoredEncrypted}
 use Rattle.luks_seal.proofs.SectorLemmas.{length-sectors_encrypted, sectors_are_stored}
 use Rattle.luks_seal.proofs.FieldLemmas.{IsThere, length-padded, padded_begins}
-use Rattle.luks_area.specs.Area.{max_loaded_len}
-use Rattle.luks_area.specs.Fields.{text_of}
+use Rattle.luks_header_area.specs.Area.{max_loaded_len}
+use Rattle.luks_header_area.specs.Fields.{text_of}
 use Rattle.luks_cipher.specs.declared.mode.Mode.{Mode}
 use Rattle.luks_cipher.specs.declared.mode.Mode.TheVariants.{XtsPlain64}
 
@@ -159,8 +160,8 @@ module _ (af : Hash) (key : List ℕ) (count : ℕ) (random : List ℕ) (are_ran
 
   -- encrypted, they are as long as the key material of a slot
   pub length-material : (cipher : Cipher)
-      → length (encrypted_material cipher (stripes_of af key count random)) ≡ need_of (length key) count
-  unfolding need_of encrypted_material
+      → length (encrypted_material cipher (stripes_of af key count random)) ≡ key_material_len (length key) count
+  unfolding key_material_len encrypted_material
   length-material cipher =
       let stripes = stripes_of af key count random in
       let len = length-whole_sectors stripes in
@@ -186,7 +187,7 @@ module _ (af : Hash) (key : List ℕ) (count : ℕ) (random : List ℕ) (are_ran
 -- the stripes in whole sectors are key material of the key
 pub made_material : (af : Hash) (parts : SlotParts) (key random : List ℕ) → AreRandomStripes key parts.stripes random
     → IsMaterial af parts key (sector_padded (stripes_of af key parts.stripes random))
-unfolding stripes_of need_of sector_padded
+unfolding stripes_of key_material_len sector_padded
 made_material af parts key random are_random =
     let stripes = stripes_of af key parts.stripes random in
     let long = length-stripes_of af key parts.stripes random are_random in
@@ -221,15 +222,16 @@ digest_fits iterations len some few least most =
     rw (iterations_fit iterations some few, le-ltb len min_digest_len least, le-ltb max_digest_len len most) refl
 
 -- an area is in range if it is after the headers, large enough, before the payload and within what is loaded
-pub area_fits : (start payload offset size need : ℕ) → start ≤ offset → need ≤ size → offset + need ≤ payload
-    → payload ≤ max_loaded_len → area_out_of_range start (Some payload) offset size need ≡ false
+pub area_fits : (start payload offset size material_len : ℕ) → start ≤ offset → material_len ≤ size
+    → offset + material_len ≤ payload
+    → payload ≤ max_loaded_len → area_out_of_range start (Some payload) offset size material_len ≡ false
 unfolding area_out_of_range
-area_fits start payload offset size need behind enough before loadable =
+area_fits start payload offset size material_len behind enough before loadable =
     rw (
       le-ltb offset start behind,
-      le-ltb size need enough,
-      le-ltb payload (offset + need) before,
-      le-ltb max_loaded_len (offset + need) (omega arith),
+      le-ltb size material_len enough,
+      le-ltb payload (offset + material_len) before,
+      le-ltb max_loaded_len (offset + material_len) (omega arith),
     ) refl
 
 -- the name fits a field of 32 bytes, is read back from it, and names `x`

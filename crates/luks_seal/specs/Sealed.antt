@@ -9,8 +9,8 @@ use Rattle.luks_cipher.specs.declared.mode.Mode.{Mode}
 use Rattle.luks_kdf.specs.Pbkdf2.{derived_key}
 use Rattle.luks_kdf.specs.Stripes.{IsSplit}
 use Rattle.luks_kdf.specs.declared.hash.Hash.{Hash}
-use Rattle.luks_area.specs.Fields.{at}
-use Rattle.luks_verdict.specs.Rule.{need_of}
+use Rattle.luks_header_area.specs.Fields.{at}
+use Rattle.luks_verdict.specs.Rule.{key_material_len}
 use Rattle.luks_verdict.specs.SectorSize.{bytes_of}
 use Rattle.luks_verdict.specs.Segment.{unit_number}
 use Rattle.luks_verdict.specs.declared.digest.KeyDigest.{KeyDigest}
@@ -38,7 +38,7 @@ pub record IsStoredEncrypted (cipher : Cipher) (number : ℕ → ℕ) (size offs
 pub record IsMaterial (af : Hash) (parts : SlotParts) (key material : List ℕ) : Type 0 where
   pub random : List ℕ
   pub split : IsSplit af random key (take (length key * parts.stripes) material)
-  pub len : length material ≡ need_of (length key) parts.stripes
+  pub len : length material ≡ key_material_len (length key) parts.stripes
 
 -- the key slot with these parts gives the key under this passphrase: its area has key material of the key, encrypted
 -- under the key that PBKDF2 derives from the passphrase, with sectors numbered from 0

@@ -1,14 +1,16 @@
 -- Without magic bytes there is no header.
-use Rattle.std.proofs.Common.{◌≡◌, ◌∙◌, ℕ, ◌+◌, ◌-◌, ◌*◌, ◌/◌, ◌<◌, ◌≤◌, ◌++◌, List, [], ◌∷◌, Bool, true, false, None, ap, sym}
+use Rattle.std.proofs.Common.{◌≡◌, ◌∙◌, ℕ, ◌+◌, ◌-◌, ◌*◌, ◌/◌, ◌<◌, ◌≤◌, ◌++◌}
+use Rattle.std.proofs.Common.{List, [], ◌∷◌, Bool, true, false, None, ap, sym}
 use Rattle.std.proofs.Common.{refl, length, length-drop, take, drop, arith, Err, ◌||◌, ◌==◌}
 use Rattle.std.specs.Prelude.{map, nat_le, nat_lt, if◌then◌else◌, ok_or, option_and_then}
 use Rattle.std.specs.List.{find, list_all, list_any}
 use Rattle.std.proofs.lemmas.Bool.{and_parts, leb-true, ltb-false, ltb-true}
 use Rattle.std.proofs.lemmas.List.{drop-append-le, drop-drop, drop_all, take-append-drop, take-append-le, take-take}
 use Rattle.std.proofs.lemmas.Slice.Eq.{bytes_eq-Decides}
-use Rattle.luks_area.specs.declared.fault.HeaderFault.TheVariants.{NotLuks}
+use Rattle.luks_header_area.specs.declared.fault.HeaderFault.TheVariants.{NotLuks}
 use Rattle.luks1_header.specs.Header1.{is_luks1}
-use Rattle.luks2_binary.specs.Choice2.{beginning_at, chosen2_of, first_valid, fits, found_at, header2_of, is_binary_of, is_valid}
+use Rattle.luks2_binary.specs.Choice2.{beginning_at, chosen2_of, first_valid, fits}
+use Rattle.luks2_binary.specs.Choice2.{found_at, header2_of, is_binary_of, is_valid}
 use Rattle.luks2_binary.specs.Header2.{sizes}
 use Rattle.luks2_binary.proofs.ChoiceLemmas.{chosen_other}
 use Rattle.luks2_binary.proofs.ValidLemmas.{fits_parts, unfit-is_valid}

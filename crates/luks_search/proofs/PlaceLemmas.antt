@@ -1,18 +1,22 @@
 -- Places of headers, sector by sector.
-use Rattle.std.proofs.Common.{◌≡◌, ◌∙◌, ℕ, zero, suc, ◌+◌, ◌-◌, ◌*◌, ◌<◌, ◌≤◌, ◌++◌, List, [], ◌∷◌, Bool, true, false, ap, sym}
-use Rattle.std.proofs.Common.{Option, Some, None, refl, length, take, drop, arith, Result, Ok, Err, add-one, length-drop}
+use Rattle.std.proofs.Common.{◌≡◌, ◌∙◌, ℕ, zero, suc, ◌+◌, ◌-◌, ◌*◌, ◌<◌, ◌≤◌}
+use Rattle.std.proofs.Common.{◌++◌, List, [], ◌∷◌, Bool, true, false, ap, sym}
+use Rattle.std.proofs.Common.{Option, Some, None, refl, length, take, drop}
+use Rattle.std.proofs.Common.{arith, Result, Ok, Err, add-one, length-drop}
 use Rattle.std.proofs.Common.{◌⊎◌, inl, inr, min, append_assoc}
-use Rattle.std.proofs.lemmas.List.{append-nil, drop-append-le, drop-drop, drop-take, drop_all, length-take, take-append-drop}
+use Rattle.std.proofs.lemmas.List.{append-nil, drop-append-le, drop-drop, drop-take}
+use Rattle.std.proofs.lemmas.List.{drop_all, length-take, take-append-drop}
 use Rattle.std.proofs.lemmas.List.{take-take}
 use Rattle.std.proofs.lemmas.Bool.{leb-false, leb-true, ltb-true}
 use Rattle.std.proofs.Math.Seq.{take-add, take-length}
 use Rattle.std.specs.Prelude.{OnErr, nat_le, nat_lt}
 use Rattle.luks_io.specs.Devices.{ConsumedInto}
-use Rattle.luks_area.specs.declared.fault.HeaderFault.{HeaderFault}
+use Rattle.luks_header_area.specs.declared.fault.HeaderFault.{HeaderFault}
 use Rattle.luks_header.specs.Header.{header_of}
 use Rattle.luks_header.specs.declared.header.Header.{Header}
 use Rattle.luks_search.specs.Magic.{IsQuiet, begins_magic}
-use Rattle.luks_search.specs.Places.{found_in, header_at, max_searched_sectors, place_if, places_below, places_of, sectors_in}
+use Rattle.luks_search.specs.Places.{found_in, header_at, max_searched_sectors}
+use Rattle.luks_search.specs.Places.{place_if, places_below, places_of, sectors_in}
 use Rattle.luks_search.specs.Search.{IsIn, IsNear, ReadsOn, SearchModel}
 use Rattle.luks_search.proofs.HorizonLemmas.{header_by_start}
 use Rattle.luks_search.proofs.MagicLemmas.{nothing_none, quiet_at, quiet_before, quiet_none}

@@ -7,14 +7,14 @@
 //! Nothing here allocates memory.
 #![tactic(auto)]
 
-mod block1;
-mod block256;
-mod block512;
-pub mod chains1;
-pub mod chains256;
-pub mod chains512;
 mod constants;
-mod iterations1;
-mod iterations256;
-mod iterations512;
+mod sha1_block;
+pub mod sha1_chains;
+mod sha1_iterations;
+mod sha256_block;
+pub mod sha256_chains;
+mod sha256_iterations;
+mod sha512_block;
+pub mod sha512_chains;
+mod sha512_iterations;
 mod words;

@@ -7,7 +7,8 @@ use Rattle.luks_cipher.specs.declared.mode.Mode.{Mode}
 use Rattle.luks_verdict.specs.Rule.{evidence_if, is_digest, is_in_range, iterations_out_of_range}
 use Rattle.luks_verdict.specs.SectorSize.{has_whole_sectors}
 use Rattle.luks_verdict.specs.Segment.{refused_or, segment_of_all}
-use Rattle.luks_verdict.specs.Slot.{digest_from, has_no_usable_digest, parts_end, slot_from, verdict_by, verdict_kind_of}
+use Rattle.luks_verdict.specs.Slot.{digest_from, has_no_usable_digest, parts_end}
+use Rattle.luks_verdict.specs.Slot.{slot_from, verdict_by, verdict_kind_of}
 use Rattle.luks_verdict.specs.declared.digest.DigestParts.{DigestParts}
 use Rattle.luks_verdict.specs.declared.digest.KeyDigest.{KeyDigest}
 use Rattle.luks_verdict.specs.declared.refusal.SegmentFault.{SegmentFault}

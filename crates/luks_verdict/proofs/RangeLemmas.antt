@@ -4,8 +4,9 @@ use Rattle.std.proofs.lemmas.Bool.Decides.{nat_tests}
 use Rattle.std.proofs.lemmas.Bool.{eqb-true}
 use Rattle.std.proofs.lemmas.Option.{none-some, same_Some}
 use Rattle.std.specs.Option.{ForSome}
-use Rattle.luks_area.specs.Area.{max_loaded_len}
-use Rattle.luks_verdict.specs.Rule.{is_digest, is_in_range, iterations_out_of_range, max_digest_len, max_iteration_count}
+use Rattle.luks_header_area.specs.Area.{max_loaded_len}
+use Rattle.luks_verdict.specs.Rule.{is_digest, is_in_range, iterations_out_of_range}
+use Rattle.luks_verdict.specs.Rule.{max_digest_len, max_iteration_count}
 use Rattle.luks_verdict.specs.Rule.{max_stripes, min_digest_len, stripes_out_of_range}
 use Rattle.luks_verdict.specs.SectorSize.{bytes_of, has_whole_sectors}
 use Rattle.luks_verdict.specs.Slot.{material_end}

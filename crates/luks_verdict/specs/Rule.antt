@@ -2,7 +2,7 @@
 -- an area.
 use Rattle.std.specs.Prelude.{◌≡◌, ℕ, ◌+◌, ◌*◌, ◌/◌, ◌==◌, ◌&&◌, ◌||◌, not, nat_lt, Bool, true, false, Option}
 use Rattle.std.specs.Prelude.{Some, None, refl}
-use Rattle.luks_area.specs.Area.{max_loaded_len}
+use Rattle.luks_header_area.specs.Area.{max_loaded_len}
 
 -- the largest number of slots in a header; they are numbered from 0
 abbrev pub max_slots : ℕ
@@ -39,14 +39,15 @@ unfoldable pub stripes_out_of_range : ℕ → Bool
 stripes_out_of_range stripes = stripes == 0 || nat_lt max_stripes stripes
 
 -- the number of bytes of a slot's key material: one key for each stripe, rounded up to whole sectors of 512 bytes
-unfoldable pub need_of : ℕ → ℕ → ℕ
-need_of key_bytes stripes = (key_bytes * stripes + 511) / 512 * 512
+unfoldable pub key_material_len : ℕ → ℕ → ℕ
+key_material_len key_bytes stripes = (key_bytes * stripes + 511) / 512 * 512
 
 -- key material from `offset` on does not fit: it starts below `start`, its area has fewer bytes than it needs, or it
 -- ends past the payload's start, if that is known, or past the largest number of bytes that are loaded of an image
 unfoldable pub area_out_of_range : ℕ → Option ℕ → ℕ → ℕ → ℕ → Bool
-area_out_of_range start payload offset size need =
-    nat_lt offset start || nat_lt size need || exceeds payload (offset + need) || nat_lt max_loaded_len (offset + need)
+area_out_of_range start payload offset size material_len =
+    nat_lt offset start || nat_lt size material_len
+    || exceeds payload (offset + material_len) || nat_lt max_loaded_len (offset + material_len)
 
 -- the numbers of a slot are in range: its iterations, its stripes and where its key material ends
 unfoldable pub is_in_range : ℕ → ℕ → ℕ → Bool

@@ -1,6 +1,6 @@
 -- Key slots and digests, made from the parts that were read, and the verdicts on key slots.
 use Rattle.std.specs.Prelude.{ℕ, ◌+◌, Bool, true, Option, Some, None, length, option_map}
-use Rattle.luks_verdict.specs.Rule.{evidence_if, is_digest, is_in_range, iterations_out_of_range, need_of}
+use Rattle.luks_verdict.specs.Rule.{evidence_if, is_digest, is_in_range, iterations_out_of_range, key_material_len}
 use Rattle.luks_verdict.specs.declared.digest.DigestParts.{DigestParts}
 use Rattle.luks_verdict.specs.declared.digest.KeyDigest.{KeyDigest}
 use Rattle.luks_verdict.specs.declared.refusal.SkipReason.{SkipReason}
@@ -15,7 +15,7 @@ use Rattle.luks_verdict.specs.declared.slot.VerdictKind.TheVariants.{Skipped as 
 
 -- the end of the key material in the image, by the parts of its key slot
 abbrev pub parts_end : SlotParts → ℕ
-parts_end parts = parts.area_offset + need_of parts.key_bytes parts.stripes
+parts_end parts = parts.area_offset + key_material_len parts.key_bytes parts.stripes
 
 -- the end of a key slot's key material in the image
 abbrev pub material_end : Slot → ℕ

@@ -2,9 +2,10 @@
 
 ghost use Rattle.std.specs.Prelude.{◌≡◌, ◌+◌, ◌<◌, ◌^◌};
 ghost use Rattle.luks_verdict.specs.Rule.{iterations_out_of_range, is_digest, is_in_range};
-ghost use Rattle.luks_verdict.specs.Rule.{area_out_of_range, stripes_out_of_range, need_of};
+ghost use Rattle.luks_verdict.specs.Rule.{area_out_of_range, stripes_out_of_range};
+ghost use Rattle.luks_verdict.specs.Rule.{key_material_len};
 
-use luks_area::area::HeaderArea;
+use luks_header_area::area::HeaderArea;
 
 /// The largest number of key slots in a header; they are numbered from 0.
 pub const MAX_SLOTS: u8 = 32;
@@ -39,42 +40,42 @@ pub fn stripes_out_of_range(stripes: u64) -> bool
 
 /// The number of bytes of a slot's key material: one key for each stripe, rounded up to whole
 /// sectors of 512 bytes.
-#[tactic(auto, unfolding(crate::specs::Rule::need_of))]
-pub fn need(key_bytes: u32, stripes: u32) -> u64
-    ensures { result ≡ need_of key_bytes stripes }
+#[tactic(auto, unfolding(crate::specs::Rule::key_material_len))]
+pub fn key_material_len(key_bytes: u32, stripes: u32) -> u64
+    ensures { result ≡ key_material_len key_bytes stripes }
 {
     (u64::from(key_bytes) * u64::from(stripes)).div_ceil(512) * 512
 }
 
 /// Whether key material from `offset` on does not fit: it starts below `start`, its area of `size`
-/// bytes is too small for the `need`, or it ends past the payload's start, if that is known, or
-/// past byte 33,554,432.
+/// bytes is too small for the `material_len`, or it ends past the payload's start, if that is
+/// known, or past byte 33,554,432.
 #[tactic(auto, unfolding(crate::specs::Rule::area_out_of_range))]
 pub fn area_out_of_range(
     start: u64,
     payload: Option<u64>,
     offset: u64,
     size: u64,
-    need: u64,
+    material_len: u64,
 ) -> bool
-    ensures { result ≡ area_out_of_range start payload offset size need }
+    ensures { result ≡ area_out_of_range start payload offset size material_len }
 {
-    let Some(end) = offset.checked_add(need) else {
+    let Some(end) = offset.checked_add(material_len) else {
         return true;
     };
     offset < start
-        || size < need
+        || size < material_len
         || payload.is_some_and(|payload| payload < end)
         || MAX_LOADED_LEN < end
 }
 
-/// Whether the numbers of a slot are in range: its iterations, its stripes, and where the `need`
-/// bytes of its key material end.
+/// Whether the numbers of a slot are in range: its iterations, its stripes, and where the
+/// `material_len` bytes of its key material end.
 #[tactic(auto, unfolding(crate::specs::Rule::is_in_range))]
-pub fn in_range(iterations: u64, stripes: u64, offset: u64, need: u64) -> bool
-    ensures { result ≡ is_in_range iterations stripes (offset + need) }
+pub fn in_range(iterations: u64, stripes: u64, offset: u64, material_len: u64) -> bool
+    ensures { result ≡ is_in_range iterations stripes (offset + material_len) }
 {
-    let Some(end) = offset.checked_add(need) else {
+    let Some(end) = offset.checked_add(material_len) else {
         return false;
     };
     !iterations_out_of_range(None, iterations)

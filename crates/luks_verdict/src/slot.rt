@@ -1,12 +1,12 @@
 //! Key slots and the verdicts on them.
 
 ghost use Rattle.std.specs.Prelude.{◌≡◌, ◌+◌, true};
-ghost use Rattle.luks_verdict.specs.Rule.{is_in_range, need_of};
+ghost use Rattle.luks_verdict.specs.Rule.{is_in_range, key_material_len};
 
 use crate::bytes::HeaderBytes;
 use crate::digest::KeyDigest;
 use crate::refusal::SkipReason;
-use crate::rule::{in_range, need};
+use crate::rule::{in_range, key_material_len};
 use luks_cipher::Mode;
 use luks_kdf::Hash;
 
@@ -48,12 +48,12 @@ pub struct Slot {
     /// The digest that its volume key must match.
     pub digest: KeyDigest,
     ghost in_range: { is_in_range parts.iterations parts.stripes
-        (parts.area_offset + need_of parts.key_bytes parts.stripes) ≡ true },
+        (parts.area_offset + key_material_len parts.key_bytes parts.stripes) ≡ true },
 }
 
 impl Slot {
     ghost use Rattle.std.specs.Prelude.{◌≡◌};
-    ghost use Rattle.luks_verdict.specs.Rule.{need_of};
+    ghost use Rattle.luks_verdict.specs.Rule.{key_material_len};
     ghost use Rattle.luks_verdict.specs.Slot.{slot_from};
 
     /// The key slot with these parts and this digest, if their numbers are in range and there is a
@@ -62,12 +62,12 @@ impl Slot {
     pub fn from_parts(parts: SlotParts, digest: Option<KeyDigest>) -> Option<Slot>
         ensures { result ≡ slot_from parts digest }
     {
-        let need = need(parts.key_bytes, parts.stripes);
+        let material_len = key_material_len(parts.key_bytes, parts.stripes);
         if !in_range(
             u64::from(parts.iterations),
             u64::from(parts.stripes),
             parts.area_offset,
-            need,
+            material_len,
         ) {
             return None;
         }
@@ -77,10 +77,10 @@ impl Slot {
 
     /// The number of bytes of the key material: one key for each stripe, rounded up to whole
     /// sectors of 512 bytes.
-    pub fn need(&self) -> u64
-        ensures { result ≡ need_of self.now.parts.key_bytes self.now.parts.stripes }
+    pub fn key_material_len(&self) -> u64
+        ensures { result ≡ key_material_len self.now.parts.key_bytes self.now.parts.stripes }
     {
-        need(self.parts.key_bytes, self.parts.stripes)
+        key_material_len(self.parts.key_bytes, self.parts.stripes)
     }
 }
 

@@ -4,7 +4,7 @@
 //! `luks1_seal`, and [`seal2`] from `luks2_seal`.
 #![tactic(auto)]
 
-pub use luks_payload::fault::VolumeFault;
+pub use luks_payload::fault::PayloadFault;
 pub use luks_payload::pump::Pump;
 pub use luks_payload::state::Step;
 pub use luks_seal::parameters::{Seal1, Seal2, SealFault};

@@ -1,4 +1,4 @@
-//! Tests of the crates on volumes, through their public calls: `luks_access`, `luks_open`,
+//! Tests of the crates on volumes, through their public calls: `luks_access`, `luks_key_slots`,
 //! `luks_payload`, and `luks1_seal` and `luks2_seal` with `luks_seal` below both.
 //!
 //! They are in a crate of their own, so that the crates below are not proved again with them.

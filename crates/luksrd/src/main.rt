@@ -1,22 +1,23 @@
 //! `luksrd`: reads its arguments, opens the inputs, runs the command, and reports how it ended.
 //!
-//! What a run does is specified by `plan`, `execute` and `execute_detached` of `luks_cli`, and how
-//! files are opened and a run ends by `luks_host`; only their calls, and calls of std, are here.
+//! What a run does is specified by `plan`, `execute` and `execute_detached` of `luks_commands`, and
+//! how files are opened and a run ends by `luks_host`; only their calls, and calls of std, are
+//! here.
 #![tactic(auto)]
 
 mod input;
 
 use input::{HostInput, open_host_input};
-use luks_cli::execute::{execute, execute_detached};
-use luks_cli::plan_fault::report_of_fault;
-use luks_cli::{Command, Message, NOT_OPENED, Report, not_opened_text, plan};
+use luks_commands::execute::{execute, execute_detached};
+use luks_commands::plan_fault::report_of_fault;
+use luks_commands::{Command, Message, NOT_OPENED, Report, not_opened_text, plan};
 use luks_host::descriptors::stand_ins;
 use luks_host::ending::{Ending, end_run, print_ending};
 use luks_host::input::Input;
 use luks_host::output::{RawFlush, RetryingWriter};
 use luks_host::system::InputFault;
 use luks_io::adapters::{ReadSource, WriteSink};
-use luks_io::ahead::ReadAheadSource;
+use luks_io::read_ahead::ReadAheadSource;
 use std::env;
 use std::io::{BufWriter, ErrorKind};
 use std::process::ExitCode;

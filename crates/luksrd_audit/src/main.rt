@@ -10,9 +10,11 @@ mod images;
 use arguments::{Request, command, request_in};
 use clap::ArgMatches;
 use images::HostImages;
+use luks_audit::image::State;
 use luks_audit_run::run::{Ending, run};
 use luks_host::descriptors::stand_ins;
 use luks_host::output::{RawFlush, RetryingWriter};
+use luks_host::target::is_output_named;
 use luks_io::adapters::WriteSink;
 use std::env;
 use std::io::{BufWriter, ErrorKind};
@@ -67,8 +69,19 @@ fn show(rt: &HostRuntime, error: &clap::Error) -> ExitCode {
     ExitCode::from(if error.exit_code() == 0 { 0 } else { USAGE })
 }
 
-/// Audits the requested images.
+/// Whether standard output writes to one of these images.
+fn is_overwritten(rt: &HostRuntime, images: &[&str]) -> bool {
+    images
+        .iter()
+        .any(|name| is_output_named(rt, rt.alloc(), name))
+}
+
+/// Audits the requested images, unless the output would go into one of them.
 fn audit(rt: &HostRuntime, request: &Request<'_, '_>) -> ExitCode {
+    if is_overwritten(rt, request.files) {
+        let _ = eprintln!(rt; "luksrd-audit: standard output is one of the images");
+        return end(rt, Ending::Done(State::Unread));
+    }
     let Ok(writer) = BufWriter::with_capacity(rt.alloc(), BUFFER, RetryingWriter::new(rt.stdout()))
     else {
         return end(rt, Ending::OutOfMemory);
@@ -92,7 +105,9 @@ fn audit(rt: &HostRuntime, request: &Request<'_, '_>) -> ExitCode {
 
 /// Reports arguments that are not understood.
 fn misused(rt: &HostRuntime, message: &str) -> ExitCode {
-    let _ = eprintln!(rt; "luksrd-audit: {message}");
+    if eprintln!(rt; "luksrd-audit: {message}").is_err() {
+        return end(rt, Ending::WriteFailed);
+    }
     ExitCode::from(USAGE)
 }
 

@@ -1,9 +1,9 @@
 //! What no clause says of devices: that calls succeed, how many bytes one moves, and which one
 //! fails.
 
-mod ahead;
 mod devices;
 mod forwarding;
+mod read_ahead;
 mod testing;
 
 use std::process::Abort;

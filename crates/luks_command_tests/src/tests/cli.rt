@@ -2,7 +2,6 @@
 //! failing allocations. Each test is a table of rows; what the tables share is in `same`, `runs`,
 //! `rows`, `devices`, `scarce` and `volume`.
 
-mod ahead;
 mod bounds;
 mod calls;
 mod detached;
@@ -12,6 +11,7 @@ mod headers2;
 mod honest;
 mod modes;
 mod passphrases;
+mod read_ahead;
 mod runs;
 mod same;
 mod scarce;

@@ -5,8 +5,8 @@ ghost use Rattle.luks_report.specs.Dump1.{cipher_line, dump1_of, enabled_text, n
 ghost use Rattle.luks_report.specs.Dump1.{slot1_line, slot1_lines, state_text, text1_lines};
 ghost use Rattle.luks_report.specs.Dump1.{uuid1_line};
 
+use crate::dump_line::{push_bytes, push_field, push_number, push_text};
 use crate::escaping::{escape, push_escaped_text};
-use crate::field::{push_bytes, push_field, push_number, push_text};
 use luks_header::header::{Header1, SlotState, StoredSlot};
 use std::alloc::{AllocError, Global};
 

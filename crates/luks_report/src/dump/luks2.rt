@@ -4,8 +4,8 @@ ghost use Rattle.std.specs.Prelude.{◌≡◌, ◌++◌, IfOk, OnOk, string_byte
 ghost use Rattle.luks_report.specs.Dump2.{dump2_of, role_lines, role_text, text2_lines, uuid2_line};
 ghost use Rattle.luks_header.specs.declared.header.Header.TheVariants.{V2};
 
+use crate::dump_line::{push_field, push_number, push_text};
 use crate::escaping::escape;
-use crate::field::{push_field, push_number, push_text};
 use luks_header::header::{Header, bounds};
 use luks2_binary::header::{Header2, HeaderRole};
 use luks2_json::tree::Metadata;

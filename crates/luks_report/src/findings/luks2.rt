@@ -3,7 +3,7 @@
 ghost use Rattle.std.specs.Prelude.{◌≡◌, ◌++◌, OnOk, string_bytes};
 ghost use Rattle.luks_report.specs.Findings.{pair_finding_line};
 
-use crate::field::push_field;
+use crate::dump_line::push_field;
 use luks_header::header::PairFinding;
 use std::alloc::AllocError;
 

@@ -11,4 +11,5 @@ returns-clause-plain c key image are stored =
     (step.first_sector * sector_len s) step.skip step.count
     (c.decrypt_sectors.ensures.plain key image are stored
     ∙ ap (λ n. take n (drop (step.first_sector * sector_len s) (plain_of s (s.mode, key) image)))
-    (sym c.decrypt_sectors.auto.bytes)) (omega (arith, c.requires.part, c.decrypt_sectors.auto.bytes)) c.move_to_front.ensures
+    (sym c.decrypt_sectors.auto.bytes)) (omega (arith, c.requires.part, c.decrypt_sectors.auto.bytes))
+    c.move_to_front.ensures

@@ -3,7 +3,8 @@ use Rattle.luks_io.specs.Devices.{Appended}
 use Rattle.luks_io.proofs.EffectLemmas.{appended-none}
 use Rattle.luks_audit_run.specs.Run.{AuditsPartly}
 use Rattle.luks_audit_run.specs.declared.image.Scope.TheVariants.{Start}
-use Rattle.luks_audit_run.proofs.StartLemmas.{none_anyway, part_of_none, part_of_told, start_anyway, start_open, start_tells}
+use Rattle.luks_audit_run.proofs.StartLemmas.{none_anyway, part_of_none, part_of_told}
+use Rattle.luks_audit_run.proofs.StartLemmas.{start_anyway, start_open, start_tells}
 use Rattle.luks_audit_run.specs.Host.Stored.{image, unknown}
 use Rattle.luks_audit_run.proofs.ResultLemmas.{on_err}
 use Rattle.luks_audit_run.proofs.image.audit_start.Goals as goal

@@ -2,12 +2,13 @@ use Rattle.std.proofs.Common.{◌∙◌, [], None, Some, ap, false, refl, subst,
 use Rattle.luks_io.proofs.EffectLemmas.{appended-none}
 use Rattle.luks_audit_run.specs.Run.{AuditsPartly}
 use Rattle.luks_audit_run.specs.declared.image.Scope.TheVariants.{Everywhere}
-use Rattle.luks_audit_run.proofs.SearchLemmas.{Searches, search_part_anyway, searches_abort, searches_abort_part, searches_end}
+use Rattle.luks_audit_run.proofs.SearchLemmas.{Searches, search_part_anyway, searches_abort}
+use Rattle.luks_audit_run.proofs.SearchLemmas.{searches_abort_part, searches_end}
 use Rattle.luks_audit_run.proofs.SearchLemmas.{searches_end_part, searches_more, searches_none, searches_part}
 use Rattle.luks_audit_run.proofs.StartLemmas.{part_of_none}
 use Rattle.luks_audit_run.proofs.ResultLemmas.{if_ok, on_err, when_err}
 use Rattle.luks_search.specs.Search.{SearchModel, reports_failed_read}
-use Rattle.luks_area.specs.declared.fault.HeaderFault.{HeaderFault}
+use Rattle.luks_header_area.specs.declared.fault.HeaderFault.{HeaderFault}
 use Rattle.luks_io.specs.Devices.{Appended, counted}
 use Rattle.luks_audit.specs.Image.{fault_line}
 use Rattle.luks_audit.specs.declared.image.State.{State}

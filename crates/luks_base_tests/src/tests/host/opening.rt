@@ -7,7 +7,7 @@ use luks_host::mode::kind_of_mode;
 use luks_host::opening::{OpenedInput, open_input};
 use luks_host::storage::{FileFacts, FileKind};
 use luks_host::system::{InputFault, System};
-use luks_host::target::is_output;
+use luks_host::target::{is_output, is_output_named};
 use std::alloc::Global;
 use std::os::fd::RawFd;
 use std::process::Abort;
@@ -139,8 +139,8 @@ fn assert_opened(rt: &(impl Abort + AllocGlobal), rows: &[Row], expected: &[(&st
 #[test]
 fn inputs_are_opened_by_their_kind(rt: HostRuntime) {
     let rows = [
-        listed("/dev/stdin", FileKind::Other, 1, 0),
-        listed("/dev/stdout", FileKind::Other, 1, 1),
+        listed("/proc/self/fd/0", FileKind::Other, 1, 0),
+        listed("/proc/self/fd/1", FileKind::Other, 1, 1),
         listed("volume", FileKind::Regular, 10, 5),
         listed("pipe", FileKind::Other, 11, 6),
         listed("disk", FileKind::BlockDevice, 12, 7),
@@ -160,9 +160,9 @@ fn inputs_are_opened_by_their_kind(rt: HostRuntime) {
     ];
     assert_opened(&rt, &rows, &expected);
     assert_opened(&rt, &[], &[("-", "standard", 0)]);
-    let folder = [listed("/dev/stdin", FileKind::Directory, 1, 0)];
+    let folder = [listed("/proc/self/fd/0", FileKind::Directory, 1, 0)];
     assert_opened(&rt, &folder, &[("-", "not opened", 0)]);
-    let file = [listed("/dev/stdin", FileKind::Regular, 1, 0)];
+    let file = [listed("/proc/self/fd/0", FileKind::Regular, 1, 0)];
     assert_opened(&rt, &file, &[("-", "standard", 0)]);
 }
 
@@ -173,11 +173,26 @@ fn entry(name: &'static str, text: &'static str) -> Row {
     entry
 }
 
+/// Asserts that standard output of a system writes to its files of these names, and to no others.
+fn assert_outputs(rt: &(impl Abort + AllocGlobal), rows: &[Row], outputs: &[&str]) {
+    let system = Table { rows };
+    for name in [
+        "-", "volume", "other", "loop0", "loop1", "loop2", "loop3", "missing", "",
+    ] {
+        let is_listed = outputs.contains(&name);
+        assert_that(
+            rt,
+            name,
+            is_output_named(&system, rt.alloc(), name) == is_listed,
+        );
+    }
+}
+
 #[test]
 fn outputs_are_refused(rt: HostRuntime) {
     let rows = [
-        listed("/dev/stdin", FileKind::Regular, 10, 0),
-        listed("/dev/stdout", FileKind::Regular, 10, 1),
+        listed("/proc/self/fd/0", FileKind::Regular, 10, 0),
+        listed("/proc/self/fd/1", FileKind::Regular, 10, 1),
         listed("volume", FileKind::Regular, 10, 5),
         listed("other", FileKind::Regular, 11, 6),
         listed("loop0", FileKind::BlockDevice, 0x700, 7),
@@ -199,14 +214,17 @@ fn outputs_are_refused(rt: HostRuntime) {
         ("loop3", "as requested", 10),
     ];
     assert_opened(&rt, &rows, &expected);
+    assert_outputs(&rt, &rows, &["-", "volume", "loop0"]);
     let device = [
-        listed("/dev/stdout", FileKind::BlockDevice, 0x700, 1),
+        listed("/proc/self/fd/1", FileKind::BlockDevice, 0x700, 1),
         entry("/sys/dev/block/7:0/loop/backing_file", "volume\n"),
         listed("volume", FileKind::Regular, 10, 5),
         listed("loop0", FileKind::BlockDevice, 0x700, 7),
     ];
     let expected = [("volume", "not opened", 0), ("loop0", "not opened", 0)];
     assert_opened(&rt, &device, &expected);
+    assert_outputs(&rt, &device, &["volume", "loop0"]);
+    assert_outputs(&rt, &[], &[]);
     let unseen = Table { rows: &[] };
     let facts = listed("", FileKind::Regular, 1, 0).facts;
     assert_that(&rt, "unseen", !is_output(&unseen, rt.alloc(), &facts));

@@ -2,8 +2,8 @@
 //! call of the source below.
 
 use super::assert_at;
-use luks_io::ahead::ReadAheadSource;
 use luks_io::memory::{MemSink, MemSource};
+use luks_io::read_ahead::ReadAheadSource;
 use luks_io::sink::WriteFault;
 use luks_io::source::Source;
 use luks_io::transform::Transform;

@@ -1,8 +1,8 @@
 use Rattle.std.proofs.Common.{◌∙◌, ◌≡◌, ◌≢◌, ℕ, List, Option, Result, Ok, Err, Some, ap, arith, refl, sym, false, true}
 use Rattle.luks_io.specs.Counts.{MemSourceModel}
 use Rattle.luks_access.specs.Keys.{KeyCheckMessage, check_in_header, key_check_of}
-use Rattle.luks_open.specs.declared.volume_key.KeyCheck.{KeyCheck}
-use Rattle.luks_open.specs.declared.volume_key.KeyCheck.TheVariants.{Matches, Differs, NoDigest}
+use Rattle.luks_key_slots.specs.declared.volume_key.KeyCheck.{KeyCheck}
+use Rattle.luks_key_slots.specs.declared.volume_key.KeyCheck.TheVariants.{Matches, Differs, NoDigest}
 use Rattle.luks_report.specs.declared.message.Message.{Message}
 use Rattle.luks_report.specs.declared.message.Message.TheVariants.{Done}
 use Rattle.luks_runs.proofs.PrefixLemmas.{header_decided}

@@ -22,7 +22,8 @@ batches-preserved c =
     let size : length (take (16 * done + 16 * count - 16 * done) (drop (16 * done) c.batches.unit)) / 16 ≡ count =
     omega arith in
     let same = batch_block unit c.batches.unit done count before.left in
-    let more = λ (n : ℕ) (few : n ≤ count). before_same c.args.iv c.batches.before unit _ done count n before.next same few in
+    let more = λ (n : ℕ) (few : n ≤ count).
+    before_same c.args.iv c.batches.before unit _ done count n before.next same few in
     record {
       few = omega arith;
       whole = omega arith;

@@ -2,8 +2,8 @@
 
 use super::same::{assert_in, assert_same_in};
 use luks_args::planning::plan;
-use luks_cli::execute::{execute, execute_detached};
-use luks_cli::plan_fault::report_of_fault;
+use luks_commands::execute::{execute, execute_detached};
+use luks_commands::plan_fault::report_of_fault;
 use luks_io::memory::MemSink;
 use luks_io::sink::{Sink, put_all};
 use luks_io::source::Source;

@@ -5,7 +5,7 @@ use super::runs::{
 };
 use super::same::assert_same_in;
 use luks_args::planning::PlanFault;
-use luks_cli::plan_fault::report_of_fault;
+use luks_commands::plan_fault::report_of_fault;
 use luks_report::message::Message;
 use luks_seal_fixtures::bytes::at;
 use std::process::Abort;

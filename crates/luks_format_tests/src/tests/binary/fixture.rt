@@ -3,8 +3,8 @@
 //! If a call must succeed, an error ends the test at once: what is not returned need not be dropped
 //! on the way.
 
-use luks_area::area::HeaderArea;
-use luks_area::fault::HeaderFault;
+use luks_header_area::area::HeaderArea;
+use luks_header_area::fault::HeaderFault;
 use luks_io::source::Source;
 use luks_kdf::{Hash, digest};
 use luks_test_support::bytes::{put, range_mut};

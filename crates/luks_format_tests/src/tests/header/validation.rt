@@ -167,7 +167,7 @@ fn has_parts(slot: &Slot, stripes: u32, hash: Option<Hash>) -> bool {
         parts.key_bytes,
         parts.area_key_bytes,
     ];
-    let sizes = [slot.need(), parts.area_size, parts.area_offset];
+    let sizes = [slot.key_material_len(), parts.area_size, parts.area_offset];
     let (salt, value) = (parts.salt.as_slice(), slot.digest.value.as_slice());
     (numbers == [1000, stripes, 64, 64])
         & (parts.priority == 1)

@@ -8,7 +8,7 @@ use luks_verdict::sector_size::SectorSize;
 use luks_verdict::segment::{Segment, SegmentParts};
 use luks2_json::tree::Metadata;
 use luks2_metadata::bounds::Bounds;
-use luks2_metadata::payload::segment;
+use luks2_metadata::segment::segment;
 use std::process::Abort;
 
 /// The verdict on the segment.

@@ -47,7 +47,7 @@ fn has_values(slot: &Slot) -> bool {
         parts.key_bytes,
         parts.area_key_bytes,
     ];
-    let area = [parts.area_offset, parts.area_size, slot.need()];
+    let area = [parts.area_offset, parts.area_size, slot.key_material_len()];
     (hashes == [Some(Hash::Sha256), Some(Hash::Sha512)])
         & (numbers == [1000, 4000, 64, 64])
         & (parts.priority == 1)

@@ -3,7 +3,7 @@ use Rattle.luks_io.proofs.EffectLemmas.{reads_more}
 use Rattle.luks_io.proofs.ErrorLemmas.{given_error}
 use Rattle.luks1_header.specs.Header1.{header1_of}
 use Rattle.luks_header.specs.declared.header.Header.TheVariants.{V1}
-use Rattle.luks_area.specs.declared.fault.HeaderFault.TheVariants.{NotLuks, Cut}
+use Rattle.luks_header_area.specs.declared.fault.HeaderFault.TheVariants.{NotLuks, Cut}
 use Rattle.luks2_binary.proofs.ChoiceLemmas.{none_short}
 use Rattle.luks2_binary.proofs.PrefixLemmas.{nothing_behind, prefix_of_itself}
 use Rattle.luks_header.proofs.KnownLemmas.{aborts_reading, begins_longer, first_loaded, first_read, header_of-cut}

@@ -7,8 +7,8 @@ ghost use Rattle.luks_report.specs.DumpLine.{escaped};
 ghost use Rattle.luks2_metadata.specs.Digest2.{digests2_of};
 
 use super::slots::hash_text;
+use crate::dump_line::push_field;
 use crate::escaping::push_escaped_text;
-use crate::field::push_field;
 use luks2_json::tree::Metadata;
 use luks2_metadata::digest::{Digest, digests};
 use std::alloc::{AllocError, Global};

@@ -5,12 +5,12 @@ ghost use Rattle.luks_report.specs.Dump2.{segment_line, segment_text, size_text}
 ghost use Rattle.luks_verdict.specs.SegmentFault.{fault_text};
 ghost use Rattle.luks2_metadata.specs.Segment2.{segment2_of};
 
-use crate::field::push_field;
+use crate::dump_line::push_field;
 use luks_header::header::Bounds;
 use luks_verdict::refusal::SegmentFault;
 use luks_verdict::segment::Segment;
 use luks2_json::tree::Metadata;
-use luks2_metadata::payload::segment;
+use luks2_metadata::segment::segment;
 use std::alloc::{AllocError, Global};
 
 /// Adds the line of the segment of a header with these bounds, or of its fault.

@@ -4,7 +4,7 @@ ghost use Rattle.std.specs.Prelude.{◌≡◌, ◌++◌, None, IfOk, OnOk, flat_
 ghost use Rattle.luks_report.specs.Dump2.{hash_text, slot2_line, usable_text, verdict_text};
 ghost use Rattle.luks_header.specs.SlotVerdicts.{verdicts_of};
 
-use crate::field::push_field;
+use crate::dump_line::push_field;
 use luks_header::header::Header;
 use luks_header::slot::slots;
 use luks_kdf::Hash;

@@ -1,4 +1,5 @@
-use Rattle.std.proofs.Common.{◌≡◌, ◌∙◌, ◌*◌, List, ℕ, Option, ap, arith, drop, false, length, length-drop, subst, sym, take}
+use Rattle.std.proofs.Common.{◌≡◌, ◌∙◌, ◌*◌, List, ℕ, Option, ap, arith, drop}
+use Rattle.std.proofs.Common.{false, length, length-drop, subst, sym, take}
 use Rattle.std.proofs.lemmas.List.{length-take, take-take}
 use Rattle.luks_search.proofs.PlaceLemmas.{on_fault}
 use Rattle.luks_search.proofs.RingLemmas.{ring_copied}

@@ -3,32 +3,32 @@
 use super::assert_at;
 use super::fixture::{OPTIONS, image2, is_range, opened, text};
 use luks_access::volume::Volume;
-use luks_payload::fault::VolumeFault;
+use luks_payload::fault::PayloadFault;
 use luks_payload::state::Step;
 use luks_seal_fixtures::bytes::at;
 use luks_verdict::sector_size::SectorSize;
 use std::process::Abort;
 
 /// How an image ends: its length, that of its plaintext, and how the payload ends.
-type Ending = (u64, u64, Result<Step, VolumeFault>);
+type Ending = (u64, u64, Result<Step, PayloadFault>);
 
 /// A payload of two sectors of 1,024 bytes, from byte 65,536 to the end of its image.
 static OPEN: [Ending; 7] = [
-    (0, 0, Err(VolumeFault::CutBeforePayload)),
-    (65_535, 0, Err(VolumeFault::CutBeforePayload)),
+    (0, 0, Err(PayloadFault::CutBeforePayload)),
+    (65_535, 0, Err(PayloadFault::CutBeforePayload)),
     (65_536, 0, Ok(Step::End)),
-    (65_537, 0, Err(VolumeFault::Tail(1))),
+    (65_537, 0, Err(PayloadFault::Tail(1))),
     (66_560, 1024, Ok(Step::End)),
-    (67_583, 1024, Err(VolumeFault::Tail(1023))),
+    (67_583, 1024, Err(PayloadFault::Tail(1023))),
     (67_584, 2048, Ok(Step::End)),
 ];
 
 /// The same with a fixed size, which is that of the two sectors.
 static FIXED: [Ending; 6] = [
-    (65_535, 0, Err(VolumeFault::CutBeforePayload)),
-    (65_536, 0, Err(VolumeFault::Short(2048))),
-    (66_560, 1024, Err(VolumeFault::Short(1024))),
-    (67_583, 1024, Err(VolumeFault::Short(1))),
+    (65_535, 0, Err(PayloadFault::CutBeforePayload)),
+    (65_536, 0, Err(PayloadFault::Short(2048))),
+    (66_560, 1024, Err(PayloadFault::Short(1024))),
+    (67_583, 1024, Err(PayloadFault::Short(1))),
     (67_584, 2048, Ok(Step::End)),
     (99_999, 2048, Ok(Step::End)),
 ];

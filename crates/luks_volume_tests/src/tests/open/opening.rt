@@ -3,8 +3,8 @@
 use super::volumes::{LONG_KEY, Question, SHORT_KEY, Volume, answer};
 use luks_header::refusal::SkipReason;
 use luks_kdf::Work;
-use luks_open::fault::OpenFault;
-use luks_open::opening::Opened;
+use luks_key_slots::fault::OpenFault;
+use luks_key_slots::opening::Opened;
 use std::process::Abort;
 
 /// What is changed in a volume.

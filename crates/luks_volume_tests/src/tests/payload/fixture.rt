@@ -7,11 +7,11 @@ use luks_cipher::{Mode, SectorCipher};
 use luks_header::sector_size::SectorSize;
 use luks_header::segment::{Segment, SegmentParts};
 use luks_io::DeviceFault;
-use luks_io::ahead::ReadAheadSource;
+use luks_io::read_ahead::ReadAheadSource;
 use luks_io::sink::{Sink, WriteFault};
 use luks_io::source::{Source, fill};
 use luks_io::transform::Transform;
-use luks_payload::fault::VolumeFault;
+use luks_payload::fault::PayloadFault;
 use luks_payload::pump::Pump;
 use luks_payload::state::Step;
 use luks_test_support::devices::{FlakySink, FlakySource};
@@ -112,7 +112,7 @@ pub struct Way {
 
 /// The result of a run: how many steps answer with a sector, the answer that ends it, and how many
 /// bytes are consumed and written.
-pub type End = (u32, Result<Step, VolumeFault>, usize, usize);
+pub type End = (u32, Result<Step, PayloadFault>, usize, usize);
 
 /// The result of a run, and how many sectors the source forwarded. It is sound if what it wrote is
 /// a prefix of the plain bytes, and if further steps and skips answered alike and called no device.
@@ -162,7 +162,7 @@ pub fn run_pump<S: Source, O: Sink>(
     pump: &mut Pump<'_>,
     source: &mut S,
     sink: &mut O,
-) -> (u32, Result<Step, VolumeFault>) {
+) -> (u32, Result<Step, PayloadFault>) {
     for sectors in 0..100 {
         let last = pump.step(source, sink);
         if last != Ok(Step::Sector) {
@@ -177,7 +177,7 @@ pub fn run_pieces(
     pump: &mut Pump<'_>,
     source: &mut FlakySource<'_>,
     sink: &mut FlakySink,
-) -> (u32, Result<Step, VolumeFault>) {
+) -> (u32, Result<Step, PayloadFault>) {
     run_pump(pump, source, sink)
 }
 
@@ -208,7 +208,7 @@ fn run_loaded(
     pump: &mut Pump<'_>,
     source: &mut Buffered<'_>,
     sink: &mut FlakySink,
-) -> (u32, Result<Step, VolumeFault>) {
+) -> (u32, Result<Step, PayloadFault>) {
     run_pump(pump, source, sink)
 }
 
@@ -217,7 +217,7 @@ fn is_over(
     pump: &mut Pump<'_>,
     source: &mut Buffered<'_>,
     sink: &mut FlakySink,
-    last: Result<Step, VolumeFault>,
+    last: Result<Step, PayloadFault>,
 ) -> bool {
     let calls = [source.source.get_ref().calls(), sink.calls()];
     let again = run_loaded(pump, source, sink);

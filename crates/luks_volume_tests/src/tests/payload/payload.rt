@@ -7,49 +7,49 @@ use super::fixture::{
 use crate::tests::shared::{assert_of, kept};
 use luks_header::sector_size::SectorSize;
 use luks_io::memory::{MemSink, MemSource};
-use luks_payload::fault::VolumeFault;
+use luks_payload::fault::PayloadFault;
 use luks_payload::pump::Pump;
 use luks_payload::state::Step;
 use std::process::Abort;
 
 /// How a run over an image's first bytes ends: how many bytes these are, how many sectors are
 /// forwarded, the answer that ends it, and how many bytes are consumed.
-type Row = (usize, u32, Result<Step, VolumeFault>, usize);
+type Row = (usize, u32, Result<Step, PayloadFault>, usize);
 
 /// Sectors of a size, the unit number of the first one, the payload's size if it is fixed, the unit
 /// numbers of three sectors, and runs over them.
 type Payload = (SectorSize, u64, Option<u64>, [u64; 3], &'static [Row]);
 
 const DYNAMIC_512: [Row; 8] = [
-    (0, 0, Err(VolumeFault::CutBeforePayload), 0),
-    (999, 0, Err(VolumeFault::CutBeforePayload), 999),
+    (0, 0, Err(PayloadFault::CutBeforePayload), 0),
+    (999, 0, Err(PayloadFault::CutBeforePayload), 999),
     (1000, 0, Ok(Step::End), 1000),
-    (1001, 0, Err(VolumeFault::Tail(1)), 1001),
-    (1511, 0, Err(VolumeFault::Tail(511)), 1511),
+    (1001, 0, Err(PayloadFault::Tail(1)), 1001),
+    (1511, 0, Err(PayloadFault::Tail(511)), 1511),
     (1512, 1, Ok(Step::End), 1512),
-    (1513, 1, Err(VolumeFault::Tail(1)), 1513),
+    (1513, 1, Err(PayloadFault::Tail(1)), 1513),
     (2536, 3, Ok(Step::End), 2536),
 ];
 
 const DYNAMIC_4096: [Row; 3] = [
-    (5095, 0, Err(VolumeFault::Tail(4095)), 5095),
+    (5095, 0, Err(PayloadFault::Tail(4095)), 5095),
     (5096, 1, Ok(Step::End), 5096),
     (13_288, 3, Ok(Step::End), 13_288),
 ];
 
 const FIXED_512: [Row; 8] = [
-    (999, 0, Err(VolumeFault::CutBeforePayload), 999),
-    (1000, 0, Err(VolumeFault::Short(1024)), 1000),
-    (1001, 0, Err(VolumeFault::Short(1023)), 1001),
-    (1512, 1, Err(VolumeFault::Short(512)), 1512),
-    (2023, 1, Err(VolumeFault::Short(1)), 2023),
+    (999, 0, Err(PayloadFault::CutBeforePayload), 999),
+    (1000, 0, Err(PayloadFault::Short(1024)), 1000),
+    (1001, 0, Err(PayloadFault::Short(1023)), 1001),
+    (1512, 1, Err(PayloadFault::Short(512)), 1512),
+    (2023, 1, Err(PayloadFault::Short(1)), 2023),
     (2024, 2, Ok(Step::End), 2024),
     (2025, 2, Ok(Step::End), 2024),
     (2536, 2, Ok(Step::End), 2024),
 ];
 
 const FIXED_EMPTY: [Row; 3] = [
-    (999, 0, Err(VolumeFault::CutBeforePayload), 999),
+    (999, 0, Err(PayloadFault::CutBeforePayload), 999),
     (1000, 0, Ok(Step::End), 1000),
     (2536, 0, Ok(Step::End), 1000),
 ];
@@ -165,7 +165,7 @@ static PREFIXES: [Prefix; 5] = [
         SectorSize::B512,
         None,
         UNITS_512,
-        (2535, 2, Err(VolumeFault::Tail(511)), 2535),
+        (2535, 2, Err(PayloadFault::Tail(511)), 2535),
         &[1000, 1512, 2024, 2025, 2535],
     ),
     (
@@ -186,7 +186,7 @@ static PREFIXES: [Prefix; 5] = [
         SectorSize::B512,
         Some(1024),
         UNITS_512,
-        (1999, 1, Err(VolumeFault::Short(25)), 1999),
+        (1999, 1, Err(PayloadFault::Short(25)), 1999),
         &[1000, 1512, 1600, 1999],
     ),
 ];
@@ -217,13 +217,13 @@ fn buffered_bytes_are_forwarded_first(rt: HostRuntime) {
 // Reads are of 200 bytes: five before the payload, then 200, 200 and 112 for each sector, and one
 // at the end.
 static BAD_READS: [(u64, End); 8] = [
-    (0, (0, Err(VolumeFault::Read), 0, 0)),
-    (4, (0, Err(VolumeFault::Read), 800, 0)),
-    (5, (0, Err(VolumeFault::Read), 1000, 0)),
-    (7, (0, Err(VolumeFault::Read), 1400, 0)),
-    (8, (1, Err(VolumeFault::Read), 1512, 512)),
-    (13, (2, Err(VolumeFault::Read), 2424, 1024)),
-    (14, (3, Err(VolumeFault::Read), 2536, 1536)),
+    (0, (0, Err(PayloadFault::Read), 0, 0)),
+    (4, (0, Err(PayloadFault::Read), 800, 0)),
+    (5, (0, Err(PayloadFault::Read), 1000, 0)),
+    (7, (0, Err(PayloadFault::Read), 1400, 0)),
+    (8, (1, Err(PayloadFault::Read), 1512, 512)),
+    (13, (2, Err(PayloadFault::Read), 2424, 1024)),
+    (14, (3, Err(PayloadFault::Read), 2536, 1536)),
     (15, (3, Ok(Step::End), 2536, 1536)),
 ];
 
@@ -250,16 +250,16 @@ fn failed_reads_are_reported_from_then_on(rt: HostRuntime) {
         segment,
         parts,
         way,
-        (1, Err(VolumeFault::Read), 1600, 512),
+        (1, Err(PayloadFault::Read), 1600, 512),
     );
 }
 
 // Writes are of 200 bytes, too. What was consumed is the same whatever the source has buffered.
 static BAD_WRITES: [(u64, End); 5] = [
-    (0, (0, Err(VolumeFault::Write), 1512, 0)),
-    (2, (0, Err(VolumeFault::Write), 1512, 400)),
-    (3, (1, Err(VolumeFault::Write), 2024, 512)),
-    (8, (2, Err(VolumeFault::Write), 2536, 1424)),
+    (0, (0, Err(PayloadFault::Write), 1512, 0)),
+    (2, (0, Err(PayloadFault::Write), 1512, 400)),
+    (3, (1, Err(PayloadFault::Write), 2024, 512)),
+    (8, (2, Err(PayloadFault::Write), 2536, 1424)),
     (9, (3, Ok(Step::End), 2536, 1536)),
 ];
 

@@ -17,7 +17,8 @@ steps-preserved g c =
     let buf = c.steps.buf in
     let new = c.read_next.new.buf in
     let left = length buf - done in
-    let long : length new ≡ left = omega (arith, c.read_next.auto.buf, length-take left (drop done buf), length-drop done buf)
+    let long : length new ≡ left =
+    omega (arith, c.read_next.auto.buf, length-take left (drop done buf), length-drop done buf)
     in
     let most : c.in-Ok.count ≤ length new = omega (arith, c.in-Ok.ensures.most, c.read_next.auto.buf) in
     record {

@@ -5,5 +5,5 @@ use Rattle.luks_cipher.proofs.units.UnitKeys.decrypt_in_turn.Given as goal
 
 -- the sectors before number i are decrypted
 abbrev pub invariant-units : goal.invariant-units
-invariant-units l = (key : List ℕ) → AreKeysOf key l.self.mode l.self.round_keys.now l.self.number.now
+invariant-units l = (key : List ℕ) → AreKeysOf key l.self.mode l.self.round_keys.now l.self.iv_or_tweak.now
     → AreDecrypted l.self.mode key l.first l.size l.fn.units l.units l.i

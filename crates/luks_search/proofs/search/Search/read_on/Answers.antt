@@ -1,4 +1,5 @@
-use Rattle.std.proofs.Common.{◌≡◌, ◌∙◌, ◌-◌, ◌*◌, ◌≤◌, ◌++◌, List, ℕ, Option, ap, arith, drop, false, length, length-drop}
+use Rattle.std.proofs.Common.{◌≡◌, ◌∙◌, ◌-◌, ◌*◌, ◌≤◌, ◌++◌, List, ℕ, Option}
+use Rattle.std.proofs.Common.{ap, arith, drop, false, length, length-drop}
 use Rattle.std.proofs.Common.{subst, sym, take}
 use Rattle.std.proofs.lemmas.List.{length-take, with_items_is}
 use Rattle.std.specs.Vec.{with_items}

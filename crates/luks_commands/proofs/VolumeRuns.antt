@@ -1,0 +1,373 @@
+-- How the commands on volumes end if their volume is not opened, and what holds if it is.
+use Rattle.std.proofs.Common.{◌≡◌, ℕ, ◌+◌, ◌-◌, ◌<◌, ◌≤◌, inl, inr, List, Option, Some, Result, Ok, Err, ◌∙◌, ap, sym}
+use Rattle.std.proofs.Common.{refl, take, drop, length, max, min, arith, ◌*◌}
+use Rattle.std.proofs.Common.{◌/◌, length-take, false, true, is_err, ◌⊎◌}
+use Rattle.std.proofs.lemmas.Bool.{cases_lt}
+use Rattle.luks_header.specs.Area.{AbortsConsuming, ConsumedOnto}
+use Rattle.luks_header.specs.Header.{header_read_len, header_of}
+use Rattle.luks_header.specs.HeaderSegment.{segment_of}
+use Rattle.luks_header.specs.declared.header.Header.{Header}
+use Rattle.luks_header_area.specs.declared.fault.HeaderFault.{HeaderFault}
+use Rattle.luks_header_area.specs.declared.fault.HeaderFault.TheVariants.{Read as HeaderRead, Memory as HeaderMemory}
+use Rattle.luks_verdict.specs.declared.segment.Segment.{Segment}
+use Rattle.luks_kdf.specs.Pbkdf2.{capped}
+use Rattle.luks_key_slots.specs.Opening.{opening_of, work_of, OrderModel, key_material_end, order_of}
+use Rattle.luks_key_slots.specs.declared.fault.OpenFault.{OpenFault}
+use Rattle.luks_key_slots.specs.declared.fault.OpenFault.TheVariants.{Memory}
+use Rattle.luks_key_slots.specs.declared.opening.Opened.{Opened}
+use Rattle.luks_runs.proofs.VolumeLemmas.{area_cut, area_loaded, area_more, found_cut, found_is, found_long}
+use Rattle.luks_runs.proofs.VolumeLemmas.{found_whole, prefix_length, outcome_is, tried_is, volume_is, volume_with}
+use Rattle.luks_report.specs.Faults.{message_for_header, message_for_opening}
+use Rattle.luks_runs.specs.Volume.{OnOpened, found_outcome, opened_outcome, outcome_after, volume_outcome_by, Volume}
+use Rattle.luks_runs.specs.Volume.{unlock_read_len, volume_by, ConsumedMaterial, CountsTrials, TriesSlots, opened_of}
+use Rattle.luks_request.specs.declared.command.SlotChoice.{SlotChoice}
+use Rattle.luks_runs.specs.Run.{RunMatches, result_message}
+use Rattle.luks_runs.proofs.RunLemmas.{aborted_unwritten, header_read_len_within}
+use Rattle.luks_io.proofs.EffectLemmas.{appended-none, consumed-none}
+use Rattle.luks_io.specs.Devices.{Appended, ConsumedExactly, counted}
+use Rattle.luks_io.specs.declared.counts.ReadCounts.{ReadCounts}
+use Rattle.luks_runs.specs.KeyFile.{NoKeyFileRead, hits_key_file_eof, max_key_file_len}
+use Rattle.luks_commands.specs.Headline.{CountsOpening, CountsTried, PromptCat, PromptForwarding}
+use Rattle.luks_commands.specs.Unlocking.{ConsumesLoaded, UnlockEffect, Unlocks}
+use Rattle.luks_runs.specs.Volume.{OpeningMessage, ends_untried, FindsNoVolume, HasSegmentBy}
+use Rattle.luks_runs.specs.declared.unlocked.UnlockedVolume.{UnlockedVolume}
+use Rattle.luks_runs.specs.Location.{reader_for, HeaderReader}
+use Rattle.luks_runs.specs.declared.location.HeaderLocation.{HeaderLocation}
+use Rattle.luks_runs.specs.declared.location.HeaderLocation.TheVariants.{Attached, Detached}
+use Rattle.luks_report.specs.declared.message.Message.{Message}
+use Rattle.luks_report.specs.declared.message.Message.TheVariants.{KeyFileLength, OutOfMemory, ReadFailed, WriteFailed}
+use Rattle.luks_report.specs.declared.message.Message.TheVariants.{Done}
+use Rattle.std.proofs.Math.Nat.{zero-div}
+use Rattle.luks_header.proofs.KnownLemmas.{is_attached}
+use Rattle.luks_key_slots.proofs.CallerLemmas.{key_areas_before_payload, work_prefix}
+use Rattle.luks_payload.specs.Plain.{sector_len}
+
+-- ---- promptness: how much of the image a run on a volume consumed before it was aborted
+
+pub same_segment_by : (read : HeaderReader) (image : List ℕ) (s t : Segment) → HasSegmentBy read image s
+    → HasSegmentBy read image t → t ≡ s
+same_segment_by read image s t (header, found, is_segment) (other, found', is_segment') = cc
+
+-- there are no sectors before the payload's start
+no_sectors_before : (segment : Segment) (a : ℕ) → a ≤ segment.offset
+    → 0 ≡ (a - segment.offset) / sector_len segment * sector_len segment
+no_sectors_before segment a few =
+    let none : a - segment.offset ≡ 0 = omega arith in rw (none, zero-div (sector_len segment)) (omega arith)
+
+-- nothing was consumed past the header's end or the payload's start, whichever comes later
+prompt_early : (segment : Segment) (header_len : ℕ) (message : Message) (consumed : ℕ)
+    → consumed ≤ max header_len segment.offset → PromptForwarding segment header_len message consumed 0
+prompt_early segment header_len ReadFailed consumed few = λ is_past_header. elim is_past_header [
+  | inl before ↦ no_sectors_before segment consumed (omega arith)
+  | inr past ↦ no_sectors_before segment consumed (omega arith)
+]
+prompt_early segment header_len WriteFailed consumed few = omega arith
+prompt_early segment header_len _ consumed few = tt
+
+-- nothing was consumed past the header
+prompt_in_header : (location : HeaderLocation) (image : List ℕ) (message : Message) (a b : ℕ)
+    → a ≤ header_read_len image → PromptCat location image message a 0 b 0
+prompt_in_header Attached image message a b few =
+    λ segment has. prompt_early segment (header_read_len image) message a (omega arith)
+prompt_in_header Detached image message a b few = λ segment has. prompt_early segment 0 message 0 (omega arith)
+
+-- nothing was consumed past the header's end or this segment's start
+prompt_before_payload : (location : HeaderLocation) (image : List ℕ) (message : Message) (a b : ℕ)
+    (segment : Segment) → HasSegmentBy (reader_for location) image segment
+    → (location ≡ Attached → a ≤ max (header_read_len image) segment.offset)
+    → PromptCat location image message a 0 b 0
+prompt_before_payload Attached image message a b segment has early = λ other is.
+    prompt_early other (header_read_len image) message a
+    (rw (same_segment_by header_of image segment other has is) (early refl))
+prompt_before_payload Detached image message a b segment has early =
+    λ other is. prompt_early other 0 message 0 (omega arith)
+
+-- ---- how much is consumed of a volume that was found
+
+module _ (on_opened : OnOpened) (named : Option ℕ) (v : Volume) (image secret : List ℕ)
+    (consumes : ConsumesLoaded secret on_opened) where
+  opened_within : (r : Result Opened OpenFault)
+      → (unlock_read_len image v ≤ (opened_outcome on_opened named v image secret r).input_consumed)
+      × (length secret ≤ (opened_outcome on_opened named v image secret r).secret_consumed)
+  opened_within (Ok opened) =
+      let n = unlock_read_len image v in
+      (consumes.loaded v.segment opened n, omega (arith, consumes.whole v.segment opened n))
+  opened_within (Err fault) = (omega arith, omega arith)
+
+  -- a key file that is not too long is consumed whole, and at least the loaded bytes of the image are consumed
+  area_within : length secret ≤ max_key_file_len
+      → (min (length image) (unlock_read_len image v) ≤ (found_outcome on_opened named v image secret).input_consumed)
+      × (length secret ≤ (found_outcome on_opened named v image secret).secret_consumed)
+  area_within short = elim (cases_lt (length image) (key_material_end v.order.entries)) [
+    | inl few ↦ rw (found_cut on_opened named v image secret short few) (omega arith, omega arith)
+    | inr enough ↦
+        let all = opened_within (opening_of v.order image secret) in
+        rw (found_whole on_opened named v image secret short enough) (omega (arith, all.0), all.1)
+  ]
+
+  -- at least the header is consumed, and at least as much of the key file as is ever read of it
+  found_within : (header_read_len image ≤ (found_outcome on_opened named v image secret).input_consumed)
+      × (min (length secret) (max_key_file_len + 1) ≤ (found_outcome on_opened named v image secret).secret_consumed)
+  found_within = elim (cases_lt max_key_file_len (length secret)) [
+    | inl long ↦ rw (found_long on_opened named v image secret long) (omega arith, omega arith)
+    | inr short ↦
+        let all = area_within short in
+        (omega (arith, all.0, header_read_len_within image), omega (arith, all.1))
+  ]
+
+-- ---- how many evaluations of HMAC a run needs
+
+-- if the key file was not read, EOF was not hit, and no key slot was tried
+pub end_not_hit : (secret : List ℕ) (left : Option (List ℕ)) (message : Message) → NoKeyFileRead secret left message
+    → (hits_key_file_eof message ≡ false) × (ends_untried message ≡ true)
+end_not_hit secret left KeyFileLength stop = (refl, refl)
+end_not_hit secret left OutOfMemory stop = (refl, refl)
+end_not_hit secret left ReadFailed stop = (refl, refl)
+end_not_hit secret left _ stop = absurd stop
+
+-- no volume was found: the image has none, or a read failed, or memory ran out
+pub early_without_volume : (location : HeaderLocation) (slots : SlotChoice) (image : List ℕ) (left : Option (List ℕ))
+    (message : Message) → FindsNoVolume (reader_for location) slots image left message
+    → (is_err (volume_by (reader_for location) slots image) ≡ true) ⊎ (ends_untried message ≡ true)
+early_without_volume location slots image left OutOfMemory stop = inr refl
+early_without_volume location slots image left ReadFailed stop = inr refl
+early_without_volume location slots image left message stop = inl (rw stop.0 refl)
+
+module _ (image area area' : List ℕ) (i : Option (List ℕ)) (prefix : area ≡ take (header_read_len image) image)
+    (named : Option ℕ) (segment : Segment) (order : OrderModel) (pass : List ℕ) where
+  -- the loaded bytes are the first of the image, and those that were consumed, also after its key slots were tried
+  abbrev LoadedPrefix : Type 0
+  LoadedPrefix =
+      (n : ℕ) × (area' ≡ take n image) × (header_read_len image ≤ n) × ConsumedExactly image i n
+
+  loads_more : (n : ℕ) → ConsumedOnto area area' (drop (header_read_len image) image) i n → LoadedPrefix
+  loads_more n grows = let more = area_more image area area' i 0 prefix n grows in (_, more.0, omega arith, more.1)
+
+  prefix_tried : (result : Result UnlockedVolume Message)
+      → TriesSlots named segment order pass area area' (drop (header_read_len image) image) i result → LoadedPrefix
+  prefix_tried (Ok volume) tries = loads_more _ tries.0
+  prefix_tried (Err message) (inr tries) = loads_more _ tries.0
+  prefix_tried (Err message) (inl lost) = by lost.0 lost.2
+    where
+      by : (fault : HeaderFault) → AbortsConsuming (key_material_end order.entries - length area) area area'
+          (drop (header_read_len image) image) i fault → LoadedPrefix
+      by HeaderRead stop = loads_more stop.0 stop.2
+      by HeaderMemory stop = loads_more 0 stop
+      by _ stop = absurd stop
+
+  prefix_unlocked : (s : Option (List ℕ)) (result : Result UnlockedVolume Message)
+      → UnlockEffect named segment order pass area area' (drop (header_read_len image) image) i s result
+      → LoadedPrefix
+  prefix_unlocked s result (inl (short, read, tries)) = prefix_tried result tries
+  prefix_unlocked s result (inr none) = (
+    header_read_len image,
+    none.3 ∙ prefix,
+    omega arith,
+    record { within = header_read_len_within image; left = none.4 },
+  )
+
+-- ---- runs on a volume
+
+module _ (location : HeaderLocation) (slots : SlotChoice) (image pass : List ℕ) (i s w : Option (List ℕ)) where
+  -- a run that wrote nothing matches the outcome of what is done with an opened volume
+  abbrev Matches : OnOpened → Message → Type 0
+  Matches on_opened message =
+      RunMatches (PromptCat location image) (volume_outcome_by (reader_for location) on_opened slots image pass) message
+      (ConsumedExactly image i) (ConsumedExactly pass s) (Appended w w)
+
+  module _ (on_opened : OnOpened) (consumes : ConsumesLoaded pass on_opened) where
+    header_read_len_consumed : header_read_len image
+        ≤ (volume_outcome_by (reader_for location) on_opened slots image pass).input_consumed
+    unfolding volume_outcome_by
+    header_read_len_consumed = after (volume_by (reader_for location) slots image)
+      where
+        after : (r : Result Volume Message)
+            → header_read_len image ≤ (outcome_after on_opened slots.named image pass r).input_consumed
+        after (Ok v) = (found_within on_opened slots.named v image pass consumes).0
+        after (Err message) = omega arith
+
+    -- no volume was found, or reading the header failed
+    pub runs_without_volume : (message : Message) → OpeningMessage message
+        → FindsNoVolume (reader_for location) slots image i message → s ≡ Some pass → Matches on_opened message
+    runs_without_volume OutOfMemory only stop whole =
+        aborted_unwritten stop.0 0 refl (prompt_in_header location image OutOfMemory stop.0 0 stop.1)
+        (omega (arith, stop.1, header_read_len_consumed)) (omega arith) stop.2 (consumed-none pass s whole)
+    runs_without_volume ReadFailed only stop whole =
+        aborted_unwritten stop.0 0 (omega arith) (prompt_in_header location image ReadFailed stop.0 0 stop.1)
+        (omega (arith, stop.1, header_read_len_consumed)) (omega arith) stop.2 (consumed-none pass s whole)
+    runs_without_volume WriteFailed only stop whole = absurd only
+    runs_without_volume message only stop whole =
+        let unread = consumed-none pass s whole in
+        rw (outcome_is location slots image pass on_opened (Err message) stop.0) (record
+        { as_specified = refl; input = stop.1; payload = refl; secret = unread; output = appended-none w })
+
+  -- the header names this segment and these key slots to be tried
+  module _ (header : Header) (segment : Segment) (order : OrderModel) (found : reader_for location image ≡ Ok header)
+      (is_segment : segment_of header ≡ Ok segment)
+      (ordered : order_of header slots.named slots.max_iterations ≡ Ok order) where
+    abbrev volume : Volume
+    volume = volume_with header segment order
+
+    outcome_found : (on_opened : OnOpened) → volume_outcome_by (reader_for location) on_opened slots image pass
+        ≡ found_outcome on_opened slots.named volume image pass
+    outcome_found on_opened = found_is location slots image pass header segment order found is_segment ordered on_opened
+
+    -- with an attached header, the key material of the slots to be tried ends before the payload starts
+    loaded_before_payload : location ≡ Attached
+        → unlock_read_len image volume ≤ max (header_read_len image) segment.offset
+    loaded_before_payload attached =
+        let few = key_areas_before_payload header segment slots.named slots.max_iterations order
+        (is_attached image header (rw attached at found)) is_segment ordered in
+        omega (arith, few)
+
+    -- the key file was not read
+    runs_without_secret : (on_opened : OnOpened) → ConsumesLoaded pass on_opened → (message : Message)
+        → NoKeyFileRead pass s message → ConsumedExactly image i (header_read_len image) → Matches on_opened message
+    runs_without_secret on_opened consumes KeyFileLength stop rest =
+        rw (outcome_found on_opened, found_long on_opened slots.named volume image pass stop.0) (record
+        { as_specified = refl; input = rest; payload = refl; secret = stop.1; output = appended-none w })
+    runs_without_secret on_opened consumes OutOfMemory stop rest =
+        let within = found_within on_opened slots.named volume image pass consumes in
+        rw (outcome_found on_opened) (aborted_unwritten (header_read_len image) stop.0 refl
+        (prompt_in_header location image OutOfMemory (header_read_len image) stop.0 (omega arith)) within.0
+        (omega (arith, stop.1, within.1)) rest stop.2)
+    runs_without_secret on_opened consumes ReadFailed stop rest =
+        let within = found_within on_opened slots.named volume image pass consumes in
+        rw (outcome_found on_opened) (aborted_unwritten (header_read_len image) stop.0 (omega arith)
+        (prompt_in_header location image ReadFailed (header_read_len image) stop.0 (omega arith)) within.0
+        (omega (arith, stop.1, within.1)) rest stop.2)
+    runs_without_secret on_opened consumes _ stop rest = absurd stop
+
+    -- the key file was read
+    module _ (short : length pass ≤ max_key_file_len) (read : ConsumedExactly pass s (length pass))
+        (area area' : List ℕ) (prefix : area ≡ take (header_read_len image) image) where
+      -- the key areas could not be read
+      runs_without_area : (on_opened : OnOpened) → ConsumesLoaded pass on_opened → (fault : HeaderFault)
+          → AbortsConsuming (key_material_end order.entries - length area) area area' (drop
+          (header_read_len image) image) i fault → Matches on_opened (message_for_header fault)
+      runs_without_area on_opened consumes HeaderRead stop =
+          let more = area_more image area area' i (key_material_end order.entries) prefix stop.0 stop.2 in
+          let few : header_read_len image + stop.0 ≤ unlock_read_len image volume =
+          omega (arith, stop.1, prefix_length image area area' i (key_material_end order.entries) prefix) in
+          let within = area_within on_opened slots.named volume image pass consumes short in
+          rw (outcome_found on_opened) (aborted_unwritten (header_read_len image + stop.0) (length pass) (omega arith)
+          (prompt_before_payload location image ReadFailed (header_read_len image + stop.0) (length pass) segment
+          (header, found, is_segment) (λ attached. omega (arith, few, loaded_before_payload attached)))
+          (omega (arith, within.0, more.1.within, few)) within.1 more.1 read)
+      runs_without_area on_opened consumes HeaderMemory stop =
+          let within = area_within on_opened slots.named volume image pass consumes short in
+          rw (outcome_found on_opened) (aborted_unwritten (header_read_len image) (length pass) refl
+          (prompt_in_header location image OutOfMemory (header_read_len image) (length pass) (omega arith))
+          (omega (arith, within.0, header_read_len_within image)) within.1
+          (record { within = header_read_len_within image; left = stop.0.left }) read)
+      runs_without_area on_opened consumes _ stop = absurd stop
+
+      -- the key slots were tried
+      module _ (grows : ConsumedMaterial order area area' (drop (header_read_len image) image) i)
+          (enough : key_material_end order.entries ≤ length area') where
+        outcome_tried : (r : Result Opened OpenFault) → opening_of order area' pass ≡ r → (on_opened : OnOpened)
+            → volume_outcome_by (reader_for location) on_opened slots image pass
+            ≡ opened_outcome on_opened slots.named volume image pass r
+        outcome_tried r tried on_opened =
+            tried_is location slots image pass header segment order found is_segment ordered short area area' i prefix
+            grows enough r tried on_opened
+
+        -- none of them opens
+        runs_unopened : (fault : OpenFault) → opening_of order area' pass ≡ Err fault → (on_opened : OnOpened)
+            → Matches on_opened (message_for_opening slots.named fault)
+        runs_unopened Memory tried on_opened =
+            let loaded = area_loaded image area area' i (key_material_end order.entries) prefix grows enough in
+            rw (outcome_tried (Err Memory) tried on_opened)
+            (aborted_unwritten (unlock_read_len image volume) (length pass) refl
+            (prompt_before_payload location image OutOfMemory (unlock_read_len image volume) (length pass) segment
+            (header, found, is_segment) loaded_before_payload) (omega arith) (omega arith) loaded.3 read)
+        runs_unopened fault tried on_opened =
+            let loaded = area_loaded image area area' i (key_material_end order.entries) prefix grows enough in
+            rw (outcome_tried (Err fault) tried on_opened)
+            (record { as_specified = refl; input = loaded.3; payload = refl; secret = read; output = appended-none w })
+
+    -- the volume was not opened
+    pub runs_without_key : (area area' : List ℕ) → area ≡ take (header_read_len image) image → (on_opened : OnOpened)
+        → ConsumesLoaded pass on_opened → (message : Message)
+        → UnlockEffect slots.named segment order pass area area' (drop (header_read_len image) image) i s (Err message)
+        → Matches on_opened message
+    runs_without_key area area' prefix on_opened consumes message (inl (short, read, inl lost)) =
+        rw lost.1 (runs_without_area short read area area' prefix on_opened consumes lost.0 lost.2)
+    -- the image ended within the key areas
+    runs_without_key area area' prefix on_opened consumes message (inl (short, read, inr (grows, inl cut))) =
+        let ends = area_cut image area area' i (key_material_end order.entries) prefix grows cut.1 in
+        rw cut.0 (rw (outcome_found on_opened, found_cut on_opened slots.named volume image pass short ends.0) (record
+        { as_specified = refl; input = ends.1; payload = refl; secret = read; output = appended-none w }))
+    runs_without_key area area' prefix on_opened consumes message (inl (short, read, inr (grows, inr none))) =
+        rw none.1 (runs_unopened short read area area' prefix grows none.2 none.0 none.3 on_opened)
+    runs_without_key area area' prefix on_opened consumes message (inr none) =
+        let same : message ≡ none.0 = cc in
+        rw same (runs_without_secret on_opened consumes none.0 none.2
+        (record { within = header_read_len_within image; left = none.4 }))
+
+    is_volume : volume_by (reader_for location) slots image ≡ Ok volume
+    is_volume = volume_is location slots image header segment order found is_segment ordered
+
+    -- the work of trying its key slots does not depend on which bytes were loaded
+    counts_tried : (area' : List ℕ) (n : ℕ) → area' ≡ take n image → header_read_len image ≤ n
+        → ConsumedExactly image i n → key_material_end order.entries ≤ length area'
+        → (secret secret' : ReadCounts) → secret'.ends ≡ counted true secret.ends
+        → (work work' : ℕ) → work' ≡ capped (work + work_of order area' pass)
+        → CountsTried location slots image pass i secret secret' work work'
+    counts_tried area' n begins header_read consumption enough secret secret' ended work work' counted =
+        let loaded : key_material_end order.entries ≤ n =
+        omega (arith, enough, ap length begins, length-take n image) in (
+          volume,
+          record {
+            is_volume = is_volume;
+            key_file = ended;
+            material = λ countable. (n, omega (arith, loaded, header_read), consumption);
+          },
+          counted ∙ ap (λ (cost : ℕ). capped (work + cost))
+              (ap (λ (bytes : List ℕ). work_of order bytes pass) begins ∙ work_prefix order n image pass loaded),
+        )
+
+    pub counts_opening : (area area' : List ℕ) → area ≡ take (header_read_len image) image
+        → (result : Result UnlockedVolume Message)
+        → UnlockEffect slots.named segment order pass area area' (drop (header_read_len image) image) i s result
+        → (secret secret' : ReadCounts) → secret'.ends ≡ counted true secret.ends → (work work' : ℕ)
+        → CountsTrials order area' pass (result_message result) work work'
+        → CountsOpening location slots image pass (result_message result) i secret secret' work work'
+    counts_opening area area' prefix result effect secret secret' ended work work' (inl (enough, counted)) =
+        let begins = prefix_unlocked image area area' i prefix slots.named segment order pass s result effect in
+        inl (counts_tried area' begins.0 begins.1 begins.2 begins.3 enough secret secret' ended work work' counted)
+    counts_opening area area' prefix result effect secret secret' ended work work' (inr (few, untried, same)) =
+        let begins = prefix_unlocked image area area' i prefix slots.named segment order pass s result effect in
+        let fewer : begins.0 < unlock_read_len image volume =
+        omega (arith, few, ap length begins.1, length-take begins.0 image, begins.3.within) in
+        inr (record { unread = inr (volume, is_volume, (begins.0, fewer, begins.3)); early = inr untried }, same)
+
+    -- if the volume was opened, its key slots were tried
+    pub counts_unlocked : (area area' : List ℕ) → area ≡ take (header_read_len image) image → (opened : UnlockedVolume)
+        → UnlockEffect slots.named segment order pass area area' (drop (header_read_len image) image) i s (Ok opened)
+        → (secret secret' : ReadCounts) → secret'.ends ≡ counted true secret.ends → (work work' : ℕ)
+        → CountsTrials order area' pass Done work work'
+        → CountsTried location slots image pass i secret secret' work work'
+    counts_unlocked area area' prefix opened effect secret secret' ended work work' (inl (enough, counted)) =
+        let begins = prefix_unlocked image area area' i prefix slots.named segment order pass s (Ok opened) effect in
+        counts_tried area' begins.0 begins.1 begins.2 begins.3 enough secret secret' ended work work' counted
+    counts_unlocked area area' prefix opened effect secret secret' ended work work' (inr (few, untried, same)) =
+        absurd (let wrong : false ≡ true = untried in cc)
+
+    -- the volume was opened
+    pub unlocks_volume : (area area' : List ℕ) → area ≡ take (header_read_len image) image → (opened : UnlockedVolume)
+        → UnlockEffect slots.named segment order pass area area' (drop (header_read_len image) image) i s (Ok opened)
+        → Unlocks location slots image pass opened.segment (opened_of opened) area' i s
+    unlocks_volume area area' prefix opened (inl (short, read, tries)) =
+        let loaded = area_loaded image area area' i (key_material_end order.entries) prefix tries.0 tries.1 in
+        rw tries.2 (record {
+          outcome = λ on_opened.
+              outcome_tried short read area area' prefix tries.0 tries.1 (Ok (opened_of opened)) tries.3 on_opened
+              ∙ ap (on_opened segment (opened_of opened)) (sym loaded.1);
+          has = (header, found, is_segment);
+          no_further = λ attached. omega (arith, loaded.1, loaded_before_payload attached);
+          prefix = rw (← loaded.1) at loaded.2;
+          input_consumed = rw (← loaded.1) at loaded.3;
+          secret_consumed = read;
+        })
+    unlocks_volume area area' prefix opened (inr none) = cc

@@ -1,0 +1,316 @@
+-- What the clauses of `execute` and `execute_detached` say, clause by clause. With an attached header, header, key
+-- areas and payload are in one image. With a detached one, header and key areas come from the header's file, and the
+-- payload from the image, at the segment's own offset.
+use Rattle.std.specs.Prelude.{◌≡◌, ℕ, ◌<◌, ◌^◌, max, List, length, Option, Some, Bool, true, ◌&&◌, not, ◌⊎◌, is_err}
+use Rattle.std.specs.Prelude.{IfSome, false, ◌≤◌, ◌+◌, ◌-◌, ◌*◌, ◌/◌, Ok}
+use Rattle.luks_io.specs.Counts.{Reads, Writes, allowed_to}
+use Rattle.luks_io.specs.declared.counts.ReadCounts.{ReadCounts}
+use Rattle.luks_io.specs.declared.counts.WriteCounts.{WriteCounts}
+use Rattle.luks_io.specs.Devices.{Appended, ConsumedExactly, ConsumedFewer, IfKnown, counted}
+use Rattle.luks_request.specs.Request.{Request, test_passphrase, luks_cat, af_split, secret_of, is_luks, luks_uuid}
+use Rattle.luks_request.specs.Request.{luks_dump, luks_check, af_merge}
+use Rattle.luks_request.specs.declared.command.SlotChoice.{SlotChoice}
+use Rattle.luks_runs.specs.Location.{HeaderReader, reader_for, detached_header_of}
+use Rattle.luks_runs.specs.declared.location.HeaderLocation.{HeaderLocation}
+use Rattle.luks_runs.specs.declared.location.HeaderLocation.TheVariants.{Attached, Detached}
+use Rattle.luks_runs.specs.Payload.{max_payload_end}
+use Rattle.luks_runs.specs.Run.{Promptness, ConsumedNothing, AnyPromptness, is_run_read_failure}
+use Rattle.luks_runs.specs.Run.{is_run_write_failure, DetachedRunMatches, aborts, Outcome}
+use Rattle.luks_runs.specs.Stripe.{max_key_len, PromptSplit, merge_outcome, split_outcome}
+use Rattle.luks_runs.specs.Volume.{HasSegmentBy, slot_outcome, volume_by, OnOpened}
+use Rattle.luks_runs.specs.Volume.{Volume, volume_outcome_by, OpeningMessage, unlock_read_len}
+use Rattle.luks_runs.specs.Volume.{ends_untried}
+use Rattle.luks_runs.specs.Volume.{detached_payload_outcome, payload_outcome}
+use Rattle.luks_runs.specs.Honest.{OpensHonest}
+use Rattle.luks_verdict.specs.declared.segment.Segment.{Segment}
+use Rattle.luks_report.specs.declared.message.Message.{Message}
+use Rattle.luks_report.specs.declared.message.Message.TheVariants.{Done, ReadFailed, WriteFailed}
+use Rattle.luks_header.specs.Header.{header_of, header_read_len}
+use Rattle.luks_kdf.specs.Pbkdf2.{capped}
+use Rattle.luks_key_slots.specs.Opening.{work_of}
+use Rattle.luks_key_slots.specs.declared.opening.Opened.{Opened}
+use Rattle.luks_payload.specs.Plain.{sector_len, sector_start}
+use Rattle.luks_runs.specs.HeaderOutcome.{is_luks_outcome, print_outcome_by}
+use Rattle.luks_runs.specs.declared.headers.Printout.TheVariants.{Uuid, Dump, Check}
+use Rattle.luks_runs.specs.RunMessages.{CheckMessage, IsLuksMessage, MergeMessage, PayloadMessage, PrintMessage}
+use Rattle.luks_runs.specs.RunMessages.{SplitMessage}
+
+-- ---- `run`: the outcome of a command for the bytes of its inputs, and how a run is compared with it
+
+-- the outcome of a command for the bytes of its first and of its second input, if its header is read in this way, and
+-- if this is what `luksCat` does with an opened volume
+abbrev pub outcome_by : HeaderReader → OnOpened → Request → List ℕ → List ℕ → Outcome
+outcome_by read on_payload (is_luks _) image secret = is_luks_outcome image
+outcome_by read on_payload (luks_uuid _) image secret = print_outcome_by read Uuid image
+outcome_by read on_payload (luks_dump _) image secret = print_outcome_by read Dump image
+outcome_by read on_payload (luks_check _) image secret = print_outcome_by read Check image
+outcome_by read on_payload (test_passphrase o) image secret =
+    volume_outcome_by read (slot_outcome secret) o.slots image secret
+outcome_by read on_payload (luks_cat o) image secret = volume_outcome_by read on_payload o.slots image secret
+outcome_by read on_payload (af_split s) image secret = split_outcome s.hash s.stripes image secret
+outcome_by read on_payload (af_merge m) image secret = merge_outcome m.hash m.stripes m.key_bytes image
+
+-- what `luksCat` does with an opened volume whose payload is in this image, if its header is at this location
+abbrev pub payload_outcome_at : HeaderLocation → List ℕ → List ℕ → OnOpened
+payload_outcome_at Attached = payload_outcome
+payload_outcome_at Detached = detached_payload_outcome
+
+-- the outcome of a command for the bytes of its first input, of the image with the payload and of its second input, if
+-- its header is at this location
+abbrev pub outcome_of : HeaderLocation → Request → List ℕ → List ℕ → List ℕ → Outcome
+outcome_of location request input image secret =
+    outcome_by (reader_for location) (payload_outcome_at location image secret) request input secret
+
+-- the header's bytes end before the payload starts, or the run consumed more than the header's bytes. (Neither holds
+-- only if a damaged primary header has a size that reaches past the payload's start, and the run consumed no byte past
+-- that size.)
+abbrev pub IsPastHeader : Segment → ℕ → ℕ → Type 0
+IsPastHeader s header_len consumed = (header_len ≤ s.offset) ⊎ (header_len < consumed)
+
+-- forwarding a payload is aborted: if a write fails, no byte of the image past the sector in which it failed was
+-- consumed, except for the header's; if a read fails, the output is the whole sectors that were consumed
+abbrev pub PromptForwarding : Segment → ℕ → Message → ℕ → ℕ → Type 0
+PromptForwarding s header_len WriteFailed consumed output =
+    consumed ≤ max header_len (sector_start s (output / sector_len s + 1))
+PromptForwarding s header_len ReadFailed consumed output = IsPastHeader s header_len consumed
+    → output ≡ (consumed - s.offset) / sector_len s * sector_len s
+PromptForwarding s header_len _ consumed output = Unit {0}
+
+-- opening a volume or `luksCat` was aborted, and forwarding the payload was prompt. With a detached header, the payload
+-- is in an image of its own, and no byte of that image is consumed for a header
+abbrev pub PromptCat : HeaderLocation → List ℕ → Promptness
+PromptCat Attached image message input_consumed payload_consumed secret_consumed output =
+    (segment : Segment) → HasSegmentBy header_of image segment
+    → PromptForwarding segment (header_read_len image) message input_consumed output
+PromptCat Detached file message input_consumed payload_consumed secret_consumed output =
+    (segment : Segment) → HasSegmentBy detached_header_of file segment
+    → PromptForwarding segment 0 message payload_consumed output
+
+-- how promptly a command ends if it is aborted, with this image, or this file with a detached header
+abbrev pub promptness_of : HeaderLocation → Request → List ℕ → Promptness
+promptness_of location (luks_cat o) image = PromptCat location image
+promptness_of location (af_split s) image = PromptSplit (length image)
+promptness_of location _ image = AnyPromptness
+
+-- these are the bytes of the image with the payload. An attached header and its payload are both in the first input;
+-- the image of a detached header knows its bytes if the command reads any of it
+abbrev pub KnowsPayload : HeaderLocation → Request → List ℕ → Option (List ℕ) → List ℕ → Type 0
+KnowsPayload Attached request input device image = image ≡ input
+KnowsPayload Detached (luks_cat o) input device image = device ≡ Some image
+KnowsPayload Detached request input device image = Unit {0}
+
+-- the second input of a command knows its bytes, if there is one
+abbrev pub KnowsSecret : Request → Option (List ℕ) → List ℕ → Type 0
+KnowsSecret request device secret = IfSome (secret_of request) (λ _. device ≡ Some secret)
+
+-- the image is not longer than the command can count: `luksCat` counts its bytes in 64 bits
+abbrev pub IsCounted : Request → List ℕ → Type 0
+IsCounted (luks_cat o) image = length image < 2 ^ 64
+IsCounted _ image = Unit {0}
+
+-- what was consumed of the image with the payload. If the header is attached, that was counted as the first input's
+abbrev pub ConsumedOfPayload : Request → HeaderLocation → List ℕ → Option (List ℕ) → ℕ → Type 0
+ConsumedOfPayload (luks_cat o) Detached image left = ConsumedExactly image left
+ConsumedOfPayload request location image left = ConsumedNothing
+
+-- what was consumed of the second input
+abbrev pub ConsumedOfSecret : Request → List ℕ → Option (List ℕ) → ℕ → Type 0
+ConsumedOfSecret (test_passphrase o) secret left = ConsumedExactly secret left
+ConsumedOfSecret (luks_cat o) secret left = ConsumedExactly secret left
+ConsumedOfSecret (af_split s) secret left = ConsumedExactly secret left
+ConsumedOfSecret _ secret left = ConsumedNothing
+
+-- what a device has before and after a run
+pub record Change (T : Type 0) : Type 0 where
+  pub before : T
+  pub after : T
+
+-- what the devices of a run have before and after it, each of its inputs and its output
+pub record Devices (In Out : Type 0) : Type 0 where
+  -- the image, the file with a detached header, the key or the stripes
+  pub input : Change In
+  -- the image with the payload, which is the first input unless the header is detached
+  pub payload : Change In
+  -- the key file, or the random bytes
+  pub secret : Change In
+  pub output : Change Out
+
+-- if the inputs of a command know their bytes, and the image with the payload is not too long to be counted, the run
+-- has the outcome that is specified for those bytes, or was aborted on the way to it. (`DetachedRunMatches` counts what
+-- is consumed of an image that has the payload alone; if the header is attached, there is none, and this is
+-- `ConsumedNothing`.)
+abbrev pub RunsAsSpecified : HeaderLocation → Request → Message → Devices (Option (List ℕ)) (Option (List ℕ)) → Type 0
+RunsAsSpecified location request message bytes = IfKnown bytes.input.before (λ input. (image : List ℕ)
+    → KnowsPayload location request input bytes.payload.before image
+    → (secret : List ℕ) → KnowsSecret request bytes.secret.before secret → IsCounted request image
+    → DetachedRunMatches (promptness_of location request input) (outcome_of location request input image secret) message
+    (ConsumedExactly input bytes.input.after) (ConsumedOfPayload request location image bytes.payload.after)
+    (ConsumedOfSecret request secret bytes.secret.after) (Appended bytes.output.before bytes.output.after))
+
+-- ---- `work`: the evaluations of HMAC
+
+-- at least this many of a source's remaining bytes were consumed
+abbrev pub ConsumedAtLeast : List ℕ → Option (List ℕ) → ℕ → Type 0
+ConsumedAtLeast known left least = (count : ℕ) × (least ≤ count) × ConsumedExactly known left count
+
+-- the key slots of the image's volume were tried: EOF was hit on the key file, and all bytes of the image were
+-- consumed that opening the volume needs
+pub record TriesVolume (location : HeaderLocation) (slots : SlotChoice) (image : List ℕ) (image' : Option (List ℕ))
+    (secret secret' : ReadCounts) (volume : Volume) : Type 0 where
+  pub is_volume : volume_by (reader_for location) slots image ≡ Ok volume
+  pub key_file : secret'.ends ≡ counted true secret.ends
+  pub material : length image < 2 ^ 64 → ConsumedAtLeast image image' (unlock_read_len image volume)
+
+-- the key slots were tried, and the count of work was raised by the evaluations of HMAC that this costs
+abbrev pub CountsTried : HeaderLocation → SlotChoice → List ℕ → List ℕ → Option (List ℕ) → ReadCounts → ReadCounts → ℕ
+    → ℕ → Type 0
+CountsTried location slots image passphrase image' secret secret' work work' =
+    (volume : Volume) × TriesVolume location slots image image' secret secret' volume
+    × (work' ≡ capped (work + work_of volume.order image passphrase))
+
+-- no key slot was tried: EOF was not hit on the key file, or not all bytes were consumed that opening the image's
+-- volume needs. The image has no volume, or the message may come before a key slot is tried
+pub record EndsUntried (location : HeaderLocation) (slots : SlotChoice) (image : List ℕ) (message : Message)
+    (image' : Option (List ℕ)) (secret secret' : ReadCounts) : Type 0 where
+  pub unread : (secret'.ends ≡ secret.ends) ⊎ ((volume : Volume)
+      × (volume_by (reader_for location) slots image ≡ Ok volume)
+      × ConsumedFewer image image' (unlock_read_len image volume))
+  pub early : (is_err (volume_by (reader_for location) slots image) ≡ true) ⊎ (ends_untried message ≡ true)
+
+-- the key slots were tried, and the count of work was raised by what that costs; or none was tried, and the count is
+-- what it was
+abbrev pub CountsOpening : HeaderLocation → SlotChoice → List ℕ → List ℕ → Message → Option (List ℕ) → ReadCounts
+    → ReadCounts → ℕ → ℕ → Type 0
+CountsOpening location slots image passphrase message image' secret secret' work work' =
+    CountsTried location slots image passphrase image' secret secret' work work'
+    ⊎ (EndsUntried location slots image message image' secret secret' × (work' ≡ work))
+
+-- the evaluations of HMAC that a run of a command needs, if its inputs know their bytes: those of trying the key slots
+-- if they were tried, and none otherwise. A command that opens no volume needs none
+abbrev pub CountsWork : HeaderLocation → Request → Message → ℕ → Change (Option (List ℕ)) → Option (List ℕ)
+    → Change ReadCounts → Type 0
+CountsWork location (test_passphrase o) message work image secret counts = IfKnown image.before (λ known. IfKnown secret
+    (λ passphrase. CountsOpening location o.slots known passphrase message image.after counts.before counts.after 0
+    work))
+CountsWork location (luks_cat o) message work image secret counts = IfKnown image.before (λ known. IfKnown secret
+    (λ passphrase. CountsOpening location o.slots known passphrase message image.after counts.before counts.after 0
+    work))
+CountsWork location _ message work image secret counts = work ≡ 0
+
+-- ---- `honest`: volumes that are honestly sealed
+
+-- what `luksCat` writes if the volume is honestly sealed: a run that is not aborted writes the plaintext and succeeds
+abbrev pub WritesPlain : Request → Message → Option (List ℕ) → Option (List ℕ) → Option (List ℕ) → Option (List ℕ)
+    → Type 0
+WritesPlain (luks_cat o) message image secret written written' =
+    IfKnown image (λ known. IfKnown secret (λ passphrase.
+    (plain : List ℕ) → length known < 2 ^ 64 → OpensHonest o.slots known passphrase plain → aborts message ≡ false
+    → (message ≡ Done) × Appended written written' plain))
+WritesPlain _ message image secret written written' = Unit {0}
+
+-- ---- `only`: the messages
+
+-- the messages that a command may end with, whatever its devices do
+abbrev pub MayReport : Request → Message → Type 0
+MayReport (is_luks _) message = IsLuksMessage message
+MayReport (luks_uuid _) message = PrintMessage message
+MayReport (luks_dump _) message = PrintMessage message
+MayReport (luks_check _) message = CheckMessage message
+MayReport (test_passphrase o) message = OpeningMessage message ⊎ (message ≡ Done ⊎ message ≡ WriteFailed)
+MayReport (luks_cat o) message = OpeningMessage message ⊎ PayloadMessage message
+MayReport (af_split s) message = SplitMessage message
+MayReport (af_merge m) message = MergeMessage message
+
+-- ---- `unneeded`, `untouched`, `reads_first`: devices that are not used
+
+-- a source knows its bytes, and they have this property
+abbrev pub Knows : Option (List ℕ) → (List ℕ → Type 0) → Type 0
+Knows device Holds = (known : List ℕ) × (device ≡ Some known) × Holds known
+
+-- the command has no second input, or needs none of it: the header, read in this way, the segment, the order of the key
+-- slots or, for `afSplit`, the length of the key to be split ends the run
+abbrev pub NeedsNoSecret : HeaderReader → Request → Option (List ℕ) → Type 0
+NeedsNoSecret read (test_passphrase o) image = Knows image (λ known. is_err (volume_by read o.slots known) ≡ true)
+NeedsNoSecret read (luks_cat o) image = Knows image (λ known. is_err (volume_by read o.slots known) ≡ true)
+NeedsNoSecret read (af_split s) image = Knows image (λ known. (length known ≡ 0) ⊎ (max_key_len < length known))
+NeedsNoSecret read _ image = Unit {0}
+
+-- the run surely ended before a key was found: with a message of opening, but not with a failed read, which may have
+-- been a read of the payload
+abbrev pub EndsWithoutKey : Message → Type 0
+EndsWithoutKey message = OpeningMessage message × (is_run_read_failure message ≡ false)
+
+-- the payload's image is not read: only `luksCat` reads it, and only after a key was found
+abbrev pub NeedsNoPayload : Request → Message → Type 0
+NeedsNoPayload (luks_cat o) message = EndsWithoutKey message
+NeedsNoPayload request message = Unit {0}
+
+-- a command that writes nothing before its last read
+abbrev pub ReadsFirst : Request → Type 0
+ReadsFirst (luks_cat o) = ⊥
+ReadsFirst (af_split s) = ⊥
+ReadsFirst _ = Unit {0}
+
+-- ---- `calls`: how the devices are called
+
+-- what a run adds to the counts of a source: a failure if a read of it failed, at most one end, and no needless read.
+-- No read-ahead is allowed
+abbrev pub ReadsOnce : Bool → ReadCounts → ReadCounts → Type 0
+ReadsOnce failed before after = (ended : Bool) × Reads failed ended before after
+
+-- the same for the image of a payload, for which read-ahead is allowed up to one position, and no further at any moment
+abbrev pub ReadsPayload : (ℕ → Type 0) → Bool → ReadCounts → ReadCounts → Type 0
+ReadsPayload Allows failed before after = (end : ℕ) × Allows end × ReadsOnce failed (allowed_to end before) after
+
+-- under this passphrase a key of the volume is found, and then the command goes on with this segment
+abbrev pub FindsKey : HeaderLocation → SlotChoice → List ℕ → List ℕ → Segment → Type 0
+FindsKey location slots image secret segment = (opened : Opened) × (loaded : ℕ) × ((on_opened : OnOpened)
+    → volume_outcome_by (reader_for location) on_opened slots image secret ≡ on_opened segment opened loaded)
+
+-- the position of its payload's image up to which `luksCat` allows read-ahead: 0, which is none, if the run surely
+-- ended without a key. If both inputs know their bytes, it is 0 or, under a passphrase that opens the volume, the
+-- payload's end
+abbrev pub CatAllows : HeaderLocation → SlotChoice → Message → Option (List ℕ) → Option (List ℕ) → ℕ → Type 0
+CatAllows location slots message input secret end = (EndsWithoutKey message → end ≡ 0)
+    × IfKnown input (λ known. IfKnown secret (λ passphrase. (end ≡ 0)
+    ⊎ ((segment : Segment) × FindsKey location slots known passphrase segment × (end ≡ max_payload_end segment))))
+
+-- what a command adds to the counts of its image, or of its payload's image: only `luksCat` reads a payload
+abbrev pub ReadsImage : HeaderLocation → Request → Message → Option (List ℕ) → Option (List ℕ) → Bool → ReadCounts
+    → ReadCounts → Type 0
+ReadsImage location (luks_cat o) message input secret =
+    ReadsPayload (CatAllows location o.slots message input secret)
+ReadsImage location _ message input secret = ReadsOnce
+
+-- what a part of a run that reads its first input in this way adds to the counts of both inputs: a failure of one of
+-- them if a read failed, at most one end of each, and no needless read
+pub record CountsReads (ReadsIt : Bool → ReadCounts → ReadCounts → Type 0) (failed : Bool)
+    (input input' secret secret' : ReadCounts) : Type 0 where
+  -- if a read failed, it was one of the first input
+  pub in_input : Bool
+  pub input_reads : ReadsIt (in_input && failed) input input'
+  pub secret_reads : ReadsOnce (not in_input && failed) secret secret'
+
+-- how a run reads its first input, if it reads the image with the payload in this way
+abbrev pub ReadsInput : HeaderLocation → (Bool → ReadCounts → ReadCounts → Type 0) → Bool → ReadCounts → ReadCounts
+    → Type 0
+ReadsInput Attached ReadsIt = ReadsIt
+ReadsInput Detached ReadsIt = ReadsOnce
+
+-- how a run reads an image that has the payload alone, of which no read can fail if there is none
+abbrev pub ReadsAlone : HeaderLocation → (Bool → ReadCounts → ReadCounts → Type 0) → Bool → ReadCounts → ReadCounts
+    → Type 0
+ReadsAlone Attached ReadsIt failed before after = failed ≡ false
+ReadsAlone Detached ReadsIt failed before after = ReadsIt failed before after
+
+-- what a run that reads the image with the payload in this way adds to the counts of its devices: a failure of one of
+-- its inputs if a read failed, one of the output if a write failed, at most one end of each input, and no needless call
+pub record CountsCalls (location : HeaderLocation) (ReadsIt : Bool → ReadCounts → ReadCounts → Type 0)
+    (message : Message) (counts : Devices ReadCounts WriteCounts) : Type 0 where
+  -- if a read failed, it was one of an image that has the payload alone
+  pub in_payload : Bool
+  pub reads : CountsReads (ReadsInput location ReadsIt) (not in_payload && is_run_read_failure message)
+      counts.input.before counts.input.after counts.secret.before counts.secret.after
+  pub payload_reads : ReadsAlone location ReadsIt (in_payload && is_run_read_failure message) counts.payload.before
+      counts.payload.after
+  pub out_writes : Writes (is_run_write_failure message) counts.output.before counts.output.after

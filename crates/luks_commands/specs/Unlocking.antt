@@ -1,0 +1,57 @@
+-- Opening a volume by the passphrase in a key file: what it does to the devices, and what is known of the volume then.
+use Rattle.std.specs.Prelude.{◌≡◌, ℕ, max, List, length, Option, Some, ◌⊎◌}
+use Rattle.std.specs.Prelude.{◌≤◌, take, Result, Err}
+use Rattle.luks_io.specs.Devices.{Appended, ConsumedExactly}
+use Rattle.luks_request.specs.declared.command.SlotChoice.{SlotChoice}
+use Rattle.luks_runs.specs.Location.{reader_for}
+use Rattle.luks_runs.specs.declared.location.HeaderLocation.{HeaderLocation}
+use Rattle.luks_runs.specs.declared.location.HeaderLocation.TheVariants.{Attached}
+use Rattle.luks_runs.specs.Run.{RunMatches}
+use Rattle.luks_runs.specs.Volume.{HasSegmentBy, OnOpened}
+use Rattle.luks_runs.specs.Volume.{volume_outcome_by, TriesSlots}
+use Rattle.luks_verdict.specs.declared.segment.Segment.{Segment}
+use Rattle.luks_report.specs.declared.message.Message.{Message}
+use Rattle.luks_header.specs.Header.{header_read_len}
+use Rattle.luks_key_slots.specs.Opening.{OrderModel}
+use Rattle.luks_key_slots.specs.declared.opening.Opened.{Opened}
+use Rattle.luks_runs.specs.KeyFile.{NoKeyFileRead, max_key_file_len}
+use Rattle.luks_runs.specs.declared.unlocked.UnlockedVolume.{UnlockedVolume}
+use Rattle.luks_commands.specs.Headline.{PromptCat}
+
+-- whatever is done with a volume consumes at least the bytes of its image that are loaded, and the whole key file
+pub record ConsumesLoaded (secret : List ℕ) (on_opened : OnOpened) : Type 0 where
+  pub loaded : (segment : Segment) (opened : Opened) (loaded : ℕ)
+      → loaded ≤ (on_opened segment opened loaded).input_consumed
+  pub whole : (segment : Segment) (opened : Opened) (loaded : ℕ)
+      → (on_opened segment opened loaded).secret_consumed ≡ length secret
+
+-- the volume was not opened, and the message says why: nothing was written, and the run matches the specified outcome,
+-- whatever the command would do with an open volume
+abbrev pub EndsLocked : HeaderLocation → SlotChoice → List ℕ → List ℕ → Message → Option (List ℕ)
+    → Option (List ℕ) → Type 0
+EndsLocked location slots image secret message image' secret' =
+    (on_opened : OnOpened) → ConsumesLoaded secret on_opened → (written : Option (List ℕ))
+    → RunMatches (PromptCat location image) (volume_outcome_by (reader_for location) on_opened slots image secret)
+    message (ConsumedExactly image image') (ConsumedExactly secret secret') (Appended written written)
+
+-- the volume was opened: its segment and its key are these, and these first bytes of the image, or of the file with the
+-- header, are loaded. With an attached header they reach past the payload's start only as far as the header was read
+pub record Unlocks (location : HeaderLocation) (slots : SlotChoice) (image secret : List ℕ) (segment : Segment)
+    (opened : Opened) (loaded : List ℕ) (image' secret' : Option (List ℕ)) : Type 0 where
+  pub outcome : (on_opened : OnOpened)
+      → volume_outcome_by (reader_for location) on_opened slots image secret ≡ on_opened segment opened (length loaded)
+  pub has : HasSegmentBy (reader_for location) image segment
+  pub no_further : location ≡ Attached → length loaded ≤ max (header_read_len image) segment.offset
+  pub prefix : loaded ≡ take (length loaded) image
+  pub input_consumed : ConsumedExactly image image' (length loaded)
+  pub secret_consumed : ConsumedExactly secret secret' (length secret)
+
+-- the effect of trying to open a volume that was found, under the passphrase in the key file. The key file is read
+-- whole before the key slots are tried; if it cannot be, nothing more of the image is consumed
+abbrev pub UnlockEffect : Option ℕ → Segment → OrderModel → List ℕ → List ℕ → List ℕ → List ℕ → Option (List ℕ)
+    → Option (List ℕ) → Result UnlockedVolume Message → Type 0
+UnlockEffect named segment order pass area area' rest left secret' result =
+    ((length pass ≤ max_key_file_len) × ConsumedExactly pass secret' (length pass)
+    × TriesSlots named segment order pass area area' rest left result)
+    ⊎ ((message : Message) × (result ≡ Err message) × NoKeyFileRead pass secret' message × (area' ≡ area)
+    × (left ≡ Some rest))

@@ -1,0 +1,255 @@
+//! `testPassphrase` and `luksCat`: volumes that a passphrase opens.
+
+ghost use Rattle.std.specs.Prelude.{◌≡◌, ◌⊎◌, [], Bool};
+ghost use Rattle.std.specs.Prelude.{IfOk, IfErr, MatchResult, false, is_err, true};
+ghost use Rattle.luks_io.specs.Counts.{Reads, Writes};
+ghost use Rattle.luks_io.specs.Devices.{Appended, ConsumedExactly, IfKnown, counted};
+ghost use Rattle.luks_runs.specs.Volume.{MatchesHeader};
+ghost use Rattle.luks_runs.specs.Volume.{OpeningMessage};
+ghost use Rattle.luks_runs.specs.Volume.{CountsTrials, ends_untried, opened_of};
+ghost use Rattle.luks_runs.specs.Volume.{slot_outcome, volume_by, volume_outcome_by};
+ghost use Rattle.luks_report.specs.Texts.{opened_line};
+ghost use Rattle.luks_runs.specs.RunMessages.{PayloadMessage};
+ghost use Rattle.luks_runs.specs.Payload.{ForwardsLoaded, with_payload_allowed};
+ghost use Rattle.luks_runs.specs.Run.{Prints};
+ghost use Rattle.luks_request.specs.Request.{luks_cat, volume_request};
+ghost use Rattle.luks_runs.specs.Run.{AnyPromptness, RunMatches};
+ghost use Rattle.luks_runs.specs.Run.{is_run_read_failure, is_run_write_failure, result_message};
+ghost use Rattle.luks_runs.specs.Location.{LoadedFrom, reader_for};
+ghost use Rattle.luks_commands.specs.Headline.{CatAllows, CountsCalls, CountsOpening, CountsReads};
+ghost use Rattle.luks_commands.specs.Headline.{CountsTried, EndsWithoutKey};
+ghost use Rattle.luks_commands.specs.Headline.{ReadsOnce, ReadsPayload};
+ghost use Rattle.luks_commands.specs.Headline.{RunsAsSpecified};
+ghost use Rattle.luks_commands.specs.Unlocking.{EndsLocked, UnlockEffect, Unlocks};
+
+use luks_header::area::HeaderArea;
+use luks_io::memory::MemSource;
+use luks_io::sink::{Sink, put_all};
+use luks_io::source::Source;
+use luks_kdf::Work;
+use luks_report::message::Message;
+use luks_report::opened::opened_text;
+use luks_request::command::{SlotChoice, VolumeArgs};
+use luks_runs::found::{FoundVolume, find_volume};
+use luks_runs::key_file::read_key_file;
+use luks_runs::location::HeaderLocation;
+use luks_runs::payload::write_payload;
+use luks_runs::trying::try_slots;
+use luks_runs::unlocked::UnlockedVolume;
+use std::alloc::Global;
+
+/// An open volume, with the bytes that were consumed to open it.
+#[derive(Drop)]
+struct LoadedVolume {
+    /// The first bytes of the image, or of the file with the detached header: all that were
+    /// consumed.
+    area: HeaderArea,
+    volume: UnlockedVolume,
+}
+
+/// Opens a volume that was found, by the passphrase in the key file.
+fn unlock_found<I: Source, K: Source>(
+    alloc: Global,
+    slots: SlotChoice,
+    volume: &mut FoundVolume,
+    image: &mut I,
+    secret: &mut K,
+    work: &mut Work,
+) -> Result<UnlockedVolume, Message>
+    requires { MatchesHeader slots volume.old }
+    ensures run { IfKnown (I.to_come image.old) (λ rest. IfKnown (K.to_come secret.old)
+        (λ passphrase. (volume.old.area.ended ≡ true → rest ≡ [])
+        → UnlockEffect slots.named volume.old.segment volume.old.order
+        passphrase volume.old.area.bytes volume.new.area.bytes rest (I.to_come image.new)
+        (K.to_come secret.new) result)) }
+    ensures only { IfErr result OpeningMessage }
+    ensures counts { CountsReads ReadsOnce (is_run_read_failure (result_message result))
+        (I.counts image.old) (I.counts image.new) (K.counts secret.old) (K.counts secret.new) }
+    ensures work { IfKnown (K.to_come secret.old) (λ passphrase.
+        (((K.counts secret.new).ends ≡ counted true (K.counts secret.old).ends)
+        × CountsTrials volume.old.order volume.new.area.bytes passphrase (result_message result)
+        work.old work.new)
+        ⊎ ((is_err result ≡ true) × (ends_untried (result_message result) ≡ true)
+        × ((K.counts secret.new).ends ≡ (K.counts secret.old).ends) × (work.new ≡ work.old))) }
+    ensures ended { volume.old.area.ended ≡ true → image.new ≡ image.old }
+    ensures still { IfOk result (λ _. (volume.new.area.ended ≡ volume.old.area.ended)
+        × Reads false false (I.counts image.old) (I.counts image.new)) }
+{
+    let passphrase = read_key_file(alloc, secret)?;
+    try_slots(slots, volume, image, &passphrase, work)
+}
+
+/// The loaded bytes of a volume's image. The rest of the found volume is dropped.
+fn area_of(volume: FoundVolume) -> HeaderArea
+    ensures { result ≡ volume.area }
+{
+    volume.area
+}
+
+/// Opens a volume by the passphrase in the key file. `image` is the image with an attached header,
+/// or the file of a detached one.
+fn unlock<I: Source, K: Source>(
+    alloc: Global,
+    location: HeaderLocation,
+    slots: SlotChoice,
+    image: &mut I,
+    secret: &mut K,
+    work: &mut Work,
+) -> Result<LoadedVolume, Message>
+    ensures ok { IfOk result (λ unlocked. IfKnown (I.to_come image.old) (λ known.
+        IfKnown (K.to_come secret.old) (λ passphrase.
+        Unlocks location slots known passphrase unlocked.volume.segment
+        (opened_of unlocked.volume) unlocked.area.bytes (I.to_come image.new)
+        (K.to_come secret.new)))) }
+    ensures err { IfErr result (λ message. IfKnown (I.to_come image.old) (λ known.
+        IfKnown (K.to_come secret.old) (λ passphrase.
+        EndsLocked location slots known passphrase message
+        (I.to_come image.new) (K.to_come secret.new)))) }
+    ensures unneeded { IfKnown (I.to_come image.old) (λ known.
+        is_err (volume_by (reader_for location) slots known) ≡ true
+        → secret.new ≡ secret.old) }
+    ensures only { IfErr result OpeningMessage }
+    ensures counts { CountsReads ReadsOnce (is_run_read_failure (result_message result))
+        (I.counts image.old) (I.counts image.new) (K.counts secret.old) (K.counts secret.new) }
+    ensures work { IfKnown (I.to_come image.old) (λ known.
+        IfKnown (K.to_come secret.old) (λ passphrase. MatchResult result
+        (λ _. CountsTried location slots known passphrase (I.to_come image.new)
+        (K.counts secret.old) (K.counts secret.new) work.old work.new)
+        (λ message. CountsOpening location slots known passphrase message (I.to_come image.new)
+        (K.counts secret.old) (K.counts secret.new) work.old work.new))) }
+    ensures loaded { IfOk result (λ unlocked. LoadedFrom unlocked.area (I.to_come image.old)
+        (I.to_come image.new) (I.counts image.old) (I.counts image.new)) }
+{
+    let mut volume = find_volume(alloc, location, slots, image)?;
+    let opened = unlock_found(alloc, slots, &mut volume, image, secret, work);
+    let area = area_of(volume);
+    Ok(LoadedVolume {
+        area,
+        volume: opened?,
+    })
+}
+
+/// Writes the line about the key slot that opened a volume.
+fn write_opened_line<O: Sink>(alloc: Global, slot: u8, out: &mut O) -> Result<(), Message>
+    ensures written { Prints (opened_line slot) Message.Done (O.written out.old)
+        (O.written out.new) (result_message result) }
+    ensures writes { Writes (is_run_write_failure (result_message result))
+        (O.counts out.old) (O.counts out.new) }
+{
+    let line = opened_text(alloc, slot)?;
+    put_all(out, line.as_bytes())?;
+    Ok(())
+}
+
+/// `testPassphrase`.
+pub(super) fn test_passphrase<I: Source, K: Source, O: Sink>(
+    alloc: Global,
+    location: HeaderLocation,
+    slots: SlotChoice,
+    image: &mut I,
+    secret: &mut K,
+    out: &mut O,
+    work: &mut Work,
+) -> Result<(), Message>
+    ensures run { IfKnown (I.to_come image.old)
+        (λ known. IfKnown (K.to_come secret.old) (λ passphrase.
+        RunMatches AnyPromptness (volume_outcome_by (reader_for location) (slot_outcome passphrase)
+        slots known passphrase) (result_message result)
+        (ConsumedExactly known (I.to_come image.new))
+        (ConsumedExactly passphrase (K.to_come secret.new))
+        (Appended (O.written out.old) (O.written out.new)))) }
+    ensures unneeded { IfKnown (I.to_come image.old) (λ known.
+        is_err (volume_by (reader_for location) slots known) ≡ true
+        → secret.new ≡ secret.old) }
+    ensures only { OpeningMessage (result_message result)
+        ⊎ (result_message result ≡ Message.Done ⊎ result_message result ≡ Message.WriteFailed) }
+    ensures reads_first { result_message result ≡ Message.ReadFailed → out.new ≡ out.old }
+    ensures work { IfKnown (I.to_come image.old) (λ known.
+        IfKnown (K.to_come secret.old) (λ passphrase. CountsOpening location slots known
+        passphrase (result_message result) (I.to_come image.new) (K.counts secret.old)
+        (K.counts secret.new) work.old work.new)) }
+    ensures counts { CountsReads ReadsOnce (is_run_read_failure (result_message result))
+        (I.counts image.old) (I.counts image.new) (K.counts secret.old) (K.counts secret.new) }
+    ensures writes { Writes (is_run_write_failure (result_message result))
+        (O.counts out.old) (O.counts out.new) }
+{
+    let unlocked = unlock(alloc, location, slots, image, secret, work)?;
+    write_opened_line(alloc, unlocked.volume.slot, out)
+}
+
+/// Writes the plaintext of an open volume's payload. `loaded` holds the first bytes of its image.
+///
+/// It is not inlined. `cat` calls it for several types of sources, and a stack with all frames may
+/// not fit into a limited address space (`tests/memory.sh`).
+#[inline(never)]
+fn write_plain<I: Source, O: Sink>(
+    volume: &UnlockedVolume,
+    loaded: &[u8],
+    image: &mut I,
+    out: &mut O,
+) -> Result<(), Message>
+    ensures run { ForwardsLoaded volume.now.segment (volume.now.segment.mode, volume.now.key)
+        loaded.now (I.to_come image.old) (I.to_come image.new) (O.written out.old)
+        (O.written out.new) (result_message result) }
+    ensures only { PayloadMessage (result_message result) }
+    ensures reads { (ended : Bool) × Reads (is_run_read_failure (result_message result)) ended
+        (with_payload_allowed volume.now.segment (I.counts image.old)) (I.counts image.new) }
+    ensures writes { Writes (is_run_write_failure (result_message result))
+        (O.counts out.old) (O.counts out.new) }
+{
+    write_payload(volume.segment, volume.cipher(), loaded, image, out)
+}
+
+/// `luksCat`. `header` is the image with an attached header, or the file of a detached one; then
+/// the payload is in `image`.
+pub(super) fn cat<H: Source, I: Source, K: Source, O: Sink>(
+    alloc: Global,
+    location: HeaderLocation,
+    args: &VolumeArgs<'_>,
+    header: &mut H,
+    image: &mut I,
+    secret: &mut K,
+    out: &mut O,
+    work: &mut Work,
+) -> Result<(), Message>
+    ensures only { OpeningMessage (result_message result) ⊎ PayloadMessage (result_message result) }
+    ensures run { RunsAsSpecified location (luks_cat (volume_request args.now))
+        (result_message result)
+        (record {
+          input = record { before = H.to_come header.old; after = H.to_come header.new };
+          payload = record { before = I.to_come image.old; after = I.to_come image.new };
+          secret = record { before = K.to_come secret.old; after = K.to_come secret.new };
+          output = record { before = O.written out.old; after = O.written out.new };
+        }) }
+    ensures unneeded { IfKnown (H.to_come header.old) (λ known.
+        is_err (volume_by (reader_for location) args.now.slots known) ≡ true
+        → secret.new ≡ secret.old) }
+    ensures work { IfKnown (H.to_come header.old) (λ known.
+        IfKnown (K.to_come secret.old) (λ passphrase. CountsOpening location args.now.slots
+        known passphrase (result_message result) (H.to_come header.new) (K.counts secret.old)
+        (K.counts secret.new) work.old work.new)) }
+    ensures before_key { EndsWithoutKey (result_message result) → image.new ≡ image.old }
+    ensures calls { CountsCalls location
+        (ReadsPayload (CatAllows location args.now.slots (result_message result)
+        (H.to_come header.old) (K.to_come secret.old)))
+        (result_message result)
+        (record {
+          input = record { before = H.counts header.old; after = H.counts header.new };
+          payload = record { before = I.counts image.old; after = I.counts image.new };
+          secret = record { before = K.counts secret.old; after = K.counts secret.new };
+          output = record { before = O.counts out.old; after = O.counts out.new };
+        }) }
+{
+    let unlocked = unlock(alloc, location, args.slots, header, secret, work)?;
+    match location {
+        HeaderLocation::Detached => write_plain(&unlocked.volume, &[], image, out),
+        HeaderLocation::Attached => {
+            let loaded = unlocked.area.as_slice();
+            if unlocked.area.has_ended() {
+                // EOF was hit on the image: all of it is loaded, and it is not read again.
+                return write_plain(&unlocked.volume, loaded, &mut MemSource::new(&[]), out);
+            }
+            write_plain(&unlocked.volume, loaded, header, out)
+        }
+    }
+}

@@ -1,0 +1,402 @@
+-- Properties of the key slots to be tried, in their order, and of their key material, for this crate and its callers.
+use Rattle.std.proofs.Common.{◌≡◌, ◌∙◌, ℕ, ◌+◌, ◌*◌, ◌/◌, ◌==◌, ◌<◌, ◌≤◌, max, Bool, true, false, List, [], ◌∷◌, ◌++◌}
+use Rattle.std.proofs.Common.{length, take, drop, get_or, Option, Some, None}
+use Rattle.std.proofs.Common.{Ok, IsOk, IsSome, refl, sym, ap, subst, arith}
+use Rattle.std.specs.Prelude.{if◌then◌else◌, is_some, option_map, slice_index_or, sum_by}
+use Rattle.std.specs.List.{AllByRecursion, All}
+use Rattle.std.proofs.lemmas.Bool.{eq-eqb}
+use Rattle.std.proofs.lemmas.List.{drop_more, drop_all}
+use Rattle.std.proofs.lemmas.List.Elements.{All-from_recursion, recursion_from_All}
+use Rattle.std.proofs.lemmas.Option.{same_Some}
+use Rattle.luks_kdf.specs.Pbkdf2.{derived_key, capped}
+use Rattle.luks_kdf.specs.Stripes.{merged}
+use Rattle.luks_kdf.specs.declared.hash.Hash.{Hash}
+use Rattle.luks_header_area.specs.Area.{max_loaded_len}
+use Rattle.luks_header_area.proofs.FieldLemmas.{at_prefix}
+use Rattle.luks_cipher.specs.Sector.{Cipher, is_mode_key_length, sector_decrypted}
+use Rattle.luks_cipher.specs.declared.mode.Mode.{Mode}
+use Rattle.luks_cipher.proofs.ModeLemmas.{key_length_of_mode}
+use Rattle.luks_cipher.proofs.UnitsUndone.{joined_same}
+use Rattle.luks_verdict.specs.Rule.{max_slots, key_material_len}
+use Rattle.luks_verdict.specs.Slot.{material_end, verdict_kind_of}
+use Rattle.luks_verdict.specs.Table.{ascending}
+use Rattle.luks_verdict.specs.declared.refusal.SkipReason.{SkipReason}
+use Rattle.luks_verdict.specs.declared.segment.Segment.{Segment}
+use Rattle.luks_verdict.specs.declared.slot.Slot.{Slot}
+use Rattle.luks_verdict.specs.declared.slot.Verdict.{Verdict}
+use Rattle.luks_verdict.specs.declared.slot.Verdict.TheVariants.{Usable}
+use Rattle.luks_verdict.specs.declared.slot.VerdictKind.TheVariants.{Usable as KindUsable}
+use Rattle.luks_verdict.proofs.MadeLemmas.{usable_from_kind}
+use Rattle.luks_verdict.proofs.RangeLemmas.{slot_range}
+use Rattle.luks_verdict.proofs.TableLemmas.{AllByRecursion-append, All-ascending}
+use Rattle.luks_header.specs.Header.{is_detached}
+use Rattle.luks_header.specs.HeaderSegment.{segment_of}
+use Rattle.luks_header.specs.SlotVerdicts.{can_be_tried, verdict_at}
+use Rattle.luks_header.specs.declared.header.Header.{Header}
+use Rattle.luks_header.proofs.KnownLemmas.{IsKnown, before_payload, known_usable}
+use Rattle.luks_key_slots.specs.Candidate.{candidate_by, candidate_of, decrypted_material}
+use Rattle.luks_key_slots.specs.Candidate.{material_sector, matches_digest, recovered}
+use Rattle.luks_key_slots.specs.Opening.{first_opening, if_matches_digest, slot_key, opened_or, opening_of, answer_of}
+use Rattle.luks_key_slots.specs.Opening.{OrderModel, entry_with_priority, key_material_end, order_of, order_of_all}
+use Rattle.luks_key_slots.specs.Opening.{order_of_named, skipped_at, tried_with}
+use Rattle.luks_key_slots.specs.Opening.{unless_none, evaluations_of, tried_of, work_of}
+use Rattle.luks_key_slots.specs.Trial.{IsTriable}
+use Rattle.luks_key_slots.specs.declared.entry.Entry.{Entry}
+use Rattle.luks_key_slots.specs.declared.opening.Opened.{Opened}
+use Rattle.std.proofs.lemmas.List.Sums.{sum_by-cons}
+use Rattle.luks_key_slots.proofs.MaterialLemmas.{length-recovered}
+
+-- an entry is one of this header: its key slot can be tried, and the entry has the verdict's own slot
+pub record IsOf (header : Header) (limit : Option ℕ) (entry : Entry) : Type 0 where
+  pub usable : verdict_at header limit entry.number ≡ Some (Usable entry.slot)
+
+-- a key slot that is tried with a priority is one of this header
+tried_with-some : (header : Header) (limit : Option ℕ) (priority number : ℕ) (entry : Entry)
+    → tried_with header limit priority number ≡ Some entry → IsOf header limit entry
+tried_with-some header limit priority number entry is = of_verdict (verdict_at header limit number) refl is
+  where
+    of_test : (test : Bool) (made : Entry) → IsOf header limit made → (if test then Some made else None) ≡ Some entry
+        → IsOf header limit entry
+    of_test true made of_header h =
+        let same : made ≡ entry = same_Some _ _ h in
+        subst (IsOf header limit) same of_header
+    of_test false made of_header h = absurd cc
+
+    of_verdict : (verdict : Option Verdict) → verdict_at header limit number ≡ verdict
+        → entry_with_priority priority number verdict ≡ Some entry → IsOf header limit entry
+    of_verdict (Some (Usable slot)) usable h =
+        let made : Entry = record { number = number; slot = slot } in
+        of_test (slot.parts.priority == priority) made (record { usable = usable }) h
+    of_verdict _ usable h = absurd cc
+
+-- if an order is made from entries, it has exactly these
+order-unless_none : (entries : List Entry) (skipped : List (ℕ × SkipReason)) (order : OrderModel)
+    → unless_none entries skipped ≡ Ok order → entries ≡ order.entries
+order-unless_none [] skipped order is = absurd cc
+order-unless_none (entry ∷ entries) skipped order is =
+    let same : record { entries = entry ∷ entries; skipped = skipped }
+    ≡ order = cc in ap (λ (t : OrderModel). t.entries) same
+
+-- all entries of an order are ones of the header
+pub All-order : (header : Header) (named limit : Option ℕ) (order : OrderModel) → order_of header named limit ≡ Ok order
+    → AllByRecursion (IsOf header limit) order.entries
+unfolding order_of order_of_all
+All-order header None limit order is =
+    subst (AllByRecursion (IsOf header limit))
+    (order-unless_none _ (ascending (skipped_at header limit) max_slots) order is)
+    (AllByRecursion-append (IsOf header limit) _ _
+    (All-ascending (IsOf header limit) (tried_with header limit 2) max_slots (tried_with-some header limit 2))
+    (All-ascending (IsOf header limit) (tried_with header limit 1) max_slots (tried_with-some header limit 1)))
+All-order header (Some number) limit order is = of_verdict (verdict_at header limit number) refl is
+  where
+    of_alone : (entry : Entry) → IsOf header limit entry → AllByRecursion (IsOf header limit) (entry ∷ [])
+    of_alone entry of_header = (of_header, tt)
+
+    of_verdict : (verdict : Option Verdict) → verdict_at header limit number ≡ verdict
+        → order_of_named number verdict ≡ Ok order → AllByRecursion (IsOf header limit) order.entries
+    of_verdict (Some (Usable slot)) usable h =
+        let tried : Entry = record { number = number; slot = slot } in
+        subst (AllByRecursion (IsOf header limit)) (order-unless_none (tried ∷ []) [] order h)
+        (of_alone tried (record { usable = usable }))
+    of_verdict _ usable h = absurd cc
+
+-- ---- headers with a key slot to try
+
+-- if there are entries of one priority or of the other, an order is made from them
+pub some_tried : (first second : List Entry) (skipped : List (ℕ × SkipReason)) → 1 ≤ length first + length second
+    → IsOk (unless_none (first ++ second) skipped)
+some_tried [] [] skipped some = absurd (omega arith)
+some_tried [] (entry ∷ entries) skipped some = refl
+some_tried (entry ∷ entries) second skipped some = refl
+
+-- a key slot whose verdict is that it can be tried with this priority is tried with it
+pub usable_there : (header : Header) (limit : Option ℕ) (priority number : ℕ)
+    → option_map verdict_kind_of (verdict_at header limit number) ≡ Some (KindUsable priority)
+    → IsSome (tried_with header limit priority number)
+usable_there header limit priority number is =
+    let usable = usable_from_kind (verdict_at header limit number) priority is in
+    rw (usable.1, eq-eqb usable.0.parts.priority priority usable.2) refl
+
+-- an entry that is there if a test holds is this entry
+entry_if : (test : Bool) (entry : Entry) → IsSome (if test then Some entry else None)
+    → (if test then Some entry else None) ≡ Some entry
+entry_if true entry some = refl
+entry_if false entry some = absurd cc
+
+-- a key slot that is tried with a priority is the verdict's own, with its number
+pub tried_usable : (header : Header) (limit : Option ℕ) (priority number : ℕ) (slot : Slot)
+    → verdict_at header limit number ≡ Some (Usable slot) → IsSome (tried_with header limit priority number)
+    → tried_with header limit priority number ≡ Some record { number = number; slot = slot }
+tried_usable header limit priority number slot is some =
+    ap (entry_with_priority priority number) is
+    ∙ entry_if (slot.parts.priority == priority) (record { number = number; slot = slot })
+    (sym (ap (λ (verdict : Option Verdict). is_some (entry_with_priority priority number verdict)) is) ∙ some)
+
+-- if the named key slot can be tried, there is an order
+pub named_tried : (number : ℕ) (verdict : Option Verdict) → can_be_tried verdict ≡ true
+    → IsOk (order_of_named number verdict)
+named_tried number (Some (Usable slot)) is = refl
+named_tried number _ is = absurd cc
+
+-- ---- the end of the last key material
+
+-- all key material ends at or before an offset if and only if that of each key slot does
+pub key_material_end-le : (most : ℕ) (entries : List Entry)
+    → AllByRecursion (λ (entry : Entry). material_end entry.slot ≤ most) entries → key_material_end entries ≤ most
+unfolding key_material_end
+key_material_end-le most [] all = omega arith
+key_material_end-le most (entry ∷ entries) all = omega (arith, key_material_end-le most entries all.1, all.0)
+
+pub All-key_material_end : (most : ℕ) (entries : List Entry) → key_material_end entries ≤ most
+    → AllByRecursion (λ (entry : Entry). material_end entry.slot ≤ most) entries
+unfolding key_material_end
+All-key_material_end most [] all = tt
+All-key_material_end most (entry ∷ entries) all = (omega arith, All-key_material_end most entries (omega arith))
+
+-- key material that can be used ends within the bytes that can be loaded of an image
+pub key_material_end-within : (entries : List Entry) → key_material_end entries ≤ max_loaded_len
+unfolding key_material_end
+key_material_end-within [] = omega arith
+key_material_end-within (entry ∷ entries) =
+    omega (arith, key_material_end-within entries, (slot_range entry.slot).loadable)
+
+-- the entries from number i on: this entry, and then the remaining ones
+pub from_entry : (entries : List Entry) (i : ℕ) (entry : Entry) → i < length entries → entry ≡ get_or entries i entry
+    → drop i entries ≡ entry ∷ drop (i + 1) entries
+from_entry entries i entry there is = drop_more entries i entry there
+    ∙ ap (λ (e : Entry). e ∷ drop (i + 1) entries) (sym is)
+
+-- the remaining key material ends where that of the next key slot or of those after it ends, whichever is later
+pub key_material_end-drop : (entries : List Entry) (i : ℕ) (entry : Entry) → i < length entries
+    → entry ≡ get_or entries i entry
+    → key_material_end (drop i entries) ≡ max (material_end entry.slot) (key_material_end (drop (i + 1) entries))
+unfolding key_material_end
+key_material_end-drop entries i entry there is = ap key_material_end (from_entry entries i entry there is)
+
+-- ---- what holds for each key slot of an order
+
+module _ (header : Header) (named limit : Option ℕ) (order : OrderModel)
+    (is_order : order_of header named limit ≡ Ok order) where
+  pub each_of_header : All (IsOf header limit) order.entries
+  each_of_header =
+      All-from_recursion (IsOf header limit) order.entries (All-order header named limit order is_order)
+
+  module _ (segment : Segment) (is_segment : segment_of header ≡ Ok segment) where
+    each_known : All (λ (entry : Entry). IsKnown segment entry.slot) order.entries
+    each_known = λ k d below.
+        let entry = slice_index_or order.entries k d in
+        let is = each_of_header k d below in
+        known_usable header segment limit entry.number entry.slot is_segment is.usable
+
+    -- the key slots to be tried are triable if their key material is loaded
+    pub All-IsTriable : (loaded : ℕ) → key_material_end order.entries ≤ loaded
+        → All (λ (entry : Entry). IsTriable loaded entry.slot) order.entries
+    All-IsTriable loaded there = λ k d below.
+        let entry = slice_index_or order.entries k d in
+        let known : IsKnown segment entry.slot = each_known k d below in
+        let ends = All-from_recursion (λ (entry : Entry). material_end entry.slot ≤ loaded) order.entries
+        (All-key_material_end loaded order.entries there) k d below in
+        record {
+          kdf = known.kdf;
+          af = known.af;
+          volume_key = key_length_of_mode segment.mode entry.slot.parts.key_bytes known.volume_key;
+          area = known.area;
+          there = ends;
+        }
+
+    -- the volume keys of the key slots to be tried have lengths that the segment's mode allows
+    pub All-volume_key : All (λ (entry : Entry). is_mode_key_length segment.mode entry.slot.parts.key_bytes ≡ true)
+        order.entries
+    All-volume_key = λ k d below.
+        let known : IsKnown segment (slice_index_or order.entries k d).slot = each_known k d below in known.volume_key
+
+-- ---- for callers
+
+-- with an attached header, the key material of all key slots to be tried ends at or before the payload's start
+pub key_areas_before_payload : (header : Header) (segment : Segment) (named limit : Option ℕ) (order : OrderModel)
+    → is_detached header ≡ false → segment_of header ≡ Ok segment
+    → order_of header named limit ≡ Ok order → key_material_end order.entries ≤ segment.offset
+key_areas_before_payload header segment named limit order attached is_segment is_order =
+    key_material_end-le segment.offset order.entries
+    (recursion_from_All (λ (entry : Entry). material_end entry.slot ≤ segment.offset) order.entries (λ k d below.
+    let entry = slice_index_or order.entries k d in
+    let is = each_of_header header named limit order is_order k d below in
+    before_payload header segment limit entry.number entry.slot attached is_segment is.usable))
+
+-- key material that ends at or before offset n gives the same key from the first n bytes alone
+recovered_prefix : (af : Hash) (cipher : Cipher) (image : List ℕ) (offset key_bytes stripes n : ℕ)
+    → offset + key_material_len key_bytes stripes ≤ n → recovered af cipher (take n image) offset key_bytes stripes
+    ≡ recovered af cipher image offset key_bytes stripes
+unfolding recovered decrypted_material
+recovered_prefix af cipher image offset key_bytes stripes n before =
+    let sectors : (i : ℕ) → i < key_material_len key_bytes stripes / 512
+    → material_sector cipher (take n image) offset i ≡ material_sector cipher image offset i =
+    λ i below. ap (sector_decrypted cipher.0 cipher.1 i) (at_prefix (offset + 512 * i) 512 n image (omega arith)) in
+    ap (λ material. merged af key_bytes (take (key_bytes * stripes) material))
+    (joined_same _ _ (key_material_len key_bytes stripes / 512) sectors)
+
+-- a key slot whose key material ends at or before offset n gives the same volume key from the first n bytes alone
+key_prefix : (entry : Entry) (n : ℕ) (image pass : List ℕ) → material_end entry.slot ≤ n
+    → slot_key entry (take n image) pass ≡ slot_key entry image pass
+unfolding slot_key candidate_of
+key_prefix entry n image pass before =
+    let parts = entry.slot.parts in
+    ap (if_matches_digest entry.slot.digest) (of_read parts.kdf_hash parts.af_hash parts.area_mode)
+  where
+    of_read : (kdf af : Option Hash) (mode : Option Mode)
+        → candidate_by kdf af mode entry.slot.parts (take n image) pass
+        ≡ candidate_by kdf af mode entry.slot.parts image pass
+    of_read (Some kdf) (Some af) (Some mode) =
+        let parts = entry.slot.parts in
+        ap Some (recovered_prefix af
+        (mode, derived_key kdf pass parts.salt parts.iterations parts.area_key_bytes) image
+        parts.area_offset parts.key_bytes parts.stripes n before)
+    of_read _ _ _ = refl
+
+-- the bytes of the image after the key material do not change what a passphrase opens
+pub opening_prefix : (order : OrderModel) (n : ℕ) (image pass : List ℕ) → key_material_end order.entries ≤ n
+    → opening_of order (take n image) pass ≡ opening_of order image pass
+unfolding opening_of first_opening
+opening_prefix order n image pass loaded =
+    ap (λ (first : Option Opened). answer_of first order.skipped)
+    (of_entries order.entries (All-key_material_end n order.entries loaded))
+  where
+    of_entries : (entries : List Entry) → AllByRecursion (λ (entry : Entry). material_end entry.slot ≤ n) entries
+        → first_opening entries (take n image) pass ≡ first_opening entries image pass
+    of_entries [] ends = refl
+    of_entries (entry ∷ entries) ends =
+        ap (λ (key : Option (List ℕ)). opened_or entry.number key (first_opening entries (take n image) pass))
+        (key_prefix entry n image pass ends.0)
+        ∙ ap (opened_or entry.number (slot_key entry image pass)) (of_entries entries ends.1)
+
+-- nor what trying the key slots costs
+pub work_prefix : (order : OrderModel) (n : ℕ) (image pass : List ℕ) → key_material_end order.entries ≤ n
+    → work_of order (take n image) pass ≡ work_of order image pass
+unfolding work_of tried_of
+work_prefix order n image pass loaded =
+    ap (sum_by evaluations_of) (of_entries order.entries (All-key_material_end n order.entries loaded))
+  where
+    of_entries : (entries : List Entry) → AllByRecursion (λ (entry : Entry). material_end entry.slot ≤ n) entries
+        → tried_of entries (take n image) pass ≡ tried_of entries image pass
+    of_entries [] ends = refl
+    of_entries (entry ∷ entries) ends =
+        ap (λ (key : Option (List ℕ)). entry
+        ∷ (if is_some key then [] else tried_of entries (take n image) pass)) (key_prefix entry n image pass ends.0)
+        ∙ ap (λ (further : List Entry). entry ∷ (if is_some (slot_key entry image pass) then [] else further))
+        (of_entries entries ends.1)
+
+-- the candidate of a key slot is as long as the slot says
+candidate_length : (slot : Slot) (image pass key : List ℕ) → IsTriable (length image) slot
+    → candidate_of slot image pass ≡ Some key → length key ≡ slot.parts.key_bytes
+unfolding candidate_of
+candidate_length slot image pass key triable is =
+    of_names slot.parts.kdf_hash slot.parts.af_hash slot.parts.area_mode is
+  where
+    of_names : (kdf af : Option Hash) (mode : Option Mode)
+        → candidate_by kdf af mode slot.parts image pass ≡ Some key → length key ≡ slot.parts.key_bytes
+    of_names (Some kdf) (Some af) (Some mode) h =
+        let parts = slot.parts in
+        let area_key = derived_key kdf pass parts.salt parts.iterations parts.area_key_bytes in
+        let same : recovered af (mode, area_key) image parts.area_offset parts.key_bytes parts.stripes ≡ key =
+        same_Some _ _ h in
+        ap length (sym same)
+        ∙ length-recovered af (mode, area_key) image parts.area_offset parts.key_bytes parts.stripes triable.volume_key
+        (slot_range slot).some_stripes triable.there
+    of_names _ _ _ h = absurd cc
+
+-- so is the volume key that it gives
+slot_key_length : (entry : Entry) (image pass key : List ℕ) → IsTriable (length image) entry.slot
+    → slot_key entry image pass ≡ Some key → length key ≡ entry.slot.parts.key_bytes
+unfolding slot_key
+slot_key_length entry image pass key triable is = of_candidate (candidate_of entry.slot image pass) refl is
+  where
+    of_test : (test : Bool) (made : List ℕ) → candidate_of entry.slot image pass ≡ Some made
+        → (if test then Some made else None) ≡ Some key → length key ≡ entry.slot.parts.key_bytes
+    of_test true made is_made h = candidate_length entry.slot image pass key triable (is_made ∙ h)
+    of_test false made is_made h = absurd cc
+
+    of_candidate : (made : Option (List ℕ)) → candidate_of entry.slot image pass ≡ made
+        → if_matches_digest entry.slot.digest made ≡ Some key → length key ≡ entry.slot.parts.key_bytes
+    of_candidate (Some made) is_made h = of_test (matches_digest entry.slot.digest made) made is_made h
+    of_candidate None is_made h = absurd cc
+
+-- the key of the key slot that opens has a length of this mode if those of all key slots to be tried do
+pub opened_key_length : (mode : Mode) (entries : List Entry) (image pass : List ℕ) (opened : Opened)
+    → AllByRecursion (λ (entry : Entry). IsTriable (length image) entry.slot) entries
+    → AllByRecursion (λ (entry : Entry). is_mode_key_length mode entry.slot.parts.key_bytes ≡ true) entries
+    → first_opening entries image pass ≡ Some opened → is_mode_key_length mode (length opened.key) ≡ true
+unfolding first_opening
+opened_key_length mode [] image pass opened triable known is = absurd cc
+opened_key_length mode (entry ∷ entries) image pass opened triable known is =
+    of_key (slot_key entry image pass) refl
+    (opened_key_length mode entries image pass opened triable.1 known.1) is
+  where
+    of_key : (key : Option (List ℕ)) → slot_key entry image pass ≡ key
+        → (first_opening entries image pass ≡ Some opened → is_mode_key_length mode (length opened.key) ≡ true)
+        → opened_or entry.number key (first_opening entries image pass) ≡ Some opened
+        → is_mode_key_length mode (length opened.key) ≡ true
+    of_key (Some key) gives further h =
+        let made : Opened = record { slot = entry.number; key = key } in
+        let same : made ≡ opened = same_Some _ _ h in
+        subst (λ (o : Opened). is_mode_key_length mode (length o.key) ≡ true) same
+        (ap (is_mode_key_length mode) (slot_key_length entry image pass key triable.0 gives) ∙ known.0)
+    of_key None gives further h = further h
+
+-- the evaluations of HMAC for trying these entries, up to the first that opens
+abbrev pub work_on : List Entry → List ℕ → List ℕ → ℕ
+work_on entries image pass = sum_by evaluations_of (tried_of entries image pass)
+
+-- none of the first i entries opened, and the count of work went from `start` to `now`
+pub record NoneOpenedBefore (entries : List Entry) (image pass : List ℕ) (i start now : ℕ) : Type 0 where
+  pub value : first_opening (drop i entries) image pass ≡ first_opening entries image pass
+  pub work : capped (now + work_on (drop i entries) image pass) ≡ capped (start + work_on entries image pass)
+  pub count : now ≡ capped now
+
+module _ (entries : List Entry) (image pass : List ℕ) (i start now : ℕ)
+    (before : NoneOpenedBefore entries image pass i start now) where
+  pub none_opens : length entries ≤ i
+      → (first_opening entries image pass ≡ None) × (now ≡ capped (start + work_on entries image pass))
+  unfolding first_opening tried_of
+  none_opens all =
+      let none = drop_all i entries all in
+      let left : work_on (drop i entries) image pass ≡ 0 = ap (λ (s : List Entry). work_on s image pass) none in (
+        sym before.value ∙ ap (λ (s : List Entry). first_opening s image pass) none,
+        omega (arith, left, before.work, before.count),
+      )
+
+  -- the next entry
+  module _ (entry : Entry) (new : ℕ) (there : i < length entries) (is : entry ≡ get_or entries i entry)
+      (is_new : new ≡ capped (now + evaluations_of entry)) where
+    -- whether the entry opens decides what opens, and whether the others are tried too
+    after_entry : (key : Option (List ℕ)) → slot_key entry image pass ≡ key
+        → (first_opening entries image pass
+        ≡ opened_or entry.number key (first_opening (drop (i + 1) entries) image pass))
+        × (capped (new + sum_by evaluations_of (if is_some key then [] else tried_of (drop (i + 1) entries) image pass))
+        ≡ capped (start + work_on entries image pass))
+    unfolding first_opening tried_of
+    after_entry key gives =
+        let further = first_opening (drop (i + 1) entries) image pass in
+        let rest = tried_of (drop (i + 1) entries) image pass in
+        let all = from_entry entries i entry there is in
+        let left : work_on (drop i entries) image pass
+        ≡ evaluations_of entry + sum_by evaluations_of (if is_some key then [] else rest) =
+        ap (λ (s : List Entry). work_on s image pass) all
+        ∙ ap (λ (key : Option (List ℕ)). sum_by evaluations_of (entry ∷ (if is_some key then [] else rest))) gives
+        ∙ sum_by-cons evaluations_of entry (if is_some key then [] else rest) in (
+          sym before.value ∙ ap (λ (s : List Entry). first_opening s image pass) all
+              ∙ ap (λ (key : Option (List ℕ)). opened_or entry.number key further) gives,
+          omega (arith, is_new, left, before.work),
+        )
+
+    pub one_unopened : slot_key entry image pass ≡ None → NoneOpenedBefore entries image pass (i + 1) start new
+    one_unopened none =
+        let past = after_entry None none in
+        record { value = sym past.0; work = past.1; count = omega (arith, is_new) }
+
+    pub one_opens : (key : List ℕ) → slot_key entry image pass ≡ Some key
+        → (first_opening entries image pass ≡ Some record { slot = entry.number; key = key })
+        × (new ≡ capped (start + work_on entries image pass))
+    one_opens key some =
+        let last = after_entry (Some key) some in
+        let all : capped (new + sum_by evaluations_of []) ≡ capped (start + work_on entries image pass) = last.1 in
+        (last.0, omega (arith, is_new, all))

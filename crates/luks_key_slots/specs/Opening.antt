@@ -1,0 +1,135 @@
+-- The key slots to be tried, which of them opens a volume, and how many evaluations of HMAC that costs.
+use Rattle.std.specs.Prelude.{ℕ, ◌+◌, ◌*◌, sum_by, if◌then◌else◌, List, [], ◌∷◌, Option, Some, None, Result, Ok, Err}
+use Rattle.std.specs.Prelude.{length, is_some, ◌≡◌, ◌==◌, ◌⊎◌, max, MatchResult, ◌++◌}
+use Rattle.std.specs.Int.{div_ceil}
+use Rattle.luks_kdf.specs.Hash.{digest_len}
+use Rattle.luks_kdf.specs.declared.hash.Hash.{Hash}
+use Rattle.luks_verdict.specs.declared.digest.KeyDigest.{KeyDigest}
+use Rattle.luks_verdict.specs.declared.refusal.SkipReason.{SkipReason}
+use Rattle.luks_key_slots.specs.Candidate.{candidate_of, matches_digest}
+use Rattle.luks_key_slots.specs.declared.entry.Entry.{Entry}
+use Rattle.luks_key_slots.specs.declared.fault.OpenFault.{OpenFault}
+use Rattle.luks_key_slots.specs.declared.fault.OpenFault.TheVariants.{NoKey, NoSuchSlot, Disabled, NamedSkipped}
+use Rattle.luks_key_slots.specs.declared.fault.OpenFault.TheVariants.{NothingTried, Memory}
+use Rattle.luks_key_slots.specs.declared.opening.Opened.{Opened}
+use Rattle.luks_verdict.specs.Rule.{max_slots}
+use Rattle.luks_verdict.specs.Slot.{material_end}
+use Rattle.luks_verdict.specs.Table.{ascending}
+use Rattle.luks_verdict.specs.declared.slot.Verdict.{Verdict}
+use Rattle.luks_verdict.specs.declared.slot.Verdict.TheVariants.{Usable, Disabled as VerdictDisabled, Skipped}
+use Rattle.luks_header.specs.SlotVerdicts.{verdict_at}
+use Rattle.luks_header.specs.declared.header.Header.{Header}
+
+-- ---- the order of the key slots
+
+-- the key slots to be tried, and those that are skipped
+pub record OrderModel : Type 0 where
+  -- the key slots with their numbers, in the order in which they are tried
+  pub entries : List Entry
+  -- the key slots that were skipped, by ascending number; empty if a key slot was named
+  pub skipped : List (ℕ × SkipReason)
+
+-- the key slot of this number with this verdict, if it can be tried and has this priority
+abbrev pub entry_with_priority : ℕ → ℕ → Option Verdict → Option Entry
+entry_with_priority priority number (Some (Usable slot)) =
+    if slot.parts.priority == priority then Some record { number = number; slot = slot } else None
+entry_with_priority priority number _ = None
+
+-- the key slot of this number, if it can be tried and has this priority
+abbrev pub tried_with : Header → Option ℕ → ℕ → ℕ → Option Entry
+tried_with header limit priority number = entry_with_priority priority number (verdict_at header limit number)
+
+-- the number of a key slot and the reason why it is skipped, if it is
+abbrev pub skipped_with_reason : ℕ → Option Verdict → Option (ℕ × SkipReason)
+skipped_with_reason number (Some (Skipped reason)) = Some (number, reason)
+skipped_with_reason number _ = None
+
+-- the number of this key slot and the reason why it is skipped, if it is
+abbrev pub skipped_at : Header → Option ℕ → ℕ → Option (ℕ × SkipReason)
+skipped_at header limit number = skipped_with_reason number (verdict_at header limit number)
+
+-- the order that tries these key slots, or the fault if there are none
+abbrev pub unless_none : List Entry → List (ℕ × SkipReason) → Result OrderModel OpenFault
+unless_none [] skipped = Err (NothingTried skipped)
+unless_none (entry ∷ entries) skipped = Ok record { entries = entry ∷ entries; skipped = skipped }
+
+-- the order if no key slot is named: those of priority 2, then those of priority 1, each by ascending number
+unfoldable pub order_of_all : Header → Option ℕ → Result OrderModel OpenFault
+order_of_all header limit =
+    unless_none (ascending (tried_with header limit 2) max_slots ++ ascending (tried_with header limit 1) max_slots)
+    (ascending (skipped_at header limit) max_slots)
+
+-- the order if the key slot of this number, with this verdict, is named: it alone is tried, whatever its priority
+abbrev pub order_of_named : ℕ → Option Verdict → Result OrderModel OpenFault
+order_of_named number None = Err NoSuchSlot
+order_of_named number (Some (Usable slot)) =
+    Ok record { entries = record { number = number; slot = slot } ∷ []; skipped = [] }
+order_of_named number (Some VerdictDisabled) = Err Disabled
+order_of_named number (Some (Skipped reason)) = Err (NamedSkipped reason)
+
+-- the key slots of a header to be tried, by the named key slot and the limit on iterations, or why there are none
+unfoldable pub order_of : Header → Option ℕ → Option ℕ → Result OrderModel OpenFault
+order_of header None limit = order_of_all header limit
+order_of header (Some named) limit = order_of_named named (verdict_at header limit named)
+
+-- an answer is the specified one, or memory ran out
+abbrev pub IsOrMemory : {T : Type 0} → Result T OpenFault → Result T OpenFault → Type 0
+IsOrMemory specified answer =
+    MatchResult answer (λ value. specified ≡ Ok value) (λ fault. (fault ≡ Memory) ⊎ (specified ≡ Err fault))
+
+-- the end of the last key material of these key slots
+unfoldable pub key_material_end : List Entry → ℕ
+key_material_end [] = 0
+key_material_end (entry ∷ entries) = max (material_end entry.slot) (key_material_end entries)
+
+-- ---- opening
+
+-- the candidate, if it matches the digest
+abbrev pub if_matches_digest : KeyDigest → Option (List ℕ) → Option (List ℕ)
+if_matches_digest digest None = None
+if_matches_digest digest (Some key) = if matches_digest digest key then Some key else None
+
+-- the volume key that a key slot gives under a passphrase, if it opens
+unfoldable pub slot_key : Entry → List ℕ → List ℕ → Option (List ℕ)
+slot_key entry image pass = if_matches_digest entry.slot.digest (candidate_of entry.slot image pass)
+
+-- this key slot if it opens, or else the further one that opens
+abbrev pub opened_or : ℕ → Option (List ℕ) → Option Opened → Option Opened
+opened_or number (Some key) further = Some record { slot = number; key = key }
+opened_or number None further = further
+
+-- the first of these key slots that opens, and the volume key that it gives
+unfoldable pub first_opening : List Entry → List ℕ → List ℕ → Option Opened
+first_opening [] image pass = None
+first_opening (entry ∷ entries) image pass =
+    opened_or entry.number (slot_key entry image pass) (first_opening entries image pass)
+
+-- the key slot that opens, or the fault if none does
+abbrev pub answer_of : Option Opened → List (ℕ × SkipReason) → Result Opened OpenFault
+answer_of (Some opened) skipped = Ok opened
+answer_of None skipped = Err (NoKey skipped)
+
+-- the first of the key slots to be tried that a passphrase opens, or the fault if it opens none
+unfoldable pub opening_of : OrderModel → List ℕ → List ℕ → Result Opened OpenFault
+opening_of order image pass = answer_of (first_opening order.entries image pass) order.skipped
+
+-- the number of HMAC evaluations with which PBKDF2 derives `bytes` bytes
+abbrev pub evaluations : Option Hash → ℕ → ℕ → ℕ
+evaluations (Some hash) iterations bytes = iterations * div_ceil bytes (digest_len hash)
+evaluations None iterations bytes = 0
+
+-- the evaluations that trying a key slot costs: for the key of its key material, and for the digest of the candidate
+unfoldable pub evaluations_of : Entry → ℕ
+evaluations_of entry =
+    evaluations entry.slot.parts.kdf_hash entry.slot.parts.iterations entry.slot.parts.area_key_bytes
+    + evaluations entry.slot.digest.hash entry.slot.digest.iterations (length entry.slot.digest.value)
+
+-- the key slots that are tried: up to the first that opens, or all
+unfoldable pub tried_of : List Entry → List ℕ → List ℕ → List Entry
+tried_of [] image pass = []
+tried_of (entry ∷ entries) image pass = entry
+    ∷ (if is_some (slot_key entry image pass) then [] else tried_of entries image pass)
+
+-- the evaluations of HMAC that opening costs: those of all key slots that are tried
+unfoldable pub work_of : OrderModel → List ℕ → List ℕ → ℕ
+work_of order image pass = sum_by evaluations_of (tried_of order.entries image pass)

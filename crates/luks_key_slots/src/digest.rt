@@ -1,0 +1,34 @@
+//! Digests, which identify a volume key.
+
+ghost use Rattle.std.specs.Prelude.{◌≡◌, ◌+◌, length};
+ghost use Rattle.luks_kdf.specs.Pbkdf2.{capped};
+ghost use Rattle.luks_key_slots.specs.Candidate.{matches_digest};
+ghost use Rattle.luks_key_slots.specs.Opening.{evaluations};
+
+use crate::key::Key;
+use luks_header::digest::KeyDigest;
+use luks_kdf::Work;
+
+/// Whether PBKDF2 of the key gives the digest's whole value.
+#[tactic(auto, unfolding(crate::specs::Candidate::matches_digest))]
+pub(crate) fn key_matches_digest(digest: &KeyDigest, key: &[u8], work: &mut Work) -> bool
+    ensures value { result ≡ matches_digest digest.now key.now }
+    ensures work { work.new ≡ capped (work.old
+        + evaluations digest.now.hash digest.now.iterations (length digest.now.value)) }
+{
+    // Without a hash function the count does not change, and it is within its range.
+    let _before = work.count();
+    let Some(hash) = digest.hash else {
+        return false;
+    };
+    let value = digest.value.as_slice();
+    let derived = Key::derived(
+        hash,
+        key,
+        digest.salt.as_slice(),
+        digest.iterations,
+        value.len(),
+        work,
+    );
+    derived.as_slice() == value
+}

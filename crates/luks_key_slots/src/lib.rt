@@ -1,0 +1,17 @@
+//! Opening a volume: which key slots are tried, in which order, and which key a passphrase gives.
+//!
+//! [`order`](order::order) says which key slots of a header are tried,
+//! [`held_end`](ordered::held_end) how much of the image must be loaded for that, and
+//! [`open`](opening::open) tries them.
+#![tactic(auto)]
+
+mod digest;
+mod entry;
+pub mod fault;
+pub mod key;
+mod material;
+pub mod opening;
+pub mod order;
+pub mod ordering;
+pub mod skipped;
+pub mod volume_key;

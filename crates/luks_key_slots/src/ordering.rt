@@ -1,0 +1,169 @@
+//! The order in which key slots are tried.
+
+ghost use Rattle.std.specs.Prelude.{◌≡◌, ◌++◌, Err, IfOk, IsOk, IsSome, OnOk, OnErr, option_map};
+ghost use Rattle.std.specs.Prelude.{[], ◌∷◌, ◌≤◌, is_some, length};
+ghost use Rattle.std.specs.List.{cons_option};
+ghost use Rattle.luks_verdict.specs.Rule.{max_slots};
+ghost use Rattle.luks_verdict.specs.Table.{ascending};
+ghost use Rattle.luks_key_slots.specs.Opening.{IsOrMemory, order_of, skipped_at};
+ghost use Rattle.luks_key_slots.specs.Opening.{order_of_all, order_of_named, tried_with};
+ghost use Rattle.luks_header.specs.SlotVerdicts.{verdict_at};
+
+use crate::entry::Entry;
+use crate::fault::OpenFault;
+use crate::order::Order;
+use crate::skipped::SkippedSlots;
+use luks_header::header::Header;
+use luks_header::refusal::SkipReason;
+use luks_header::rule::MAX_SLOTS;
+use luks_header::slot::{Slot, Verdict, VerdictKind, verdict, verdict_kind};
+use std::alloc::{AllocError, Global};
+
+// Whether the key slot of this number can be tried and has this priority.
+fn has_priority(header: &Header, limit: Option<u32>, priority: u8, number: u8) -> bool
+    ensures { result ≡ is_some (tried_with header.now limit priority number) }
+{
+    match verdict_kind(header, limit, number) {
+        Some(VerdictKind::Usable(its)) if its == priority => true,
+        _ => false,
+    }
+}
+
+// Appends the key slot of this number, if it can be tried and has this priority. Otherwise it
+// allocates nothing, which is why it looks at the kind of the verdict first.
+fn push_tried(
+    alloc: Global,
+    entries: &mut Vec<Entry>,
+    header: &Header,
+    limit: Option<u32>,
+    priority: u8,
+    number: u8,
+) -> Result<(), AllocError>
+    ensures ok { OnOk result (entries.new.items
+        ≡ entries.old.items ++ cons_option (tried_with header.now limit priority number) []) }
+    ensures err { OnErr result (IsSome (tried_with header.now limit priority number)) }
+{
+    if !has_priority(header, limit, priority, number) {
+        return Ok(());
+    }
+    let verdict = verdict(alloc, header, limit, number)?;
+    let Some(Verdict::Usable(slot)) = verdict else {
+        return Ok(());
+    };
+    entries.push(Entry { number, slot })?;
+    Ok(())
+}
+
+// Appends the key slots of this priority, by ascending number.
+fn push_usable(
+    alloc: Global,
+    entries: &mut Vec<Entry>,
+    header: &Header,
+    limit: Option<u32>,
+    priority: u8,
+) -> Result<(), AllocError>
+    ensures ok { OnOk result (entries.new.items
+        ≡ entries.old.items ++ ascending (tried_with header.now limit priority) max_slots) }
+    ensures err { OnErr result (1
+        ≤ length (ascending (tried_with header.now limit priority) max_slots)) }
+{
+    for number in 0..MAX_SLOTS {
+        push_tried(alloc, entries, header, limit, priority, number)?;
+    }
+    Ok(())
+}
+
+// Why the key slot of this number is skipped, if it is.
+fn skip_reason(header: &Header, limit: Option<u32>, number: u8) -> Option<SkipReason>
+    ensures { option_map (λ reason. (number, reason)) result ≡ skipped_at header.now limit number }
+{
+    match verdict_kind(header, limit, number) {
+        Some(VerdictKind::Skipped(reason)) => Some(reason),
+        _ => None,
+    }
+}
+
+// The key slots that are skipped.
+fn skipped(header: &Header, limit: Option<u32>) -> SkippedSlots
+    ensures { result ≡ ascending (skipped_at header.now limit) max_slots }
+{
+    let mut skipped = SkippedSlots::new();
+    for number in 0..MAX_SLOTS {
+        if let Some(reason) = skip_reason(header, limit, number) {
+            skipped.push(number, reason);
+        }
+    }
+    skipped
+}
+
+// The order if no key slot is named.
+#[tactic(auto, unfolding(crate::specs::Opening::order_of_all))]
+fn order_all(alloc: Global, header: &Header, limit: Option<u32>) -> Result<Order, OpenFault>
+    ensures answer { IsOrMemory (order_of_all header.now limit) result }
+    ensures memory { result ≡ Err OpenFault.Memory → IsOk (order_of_all header.now limit) }
+{
+    let mut entries = Vec::new(alloc);
+    push_usable(alloc, &mut entries, header, limit, 2)?;
+    push_usable(alloc, &mut entries, header, limit, 1)?;
+    let skipped = skipped(header, limit);
+    if entries.is_empty() {
+        return Err(OpenFault::NothingTried(skipped));
+    }
+    Ok(Order::new(entries, skipped))
+}
+
+// The order that tries this key slot alone.
+fn order_alone(alloc: Global, number: u8, slot: Slot) -> Result<Order, AllocError>
+    ensures { IfOk result (λ order. order
+        ≡ record { entries = record { number = number; slot = slot } ∷ []; skipped = [] }) }
+{
+    let mut alone = Vec::new(alloc);
+    alone.push(Entry { number, slot })?;
+    Ok(Order::new(alone, SkippedSlots::new()))
+}
+
+// The order if a key slot is named.
+fn order_named(
+    alloc: Global,
+    header: &Header,
+    limit: Option<u32>,
+    named: u8,
+) -> Result<Order, OpenFault>
+    ensures answer { IsOrMemory (order_of_named named (verdict_at header.now limit named)) result }
+    ensures memory { result ≡ Err OpenFault.Memory
+        → IsOk (order_of_named named (verdict_at header.now limit named)) }
+{
+    let verdict = verdict(alloc, header, limit, named)?;
+    match verdict {
+        None => Err(OpenFault::NoSuchSlot),
+        Some(Verdict::Disabled) => Err(OpenFault::Disabled),
+        Some(Verdict::Skipped(reason)) => Err(OpenFault::NamedSkipped(reason)),
+        Some(Verdict::Usable(slot)) => Ok(order_alone(alloc, named, slot)?),
+    }
+}
+
+/// The key slots of a header to be tried, in order: those of priority 2, then those of priority 1,
+/// each by ascending number. If a key slot is named, only that one is tried, whatever its priority.
+/// Key slots with more iterations than the limit, or with a digest that has more, are skipped.
+///
+/// # Errors
+///
+/// [`OpenFault::NoSuchSlot`], [`OpenFault::Disabled`] or [`OpenFault::NamedSkipped`] if a key slot
+/// is named that cannot be tried; [`OpenFault::NothingTried`] if no key slot is named and the
+/// header has none to try; [`OpenFault::Memory`] if memory runs out, which happens only if there is
+/// something to try.
+#[tactic(auto, unfolding(crate::specs::Opening::order_of))]
+pub fn order(
+    alloc: Global,
+    header: &Header,
+    named: Option<u8>,
+    limit: Option<u32>,
+) -> Result<Order, OpenFault>
+    ensures answer { IsOrMemory (order_of header.now named limit) result }
+    ensures memory { result ≡ Err OpenFault.Memory → IsOk (order_of header.now named limit) }
+{
+    match named {
+        None => order_all(alloc, header, limit),
+        Some(named) => order_named(alloc, header, limit, named),
+    }
+}

@@ -1,6 +1,0 @@
-use Rattle.luks_open.proofs.CallerLemmas.{NoneOpenedBefore}
-use Rattle.luks_open.proofs.opening.first_opening.Given as goal
-
--- none of the earlier key slots opened
-abbrev pub invariant-entries : goal.invariant-entries
-invariant-entries l = NoneOpenedBefore l.entries l.image l.pass l.entry-index l.fn.work l.work

@@ -1,7 +1,0 @@
-use Rattle.luks_open.specs.Opening.{order_of}
-use Rattle.luks_open.proofs.order.order.Goals as goal
-
-pub returns-in-None : goal.returns-in-None
-unfolding order_of
-returns-in-None c =
-    record { answer = rw c.in-None.is c.order_all.ensures.answer; memory = rw c.in-None.is c.order_all.ensures.memory }

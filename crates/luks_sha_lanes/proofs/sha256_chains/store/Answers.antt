@@ -1,0 +1,23 @@
+use Rattle.std.proofs.Common.{rules, ◌≡◌, ◌∙◌, sym, ap, arith}
+use Rattle.std.specs.Int.{to_be_bytes, w32}
+use Rattle.std.proofs.lemmas.List.{take_all}
+use Rattle.sha2.specs.Sha256.{digest_bytes}
+use Rattle.sha2.proofs.Absorbing256.{digest_more}
+use Rattle.luks_sha_lanes.specs.Lanes.{lane}
+use Rattle.luks_sha_lanes.proofs.LaneLemmas.{word_of_lane}
+use Rattle.luks_sha_lanes.proofs.sha256_chains.store.Goals as goal
+
+pub words-init : goal.words-init
+unfolding digest_bytes
+words-init c = search rules
+
+pub words-preserved : goal.words-preserved
+words-preserved c =
+    digest_more c.words.out (lane c.args.j c.args.x.now) _ c.words.i _ c.words.invariant (omega arith)
+    (c.copy_from_slice.ensures.after ∙ c.to_be_bytes.ensures
+    ∙ ap (to_be_bytes w32) (c.lane_word-word.ensures ∙ sym (word_of_lane c.args.j c.args.x.now c.words.i)))
+
+pub returns : goal.returns
+returns c =
+    let done : c.words.i ≡ 8 = omega arith in
+    sym (take_all 32 c.words.out (omega arith)) ∙ rw done at c.words.invariant
