@@ -145,7 +145,8 @@ same 'an example: a file in it' "$(shows 'Copy one file') $(cat fstab)" ' inside
 # each of the first bytes matters, and none that is changed leads to an uncaught fault
 for at in 512 $((512 + 24)) $((512 + 40)) $((512 + 100)) 4096 4100 $((4096 + 24)) $((4096 + 40)) $((4096 + text)); do
     cp first damaged
-    printf '\377' | dd of=damaged bs=1 seek="$at" conv=notrunc status=none
+    printf '%b' "\\x$(printf %02x $((255 - $(od -An -v -t u1 -j "$at" -N 1 first))))" |
+        dd of=damaged bs=1 seek="$at" conv=notrunc status=none
     same "byte $at is damaged" "$(finds damaged | sed 's/^luksrd-lvm: .*\(LVM2\).*/\1/')" 'LVM2
 1'
 done
