@@ -94,7 +94,7 @@ same 'a header that is cut' "$(reported luksDump cut_header)" 'luksrd: not a LUK
 same 'what blkid says of it' "$(blkid -p -o value -s TYPE cut_header)" crypto_LUKS
 
 # a volume without a file system that nbdkit's filter knows
-head -c 8M /dev/urandom >unformatted
+head -c 8M /dev/zero >unformatted
 volume no_ext unformatted
 same 'no ext2, ext3 or ext4' "$(nbdkit -U - --filter=ext2 luksrd no_ext/disk.img key-file=pass ext2file=/etc/fstab \
     --run 'nbdcopy "$uri" -' 2>&1 | grep -o 'Bad magic number in super-block\|server has no export named .*:')" \

@@ -79,7 +79,8 @@ for kib in $(seq 2000 20 20000); do
     (ulimit -v "$kib"; exec "$program" testPassphrase --key-file wrong volume0) >log 2>&1
     [ $? != 3 ] || break
 done
-echo "$kib" >little
+# the runs below have more variables in their environment
+echo $((kib + 20)) >little
 LIMITED=3 candidates -j 1 -s again lines0 volume0
 gives 'no memory for one run' 3 '' 'luksrd: out of memory' 3
 same 'lines before it' "$(cat again)" 2

@@ -131,12 +131,12 @@ static uint32_t decrypt_a_part(struct calls *calls)
   return luksrd_decrypt(&calls->cipher, 0, calls->payload, 100);
 }
 
-/* What the search has to find: a part of the volume key on the stack. */
+/* What the search has to find: parts of the volume key on the stack. One alone may be too uniform to be looked for. */
 static __attribute__((noinline)) uint32_t leave_key(struct calls *calls)
 {
   volatile uint8_t copy[6000];
-  for (size_t i = 0; i < PART; i++)
-    copy[i] = calls->volume.key[i + 3];
+  for (size_t i = 0; i < 2 * PART; i++)
+    copy[i] = calls->volume.key[i];
   return copy[0] & 0;
 }
 

@@ -10,17 +10,19 @@ use Rattle.luks_header.specs.Header.{header_read_len}
 use Rattle.luks_io.specs.Devices.{ConsumedAtMost, ConsumedExactly}
 use Rattle.luks_key_slots.specs.Opening.{key_material_end, opening_of}
 use Rattle.luks_key_slots.specs.declared.fault.OpenFault.{OpenFault}
+use Rattle.luks_key_slots.specs.Fault.{aborts_opening, has_fault}
+use Rattle.luks_key_slots.specs.declared.fault.OpenFault.TheVariants.{Memory}
+use Rattle.luks_key_slots.specs.declared.fault.VolumeFault.{VolumeFault}
+use Rattle.luks_key_slots.specs.declared.fault.VolumeFault.TheVariants.{Header as HeaderNotRead, KeyAreaCut, Passphrase}
+use Rattle.luks_key_slots.specs.declared.fault.VolumeFault.TheVariants.{Slots}
 use Rattle.luks_key_slots.specs.declared.opening.Opened.{Opened}
-use Rattle.luks_report.specs.Faults.{message_for_header}
-use Rattle.luks_report.specs.declared.message.Message.{Message}
-use Rattle.luks_report.specs.declared.message.Message.TheVariants.{Done, OutOfMemory, ReadFailed, WriteFailed}
 use Rattle.luks_runs.proofs.RunLemmas.{header_read_len_within}
 use Rattle.luks_runs.specs.KeyFile.{max_key_file_len}
 use Rattle.luks_runs.specs.Location.{reader_for}
-use Rattle.luks_runs.specs.Run.{Outcome, aborts, result_message}
+use Rattle.luks_runs.specs.Run.{Outcome}
 use Rattle.luks_runs.proofs.VolumeLemmas.{area_cut, area_loaded, area_more, found_cut, found_is, found_long}
 use Rattle.luks_runs.proofs.VolumeLemmas.{found_whole, outcome_is, prefix_length, tried_is}
-use Rattle.luks_runs.specs.Volume.{FindsNoVolume, MatchesHeader, OnOpened, OpeningMessage, Volume, found_outcome}
+use Rattle.luks_runs.specs.Volume.{FindsNoVolume, MatchesHeader, OnOpened, Volume, found_outcome}
 use Rattle.luks_runs.specs.Volume.{opened_of, opened_outcome, outcome_after, slot_outcome, unlock_read_len, volume_by}
 use Rattle.luks_runs.specs.Volume.{volume_outcome_by}
 use Rattle.luks_runs.specs.declared.found.FoundVolume.{FoundVolume}
@@ -35,10 +37,11 @@ module _ (options : Options) (image pass : List ℕ) where
   abbrev consumed_of : Outcome → ℕ
   consumed_of outcome = outcome.input_consumed
 
-  -- a run that consumes exactly what opening needs may end with any message
-  exactly : (message : Message) (left : Option (List ℕ)) (n : ℕ) → open_read_len options image pass ≡ n
-      → ConsumedExactly image left n → ConsumesToOpen options image pass message left
-  exactly message left n is consumed = by (aborts message)
+  -- opening that consumes exactly what it needs may end in any way
+  exactly : {T : Type 0} (result : Result T VolumeFault) (left : Option (List ℕ)) (n : ℕ)
+      → open_read_len options image pass ≡ n → ConsumedExactly image left n
+      → ConsumesToOpen options image pass result left
+  exactly result left n is consumed = by (has_fault aborts_opening result)
     where
       by : (b : Bool) → MatchBool b (ConsumedAtMost image left (open_read_len options image pass))
           (ConsumedExactly image left (open_read_len options image pass))
@@ -47,23 +50,23 @@ module _ (options : Options) (image pass : List ℕ) where
 
   module _ (v : Volume) where
     slot_consumed : (r : Result Opened OpenFault)
-        → consumed_of (opened_outcome on_slot options.slots.named v image pass r) ≡ unlock_read_len image v
+        → consumed_of (opened_outcome on_slot v image pass r) ≡ unlock_read_len image v
     slot_consumed (Ok opened) = refl
     slot_consumed (Err fault) = refl
 
     -- with a passphrase that is not too long: up to the end of the last key material, or the image's own end
     found_least : length pass ≤ max_key_file_len → min (length image) (unlock_read_len image v)
-        ≤ consumed_of (found_outcome on_slot options.slots.named v image pass)
+        ≤ consumed_of (found_outcome on_slot v image pass)
     found_least short = elim (cases_lt (length image) (key_material_end v.order.entries)) [
-      | inl few ↦ rw (found_cut on_slot options.slots.named v image pass short few) (omega arith)
+      | inl few ↦ rw (found_cut on_slot v image pass short few) (omega arith)
       | inr enough ↦
           let all = slot_consumed (opening_of v.order image pass) in
-          rw (found_whole on_slot options.slots.named v image pass short enough) (omega (arith, all))
+          rw (found_whole on_slot v image pass short enough) (omega (arith, all))
     ]
 
-    header_consumed : header_read_len image ≤ consumed_of (found_outcome on_slot options.slots.named v image pass)
+    header_consumed : header_read_len image ≤ consumed_of (found_outcome on_slot v image pass)
     header_consumed = elim (cases_lt max_key_file_len (length pass)) [
-      | inl long ↦ rw (found_long on_slot options.slots.named v image pass long) (omega arith)
+      | inl long ↦ rw (found_long on_slot v image pass long) (omega arith)
       | inr short ↦ omega (arith, found_least short, header_read_len_within image)
     ]
 
@@ -71,21 +74,23 @@ module _ (options : Options) (image pass : List ℕ) where
   unfolding volume_outcome_by
   header_least = after (volume_by (reader_for options.location) options.slots image)
     where
-      after : (r : Result Volume Message)
-          → header_read_len image ≤ consumed_of (outcome_after on_slot options.slots.named image pass r)
+      after : (r : Result Volume VolumeFault)
+          → header_read_len image ≤ consumed_of (outcome_after on_slot image pass r)
       after (Ok v) = header_consumed v
-      after (Err message) = omega arith
+      after (Err fault) = omega arith
 
   -- no volume was found
-  pub consumed_unfound : (message : Message) (left : Option (List ℕ)) → OpeningMessage message
-      → FindsNoVolume (reader_for options.location) options.slots image left message
-      → ConsumesToOpen options image pass message left
-  consumed_unfound OutOfMemory left only stop = (stop.0, omega (arith, stop.1, header_least), stop.2)
-  consumed_unfound ReadFailed left only stop = (stop.0, omega (arith, stop.1, header_least), stop.2)
-  consumed_unfound WriteFailed left only stop = absurd only
-  consumed_unfound message left only stop =
-      exactly message left (header_read_len image)
-      (ap consumed_of (outcome_is options.location options.slots image pass on_slot (Err message) stop.0)) stop.1
+  pub consumed_unfound : (fault : VolumeFault) (left : Option (List ℕ))
+      → FindsNoVolume (reader_for options.location) options.slots image left fault
+      → ConsumesToOpen {T = UnlockedVolume} options image pass (Err fault) left
+  consumed_unfound (HeaderNotRead HeaderRead) left stop = (stop.0, omega (arith, stop.1, header_least), stop.2)
+  consumed_unfound (HeaderNotRead HeaderMemory) left stop = (stop.0, omega (arith, stop.1, header_least), stop.2)
+  consumed_unfound (Slots Memory) left stop = (stop.0, omega (arith, stop.1, header_least), stop.2)
+  consumed_unfound (Passphrase _) left stop = absurd stop
+  consumed_unfound KeyAreaCut left stop = absurd stop
+  consumed_unfound fault left stop =
+      exactly {T = UnlockedVolume} (Err fault) left (header_read_len image)
+      (ap consumed_of (outcome_is options.location options.slots image pass on_slot (Err fault) stop.0)) stop.1
 
   module _ (volume : FoundVolume) (matched : MatchesHeader options.slots volume)
       (read : reader_for options.location image ≡ Ok volume.header) (area' : List ℕ) (left : Option (List ℕ))
@@ -94,7 +99,7 @@ module _ (options : Options) (image pass : List ℕ) where
     described = record { header = volume.header; segment = volume.segment; order = volume.order }
 
     found_consumed : open_read_len options image pass
-        ≡ consumed_of (found_outcome on_slot options.slots.named described image pass)
+        ≡ consumed_of (found_outcome on_slot described image pass)
     found_consumed =
         ap consumed_of (found_is options.location options.slots image pass volume.header volume.segment volume.order
         read matched.segment matched.order on_slot)
@@ -103,7 +108,7 @@ module _ (options : Options) (image pass : List ℕ) where
     aborted_by : length pass ≤ max_key_file_len → (fault : HeaderFault)
         → AbortsConsuming (key_material_end volume.order.entries - length volume.area.bytes) volume.area.bytes area'
         (drop (header_read_len image) image) left fault
-        → ConsumesToOpen options image pass (message_for_header fault) left
+        → ConsumesToOpen {T = UnlockedVolume} options image pass (Err (HeaderNotRead fault)) left
     aborted_by short HeaderRead (n, few, grows) =
         let more = area_more image volume.area.bytes area' left 0 prefix n grows in
         let start = prefix_length image volume.area.bytes area' left 0 prefix in (
@@ -117,31 +122,32 @@ module _ (options : Options) (image pass : List ℕ) where
     aborted_by short _ lost = absurd lost
 
     -- the key slots were tried, or the passphrase is too long, or the image was not read up to the key material's end
-    pub consumed_unlocked : (result : Result UnlockedVolume Message)
-        → UnlocksVolume options.slots.named volume pass area' (drop (header_read_len image) image) left result
-        → ConsumesToOpen options image pass (result_message result) left
+    pub consumed_unlocked : (result : Result UnlockedVolume VolumeFault)
+        → UnlocksVolume volume pass area' (drop (header_read_len image) image) left result
+        → ConsumesToOpen options image pass result left
     consumed_unlocked (Ok opened) (inl (short, (grows, enough, same, tried))) =
         let loaded = area_loaded image volume.area.bytes area' left (key_material_end volume.order.entries) prefix grows
         enough in
-        exactly Done left (unlock_read_len image described)
+        exactly (Ok opened) left (unlock_read_len image described)
         (ap consumed_of (tried_is options.location options.slots image pass volume.header volume.segment volume.order
         read matched.segment matched.order short volume.area.bytes area' left prefix grows enough
         (Ok (opened_of opened)) tried on_slot)) loaded.3
     consumed_unlocked (Ok opened) (inr (long, is, same)) = cc
-    consumed_unlocked (Err message) (inl (short, inl (fault, is, lost))) = rw is (aborted_by short fault lost)
-    consumed_unlocked (Err message) (inl (short, inr (grows, inl (is, few)))) =
+    consumed_unlocked (Err (HeaderNotRead fault)) (inl (short, lost)) = aborted_by short fault lost
+    consumed_unlocked (Err KeyAreaCut) (inl (short, (grows, few))) =
         let cut =
         area_cut image volume.area.bytes area' left (key_material_end volume.order.entries) prefix grows few in
-        exactly message left (length image)
-        (found_consumed ∙ ap consumed_of (found_cut on_slot options.slots.named described image pass short cut.0)) cut.1
-    consumed_unlocked (Err message) (inl (short, inr (grows, inr (fault, is, enough, tried)))) =
+        exactly {T = UnlockedVolume} (Err KeyAreaCut) left (length image)
+        (found_consumed ∙ ap consumed_of (found_cut on_slot described image pass short cut.0)) cut.1
+    consumed_unlocked (Err (Slots fault)) (inl (short, (grows, enough, tried))) =
         let loaded = area_loaded image volume.area.bytes area' left (key_material_end volume.order.entries) prefix grows
         enough in
-        exactly message left (unlock_read_len image described)
+        exactly {T = UnlockedVolume} (Err (Slots fault)) left (unlock_read_len image described)
         (ap consumed_of (tried_is options.location options.slots image pass volume.header volume.segment volume.order
         read matched.segment matched.order short volume.area.bytes area' left prefix grows enough (Err fault) tried
         on_slot)) loaded.3
-    consumed_unlocked (Err message) (inr (long, is, same)) =
-        exactly message left (header_read_len image)
-        (found_consumed ∙ ap consumed_of (found_long on_slot options.slots.named described image pass long))
+    consumed_unlocked (Err _) (inl (short, lost)) = absurd lost
+    consumed_unlocked (Err fault) (inr (long, is, same)) =
+        exactly {T = UnlockedVolume} (Err fault) left (header_read_len image)
+        (found_consumed ∙ ap consumed_of (found_long on_slot described image pass long))
         (record { within = header_read_len_within image; left = same })

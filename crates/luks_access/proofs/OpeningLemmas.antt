@@ -5,17 +5,21 @@ use Rattle.std.specs.Prelude.{nat_lt, if◌then◌else◌}
 use Rattle.luks_header_area.specs.declared.fault.HeaderFault.TheVariants.{Read as HeaderRead, Memory as HeaderMemory}
 use Rattle.luks_header.specs.Header.{header_read_len}
 use Rattle.luks_key_slots.specs.Opening.{key_material_end}
-use Rattle.luks_report.specs.Faults.{message_at_end}
-use Rattle.luks_report.specs.declared.message.Message.{Message}
-use Rattle.luks_report.specs.declared.message.Message.TheVariants.{Done, KeyFileLength, OutOfMemory, ReadFailed}
-use Rattle.luks_report.specs.declared.message.Message.TheVariants.{WriteFailed}
+use Rattle.luks_key_slots.specs.Fault.{aborts_opening}
+use Rattle.luks_key_slots.specs.declared.fault.OpenFault.TheVariants.{Memory}
+use Rattle.luks_key_slots.specs.declared.fault.PassphraseFault.TheVariants.{TooLong}
+use Rattle.luks_key_slots.specs.declared.fault.VolumeFault.{VolumeFault}
+use Rattle.luks_key_slots.specs.declared.fault.VolumeFault.TheVariants.{Header as HeaderNotRead, KeyAreaCut, Passphrase}
+use Rattle.luks_key_slots.specs.declared.fault.VolumeFault.TheVariants.{Slots}
+use Rattle.luks_report.specs.Faults.{message_at_end, message_for_volume}
+use Rattle.luks_report.specs.declared.message.Message.TheVariants.{Done}
 use Rattle.luks_request.specs.declared.command.SlotChoice.{SlotChoice}
-use Rattle.luks_runs.specs.Run.{Outcome, aborts, no_output}
+use Rattle.luks_runs.specs.Run.{Outcome, no_output}
 use Rattle.luks_runs.specs.Location.{reader_for}
 use Rattle.luks_runs.specs.declared.location.HeaderLocation.{HeaderLocation}
 use Rattle.luks_runs.specs.declared.location.HeaderLocation.TheVariants.{Attached, Detached}
 use Rattle.luks_runs.proofs.HonestVolumes.{unsealed}
-use Rattle.luks_runs.proofs.VolumeLemmas.{area_cut, found_cut, found_is, found_long, outcome_is, tried_is}
+use Rattle.luks_runs.proofs.VolumeLemmas.{area_cut, found_cut, found_is, found_long, message_says, outcome_is, tried_is}
 use Rattle.luks_runs.specs.Volume.{FindsNoVolume, MatchesHeader, opened_of, OnOpened, Volume, OpeningMessage}
 use Rattle.luks_runs.specs.Volume.{detached_payload_outcome, found_outcome, payload_outcome, unlock_read_len}
 use Rattle.luks_runs.specs.Volume.{volume_outcome_by}
@@ -36,20 +40,22 @@ use Rattle.luks_access.specs.declared.options.Options.{Options}
 
 module _ (options : Options) (image pass : List ℕ) (i : Option (List ℕ)) where
   -- the message and what was consumed are the same, whatever a command does with an open volume
-  refused_by : (message : Message) (a b : ℕ)
+  refused_by : (fault : VolumeFault) (a b : ℕ)
       → ((on_opened : OnOpened) → volume_outcome_by (reader_for options.location) on_opened options.slots image pass
-      ≡ no_output message a b) → Refuses options image pass message
-  refused_by message a b comes = record { header_consumed = a; secret_consumed = b; outcome = comes }
+      ≡ no_output (message_for_volume fault) a b) → Refuses options image pass fault
+  refused_by fault a b comes = record { header_consumed = a; secret_consumed = b; outcome = comes }
 
   -- no volume was found
-  pub refused_unfound : (message : Message) → aborts message ≡ false
-      → FindsNoVolume (reader_for options.location) options.slots image i message → Refuses options image pass message
-  refused_unfound OutOfMemory never stop = cc
-  refused_unfound ReadFailed never stop = cc
-  refused_unfound WriteFailed never stop = cc
-  refused_unfound message never stop =
-      refused_by message (header_read_len image) 0
-      (λ on_opened. outcome_is options.location options.slots image pass on_opened (Err message) stop.0)
+  pub refused_unfound : (fault : VolumeFault) → aborts_opening fault ≡ false
+      → FindsNoVolume (reader_for options.location) options.slots image i fault → Refuses options image pass fault
+  refused_unfound (HeaderNotRead HeaderRead) never stop = cc
+  refused_unfound (HeaderNotRead HeaderMemory) never stop = cc
+  refused_unfound (Slots Memory) never stop = cc
+  refused_unfound (Passphrase _) never stop = absurd stop
+  refused_unfound KeyAreaCut never stop = absurd stop
+  refused_unfound fault never stop =
+      refused_by fault (header_read_len image) 0
+      (λ on_opened. outcome_is options.location options.slots image pass on_opened (Err fault) stop.0)
 
   module _ (volume : FoundVolume) (matched : MatchesHeader options.slots volume)
       (read : reader_for options.location image ≡ Ok volume.header) (area' : List ℕ)
@@ -59,34 +65,34 @@ module _ (options : Options) (image pass : List ℕ) (i : Option (List ℕ)) whe
 
     as_found : (on_opened : OnOpened)
         → volume_outcome_by (reader_for options.location) on_opened options.slots image pass
-        ≡ found_outcome on_opened options.slots.named described image pass
+        ≡ found_outcome on_opened described image pass
     as_found =
         found_is options.location options.slots image pass volume.header volume.segment volume.order read
         matched.segment matched.order
 
     -- the volume was not opened
-    pub refused_unopened : (message : Message) → aborts message ≡ false
-        → UnlocksVolume options.slots.named volume pass area' (drop (header_read_len image) image) i (Err message)
-        → Refuses options image pass message
-    refused_unopened message never (inl (short, inl (HeaderRead, is, lost))) = cc
-    refused_unopened message never (inl (short, inl (HeaderMemory, is, lost))) = cc
-    refused_unopened message never (inl (short, inl (_, is, lost))) = absurd lost
-    refused_unopened message never (inl (short, inr (grows, inl (is, few)))) =
+    pub refused_unopened : (fault : VolumeFault) → aborts_opening fault ≡ false
+        → UnlocksVolume volume pass area' (drop (header_read_len image) image) i (Err fault)
+        → Refuses options image pass fault
+    refused_unopened (HeaderNotRead HeaderRead) never (inl (short, lost)) = cc
+    refused_unopened (HeaderNotRead HeaderMemory) never (inl (short, lost)) = cc
+    refused_unopened KeyAreaCut never (inl (short, (grows, few))) =
         let cut = area_cut image volume.area.bytes area' i (key_material_end volume.order.entries) prefix grows few in
-        rw is (refused_by _ (length image) (length pass)
-        (λ on_opened. as_found on_opened ∙ found_cut on_opened options.slots.named described image pass short cut.0))
-    refused_unopened message never (inl (short, inr (grows, inr (fault, is, enough, tried)))) =
-        rw is (refused_by _ (unlock_read_len image described) (length pass)
+        refused_by KeyAreaCut (length image) (length pass)
+        (λ on_opened. as_found on_opened ∙ found_cut on_opened described image pass short cut.0)
+    refused_unopened (Slots fault) never (inl (short, (grows, enough, tried))) =
+        refused_by (Slots fault) (unlock_read_len image described) (length pass)
         (λ on_opened. tried_is options.location options.slots image pass volume.header volume.segment volume.order read
-        matched.segment matched.order short volume.area.bytes area' i prefix grows enough (Err fault) tried on_opened))
-    refused_unopened message never (inr (long, is, rest)) =
-        let same : message ≡ KeyFileLength = cc in
-        rw same (refused_by KeyFileLength (header_read_len image) _
-        (λ on_opened. as_found on_opened ∙ found_long on_opened options.slots.named described image pass long))
+        matched.segment matched.order short volume.area.bytes area' i prefix grows enough (Err fault) tried on_opened)
+    refused_unopened _ never (inl (short, lost)) = absurd lost
+    refused_unopened fault never (inr (long, is, rest)) =
+        let same : fault ≡ Passphrase TooLong = cc in
+        rw same (refused_by (Passphrase TooLong) (header_read_len image) _
+        (λ on_opened. as_found on_opened ∙ found_long on_opened described image pass long))
 
     -- the volume was opened
     pub opened_by : (opened : UnlockedVolume)
-        → UnlocksVolume options.slots.named volume pass area' (drop (header_read_len image) image) i (Ok opened)
+        → UnlocksVolume volume pass area' (drop (header_read_len image) image) i (Ok opened)
         → Opens options image pass opened
     opened_by opened (inl (short, (grows, enough, same, tried))) = record {
       loaded = unlock_read_len image described;
@@ -139,13 +145,13 @@ volume_opened options image pass v opens = record {
       (sym cat.0 ∙ sealed.0, ends_whole v.segment image (sym cat.1 ∙ sealed.1));
 }
 
-pub volume_refused : (options : Options) (image pass : List ℕ) (message : Message) → OpeningMessage message
-    → (aborts message ≡ false → Refuses options image pass message) → RefusesVolume options image pass message
-volume_refused options image pass message only refuses = record {
+pub volume_refused : (options : Options) (image pass : List ℕ) (fault : VolumeFault)
+    → (aborts_opening fault ≡ false → Refuses options image pass fault) → RefusesVolume options image pass fault
+volume_refused options image pass fault refuses = record {
   refuses = refuses;
   no_honest = λ plain attached never honest.
       let refused = rw attached at ((refuses never).outcome (payload_outcome image pass)) in
       let sealed = unsealed options.slots image pass plain honest in
       let done = sym (ap (λ (out : Outcome). out.message) refused) ∙ sealed.1 in
-      subst OpeningMessage done only;
+      subst OpeningMessage done (message_says fault).opening;
 }

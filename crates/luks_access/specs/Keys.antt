@@ -8,45 +8,42 @@ use Rattle.luks_verdict.specs.declared.segment.Segment.{Segment}
 use Rattle.luks_header.specs.Header.{header_read_len}
 use Rattle.luks_header.specs.HeaderSegment.{segment_of}
 use Rattle.luks_header.specs.declared.header.Header.{Header}
+use Rattle.luks_key_slots.specs.Fault.{aborts_opening, has_fault}
 use Rattle.luks_key_slots.specs.VolumeKey.{compared, key_digest_of}
+use Rattle.luks_key_slots.specs.declared.fault.OpenFault.TheVariants.{Memory}
+use Rattle.luks_key_slots.specs.declared.fault.VolumeFault.{VolumeFault}
+use Rattle.luks_key_slots.specs.declared.fault.VolumeFault.TheVariants.{Header as HeaderNotRead, Segment as SegmentRefused}
+use Rattle.luks_key_slots.specs.declared.fault.VolumeFault.TheVariants.{Slots}
 use Rattle.luks_key_slots.specs.declared.volume_key.KeyCheck.{KeyCheck}
 use Rattle.luks_key_slots.specs.declared.volume_key.KeyCheck.TheVariants.{Differs}
-use Rattle.luks_report.specs.Faults.{message_for_header}
-use Rattle.luks_report.specs.declared.message.Message.{Message}
-use Rattle.luks_report.specs.declared.message.Message.TheVariants.{NotLuks, Cut, Json, SegmentRefused}
-use Rattle.luks_report.specs.declared.message.Message.TheVariants.{OutOfMemory, ReadFailed}
 use Rattle.luks_runs.specs.Location.{reader_for}
-use Rattle.luks_runs.specs.Run.{aborts}
 use Rattle.luks_runs.specs.declared.location.HeaderLocation.{HeaderLocation}
 
--- comparing a key may end with this message
-abbrev pub KeyCheckMessage : Message → Type 0
-KeyCheckMessage NotLuks = Unit {0}
-KeyCheckMessage Cut = Unit {0}
-KeyCheckMessage Json = Unit {0}
-KeyCheckMessage (SegmentRefused _) = Unit {0}
-KeyCheckMessage OutOfMemory = Unit {0}
-KeyCheckMessage ReadFailed = Unit {0}
-KeyCheckMessage _ = ⊥
+-- comparing a key may end with this fault
+abbrev pub KeyCheckFault : VolumeFault → Type 0
+KeyCheckFault (HeaderNotRead _) = Unit {0}
+KeyCheckFault (SegmentRefused _) = Unit {0}
+KeyCheckFault (Slots Memory) = Unit {0}
+KeyCheckFault _ = ⊥
 
 -- a key of a length that the segment's mode has is compared with the header's digest; any other differs
-abbrev pub check_in_segment : Header → Option ℕ → List ℕ → Result Segment SegmentFault → Result KeyCheck Message
+abbrev pub check_in_segment : Header → Option ℕ → List ℕ → Result Segment SegmentFault → Result KeyCheck VolumeFault
 check_in_segment header limit key (Ok s) =
     Ok (if is_mode_key_length s.mode (length key) then compared limit (key_digest_of header) key else Differs)
 check_in_segment header limit key (Err fault) = Err (SegmentRefused fault)
 
--- the same for the header that was read, or the message if none was
-abbrev pub check_in_header : Option ℕ → List ℕ → Result Header HeaderFault → Result KeyCheck Message
+-- the same for the header that was read, or the fault if none was
+abbrev pub check_in_header : Option ℕ → List ℕ → Result Header HeaderFault → Result KeyCheck VolumeFault
 check_in_header limit key (Ok header) = check_in_segment header limit key (segment_of header)
-check_in_header limit key (Err fault) = Err (message_for_header fault)
+check_in_header limit key (Err fault) = Err (HeaderNotRead fault)
 
 -- what comparing a key with the header at the start of an image, or of its own file, gives
-unfoldable pub key_check_of : HeaderLocation → Option ℕ → List ℕ → List ℕ → Result KeyCheck Message
+unfoldable pub key_check_of : HeaderLocation → Option ℕ → List ℕ → List ℕ → Result KeyCheck VolumeFault
 key_check_of location limit image key = check_in_header limit key (reader_for location image)
 
--- comparing a key ended with this message, or with an answer: the bytes that are read for the header were consumed, or
--- no more than these if a read failed or memory ran out
-abbrev pub ConsumesToCheck : List ℕ → Message → Option (List ℕ) → Type 0
-ConsumesToCheck header message left =
-    MatchBool (aborts message) (ConsumedAtMost header left (header_read_len header))
+-- comparing a key ended in this way: the bytes that are read for the header were consumed, or no more than these if a
+-- read failed or memory ran out
+abbrev pub ConsumesToCheck : List ℕ → Result KeyCheck VolumeFault → Option (List ℕ) → Type 0
+ConsumesToCheck header result left =
+    MatchBool (has_fault aborts_opening result) (ConsumedAtMost header left (header_read_len header))
     (ConsumedExactly header left (header_read_len header))

@@ -2,12 +2,14 @@
 use Rattle.std.specs.Prelude.{ℕ, ◌≡◌, List, Ok, false, ◌⊎◌, ◌<◌, ◌≤◌, length, Option, Some, Result, Err, MatchBool}
 use Rattle.luks_io.specs.Devices.{ConsumedAtMost, ConsumedExactly}
 use Rattle.luks_cipher.specs.Sector.{Cipher}
-use Rattle.luks_report.specs.Faults.{message_at_end}
-use Rattle.luks_report.specs.declared.message.Message.{Message}
-use Rattle.luks_report.specs.declared.message.Message.TheVariants.{KeyFileLength}
+use Rattle.luks_key_slots.specs.Fault.{aborts_opening, has_fault}
+use Rattle.luks_key_slots.specs.declared.fault.PassphraseFault.TheVariants.{TooLong}
+use Rattle.luks_key_slots.specs.declared.fault.VolumeFault.{VolumeFault}
+use Rattle.luks_key_slots.specs.declared.fault.VolumeFault.TheVariants.{Passphrase}
+use Rattle.luks_report.specs.Faults.{message_at_end, message_for_volume}
 use Rattle.luks_request.specs.declared.command.SlotChoice.{SlotChoice}
 use Rattle.luks_runs.specs.KeyFile.{max_key_file_len}
-use Rattle.luks_runs.specs.Run.{Outcome, aborts, no_output}
+use Rattle.luks_runs.specs.Run.{Outcome, no_output}
 use Rattle.luks_runs.specs.Location.{detached_header_of, reader_for}
 use Rattle.luks_runs.specs.declared.location.HeaderLocation.{HeaderLocation}
 use Rattle.luks_runs.specs.declared.location.HeaderLocation.TheVariants.{Attached, Detached}
@@ -36,33 +38,33 @@ pub record Opens (options : Options) (header pass : List ℕ) (v : UnlockedVolum
       → volume_outcome_by (reader_for options.location) on_opened options.slots header pass
       ≡ on_opened v.segment (opened_of v) loaded
 
--- every such command ends with this message and no output
-pub record Refuses (options : Options) (header pass : List ℕ) (message : Message) : Type 0 where
+-- every such command ends with the message for this fault, and no output
+pub record Refuses (options : Options) (header pass : List ℕ) (fault : VolumeFault) : Type 0 where
   pub header_consumed : ℕ
   pub secret_consumed : ℕ
   pub outcome : (on_opened : OnOpened)
       → volume_outcome_by (reader_for options.location) on_opened options.slots header pass
-      ≡ no_output message header_consumed secret_consumed
+      ≡ no_output (message_for_volume fault) header_consumed secret_consumed
 
 -- the number of bytes of an image or detached header that opening consumes: as many as `testPassphrase` does
 abbrev pub open_read_len : Options → List ℕ → List ℕ → ℕ
 open_read_len options header pass =
     (volume_outcome_by (reader_for options.location) (slot_outcome pass) options.slots header pass).input_consumed
 
--- opening ended with this message: it consumed as many bytes, or no more than these if a read failed or memory ran out
-abbrev pub ConsumesToOpen : Options → List ℕ → List ℕ → Message → Option (List ℕ) → Type 0
-ConsumesToOpen options header pass message left =
-    MatchBool (aborts message) (ConsumedAtMost header left (open_read_len options header pass))
+-- opening ended in this way: it consumed as many bytes, or no more than these if a read failed or memory ran out
+abbrev pub ConsumesToOpen : {T : Type 0} → Options → List ℕ → List ℕ → Result T VolumeFault → Option (List ℕ) → Type 0
+ConsumesToOpen options header pass result left =
+    MatchBool (has_fault aborts_opening result) (ConsumedAtMost header left (open_read_len options header pass))
     (ConsumedExactly header left (open_read_len options header pass))
 
 -- the key slots of a volume were tried with a passphrase that is not too long, or the passphrase is too long, and
 -- nothing was read
-abbrev pub UnlocksVolume : Option ℕ → FoundVolume → List ℕ → List ℕ → List ℕ → Option (List ℕ)
-    → Result UnlockedVolume Message → Type 0
-UnlocksVolume named volume pass area' rest left result =
+abbrev pub UnlocksVolume : FoundVolume → List ℕ → List ℕ → List ℕ → Option (List ℕ)
+    → Result UnlockedVolume VolumeFault → Type 0
+UnlocksVolume volume pass area' rest left result =
     ((length pass ≤ max_key_file_len)
-    × TriesSlots named volume.segment volume.order pass volume.area.bytes area' rest left result)
-    ⊎ ((max_key_file_len < length pass) × (result ≡ Err KeyFileLength) × (left ≡ Some rest))
+    × TriesSlots volume.segment volume.order pass volume.area.bytes area' rest left result)
+    ⊎ ((max_key_file_len < length pass) × (result ≡ Err (Passphrase TooLong)) × (left ≡ Some rest))
 
 -- the image of the payload: the one that the header is attached to, or another
 abbrev pub payload_image_of : HeaderLocation → List ℕ → List ℕ → List ℕ
@@ -89,10 +91,10 @@ pub record OpensVolume (options : Options) (header pass : List ℕ) (v : Unlocke
   pub honest : (plain : List ℕ) → options.location ≡ Attached → OpensHonest options.slots header pass plain
       → (plaintext_of v header ≡ plain) × (ending_of v.segment header ≡ Ok End)
 
--- no volume was opened. Unless memory ran out, or a read or a write failed, every command ends with this message
+-- no volume was opened. Unless memory ran out or a read failed, every command ends with this fault's message
 -- (`refuses`), and the image is no honestly sealed volume, with an attached header, that this passphrase opens
 -- (`no_honest`)
-pub record RefusesVolume (options : Options) (header pass : List ℕ) (message : Message) : Type 0 where
-  pub refuses : aborts message ≡ false → Refuses options header pass message
-  pub no_honest : (plain : List ℕ) → options.location ≡ Attached → aborts message ≡ false
+pub record RefusesVolume (options : Options) (header pass : List ℕ) (fault : VolumeFault) : Type 0 where
+  pub refuses : aborts_opening fault ≡ false → Refuses options header pass fault
+  pub no_honest : (plain : List ℕ) → options.location ≡ Attached → aborts_opening fault ≡ false
       → OpensHonest options.slots header pass plain → ⊥

@@ -3,15 +3,15 @@
 ghost use Rattle.std.specs.Prelude.{◌≡◌, Bool, IfErr, IfOk, Ok, Err, false};
 ghost use Rattle.luks_io.specs.Counts.{Reads};
 ghost use Rattle.luks_io.specs.Devices.{IfKnown};
-ghost use Rattle.luks_runs.specs.Run.{aborts, is_run_read_failure, result_message};
-ghost use Rattle.luks_access.specs.Keys.{ConsumesToCheck, KeyCheckMessage, key_check_of};
+ghost use Rattle.luks_key_slots.specs.Fault.{aborts_opening, has_fault, is_read_failure};
+ghost use Rattle.luks_access.specs.Keys.{ConsumesToCheck, KeyCheckFault, key_check_of};
 
 use luks_header::payload::segment;
 use luks_io::source::Source;
 use luks_kdf::Work;
+use luks_key_slots::fault::VolumeFault;
 use luks_key_slots::volume_key;
 pub use luks_key_slots::volume_key::KeyCheck;
-use luks_report::message::Message;
 use luks_runs::location::{HeaderLocation, read_header_at};
 use std::alloc::Global;
 
@@ -25,24 +25,24 @@ use std::alloc::Global;
 ///
 /// # Errors
 ///
-/// The message of `luksCat` if there is no header, its segment is refused, a read fails or memory
-/// runs out.
+/// The fault with which `luksCat` ends if there is no header, its segment is refused, a read fails
+/// or memory runs out.
 pub fn check_key_from<S: Source>(
     alloc: Global,
     location: HeaderLocation,
     max_iterations: Option<u32>,
     source: &mut S,
     key: &[u8],
-) -> Result<KeyCheck, Message>
+) -> Result<KeyCheck, VolumeFault>
     ensures checks { IfOk result (λ check. IfKnown (S.to_come source.old)
         (λ known. key_check_of location max_iterations known key.now ≡ Ok check)) }
-    ensures refuses { IfErr result (λ message. aborts message ≡ false
+    ensures refuses { IfErr result (λ fault. aborts_opening fault ≡ false
         → IfKnown (S.to_come source.old)
-        (λ known. key_check_of location max_iterations known key.now ≡ Err message)) }
-    ensures consumes { IfKnown (S.to_come source.old) (λ known. ConsumesToCheck known
-        (result_message result) (S.to_come source.new)) }
-    ensures only { IfErr result KeyCheckMessage }
-    ensures reads { (ended : Bool) × Reads (is_run_read_failure (result_message result)) ended
+        (λ known. key_check_of location max_iterations known key.now ≡ Err fault)) }
+    ensures consumes { IfKnown (S.to_come source.old) (λ known. ConsumesToCheck known result
+        (S.to_come source.new)) }
+    ensures only { IfErr result KeyCheckFault }
+    ensures reads { (ended : Bool) × Reads (has_fault is_read_failure result) ended
         (S.counts source.old) (S.counts source.new) }
 {
     let (header, _area) = read_header_at(alloc, location, source)?;

@@ -4,6 +4,9 @@
 //! reads is that part of what `luksCat` writes.
 #![tactic(auto)]
 
+pub use luks_header::fault::HeaderFault;
+pub use luks_header::refusal::SegmentFault;
+pub use luks_key_slots::fault::{OpenFault, PassphraseFault, VolumeFault};
 pub use luks_report::message::Message;
 pub use luks_request::command::SlotChoice;
 pub use luks_runs::location::HeaderLocation;

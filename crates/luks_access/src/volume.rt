@@ -7,10 +7,9 @@ ghost use Rattle.luks_cipher.specs.Expanded.{AreExpanded};
 ghost use Rattle.luks_runs.specs.KeyFile.{max_key_file_len};
 ghost use Rattle.luks_io.specs.Counts.{Reads};
 ghost use Rattle.luks_io.specs.Devices.{IfKnown};
-ghost use Rattle.luks_runs.specs.Run.{is_run_read_failure, result_message};
-ghost use Rattle.luks_runs.specs.Volume.{MatchesHeader};
-ghost use Rattle.luks_runs.specs.Volume.{OpeningMessage};
-ghost use Rattle.luks_runs.specs.Volume.{CountsTrials};
+ghost use Rattle.luks_key_slots.specs.Fault.{has_fault, is_read_failure};
+ghost use Rattle.luks_request.specs.declared.command.SlotChoice.{SlotChoice};
+ghost use Rattle.luks_runs.specs.Volume.{CountsTrials, MatchesHeader};
 ghost use Rattle.luks_payload.specs.Plain.{ending_of, sector_len};
 ghost use Rattle.luks_access.specs.Sectors.{FailsInRange, IsRangeOf};
 ghost use Rattle.luks_access.specs.Opens.{ConsumesToOpen, OpensVolume, RefusesVolume};
@@ -27,10 +26,9 @@ use luks_cipher::ExpandedKeys;
 use luks_header::segment::Segment;
 use luks_io::source::Source;
 use luks_kdf::Work;
+use luks_key_slots::fault::{PassphraseFault, VolumeFault};
 use luks_payload::fault::PayloadFault;
 use luks_payload::state::Step;
-use luks_report::message::Message;
-use luks_request::command::SlotChoice;
 use luks_runs::found::{FoundVolume, find_volume};
 use luks_runs::trying::try_slots;
 use luks_runs::unlocked::UnlockedVolume;
@@ -62,57 +60,54 @@ impl Model for Volume {
 /// Tries the key slots of a volume that was found, unless the passphrase is too long. The volume is
 /// passed by value, so it cannot be tried again.
 fn unlock<S: Source>(
-    slots: SlotChoice,
     found: FoundVolume,
     source: &mut S,
     pass: &[u8],
     work: &mut Work,
-) -> Result<UnlockedVolume, Message>
-    requires { MatchesHeader slots found }
+) -> Result<UnlockedVolume, VolumeFault>
+    requires { (slots : SlotChoice) × MatchesHeader slots found }
     ensures run { IfKnown (S.to_come source.old) (λ rest. (found.area.ended ≡ true → rest ≡ [])
-        → (loaded : List ℕ) × UnlocksVolume slots.named found pass.now loaded rest
+        → (loaded : List ℕ) × UnlocksVolume found pass.now loaded rest
         (S.to_come source.new) result) }
     ensures work { ((loaded : List ℕ) × CountsTrials found.order loaded pass.now
-        (result_message result) work.old work.new)
+        result work.old work.new)
         ⊎ ((max_key_file_len < length pass.now) × (is_err result ≡ true)
         × (work.new ≡ work.old)) }
-    ensures only { IfErr result OpeningMessage }
-    ensures reads { (ended : Bool) × Reads (is_run_read_failure (result_message result)) ended
+    ensures reads { (ended : Bool) × Reads (has_fault is_read_failure result) ended
         (S.counts source.old) (S.counts source.new) }
     ensures ended { found.area.ended ≡ true → source.new ≡ source.old }
 {
     if pass.len() > MAX_PASSPHRASE_LEN {
-        return Err(Message::KeyFileLength);
+        return Err(VolumeFault::Passphrase(PassphraseFault::TooLong));
     }
     let mut found = found;
-    try_slots(slots, &mut found, source, pass, work)
+    try_slots(&mut found, source, pass, work)
 }
 
 impl Volume {
     /// Opens a volume by a passphrase. The source gives the bytes of its image, or of its detached
     /// header.
     ///
-    /// The volume is the one that `luksCat` opens with these options, and a refusal is the message
-    /// of `luksCat`. A passphrase longer than [`MAX_PASSPHRASE_LEN`] is refused, as a key file is.
-    /// As many bytes of the source are consumed as `testPassphrase` consumes.
+    /// The volume is the one that `luksCat` opens with these options, and a fault is the one that
+    /// `luksCat` reports. A passphrase longer than [`MAX_PASSPHRASE_LEN`] is refused, as a key file
+    /// is. As many bytes of the source are consumed as `testPassphrase` consumes.
     pub fn open_from<S: Source>(
         alloc: Global,
         options: &Options,
         source: &mut S,
         pass: &[u8],
-    ) -> Result<Volume, Message>
+    ) -> Result<Volume, VolumeFault>
         ensures opens { IfOk result (λ volume. IfKnown (S.to_come source.old)
             (λ known. OpensVolume options.now known pass.now volume)) }
-        ensures refuses { IfErr result (λ message. IfKnown (S.to_come source.old)
-            (λ known. RefusesVolume options.now known pass.now message)) }
+        ensures refuses { IfErr result (λ fault. IfKnown (S.to_come source.old)
+            (λ known. RefusesVolume options.now known pass.now fault)) }
         ensures consumes { IfKnown (S.to_come source.old) (λ known. ConsumesToOpen options.now known
-            pass.now (result_message result) (S.to_come source.new)) }
-        ensures only { IfErr result OpeningMessage }
-        ensures reads { (ended : Bool) × Reads (is_run_read_failure (result_message result)) ended
+            pass.now result (S.to_come source.new)) }
+        ensures reads { (ended : Bool) × Reads (has_fault is_read_failure result) ended
             (S.counts source.old) (S.counts source.new) }
     {
         let found = find_volume(alloc, options.location, options.slots, source)?;
-        let unlocked = unlock(options.slots, found, source, pass, &mut Work::new(0))?;
+        let unlocked = unlock(found, source, pass, &mut Work::new(0))?;
         let keys = ExpandedKeys::new(unlocked.segment.mode, unlocked.key.as_slice());
         Ok(Volume { unlocked, keys })
     }
@@ -124,12 +119,11 @@ impl Volume {
         options: &Options,
         image: &I,
         pass: &[u8],
-    ) -> Result<Volume, Message>
+    ) -> Result<Volume, VolumeFault>
         ensures opens { IfOk result (λ volume. IfKnown (I.image image.now)
             (λ known. OpensVolume options.now known pass.now volume)) }
-        ensures refuses { IfErr result (λ message. IfKnown (I.image image.now)
-            (λ known. RefusesVolume options.now known pass.now message)) }
-        ensures only { IfErr result OpeningMessage }
+        ensures refuses { IfErr result (λ fault. IfKnown (I.image image.now)
+            (λ known. RefusesVolume options.now known pass.now fault)) }
     {
         Volume::open_from(alloc, options, &mut ImageSource::new(image), pass)
     }

@@ -1,13 +1,9 @@
 -- What is read from the struct of a volume is what was stored in it.
-use Rattle.std.proofs.Common.{◌≡◌, ◌≢◌, ◌∙◌, arith, ℕ, ◌-◌, ◌*◌, ◌/◌, List, length, Option, None, Some, ap, subst, refl}
+use Rattle.std.proofs.Common.{◌≡◌, ◌∙◌, ℕ, ◌-◌, ◌*◌, ◌/◌, List, length, Option, None, Some, ap, subst, refl}
 use Rattle.std.proofs.lemmas.Option.{same_Some}
 use Rattle.std.specs.Prelude.{◌+◌, if◌then◌else◌, nat_le, unwrap_or}
 use Rattle.luks_access.proofs.RangeLemmas.{plaintext_length}
 use Rattle.luks_access.specs.Opens.{cipher_of, plaintext_of}
-use Rattle.luks_io.specs.Devices.{counted}
-use Rattle.luks_report.specs.declared.message.Message.{Message}
-use Rattle.luks_report.specs.declared.message.Message.TheVariants.{ReadFailed}
-use Rattle.luks_runs.specs.Run.{is_run_read_failure}
 use Rattle.luks_runs.specs.declared.unlocked.UnlockedVolume.{UnlockedVolume}
 use Rattle.luks_cipher.specs.Sector.{Cipher}
 use Rattle.luks_cipher.specs.declared.mode.Mode.{Mode}
@@ -25,11 +21,6 @@ use Rattle.luks_c.specs.Stored.{decrypt_code, range_code, segment_code, Filled, 
 use Rattle.luks_c.specs.Stored.{mode_in, mode_number, segment_in, size_stored_in}
 use Rattle.luks_c.specs.declared.step.LuksrdStep.{LuksrdStep}
 use Rattle.luks_c.specs.declared.volume.LuksrdVolume.{LuksrdVolume}
-
--- no read of a source over memory fails
-pub no_read : (m : Message) → 0 ≡ counted (is_run_read_failure m) 0 → m ≢ ReadFailed
-no_read ReadFailed count = absurd (omega (arith, count))
-no_read _ count = λ is. cc
 
 pub mode_again : (mode : Mode) → mode_in (mode_number mode) ≡ Some mode
 mode_again XtsPlain64 = refl

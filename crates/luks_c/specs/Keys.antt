@@ -1,11 +1,11 @@
 -- What `luksrd_check_key` answers: a known volume key compared with a header.
-use Rattle.std.specs.Prelude.{ℕ, ◌≡◌, ◌≢◌, ◌==◌, Bool, false, true, List, Ok, Err, if◌then◌else◌}
-use Rattle.luks_access.specs.Keys.{KeyCheckMessage, key_check_of}
+use Rattle.std.specs.Prelude.{ℕ, ◌≡◌, ◌==◌, Bool, false, true, List, Ok, Err, if◌then◌else◌}
+use Rattle.luks_access.specs.Keys.{KeyCheckFault, key_check_of}
+use Rattle.luks_key_slots.specs.Fault.{aborts_opening, is_read_failure}
+use Rattle.luks_key_slots.specs.declared.fault.VolumeFault.{VolumeFault}
 use Rattle.luks_key_slots.specs.declared.volume_key.KeyCheck.{KeyCheck}
 use Rattle.luks_key_slots.specs.declared.volume_key.KeyCheck.TheVariants.{Matches, Differs, NoDigest}
-use Rattle.luks_report.specs.declared.message.Message.{Message}
-use Rattle.luks_report.specs.declared.message.Message.TheVariants.{ReadFailed}
-use Rattle.luks_runs.specs.Run.{aborts}
+use Rattle.luks_report.specs.Faults.{message_for_volume}
 use Rattle.luks_c.specs.Stored.{BeginsAs, StoresCode, StoresMessage, code_for}
 use Rattle.luks_c.specs.Stored.{is_of_this_version, limit_in, location_in}
 use Rattle.luks_c.specs.declared.message.LuksrdMessage.{LuksrdMessage}
@@ -32,13 +32,13 @@ pub record ComparesKey (c : LuksrdOptions) (header key : List ℕ) (code : ℕ) 
 -- a key was not compared: the message is that of `luksCat` for the header of each image that starts with these bytes,
 -- or memory ran out
 pub record RefusesKey (c : LuksrdOptions) (header key : List ℕ) (code : ℕ) (message : LuksrdMessage) : Type 0 where
-  pub refusal : Message
-  pub is_code : code ≡ code_for refusal
-  pub says : StoresMessage message refusal
-  pub only : KeyCheckMessage refusal
-  pub read : refusal ≢ ReadFailed
-  pub gives : aborts refusal ≡ false → (image : List ℕ) → BeginsAs image header
-      → key_check_of (location_in c) (limit_in c) image key ≡ Err refusal
+  pub fault : VolumeFault
+  pub is_code : code ≡ code_for (message_for_volume fault)
+  pub says : StoresMessage message (message_for_volume fault)
+  pub only : KeyCheckFault fault
+  pub read : is_read_failure fault ≡ false
+  pub gives : aborts_opening fault ≡ false → (image : List ℕ) → BeginsAs image header
+      → key_check_of (location_in c) (limit_in c) image key ≡ Err fault
 
 -- the code is one of a comparison
 abbrev pub is_compared : ℕ → Bool

@@ -1,7 +1,7 @@
 -- The codes and the structs of `c/luksrd.h`, field by field, how a volume is read back, and what the functions answer.
 use Rattle.std.specs.Prelude.{ℕ, ◌≡◌, ◌-◌, ◌==◌, if◌then◌else◌, drop, length, replicate, take, Option, None, Some, []}
 use Rattle.std.specs.Prelude.{Bool, List, ◌&&◌, bytes_eq, codes, false, min, nat_lt, true}
-use Rattle.std.specs.Prelude.{unwrap_or, ◌≢◌, ◌+◌, ◌*◌, ◌/◌, ◌%◌, ◌^◌, Result, Ok}
+use Rattle.std.specs.Prelude.{unwrap_or, ◌+◌, ◌*◌, ◌/◌, ◌%◌, ◌^◌, Result, Ok}
 use Rattle.std.specs.Prelude.{Err}
 use Rattle.luks_access.specs.declared.options.Options.{Options}
 use Rattle.luks_runs.specs.declared.unlocked.UnlockedVolume.{UnlockedVolume}
@@ -18,7 +18,6 @@ use Rattle.luks_report.specs.declared.message.Message.{Message}
 use Rattle.luks_report.specs.declared.message.Message.TheVariants.{Done, NotLuks, Cut, Json, SegmentRefused, NoSuchSlot}
 use Rattle.luks_report.specs.declared.message.Message.TheVariants.{SlotDisabled, SlotSkipped, NothingTried, NoKey}
 use Rattle.luks_report.specs.declared.message.Message.TheVariants.{KeyFileLength, CutBeforePayload, Tail, Short}
-use Rattle.luks_report.specs.declared.message.Message.TheVariants.{ReadFailed}
 use Rattle.luks_runs.specs.declared.location.HeaderLocation.{HeaderLocation}
 use Rattle.luks_runs.specs.declared.location.HeaderLocation.TheVariants.{Attached, Detached}
 use Rattle.luks_c.specs.declared.message.LuksrdMessage.{LuksrdMessage}
@@ -26,9 +25,9 @@ use Rattle.luks_c.specs.declared.options.LuksrdOptions.{LuksrdOptions}
 use Rattle.luks_access.specs.Opens.{Opens, Refuses}
 use Rattle.luks_access.specs.Sectors.{plain_in}
 use Rattle.luks_header_area.specs.Area.{max_loaded_len}
-use Rattle.luks_report.specs.Faults.{message_for_payload}
-use Rattle.luks_runs.specs.Run.{aborts}
-use Rattle.luks_runs.specs.Volume.{OpeningMessage}
+use Rattle.luks_key_slots.specs.Fault.{aborts_opening, is_read_failure}
+use Rattle.luks_key_slots.specs.declared.fault.VolumeFault.{VolumeFault}
+use Rattle.luks_report.specs.Faults.{message_for_payload, message_for_volume}
 use Rattle.luks_payload.specs.declared.fault.PayloadFault.{PayloadFault}
 use Rattle.luks_payload.specs.declared.fault.PayloadFault.TheVariants.{Tail as FaultTail, Short as FaultShort}
 use Rattle.luks_payload.specs.declared.fault.PayloadFault.TheVariants.{CutBeforePayload as FaultCut}
@@ -237,12 +236,12 @@ pub record Opened (c : LuksrdOptions) (header pass : List ℕ) (volume : LuksrdV
 pub record Refused (c : LuksrdOptions) (header pass : List ℕ) (code : ℕ) (message : LuksrdMessage) : Type 0 where
   pub options : Options
   pub are : AreOptions c options
-  pub refusal : Message
-  pub is_code : code ≡ code_for refusal
-  pub says : StoresMessage message refusal
-  pub opening : OpeningMessage refusal
-  pub read : refusal ≢ ReadFailed
-  pub refuses : aborts refusal ≡ false → (image : List ℕ) → BeginsAs image header → Refuses options image pass refusal
+  pub fault : VolumeFault
+  pub is_code : code ≡ code_for (message_for_volume fault)
+  pub says : StoresMessage message (message_for_volume fault)
+  pub read : is_read_failure fault ≡ false
+  pub refuses : aborts_opening fault ≡ false → (image : List ℕ) → BeginsAs image header
+      → Refuses options image pass fault
 
 -- the number of bytes in an ending's message
 abbrev pub fault_bytes : PayloadFault → ℕ

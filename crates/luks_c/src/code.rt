@@ -2,11 +2,11 @@
 
 ghost use Rattle.std.specs.Prelude.{◌≡◌};
 ghost use Rattle.luks_c.specs.Keys.{check_code};
-ghost use Rattle.luks_c.specs.Stored.{StoresCode, code_for, sentence_for};
+ghost use Rattle.luks_c.specs.Stored.{StoresCode, StoresMessage, code_for, sentence_for};
 
 use crate::message::LuksrdMessage;
-use luks_access::Message;
 use luks_access::key::KeyCheck;
+use luks_report::message::Message;
 
 /// Success.
 pub(crate) const OK: u32 = 0;
@@ -28,7 +28,7 @@ pub(crate) const OTHER_KEY: u32 = 18;
 pub(crate) const NO_DIGEST: u32 = 19;
 
 /// The number of success, a refusal or an ending. Any other message gets that of "out of memory".
-pub(crate) fn code_of(message: &Message) -> u32
+fn code_of(message: &Message) -> u32
     ensures { result ≡ code_for message.now }
 {
     match message {
@@ -59,6 +59,15 @@ pub(crate) fn code_of_check(check: KeyCheck) -> u32
         KeyCheck::Differs => OTHER_KEY,
         KeyCheck::NoDigest => NO_DIGEST,
     }
+}
+
+/// Stores a message, and returns its number.
+pub(crate) fn answer_message(said: &Message, message: &mut LuksrdMessage) -> u32
+    ensures code { result ≡ code_for said.now }
+    ensures message { StoresMessage message.new said.now }
+{
+    message.set(said);
+    code_of(said)
 }
 
 /// Stores the status and the sentence of a code, and returns the code.

@@ -22,17 +22,17 @@ ghost use Rattle.luks_c.specs.Steps.{Finishes, IsNoCipher, IsNoStep, IsPrepared,
 ghost use Rattle.luks_c.specs.Steps.{finish_code, plan_code, prepare_code, step_in};
 
 use crate::cipher::{LuksrdCipher, prepare};
-use crate::code::{BAD_RANGE, BAD_VOLUME, OK, answer_code, code_of};
+use crate::code::{BAD_RANGE, BAD_VOLUME, OK, answer_code, answer_message};
 use crate::message::LuksrdMessage;
 use crate::opening::{compare_key, open_volume};
 use crate::options::LuksrdOptions;
 use crate::step::LuksrdStep;
 use crate::volume::LuksrdVolume;
 use crate::wiping::{wiped_after_opening, wiped_after_preparing};
-use luks_access::Message;
 use luks_access::sectors::{decrypt_sectors, payload_ending, plaintext_len};
 use luks_access::step::{finish, plan};
 use luks_payload::fault::PayloadFault;
+use luks_report::message::Message;
 use luks_verdict::sector_size::SectorSize;
 use std::alloc::Global;
 
@@ -133,15 +133,10 @@ pub extern "C" fn luksrd_ending(
         return answer_code(BAD_VOLUME, message);
     };
     match payload_ending(volume.offset, size, sector_size, image_len) {
-        Ok(_) => {
-            message.set(&Message::Done);
-            OK
-        }
+        Ok(_) => answer_message(&Message::Done, message),
         Err(fault) => {
             *bytes = fault_bytes(fault);
-            let ending = Message::from(fault);
-            message.set(&ending);
-            code_of(&ending)
+            answer_message(&Message::from(fault), message)
         }
     }
 }

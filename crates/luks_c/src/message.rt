@@ -3,7 +3,7 @@
 ghost use Rattle.std.specs.Prelude.{◌≡◌, ◌+◌, ◌-◌, drop, length, min, replicate, take};
 ghost use Rattle.luks_c.specs.Stored.{StoresMessage, StoresText};
 
-use luks_access::Message;
+use luks_report::message::Message;
 
 /// The length of the longest sentence in bytes: more than any sentence needs. A zero follows it.
 const CAPACITY: usize = 1015;

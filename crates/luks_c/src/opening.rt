@@ -5,14 +5,14 @@ ghost use Rattle.std.specs.Prelude.{◌≡◌, ◌≢◌, false, true};
 ghost use Rattle.luks_c.specs.Keys.{ComparesKey, RefusesKey, are_bad_for_a_key, is_compared};
 ghost use Rattle.luks_c.specs.Stored.{IsCleared, Opened, Refused, StoresCode, are_bad};
 
-use crate::code::{BAD_OPTIONS, OK, answer_code, code_of, code_of_check};
+use crate::code::{BAD_OPTIONS, answer_code, answer_message, code_of_check};
 use crate::message::LuksrdMessage;
 use crate::options::{LuksrdOptions, header_in, options_in};
 use crate::volume::LuksrdVolume;
-use luks_access::Message;
 use luks_access::key::check_key_from;
 use luks_access::volume::Volume;
 use luks_io::memory::MemSource;
+use luks_report::message::Message;
 use std::alloc::Global;
 
 /// Opens a volume by a passphrase. If the code is not 0, the struct of the volume is all zero.
@@ -41,13 +41,11 @@ pub(crate) fn open_volume(
     match Volume::open_from(alloc, &options, &mut MemSource::new(header), passphrase) {
         Ok(opened) => {
             volume.store(&opened);
-            message.set(&Message::Done);
-            OK
+            answer_message(&Message::Done, message)
         }
-        Err(refusal) => {
+        Err(fault) => {
             volume.clear();
-            message.set(&refusal);
-            code_of(&refusal)
+            answer_message(&Message::from(fault), message)
         }
     }
 }
@@ -75,9 +73,6 @@ pub(crate) fn compare_key(
     let source = &mut MemSource::new(header);
     match check_key_from(alloc, location, max_iterations, source, key) {
         Ok(check) => answer_code(code_of_check(check), message),
-        Err(fault) => {
-            message.set(&fault);
-            code_of(&fault)
-        }
+        Err(fault) => answer_message(&Message::from(fault), message),
     }
 }

@@ -7,7 +7,9 @@ use Rattle.std.proofs.Math.Nat.{div-eq_of_lt-le, mul-le-mul_right}
 use Rattle.std.specs.Prelude.{MatchBool, IfOk}
 use Rattle.luks_header.specs.Header.{header_of}
 use Rattle.luks_verdict.specs.declared.segment.Segment.{Segment}
-use Rattle.luks_io.specs.Devices.{Appended, ConsumedExactly, IfKnown, counted}
+use Rattle.luks_io.specs.Devices.{Appended, ConsumedExactly, IfKnown}
+use Rattle.luks_key_slots.specs.Fault.{has_fault, is_read_failure}
+use Rattle.luks_key_slots.specs.declared.fault.VolumeFault.{VolumeFault}
 use Rattle.luks_key_slots.specs.declared.opening.Opened.{Opened}
 use Rattle.luks_payload.specs.Plain.{payload_end_of, sector_len, sector_start, sectors_of}
 use Rattle.luks_runs.proofs.PayloadLemmas.{plain_len}
@@ -15,7 +17,7 @@ use Rattle.luks_runs.proofs.RunLemmas.{aborted_at, runs_printed}
 use Rattle.luks_commands.proofs.VolumeRuns.{same_segment_by}
 use Rattle.luks_runs.specs.Run.{Outcome, Prints, Aborted, AnyPromptness, Completed, ConsumedNothing}
 use Rattle.luks_runs.specs.Run.{DetachedRunMatches, Promptness, RunMatches, aborts, is_run_read_failure}
-use Rattle.luks_runs.specs.Run.{is_run_write_failure, result_message}
+use Rattle.luks_runs.specs.Run.{is_run_write_failure}
 use Rattle.luks_runs.specs.Volume.{payload_outcome, slot_outcome, volume_outcome, volume_outcome_by}
 use Rattle.luks_runs.specs.Volume.{detached_payload_outcome, HitsMaterialEof, OpeningMessage}
 use Rattle.luks_request.specs.Request.{Request, VolumeRequest, luks_cat}
@@ -25,6 +27,7 @@ use Rattle.luks_commands.specs.Headline.{payload_outcome_at}
 use Rattle.luks_commands.specs.Unlocking.{ConsumesLoaded, Unlocks}
 use Rattle.luks_runs.specs.Location.{reader_for, detached_header_of}
 use Rattle.luks_runs.specs.declared.location.HeaderLocation.{HeaderLocation}
+use Rattle.luks_runs.specs.declared.unlocked.UnlockedVolume.{UnlockedVolume}
 use Rattle.luks_runs.specs.declared.location.HeaderLocation.TheVariants.{Attached, Detached}
 use Rattle.luks_runs.specs.Payload.{ForwardsPayload, max_payload_end, with_payload_allowed}
 use Rattle.luks_runs.specs.RunMessages.{IsLuksMessage, PayloadMessage}
@@ -208,11 +211,6 @@ counts_forwarded slots image pass segment opened loaded i s i' w w' secret secre
       tried.2,
     )
 
--- a source over memory has no failed read to report
-pub never_read : (message : Message) → 0 ≡ counted (is_run_read_failure message) 0 → is_run_read_failure message ≡ false
-never_read ReadFailed counts = absurd (cc)
-never_read _ counts = refl
-
 -- the payload's outcome consumes at least the loaded bytes of the image, or of the file with the header, and the whole
 -- key file
 pub payload_consumes_loaded : (location : HeaderLocation) (image pass : List ℕ)
@@ -290,11 +288,12 @@ reads_before first kept then = record {
 }
 
 -- the key areas were read, or a read of them failed; if a key slot opened, the image did not end within them
-pub within_areas : {T : Type 0} (result : Result T Message) (Same : Type 0) (ended : Bool) (image image' : ReadCounts)
-    → IfOk result (λ _. Same) → Reads (is_run_read_failure (result_message result)) ended image image'
-    → HitsMaterialEof (result_message result) ended → IfOk result (λ _. Same × Reads false false image image')
+pub within_areas : (result : Result UnlockedVolume VolumeFault) (Same : Type 0) (ended : Bool)
+    (image image' : ReadCounts) → IfOk result (λ _. Same)
+    → Reads (has_fault is_read_failure result) ended image image' → HitsMaterialEof result ended
+    → IfOk result (λ _. Same × Reads false false image image')
 within_areas (Ok value) Same ended image image' same reads none = (same, rw none at reads)
-within_areas (Err message) Same ended image image' same reads none = tt
+within_areas (Err fault) Same ended image image' same reads none = tt
 
 -- the volume was not opened, and nothing was written
 pub no_write_unopened : (message : Message) {out : WriteCounts} → OpeningMessage message

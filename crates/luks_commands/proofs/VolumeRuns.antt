@@ -14,29 +14,34 @@ use Rattle.luks_kdf.specs.Pbkdf2.{capped}
 use Rattle.luks_key_slots.specs.Opening.{opening_of, work_of, OrderModel, key_material_end, order_of}
 use Rattle.luks_key_slots.specs.declared.fault.OpenFault.{OpenFault}
 use Rattle.luks_key_slots.specs.declared.fault.OpenFault.TheVariants.{Memory}
+use Rattle.luks_key_slots.specs.declared.fault.PassphraseFault.{PassphraseFault}
+use Rattle.luks_key_slots.specs.declared.fault.PassphraseFault.TheVariants.{TooLong, Read, Memory as PassphraseMemory}
+use Rattle.luks_key_slots.specs.declared.fault.VolumeFault.{VolumeFault}
+use Rattle.luks_key_slots.specs.declared.fault.VolumeFault.TheVariants.{Header as HeaderNotRead, KeyAreaCut, Passphrase}
+use Rattle.luks_key_slots.specs.declared.fault.VolumeFault.TheVariants.{Slots}
 use Rattle.luks_key_slots.specs.declared.opening.Opened.{Opened}
 use Rattle.luks_runs.proofs.VolumeLemmas.{area_cut, area_loaded, area_more, found_cut, found_is, found_long}
-use Rattle.luks_runs.proofs.VolumeLemmas.{found_whole, prefix_length, outcome_is, tried_is, volume_is, volume_with}
-use Rattle.luks_report.specs.Faults.{message_for_header, message_for_opening}
+use Rattle.luks_runs.proofs.VolumeLemmas.{found_whole, message_says, prefix_length, outcome_is, tried_is, volume_is}
+use Rattle.luks_runs.proofs.VolumeLemmas.{volume_with}
+use Rattle.luks_report.specs.Faults.{message_for_header, message_for_passphrase, message_for_slots, message_for_volume}
 use Rattle.luks_runs.specs.Volume.{OnOpened, found_outcome, opened_outcome, outcome_after, volume_outcome_by, Volume}
 use Rattle.luks_runs.specs.Volume.{unlock_read_len, volume_by, ConsumedMaterial, CountsTrials, TriesSlots, opened_of}
 use Rattle.luks_request.specs.declared.command.SlotChoice.{SlotChoice}
-use Rattle.luks_runs.specs.Run.{RunMatches, result_message}
+use Rattle.luks_runs.specs.Run.{RunMatches}
 use Rattle.luks_runs.proofs.RunLemmas.{aborted_unwritten, header_read_len_within}
 use Rattle.luks_io.proofs.EffectLemmas.{appended-none, consumed-none}
-use Rattle.luks_io.specs.Devices.{Appended, ConsumedExactly, counted}
+use Rattle.luks_io.specs.Devices.{Appended, ConsumedAtMost, ConsumedExactly, counted}
 use Rattle.luks_io.specs.declared.counts.ReadCounts.{ReadCounts}
-use Rattle.luks_runs.specs.KeyFile.{NoKeyFileRead, hits_key_file_eof, max_key_file_len}
+use Rattle.luks_runs.specs.KeyFile.{NoKeyFileRead, max_key_file_len}
 use Rattle.luks_commands.specs.Headline.{CountsOpening, CountsTried, PromptCat, PromptForwarding}
 use Rattle.luks_commands.specs.Unlocking.{ConsumesLoaded, UnlockEffect, Unlocks}
-use Rattle.luks_runs.specs.Volume.{OpeningMessage, ends_untried, FindsNoVolume, HasSegmentBy}
+use Rattle.luks_runs.specs.Volume.{ends_untried, FindsNoVolume, HasSegmentBy}
 use Rattle.luks_runs.specs.declared.unlocked.UnlockedVolume.{UnlockedVolume}
 use Rattle.luks_runs.specs.Location.{reader_for, HeaderReader}
 use Rattle.luks_runs.specs.declared.location.HeaderLocation.{HeaderLocation}
 use Rattle.luks_runs.specs.declared.location.HeaderLocation.TheVariants.{Attached, Detached}
 use Rattle.luks_report.specs.declared.message.Message.{Message}
-use Rattle.luks_report.specs.declared.message.Message.TheVariants.{KeyFileLength, OutOfMemory, ReadFailed, WriteFailed}
-use Rattle.luks_report.specs.declared.message.Message.TheVariants.{Done}
+use Rattle.luks_report.specs.declared.message.Message.TheVariants.{OutOfMemory, ReadFailed, WriteFailed}
 use Rattle.std.proofs.Math.Nat.{zero-div}
 use Rattle.luks_header.proofs.KnownLemmas.{is_attached}
 use Rattle.luks_key_slots.proofs.CallerLemmas.{key_areas_before_payload, work_prefix}
@@ -84,11 +89,11 @@ prompt_before_payload Detached image message a b segment has early =
 
 -- ---- how much is consumed of a volume that was found
 
-module _ (on_opened : OnOpened) (named : Option ℕ) (v : Volume) (image secret : List ℕ)
+module _ (on_opened : OnOpened) (v : Volume) (image secret : List ℕ)
     (consumes : ConsumesLoaded secret on_opened) where
   opened_within : (r : Result Opened OpenFault)
-      → (unlock_read_len image v ≤ (opened_outcome on_opened named v image secret r).input_consumed)
-      × (length secret ≤ (opened_outcome on_opened named v image secret r).secret_consumed)
+      → (unlock_read_len image v ≤ (opened_outcome on_opened v image secret r).input_consumed)
+      × (length secret ≤ (opened_outcome on_opened v image secret r).secret_consumed)
   opened_within (Ok opened) =
       let n = unlock_read_len image v in
       (consumes.loaded v.segment opened n, omega (arith, consumes.whole v.segment opened n))
@@ -96,20 +101,20 @@ module _ (on_opened : OnOpened) (named : Option ℕ) (v : Volume) (image secret 
 
   -- a key file that is not too long is consumed whole, and at least the loaded bytes of the image are consumed
   area_within : length secret ≤ max_key_file_len
-      → (min (length image) (unlock_read_len image v) ≤ (found_outcome on_opened named v image secret).input_consumed)
-      × (length secret ≤ (found_outcome on_opened named v image secret).secret_consumed)
+      → (min (length image) (unlock_read_len image v) ≤ (found_outcome on_opened v image secret).input_consumed)
+      × (length secret ≤ (found_outcome on_opened v image secret).secret_consumed)
   area_within short = elim (cases_lt (length image) (key_material_end v.order.entries)) [
-    | inl few ↦ rw (found_cut on_opened named v image secret short few) (omega arith, omega arith)
+    | inl few ↦ rw (found_cut on_opened v image secret short few) (omega arith, omega arith)
     | inr enough ↦
         let all = opened_within (opening_of v.order image secret) in
-        rw (found_whole on_opened named v image secret short enough) (omega (arith, all.0), all.1)
+        rw (found_whole on_opened v image secret short enough) (omega (arith, all.0), all.1)
   ]
 
   -- at least the header is consumed, and at least as much of the key file as is ever read of it
-  found_within : (header_read_len image ≤ (found_outcome on_opened named v image secret).input_consumed)
-      × (min (length secret) (max_key_file_len + 1) ≤ (found_outcome on_opened named v image secret).secret_consumed)
+  found_within : (header_read_len image ≤ (found_outcome on_opened v image secret).input_consumed)
+      × (min (length secret) (max_key_file_len + 1) ≤ (found_outcome on_opened v image secret).secret_consumed)
   found_within = elim (cases_lt max_key_file_len (length secret)) [
-    | inl long ↦ rw (found_long on_opened named v image secret long) (omega arith, omega arith)
+    | inl long ↦ rw (found_long on_opened v image secret long) (omega arith, omega arith)
     | inr short ↦
         let all = area_within short in
         (omega (arith, all.0, header_read_len_within image), omega (arith, all.1))
@@ -117,24 +122,19 @@ module _ (on_opened : OnOpened) (named : Option ℕ) (v : Volume) (image secret 
 
 -- ---- how many evaluations of HMAC a run needs
 
--- if the key file was not read, EOF was not hit, and no key slot was tried
-pub end_not_hit : (secret : List ℕ) (left : Option (List ℕ)) (message : Message) → NoKeyFileRead secret left message
-    → (hits_key_file_eof message ≡ false) × (ends_untried message ≡ true)
-end_not_hit secret left KeyFileLength stop = (refl, refl)
-end_not_hit secret left OutOfMemory stop = (refl, refl)
-end_not_hit secret left ReadFailed stop = (refl, refl)
-end_not_hit secret left _ stop = absurd stop
-
 -- no volume was found: the image has none, or a read failed, or memory ran out
 pub early_without_volume : (location : HeaderLocation) (slots : SlotChoice) (image : List ℕ) (left : Option (List ℕ))
-    (message : Message) → FindsNoVolume (reader_for location) slots image left message
-    → (is_err (volume_by (reader_for location) slots image) ≡ true) ⊎ (ends_untried message ≡ true)
-early_without_volume location slots image left OutOfMemory stop = inr refl
-early_without_volume location slots image left ReadFailed stop = inr refl
-early_without_volume location slots image left message stop = inl (rw stop.0 refl)
+    (fault : VolumeFault) → FindsNoVolume (reader_for location) slots image left fault
+    → (is_err (volume_by (reader_for location) slots image) ≡ true) ⊎ (ends_untried (message_for_volume fault) ≡ true)
+early_without_volume location slots image left (HeaderNotRead HeaderRead) stop = inr refl
+early_without_volume location slots image left (HeaderNotRead HeaderMemory) stop = inr refl
+early_without_volume location slots image left (Slots Memory) stop = inr refl
+early_without_volume location slots image left (Passphrase _) stop = absurd stop
+early_without_volume location slots image left KeyAreaCut stop = absurd stop
+early_without_volume location slots image left fault stop = inl (rw stop.0 refl)
 
 module _ (image area area' : List ℕ) (i : Option (List ℕ)) (prefix : area ≡ take (header_read_len image) image)
-    (named : Option ℕ) (segment : Segment) (order : OrderModel) (pass : List ℕ) where
+    (segment : Segment) (order : OrderModel) (pass : List ℕ) where
   -- the loaded bytes are the first of the image, and those that were consumed, also after its key slots were tried
   abbrev LoadedPrefix : Type 0
   LoadedPrefix =
@@ -143,20 +143,17 @@ module _ (image area area' : List ℕ) (i : Option (List ℕ)) (prefix : area �
   loads_more : (n : ℕ) → ConsumedOnto area area' (drop (header_read_len image) image) i n → LoadedPrefix
   loads_more n grows = let more = area_more image area area' i 0 prefix n grows in (_, more.0, omega arith, more.1)
 
-  prefix_tried : (result : Result UnlockedVolume Message)
-      → TriesSlots named segment order pass area area' (drop (header_read_len image) image) i result → LoadedPrefix
+  prefix_tried : (result : Result UnlockedVolume VolumeFault)
+      → TriesSlots segment order pass area area' (drop (header_read_len image) image) i result → LoadedPrefix
   prefix_tried (Ok volume) tries = loads_more _ tries.0
-  prefix_tried (Err message) (inr tries) = loads_more _ tries.0
-  prefix_tried (Err message) (inl lost) = by lost.0 lost.2
-    where
-      by : (fault : HeaderFault) → AbortsConsuming (key_material_end order.entries - length area) area area'
-          (drop (header_read_len image) image) i fault → LoadedPrefix
-      by HeaderRead stop = loads_more stop.0 stop.2
-      by HeaderMemory stop = loads_more 0 stop
-      by _ stop = absurd stop
+  prefix_tried (Err (Slots fault)) tries = loads_more _ tries.0
+  prefix_tried (Err KeyAreaCut) tries = loads_more _ tries.0
+  prefix_tried (Err (HeaderNotRead HeaderRead)) stop = loads_more stop.0 stop.2
+  prefix_tried (Err (HeaderNotRead HeaderMemory)) stop = loads_more 0 stop
+  prefix_tried (Err _) stop = absurd stop
 
-  prefix_unlocked : (s : Option (List ℕ)) (result : Result UnlockedVolume Message)
-      → UnlockEffect named segment order pass area area' (drop (header_read_len image) image) i s result
+  prefix_unlocked : (s : Option (List ℕ)) (result : Result UnlockedVolume VolumeFault)
+      → UnlockEffect segment order pass area area' (drop (header_read_len image) image) i s result
       → LoadedPrefix
   prefix_unlocked s result (inl (short, read, tries)) = prefix_tried result tries
   prefix_unlocked s result (inr none) = (
@@ -181,24 +178,30 @@ module _ (location : HeaderLocation) (slots : SlotChoice) (image pass : List ℕ
     unfolding volume_outcome_by
     header_read_len_consumed = after (volume_by (reader_for location) slots image)
       where
-        after : (r : Result Volume Message)
-            → header_read_len image ≤ (outcome_after on_opened slots.named image pass r).input_consumed
-        after (Ok v) = (found_within on_opened slots.named v image pass consumes).0
-        after (Err message) = omega arith
+        after : (r : Result Volume VolumeFault)
+            → header_read_len image ≤ (outcome_after on_opened image pass r).input_consumed
+        after (Ok v) = (found_within on_opened v image pass consumes).0
+        after (Err fault) = omega arith
 
-    -- no volume was found, or reading the header failed
-    pub runs_without_volume : (message : Message) → OpeningMessage message
-        → FindsNoVolume (reader_for location) slots image i message → s ≡ Some pass → Matches on_opened message
-    runs_without_volume OutOfMemory only stop whole =
+    -- memory ran out before a volume was found
+    out_of_memory : ConsumedAtMost image i (header_read_len image) → s ≡ Some pass → Matches on_opened OutOfMemory
+    out_of_memory stop whole =
         aborted_unwritten stop.0 0 refl (prompt_in_header location image OutOfMemory stop.0 0 stop.1)
         (omega (arith, stop.1, header_read_len_consumed)) (omega arith) stop.2 (consumed-none pass s whole)
-    runs_without_volume ReadFailed only stop whole =
+
+    -- no volume was found, or reading the header failed
+    pub runs_without_volume : (fault : VolumeFault) → FindsNoVolume (reader_for location) slots image i fault
+        → s ≡ Some pass → Matches on_opened (message_for_volume fault)
+    runs_without_volume (HeaderNotRead HeaderRead) stop whole =
         aborted_unwritten stop.0 0 (omega arith) (prompt_in_header location image ReadFailed stop.0 0 stop.1)
         (omega (arith, stop.1, header_read_len_consumed)) (omega arith) stop.2 (consumed-none pass s whole)
-    runs_without_volume WriteFailed only stop whole = absurd only
-    runs_without_volume message only stop whole =
+    runs_without_volume (HeaderNotRead HeaderMemory) stop whole = out_of_memory stop whole
+    runs_without_volume (Slots Memory) stop whole = out_of_memory stop whole
+    runs_without_volume (Passphrase _) stop whole = absurd stop
+    runs_without_volume KeyAreaCut stop whole = absurd stop
+    runs_without_volume fault stop whole =
         let unread = consumed-none pass s whole in
-        rw (outcome_is location slots image pass on_opened (Err message) stop.0) (record
+        rw (outcome_is location slots image pass on_opened (Err fault) stop.0) (record
         { as_specified = refl; input = stop.1; payload = refl; secret = unread; output = appended-none w })
 
   -- the header names this segment and these key slots to be tried
@@ -209,7 +212,7 @@ module _ (location : HeaderLocation) (slots : SlotChoice) (image pass : List ℕ
     volume = volume_with header segment order
 
     outcome_found : (on_opened : OnOpened) → volume_outcome_by (reader_for location) on_opened slots image pass
-        ≡ found_outcome on_opened slots.named volume image pass
+        ≡ found_outcome on_opened volume image pass
     outcome_found on_opened = found_is location slots image pass header segment order found is_segment ordered on_opened
 
     -- with an attached header, the key material of the slots to be tried ends before the payload starts
@@ -221,22 +224,22 @@ module _ (location : HeaderLocation) (slots : SlotChoice) (image pass : List ℕ
         omega (arith, few)
 
     -- the key file was not read
-    runs_without_secret : (on_opened : OnOpened) → ConsumesLoaded pass on_opened → (message : Message)
-        → NoKeyFileRead pass s message → ConsumedExactly image i (header_read_len image) → Matches on_opened message
-    runs_without_secret on_opened consumes KeyFileLength stop rest =
-        rw (outcome_found on_opened, found_long on_opened slots.named volume image pass stop.0) (record
+    runs_without_secret : (on_opened : OnOpened) → ConsumesLoaded pass on_opened → (fault : PassphraseFault)
+        → NoKeyFileRead pass s fault → ConsumedExactly image i (header_read_len image)
+        → Matches on_opened (message_for_passphrase fault)
+    runs_without_secret on_opened consumes TooLong stop rest =
+        rw (outcome_found on_opened, found_long on_opened volume image pass stop.0) (record
         { as_specified = refl; input = rest; payload = refl; secret = stop.1; output = appended-none w })
-    runs_without_secret on_opened consumes OutOfMemory stop rest =
-        let within = found_within on_opened slots.named volume image pass consumes in
+    runs_without_secret on_opened consumes PassphraseMemory stop rest =
+        let within = found_within on_opened volume image pass consumes in
         rw (outcome_found on_opened) (aborted_unwritten (header_read_len image) stop.0 refl
         (prompt_in_header location image OutOfMemory (header_read_len image) stop.0 (omega arith)) within.0
         (omega (arith, stop.1, within.1)) rest stop.2)
-    runs_without_secret on_opened consumes ReadFailed stop rest =
-        let within = found_within on_opened slots.named volume image pass consumes in
+    runs_without_secret on_opened consumes Read stop rest =
+        let within = found_within on_opened volume image pass consumes in
         rw (outcome_found on_opened) (aborted_unwritten (header_read_len image) stop.0 (omega arith)
         (prompt_in_header location image ReadFailed (header_read_len image) stop.0 (omega arith)) within.0
         (omega (arith, stop.1, within.1)) rest stop.2)
-    runs_without_secret on_opened consumes _ stop rest = absurd stop
 
     -- the key file was read
     module _ (short : length pass ≤ max_key_file_len) (read : ConsumedExactly pass s (length pass))
@@ -249,13 +252,13 @@ module _ (location : HeaderLocation) (slots : SlotChoice) (image pass : List ℕ
           let more = area_more image area area' i (key_material_end order.entries) prefix stop.0 stop.2 in
           let few : header_read_len image + stop.0 ≤ unlock_read_len image volume =
           omega (arith, stop.1, prefix_length image area area' i (key_material_end order.entries) prefix) in
-          let within = area_within on_opened slots.named volume image pass consumes short in
+          let within = area_within on_opened volume image pass consumes short in
           rw (outcome_found on_opened) (aborted_unwritten (header_read_len image + stop.0) (length pass) (omega arith)
           (prompt_before_payload location image ReadFailed (header_read_len image + stop.0) (length pass) segment
           (header, found, is_segment) (λ attached. omega (arith, few, loaded_before_payload attached)))
           (omega (arith, within.0, more.1.within, few)) within.1 more.1 read)
       runs_without_area on_opened consumes HeaderMemory stop =
-          let within = area_within on_opened slots.named volume image pass consumes short in
+          let within = area_within on_opened volume image pass consumes short in
           rw (outcome_found on_opened) (aborted_unwritten (header_read_len image) (length pass) refl
           (prompt_in_header location image OutOfMemory (header_read_len image) (length pass) (omega arith))
           (omega (arith, within.0, header_read_len_within image)) within.1
@@ -267,14 +270,14 @@ module _ (location : HeaderLocation) (slots : SlotChoice) (image pass : List ℕ
           (enough : key_material_end order.entries ≤ length area') where
         outcome_tried : (r : Result Opened OpenFault) → opening_of order area' pass ≡ r → (on_opened : OnOpened)
             → volume_outcome_by (reader_for location) on_opened slots image pass
-            ≡ opened_outcome on_opened slots.named volume image pass r
+            ≡ opened_outcome on_opened volume image pass r
         outcome_tried r tried on_opened =
             tried_is location slots image pass header segment order found is_segment ordered short area area' i prefix
             grows enough r tried on_opened
 
         -- none of them opens
         runs_unopened : (fault : OpenFault) → opening_of order area' pass ≡ Err fault → (on_opened : OnOpened)
-            → Matches on_opened (message_for_opening slots.named fault)
+            → Matches on_opened (message_for_slots fault)
         runs_unopened Memory tried on_opened =
             let loaded = area_loaded image area area' i (key_material_end order.entries) prefix grows enough in
             rw (outcome_tried (Err Memory) tried on_opened)
@@ -288,20 +291,20 @@ module _ (location : HeaderLocation) (slots : SlotChoice) (image pass : List ℕ
 
     -- the volume was not opened
     pub runs_without_key : (area area' : List ℕ) → area ≡ take (header_read_len image) image → (on_opened : OnOpened)
-        → ConsumesLoaded pass on_opened → (message : Message)
-        → UnlockEffect slots.named segment order pass area area' (drop (header_read_len image) image) i s (Err message)
-        → Matches on_opened message
-    runs_without_key area area' prefix on_opened consumes message (inl (short, read, inl lost)) =
-        rw lost.1 (runs_without_area short read area area' prefix on_opened consumes lost.0 lost.2)
-    -- the image ended within the key areas
-    runs_without_key area area' prefix on_opened consumes message (inl (short, read, inr (grows, inl cut))) =
-        let ends = area_cut image area area' i (key_material_end order.entries) prefix grows cut.1 in
-        rw cut.0 (rw (outcome_found on_opened, found_cut on_opened slots.named volume image pass short ends.0) (record
-        { as_specified = refl; input = ends.1; payload = refl; secret = read; output = appended-none w }))
-    runs_without_key area area' prefix on_opened consumes message (inl (short, read, inr (grows, inr none))) =
-        rw none.1 (runs_unopened short read area area' prefix grows none.2 none.0 none.3 on_opened)
-    runs_without_key area area' prefix on_opened consumes message (inr none) =
-        let same : message ≡ none.0 = cc in
+        → ConsumesLoaded pass on_opened → (fault : VolumeFault)
+        → UnlockEffect segment order pass area area' (drop (header_read_len image) image) i s (Err fault)
+        → Matches on_opened (message_for_volume fault)
+    runs_without_key area area' prefix on_opened consumes (HeaderNotRead fault) (inl (short, read, lost)) =
+        runs_without_area short read area area' prefix on_opened consumes fault lost
+    runs_without_key area area' prefix on_opened consumes KeyAreaCut (inl (short, read, (grows, few))) =
+        let ends = area_cut image area area' i (key_material_end order.entries) prefix grows few in
+        rw (outcome_found on_opened, found_cut on_opened volume image pass short ends.0) (record
+        { as_specified = refl; input = ends.1; payload = refl; secret = read; output = appended-none w })
+    runs_without_key area area' prefix on_opened consumes (Slots fault) (inl (short, read, (grows, enough, tried))) =
+        runs_unopened short read area area' prefix grows enough fault tried on_opened
+    runs_without_key area area' prefix on_opened consumes _ (inl (short, read, none)) = absurd none
+    runs_without_key area area' prefix on_opened consumes fault (inr none) =
+        let same : fault ≡ Passphrase none.0 = cc in
         rw same (runs_without_secret on_opened consumes none.0 none.2
         (record { within = header_read_len_within image; left = none.4 }))
 
@@ -328,35 +331,36 @@ module _ (location : HeaderLocation) (slots : SlotChoice) (image pass : List ℕ
         )
 
     pub counts_opening : (area area' : List ℕ) → area ≡ take (header_read_len image) image
-        → (result : Result UnlockedVolume Message)
-        → UnlockEffect slots.named segment order pass area area' (drop (header_read_len image) image) i s result
+        → (fault : VolumeFault)
+        → UnlockEffect segment order pass area area' (drop (header_read_len image) image) i s (Err fault)
         → (secret secret' : ReadCounts) → secret'.ends ≡ counted true secret.ends → (work work' : ℕ)
-        → CountsTrials order area' pass (result_message result) work work'
-        → CountsOpening location slots image pass (result_message result) i secret secret' work work'
-    counts_opening area area' prefix result effect secret secret' ended work work' (inl (enough, counted)) =
-        let begins = prefix_unlocked image area area' i prefix slots.named segment order pass s result effect in
+        → CountsTrials order area' pass (Err fault) work work'
+        → CountsOpening location slots image pass (message_for_volume fault) i secret secret' work work'
+    counts_opening area area' prefix fault effect secret secret' ended work work' (inl (enough, counted)) =
+        let begins = prefix_unlocked image area area' i prefix segment order pass s (Err fault) effect in
         inl (counts_tried area' begins.0 begins.1 begins.2 begins.3 enough secret secret' ended work work' counted)
-    counts_opening area area' prefix result effect secret secret' ended work work' (inr (few, untried, same)) =
-        let begins = prefix_unlocked image area area' i prefix slots.named segment order pass s result effect in
+    counts_opening area area' prefix fault effect secret secret' ended work work' (inr (few, untried, same)) =
+        let begins = prefix_unlocked image area area' i prefix segment order pass s (Err fault) effect in
         let fewer : begins.0 < unlock_read_len image volume =
         omega (arith, few, ap length begins.1, length-take begins.0 image, begins.3.within) in
-        inr (record { unread = inr (volume, is_volume, (begins.0, fewer, begins.3)); early = inr untried }, same)
+        let early = (message_says fault).untried ∙ untried in
+        inr (record { unread = inr (volume, is_volume, (begins.0, fewer, begins.3)); early = inr early }, same)
 
     -- if the volume was opened, its key slots were tried
     pub counts_unlocked : (area area' : List ℕ) → area ≡ take (header_read_len image) image → (opened : UnlockedVolume)
-        → UnlockEffect slots.named segment order pass area area' (drop (header_read_len image) image) i s (Ok opened)
+        → UnlockEffect segment order pass area area' (drop (header_read_len image) image) i s (Ok opened)
         → (secret secret' : ReadCounts) → secret'.ends ≡ counted true secret.ends → (work work' : ℕ)
-        → CountsTrials order area' pass Done work work'
+        → CountsTrials order area' pass (Ok opened) work work'
         → CountsTried location slots image pass i secret secret' work work'
     counts_unlocked area area' prefix opened effect secret secret' ended work work' (inl (enough, counted)) =
-        let begins = prefix_unlocked image area area' i prefix slots.named segment order pass s (Ok opened) effect in
+        let begins = prefix_unlocked image area area' i prefix segment order pass s (Ok opened) effect in
         counts_tried area' begins.0 begins.1 begins.2 begins.3 enough secret secret' ended work work' counted
     counts_unlocked area area' prefix opened effect secret secret' ended work work' (inr (few, untried, same)) =
         absurd (let wrong : false ≡ true = untried in cc)
 
     -- the volume was opened
     pub unlocks_volume : (area area' : List ℕ) → area ≡ take (header_read_len image) image → (opened : UnlockedVolume)
-        → UnlockEffect slots.named segment order pass area area' (drop (header_read_len image) image) i s (Ok opened)
+        → UnlockEffect segment order pass area area' (drop (header_read_len image) image) i s (Ok opened)
         → Unlocks location slots image pass opened.segment (opened_of opened) area' i s
     unlocks_volume area area' prefix opened (inl (short, read, tries)) =
         let loaded = area_loaded image area area' i (key_material_end order.entries) prefix tries.0 tries.1 in

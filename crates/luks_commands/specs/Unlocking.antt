@@ -14,6 +14,9 @@ use Rattle.luks_report.specs.declared.message.Message.{Message}
 use Rattle.luks_header.specs.Header.{header_read_len}
 use Rattle.luks_key_slots.specs.Opening.{OrderModel}
 use Rattle.luks_key_slots.specs.declared.opening.Opened.{Opened}
+use Rattle.luks_key_slots.specs.declared.fault.PassphraseFault.{PassphraseFault}
+use Rattle.luks_key_slots.specs.declared.fault.VolumeFault.{VolumeFault}
+use Rattle.luks_key_slots.specs.declared.fault.VolumeFault.TheVariants.{Passphrase}
 use Rattle.luks_runs.specs.KeyFile.{NoKeyFileRead, max_key_file_len}
 use Rattle.luks_runs.specs.declared.unlocked.UnlockedVolume.{UnlockedVolume}
 use Rattle.luks_commands.specs.Headline.{PromptCat}
@@ -48,10 +51,10 @@ pub record Unlocks (location : HeaderLocation) (slots : SlotChoice) (image secre
 
 -- the effect of trying to open a volume that was found, under the passphrase in the key file. The key file is read
 -- whole before the key slots are tried; if it cannot be, nothing more of the image is consumed
-abbrev pub UnlockEffect : Option ℕ → Segment → OrderModel → List ℕ → List ℕ → List ℕ → List ℕ → Option (List ℕ)
-    → Option (List ℕ) → Result UnlockedVolume Message → Type 0
-UnlockEffect named segment order pass area area' rest left secret' result =
+abbrev pub UnlockEffect : Segment → OrderModel → List ℕ → List ℕ → List ℕ → List ℕ → Option (List ℕ)
+    → Option (List ℕ) → Result UnlockedVolume VolumeFault → Type 0
+UnlockEffect segment order pass area area' rest left secret' result =
     ((length pass ≤ max_key_file_len) × ConsumedExactly pass secret' (length pass)
-    × TriesSlots named segment order pass area area' rest left result)
-    ⊎ ((message : Message) × (result ≡ Err message) × NoKeyFileRead pass secret' message × (area' ≡ area)
+    × TriesSlots segment order pass area area' rest left result)
+    ⊎ ((fault : PassphraseFault) × (result ≡ Err (Passphrase fault)) × NoKeyFileRead pass secret' fault × (area' ≡ area)
     × (left ≡ Some rest))

@@ -61,11 +61,11 @@ order_of_all header limit =
 
 -- the order if the key slot of this number, with this verdict, is named: it alone is tried, whatever its priority
 abbrev pub order_of_named : ℕ → Option Verdict → Result OrderModel OpenFault
-order_of_named number None = Err NoSuchSlot
+order_of_named number None = Err (NoSuchSlot number)
 order_of_named number (Some (Usable slot)) =
     Ok record { entries = record { number = number; slot = slot } ∷ []; skipped = [] }
-order_of_named number (Some VerdictDisabled) = Err Disabled
-order_of_named number (Some (Skipped reason)) = Err (NamedSkipped reason)
+order_of_named number (Some VerdictDisabled) = Err (Disabled number)
+order_of_named number (Some (Skipped reason)) = Err (NamedSkipped number reason)
 
 -- the key slots of a header to be tried, by the named key slot and the limit on iterations, or why there are none
 unfoldable pub order_of : Header → Option ℕ → Option ℕ → Result OrderModel OpenFault

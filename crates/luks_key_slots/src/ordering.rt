@@ -135,9 +135,9 @@ fn order_named(
 {
     let verdict = verdict(alloc, header, limit, named)?;
     match verdict {
-        None => Err(OpenFault::NoSuchSlot),
-        Some(Verdict::Disabled) => Err(OpenFault::Disabled),
-        Some(Verdict::Skipped(reason)) => Err(OpenFault::NamedSkipped(reason)),
+        None => Err(OpenFault::NoSuchSlot(named)),
+        Some(Verdict::Disabled) => Err(OpenFault::Disabled(named)),
+        Some(Verdict::Skipped(reason)) => Err(OpenFault::NamedSkipped(named, reason)),
         Some(Verdict::Usable(slot)) => Ok(order_alone(alloc, named, slot)?),
     }
 }

@@ -1,33 +1,15 @@
 //! The message for each fault of the layers below.
 
 ghost use Rattle.std.specs.Prelude.{◌≡◌};
-ghost use Rattle.luks_report.specs.Faults.{message_for_opening};
 
 use crate::message::Message;
 use luks_header::fault::HeaderFault;
 use luks_header::refusal::SegmentFault;
 use luks_io::sink::WriteFault;
 use luks_io::source::ReadFault;
-use luks_key_slots::fault::OpenFault;
+use luks_key_slots::fault::{OpenFault, PassphraseFault, VolumeFault};
 use luks_payload::fault::PayloadFault;
 use std::alloc::AllocError;
-
-impl Message {
-    /// The message if no key slot was tried or none opens. `named` is the key slot that was named.
-    pub fn of_opening(named: Option<u8>, fault: OpenFault) -> Message
-        ensures { result ≡ message_for_opening named fault }
-    {
-        let slot = named.unwrap_or(0);
-        match fault {
-            OpenFault::NoSuchSlot => Message::NoSuchSlot(slot),
-            OpenFault::Disabled => Message::SlotDisabled(slot),
-            OpenFault::NamedSkipped(reason) => Message::SlotSkipped(slot, reason),
-            OpenFault::NothingTried(skipped) => Message::NothingTried(skipped),
-            OpenFault::NoKey(skipped) => Message::NoKey(skipped),
-            OpenFault::Memory => Message::OutOfMemory,
-        }
-    }
-}
 
 impl From<AllocError> for Message {
     ghost use Rattle.luks_report.specs.declared.message.Message.{Message};
@@ -62,6 +44,53 @@ impl From<SegmentFault> for Message {
 
     fn from(fault: SegmentFault) -> Message {
         Message::SegmentRefused(fault)
+    }
+}
+
+impl From<PassphraseFault> for Message {
+    ghost use Rattle.luks_report.specs.Faults.{message_for_passphrase};
+
+    ghost from_gives = { λ fault message. message ≡ message_for_passphrase fault };
+
+    fn from(fault: PassphraseFault) -> Message {
+        match fault {
+            PassphraseFault::TooLong => Message::KeyFileLength,
+            PassphraseFault::Read => Message::ReadFailed,
+            PassphraseFault::Memory => Message::OutOfMemory,
+        }
+    }
+}
+
+impl From<OpenFault> for Message {
+    ghost use Rattle.luks_report.specs.Faults.{message_for_slots};
+
+    ghost from_gives = { λ fault message. message ≡ message_for_slots fault };
+
+    fn from(fault: OpenFault) -> Message {
+        match fault {
+            OpenFault::NoSuchSlot(slot) => Message::NoSuchSlot(slot),
+            OpenFault::Disabled(slot) => Message::SlotDisabled(slot),
+            OpenFault::NamedSkipped(slot, reason) => Message::SlotSkipped(slot, reason),
+            OpenFault::NothingTried(skipped) => Message::NothingTried(skipped),
+            OpenFault::NoKey(skipped) => Message::NoKey(skipped),
+            OpenFault::Memory => Message::OutOfMemory,
+        }
+    }
+}
+
+impl From<VolumeFault> for Message {
+    ghost use Rattle.luks_report.specs.Faults.{message_for_volume};
+
+    ghost from_gives = { λ fault message. message ≡ message_for_volume fault };
+
+    fn from(fault: VolumeFault) -> Message {
+        match fault {
+            VolumeFault::Header(fault) => Message::from(fault),
+            VolumeFault::Segment(fault) => Message::from(fault),
+            VolumeFault::Passphrase(fault) => Message::from(fault),
+            VolumeFault::KeyAreaCut => Message::Cut,
+            VolumeFault::Slots(fault) => Message::from(fault),
+        }
     }
 }
 

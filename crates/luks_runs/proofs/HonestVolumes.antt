@@ -252,8 +252,8 @@ module _ (slots : SlotChoice) (image passphrase plain : List ℕ)
         opens.0,
         found_is Attached slots image passphrase sealed.header sealed.segment honest.order sealed.is_header
             sealed.is_segment honest.is_order cat
-            ∙ found_whole cat slots.named volume image passphrase honest.short within
-            ∙ ap (opened_outcome cat slots.named volume image passphrase) opens.1,
+            ∙ found_whole cat volume image passphrase honest.short within
+            ∙ ap (opened_outcome cat volume image passphrase) opens.1,
       )
 
   -- `luksCat` writes the plaintext and succeeds

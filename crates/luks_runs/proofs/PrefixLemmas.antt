@@ -13,7 +13,7 @@ use Rattle.luks_key_slots.specs.Opening.{key_material_end, opening_of}
 use Rattle.luks_key_slots.specs.declared.fault.OpenFault.{OpenFault}
 use Rattle.luks_key_slots.proofs.CallerLemmas.{opening_prefix, key_material_end-within}
 use Rattle.luks_key_slots.specs.declared.opening.Opened.{Opened}
-use Rattle.luks_report.specs.declared.message.Message.{Message}
+use Rattle.luks_key_slots.specs.declared.fault.VolumeFault.{VolumeFault}
 use Rattle.luks_request.specs.declared.command.SlotChoice.{SlotChoice}
 use Rattle.luks_runs.specs.Location.{reader_for, as_detached}
 use Rattle.luks_runs.specs.declared.location.HeaderLocation.{HeaderLocation}
@@ -123,14 +123,14 @@ module _ (location : HeaderLocation) (slots : SlotChoice) (image pass : List ℕ
   same_header = header_by image n (omega arith) more (is_luks1 image) refl
 
   opened_prefix : (v : Volume) (r : Result Opened OpenFault)
-      → opened_outcome on_opened slots.named v (take n image) pass r
-      ≡ opened_outcome on_opened slots.named v image pass r
+      → opened_outcome on_opened v (take n image) pass r
+      ≡ opened_outcome on_opened v image pass r
   opened_prefix v (Ok opened) =
       ap (λ len. on_opened v.segment opened (max len (key_material_end v.order.entries))) same_header.1
   opened_prefix v (Err fault) = rw same_header.1 refl
 
-  after_prefix : (r : Result Volume Message)
-      → outcome_after on_opened slots.named (take n image) pass r ≡ outcome_after on_opened slots.named image pass r
+  after_prefix : (r : Result Volume VolumeFault)
+      → outcome_after on_opened (take n image) pass r ≡ outcome_after on_opened image pass r
   unfolding found_outcome
   after_prefix (Ok v) =
       let within = key_material_end-within v.order.entries in
@@ -139,7 +139,7 @@ module _ (location : HeaderLocation) (slots : SlotChoice) (image pass : List ℕ
       let whole = le-ltb (length image) (key_material_end v.order.entries) (omega arith) in
       let opening = opening_prefix v.order n image pass (omega arith) in
       rw (all, whole, same_header.1, opening, opened_prefix v (opening_of v.order image pass)) refl
-  after_prefix (Err message) = rw same_header.1 refl
+  after_prefix (Err fault) = rw same_header.1 refl
 
   reading_prefix : reader_for location (take n image) ≡ reader_for location image
   reading_prefix = by location where
@@ -152,9 +152,9 @@ module _ (location : HeaderLocation) (slots : SlotChoice) (image pass : List ℕ
       ≡ volume_outcome_by (reader_for location) on_opened slots image pass
   unfolding volume_outcome_by volume_by
   longer_prefix =
-      ap (λ r. outcome_after on_opened slots.named (take n image) pass
-      (volume_in_header slots.named slots.max_iterations r)) reading_prefix
-      ∙ after_prefix (volume_in_header slots.named slots.max_iterations (reader_for location image))
+      ap (λ r. outcome_after on_opened (take n image) pass
+      (volume_in_header slots r)) reading_prefix
+      ∙ after_prefix (volume_in_header slots (reader_for location image))
 
 -- the same for the first bytes of any image
 outcome_prefix : (location : HeaderLocation) (slots : SlotChoice) (image pass : List ℕ) (n : ℕ) → max_loaded_len ≤ n

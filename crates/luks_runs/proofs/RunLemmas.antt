@@ -1,7 +1,7 @@
 -- Runs that are aborted, runs that print a text, and runs of the commands on headers.
 use Rattle.std.proofs.Common.{◌≡◌, ℕ, ◌≤◌, List, Option, refl, length, take, arith, Bool, true, false, Ok, Err}
 use Rattle.luks_io.proofs.EffectLemmas.{appended-none}
-use Rattle.luks_io.specs.Devices.{Appended, ConsumedExactly}
+use Rattle.luks_io.specs.Devices.{Appended, ConsumedExactly, counted}
 use Rattle.luks_report.specs.declared.message.Message.{Message}
 use Rattle.luks_report.specs.declared.message.Message.TheVariants.{OutOfMemory, ReadFailed, WriteFailed, Done, Findings}
 use Rattle.luks_runs.specs.Run.{Prints, Aborted, AnyPromptness, ConsumedNothing, IsPrefixLen, Promptness, RunMatches}
@@ -21,6 +21,11 @@ use Rattle.luks_runs.specs.declared.headers.Printout.{Printout}
 use Rattle.luks_runs.specs.declared.headers.Printout.TheVariants.{Uuid, Dump, Check}
 use Rattle.luks_report.specs.Texts.{findings_of, message_for_check}
 use Rattle.luks_runs.specs.declared.location.HeaderLocation.TheVariants.{Attached, Detached}
+
+-- a source over memory, whose count of failures stays 0, has no failed read to report
+pub never_failed : (failed : Bool) → 0 ≡ counted failed 0 → failed ≡ false
+never_failed true count = absurd (cc)
+never_failed false count = refl
 
 -- a run was aborted after these numbers of bytes were consumed and written
 pub aborted_at : {is_prompt : Promptness} {o : Outcome} {message : Message}

@@ -13,6 +13,8 @@ use Rattle.luks_io.specs.declared.counts.ReadCounts.{ReadCounts}
 use Rattle.luks_header_area.specs.Area.{ConsumedOnto, HeaderAreaModel}
 use Rattle.luks_header_area.specs.declared.fault.HeaderFault.{HeaderFault}
 use Rattle.luks_header_area.specs.declared.fault.HeaderFault.TheVariants.{Read as HeaderRead, Memory as HeaderMemory}
+use Rattle.luks_header_area.specs.declared.fault.HeaderFault.TheVariants.{NotLuks, Cut as HeaderCut, Json}
+use Rattle.luks_verdict.specs.declared.refusal.SegmentFault.{SegmentFault}
 use Rattle.luks_verdict.specs.declared.segment.Segment.{Segment}
 use Rattle.luks_header.specs.Header.{ReadsNoHeader, header_read_len}
 use Rattle.luks_header.proofs.KnownLemmas.{memory_below}
@@ -20,19 +22,25 @@ use Rattle.luks_header.specs.HeaderSegment.{segment_of}
 use Rattle.luks_header.specs.declared.header.Header.{Header}
 use Rattle.luks_key_slots.specs.Opening.{OrderModel, order_of, key_material_end, opening_of}
 use Rattle.luks_key_slots.specs.declared.fault.OpenFault.{OpenFault}
-use Rattle.luks_key_slots.specs.declared.fault.OpenFault.TheVariants.{Memory}
+use Rattle.luks_key_slots.specs.Fault.{is_read_failure, is_untried}
+use Rattle.luks_key_slots.specs.declared.fault.OpenFault.TheVariants.{Disabled, Memory, NamedSkipped, NoKey, NoSuchSlot}
+use Rattle.luks_key_slots.specs.declared.fault.OpenFault.TheVariants.{NothingTried}
+use Rattle.luks_key_slots.specs.declared.fault.PassphraseFault.TheVariants.{TooLong, Read as PassphraseRead}
+use Rattle.luks_key_slots.specs.declared.fault.PassphraseFault.TheVariants.{Memory as PassphraseMemory}
+use Rattle.luks_key_slots.specs.declared.fault.VolumeFault.{VolumeFault}
+use Rattle.luks_key_slots.specs.declared.fault.VolumeFault.TheVariants.{Header as HeaderNotRead, KeyAreaCut, Passphrase}
+use Rattle.luks_key_slots.specs.declared.fault.VolumeFault.TheVariants.{Segment as SegmentRefused, Slots}
 use Rattle.luks_key_slots.proofs.CallerLemmas.{opening_prefix}
 use Rattle.luks_key_slots.specs.declared.opening.Opened.{Opened}
-use Rattle.luks_report.specs.Faults.{message_for_header, message_for_opening}
-use Rattle.luks_report.specs.declared.message.Message.{Message}
-use Rattle.luks_report.specs.declared.message.Message.TheVariants.{OutOfMemory, ReadFailed, Cut, KeyFileLength}
+use Rattle.luks_report.specs.Faults.{message_for_volume}
+use Rattle.luks_report.specs.declared.message.Message.TheVariants.{Cut, KeyFileLength}
 use Rattle.luks_request.specs.declared.command.SlotChoice.{SlotChoice}
 use Rattle.luks_runs.proofs.RunLemmas.{reading_fault, header_read_len_within}
 use Rattle.luks_runs.specs.Run.{is_run_read_failure, no_output}
 use Rattle.luks_runs.specs.Location.{LoadedFrom, reader_for}
 use Rattle.luks_runs.specs.declared.location.HeaderLocation.{HeaderLocation}
 use Rattle.luks_runs.specs.KeyFile.{max_key_file_len}
-use Rattle.luks_runs.specs.Volume.{FindsNoVolume, FindsVolume, HitsMaterialEof, volume_by, volume_in_header, OnOpened}
+use Rattle.luks_runs.specs.Volume.{FindsNoVolume, FindsVolume, OnOpened, OpeningMessage, ends_untried, volume_by}
 use Rattle.luks_runs.specs.Volume.{Volume, found_outcome, opened_outcome, outcome_after, volume_outcome_by}
 use Rattle.luks_runs.specs.declared.found.FoundVolume.{FoundVolume}
 
@@ -50,6 +58,32 @@ pub none_remain : (area : HeaderAreaModel) (left left' : Option (List ℕ)) (cou
     → area.ended ≡ true → rest ≡ []
 none_remain area left left' counts counts' known rest loaded knows there ended =
     let same : Some rest ≡ Some [] = sym there ∙ loaded.emptied ended known knows in cc
+
+-- ---- the messages for faults
+
+-- the message for a fault is one with which opening a volume may end, and it says what the fault says
+pub record SaysAsMuch (fault : VolumeFault) : Type 0 where
+  pub opening : OpeningMessage (message_for_volume fault)
+  pub read : is_read_failure fault ≡ is_run_read_failure (message_for_volume fault)
+  pub untried : ends_untried (message_for_volume fault) ≡ is_untried fault
+
+pub message_says : (fault : VolumeFault) → SaysAsMuch fault
+message_says (HeaderNotRead NotLuks) = record { opening = tt; read = refl; untried = refl }
+message_says (HeaderNotRead HeaderCut) = record { opening = tt; read = refl; untried = refl }
+message_says (HeaderNotRead Json) = record { opening = tt; read = refl; untried = refl }
+message_says (HeaderNotRead HeaderRead) = record { opening = tt; read = refl; untried = refl }
+message_says (HeaderNotRead HeaderMemory) = record { opening = tt; read = refl; untried = refl }
+message_says (SegmentRefused _) = record { opening = tt; read = refl; untried = refl }
+message_says (Passphrase TooLong) = record { opening = tt; read = refl; untried = refl }
+message_says (Passphrase PassphraseRead) = record { opening = tt; read = refl; untried = refl }
+message_says (Passphrase PassphraseMemory) = record { opening = tt; read = refl; untried = refl }
+message_says KeyAreaCut = record { opening = tt; read = refl; untried = refl }
+message_says (Slots (NoSuchSlot _)) = record { opening = tt; read = refl; untried = refl }
+message_says (Slots (Disabled _)) = record { opening = tt; read = refl; untried = refl }
+message_says (Slots (NamedSkipped _ _)) = record { opening = tt; read = refl; untried = refl }
+message_says (Slots (NothingTried _)) = record { opening = tt; read = refl; untried = refl }
+message_says (Slots (NoKey _)) = record { opening = tt; read = refl; untried = refl }
+message_says (Slots Memory) = record { opening = tt; read = refl; untried = refl }
 
 -- ---- counts of reads
 
@@ -75,34 +109,33 @@ pub reads_within : (failed ended : Bool) (a b c : ReadCounts) → Reads false en
 reads_within failed true a b c first kept next = reads_after_end failed false a b c first (kept refl) next
 reads_within failed false a b c first kept next = reads_more failed false a b c first next
 
--- no fault of opening is reported as a failed read, or as an image that ended
-pub opening_reads : (named : Option ℕ) (fault : OpenFault) (a b : ReadCounts) → Reads false false a b
-    → (ended : Bool) × Reads (is_run_read_failure (message_for_opening named fault)) ended a b
-    × HitsMaterialEof (message_for_opening named fault) ended
-opening_reads named Memory a b reads = (false, reads, refl)
-opening_reads named _ a b reads = (false, reads, refl)
-
 -- ---- the header of an image
 
 module _ (location : HeaderLocation) (slots : SlotChoice) (image : List ℕ) (left : Option (List ℕ)) where
   -- if there is no header, or reading it was aborted, no volume is found
   pub aborts_without_header : (ends ends' : ℕ) (fault : HeaderFault) → ReadsNoHeader image left ends ends' fault
-      → FindsNoVolume (reader_for location) slots image left (message_for_header fault)
+      → FindsNoVolume (reader_for location) slots image left (HeaderNotRead fault)
   unfolding volume_by
   aborts_without_header ends ends' HeaderRead stop = stop.0
   aborts_without_header ends ends' HeaderMemory stop = memory_below image left ends ends' stop
   aborts_without_header ends ends' fault stop = (rw (reading_fault location image fault stop.0) refl, stop.1.0)
 
-  -- if there is no volume with this header, or memory for the order of its key slots ran out, no volume is found
-  pub aborts_without_slots : (header : Header) → reader_for location image ≡ Ok header
-      → ConsumedExactly image left (header_read_len image) → (message : Message)
-      → (message ≡ OutOfMemory) ⊎ (volume_in_header slots.named slots.max_iterations (Ok header) ≡ Err message)
-      → FindsNoVolume (reader_for location) slots image left message
-  unfolding volume_by
-  aborts_without_slots header found rest OutOfMemory why = (header_read_len image, omega arith, rest)
-  aborts_without_slots header found rest ReadFailed why = (header_read_len image, omega arith, rest)
-  aborts_without_slots header found rest _ (inl memory) = cc
-  aborts_without_slots header found rest _ (inr why) = (rw found why, rest)
+  module _ (header : Header) (found : reader_for location image ≡ Ok header)
+      (rest : ConsumedExactly image left (header_read_len image)) where
+    -- if the header's segment is refused, no volume is found
+    pub aborts_without_segment : (fault : SegmentFault) → segment_of header ≡ Err fault
+        → FindsNoVolume (reader_for location) slots image left (SegmentRefused fault)
+    unfolding volume_by
+    aborts_without_segment fault is = (rw (found, is) refl, rest)
+
+    -- if there is no order of its key slots, or memory for that ran out, no volume is found
+    pub aborts_without_order : (segment : Segment) → segment_of header ≡ Ok segment → (fault : OpenFault)
+        → (fault ≡ Memory) ⊎ (order_of header slots.named slots.max_iterations ≡ Err fault)
+        → FindsNoVolume (reader_for location) slots image left (Slots fault)
+    unfolding volume_by
+    aborts_without_order segment is Memory why = (header_read_len image, omega arith, rest)
+    aborts_without_order segment is _ (inl memory) = cc
+    aborts_without_order segment is _ (inr none) = (rw (found, is, none) refl, rest)
 
 -- the header of an image, its segment and its order make its volume
 pub volume_is : (location : HeaderLocation) (slots : SlotChoice) (image : List ℕ) (header : Header) (segment : Segment)
@@ -123,32 +156,24 @@ there_is_volume location slots volume left left' counts counts' known found is n
     let wrong : false ≡ true = rw there at none in
     cc
 
--- if a header has no order of key slots, there is no volume with it, unless memory ran out
-pub no_order : (slots : SlotChoice) (header : Header) (segment : Segment) → segment_of header ≡ Ok segment
-    → (fault : OpenFault) → (fault ≡ Memory) ⊎ (order_of header slots.named slots.max_iterations ≡ Err fault)
-    → (message_for_opening slots.named fault ≡ OutOfMemory)
-    ⊎ (volume_in_header slots.named slots.max_iterations (Ok header) ≡ Err (message_for_opening slots.named fault))
-no_order slots header segment is fault (inl memory) = inl (rw memory refl)
-no_order slots header segment is fault (inr why) = inr (rw (is, why) refl)
-
 -- ---- the outcome of a volume that was found
 
-module _ (on_opened : OnOpened) (named : Option ℕ) (v : Volume) (image secret : List ℕ) where
-  pub found_long : max_key_file_len < length secret → found_outcome on_opened named v image secret
+module _ (on_opened : OnOpened) (v : Volume) (image secret : List ℕ) where
+  pub found_long : max_key_file_len < length secret → found_outcome on_opened v image secret
       ≡ no_output KeyFileLength (header_read_len image) (max_key_file_len + 1)
   unfolding found_outcome
   found_long long = rw (lt-ltb max_key_file_len (length secret) long) refl
 
   pub found_cut : length secret ≤ max_key_file_len → length image < key_material_end v.order.entries
-      → found_outcome on_opened named v image secret ≡ no_output Cut (length image) (length secret)
+      → found_outcome on_opened v image secret ≡ no_output Cut (length image) (length secret)
   unfolding found_outcome
   found_cut short few =
       let allowed = le-ltb max_key_file_len (length secret) short in
       rw (allowed, lt-ltb (length image) (key_material_end v.order.entries) few) refl
 
   pub found_whole : length secret ≤ max_key_file_len → key_material_end v.order.entries ≤ length image
-      → found_outcome on_opened named v image secret
-      ≡ opened_outcome on_opened named v image secret (opening_of v.order image secret)
+      → found_outcome on_opened v image secret
+      ≡ opened_outcome on_opened v image secret (opening_of v.order image secret)
   unfolding found_outcome
   found_whole short enough =
       let allowed = le-ltb max_key_file_len (length secret) short in
@@ -207,9 +232,10 @@ abbrev pub volume_with : Header → Segment → OrderModel → Volume
 volume_with header segment order = record { header = header; segment = segment; order = order }
 
 module _ (location : HeaderLocation) (slots : SlotChoice) (image pass : List ℕ) where
-  pub outcome_is : (on_opened : OnOpened) (r : Result Volume Message) → volume_by (reader_for location) slots image ≡ r
+  pub outcome_is : (on_opened : OnOpened) (r : Result Volume VolumeFault)
+      → volume_by (reader_for location) slots image ≡ r
       → volume_outcome_by (reader_for location) on_opened slots image pass
-      ≡ outcome_after on_opened slots.named image pass r
+      ≡ outcome_after on_opened image pass r
   unfolding volume_outcome_by
   outcome_is on_opened r is = rw is refl
 
@@ -218,7 +244,7 @@ module _ (location : HeaderLocation) (slots : SlotChoice) (image pass : List ℕ
       (is_segment : segment_of header ≡ Ok segment)
       (ordered : order_of header slots.named slots.max_iterations ≡ Ok order) where
     pub found_is : (on_opened : OnOpened) → volume_outcome_by (reader_for location) on_opened slots image pass
-        ≡ found_outcome on_opened slots.named (volume_with header segment order) image pass
+        ≡ found_outcome on_opened (volume_with header segment order) image pass
     found_is on_opened =
         outcome_is on_opened (Ok (volume_with header segment order))
         (volume_is location slots image header segment order found is_segment ordered)
@@ -231,11 +257,11 @@ module _ (location : HeaderLocation) (slots : SlotChoice) (image pass : List ℕ
         (enough : key_material_end order.entries ≤ length area') (r : Result Opened OpenFault)
         (tried : opening_of order area' pass ≡ r) (on_opened : OnOpened)
         → volume_outcome_by (reader_for location) on_opened slots image pass
-        ≡ opened_outcome on_opened slots.named (volume_with header segment order) image pass r
+        ≡ opened_outcome on_opened (volume_with header segment order) image pass r
     tried_is short area area' i prefix grows enough r tried on_opened =
         let v = volume_with header segment order in
         let loaded = area_loaded image area area' i (key_material_end order.entries) prefix grows enough in
         let whole = sym (opening_prefix order (max (header_read_len image) (key_material_end order.entries)) image
         pass (omega arith)) ∙ ap (λ l. opening_of order l pass) (sym loaded.2) ∙ tried in
-        found_is on_opened ∙ found_whole on_opened slots.named v image pass short loaded.0
-        ∙ ap (opened_outcome on_opened slots.named v image pass) whole
+        found_is on_opened ∙ found_whole on_opened v image pass short loaded.0
+        ∙ ap (opened_outcome on_opened v image pass) whole

@@ -1,30 +1,25 @@
 -- The key file.
-use Rattle.std.specs.Prelude.{ℕ, ◌+◌, ◌<◌, Bool, true, false, List, length, min, Option}
+use Rattle.std.specs.Prelude.{ℕ, ◌+◌, ◌<◌, List, MatchResult, Option, Result, false, length, min, true}
 use Rattle.luks_io.specs.Counts.{Reads}
 use Rattle.luks_io.specs.Devices.{ConsumedExactly, ConsumedAtMost}
 use Rattle.luks_io.specs.declared.counts.ReadCounts.{ReadCounts}
-use Rattle.luks_runs.specs.Run.{is_run_read_failure}
-use Rattle.luks_report.specs.declared.message.Message.{Message}
-use Rattle.luks_report.specs.declared.message.Message.TheVariants.{Done, KeyFileLength, OutOfMemory, ReadFailed}
+use Rattle.luks_key_slots.specs.Fault.{is_passphrase_read_failure}
+use Rattle.luks_key_slots.specs.declared.fault.PassphraseFault.{PassphraseFault}
+use Rattle.luks_key_slots.specs.declared.fault.PassphraseFault.TheVariants.{TooLong, Read, Memory}
 
 -- the length of the longest key file in bytes
 abbrev pub max_key_file_len : ℕ
 max_key_file_len = 8388608
 
 -- how reading a key file failed: if it is too long, one byte more than the maximum length is consumed
-abbrev pub NoKeyFileRead : List ℕ → Option (List ℕ) → Message → Type 0
-NoKeyFileRead secret left KeyFileLength = (max_key_file_len < length secret)
+abbrev pub NoKeyFileRead : List ℕ → Option (List ℕ) → PassphraseFault → Type 0
+NoKeyFileRead secret left TooLong = (max_key_file_len < length secret)
     × ConsumedExactly secret left (max_key_file_len + 1)
-NoKeyFileRead secret left OutOfMemory = ConsumedAtMost secret left (min (length secret) (max_key_file_len + 1))
-NoKeyFileRead secret left ReadFailed = ConsumedAtMost secret left (min (length secret) (max_key_file_len + 1))
-NoKeyFileRead secret left _ = ⊥
+NoKeyFileRead secret left Memory = ConsumedAtMost secret left (min (length secret) (max_key_file_len + 1))
+NoKeyFileRead secret left Read = ConsumedAtMost secret left (min (length secret) (max_key_file_len + 1))
 
--- whether reading a key file hit its end: yes if all of it was read, and no if it was too long, a read failed, or
--- memory ran out
-abbrev pub hits_key_file_eof : Message → Bool
-hits_key_file_eof Done = true
-hits_key_file_eof _ = false
-
--- what reading a key file adds to the counts of its source
-abbrev pub ReadsKeyFile : Message → ReadCounts → ReadCounts → Type 0
-ReadsKeyFile message before after = Reads (is_run_read_failure message) (hits_key_file_eof message) before after
+-- what reading a key file adds to the counts of its source: its end was hit if all of it was read, and not if it was
+-- too long, a read failed, or memory ran out
+abbrev pub ReadsKeyFile : {T : Type 0} → Result T PassphraseFault → ReadCounts → ReadCounts → Type 0
+ReadsKeyFile result before after = MatchResult result (λ _. Reads false true before after)
+    (λ fault. Reads (is_passphrase_read_failure fault) false before after)

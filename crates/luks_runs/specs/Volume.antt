@@ -6,11 +6,17 @@ use Rattle.luks_header.specs.Header.{header_read_len, header_of}
 use Rattle.luks_header.specs.HeaderSegment.{segment_of}
 use Rattle.luks_header.specs.declared.header.Header.{Header}
 use Rattle.luks_header_area.specs.declared.fault.HeaderFault.{HeaderFault}
+use Rattle.luks_header_area.specs.declared.fault.HeaderFault.TheVariants.{Read as HeaderRead, Memory as HeaderMemory}
 use Rattle.luks_verdict.specs.declared.refusal.SegmentFault.{SegmentFault}
 use Rattle.luks_verdict.specs.declared.segment.Segment.{Segment}
 use Rattle.luks_key_slots.specs.Opening.{OrderModel, key_material_end, order_of, opening_of, work_of}
 use Rattle.luks_key_slots.specs.declared.fault.OpenFault.{OpenFault}
-use Rattle.luks_report.specs.Faults.{message_for_header, message_for_opening, message_at_end}
+use Rattle.luks_key_slots.specs.declared.fault.OpenFault.TheVariants.{Memory}
+use Rattle.luks_key_slots.specs.declared.fault.VolumeFault.{VolumeFault}
+use Rattle.luks_key_slots.specs.declared.fault.VolumeFault.TheVariants.{Header as HeaderNotRead, Segment as SegmentInvalid}
+use Rattle.luks_key_slots.specs.declared.fault.VolumeFault.TheVariants.{KeyAreaCut, Passphrase, Slots}
+use Rattle.luks_key_slots.specs.Fault.{has_fault, is_untried}
+use Rattle.luks_report.specs.Faults.{message_at_end, message_for_slots, message_for_volume}
 use Rattle.luks_request.specs.declared.command.SlotChoice.{SlotChoice}
 use Rattle.luks_key_slots.specs.declared.opening.Opened.{Opened}
 use Rattle.luks_payload.specs.Plain.{ending_of, payload_end_of, plain_of}
@@ -68,27 +74,28 @@ pub record Volume : Type 0 where
   pub order : OrderModel
 
 -- the volume with this order of key slots
-abbrev pub volume_in_order : Option ℕ → Header → Segment → Result OrderModel OpenFault → Result Volume Message
-volume_in_order named header segment (Ok order) = Ok (record { header = header; segment = segment; order = order })
-volume_in_order named header segment (Err fault) = Err (message_for_opening named fault)
+abbrev pub volume_in_order : Header → Segment → Result OrderModel OpenFault → Result Volume VolumeFault
+volume_in_order header segment (Ok order) = Ok (record { header = header; segment = segment; order = order })
+volume_in_order header segment (Err fault) = Err (Slots fault)
 
 -- the volume with this segment
-abbrev pub volume_in_segment : Option ℕ → Option ℕ → Header → Result Segment SegmentFault → Result Volume Message
-volume_in_segment named limit header (Ok segment) = volume_in_order named header segment (order_of header named limit)
-volume_in_segment named limit header (Err fault) = Err (SegmentRefused fault)
+abbrev pub volume_in_segment : SlotChoice → Header → Result Segment SegmentFault → Result Volume VolumeFault
+volume_in_segment slots header (Ok segment) =
+    volume_in_order header segment (order_of header slots.named slots.max_iterations)
+volume_in_segment slots header (Err fault) = Err (SegmentInvalid fault)
 
--- the volume with this header, by the named key slot and the limit on iterations
-abbrev pub volume_in_header : Option ℕ → Option ℕ → Result Header HeaderFault → Result Volume Message
-volume_in_header named limit (Ok header) = volume_in_segment named limit header (segment_of header)
-volume_in_header named limit (Err fault) = Err (message_for_header fault)
+-- the volume with this header, by the key slots that may be tried
+abbrev pub volume_in_header : SlotChoice → Result Header HeaderFault → Result Volume VolumeFault
+volume_in_header slots (Ok header) = volume_in_segment slots header (segment_of header)
+volume_in_header slots (Err fault) = Err (HeaderNotRead fault)
 
--- the volume whose header is read in this way, or the message if there is none: about its header first, then about its
--- segment, then about the order of its key slots
-unfoldable pub volume_by : HeaderReader → SlotChoice → List ℕ → Result Volume Message
-volume_by read slots image = volume_in_header slots.named slots.max_iterations (read image)
+-- the volume whose header is read in this way, or the fault if there is none: of its header first, then of its segment,
+-- then of the order of its key slots
+unfoldable pub volume_by : HeaderReader → SlotChoice → List ℕ → Result Volume VolumeFault
+volume_by read slots image = volume_in_header slots (read image)
 
 -- the volume of an image
-abbrev pub volume_of : SlotChoice → List ℕ → Result Volume Message
+abbrev pub volume_of : SlotChoice → List ℕ → Result Volume VolumeFault
 volume_of = volume_by header_of
 
 -- the number of bytes of the image that are consumed to open the volume: up to the end of those read for the header or
@@ -123,31 +130,31 @@ detached_payload_outcome image secret segment opened loaded =
     { input_consumed = loaded; payload_consumed = payload_end_of segment image }
 
 -- the outcome after the key slots were tried
-abbrev pub opened_outcome : OnOpened → Option ℕ → Volume → List ℕ → List ℕ → Result Opened OpenFault → Outcome
-opened_outcome on_opened named volume image secret (Ok opened) =
+abbrev pub opened_outcome : OnOpened → Volume → List ℕ → List ℕ → Result Opened OpenFault → Outcome
+opened_outcome on_opened volume image secret (Ok opened) =
     on_opened volume.segment opened (unlock_read_len image volume)
-opened_outcome on_opened named volume image secret (Err fault) =
-    no_output (message_for_opening named fault) (unlock_read_len image volume) (length secret)
+opened_outcome on_opened volume image secret (Err fault) =
+    no_output (message_for_slots fault) (unlock_read_len image volume) (length secret)
 
 -- the outcome if a volume was found: the key file is read whole, then the image up to the end of the last key material,
 -- and the key slots are tried
-unfoldable pub found_outcome : OnOpened → Option ℕ → Volume → List ℕ → List ℕ → Outcome
-found_outcome on_opened named volume image secret =
+unfoldable pub found_outcome : OnOpened → Volume → List ℕ → List ℕ → Outcome
+found_outcome on_opened volume image secret =
     if nat_lt max_key_file_len (length secret) then no_output KeyFileLength (header_read_len image)
     (max_key_file_len + 1)
     else (if nat_lt (length image) (key_material_end volume.order.entries)
     then no_output Cut (length image) (length secret)
-    else opened_outcome on_opened named volume image secret (opening_of volume.order image secret))
+    else opened_outcome on_opened volume image secret (opening_of volume.order image secret))
 
 -- the outcome, whether or not a volume was found
-abbrev pub outcome_after : OnOpened → Option ℕ → List ℕ → List ℕ → Result Volume Message → Outcome
-outcome_after on_opened named image secret (Ok volume) = found_outcome on_opened named volume image secret
-outcome_after on_opened named image secret (Err message) = no_output message (header_read_len image) 0
+abbrev pub outcome_after : OnOpened → List ℕ → List ℕ → Result Volume VolumeFault → Outcome
+outcome_after on_opened image secret (Ok volume) = found_outcome on_opened volume image secret
+outcome_after on_opened image secret (Err fault) = no_output (message_for_volume fault) (header_read_len image) 0
 
 -- the outcome of a command that opens a volume whose header is read in this way
 unfoldable pub volume_outcome_by : HeaderReader → OnOpened → SlotChoice → List ℕ → List ℕ → Outcome
 volume_outcome_by read on_opened slots image secret =
-    outcome_after on_opened slots.named image secret (volume_by read slots image)
+    outcome_after on_opened image secret (volume_by read slots image)
 
 -- the outcome of a command that opens a volume
 abbrev pub volume_outcome : OnOpened → SlotChoice → List ℕ → List ℕ → Outcome
@@ -160,12 +167,15 @@ abbrev pub HasSegmentBy : HeaderReader → List ℕ → Segment → Type 0
 HasSegmentBy read image segment = (header : Header) × (read image ≡ Ok header) × (segment_of header ≡ Ok segment)
 
 -- no volume whose header is read in this way was found, for this reason: a read failed, memory ran out, or the image
--- has none
-abbrev pub FindsNoVolume : HeaderReader → SlotChoice → List ℕ → Option (List ℕ) → Message → Type 0
-FindsNoVolume read slots image left ReadFailed = ConsumedAtMost image left (header_read_len image)
-FindsNoVolume read slots image left OutOfMemory = ConsumedAtMost image left (header_read_len image)
-FindsNoVolume read slots image left message =
-    (volume_by read slots image ≡ Err message) × ConsumedExactly image left (header_read_len image)
+-- has none. No passphrase and no key area is read for that
+abbrev pub FindsNoVolume : HeaderReader → SlotChoice → List ℕ → Option (List ℕ) → VolumeFault → Type 0
+FindsNoVolume read slots image left (HeaderNotRead HeaderRead) = ConsumedAtMost image left (header_read_len image)
+FindsNoVolume read slots image left (HeaderNotRead HeaderMemory) = ConsumedAtMost image left (header_read_len image)
+FindsNoVolume read slots image left (Slots Memory) = ConsumedAtMost image left (header_read_len image)
+FindsNoVolume read slots image left (Passphrase _) = ⊥
+FindsNoVolume read slots image left KeyAreaCut = ⊥
+FindsNoVolume read slots image left fault =
+    (volume_by read slots image ≡ Err fault) × ConsumedExactly image left (header_read_len image)
 
 -- a volume has the segment of its header, and the order of its header's key slots
 pub record MatchesHeader (slots : SlotChoice) (volume : FoundVolume) : Type 0 where
@@ -195,27 +205,28 @@ ConsumedMaterial order area area' rest left =
 
 -- the key slots of a volume whose header was read were tried: the image was consumed up to the end of the last key
 -- material, and the result is the volume with this segment that those key slots open under this passphrase, or their
--- fault. Otherwise a read failed, or memory ran out, or the image ended before that
-abbrev pub TriesSlots : Option ℕ → Segment → OrderModel → List ℕ → List ℕ → List ℕ → List ℕ → Option (List ℕ)
-    → Result UnlockedVolume Message → Type 0
-TriesSlots named segment order pass area area' rest left (Ok volume) = ConsumedMaterial order area area' rest left
+-- fault. Otherwise the image ended before that, or a read failed, or memory ran out
+abbrev pub TriesSlots : Segment → OrderModel → List ℕ → List ℕ → List ℕ → List ℕ → Option (List ℕ)
+    → Result UnlockedVolume VolumeFault → Type 0
+TriesSlots segment order pass area area' rest left (Ok volume) = ConsumedMaterial order area area' rest left
     × (key_material_end order.entries ≤ length area') × (volume.segment ≡ segment)
     × (opening_of order area' pass ≡ Ok (opened_of volume))
-TriesSlots named segment order pass area area' rest left (Err message) =
-    ((fault : HeaderFault) × (message ≡ message_for_header fault)
-    × AbortsConsuming (key_material_end order.entries - length area) area area' rest left fault)
-    ⊎ (ConsumedMaterial order area area' rest left × ((message ≡ Cut × (length area' < key_material_end order.entries))
-    ⊎ ((fault : OpenFault) × (message ≡ message_for_opening named fault)
-    × (key_material_end order.entries ≤ length area') × (opening_of order area' pass ≡ Err fault))))
+TriesSlots segment order pass area area' rest left (Err (Slots fault)) = ConsumedMaterial order area area' rest left
+    × (key_material_end order.entries ≤ length area') × (opening_of order area' pass ≡ Err fault)
+TriesSlots segment order pass area area' rest left (Err KeyAreaCut) = ConsumedMaterial order area area' rest left
+    × (length area' < key_material_end order.entries)
+TriesSlots segment order pass area area' rest left (Err (HeaderNotRead fault)) =
+    AbortsConsuming (key_material_end order.entries - length area) area area' rest left fault
+TriesSlots segment order pass area area' rest left _ = ⊥
 
 -- if the key material is loaded, the key slots were tried, and the count of work was raised once by the evaluations of
 -- HMAC that this costs; otherwise they were not tried, and the count is what it was
-abbrev pub CountsTrials : OrderModel → List ℕ → List ℕ → Message → ℕ → ℕ → Type 0
-CountsTrials order area pass message work work' =
+abbrev pub CountsTrials : OrderModel → List ℕ → List ℕ → Result UnlockedVolume VolumeFault → ℕ → ℕ → Type 0
+CountsTrials order area pass result work work' =
     ((key_material_end order.entries ≤ length area) × (work' ≡ capped (work + work_of order area pass)))
-    ⊎ ((length area < key_material_end order.entries) × (ends_untried message ≡ true) × (work' ≡ work))
+    ⊎ ((length area < key_material_end order.entries) × (has_fault is_untried result ≡ true) × (work' ≡ work))
 
--- trying the key slots hit EOF on the image only if the message is that the image ended
-abbrev pub HitsMaterialEof : Message → Bool → Type 0
-HitsMaterialEof Cut ended = Unit {0}
+-- trying the key slots hit EOF on the image only if the image ended inside a key area
+abbrev pub HitsMaterialEof : Result UnlockedVolume VolumeFault → Bool → Type 0
+HitsMaterialEof (Err KeyAreaCut) ended = Unit {0}
 HitsMaterialEof _ ended = ended ≡ false

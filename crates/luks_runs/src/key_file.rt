@@ -4,11 +4,11 @@ ghost use Rattle.std.specs.Prelude.{◌≡◌, ◌+◌, ◌≤◌, ◌⊎◌, �
 ghost use Rattle.std.specs.Prelude.{false, min, nat_lt, take, vec_len};
 ghost use Rattle.luks_io.specs.Devices.{ConsumedExactly, ConsumedAtMost, IfKnown};
 ghost use Rattle.luks_io.specs.Counts.{Reads};
-ghost use Rattle.luks_runs.specs.Run.{result_message};
+ghost use Rattle.luks_key_slots.specs.Fault.{is_passphrase_read_failure};
 ghost use Rattle.luks_runs.specs.KeyFile.{NoKeyFileRead, ReadsKeyFile, max_key_file_len};
 
 use luks_io::source::{Source, fill};
-use luks_report::message::Message;
+use luks_key_slots::fault::PassphraseFault;
 use std::alloc::Global;
 
 /// The length of the longest key file.
@@ -22,19 +22,16 @@ const PIECE: usize = 4096;
 ///
 /// # Errors
 ///
-/// `Message::KeyFileLength` for more than 8,388,608 bytes, `Message::OutOfMemory`,
-/// `Message::ReadFailed`.
-pub fn read_key_file<S: Source>(alloc: Global, source: &mut S) -> Result<Vec<u8>, Message>
+/// [`PassphraseFault::TooLong`] for more than 8,388,608 bytes, [`PassphraseFault::Memory`],
+/// [`PassphraseFault::Read`].
+pub fn read_key_file<S: Source>(alloc: Global, source: &mut S) -> Result<Vec<u8>, PassphraseFault>
     ensures few { IfOk result (λ secret. vec_len secret ≤ max_key_file_len) }
     ensures ok { IfOk result (λ secret. IfKnown (S.to_come source.old)
         (λ known. (secret.items ≡ known) × ConsumedExactly known (S.to_come source.new)
         (length known))) }
-    ensures err { IfErr result (λ message. IfKnown (S.to_come source.old)
-        (λ known. NoKeyFileRead known (S.to_come source.new) message)) }
-    ensures only { IfErr result (λ message. (message ≡ Message.KeyFileLength)
-        ⊎ ((message ≡ Message.OutOfMemory) ⊎ (message ≡ Message.ReadFailed))) }
-    ensures reads { ReadsKeyFile (result_message result)
-        (S.counts source.old) (S.counts source.new) }
+    ensures err { IfErr result (λ fault. IfKnown (S.to_come source.old)
+        (λ known. NoKeyFileRead known (S.to_come source.new) fault)) }
+    ensures reads { ReadsKeyFile result (S.counts source.old) (S.counts source.new) }
 {
     let mut buffer = [0; PIECE];
     let mut secret = Vec::new(alloc);
@@ -44,7 +41,7 @@ pub fn read_key_file<S: Source>(alloc: Global, source: &mut S) -> Result<Vec<u8>
             return Ok(secret);
         }
     }
-    Err(Message::KeyFileLength)
+    Err(PassphraseFault::TooLong)
 }
 
 /// Appends the next piece of the key file to the bytes so far. Returns its length, which is less
@@ -54,7 +51,7 @@ fn read_piece<S: Source>(
     piece: &mut [u8],
     secret: &mut Vec<u8>,
     source: &mut S,
-) -> Result<usize, Message>
+) -> Result<usize, PassphraseFault>
     requires { vec_len secret.old + length piece.old ≤ max_key_file_len + 1 }
     ensures size { IfOk result (λ got. got ≤ length piece.old) }
     ensures len { IfOk result (λ got. vec_len secret.new ≡ vec_len secret.old + got) }
@@ -62,14 +59,15 @@ fn read_piece<S: Source>(
         (λ known. (got ≡ min (length piece.old) (length known))
         × ConsumedExactly known (S.to_come source.new) got
         × (secret.new.items ≡ secret.old.items ++ take got known))) }
-    ensures err { IfErr result (λ message. IfKnown (S.to_come source.old)
+    ensures err { IfErr result (λ _. IfKnown (S.to_come source.old)
         (λ known. ConsumedAtMost known (S.to_come source.new) (length piece.old))) }
     ensures only { IfErr result
-        (λ message. (message ≡ Message.OutOfMemory) ⊎ (message ≡ Message.ReadFailed)) }
+        (λ fault. (fault ≡ PassphraseFault.Memory) ⊎ (fault ≡ PassphraseFault.Read)) }
     ensures reads { MatchResult result
         (λ got. Reads false (nat_lt got (length piece.old))
         (S.counts source.old) (S.counts source.new))
-        (λ message. ReadsKeyFile message (S.counts source.old) (S.counts source.new)) }
+        (λ fault. Reads (is_passphrase_read_failure fault) false
+        (S.counts source.old) (S.counts source.new)) }
 {
     // A byte more than the longest key file has needs no memory.
     secret.reserve(

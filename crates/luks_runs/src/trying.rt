@@ -1,22 +1,20 @@
 //! Trying the key slots of a volume under a passphrase.
 
-ghost use Rattle.std.specs.Prelude.{◌≡◌, ◌<◌, ◌≤◌, Bool, [], IfOk, IfErr, false, length, true};
+ghost use Rattle.std.specs.Prelude.{◌≡◌, ◌<◌, ◌≤◌, Bool, [], IfOk, false, length, true};
 ghost use Rattle.luks_io.specs.Counts.{Reads};
 ghost use Rattle.luks_io.specs.Devices.{IfKnown};
-ghost use Rattle.luks_runs.specs.Run.{is_run_read_failure, result_message};
-ghost use Rattle.luks_runs.specs.Volume.{MatchesHeader};
-ghost use Rattle.luks_runs.specs.Volume.{OpeningMessage};
-ghost use Rattle.luks_runs.specs.Volume.{CountsTrials, HitsMaterialEof, TriesSlots};
+ghost use Rattle.luks_key_slots.specs.Fault.{has_fault, is_read_failure};
+ghost use Rattle.luks_request.specs.declared.command.SlotChoice.{SlotChoice};
+ghost use Rattle.luks_runs.specs.Volume.{CountsTrials, HitsMaterialEof, MatchesHeader, TriesSlots};
 
 use crate::found::FoundVolume;
 use crate::unlocked::UnlockedVolume;
 use luks_header::area::HeaderArea;
 use luks_io::source::Source;
 use luks_kdf::Work;
+use luks_key_slots::fault::VolumeFault;
 use luks_key_slots::opening::open;
 use luks_key_slots::order::held_end;
-use luks_report::message::Message;
-use luks_request::command::SlotChoice;
 
 /// Tries the key slots of a volume under a passphrase, after reading on in the image up to the end
 /// of the last key material. Nothing is read if EOF was hit on the image before. If all key
@@ -24,35 +22,33 @@ use luks_request::command::SlotChoice;
 /// once; otherwise the count stays. `image` is the image with an attached header, or the file of a
 /// detached one.
 pub fn try_slots<I: Source>(
-    slots: SlotChoice,
     volume: &mut FoundVolume,
     image: &mut I,
     pass: &[u8],
     work: &mut Work,
-) -> Result<UnlockedVolume, Message>
-    requires { MatchesHeader slots volume.old }
+) -> Result<UnlockedVolume, VolumeFault>
+    requires { (slots : SlotChoice) × MatchesHeader slots volume.old }
     ensures run { IfKnown (I.to_come image.old) (λ rest.
         (volume.old.area.ended ≡ true → rest ≡ [])
-        → TriesSlots slots.named volume.old.segment volume.old.order
+        → TriesSlots volume.old.segment volume.old.order
         pass.now volume.old.area.bytes volume.new.area.bytes rest (I.to_come image.new) result) }
-    ensures work { CountsTrials volume.old.order volume.new.area.bytes pass.now
-        (result_message result) work.old work.new }
+    ensures work { CountsTrials volume.old.order volume.new.area.bytes pass.now result
+        work.old work.new }
     ensures kept { volume.new ≡ record volume.old { area = volume.new.area } }
-    ensures only { IfErr result OpeningMessage }
     ensures reads { (ended : Bool)
-        × Reads (is_run_read_failure (result_message result)) ended
+        × Reads (has_fault is_read_failure result) ended
         (I.counts image.old) (I.counts image.new)
-        × HitsMaterialEof (result_message result) ended }
+        × HitsMaterialEof result ended }
     ensures ended { volume.old.area.ended ≡ true → image.new ≡ image.old }
     ensures area { IfOk result (λ _. volume.new.area.ended ≡ volume.old.area.ended) }
 {
     let segment = volume.segment;
     let end = held_end(&volume.order);
     if is_cut(&volume.area, end) {
-        return Err(Message::Cut);
+        return Err(VolumeFault::KeyAreaCut);
     }
     if !volume.area.extend_to(image, end)? {
-        return Err(Message::Cut);
+        return Err(VolumeFault::KeyAreaCut);
     }
     let FoundVolume {
         header,
@@ -60,10 +56,8 @@ pub fn try_slots<I: Source>(
         order,
         ..
     } = volume;
-    match open(header, area, order, pass, work) {
-        Ok(opened) => Ok(UnlockedVolume::new(segment, opened)),
-        Err(fault) => Err(Message::of_opening(slots.named, fault)),
-    }
+    let opened = open(header, area, order, pass, work)?;
+    Ok(UnlockedVolume::new(segment, opened))
 }
 
 /// Whether EOF was hit on the image before `end` bytes of it were loaded.

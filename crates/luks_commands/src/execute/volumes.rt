@@ -2,11 +2,14 @@
 
 ghost use Rattle.std.specs.Prelude.{◌≡◌, ◌⊎◌, [], Bool};
 ghost use Rattle.std.specs.Prelude.{IfOk, IfErr, MatchResult, false, is_err, true};
+ghost use Rattle.luks_key_slots.specs.Fault.{has_fault, is_read_failure, is_untried};
+ghost use Rattle.luks_report.specs.Faults.{message_for_volume};
+ghost use Rattle.luks_request.specs.declared.command.SlotChoice.{SlotChoice};
 ghost use Rattle.luks_io.specs.Counts.{Reads, Writes};
 ghost use Rattle.luks_io.specs.Devices.{Appended, ConsumedExactly, IfKnown, counted};
 ghost use Rattle.luks_runs.specs.Volume.{MatchesHeader};
 ghost use Rattle.luks_runs.specs.Volume.{OpeningMessage};
-ghost use Rattle.luks_runs.specs.Volume.{CountsTrials, ends_untried, opened_of};
+ghost use Rattle.luks_runs.specs.Volume.{CountsTrials, opened_of};
 ghost use Rattle.luks_runs.specs.Volume.{slot_outcome, volume_by, volume_outcome_by};
 ghost use Rattle.luks_report.specs.Texts.{opened_line};
 ghost use Rattle.luks_runs.specs.RunMessages.{PayloadMessage};
@@ -27,6 +30,7 @@ use luks_io::memory::MemSource;
 use luks_io::sink::{Sink, put_all};
 use luks_io::source::Source;
 use luks_kdf::Work;
+use luks_key_slots::fault::VolumeFault;
 use luks_report::message::Message;
 use luks_report::opened::opened_text;
 use luks_request::command::{SlotChoice, VolumeArgs};
@@ -50,33 +54,31 @@ struct LoadedVolume {
 /// Opens a volume that was found, by the passphrase in the key file.
 fn unlock_found<I: Source, K: Source>(
     alloc: Global,
-    slots: SlotChoice,
     volume: &mut FoundVolume,
     image: &mut I,
     secret: &mut K,
     work: &mut Work,
-) -> Result<UnlockedVolume, Message>
-    requires { MatchesHeader slots volume.old }
+) -> Result<UnlockedVolume, VolumeFault>
+    requires { (slots : SlotChoice) × MatchesHeader slots volume.old }
     ensures run { IfKnown (I.to_come image.old) (λ rest. IfKnown (K.to_come secret.old)
         (λ passphrase. (volume.old.area.ended ≡ true → rest ≡ [])
-        → UnlockEffect slots.named volume.old.segment volume.old.order
+        → UnlockEffect volume.old.segment volume.old.order
         passphrase volume.old.area.bytes volume.new.area.bytes rest (I.to_come image.new)
         (K.to_come secret.new) result)) }
-    ensures only { IfErr result OpeningMessage }
-    ensures counts { CountsReads ReadsOnce (is_run_read_failure (result_message result))
+    ensures counts { CountsReads ReadsOnce (has_fault is_read_failure result)
         (I.counts image.old) (I.counts image.new) (K.counts secret.old) (K.counts secret.new) }
     ensures work { IfKnown (K.to_come secret.old) (λ passphrase.
         (((K.counts secret.new).ends ≡ counted true (K.counts secret.old).ends)
-        × CountsTrials volume.old.order volume.new.area.bytes passphrase (result_message result)
+        × CountsTrials volume.old.order volume.new.area.bytes passphrase result
         work.old work.new)
-        ⊎ ((is_err result ≡ true) × (ends_untried (result_message result) ≡ true)
+        ⊎ ((has_fault is_untried result ≡ true)
         × ((K.counts secret.new).ends ≡ (K.counts secret.old).ends) × (work.new ≡ work.old))) }
     ensures ended { volume.old.area.ended ≡ true → image.new ≡ image.old }
     ensures still { IfOk result (λ _. (volume.new.area.ended ≡ volume.old.area.ended)
         × Reads false false (I.counts image.old) (I.counts image.new)) }
 {
     let passphrase = read_key_file(alloc, secret)?;
-    try_slots(slots, volume, image, &passphrase, work)
+    try_slots(volume, image, &passphrase, work)
 }
 
 /// The loaded bytes of a volume's image. The rest of the found volume is dropped.
@@ -95,33 +97,33 @@ fn unlock<I: Source, K: Source>(
     image: &mut I,
     secret: &mut K,
     work: &mut Work,
-) -> Result<LoadedVolume, Message>
+) -> Result<LoadedVolume, VolumeFault>
     ensures ok { IfOk result (λ unlocked. IfKnown (I.to_come image.old) (λ known.
         IfKnown (K.to_come secret.old) (λ passphrase.
         Unlocks location slots known passphrase unlocked.volume.segment
         (opened_of unlocked.volume) unlocked.area.bytes (I.to_come image.new)
         (K.to_come secret.new)))) }
-    ensures err { IfErr result (λ message. IfKnown (I.to_come image.old) (λ known.
+    ensures err { IfErr result (λ fault. IfKnown (I.to_come image.old) (λ known.
         IfKnown (K.to_come secret.old) (λ passphrase.
-        EndsLocked location slots known passphrase message
+        EndsLocked location slots known passphrase (message_for_volume fault)
         (I.to_come image.new) (K.to_come secret.new)))) }
     ensures unneeded { IfKnown (I.to_come image.old) (λ known.
         is_err (volume_by (reader_for location) slots known) ≡ true
         → secret.new ≡ secret.old) }
-    ensures only { IfErr result OpeningMessage }
-    ensures counts { CountsReads ReadsOnce (is_run_read_failure (result_message result))
+    ensures counts { CountsReads ReadsOnce (has_fault is_read_failure result)
         (I.counts image.old) (I.counts image.new) (K.counts secret.old) (K.counts secret.new) }
     ensures work { IfKnown (I.to_come image.old) (λ known.
         IfKnown (K.to_come secret.old) (λ passphrase. MatchResult result
         (λ _. CountsTried location slots known passphrase (I.to_come image.new)
         (K.counts secret.old) (K.counts secret.new) work.old work.new)
-        (λ message. CountsOpening location slots known passphrase message (I.to_come image.new)
+        (λ fault. CountsOpening location slots known passphrase (message_for_volume fault)
+        (I.to_come image.new)
         (K.counts secret.old) (K.counts secret.new) work.old work.new))) }
     ensures loaded { IfOk result (λ unlocked. LoadedFrom unlocked.area (I.to_come image.old)
         (I.to_come image.new) (I.counts image.old) (I.counts image.new)) }
 {
     let mut volume = find_volume(alloc, location, slots, image)?;
-    let opened = unlock_found(alloc, slots, &mut volume, image, secret, work);
+    let opened = unlock_found(alloc, &mut volume, image, secret, work);
     let area = area_of(volume);
     Ok(LoadedVolume {
         area,

@@ -12,11 +12,10 @@ use Rattle.luks_header.specs.HeaderSegment.{segment_of}
 use Rattle.luks_header.specs.declared.header.Header.{Header}
 use Rattle.luks_key_slots.specs.VolumeKey.{compared, key_digest_of}
 use Rattle.luks_key_slots.specs.declared.volume_key.KeyCheck.TheVariants.{Differs}
-use Rattle.luks_report.specs.Faults.{message_for_header}
-use Rattle.luks_report.specs.declared.message.Message.TheVariants.{SegmentRefused}
+use Rattle.luks_key_slots.specs.Fault.{aborts_opening}
+use Rattle.luks_key_slots.specs.declared.fault.VolumeFault.TheVariants.{Header as HeaderNotRead, Segment as SegmentRefused}
 use Rattle.luks_runs.proofs.RunLemmas.{reading_fault}
 use Rattle.luks_runs.specs.Location.{reader_for}
-use Rattle.luks_runs.specs.Run.{aborts}
 use Rattle.luks_runs.specs.declared.location.HeaderLocation.{HeaderLocation}
 use Rattle.luks_access.specs.Keys.{ConsumesToCheck, check_in_header, check_in_segment, key_check_of}
 use Rattle.luks_access.proofs.key.check_key_from.Goals as goal
@@ -24,8 +23,8 @@ use Rattle.luks_access.proofs.key.check_key_from.Goals as goal
 module _ (location : HeaderLocation) (limit : Option ℕ) (image key : List ℕ) where
   -- no header was read
   refused_unread : (left : Option (List ℕ)) (ends ends' : ℕ) (fault : HeaderFault)
-      → ReadsNoHeader image left ends ends' fault → aborts (message_for_header fault) ≡ false
-      → key_check_of location limit image key ≡ Err (message_for_header fault)
+      → ReadsNoHeader image left ends ends' fault → aborts_opening (HeaderNotRead fault) ≡ false
+      → key_check_of location limit image key ≡ Err (HeaderNotRead fault)
   unfolding key_check_of
   refused_unread left ends ends' HeaderRead stop never = cc
   refused_unread left ends ends' HeaderMemory stop never = cc
@@ -52,7 +51,7 @@ module _ (location : HeaderLocation) (limit : Option ℕ) (image key : List ℕ)
 
 -- no header was read: the bytes that are read for it were consumed, or no more than these
 consumed_unread : (image : List ℕ) (left : Option (List ℕ)) (ends ends' : ℕ) (fault : HeaderFault)
-    → ReadsNoHeader image left ends ends' fault → ConsumesToCheck image (message_for_header fault) left
+    → ReadsNoHeader image left ends ends' fault → ConsumesToCheck image (Err (HeaderNotRead fault)) left
 consumed_unread image left ends ends' HeaderRead stop = stop.0
 consumed_unread image left ends ends' HeaderMemory stop = memory_below image left ends ends' stop
 consumed_unread image left ends ends' fault stop = stop.1.0

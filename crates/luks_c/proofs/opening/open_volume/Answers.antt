@@ -5,7 +5,8 @@ use Rattle.luks_report.specs.declared.message.Message.{Message}
 use Rattle.luks_report.specs.declared.message.Message.TheVariants.{Done}
 use Rattle.luks_runs.proofs.PrefixLemmas.{outcome_decided}
 use Rattle.luks_runs.specs.Volume.{OpeningMessage}
-use Rattle.luks_c.proofs.StoredLemmas.{no_read}
+use Rattle.luks_runs.proofs.RunLemmas.{never_failed}
+use Rattle.luks_runs.proofs.VolumeLemmas.{message_says}
 use Rattle.luks_c.specs.Stored.{code_for}
 use Rattle.luks_c.proofs.opening.open_volume.Goals as goal
 
@@ -32,12 +33,13 @@ returns-in-Ok-clause-opens c done =
             c.args.passphrase.now on_opened begins
             ∙ known.opens.outcome on_opened;
       };
-      says = c.set.ensures;
+      says = c.answer_message.ensures.message;
     }
 
 pub returns-in-Err-clause-opens : goal.returns-in-Err-clause-opens
 returns-in-Err-clause-opens c none =
-    absurd (some_code c.in-Err.refusal c.in-Err.ensures.only (sym c.code_of.ensures ∙ none))
+    absurd (some_code _ (message_says c.in-Err.fault).opening
+    (sym (c.answer_message-in-Err.ensures.code ∙ ap code_for c.from.ensures) ∙ none))
 
 pub returns-in-Err-clause-refuses : goal.returns-in-Err-clause-refuses
 returns-in-Err-clause-refuses c some other =
@@ -45,11 +47,10 @@ returns-in-Err-clause-refuses c some other =
     record {
       options = c.in-Some.options;
       are = c.in-Some.ensures.made;
-      refusal = c.in-Err.refusal;
-      is_code = c.code_of.ensures;
-      says = c.set-in-Err.ensures;
-      opening = c.in-Err.ensures.only;
-      read = no_read c.in-Err.refusal c.in-Err.ensures.reads.1.failures;
+      fault = c.in-Err.fault;
+      is_code = c.answer_message-in-Err.ensures.code ∙ ap code_for c.from.ensures;
+      says = rw c.from.ensures at c.answer_message-in-Err.ensures.message;
+      read = never_failed _ c.in-Err.ensures.reads.1.failures;
       refuses = λ never image begins. record {
         header_consumed = (known.refuses never).header_consumed;
         secret_consumed = (known.refuses never).secret_consumed;

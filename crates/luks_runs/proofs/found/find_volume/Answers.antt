@@ -1,5 +1,6 @@
+use Rattle.std.proofs.Common.{sym}
 use Rattle.luks_io.proofs.ErrorLemmas.{given_error}
-use Rattle.luks_runs.proofs.VolumeLemmas.{aborts_without_header, aborts_without_slots}
+use Rattle.luks_runs.proofs.VolumeLemmas.{aborts_without_header, aborts_without_order, aborts_without_segment}
 use Rattle.luks_runs.proofs.found.find_volume.Goals as goal
 
 pub returns-in_err-header-clause-err : goal.returns-in_err-header-clause-err
@@ -12,14 +13,21 @@ pub returns-in_err-segment-clause-err : goal.returns-in_err-segment-clause-err
 returns-in_err-segment-clause-err g c =
     rw (given_error _ _ c.from_residual-in_err-segment.ensures.1) (λ known is.
     let read = c.in_ok-header.ensures.consumed known is in
-    aborts_without_slots c.args.location c.args.slots known _ c.in_ok-header.header read.0 read.2
-    _ c.in_err-segment.ensures.err)
+    aborts_without_segment c.args.location c.args.slots known _ c.in_ok-header.header read.0 read.2
+    _ (sym c.in_err-segment.ensures))
+
+pub returns-in_err-order-clause-err : goal.returns-in_err-order-clause-err
+returns-in_err-order-clause-err g c =
+    rw (given_error _ _ c.from_residual-in_err-order.ensures.1) (λ known is.
+    let read = c.in_ok-header.ensures.consumed known is in
+    aborts_without_order c.args.location c.args.slots known _ c.in_ok-header.header read.0 read.2
+    c.in_ok-segment.segment (sym c.in_ok-segment.ensures) _ c.in_err-order.ensures.answer)
 
 pub returns-clause-found : goal.returns-clause-found
 returns-clause-found g c =
     let read = c.in_ok-header.ensures in
     record {
-      slots = record { segment = c.in_ok-segment.ensures.segment; order = c.in_ok-segment.ensures.order };
+      slots = record { segment = sym c.in_ok-segment.ensures; order = c.in_ok-order.ensures.answer };
       of_area = read.of_area;
       area = read.whole_area;
       header = read.consumed;

@@ -7,8 +7,8 @@ use Rattle.luks_runs.proofs.key_file.read_key_file.Goals as goal
 use Rattle.std.proofs.Math.Seq.{take-add}
 use Rattle.luks_io.proofs.EffectLemmas.{consumed-all, consumed_behind, consumed_more, reads_more}
 use Rattle.luks_io.specs.Devices.{ConsumedExactly, ConsumedAtMost, IfKnown}
-use Rattle.luks_report.specs.declared.message.Message.{Message}
-use Rattle.luks_report.specs.declared.message.Message.TheVariants.{OutOfMemory, ReadFailed}
+use Rattle.luks_key_slots.specs.declared.fault.PassphraseFault.{PassphraseFault}
+use Rattle.luks_key_slots.specs.declared.fault.PassphraseFault.TheVariants.{Memory, Read}
 
 module _ (known : List ℕ) (n : ℕ) (s s' : Option (List ℕ)) (consumption : ConsumedExactly known s n) where
   -- the next bytes of the key file are appended to those read so far
@@ -31,10 +31,10 @@ module _ (known : List ℕ) (n : ℕ) (s s' : Option (List ℕ)) (consumption : 
       (more.0 ∙ take_all (n + got) known whole, consumed-all known s' (n + got) whole more.1.left)
 
   -- a read of the next bytes failed, or memory for them ran out
-  piece_lost : (size : ℕ) (message : Message) → n + size ≤ max_key_file_len + 1
-      → IfKnown s (λ rest. ConsumedAtMost rest s' size) → (message ≡ OutOfMemory) ⊎ (message ≡ ReadFailed)
-      → NoKeyFileRead known s' message
-  piece_lost size message capacity lost why =
+  piece_lost : (size : ℕ) (fault : PassphraseFault) → n + size ≤ max_key_file_len + 1
+      → IfKnown s (λ rest. ConsumedAtMost rest s' size) → (fault ≡ Memory) ⊎ (fault ≡ Read)
+      → NoKeyFileRead known s' fault
+  piece_lost size fault capacity lost why =
       let some = lost (drop n known) consumption.left in
       let all = consumed_behind known s s' n some.0 consumption some.2 in
       let up : ConsumedAtMost known s' (min (length known) (max_key_file_len + 1)) =

@@ -3,12 +3,15 @@
 use super::assert_at;
 use super::fixture::{BadImage, OPTIONS, PASS, image2, opened, refusal, text};
 use crate::tests::shared::assert_of;
-use luks_access::Message;
 use luks_access::fault::RangeFault;
 use luks_access::volume::Volume;
+use luks_access::{HeaderFault, VolumeFault};
 use luks_seal_fixtures::bytes::at;
 use luks_verdict::sector_size::SectorSize;
 use std::process::Abort;
+
+/// A read of the image failed.
+const UNREAD: VolumeFault = VolumeFault::Header(HeaderFault::Read);
 
 fn is_zero(bytes: &[u8]) -> bool {
     bytes.iter().all(|byte| *byte == 0)
@@ -71,8 +74,8 @@ fn an_image_that_became_shorter_gives_no_plaintext(rt: HostRuntime) {
 fn an_image_is_not_opened_if_a_read_fails(rt: HostRuntime) {
     let image = image2(&rt, text(&rt, 1024), SectorSize::B512, 0, false);
     let whole = BadImage::new(image);
-    let message = refusal(rt.alloc(), &OPTIONS, &whole, PASS);
-    assert_of(&rt, "whole", message == Message::Done);
+    let opened = refusal(rt.alloc(), &OPTIONS, &whole, PASS);
+    assert_of(&rt, "whole", opened.is_none());
     let calls = whole.calls.get();
     assert_of(&rt, "calls", (0 < calls) & (calls < 100));
     for failing in 1..=calls {
@@ -80,8 +83,8 @@ fn an_image_is_not_opened_if_a_read_fails(rt: HostRuntime) {
             failing,
             ..BadImage::new(image)
         };
-        let message = refusal(rt.alloc(), &OPTIONS, &bad, PASS);
-        assert_at(&rt, u64::from(failing), message == Message::ReadFailed);
+        let fault = refusal(rt.alloc(), &OPTIONS, &bad, PASS);
+        assert_at(&rt, u64::from(failing), fault == Some(UNREAD));
     }
 }
 
@@ -94,7 +97,7 @@ fn an_image_that_became_shorter_is_not_opened(rt: HostRuntime) {
             bytes: at(image, 0, len),
             ..BadImage::new(image)
         };
-        let message = refusal(rt.alloc(), &OPTIONS, &shorter, PASS);
-        assert_at(&rt, len as u64, message == Message::ReadFailed);
+        let fault = refusal(rt.alloc(), &OPTIONS, &shorter, PASS);
+        assert_at(&rt, len as u64, fault == Some(UNREAD));
     }
 }

@@ -7,7 +7,7 @@ use luks_access::image::{ReadAt, ReadAtFault};
 use luks_access::memory::MemImage;
 use luks_access::options::Options;
 use luks_access::volume::Volume;
-use luks_access::{HeaderLocation, Message, SlotChoice};
+use luks_access::{HeaderLocation, SlotChoice, VolumeFault};
 use luks_seal::parameters::Seal2;
 use luks_seal_fixtures::bytes::{at, counted};
 use luks_seal_fixtures::parameters::{parameters1, parameters2, slot1, slot2};
@@ -84,11 +84,16 @@ pub fn is_range(
     (answer == Ok(())) & (at(plain, offset, bytes.len()) == &bytes[..])
 }
 
-/// The message of the refusal of a volume, or `Done` if it was opened.
-pub fn refusal(alloc: Global, options: &Options, image: &impl ReadAt, pass: &[u8]) -> Message {
+/// Why a volume is not opened, or `None` if it is.
+pub fn refusal(
+    alloc: Global,
+    options: &Options,
+    image: &impl ReadAt,
+    pass: &[u8],
+) -> Option<VolumeFault> {
     match Volume::open(alloc, options, image, pass) {
-        Ok(_) => Message::Done,
-        Err(message) => message,
+        Ok(_) => None,
+        Err(fault) => Some(fault),
     }
 }
 

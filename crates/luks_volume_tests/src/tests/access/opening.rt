@@ -5,7 +5,9 @@ use crate::tests::shared::assert_of;
 use luks_access::memory::MemImage;
 use luks_access::options::Options;
 use luks_access::volume::{MAX_PASSPHRASE_LEN, Volume};
-use luks_access::{HeaderLocation, Message, SlotChoice};
+use luks_access::{
+    HeaderFault, HeaderLocation, OpenFault, PassphraseFault, SlotChoice, VolumeFault,
+};
 use luks_seal_fixtures::bytes::at;
 use luks_seal_fixtures::parameters::KEY;
 use luks_test_support::scarce::Scarcity;
@@ -35,8 +37,8 @@ fn limited(iterations: u32) -> Options {
     }
 }
 
-// The message of opening an image in memory.
-fn message(alloc: Global, options: &Options, image: &[u8], pass: &[u8]) -> Message {
+// Why an image in memory is not opened.
+fn fault(alloc: Global, options: &Options, image: &[u8], pass: &[u8]) -> Option<VolumeFault> {
     refusal(alloc, options, &MemImage::new(image), pass)
 }
 
@@ -44,39 +46,47 @@ fn check_opened(rt: &(impl Abort + AllocGlobal), image: &[u8]) {
     assert_of(
         rt,
         "any",
-        message(rt.alloc(), &OPTIONS, image, PASS) == Message::Done,
+        fault(rt.alloc(), &OPTIONS, image, PASS).is_none(),
     );
     assert_of(
         rt,
         "slot 2",
-        message(rt.alloc(), &named(2), image, PASS) == Message::Done,
+        fault(rt.alloc(), &named(2), image, PASS).is_none(),
     );
     assert_of(
         rt,
         "limit 3",
-        message(rt.alloc(), &limited(3), image, PASS) == Message::Done,
+        fault(rt.alloc(), &limited(3), image, PASS).is_none(),
     );
 }
 
 fn check_refused(rt: &(impl Abort + AllocGlobal), image: &[u8]) {
-    let named = message(rt.alloc(), &named(3), image, PASS);
-    assert_of(rt, "slot 3", named == Message::NoSuchSlot(3));
-    let limited = message(rt.alloc(), &limited(1), image, PASS);
-    assert_of(rt, "limit 1", matches!(limited, Message::NothingTried(_)));
+    let named = fault(rt.alloc(), &named(3), image, PASS);
+    let no_slot = VolumeFault::Slots(OpenFault::NoSuchSlot(3));
+    assert_of(rt, "slot 3", named == Some(no_slot));
+    let limited = fault(rt.alloc(), &limited(1), image, PASS);
+    let is_untried = matches!(
+        limited,
+        Some(VolumeFault::Slots(OpenFault::NothingTried(_)))
+    );
+    assert_of(rt, "limit 1", is_untried);
     for pass in [b"Second".as_slice(), b"".as_slice()] {
-        let other = message(rt.alloc(), &OPTIONS, image, pass);
-        assert_of(rt, "another key", matches!(other, Message::NoKey(_)));
+        let other = fault(rt.alloc(), &OPTIONS, image, pass);
+        let has_no_key = matches!(other, Some(VolumeFault::Slots(OpenFault::NoKey(_))));
+        assert_of(rt, "another key", has_no_key);
     }
 }
 
 // The long text is too long for a passphrase, and is not a volume.
 fn check_others(rt: &(impl Abort + AllocGlobal), image: &[u8], long: &[u8]) {
-    let other = message(rt.alloc(), &OPTIONS, image, long);
-    assert_of(rt, "long", other == Message::KeyFileLength);
-    let other = message(rt.alloc(), &OPTIONS, long, PASS);
-    assert_of(rt, "no volume", other == Message::NotLuks);
-    let other = message(rt.alloc(), &OPTIONS, at(image, 0, 33_000), PASS);
-    assert_of(rt, "cut", other == Message::Cut);
+    let other = fault(rt.alloc(), &OPTIONS, image, long);
+    let too_long = VolumeFault::Passphrase(PassphraseFault::TooLong);
+    assert_of(rt, "long", other == Some(too_long));
+    let other = fault(rt.alloc(), &OPTIONS, long, PASS);
+    let not_luks = VolumeFault::Header(HeaderFault::NotLuks);
+    assert_of(rt, "no volume", other == Some(not_luks));
+    let other = fault(rt.alloc(), &OPTIONS, at(image, 0, 33_000), PASS);
+    assert_of(rt, "cut", other == Some(VolumeFault::KeyAreaCut));
 }
 
 #[test]
@@ -135,26 +145,33 @@ fn a_detached_header_opens_another_image(rt: HostRuntime) {
 }
 
 // Opens the volume again and again, with one more piece of memory each time.
-fn open_until_done(alloc: Global, image: &[u8], scarcity: &mut Scarcity) -> (u32, Message) {
+fn open_until_done(
+    alloc: Global,
+    image: &[u8],
+    scarcity: &mut Scarcity,
+) -> (u32, Option<VolumeFault>) {
+    let mut last = None;
     for refused in 0..400 {
-        let message = message(alloc, &OPTIONS, image, PASS);
-        if message != Message::OutOfMemory {
-            return (refused, message);
-        }
+        last = fault(alloc, &OPTIONS, image, PASS);
+        let (Some(VolumeFault::Header(HeaderFault::Memory))
+        | Some(VolumeFault::Slots(OpenFault::Memory))) = last
+        else {
+            return (refused, last);
+        };
         scarcity.relent();
     }
-    (400, Message::OutOfMemory)
+    (400, last)
 }
 
 #[test]
 fn out_of_memory_is_reported(rt: HostRuntime) {
     let image = image2(&rt, text(&rt, 1024), SectorSize::B512, 0, false);
     // The stack grows in this first run, since it cannot when all memory is allocated.
-    let first = message(rt.alloc(), &OPTIONS, image, PASS);
-    assert_of(&rt, "first", first == Message::Done);
+    let first = fault(rt.alloc(), &OPTIONS, image, PASS);
+    assert_of(&rt, "first", first.is_none());
     let mut scarcity = Scarcity::new(rt.alloc(), 400, 4096).expect(&rt, "memory");
-    let (refused, message) = open_until_done(rt.alloc(), image, &mut scarcity);
+    let (refused, last) = open_until_done(rt.alloc(), image, &mut scarcity);
     drop(scarcity);
-    assert_of(&rt, "last", message == Message::Done);
+    assert_of(&rt, "last", last.is_none());
     assert_of(&rt, "refused", (0 < refused) & (refused < 400));
 }

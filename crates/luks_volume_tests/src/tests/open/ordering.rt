@@ -22,9 +22,9 @@ fn header(rt: &(impl Abort + AllocGlobal)) -> Header {
 /// is named, these are skipped.
 enum Expected {
     Slots(&'static [u8], usize),
-    NoSuchSlot,
-    Disabled,
-    NamedSkipped(SkipReason),
+    NoSuchSlot(u8),
+    Disabled(u8),
+    NamedSkipped(u8, SkipReason),
     NothingTried(&'static [(u8, SkipReason)]),
 }
 
@@ -36,19 +36,27 @@ static ROWS: [(Option<u8>, Option<u32>, Expected); 16] = [
     (Some(0), None, Expected::Slots(&[0], 1536)),
     (Some(3), None, Expected::Slots(&[3], 4608)),
     (Some(5), Some(7), Expected::Slots(&[5], 3072)),
-    (Some(8), None, Expected::NoSuchSlot),
-    (Some(255), None, Expected::NoSuchSlot),
-    (Some(1), None, Expected::Disabled),
-    (Some(7), Some(1), Expected::Disabled),
-    (Some(2), None, Expected::NamedSkipped(SkipReason::Stripes)),
-    (Some(4), None, Expected::NamedSkipped(SkipReason::State)),
-    (Some(6), None, Expected::NamedSkipped(SkipReason::Area)),
+    (Some(8), None, Expected::NoSuchSlot(8)),
+    (Some(255), None, Expected::NoSuchSlot(255)),
+    (Some(1), None, Expected::Disabled(1)),
+    (Some(7), Some(1), Expected::Disabled(7)),
+    (
+        Some(2),
+        None,
+        Expected::NamedSkipped(2, SkipReason::Stripes),
+    ),
+    (Some(4), None, Expected::NamedSkipped(4, SkipReason::State)),
+    (Some(6), None, Expected::NamedSkipped(6, SkipReason::Area)),
     (
         Some(3),
         Some(8),
-        Expected::NamedSkipped(SkipReason::Iterations),
+        Expected::NamedSkipped(3, SkipReason::Iterations),
     ),
-    (Some(0), Some(6), Expected::NamedSkipped(SkipReason::Digest)),
+    (
+        Some(0),
+        Some(6),
+        Expected::NamedSkipped(0, SkipReason::Digest),
+    ),
     (
         None,
         Some(6),
@@ -85,9 +93,11 @@ fn is_expected(answer: &Result<Order, OpenFault>, expected: &Expected) -> bool {
         (Err(OpenFault::NothingTried(slots)), Expected::NothingTried(skipped)) => {
             slots.as_slice() == *skipped
         }
-        (Err(OpenFault::NoSuchSlot), Expected::NoSuchSlot) => true,
-        (Err(OpenFault::Disabled), Expected::Disabled) => true,
-        (Err(OpenFault::NamedSkipped(reason)), Expected::NamedSkipped(want)) => *reason == *want,
+        (Err(OpenFault::NoSuchSlot(slot)), Expected::NoSuchSlot(named)) => *slot == *named,
+        (Err(OpenFault::Disabled(slot)), Expected::Disabled(named)) => *slot == *named,
+        (Err(OpenFault::NamedSkipped(slot, reason)), Expected::NamedSkipped(named, want)) => {
+            *slot == *named && *reason == *want
+        }
         _ => false,
     }
 }

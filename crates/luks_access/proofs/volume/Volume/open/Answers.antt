@@ -10,5 +10,5 @@ returns-clause-opens g c =
 
 pub returns-clause-refuses : goal.returns-clause-refuses
 returns-clause-refuses g c =
-    IfErr-weaker c.open_from.result _ _ (λ message has known there. has known (c.new.ensures.bytes ∙ rw there refl))
+    IfErr-weaker c.open_from.result _ _ (λ fault has known there. has known (c.new.ensures.bytes ∙ rw there refl))
     c.open_from.ensures.refuses

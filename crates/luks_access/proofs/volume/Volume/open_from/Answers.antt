@@ -17,13 +17,13 @@ returns-clause-opens g c known is =
 pub returns-in_err-found-clause-refuses : goal.returns-in_err-found-clause-refuses
 returns-in_err-found-clause-refuses g c =
     rw (given_error _ _ c.from_residual.ensures.1) (λ known is.
-    volume_refused c.args.options.now known c.args.pass.now _ c.in_err-found.ensures.only (λ never.
+    volume_refused c.args.options.now known c.args.pass.now _ (λ never.
     refused_unfound c.args.options.now known c.args.pass.now _ _ never (c.in_err-found.ensures.err known is)))
 
 pub returns-in_err-unlocked-clause-refuses : goal.returns-in_err-unlocked-clause-refuses
 returns-in_err-unlocked-clause-refuses g c =
     rw (given_error _ _ c.from_residual-in_err-unlocked.ensures.1) (λ known is.
-    volume_refused c.args.options.now known c.args.pass.now _ c.in_err-unlocked.ensures.only (λ never.
+    volume_refused c.args.options.now known c.args.pass.now _ (λ never.
     let found = c.in_ok-found.ensures.found in
     let read = found.header known is in
     refused_unopened c.args.options.now known c.args.pass.now _ _ found.slots read.0 _ read.1 _ never
@@ -39,7 +39,7 @@ returns-clause-consumes g c known is =
 pub returns-in_err-found-clause-consumes : goal.returns-in_err-found-clause-consumes
 returns-in_err-found-clause-consumes g c =
     rw (given_error _ _ c.from_residual.ensures.1) (λ known is.
-    consumed_unfound c.args.options.now known c.args.pass.now _ _ c.in_err-found.ensures.only
+    consumed_unfound c.args.options.now known c.args.pass.now _ _
     (c.in_err-found.ensures.err known is))
 
 pub returns-in_err-unlocked-clause-consumes : goal.returns-in_err-unlocked-clause-consumes

@@ -3,12 +3,14 @@ use Rattle.luks_io.proofs.EffectLemmas.{consumed-none}
 use Rattle.luks_io.proofs.ErrorLemmas.{given_error}
 use Rattle.luks_io.specs.Counts.{MemSourceModel}
 use Rattle.luks_request.specs.Request.{volume_request}
-use Rattle.luks_runs.specs.Run.{ConsumedNothing, result_message}
+use Rattle.luks_runs.proofs.RunLemmas.{never_failed}
+use Rattle.luks_runs.proofs.VolumeLemmas.{message_says}
+use Rattle.luks_runs.specs.Run.{ConsumedNothing, is_run_read_failure, result_message}
 use Rattle.luks_runs.specs.declared.location.HeaderLocation.TheVariants.{Attached, Detached}
 use Rattle.luks_commands.proofs.OpenedRuns.{allows_payload, calls_without_payload}
 use Rattle.luks_commands.proofs.OpenedRuns.{consumed_no_payload, counts_forwarded}
 use Rattle.luks_commands.proofs.OpenedRuns.{detached_runs_forwarded, loaded_from_none}
-use Rattle.luks_commands.proofs.OpenedRuns.{loaded_whole, never_read, no_write_unopened}
+use Rattle.luks_commands.proofs.OpenedRuns.{loaded_whole, no_write_unopened}
 use Rattle.luks_commands.proofs.OpenedRuns.{none_allowed, none_failed, payload_after}
 use Rattle.luks_commands.proofs.OpenedRuns.{payload_consumes_loaded, runs_at, runs_forwarded}
 use Rattle.luks_commands.proofs.OpenedRuns.{with_key}
@@ -29,8 +31,13 @@ pub returns-in_err-unlocked-clause-calls : goal.returns-in_err-unlocked-clause-c
 returns-in_err-unlocked-clause-calls g c =
     let stop = c.in_err-unlocked.ensures in
     rw (given_error _ _ c.from_residual.ensures.1)
-    (calls_without_payload c.args.location _ _ (none_allowed c.args.location c.args.args.now.slots _ _ _) stop.counts
-    (no_write_unopened _ stop.only))
+    (calls_without_payload c.args.location _ _ (none_allowed c.args.location c.args.args.now.slots _ _ _)
+    (rw (message_says c.in_err-unlocked.field-0.0).read at stop.counts)
+    (no_write_unopened _ (message_says c.in_err-unlocked.field-0.0).opening))
+
+pub returns-in_err-unlocked-clause-only : goal.returns-in_err-unlocked-clause-only
+returns-in_err-unlocked-clause-only g c =
+    rw (given_error _ _ c.from_residual.ensures.1) (inl (message_says c.in_err-unlocked.field-0.0).opening)
 
 pub returns-in_err-unlocked-clause-work : goal.returns-in_err-unlocked-clause-work
 returns-in_err-unlocked-clause-work g c = rw (given_error _ _ c.from_residual.ensures.1) c.in_err-unlocked.ensures.work
@@ -124,7 +131,7 @@ returns-then-has_ended-clause-run g c = rw c.in-Attached.is (λ input is image s
 pub returns-then-has_ended-clause-calls : goal.returns-then-has_ended-clause-calls
 returns-then-has_ended-clause-calls g c =
     let counts = c.in_ok-unlocked.ensures.counts in
-    let unread = never_read (result_message c.write_plain-then-has_ended.result)
+    let unread = never_failed (is_run_read_failure (result_message c.write_plain-then-has_ended.result))
     c.write_plain-then-has_ended.ensures.reads.1.failures in
     rw c.in-Attached.is (calls_without_payload Attached _ (result_message c.write_plain-then-has_ended.result)
     (none_allowed Attached c.args.args.now.slots _ _ _) (rw unread counts) c.write_plain-then-has_ended.ensures.writes)

@@ -1,6 +1,7 @@
 use Rattle.std.proofs.Common.{inl}
 use Rattle.luks_io.proofs.ErrorLemmas.{given_error}
 use Rattle.luks_runs.specs.Volume.{slot_outcome}
+use Rattle.luks_runs.proofs.VolumeLemmas.{message_says}
 use Rattle.luks_runs.specs.Run.{AnyPromptness, ConsumedNothing, result_message}
 use Rattle.luks_commands.proofs.OpenedRuns.{no_write_unopened, runs_at, runs_slot, slot_message, slot_consumes_loaded}
 use Rattle.luks_commands.proofs.execute.volumes.test_passphrase.Goals as goal
@@ -28,9 +29,18 @@ returns-clause-reads_first g c failed =
     (result_message c.write_opened_line.result) c.write_opened_line.ensures.written).1 in
     absurd (cc (rw failed at no_read))
 
+pub returns-in_err-unlocked-clause-only : goal.returns-in_err-unlocked-clause-only
+returns-in_err-unlocked-clause-only g c =
+    rw (given_error _ _ c.from_residual.ensures.1) (inl (message_says c.in_err-unlocked.field-0.0).opening)
+
+pub returns-in_err-unlocked-clause-counts : goal.returns-in_err-unlocked-clause-counts
+returns-in_err-unlocked-clause-counts g c =
+    rw (given_error _ _ c.from_residual.ensures.1)
+    (rw (message_says c.in_err-unlocked.field-0.0).read at c.in_err-unlocked.ensures.counts)
+
 pub returns-in_err-unlocked-clause-writes : goal.returns-in_err-unlocked-clause-writes
 returns-in_err-unlocked-clause-writes g c =
-    rw (given_error _ _ c.from_residual.ensures.1) (no_write_unopened _ c.in_err-unlocked.ensures.only)
+    rw (given_error _ _ c.from_residual.ensures.1) (no_write_unopened _ (message_says _).opening)
 
 pub returns-clause-counts : goal.returns-clause-counts
 returns-clause-counts g c =

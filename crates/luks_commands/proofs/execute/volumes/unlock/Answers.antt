@@ -1,6 +1,6 @@
 use Rattle.std.proofs.Common.{◌∙◌, [], Some, ap, false, inl, inr, refl}
 use Rattle.luks_io.proofs.ErrorLemmas.{given_error}
-use Rattle.luks_runs.proofs.VolumeLemmas.{none_remain, reads_within, there_is_volume}
+use Rattle.luks_runs.proofs.VolumeLemmas.{message_says, none_remain, reads_within, there_is_volume}
 use Rattle.luks_commands.proofs.OpenedRuns.{reads_before, reads_of_image}
 use Rattle.luks_commands.proofs.VolumeRuns.{counts_opening, counts_unlocked, early_without_volume}
 use Rattle.luks_commands.proofs.VolumeRuns.{runs_without_key, runs_without_volume}
@@ -10,7 +10,7 @@ use Rattle.luks_commands.proofs.execute.volumes.unlock.Goals as goal
 pub returns-in_err-volume-clause-err : goal.returns-in_err-volume-clause-err
 returns-in_err-volume-clause-err g c =
     rw (given_error _ _ c.from_residual.ensures.1) (λ known is pass has on_opened consumes written.
-    runs_without_volume c.args.location _ known pass _ _ _ on_opened consumes _ c.in_err-volume.ensures.only
+    runs_without_volume c.args.location _ known pass _ _ _ on_opened consumes _
     (c.in_err-volume.ensures.err known is) has)
 
 pub returns-in_err-volume-clause-work : goal.returns-in_err-volume-clause-work
@@ -47,7 +47,7 @@ returns-in_err-opened-clause-work g c =
           (c.in_err-opened.ensures.run _ read.2.left pass has
           (none_remain _ _ _ _ _ known _ found.loaded is read.2.left))
           _ _ counts.0 _ _ counts.1
-      | inr unread ↦ inr (record { unread = inl unread.2; early = inr unread.1 }, unread.3)
+      | inr unread ↦ inr (record { unread = inl unread.1; early = inr ((message_says _).untried ∙ unread.0) }, unread.2)
     ])
 
 pub returns-in_err-opened-clause-unneeded : goal.returns-in_err-opened-clause-unneeded

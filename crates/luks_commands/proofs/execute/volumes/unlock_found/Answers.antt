@@ -2,7 +2,6 @@ use Rattle.std.proofs.Common.{◌≡◌, ◌≤◌, ap, arith, false, inl, inr, 
 use Rattle.luks_io.proofs.ErrorLemmas.{given_error}
 use Rattle.luks_runs.specs.KeyFile.{max_key_file_len}
 use Rattle.luks_commands.proofs.OpenedRuns.{within_areas}
-use Rattle.luks_commands.proofs.VolumeRuns.{end_not_hit}
 use Rattle.luks_io.proofs.EffectLemmas.{no_reads}
 use Rattle.luks_commands.proofs.execute.volumes.unlock_found.Goals as goal
 
@@ -15,9 +14,7 @@ pub returns-in_err-passphrase-clause-work : goal.returns-in_err-passphrase-claus
 returns-in_err-passphrase-clause-work g c =
     rw (given_error _ _ c.from_residual.ensures.1)
     (λ pass has.
-    let not_hit = end_not_hit pass _ _ (c.in_err-passphrase.ensures.err pass has) in
-    let reads = rw not_hit.0 at c.in_err-passphrase.ensures.reads in
-    inr (refl, not_hit.1, reads.ends, refl))
+    inr (refl, c.in_err-passphrase.ensures.reads.ends, refl))
 
 pub returns-in_err-passphrase-clause-counts : goal.returns-in_err-passphrase-clause-counts
 returns-in_err-passphrase-clause-counts g c =
