@@ -21,8 +21,9 @@ use Rattle.luks_runs.specs.Run.{is_run_write_failure}
 use Rattle.luks_runs.specs.Volume.{payload_outcome, slot_outcome, volume_outcome, volume_outcome_by}
 use Rattle.luks_runs.specs.Volume.{detached_payload_outcome, HitsMaterialEof, OpeningMessage}
 use Rattle.luks_request.specs.Request.{Request, VolumeRequest, luks_cat}
-use Rattle.luks_commands.specs.Headline.{CatAllows, ConsumedAtLeast, ConsumedOfPayload, CountsCalls, CountsReads}
+use Rattle.luks_commands.specs.Headline.{CatAllows, Change, ConsumedAtLeast, ConsumedOfPayload, CountsCalls, CountsReads}
 use Rattle.luks_commands.specs.Headline.{CountsTried, EndsWithoutKey, KnowsPayload, PromptCat, ReadsOnce, ReadsPayload}
+use Rattle.luks_commands.specs.Headline.{Trial}
 use Rattle.luks_commands.specs.Headline.{payload_outcome_at}
 use Rattle.luks_commands.specs.Unlocking.{ConsumesLoaded, Unlocks}
 use Rattle.luks_runs.specs.Location.{reader_for, detached_header_of}
@@ -189,13 +190,14 @@ forwarded_at_least s cipher image loaded left before after message forwarded = (
 
 -- after the key slots were tried, the payload was forwarded
 pub counts_forwarded : (slots : SlotChoice) (image pass : List ℕ) (segment : Segment) (opened : Opened)
-    (loaded : List ℕ) (i s i' w w' : Option (List ℕ)) (secret secret' : ReadCounts) (work work' : ℕ)
-    (message : Message) → Unlocks Attached slots image pass segment opened loaded i s
-    → CountsTried Attached slots image pass i secret secret' work work'
+    (loaded : List ℕ) (s i' w w' : Option (List ℕ)) (trial : Trial) (message : Message)
+    → Unlocks Attached slots image pass segment opened loaded trial.image.after s
+    → CountsTried Attached slots image pass trial
     → (length image < 2 ^ 64
     → ForwardsPayload segment (segment.mode, opened.key) image (length loaded) i' w w' message)
-    → CountsTried Attached slots image pass i' secret secret' work work'
-counts_forwarded slots image pass segment opened loaded i s i' w w' secret secret' work work' message u tried forwarded
+    → CountsTried Attached slots image pass
+    (record trial { image = record { before = trial.image.before; after = i' } })
+counts_forwarded slots image pass segment opened loaded s i' w w' trial message u tried forwarded
     = (
       tried.0,
       record {
@@ -203,7 +205,7 @@ counts_forwarded slots image pass segment opened loaded i s i' w w' secret secre
         key_file = tried.1.key_file;
         material = λ counted.
             let before = tried.1.material counted in
-            let same = consumed_same image i before.0 (length loaded) before.2 u.input_consumed in
+            let same = consumed_same image trial.image.after before.0 (length loaded) before.2 u.input_consumed in
             let cipher : Cipher = (segment.mode, opened.key) in
             let more = forwarded_at_least segment cipher image (length loaded) i' w w' message (forwarded counted) in
             (more.0, omega (arith, before.1, same, more.1), more.2);
@@ -266,8 +268,9 @@ with_key ReadFailed forwarded without = let wrong : true ≡ false = without.1 i
 with_key _ forwarded without = absurd forwarded
 
 -- the first input alone was read
-pub reads_of_image : {failed ended : Bool} {image image' secret : ReadCounts} → Reads failed ended image image'
-    → CountsReads ReadsOnce failed image image' secret secret
+pub reads_of_image : {failed ended : Bool} {image : Change ReadCounts} {secret : ReadCounts}
+    → Reads failed ended image.before image.after
+    → CountsReads ReadsOnce failed image (record { before = secret; after = secret })
 reads_of_image reads = record { in_input = true; input_reads = (_, reads); secret_reads = (false, no_reads _) }
 
 -- no write fails in `isLuks`, which makes none
@@ -277,10 +280,10 @@ no_write_in_is_luks WriteFailed only = absurd only
 no_write_in_is_luks _ only = no_writes _
 
 -- the start of the image was read before; if that hit EOF on the image, the image was not read again
-pub reads_before : {failed ended : Bool} {image image' image'' secret secret' : ReadCounts}
+pub reads_before : {failed ended : Bool} {image image' image'' : ReadCounts} {secret : Change ReadCounts}
     → Reads false ended image image' → (ended ≡ true → image'' ≡ image')
-    → CountsReads ReadsOnce failed image' image'' secret secret'
-    → CountsReads ReadsOnce failed image image'' secret secret'
+    → CountsReads ReadsOnce failed (record { before = image'; after = image'' }) secret
+    → CountsReads ReadsOnce failed (record { before = image; after = image'' }) secret
 reads_before first kept then = record {
   in_input = then.in_input;
   input_reads = reads_on _ _ then.input_reads.0 _ _ _ first kept then.input_reads.1;
@@ -355,15 +358,15 @@ none_read image = (false, no_reads image)
 
 -- no payload was read
 pub calls_without_payload : (location : HeaderLocation) (ReadsIt : Bool → ReadCounts → ReadCounts → Type 0)
-    (message : Message) {input input' image secret secret' : ReadCounts} {out out' : WriteCounts}
+    (message : Message) {input secret : Change ReadCounts} {image : ReadCounts} {out : Change WriteCounts}
     → ((failed : Bool) (before after : ReadCounts) → ReadsOnce failed before after → ReadsIt failed before after)
-    → CountsReads ReadsOnce (is_run_read_failure message) input input' secret secret'
-    → Writes (is_run_write_failure message) out out'
+    → CountsReads ReadsOnce (is_run_read_failure message) input secret
+    → Writes (is_run_write_failure message) out.before out.after
     → CountsCalls location ReadsIt message (record {
-      input = record { before = input; after = input' };
+      input = input;
       payload = record { before = image; after = image };
-      secret = record { before = secret; after = secret' };
-      output = record { before = out; after = out' };
+      secret = secret;
+      output = out;
     })
 calls_without_payload Attached ReadsIt message once reads writes = record {
   in_payload = false;

@@ -31,9 +31,8 @@ use Rattle.luks_runs.specs.Run.{RunMatches}
 use Rattle.luks_runs.proofs.RunLemmas.{aborted_unwritten, header_read_len_within}
 use Rattle.luks_io.proofs.EffectLemmas.{appended-none, consumed-none}
 use Rattle.luks_io.specs.Devices.{Appended, ConsumedAtMost, ConsumedExactly, counted}
-use Rattle.luks_io.specs.declared.counts.ReadCounts.{ReadCounts}
 use Rattle.luks_runs.specs.KeyFile.{NoKeyFileRead, max_key_file_len}
-use Rattle.luks_commands.specs.Headline.{CountsOpening, CountsTried, PromptCat, PromptForwarding}
+use Rattle.luks_commands.specs.Headline.{CountsTried, EndsUntried, PromptCat, PromptForwarding, Trial}
 use Rattle.luks_commands.specs.Unlocking.{ConsumesLoaded, UnlockEffect, Unlocks}
 use Rattle.luks_runs.specs.Volume.{ends_untried, FindsNoVolume, HasSegmentBy}
 use Rattle.luks_runs.specs.declared.unlocked.UnlockedVolume.{UnlockedVolume}
@@ -314,48 +313,50 @@ module _ (location : HeaderLocation) (slots : SlotChoice) (image pass : List ℕ
     -- the work of trying its key slots does not depend on which bytes were loaded
     counts_tried : (area' : List ℕ) (n : ℕ) → area' ≡ take n image → header_read_len image ≤ n
         → ConsumedExactly image i n → key_material_end order.entries ≤ length area'
-        → (secret secret' : ReadCounts) → secret'.ends ≡ counted true secret.ends
-        → (work work' : ℕ) → work' ≡ capped (work + work_of order area' pass)
-        → CountsTried location slots image pass i secret secret' work work'
-    counts_tried area' n begins header_read consumption enough secret secret' ended work work' counted =
+        → (trial : Trial) → trial.image.after ≡ i → trial.key_file.after.ends ≡ counted true trial.key_file.before.ends
+        → trial.work.after ≡ capped (trial.work.before + work_of order area' pass)
+        → CountsTried location slots image pass trial
+    counts_tried area' n begins header_read consumption enough trial left ended counted =
         let loaded : key_material_end order.entries ≤ n =
         omega (arith, enough, ap length begins, length-take n image) in (
           volume,
           record {
             is_volume = is_volume;
             key_file = ended;
-            material = λ countable. (n, omega (arith, loaded, header_read), consumption);
+            material = λ countable. (n, omega (arith, loaded, header_read), rw left consumption);
           },
-          counted ∙ ap (λ (cost : ℕ). capped (work + cost))
+          counted ∙ ap (λ (cost : ℕ). capped (trial.work.before + cost))
               (ap (λ (bytes : List ℕ). work_of order bytes pass) begins ∙ work_prefix order n image pass loaded),
         )
 
     pub counts_opening : (area area' : List ℕ) → area ≡ take (header_read_len image) image
         → (fault : VolumeFault)
         → UnlockEffect segment order pass area area' (drop (header_read_len image) image) i s (Err fault)
-        → (secret secret' : ReadCounts) → secret'.ends ≡ counted true secret.ends → (work work' : ℕ)
-        → CountsTrials order area' pass (Err fault) work work'
-        → CountsOpening location slots image pass (message_for_volume fault) i secret secret' work work'
-    counts_opening area area' prefix fault effect secret secret' ended work work' (inl (enough, counted)) =
+        → (trial : Trial) → trial.image.after ≡ i → trial.key_file.after.ends ≡ counted true trial.key_file.before.ends
+        → CountsTrials order area' pass (Err fault) trial.work.before trial.work.after
+        → CountsTried location slots image pass trial
+        ⊎ (EndsUntried location slots image (message_for_volume fault) trial × (trial.work.after ≡ trial.work.before))
+    counts_opening area area' prefix fault effect trial left ended (inl (enough, counted)) =
         let begins = prefix_unlocked image area area' i prefix segment order pass s (Err fault) effect in
-        inl (counts_tried area' begins.0 begins.1 begins.2 begins.3 enough secret secret' ended work work' counted)
-    counts_opening area area' prefix fault effect secret secret' ended work work' (inr (few, untried, same)) =
+        inl (counts_tried area' begins.0 begins.1 begins.2 begins.3 enough trial left ended counted)
+    counts_opening area area' prefix fault effect trial left ended (inr (few, untried, same)) =
         let begins = prefix_unlocked image area area' i prefix segment order pass s (Err fault) effect in
         let fewer : begins.0 < unlock_read_len image volume =
         omega (arith, few, ap length begins.1, length-take begins.0 image, begins.3.within) in
         let early = (message_says fault).untried ∙ untried in
-        inr (record { unread = inr (volume, is_volume, (begins.0, fewer, begins.3)); early = inr early }, same)
+        let consumed : ConsumedExactly image trial.image.after begins.0 = rw left begins.3 in
+        inr (record { unread = inr (volume, is_volume, (begins.0, fewer, consumed)); early = inr early }, same)
 
     -- if the volume was opened, its key slots were tried
     pub counts_unlocked : (area area' : List ℕ) → area ≡ take (header_read_len image) image → (opened : UnlockedVolume)
         → UnlockEffect segment order pass area area' (drop (header_read_len image) image) i s (Ok opened)
-        → (secret secret' : ReadCounts) → secret'.ends ≡ counted true secret.ends → (work work' : ℕ)
-        → CountsTrials order area' pass (Ok opened) work work'
-        → CountsTried location slots image pass i secret secret' work work'
-    counts_unlocked area area' prefix opened effect secret secret' ended work work' (inl (enough, counted)) =
+        → (trial : Trial) → trial.image.after ≡ i → trial.key_file.after.ends ≡ counted true trial.key_file.before.ends
+        → CountsTrials order area' pass (Ok opened) trial.work.before trial.work.after
+        → CountsTried location slots image pass trial
+    counts_unlocked area area' prefix opened effect trial left ended (inl (enough, counted)) =
         let begins = prefix_unlocked image area area' i prefix segment order pass s (Ok opened) effect in
-        counts_tried area' begins.0 begins.1 begins.2 begins.3 enough secret secret' ended work work' counted
-    counts_unlocked area area' prefix opened effect secret secret' ended work work' (inr (few, untried, same)) =
+        counts_tried area' begins.0 begins.1 begins.2 begins.3 enough trial left ended counted
+    counts_unlocked area area' prefix opened effect trial left ended (inr (few, untried, same)) =
         absurd (let wrong : false ≡ true = untried in cc)
 
     -- the volume was opened

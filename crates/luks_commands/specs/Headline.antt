@@ -153,60 +153,67 @@ RunsAsSpecified location request message bytes = IfKnown bytes.input.before (λ 
 abbrev pub ConsumedAtLeast : List ℕ → Option (List ℕ) → ℕ → Type 0
 ConsumedAtLeast known left least = (count : ℕ) × (least ≤ count) × ConsumedExactly known left count
 
+-- what opening a volume works with
+pub record Trial : Type 0 where
+  -- the bytes of the image, or of the file with a detached header
+  pub image : Change (Option (List ℕ))
+  -- the bytes of the key file, before it is read
+  pub passphrase : Option (List ℕ)
+  -- the counts of the key file
+  pub key_file : Change ReadCounts
+  -- the evaluations of HMAC
+  pub work : Change ℕ
+
 -- the key slots of the image's volume were tried: EOF was hit on the key file, and all bytes of the image were
 -- consumed that opening the volume needs
-pub record TriesVolume (location : HeaderLocation) (slots : SlotChoice) (image : List ℕ) (image' : Option (List ℕ))
-    (secret secret' : ReadCounts) (volume : Volume) : Type 0 where
+pub record TriesVolume (location : HeaderLocation) (slots : SlotChoice) (image : List ℕ) (trial : Trial)
+    (volume : Volume) : Type 0 where
   pub is_volume : volume_by (reader_for location) slots image ≡ Ok volume
-  pub key_file : secret'.ends ≡ counted true secret.ends
-  pub material : length image < 2 ^ 64 → ConsumedAtLeast image image' (unlock_read_len image volume)
+  pub key_file : trial.key_file.after.ends ≡ counted true trial.key_file.before.ends
+  pub material : length image < 2 ^ 64 → ConsumedAtLeast image trial.image.after (unlock_read_len image volume)
 
 -- the key slots were tried, and the count of work was raised by the evaluations of HMAC that this costs
-abbrev pub CountsTried : HeaderLocation → SlotChoice → List ℕ → List ℕ → Option (List ℕ) → ReadCounts → ReadCounts → ℕ
-    → ℕ → Type 0
-CountsTried location slots image passphrase image' secret secret' work work' =
-    (volume : Volume) × TriesVolume location slots image image' secret secret' volume
-    × (work' ≡ capped (work + work_of volume.order image passphrase))
+abbrev pub CountsTried : HeaderLocation → SlotChoice → List ℕ → List ℕ → Trial → Type 0
+CountsTried location slots image passphrase trial =
+    (volume : Volume) × TriesVolume location slots image trial volume
+    × (trial.work.after ≡ capped (trial.work.before + work_of volume.order image passphrase))
 
 -- no key slot was tried: EOF was not hit on the key file, or not all bytes were consumed that opening the image's
 -- volume needs. The image has no volume, or the message may come before a key slot is tried
 pub record EndsUntried (location : HeaderLocation) (slots : SlotChoice) (image : List ℕ) (message : Message)
-    (image' : Option (List ℕ)) (secret secret' : ReadCounts) : Type 0 where
-  pub unread : (secret'.ends ≡ secret.ends) ⊎ ((volume : Volume)
+    (trial : Trial) : Type 0 where
+  pub unread : (trial.key_file.after.ends ≡ trial.key_file.before.ends) ⊎ ((volume : Volume)
       × (volume_by (reader_for location) slots image ≡ Ok volume)
-      × ConsumedFewer image image' (unlock_read_len image volume))
+      × ConsumedFewer image trial.image.after (unlock_read_len image volume))
   pub early : (is_err (volume_by (reader_for location) slots image) ≡ true) ⊎ (ends_untried message ≡ true)
 
--- the key slots were tried, and the count of work was raised by what that costs; or none was tried, and the count is
--- what it was
-abbrev pub CountsOpening : HeaderLocation → SlotChoice → List ℕ → List ℕ → Message → Option (List ℕ) → ReadCounts
-    → ReadCounts → ℕ → ℕ → Type 0
-CountsOpening location slots image passphrase message image' secret secret' work work' =
-    CountsTried location slots image passphrase image' secret secret' work work'
-    ⊎ (EndsUntried location slots image message image' secret secret' × (work' ≡ work))
+-- this holds of the image's bytes and of those of the passphrase, if both are known
+abbrev pub IfInputsKnown : Trial → (List ℕ → List ℕ → Type 0) → Type 0
+IfInputsKnown trial Holds =
+    IfKnown trial.image.before (λ image. IfKnown trial.passphrase (λ passphrase. Holds image passphrase))
 
--- the evaluations of HMAC that a run of a command needs, if its inputs know their bytes: those of trying the key slots
--- if they were tried, and none otherwise. A command that opens no volume needs none
-abbrev pub CountsWork : HeaderLocation → Request → Message → ℕ → Change (Option (List ℕ)) → Option (List ℕ)
-    → Change ReadCounts → Type 0
-CountsWork location (test_passphrase o) message work image secret counts = IfKnown image.before (λ known. IfKnown secret
-    (λ passphrase. CountsOpening location o.slots known passphrase message image.after counts.before counts.after 0
-    work))
-CountsWork location (luks_cat o) message work image secret counts = IfKnown image.before (λ known. IfKnown secret
-    (λ passphrase. CountsOpening location o.slots known passphrase message image.after counts.before counts.after 0
-    work))
-CountsWork location _ message work image secret counts = work ≡ 0
+-- if the inputs know their bytes: the key slots were tried, and the count of work was raised by what that costs; or
+-- none was tried, and the count is what it was
+abbrev pub CountsOpening : HeaderLocation → SlotChoice → Message → Trial → Type 0
+CountsOpening location slots message trial = IfInputsKnown trial (λ image passphrase.
+    CountsTried location slots image passphrase trial
+    ⊎ (EndsUntried location slots image message trial × (trial.work.after ≡ trial.work.before)))
+
+-- the evaluations of HMAC that a run of a command needs. A command that opens no volume needs none
+abbrev pub CountsWork : HeaderLocation → Request → Message → Trial → Type 0
+CountsWork location (test_passphrase o) message trial = CountsOpening location o.slots message trial
+CountsWork location (luks_cat o) message trial = CountsOpening location o.slots message trial
+CountsWork location _ message trial = trial.work.after ≡ trial.work.before
 
 -- ---- `honest`: volumes that are honestly sealed
 
 -- what `luksCat` writes if the volume is honestly sealed: a run that is not aborted writes the plaintext and succeeds
-abbrev pub WritesPlain : Request → Message → Option (List ℕ) → Option (List ℕ) → Option (List ℕ) → Option (List ℕ)
-    → Type 0
-WritesPlain (luks_cat o) message image secret written written' =
+abbrev pub WritesPlain : Request → Message → Option (List ℕ) → Option (List ℕ) → Change (Option (List ℕ)) → Type 0
+WritesPlain (luks_cat o) message image secret output =
     IfKnown image (λ known. IfKnown secret (λ passphrase.
     (plain : List ℕ) → length known < 2 ^ 64 → OpensHonest o.slots known passphrase plain → aborts message ≡ false
-    → (message ≡ Done) × Appended written written' plain))
-WritesPlain _ message image secret written written' = Unit {0}
+    → (message ≡ Done) × Appended output.before output.after plain))
+WritesPlain _ message image secret output = Unit {0}
 
 -- ---- `only`: the messages
 
@@ -285,11 +292,11 @@ ReadsImage location _ message input secret = ReadsOnce
 -- what a part of a run that reads its first input in this way adds to the counts of both inputs: a failure of one of
 -- them if a read failed, at most one end of each, and no needless read
 pub record CountsReads (ReadsIt : Bool → ReadCounts → ReadCounts → Type 0) (failed : Bool)
-    (input input' secret secret' : ReadCounts) : Type 0 where
+    (input secret : Change ReadCounts) : Type 0 where
   -- if a read failed, it was one of the first input
   pub in_input : Bool
-  pub input_reads : ReadsIt (in_input && failed) input input'
-  pub secret_reads : ReadsOnce (not in_input && failed) secret secret'
+  pub input_reads : ReadsIt (in_input && failed) input.before input.after
+  pub secret_reads : ReadsOnce (not in_input && failed) secret.before secret.after
 
 -- how a run reads its first input, if it reads the image with the payload in this way
 abbrev pub ReadsInput : HeaderLocation → (Bool → ReadCounts → ReadCounts → Type 0) → Bool → ReadCounts → ReadCounts
@@ -310,7 +317,7 @@ pub record CountsCalls (location : HeaderLocation) (ReadsIt : Bool → ReadCount
   -- if a read failed, it was one of an image that has the payload alone
   pub in_payload : Bool
   pub reads : CountsReads (ReadsInput location ReadsIt) (not in_payload && is_run_read_failure message)
-      counts.input.before counts.input.after counts.secret.before counts.secret.after
+      counts.input counts.secret
   pub payload_reads : ReadsAlone location ReadsIt (in_payload && is_run_read_failure message) counts.payload.before
       counts.payload.after
   pub out_writes : Writes (is_run_write_failure message) counts.output.before counts.output.after

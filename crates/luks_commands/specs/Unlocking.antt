@@ -1,6 +1,6 @@
 -- Opening a volume by the passphrase in a key file: what it does to the devices, and what is known of the volume then.
 use Rattle.std.specs.Prelude.{◌≡◌, ℕ, max, List, length, Option, Some, ◌⊎◌}
-use Rattle.std.specs.Prelude.{◌≤◌, take, Result, Err}
+use Rattle.std.specs.Prelude.{◌≤◌, take, Result, Ok, Err}
 use Rattle.luks_io.specs.Devices.{Appended, ConsumedExactly}
 use Rattle.luks_request.specs.declared.command.SlotChoice.{SlotChoice}
 use Rattle.luks_runs.specs.Location.{reader_for}
@@ -10,6 +10,7 @@ use Rattle.luks_runs.specs.Run.{RunMatches}
 use Rattle.luks_runs.specs.Volume.{HasSegmentBy, OnOpened}
 use Rattle.luks_runs.specs.Volume.{volume_outcome_by, TriesSlots}
 use Rattle.luks_verdict.specs.declared.segment.Segment.{Segment}
+use Rattle.luks_report.specs.Faults.{message_for_volume}
 use Rattle.luks_report.specs.declared.message.Message.{Message}
 use Rattle.luks_header.specs.Header.{header_read_len}
 use Rattle.luks_key_slots.specs.Opening.{OrderModel}
@@ -19,7 +20,7 @@ use Rattle.luks_key_slots.specs.declared.fault.VolumeFault.{VolumeFault}
 use Rattle.luks_key_slots.specs.declared.fault.VolumeFault.TheVariants.{Passphrase}
 use Rattle.luks_runs.specs.KeyFile.{NoKeyFileRead, max_key_file_len}
 use Rattle.luks_runs.specs.declared.unlocked.UnlockedVolume.{UnlockedVolume}
-use Rattle.luks_commands.specs.Headline.{PromptCat}
+use Rattle.luks_commands.specs.Headline.{CountsOpening, CountsTried, IfInputsKnown, PromptCat, Trial}
 
 -- whatever is done with a volume consumes at least the bytes of its image that are loaded, and the whole key file
 pub record ConsumesLoaded (secret : List ℕ) (on_opened : OnOpened) : Type 0 where
@@ -58,3 +59,9 @@ UnlockEffect segment order pass area area' rest left secret' result =
     × TriesSlots segment order pass area area' rest left result)
     ⊎ ((fault : PassphraseFault) × (result ≡ Err (Passphrase fault)) × NoKeyFileRead pass secret' fault × (area' ≡ area)
     × (left ≡ Some rest))
+
+-- if the volume was opened, its key slots were tried, and the count of work was raised by what that costs
+abbrev pub CountsUnlocking : {T : Type 0} → HeaderLocation → SlotChoice → Result T VolumeFault → Trial → Type 0
+CountsUnlocking location slots (Ok _) trial =
+    IfInputsKnown trial (λ image passphrase. CountsTried location slots image passphrase trial)
+CountsUnlocking location slots (Err fault) trial = CountsOpening location slots (message_for_volume fault) trial

@@ -77,13 +77,15 @@ pub fn execute<I: Source, K: Source, O: Sink>(
           output = record { before = O.written out.old; after = O.written out.new };
         }) }
     ensures work { CountsWork HeaderLocation.Attached (request_of command.now) result.message
-        result.work
-        (record { before = I.to_come image.old; after = I.to_come image.new })
-        (K.to_come secret.old)
-        (record { before = K.counts secret.old; after = K.counts secret.new }) }
+        (record {
+          image = record { before = I.to_come image.old; after = I.to_come image.new };
+          passphrase = K.to_come secret.old;
+          key_file = record { before = K.counts secret.old; after = K.counts secret.new };
+          work = record { before = 0; after = result.work };
+        }) }
     ensures honest { WritesPlain (request_of command.now) result.message
         (I.to_come image.old) (K.to_come secret.old)
-        (O.written out.old) (O.written out.new) }
+        (record { before = O.written out.old; after = O.written out.new }) }
     ensures only { MayReport (request_of command.now) result.message }
     ensures unneeded { NeedsNoSecret header_of (request_of command.now) (I.to_come image.old)
         → secret.new ≡ secret.old }
@@ -130,10 +132,12 @@ pub fn execute_detached<H: Source, I: Source, K: Source, O: Sink>(
           output = record { before = O.written out.old; after = O.written out.new };
         }) }
     ensures work { CountsWork HeaderLocation.Detached (request_of command.now) result.message
-        result.work
-        (record { before = H.to_come header.old; after = H.to_come header.new })
-        (K.to_come secret.old)
-        (record { before = K.counts secret.old; after = K.counts secret.new }) }
+        (record {
+          image = record { before = H.to_come header.old; after = H.to_come header.new };
+          passphrase = K.to_come secret.old;
+          key_file = record { before = K.counts secret.old; after = K.counts secret.new };
+          work = record { before = 0; after = result.work };
+        }) }
     ensures only { MayReport (request_of command.now) result.message }
     ensures unneeded { NeedsNoSecret detached_header_of (request_of command.now)
         (H.to_come header.old) → secret.new ≡ secret.old }
@@ -174,10 +178,12 @@ fn run<H: Source, I: Source, K: Source, O: Sink>(
           output = record { before = O.written out.old; after = O.written out.new };
         }) }
     ensures work { CountsWork location (request_of command.now) result.message
-        result.work
-        (record { before = H.to_come input.old; after = H.to_come input.new })
-        (K.to_come secret.old)
-        (record { before = K.counts secret.old; after = K.counts secret.new }) }
+        (record {
+          image = record { before = H.to_come input.old; after = H.to_come input.new };
+          passphrase = K.to_come secret.old;
+          key_file = record { before = K.counts secret.old; after = K.counts secret.new };
+          work = record { before = 0; after = result.work };
+        }) }
     ensures only { MayReport (request_of command.now) result.message }
     ensures unneeded { NeedsNoSecret (reader_for location) (request_of command.now)
         (H.to_come input.old) → secret.new ≡ secret.old }

@@ -20,10 +20,10 @@ ghost use Rattle.luks_runs.specs.Run.{AnyPromptness, RunMatches};
 ghost use Rattle.luks_runs.specs.Run.{is_run_read_failure, is_run_write_failure, result_message};
 ghost use Rattle.luks_runs.specs.Location.{LoadedFrom, reader_for};
 ghost use Rattle.luks_commands.specs.Headline.{CatAllows, CountsCalls, CountsOpening, CountsReads};
-ghost use Rattle.luks_commands.specs.Headline.{CountsTried, EndsWithoutKey};
+ghost use Rattle.luks_commands.specs.Headline.{EndsWithoutKey};
 ghost use Rattle.luks_commands.specs.Headline.{ReadsOnce, ReadsPayload};
 ghost use Rattle.luks_commands.specs.Headline.{RunsAsSpecified};
-ghost use Rattle.luks_commands.specs.Unlocking.{EndsLocked, UnlockEffect, Unlocks};
+ghost use Rattle.luks_commands.specs.Unlocking.{CountsUnlocking, EndsLocked, UnlockEffect, Unlocks};
 
 use luks_header::area::HeaderArea;
 use luks_io::memory::MemSource;
@@ -66,7 +66,8 @@ fn unlock_found<I: Source, K: Source>(
         passphrase volume.old.area.bytes volume.new.area.bytes rest (I.to_come image.new)
         (K.to_come secret.new) result)) }
     ensures counts { CountsReads ReadsOnce (has_fault is_read_failure result)
-        (I.counts image.old) (I.counts image.new) (K.counts secret.old) (K.counts secret.new) }
+        (record { before = I.counts image.old; after = I.counts image.new })
+        (record { before = K.counts secret.old; after = K.counts secret.new }) }
     ensures work { IfKnown (K.to_come secret.old) (λ passphrase.
         (((K.counts secret.new).ends ≡ counted true (K.counts secret.old).ends)
         × CountsTrials volume.old.order volume.new.area.bytes passphrase result
@@ -111,14 +112,15 @@ fn unlock<I: Source, K: Source>(
         is_err (volume_by (reader_for location) slots known) ≡ true
         → secret.new ≡ secret.old) }
     ensures counts { CountsReads ReadsOnce (has_fault is_read_failure result)
-        (I.counts image.old) (I.counts image.new) (K.counts secret.old) (K.counts secret.new) }
-    ensures work { IfKnown (I.to_come image.old) (λ known.
-        IfKnown (K.to_come secret.old) (λ passphrase. MatchResult result
-        (λ _. CountsTried location slots known passphrase (I.to_come image.new)
-        (K.counts secret.old) (K.counts secret.new) work.old work.new)
-        (λ fault. CountsOpening location slots known passphrase (message_for_volume fault)
-        (I.to_come image.new)
-        (K.counts secret.old) (K.counts secret.new) work.old work.new))) }
+        (record { before = I.counts image.old; after = I.counts image.new })
+        (record { before = K.counts secret.old; after = K.counts secret.new }) }
+    ensures work { CountsUnlocking location slots result
+        (record {
+          image = record { before = I.to_come image.old; after = I.to_come image.new };
+          passphrase = K.to_come secret.old;
+          key_file = record { before = K.counts secret.old; after = K.counts secret.new };
+          work = record { before = work.old; after = work.new };
+        }) }
     ensures loaded { IfOk result (λ unlocked. LoadedFrom unlocked.area (I.to_come image.old)
         (I.to_come image.new) (I.counts image.old) (I.counts image.new)) }
 {
@@ -166,12 +168,16 @@ pub(super) fn test_passphrase<I: Source, K: Source, O: Sink>(
     ensures only { OpeningMessage (result_message result)
         ⊎ (result_message result ≡ Message.Done ⊎ result_message result ≡ Message.WriteFailed) }
     ensures reads_first { result_message result ≡ Message.ReadFailed → out.new ≡ out.old }
-    ensures work { IfKnown (I.to_come image.old) (λ known.
-        IfKnown (K.to_come secret.old) (λ passphrase. CountsOpening location slots known
-        passphrase (result_message result) (I.to_come image.new) (K.counts secret.old)
-        (K.counts secret.new) work.old work.new)) }
+    ensures work { CountsOpening location slots (result_message result)
+        (record {
+          image = record { before = I.to_come image.old; after = I.to_come image.new };
+          passphrase = K.to_come secret.old;
+          key_file = record { before = K.counts secret.old; after = K.counts secret.new };
+          work = record { before = work.old; after = work.new };
+        }) }
     ensures counts { CountsReads ReadsOnce (is_run_read_failure (result_message result))
-        (I.counts image.old) (I.counts image.new) (K.counts secret.old) (K.counts secret.new) }
+        (record { before = I.counts image.old; after = I.counts image.new })
+        (record { before = K.counts secret.old; after = K.counts secret.new }) }
     ensures writes { Writes (is_run_write_failure (result_message result))
         (O.counts out.old) (O.counts out.new) }
 {
@@ -226,10 +232,13 @@ pub(super) fn cat<H: Source, I: Source, K: Source, O: Sink>(
     ensures unneeded { IfKnown (H.to_come header.old) (λ known.
         is_err (volume_by (reader_for location) args.now.slots known) ≡ true
         → secret.new ≡ secret.old) }
-    ensures work { IfKnown (H.to_come header.old) (λ known.
-        IfKnown (K.to_come secret.old) (λ passphrase. CountsOpening location args.now.slots
-        known passphrase (result_message result) (H.to_come header.new) (K.counts secret.old)
-        (K.counts secret.new) work.old work.new)) }
+    ensures work { CountsOpening location args.now.slots (result_message result)
+        (record {
+          image = record { before = H.to_come header.old; after = H.to_come header.new };
+          passphrase = K.to_come secret.old;
+          key_file = record { before = K.counts secret.old; after = K.counts secret.new };
+          work = record { before = work.old; after = work.new };
+        }) }
     ensures before_key { EndsWithoutKey (result_message result) → image.new ≡ image.old }
     ensures calls { CountsCalls location
         (ReadsPayload (CatAllows location args.now.slots (result_message result)

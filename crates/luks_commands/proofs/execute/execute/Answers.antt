@@ -16,7 +16,7 @@ writes_plain : (request : Request) (message : Message) (input secret output : Ch
       secret = secret;
       output = output;
     })
-    → WritesPlain request message input.before secret.before output.before output.after
+    → WritesPlain request message input.before secret.before output
 writes_plain (luks_cat o) message input secret output left runs = λ known is pass has plain counted honest whole.
     let run = rw whole at (runs known is known refl pass has counted) in
     let outcome = unsealed o.slots known pass plain honest in (

@@ -109,7 +109,7 @@ pub returns-clause-work : goal.returns-clause-work
 returns-clause-work g c = rw c.in-Attached.is (λ known is pass has.
     let u = rw c.in-Attached.is at (c.in_ok-unlocked.ensures.ok known is pass has) in
     let tried = rw c.in-Attached.is at (c.in_ok-unlocked.ensures.work known is pass has) in
-    inl (counts_forwarded _ known pass _ _ _ _ _ _ _ _ _ _ _ _ (result_message c.write_plain-in-Attached.result) u tried
+    inl (counts_forwarded _ known pass _ _ _ _ _ _ _ _ (result_message c.write_plain-in-Attached.result) u tried
     (λ counted.
     let forwarded = rw c.as_slice-loaded.ensures.value at (c.write_plain-in-Attached.ensures.run known counted) in
     forwarded u.prefix u.input_consumed)))

@@ -46,7 +46,7 @@ returns-in_err-opened-clause-work g c =
           found.slots.segment found.slots.order _ _ read.1 _
           (c.in_err-opened.ensures.run _ read.2.left pass has
           (none_remain _ _ _ _ _ known _ found.loaded is read.2.left))
-          _ _ counts.0 _ _ counts.1
+          _ refl counts.0 counts.1
       | inr unread ↦ inr (record { unread = inl unread.1; early = inr ((message_says _).untried ∙ unread.0) }, unread.2)
     ])
 
@@ -79,7 +79,7 @@ returns-clause-work g c known is pass has =
           found.slots.segment found.slots.order _ _ read.1 _
           (c.in_ok-opened.ensures.run _ read.2.left pass has
           (none_remain _ _ _ _ _ known _ found.loaded is read.2.left))
-          _ _ counts.0 _ _ counts.1
+          _ refl counts.0 counts.1
       | inr unread ↦ absurd (let wrong = unread.0 in cc)
     ]
 
