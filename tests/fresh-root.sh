@@ -1,9 +1,9 @@
 #!/usr/bin/env bash
 # Installs the Debian packages on a fresh Debian 12 and a fresh Debian 13, which debootstrap makes in folders that are
-# removed again: apt finds all that the packages need, what is in them reads the sample volume for an unprivileged user,
-# a program in C is built over the library, and after a purge nothing is left. nbdkit of Debian 13 is another version
-# than the plugin's package is for, so apt refuses that there, and plugin and filter are built from their sources. As
-# root only, and over the network, from where apt has its packages here.
+# removed again: apt finds all that the packages need, they replace those of 1.1.0, what is in them reads the sample
+# volume for an unprivileged user, a program in C is built over the library, and after a purge nothing is left. nbdkit
+# of Debian 13 is another version than the plugin's package is for, so apt refuses that there, and plugin and filter are
+# built from their sources. As root only, and over the network, from where apt has its packages here.
 sources=$(realpath "$(dirname "$0")/..")
 plugin=$(realpath "${2:?the built plugin}")
 library=$(realpath "${3:?the built library}")
@@ -98,6 +98,28 @@ made_root() {
     in_root apt-get -o APT::Update::Error-Mode=any update >"$root.log"
 }
 
+# earlier NAME..: installs packages by these names of 1.1.0, whose program was no alternative, with a file each
+earlier() {
+    local name tree file
+    mkdir "$root/earlier"
+    for name in "$@"; do
+        case $name in
+        luksrd) file=usr/bin/luksrd ;;
+        nbdkit-plugin-luksrd) file=usr/lib/x86_64-linux-gnu/nbdkit/plugins/nbdkit-luksrd-plugin.so ;;
+        *) continue ;;
+        esac
+        tree=$work/earlier/${root##*/}/$name
+        mkdir -p "$tree/DEBIAN" "$tree/${file%/*}"
+        printf '%s\n' "Package: $name" 'Version: 1.1.0' 'Architecture: amd64' 'Maintainer: nobody <nobody@example>' \
+            'Description: an earlier release' >"$tree/DEBIAN/control"
+        printf '#!/bin/sh\nexit 9\n' >"$tree/$file"
+        chmod 755 "$tree/$file"
+        dpkg-deb --root-owner-group -b "$tree" "$root/earlier/$name.deb"
+    done
+    # shellcheck disable=SC2016
+    in_root sh -c 'dpkg -i /earlier/*.deb; status=$?; rm -r /earlier; exit $status'
+}
+
 # tried NAME: all checks in a root
 tried() {
     local name=$1 here=("${packages[@]}") way
@@ -113,8 +135,12 @@ tried() {
     same "$name: what they need" "$? $([ $? = 0 ] || grep '^E: ' log | tail -n 3)" '0 '
     files >before
     installed >had
+    earlier "${here[@]}" >log
+    same "$name: those of 1.1.0 install" "$? $(in_root luksrd; echo $?)" '0 9'
     install "${here[@]}" >log
     same "$name: they install" "$? $(installed | comm -13 had -)" "0 $(printf '%s\n' "${here[@]}")"
+    same "$name: the program takes the place of that of 1.1.0" "$(in_root readlink -f /usr/bin/luksrd)" \
+        /usr/libexec/luksrd/x86-64-v2/luksrd
     same "$name: luksrd" "$(reads 'luksrd luksCat --key-file sample/passphrase disk.img' | sha256sum)" "$text"
     same "$name: luksrd-candidates" "$(reads 'luksrd-candidates sample/passphrase disk.img')" \
         'Line 1: Key slot 0 opens the volume.'

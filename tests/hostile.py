@@ -348,7 +348,7 @@ COMMANDS = ['isLuks', 'luksUUID', 'luksDump', 'luksCheck', 'testPassphrase', 'lu
 def one_run(program, volumes, plain, patience):
     """Another run, whether it was as it should be."""
     full, apart, at_input = draw.random() < 0.02, draw.random() < 0.3, draw.random() < 0.5
-    if draw.random() < 0.46:
+    if draw.random() < 0.42:
         image, wanted, at_input, piped = generated(), None, True, True
         command = draw.choice(COMMANDS)
         key = ['--key-file', '/dev/null', '--max-iterations', '100']
@@ -361,8 +361,8 @@ def one_run(program, volumes, plain, patience):
         file = draw.choices(['pass', 'pass2', 'wrong'], [85, 8, 7])[0]
         wanted = known(command, volume, file, full, plain) if kind == 'kept' else None
         if kind == 'cut':
-            length = max(0, draw.choice([draw.randrange(len(plain)), draw.randrange(len(plain)), 0, -1,
-                                         draw.randrange(-volume.start, 0)]))
+            length = draw.choice([draw.randrange(len(plain)), draw.randrange(len(plain)), 0, -1,
+                                  draw.randrange(-volume.start, 0)])
             image = image[:volume.start + length]
         key = ['--key-file', file, '--max-iterations', '2000']
     arguments = [program, command] + (key if command in COMMANDS[4:] else [])
