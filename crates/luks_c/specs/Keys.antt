@@ -1,5 +1,5 @@
 -- What `luksrd_check_key` answers: a known volume key compared with a header.
-use Rattle.std.specs.Prelude.{ℕ, ◌≡◌, ◌==◌, Bool, false, true, List, Ok, Err, if◌then◌else◌}
+use Rattle.std.specs.Prelude.{ℕ, ◌≡◌, ◌≢◌, ◌==◌, Bool, false, true, List, Ok, Err, if◌then◌else◌}
 use Rattle.luks_access.specs.Keys.{KeyCheckFault, key_check_of}
 use Rattle.luks_key_slots.specs.Fault.{aborts_opening, is_read_failure}
 use Rattle.luks_key_slots.specs.declared.fault.VolumeFault.{VolumeFault}
@@ -43,3 +43,12 @@ pub record RefusesKey (c : LuksrdOptions) (header key : List ℕ) (code : ℕ) (
 -- the code is one of a comparison
 abbrev pub is_compared : ℕ → Bool
 is_compared code = if code == 0 then true else if code == 18 then true else code == 19
+
+-- what comparing a key answers
+pub record AnswersComparing (c : LuksrdOptions) (header key : List ℕ) (code : ℕ) (message : LuksrdMessage) : Type 0
+  where
+    pub compares : is_compared code ≡ true → ComparesKey c header key code message
+    pub refuses : is_compared code ≡ false → code ≢ 15 → RefusesKey c header key code message
+    -- bad options have the code 15, and nothing else has
+    pub bad : are_bad_for_a_key c ≡ true → (code ≡ 15) × StoresCode message 15
+    pub only_bad : code ≡ 15 → are_bad_for_a_key c ≡ true

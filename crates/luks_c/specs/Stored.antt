@@ -1,7 +1,7 @@
 -- The codes and the structs of `c/luksrd.h`, field by field, how a volume is read back, and what the functions answer.
 use Rattle.std.specs.Prelude.{ℕ, ◌≡◌, ◌-◌, ◌==◌, if◌then◌else◌, drop, length, replicate, take, Option, None, Some, []}
 use Rattle.std.specs.Prelude.{Bool, List, ◌&&◌, bytes_eq, codes, false, min, nat_lt, true}
-use Rattle.std.specs.Prelude.{unwrap_or, ◌+◌, ◌*◌, ◌/◌, ◌%◌, ◌^◌, Result, Ok}
+use Rattle.std.specs.Prelude.{unwrap_or, ◌≢◌, ◌+◌, ◌*◌, ◌/◌, ◌%◌, ◌^◌, Result, Ok}
 use Rattle.std.specs.Prelude.{Err}
 use Rattle.luks_access.specs.declared.options.Options.{Options}
 use Rattle.luks_runs.specs.declared.unlocked.UnlockedVolume.{UnlockedVolume}
@@ -242,6 +242,16 @@ pub record Refused (c : LuksrdOptions) (header pass : List ℕ) (code : ℕ) (me
   pub read : is_read_failure fault ≡ false
   pub refuses : aborts_opening fault ≡ false → (image : List ℕ) → BeginsAs image header
       → Refuses options image pass fault
+
+-- what opening a volume answers
+pub record AnswersOpening (c : LuksrdOptions) (header pass : List ℕ) (code : ℕ) (volume : LuksrdVolume)
+    (message : LuksrdMessage) : Type 0 where
+  pub opens : code ≡ 0 → Opened c header pass volume message
+  pub refuses : code ≢ 0 → code ≢ 15 → Refused c header pass code message
+  pub cleared : code ≢ 0 → IsCleared volume
+  -- bad options have the code 15, and nothing else has
+  pub bad : are_bad c ≡ true → (code ≡ 15) × StoresCode message 15
+  pub only_bad : code ≡ 15 → are_bad c ≡ true
 
 -- the number of bytes in an ending's message
 abbrev pub fault_bytes : PayloadFault → ℕ

@@ -13,11 +13,10 @@ ghost use Rattle.luks_access.specs.Steps.{IsNextStep};
 ghost use Rattle.luks_runs.specs.declared.unlocked.UnlockedVolume.{UnlockedVolume};
 ghost use Rattle.luks_payload.specs.Plain.{ending_of, sector_len};
 ghost use Rattle.luks_verdict.specs.SectorSize.{bytes_of};
-ghost use Rattle.luks_c.specs.Keys.{ComparesKey, RefusesKey, are_bad_for_a_key, is_compared};
-ghost use Rattle.luks_c.specs.Stored.{DecryptsAs, EndsAs, EndsIn, Filled, IsCleared, Opened};
-ghost use Rattle.luks_c.specs.Stored.{Refused};
+ghost use Rattle.luks_c.specs.Keys.{AnswersComparing};
+ghost use Rattle.luks_c.specs.Stored.{AnswersOpening, DecryptsAs, EndsAs, EndsIn, Filled};
 ghost use Rattle.luks_c.specs.Stored.{Stores, StoresCode, decrypt_code, fault_bytes, is_range};
-ghost use Rattle.luks_c.specs.Stored.{are_bad, plaintext_len_in};
+ghost use Rattle.luks_c.specs.Stored.{plaintext_len_in};
 ghost use Rattle.luks_c.specs.Steps.{Finishes, IsNoCipher, IsNoStep, IsPrepared, Plans};
 ghost use Rattle.luks_c.specs.Steps.{finish_code, plan_code, prepare_code, step_in};
 
@@ -60,14 +59,8 @@ pub extern "C" fn luksrd_open(
     volume: &mut LuksrdVolume,
     message: &mut LuksrdMessage,
 ) -> u32
-    ensures opens { result ≡ 0
-        → Opened options.now header.now passphrase.now volume.new message.new }
-    ensures refuses { result ≢ 0 → result ≢ 15
-        → Refused options.now header.now passphrase.now result message.new }
-    ensures cleared { result ≢ 0 → IsCleared volume.new }
-    ensures bad { are_bad options.now ≡ true
-        → (result ≡ 15) × StoresCode message.new 15 }
-    ensures bad_options { result ≡ 15 → are_bad options.now ≡ true }
+    ensures { AnswersOpening options.now header.now passphrase.now
+        result volume.new message.new }
 {
     wiped_after_opening(open_volume(alloc, header, passphrase, options, volume, message))
 }
@@ -82,13 +75,7 @@ pub extern "C" fn luksrd_check_key(
     options: &LuksrdOptions,
     message: &mut LuksrdMessage,
 ) -> u32
-    ensures compares { is_compared result ≡ true
-        → ComparesKey options.now header.now key.now result message.new }
-    ensures refuses { is_compared result ≡ false → result ≢ 15
-        → RefusesKey options.now header.now key.now result message.new }
-    ensures bad { are_bad_for_a_key options.now ≡ true
-        → (result ≡ 15) × StoresCode message.new 15 }
-    ensures bad_options { result ≡ 15 → are_bad_for_a_key options.now ≡ true }
+    ensures { AnswersComparing options.now header.now key.now result message.new }
 {
     wiped_after_opening(compare_key(alloc, header, key, options, message))
 }

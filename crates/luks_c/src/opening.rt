@@ -1,9 +1,8 @@
 //! Opening a volume by a passphrase, and comparing a volume key with a header. Nothing here is
 //! inlined in the functions for C, which write over the stack that this uses.
 
-ghost use Rattle.std.specs.Prelude.{◌≡◌, ◌≢◌, false, true};
-ghost use Rattle.luks_c.specs.Keys.{ComparesKey, RefusesKey, are_bad_for_a_key, is_compared};
-ghost use Rattle.luks_c.specs.Stored.{IsCleared, Opened, Refused, StoresCode, are_bad};
+ghost use Rattle.luks_c.specs.Keys.{AnswersComparing};
+ghost use Rattle.luks_c.specs.Stored.{AnswersOpening};
 
 use crate::code::{BAD_OPTIONS, answer_code, answer_message, code_of_check};
 use crate::message::LuksrdMessage;
@@ -25,14 +24,8 @@ pub(crate) fn open_volume(
     volume: &mut LuksrdVolume,
     message: &mut LuksrdMessage,
 ) -> u32
-    ensures opens { result ≡ 0
-        → Opened options.now header.now passphrase.now volume.new message.new }
-    ensures refuses { result ≢ 0 → result ≢ 15
-        → Refused options.now header.now passphrase.now result message.new }
-    ensures cleared { result ≢ 0 → IsCleared volume.new }
-    ensures bad { are_bad options.now ≡ true
-        → (result ≡ 15) × StoresCode message.new 15 }
-    ensures bad_options { result ≡ 15 → are_bad options.now ≡ true }
+    ensures { AnswersOpening options.now header.now passphrase.now
+        result volume.new message.new }
 {
     let Some(options) = options_in(options) else {
         volume.clear();
@@ -59,13 +52,7 @@ pub(crate) fn compare_key(
     options: &LuksrdOptions,
     message: &mut LuksrdMessage,
 ) -> u32
-    ensures compares { is_compared result ≡ true
-        → ComparesKey options.now header.now key.now result message.new }
-    ensures refuses { is_compared result ≡ false → result ≢ 15
-        → RefusesKey options.now header.now key.now result message.new }
-    ensures bad { are_bad_for_a_key options.now ≡ true
-        → (result ≡ 15) × StoresCode message.new 15 }
-    ensures bad_options { result ≡ 15 → are_bad_for_a_key options.now ≡ true }
+    ensures { AnswersComparing options.now header.now key.now result message.new }
 {
     let Some((location, max_iterations)) = header_in(options) else {
         return answer_code(BAD_OPTIONS, message);
