@@ -1,12 +1,14 @@
 -- The outcome of opening a volume, compared with that of `luksCat`.
-use Rattle.std.proofs.Common.{◌≡◌, ℕ, inl, inr, List, Option, Result, Ok, Err, ◌∙◌, ap, sym, refl, subst, take, drop}
+use Rattle.std.proofs.Common.{◌≡◌, ℕ, inl, inr, List, Option, Result, Ok, Err, Some, ◌∙◌, ap, sym, refl, subst, take, drop}
 use Rattle.std.proofs.Common.{length, Bool, true, false}
 use Rattle.std.specs.Prelude.{nat_lt, if◌then◌else◌}
+use Rattle.std.proofs.lemmas.Bool.{le-ltb, lt-ltb}
 use Rattle.luks_header_area.specs.declared.fault.HeaderFault.TheVariants.{Read as HeaderRead, Memory as HeaderMemory}
 use Rattle.luks_header.specs.Header.{header_read_len}
 use Rattle.luks_key_slots.specs.Opening.{key_material_end}
 use Rattle.luks_key_slots.specs.Fault.{aborts_opening}
 use Rattle.luks_key_slots.specs.declared.fault.OpenFault.TheVariants.{Memory}
+use Rattle.luks_key_slots.specs.declared.fault.PassphraseFault.{PassphraseFault}
 use Rattle.luks_key_slots.specs.declared.fault.PassphraseFault.TheVariants.{TooLong}
 use Rattle.luks_key_slots.specs.declared.fault.VolumeFault.{VolumeFault}
 use Rattle.luks_key_slots.specs.declared.fault.VolumeFault.TheVariants.{Header as HeaderNotRead, KeyAreaCut, Passphrase}
@@ -20,9 +22,11 @@ use Rattle.luks_runs.specs.declared.location.HeaderLocation.{HeaderLocation}
 use Rattle.luks_runs.specs.declared.location.HeaderLocation.TheVariants.{Attached, Detached}
 use Rattle.luks_runs.proofs.HonestVolumes.{unsealed}
 use Rattle.luks_runs.proofs.VolumeLemmas.{area_cut, found_cut, found_is, found_long, message_says, outcome_is, tried_is}
+use Rattle.luks_runs.proofs.VolumeLemmas.{tried_whole, volume_is}
 use Rattle.luks_runs.specs.Volume.{FindsNoVolume, MatchesHeader, opened_of, OnOpened, Volume, OpeningMessage}
 use Rattle.luks_runs.specs.Volume.{detached_payload_outcome, found_outcome, payload_outcome, unlock_read_len}
-use Rattle.luks_runs.specs.Volume.{volume_outcome_by}
+use Rattle.luks_runs.specs.KeyFile.{max_key_file_len}
+use Rattle.luks_runs.specs.Volume.{volume_by, volume_outcome_by}
 use Rattle.luks_runs.specs.declared.found.FoundVolume.{FoundVolume}
 use Rattle.luks_runs.specs.declared.unlocked.UnlockedVolume.{UnlockedVolume}
 use Rattle.luks_verdict.specs.declared.segment.Segment.{Segment}
@@ -33,7 +37,7 @@ use Rattle.luks_payload.specs.declared.fault.PayloadFault.TheVariants.{CutBefore
 use Rattle.luks_payload.specs.declared.state.Step.{Step}
 use Rattle.luks_payload.specs.declared.state.Step.TheVariants.{End}
 use Rattle.luks_access.specs.Opens.{HasPlaintext, Opens, OpensVolume, Refuses, RefusesVolume, UnlocksVolume}
-use Rattle.luks_access.specs.Opens.{cat_outcome_of, payload_image_of}
+use Rattle.luks_access.specs.Opens.{cat_outcome_of, fault_of_opening, payload_image_of}
 use Rattle.luks_access.specs.declared.options.Options.{Options}
 
 -- ---- refusals
@@ -44,6 +48,17 @@ module _ (options : Options) (image pass : List ℕ) (i : Option (List ℕ)) whe
       → ((on_opened : OnOpened) → volume_outcome_by (reader_for options.location) on_opened options.slots image pass
       ≡ no_output (message_for_volume fault) a b) → Refuses options image pass fault
   refused_by fault a b comes = record { header_consumed = a; secret_consumed = b; outcome = comes }
+
+  -- the fault, if no volume was found
+  pub fault_unfound : (fault : VolumeFault) → aborts_opening fault ≡ false
+      → FindsNoVolume (reader_for options.location) options.slots image i fault
+      → fault_of_opening image pass (volume_by (reader_for options.location) options.slots image) ≡ Some fault
+  fault_unfound (HeaderNotRead HeaderRead) never stop = cc
+  fault_unfound (HeaderNotRead HeaderMemory) never stop = cc
+  fault_unfound (Slots Memory) never stop = cc
+  fault_unfound (Passphrase _) never stop = absurd stop
+  fault_unfound KeyAreaCut never stop = absurd stop
+  fault_unfound fault never stop = ap (fault_of_opening image pass) stop.0
 
   -- no volume was found
   pub refused_unfound : (fault : VolumeFault) → aborts_opening fault ≡ false
@@ -69,6 +84,38 @@ module _ (options : Options) (image pass : List ℕ) (i : Option (List ℕ)) whe
     as_found =
         found_is options.location options.slots image pass volume.header volume.segment volume.order read
         matched.segment matched.order
+
+    is_volume : volume_by (reader_for options.location) options.slots image ≡ Ok described
+    is_volume =
+        volume_is options.location options.slots image volume.header volume.segment volume.order read matched.segment
+        matched.order
+
+    -- the fault, if the volume was not opened
+    pub fault_unopened : (fault : VolumeFault) → aborts_opening fault ≡ false
+        → UnlocksVolume volume pass area' (drop (header_read_len image) image) i (Err fault)
+        → fault_of_opening image pass (volume_by (reader_for options.location) options.slots image) ≡ Some fault
+    fault_unopened (HeaderNotRead HeaderRead) never (inl (short, lost)) = cc
+    fault_unopened (HeaderNotRead HeaderMemory) never (inl (short, lost)) = cc
+    fault_unopened KeyAreaCut never (inl (short, (grows, few))) =
+        let cut = area_cut image volume.area.bytes area' i (key_material_end volume.order.entries) prefix grows few in
+        rw (
+          is_volume,
+          le-ltb max_key_file_len (length pass) short,
+          lt-ltb (length image) (key_material_end volume.order.entries) cut.0,
+        ) refl
+    fault_unopened (Slots fault) never (inl (short, (grows, enough, tried))) =
+        let whole = tried_whole options.location options.slots image pass volume.header volume.segment volume.order read
+        matched.segment matched.order volume.area.bytes area' i prefix grows enough (Err fault) tried in
+        rw (
+          is_volume,
+          le-ltb max_key_file_len (length pass) short,
+          le-ltb (length image) (key_material_end volume.order.entries) whole.0,
+          whole.1,
+        ) refl
+    fault_unopened _ never (inl (short, lost)) = absurd lost
+    fault_unopened fault never (inr (long, is, rest)) =
+        let same : fault ≡ Passphrase TooLong = cc in
+        rw (same, is_volume, lt-ltb max_key_file_len (length pass) long) refl
 
     -- the volume was not opened
     pub refused_unopened : (fault : VolumeFault) → aborts_opening fault ≡ false
@@ -133,6 +180,22 @@ ends_whole s image = by (nat_lt (length image) s.offset)
 
 -- ---- the statements about a volume that is opened, and about a refusal
 
+-- no passphrase is read to find a volume
+pub unfound_long : (options : Options) (image : List ℕ) (i : Option (List ℕ)) (fault : VolumeFault)
+    → FindsNoVolume (reader_for options.location) options.slots image i fault
+    → (passphrase : PassphraseFault) → fault ≡ Passphrase passphrase → passphrase ≡ TooLong
+unfound_long options image i (Passphrase _) stop passphrase is = absurd stop
+unfound_long options image i _ stop passphrase is = cc
+
+-- a volume that was found is not opened by a passphrase that is too long
+pub unopened_long : (volume : FoundVolume) (pass area' rest : List ℕ) (i : Option (List ℕ)) (fault : VolumeFault)
+    → UnlocksVolume volume pass area' rest i (Err fault)
+    → (passphrase : PassphraseFault) → fault ≡ Passphrase passphrase → passphrase ≡ TooLong
+unopened_long volume pass area' rest i (Passphrase _) (inl (short, lost)) passphrase is = absurd lost
+unopened_long volume pass area' rest i _ (inl (short, lost)) passphrase is = cc
+unopened_long volume pass area' rest i fault (inr (long, too_long, same)) passphrase is =
+    let both : Passphrase passphrase ≡ Passphrase TooLong = cc in cc
+
 pub volume_opened : (options : Options) (image pass : List ℕ) (v : UnlockedVolume) → Opens options image pass v
     → OpensVolume options image pass v
 volume_opened options image pass v opens = record {
@@ -146,9 +209,15 @@ volume_opened options image pass v opens = record {
 }
 
 pub volume_refused : (options : Options) (image pass : List ℕ) (fault : VolumeFault)
-    → (aborts_opening fault ≡ false → Refuses options image pass fault) → RefusesVolume options image pass fault
-volume_refused options image pass fault refuses = record {
+    → (aborts_opening fault ≡ false
+    → fault_of_opening image pass (volume_by (reader_for options.location) options.slots image) ≡ Some fault)
+    → (aborts_opening fault ≡ false → Refuses options image pass fault)
+    → ((passphrase : PassphraseFault) → fault ≡ Passphrase passphrase → passphrase ≡ TooLong)
+    → RefusesVolume options image pass fault
+volume_refused options image pass fault is_fault refuses only_long = record {
+  is_fault = is_fault;
   refuses = refuses;
+  only_long = only_long;
   no_honest = λ plain attached never honest.
       let refused = rw attached at ((refuses never).outcome (payload_outcome image pass)) in
       let sealed = unsealed options.slots image pass plain honest in

@@ -12,8 +12,7 @@ use Rattle.luks_key_slots.specs.Fault.{aborts_opening, has_fault}
 use Rattle.luks_key_slots.specs.VolumeKey.{compared, key_digest_of}
 use Rattle.luks_key_slots.specs.declared.fault.OpenFault.TheVariants.{Memory}
 use Rattle.luks_key_slots.specs.declared.fault.VolumeFault.{VolumeFault}
-use Rattle.luks_key_slots.specs.declared.fault.VolumeFault.TheVariants.{Header as HeaderNotRead, Segment as SegmentRefused}
-use Rattle.luks_key_slots.specs.declared.fault.VolumeFault.TheVariants.{Slots}
+use Rattle.luks_key_slots.specs.declared.fault.VolumeFault.TheVariants as V
 use Rattle.luks_key_slots.specs.declared.volume_key.KeyCheck.{KeyCheck}
 use Rattle.luks_key_slots.specs.declared.volume_key.KeyCheck.TheVariants.{Differs}
 use Rattle.luks_runs.specs.Location.{reader_for}
@@ -21,21 +20,21 @@ use Rattle.luks_runs.specs.declared.location.HeaderLocation.{HeaderLocation}
 
 -- comparing a key may end with this fault
 abbrev pub KeyCheckFault : VolumeFault → Type 0
-KeyCheckFault (HeaderNotRead _) = Unit {0}
-KeyCheckFault (SegmentRefused _) = Unit {0}
-KeyCheckFault (Slots Memory) = Unit {0}
+KeyCheckFault (V.Header _) = Unit {0}
+KeyCheckFault (V.Segment _) = Unit {0}
+KeyCheckFault (V.Slots Memory) = Unit {0}
 KeyCheckFault _ = ⊥
 
 -- a key of a length that the segment's mode has is compared with the header's digest; any other differs
 abbrev pub check_in_segment : Header → Option ℕ → List ℕ → Result Segment SegmentFault → Result KeyCheck VolumeFault
 check_in_segment header limit key (Ok s) =
     Ok (if is_mode_key_length s.mode (length key) then compared limit (key_digest_of header) key else Differs)
-check_in_segment header limit key (Err fault) = Err (SegmentRefused fault)
+check_in_segment header limit key (Err fault) = Err (V.Segment fault)
 
 -- the same for the header that was read, or the fault if none was
 abbrev pub check_in_header : Option ℕ → List ℕ → Result Header HeaderFault → Result KeyCheck VolumeFault
 check_in_header limit key (Ok header) = check_in_segment header limit key (segment_of header)
-check_in_header limit key (Err fault) = Err (HeaderNotRead fault)
+check_in_header limit key (Err fault) = Err (V.Header fault)
 
 -- what comparing a key with the header at the start of an image, or of its own file, gives
 unfoldable pub key_check_of : HeaderLocation → Option ℕ → List ℕ → List ℕ → Result KeyCheck VolumeFault

@@ -1,11 +1,16 @@
 -- Which volume is opened, compared with `luksCat`.
-use Rattle.std.specs.Prelude.{ℕ, ◌≡◌, List, Ok, false, ◌⊎◌, ◌<◌, ◌≤◌, length, Option, Some, Result, Err, MatchBool}
+use Rattle.std.specs.Prelude.{ℕ, ◌≡◌, List, Ok, false, ◌⊎◌, ◌<◌, ◌≤◌, length, Option, None, Some, Result, Err, MatchBool}
+use Rattle.std.specs.Prelude.{if◌then◌else◌, nat_lt}
 use Rattle.luks_io.specs.Devices.{ConsumedAtMost, ConsumedExactly}
 use Rattle.luks_cipher.specs.Sector.{Cipher}
 use Rattle.luks_key_slots.specs.Fault.{aborts_opening, has_fault}
+use Rattle.luks_key_slots.specs.Opening.{key_material_end, opening_of}
+use Rattle.luks_key_slots.specs.declared.fault.OpenFault.{OpenFault}
+use Rattle.luks_key_slots.specs.declared.fault.PassphraseFault.{PassphraseFault}
 use Rattle.luks_key_slots.specs.declared.fault.PassphraseFault.TheVariants.{TooLong}
 use Rattle.luks_key_slots.specs.declared.fault.VolumeFault.{VolumeFault}
-use Rattle.luks_key_slots.specs.declared.fault.VolumeFault.TheVariants.{Passphrase}
+use Rattle.luks_key_slots.specs.declared.fault.VolumeFault.TheVariants as V
+use Rattle.luks_key_slots.specs.declared.opening.Opened.{Opened}
 use Rattle.luks_report.specs.Faults.{message_at_end, message_for_volume}
 use Rattle.luks_request.specs.declared.command.SlotChoice.{SlotChoice}
 use Rattle.luks_runs.specs.KeyFile.{max_key_file_len}
@@ -17,7 +22,7 @@ use Rattle.luks_runs.specs.Honest.{OpensHonest}
 use Rattle.luks_runs.specs.Volume.{TriesSlots, opened_of, OnOpened, detached_payload_outcome, payload_outcome}
 use Rattle.luks_runs.specs.declared.found.FoundVolume.{FoundVolume}
 use Rattle.luks_runs.specs.declared.unlocked.UnlockedVolume.{UnlockedVolume}
-use Rattle.luks_runs.specs.Volume.{slot_outcome, volume_outcome, volume_outcome_by}
+use Rattle.luks_runs.specs.Volume.{Volume, slot_outcome, volume_by, volume_outcome, volume_outcome_by}
 use Rattle.luks_payload.specs.Plain.{ending_of, plain_of}
 use Rattle.luks_payload.specs.declared.state.Step.TheVariants.{End}
 use Rattle.luks_access.specs.declared.options.Options.{Options}
@@ -64,7 +69,21 @@ abbrev pub UnlocksVolume : FoundVolume → List ℕ → List ℕ → List ℕ �
 UnlocksVolume volume pass area' rest left result =
     ((length pass ≤ max_key_file_len)
     × TriesSlots volume.segment volume.order pass volume.area.bytes area' rest left result)
-    ⊎ ((max_key_file_len < length pass) × (result ≡ Err (Passphrase TooLong)) × (left ≡ Some rest))
+    ⊎ ((max_key_file_len < length pass) × (result ≡ Err (V.Passphrase TooLong)) × (left ≡ Some rest))
+
+-- the fault of trying the key slots, if none opens
+abbrev pub fault_of_slots : Result Opened OpenFault → Option VolumeFault
+fault_of_slots (Ok _) = None
+fault_of_slots (Err fault) = Some (V.Slots fault)
+
+-- the fault with which opening this volume ends under this passphrase, if it is not opened; or the fault for which there
+-- is no volume
+abbrev pub fault_of_opening : List ℕ → List ℕ → Result Volume VolumeFault → Option VolumeFault
+fault_of_opening header pass (Err fault) = Some fault
+fault_of_opening header pass (Ok volume) =
+    if nat_lt max_key_file_len (length pass) then Some (V.Passphrase TooLong)
+    else (if nat_lt (length header) (key_material_end volume.order.entries) then Some V.KeyAreaCut
+    else fault_of_slots (opening_of volume.order header pass))
 
 -- the image of the payload: the one that the header is attached to, or another
 abbrev pub payload_image_of : HeaderLocation → List ℕ → List ℕ → List ℕ
@@ -91,10 +110,14 @@ pub record OpensVolume (options : Options) (header pass : List ℕ) (v : Unlocke
   pub honest : (plain : List ℕ) → options.location ≡ Attached → OpensHonest options.slots header pass plain
       → (plaintext_of v header ≡ plain) × (ending_of v.segment header ≡ Ok End)
 
--- no volume was opened. Unless memory ran out or a read failed, every command ends with this fault's message
--- (`refuses`), and the image is no honestly sealed volume, with an attached header, that this passphrase opens
+-- no volume was opened. Unless memory ran out or a read failed, this is the fault of the image under the passphrase
+-- (`is_fault`), every command ends with its message (`refuses`), and the image is no honestly sealed volume, with an attached header, that this passphrase opens
 -- (`no_honest`)
 pub record RefusesVolume (options : Options) (header pass : List ℕ) (fault : VolumeFault) : Type 0 where
+  pub is_fault : aborts_opening fault ≡ false → fault_of_opening header pass
+      (volume_by (reader_for options.location) options.slots header) ≡ Some fault
   pub refuses : aborts_opening fault ≡ false → Refuses options header pass fault
+  -- the passphrase is there and is not read: it can only be too long
+  pub only_long : (passphrase : PassphraseFault) → fault ≡ V.Passphrase passphrase → passphrase ≡ TooLong
   pub no_honest : (plain : List ℕ) → options.location ≡ Attached → aborts_opening fault ≡ false
       → OpensHonest options.slots header pass plain → ⊥

@@ -199,7 +199,8 @@ CountsOpening location slots message trial = IfInputsKnown trial (λ image passp
     CountsTried location slots image passphrase trial
     ⊎ (EndsUntried location slots image message trial × (trial.work.after ≡ trial.work.before)))
 
--- the evaluations of HMAC that a run of a command needs. A command that opens no volume needs none
+-- the evaluations of HMAC that a run of a command needs, if its inputs know their bytes: those of trying the key slots
+-- if they were tried, and none otherwise. A command that opens no volume needs none
 abbrev pub CountsWork : HeaderLocation → Request → Message → Trial → Type 0
 CountsWork location (test_passphrase o) message trial = CountsOpening location o.slots message trial
 CountsWork location (luks_cat o) message trial = CountsOpening location o.slots message trial

@@ -3,7 +3,7 @@ use Rattle.std.specs.Prelude.{Bool, false, true, Result, Ok, Err}
 use Rattle.luks_header_area.specs.declared.fault.HeaderFault.TheVariants.{Read as HeaderRead, Memory as HeaderMemory}
 use Rattle.luks_key_slots.specs.declared.fault.OpenFault.TheVariants.{Memory, NoKey}
 use Rattle.luks_key_slots.specs.declared.fault.PassphraseFault.{PassphraseFault}
-use Rattle.luks_key_slots.specs.declared.fault.PassphraseFault.TheVariants.{Read as PassphraseRead, TooLong}
+use Rattle.luks_key_slots.specs.declared.fault.PassphraseFault.TheVariants.{Read as PassphraseRead, Memory as PassphraseMemory}
 use Rattle.luks_key_slots.specs.declared.fault.VolumeFault.{VolumeFault}
 use Rattle.luks_key_slots.specs.declared.fault.VolumeFault.TheVariants.{Header, Passphrase, Slots}
 
@@ -22,8 +22,8 @@ is_read_failure _ = false
 abbrev pub aborts_opening : VolumeFault → Bool
 aborts_opening (Header HeaderRead) = true
 aborts_opening (Header HeaderMemory) = true
-aborts_opening (Passphrase TooLong) = false
-aborts_opening (Passphrase _) = true
+aborts_opening (Passphrase PassphraseRead) = true
+aborts_opening (Passphrase PassphraseMemory) = true
 aborts_opening (Slots Memory) = true
 aborts_opening _ = false
 

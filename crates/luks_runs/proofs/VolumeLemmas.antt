@@ -22,7 +22,7 @@ use Rattle.luks_header.specs.HeaderSegment.{segment_of}
 use Rattle.luks_header.specs.declared.header.Header.{Header}
 use Rattle.luks_key_slots.specs.Opening.{OrderModel, order_of, key_material_end, opening_of}
 use Rattle.luks_key_slots.specs.declared.fault.OpenFault.{OpenFault}
-use Rattle.luks_key_slots.specs.Fault.{is_read_failure, is_untried}
+use Rattle.luks_key_slots.specs.Fault.{aborts_opening, is_read_failure, is_untried}
 use Rattle.luks_key_slots.specs.declared.fault.OpenFault.TheVariants.{Disabled, Memory, NamedSkipped, NoKey, NoSuchSlot}
 use Rattle.luks_key_slots.specs.declared.fault.OpenFault.TheVariants.{NothingTried}
 use Rattle.luks_key_slots.specs.declared.fault.PassphraseFault.TheVariants.{TooLong, Read as PassphraseRead}
@@ -36,7 +36,7 @@ use Rattle.luks_report.specs.Faults.{message_for_volume}
 use Rattle.luks_report.specs.declared.message.Message.TheVariants.{Cut, KeyFileLength}
 use Rattle.luks_request.specs.declared.command.SlotChoice.{SlotChoice}
 use Rattle.luks_runs.proofs.RunLemmas.{reading_fault, header_read_len_within}
-use Rattle.luks_runs.specs.Run.{is_run_read_failure, no_output}
+use Rattle.luks_runs.specs.Run.{aborts, is_run_read_failure, no_output}
 use Rattle.luks_runs.specs.Location.{LoadedFrom, reader_for}
 use Rattle.luks_runs.specs.declared.location.HeaderLocation.{HeaderLocation}
 use Rattle.luks_runs.specs.KeyFile.{max_key_file_len}
@@ -66,24 +66,25 @@ pub record SaysAsMuch (fault : VolumeFault) : Type 0 where
   pub opening : OpeningMessage (message_for_volume fault)
   pub read : is_read_failure fault ≡ is_run_read_failure (message_for_volume fault)
   pub untried : ends_untried (message_for_volume fault) ≡ is_untried fault
+  pub aborted : aborts_opening fault ≡ aborts (message_for_volume fault)
 
 pub message_says : (fault : VolumeFault) → SaysAsMuch fault
-message_says (HeaderNotRead NotLuks) = record { opening = tt; read = refl; untried = refl }
-message_says (HeaderNotRead HeaderCut) = record { opening = tt; read = refl; untried = refl }
-message_says (HeaderNotRead Json) = record { opening = tt; read = refl; untried = refl }
-message_says (HeaderNotRead HeaderRead) = record { opening = tt; read = refl; untried = refl }
-message_says (HeaderNotRead HeaderMemory) = record { opening = tt; read = refl; untried = refl }
-message_says (SegmentRefused _) = record { opening = tt; read = refl; untried = refl }
-message_says (Passphrase TooLong) = record { opening = tt; read = refl; untried = refl }
-message_says (Passphrase PassphraseRead) = record { opening = tt; read = refl; untried = refl }
-message_says (Passphrase PassphraseMemory) = record { opening = tt; read = refl; untried = refl }
-message_says KeyAreaCut = record { opening = tt; read = refl; untried = refl }
-message_says (Slots (NoSuchSlot _)) = record { opening = tt; read = refl; untried = refl }
-message_says (Slots (Disabled _)) = record { opening = tt; read = refl; untried = refl }
-message_says (Slots (NamedSkipped _ _)) = record { opening = tt; read = refl; untried = refl }
-message_says (Slots (NothingTried _)) = record { opening = tt; read = refl; untried = refl }
-message_says (Slots (NoKey _)) = record { opening = tt; read = refl; untried = refl }
-message_says (Slots Memory) = record { opening = tt; read = refl; untried = refl }
+message_says (HeaderNotRead NotLuks) = record { opening = tt; read = refl; untried = refl; aborted = refl }
+message_says (HeaderNotRead HeaderCut) = record { opening = tt; read = refl; untried = refl; aborted = refl }
+message_says (HeaderNotRead Json) = record { opening = tt; read = refl; untried = refl; aborted = refl }
+message_says (HeaderNotRead HeaderRead) = record { opening = tt; read = refl; untried = refl; aborted = refl }
+message_says (HeaderNotRead HeaderMemory) = record { opening = tt; read = refl; untried = refl; aborted = refl }
+message_says (SegmentRefused _) = record { opening = tt; read = refl; untried = refl; aborted = refl }
+message_says (Passphrase TooLong) = record { opening = tt; read = refl; untried = refl; aborted = refl }
+message_says (Passphrase PassphraseRead) = record { opening = tt; read = refl; untried = refl; aborted = refl }
+message_says (Passphrase PassphraseMemory) = record { opening = tt; read = refl; untried = refl; aborted = refl }
+message_says KeyAreaCut = record { opening = tt; read = refl; untried = refl; aborted = refl }
+message_says (Slots (NoSuchSlot _)) = record { opening = tt; read = refl; untried = refl; aborted = refl }
+message_says (Slots (Disabled _)) = record { opening = tt; read = refl; untried = refl; aborted = refl }
+message_says (Slots (NamedSkipped _ _)) = record { opening = tt; read = refl; untried = refl; aborted = refl }
+message_says (Slots (NothingTried _)) = record { opening = tt; read = refl; untried = refl; aborted = refl }
+message_says (Slots (NoKey _)) = record { opening = tt; read = refl; untried = refl; aborted = refl }
+message_says (Slots Memory) = record { opening = tt; read = refl; untried = refl; aborted = refl }
 
 -- ---- counts of reads
 
@@ -249,7 +250,21 @@ module _ (location : HeaderLocation) (slots : SlotChoice) (image pass : List ℕ
         outcome_is on_opened (Ok (volume_with header segment order))
         (volume_is location slots image header segment order found is_segment ordered)
 
-    -- if the key areas were loaded and trying the key slots has this result, the outcome is that of the result
+    -- if the key areas were loaded, trying the key slots has the same result with the whole image
+    pub tried_whole : (area area' : List ℕ) (i : Option (List ℕ)) (prefix : area ≡ take (header_read_len image) image)
+        (grows : ConsumedOnto area area' (drop (header_read_len image) image) i
+        (min (key_material_end order.entries - length area) (length (drop (header_read_len image) image))))
+        (enough : key_material_end order.entries ≤ length area') (r : Result Opened OpenFault)
+        (tried : opening_of order area' pass ≡ r)
+        → (key_material_end order.entries ≤ length image) × (opening_of order image pass ≡ r)
+    tried_whole area area' i prefix grows enough r tried =
+        let loaded = area_loaded image area area' i (key_material_end order.entries) prefix grows enough in (
+          loaded.0,
+          sym (opening_prefix order (max (header_read_len image) (key_material_end order.entries)) image pass
+              (omega arith)) ∙ ap (λ l. opening_of order l pass) (sym loaded.2) ∙ tried,
+        )
+
+    -- and the outcome is that of the result
     pub tried_is : (short : length pass ≤ max_key_file_len) (area area' : List ℕ) (i : Option (List ℕ))
         (prefix : area ≡ take (header_read_len image) image)
         (grows : ConsumedOnto area area' (drop (header_read_len image) image) i
@@ -260,8 +275,6 @@ module _ (location : HeaderLocation) (slots : SlotChoice) (image pass : List ℕ
         ≡ opened_outcome on_opened (volume_with header segment order) image pass r
     tried_is short area area' i prefix grows enough r tried on_opened =
         let v = volume_with header segment order in
-        let loaded = area_loaded image area area' i (key_material_end order.entries) prefix grows enough in
-        let whole = sym (opening_prefix order (max (header_read_len image) (key_material_end order.entries)) image
-        pass (omega arith)) ∙ ap (λ l. opening_of order l pass) (sym loaded.2) ∙ tried in
-        found_is on_opened ∙ found_whole on_opened v image pass short loaded.0
-        ∙ ap (opened_outcome on_opened v image pass) whole
+        let whole = tried_whole area area' i prefix grows enough r tried in
+        found_is on_opened ∙ found_whole on_opened v image pass short whole.0
+        ∙ ap (opened_outcome on_opened v image pass) whole.1

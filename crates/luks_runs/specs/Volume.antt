@@ -13,8 +13,7 @@ use Rattle.luks_key_slots.specs.Opening.{OrderModel, key_material_end, order_of,
 use Rattle.luks_key_slots.specs.declared.fault.OpenFault.{OpenFault}
 use Rattle.luks_key_slots.specs.declared.fault.OpenFault.TheVariants.{Memory}
 use Rattle.luks_key_slots.specs.declared.fault.VolumeFault.{VolumeFault}
-use Rattle.luks_key_slots.specs.declared.fault.VolumeFault.TheVariants.{Header as HeaderNotRead, Segment as SegmentInvalid}
-use Rattle.luks_key_slots.specs.declared.fault.VolumeFault.TheVariants.{KeyAreaCut, Passphrase, Slots}
+use Rattle.luks_key_slots.specs.declared.fault.VolumeFault.TheVariants as V
 use Rattle.luks_key_slots.specs.Fault.{has_fault, is_untried}
 use Rattle.luks_report.specs.Faults.{message_at_end, message_for_slots, message_for_volume}
 use Rattle.luks_request.specs.declared.command.SlotChoice.{SlotChoice}
@@ -76,18 +75,18 @@ pub record Volume : Type 0 where
 -- the volume with this order of key slots
 abbrev pub volume_in_order : Header → Segment → Result OrderModel OpenFault → Result Volume VolumeFault
 volume_in_order header segment (Ok order) = Ok (record { header = header; segment = segment; order = order })
-volume_in_order header segment (Err fault) = Err (Slots fault)
+volume_in_order header segment (Err fault) = Err (V.Slots fault)
 
 -- the volume with this segment
 abbrev pub volume_in_segment : SlotChoice → Header → Result Segment SegmentFault → Result Volume VolumeFault
 volume_in_segment slots header (Ok segment) =
     volume_in_order header segment (order_of header slots.named slots.max_iterations)
-volume_in_segment slots header (Err fault) = Err (SegmentInvalid fault)
+volume_in_segment slots header (Err fault) = Err (V.Segment fault)
 
 -- the volume with this header, by the key slots that may be tried
 abbrev pub volume_in_header : SlotChoice → Result Header HeaderFault → Result Volume VolumeFault
 volume_in_header slots (Ok header) = volume_in_segment slots header (segment_of header)
-volume_in_header slots (Err fault) = Err (HeaderNotRead fault)
+volume_in_header slots (Err fault) = Err (V.Header fault)
 
 -- the volume whose header is read in this way, or the fault if there is none: of its header first, then of its segment,
 -- then of the order of its key slots
@@ -169,11 +168,11 @@ HasSegmentBy read image segment = (header : Header) × (read image ≡ Ok header
 -- no volume whose header is read in this way was found, for this reason: a read failed, memory ran out, or the image
 -- has none. No passphrase and no key area is read for that
 abbrev pub FindsNoVolume : HeaderReader → SlotChoice → List ℕ → Option (List ℕ) → VolumeFault → Type 0
-FindsNoVolume read slots image left (HeaderNotRead HeaderRead) = ConsumedAtMost image left (header_read_len image)
-FindsNoVolume read slots image left (HeaderNotRead HeaderMemory) = ConsumedAtMost image left (header_read_len image)
-FindsNoVolume read slots image left (Slots Memory) = ConsumedAtMost image left (header_read_len image)
-FindsNoVolume read slots image left (Passphrase _) = ⊥
-FindsNoVolume read slots image left KeyAreaCut = ⊥
+FindsNoVolume read slots image left (V.Header HeaderRead) = ConsumedAtMost image left (header_read_len image)
+FindsNoVolume read slots image left (V.Header HeaderMemory) = ConsumedAtMost image left (header_read_len image)
+FindsNoVolume read slots image left (V.Slots Memory) = ConsumedAtMost image left (header_read_len image)
+FindsNoVolume read slots image left (V.Passphrase _) = ⊥
+FindsNoVolume read slots image left V.KeyAreaCut = ⊥
 FindsNoVolume read slots image left fault =
     (volume_by read slots image ≡ Err fault) × ConsumedExactly image left (header_read_len image)
 
@@ -211,11 +210,11 @@ abbrev pub TriesSlots : Segment → OrderModel → List ℕ → List ℕ → Lis
 TriesSlots segment order pass area area' rest left (Ok volume) = ConsumedMaterial order area area' rest left
     × (key_material_end order.entries ≤ length area') × (volume.segment ≡ segment)
     × (opening_of order area' pass ≡ Ok (opened_of volume))
-TriesSlots segment order pass area area' rest left (Err (Slots fault)) = ConsumedMaterial order area area' rest left
+TriesSlots segment order pass area area' rest left (Err (V.Slots fault)) = ConsumedMaterial order area area' rest left
     × (key_material_end order.entries ≤ length area') × (opening_of order area' pass ≡ Err fault)
-TriesSlots segment order pass area area' rest left (Err KeyAreaCut) = ConsumedMaterial order area area' rest left
+TriesSlots segment order pass area area' rest left (Err V.KeyAreaCut) = ConsumedMaterial order area area' rest left
     × (length area' < key_material_end order.entries)
-TriesSlots segment order pass area area' rest left (Err (HeaderNotRead fault)) =
+TriesSlots segment order pass area area' rest left (Err (V.Header fault)) =
     AbortsConsuming (key_material_end order.entries - length area) area area' rest left fault
 TriesSlots segment order pass area area' rest left _ = ⊥
 
@@ -228,5 +227,5 @@ CountsTrials order area pass result work work' =
 
 -- trying the key slots hit EOF on the image only if the image ended inside a key area
 abbrev pub HitsMaterialEof : Result UnlockedVolume VolumeFault → Bool → Type 0
-HitsMaterialEof (Err KeyAreaCut) ended = Unit {0}
+HitsMaterialEof (Err V.KeyAreaCut) ended = Unit {0}
 HitsMaterialEof _ ended = ended ≡ false

@@ -1,7 +1,7 @@
 //! `testPassphrase` and `luksCat`: volumes that a passphrase opens.
 
 ghost use Rattle.std.specs.Prelude.{◌≡◌, ◌⊎◌, [], Bool};
-ghost use Rattle.std.specs.Prelude.{IfOk, IfErr, MatchResult, false, is_err, true};
+ghost use Rattle.std.specs.Prelude.{IfOk, IfErr, false, is_err, true};
 ghost use Rattle.luks_key_slots.specs.Fault.{has_fault, is_read_failure, is_untried};
 ghost use Rattle.luks_report.specs.Faults.{message_for_volume};
 ghost use Rattle.luks_request.specs.declared.command.SlotChoice.{SlotChoice};
