@@ -76,8 +76,8 @@ abbrev pub fault_of_slots : Result Opened OpenFault → Option VolumeFault
 fault_of_slots (Ok _) = None
 fault_of_slots (Err fault) = Some (V.Slots fault)
 
--- the fault with which opening this volume ends under this passphrase, if it is not opened; or the fault for which there
--- is no volume
+-- the fault with which opening this volume ends under this passphrase, if it is not opened; or the fault because of
+-- which there is no volume
 abbrev pub fault_of_opening : List ℕ → List ℕ → Result Volume VolumeFault → Option VolumeFault
 fault_of_opening header pass (Err fault) = Some fault
 fault_of_opening header pass (Ok volume) =
@@ -111,11 +111,11 @@ pub record OpensVolume (options : Options) (header pass : List ℕ) (v : Unlocke
       → (plaintext_of v header ≡ plain) × (ending_of v.segment header ≡ Ok End)
 
 -- no volume was opened. Unless memory ran out or a read failed, this is the fault of the image under the passphrase
--- (`is_fault`), every command ends with its message (`refuses`), and the image is no honestly sealed volume, with an attached header, that this passphrase opens
--- (`no_honest`)
+-- (`is_fault`), every command ends with its message (`refuses`), and the image is no honestly sealed volume, with an
+-- attached header, that this passphrase opens (`no_honest`)
 pub record RefusesVolume (options : Options) (header pass : List ℕ) (fault : VolumeFault) : Type 0 where
-  pub is_fault : aborts_opening fault ≡ false → fault_of_opening header pass
-      (volume_by (reader_for options.location) options.slots header) ≡ Some fault
+  pub is_fault : aborts_opening fault ≡ false
+      → fault_of_opening header pass (volume_by (reader_for options.location) options.slots header) ≡ Some fault
   pub refuses : aborts_opening fault ≡ false → Refuses options header pass fault
   -- the passphrase is there and is not read: it can only be too long
   pub only_long : (passphrase : PassphraseFault) → fault ≡ V.Passphrase passphrase → passphrase ≡ TooLong
