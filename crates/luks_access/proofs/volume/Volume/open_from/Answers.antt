@@ -34,7 +34,7 @@ returns-in_err-unlocked-clause-refuses g c =
     volume_refused c.args.options.now known c.args.pass.now _
     (λ never. fault_unopened c.args.options.now known c.args.pass.now _ _ found.slots read.0 _ read.1 _ never run)
     (λ never. refused_unopened c.args.options.now known c.args.pass.now _ _ found.slots read.0 _ read.1 _ never run)
-    (unopened_long _ _ _ _ _ _ run))
+    (unopened_long c.in_ok-found.found c.args.pass.now _ _ _ _ run))
 
 pub returns-clause-consumes : goal.returns-clause-consumes
 returns-clause-consumes g c known is =
