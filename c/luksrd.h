@@ -304,7 +304,7 @@ static __attribute__((noinline, unused)) void luksrd_wipe_deep(void)
  * may have left copies of passphrases and keys: its own, and the loader. The library's functions
  * leave none. Call it from the function that called them, in the same thread. In a thread with a
  * smaller stack, do not call it: wipe that stack when the thread has ended. */
-static inline __attribute__((always_inline, unused)) void luksrd_wipe_stack(void)
+static __inline__ __attribute__((always_inline, unused)) void luksrd_wipe_stack(void)
 {
   luksrd_wipe_deep();
 #ifdef __x86_64__

@@ -12,6 +12,8 @@
     clients.py finds SECRET PID         whether a piece of the secret, 16 bytes, is in the memory of this process:
                                         `everywhere`, `arguments` (there alone) or `nowhere`
     clients.py at-once URI COUNT        so many connections at the same time, which all get the same size
+    clients.py extents URI FLAGS        the holes of a volume, as ranges, by requests with these flags of libnbd (0, or
+                                        8 for one extent a request)
 """
 
 import concurrent.futures
@@ -50,6 +52,25 @@ def read(handle, count, offset):
         return bytes(handle.pread(count, offset))
     except nbd.Error as error:
         return error.errnum
+
+
+def holes(uri, flags):
+    """The holes of a volume, as START-END."""
+    handle, found = nbd.NBD(), []
+    handle.add_meta_context("base:allocation")
+    handle.connect_uri(uri)
+    at, size = 0, handle.get_size()
+    while at < size:
+        got = []
+        handle.block_status(size - at, at, lambda name, offset, entries, error: got.extend(entries), flags)
+        for length, kind in zip(got[::2], got[1::2]):
+            end = min(at + length, size)
+            if kind & 1 and found and found[-1][1] == at:
+                found[-1][1] = end
+            elif kind & 1:
+                found.append([at, end])
+            at = end
+    return [f"{start}-{end}" for start, end in found]
 
 
 def some_range(chance, size):
@@ -299,6 +320,9 @@ def main():
         sys.exit(ask(arguments[0], arguments[1:]))
     if what == "finds":
         print(find(contents(arguments[0]), arguments[1]))
+        return
+    if what == "extents":
+        print(*holes(arguments[0], int(arguments[1])), sep="\n")
         return
     if what == "at-once":
         problems = open_at_once(arguments[0], int(arguments[1]))

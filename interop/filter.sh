@@ -61,6 +61,22 @@ $hole $((8388608 - start - hole)) hole"
 served 'nbdinfo --map "$uri"' --filter=noextents file sparse key-file=pass
 same 'the map of an image without one' "$(awk '{ print $1, $2, $4 }' said)" "0 $((8388608 - start)) data"
 
+# a block of what is below has data and holes: the same holes are found as without blocks, by requests that get one
+# extent, too
+for at in $(seq 40 7 400); do
+    printf data | dd of=sparse bs=4096 seek=$((at * 4 + at % 4)) conv=notrunc status=none
+done
+served "/usr/bin/python3 '$here/clients.py' extents \"\$uri\" 0" file sparse key-file=pass
+cp said holes
+same 'there are holes' "$(($(wc -l <holes) > 20))" 1
+for flags in 0 8; do
+    for minimum in 1 4096 65536; do
+        served "/usr/bin/python3 '$here/clients.py' extents \"\$uri\" $flags" --filter=blocksize-policy file sparse \
+            key-file=pass blocksize-minimum="$minimum" blocksize-preferred=65536 blocksize-maximum=65536
+        same "holes in blocks of $minimum, flags $flags" "$? $(diff said holes | head -n 4)" '0 '
+    done
+done
+
 # exports NAMES ARGUMENT..: as served, nbdinfo prints the size of each of these exports
 exports() {
     served "for name in $1; do nbdinfo --size \"nbd+unix:///\$name?socket=\$unixsocket\"; done" "${@:2}"
@@ -101,7 +117,8 @@ served 'nbdinfo --size "$uri"; nbdinfo --size "$uri"' file plain key-file=pass
 says 'the reason' 'luksrd: not a LUKS image'
 says 'a second connection' 'luksrd: this image was refused before'
 served 'for name in plain plain plain; do nbdinfo --size "nbd+unix:///$name?socket=$unixsocket" & done
-    nbdinfo --size "nbd+unix:///two?socket=$unixsocket" >size; status=$?; wait; exit $status' file dir=exports key-file=pass
+    nbdinfo --size "nbd+unix:///two?socket=$unixsocket" >size; status=$?; wait; exit $status' \
+    file dir=exports key-file=pass
 same 'exports that are refused at once' "$? $(cat size)" "0 $size2"
 
 # another volume under the same name is refused, but not the same one with another key slot
@@ -112,6 +129,20 @@ served 'info() { nbdinfo --size "nbd+unix:///moving?socket=$unixsocket"; }
     mv -f exports/moved exports/moving; info' file dir=exports key-file=pass
 same 'an export that is replaced: sizes' "$(grep -c '^300032$' said)" 2
 says 'an export that is replaced' 'luksrd: the export has another volume than the one that is open'
+
+# nor under the same UUID with another digest of the volume key, or by another name without a header
+cp "$volume1" exports/cloned
+served 'info() { nbdinfo --size "nbd+unix:///cloned?socket=$unixsocket"; }
+    info; printf x | dd of=exports/cloned bs=1 seek=107 conv=notrunc status=none; info' file dir=exports key-file=pass
+same 'an export with another header: sizes' "$(grep -c '^300032$' said)" 1
+says 'an export with another header' 'luksrd: the export has another volume than the one that is open'
+for name in unmarked similar; do
+    cp "$volume2" "exports/$name"
+    printf %s "$name" | dd of="exports/$name" bs=1 conv=notrunc status=none
+done
+exports 'unmarked similar unmarked' file dir=exports key-file=pass
+same 'exports without a first header: sizes' "$(grep -c "^$size2$" said)" 2
+says 'exports without a first header' 'luksrd: this server has opened another export, and serves no second one'
 
 # two of these filters would share the volume
 refused 'the filter twice' 'luksrd: this filter can be used only once' --filter="$filter" file "$volume1" key-file=pass
@@ -130,6 +161,15 @@ failing=(--filter=error file "$volume1" key-file=pass error-pread-rate=100% erro
 served 'nbdinfo --size "$uri"; rm fail; nbdinfo --size "$uri"' "${failing[@]}"
 same 'a header that cannot be read, and then can' "$? $(grep -c '^300032$' said)" '0 1'
 says 'why' 'luksrd: reading the first '
+# one of bytes after the header and the key areas does not keep it from being opened
+start=$(start_of1 "$volume1")
+for end in $((start + 102400)) 4096 0; do
+    asked 'pread(4096, 8192)' eval get_size="stat -c %s '$work/$volume1'" \
+        pread="[ \$((\$3 + \$4)) -le $end ] || { echo EIO no such sectors >&2; exit 1; }
+            dd if='$work/$volume1' iflag=skip_bytes,count_bytes skip=\$4 count=\$3 status=none" key-file=pass
+    same "bytes from $end on cannot be read" "$(($? == 0))" $((end > start))
+    says "bytes from $end on" "luksrd: reading the first $(stat -c %s "$volume1") bytes: after $end: "
+done
 served "/usr/bin/python3 '$here/clients.py' fails \"\$uri\" text fail >answer" "${failing[@]}"
 same 'a sector that cannot be read' "$? $(cat answer)" '0 all the same'
 says 'a sector that cannot be read' 'luksrd: reading 512 bytes at offset '

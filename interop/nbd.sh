@@ -412,6 +412,15 @@ device() {
 }
 with device
 
+# bytes after the header that cannot be read do not keep the volume from being opened; the first ones do
+for call in 2 1; do
+    timeout "$patience" strace -f -qq -o trace -P "$work/$volume1" -e trace=read -e inject=read:error=EIO:when=$call \
+        nbdkit -U - "$plugin" "$volume1" key-file=pass --run 'nbdinfo --size "$uri"' >said 2>&1
+    same "read $call of the image fails" "$? $(grep -c '^300032$' said)" "$((call == 1)) $((call == 2))"
+    says "read $call of the image fails" \
+        "$volume1: luksrd: read failed: after $([ $call = 2 ] && stat -c %s "$volume1" || echo 0) bytes: "
+done
+
 # Out of memory they end with a message, not by a signal. With too little memory for nbdkit alone, nbdkit ends by one.
 # within MIB ARGUMENT..: runs nbdkit with these arguments in MIB MiB of address space, and a client in more
 within() {

@@ -68,6 +68,21 @@ bool read_below(void *from, uint8_t *to, size_t size, uint64_t offset)
   return is_read;
 }
 
+size_t read_first_below(struct below *below, uint8_t *to, size_t size)
+{
+  size_t got = 0, step = MAX_READ;
+  while (got < size) {
+    const size_t count = size - got < step ? size - got : step;
+    if (read_below(below, to + got, count, got))
+      got += count;
+    else if (step > 4096)
+      step = 4096;
+    else
+      break;
+  }
+  return got;
+}
+
 void keep_start(struct start *start, const struct bytes *header)
 {
   start->len = header->len < sizeof start->at ? header->len : sizeof start->at;
@@ -99,8 +114,11 @@ enum likeness compare_start(struct below *below, const struct start *start)
 
 enum likeness compare_uuid(struct below *below, const struct start *start)
 {
-  enum { UUID = 168, UUID_LEN = 40 };
-  return compare(below, start, UUID, UUID_LEN);
+  enum { FORMAT = 7, UUID = 168, UUID_LEN = 40 };
+  /* In LUKS1 all that comes before the key slots stays, too: where the payload begins, and the
+   * digest of its key. In LUKS2 a change of the key slots changes the rest. */
+  const size_t from = start->at[FORMAT] == 1 ? 0 : UUID;
+  return compare(below, start, from, UUID + UUID_LEN - from);
 }
 
 struct blocks blocks_of(const struct below *below, uint32_t count, uint64_t offset)

@@ -25,6 +25,10 @@ int look_below(struct below *below, nbdkit_next *next);
  * whether it did; if not, errno says why. */
 bool read_below(void *below, uint8_t *to, size_t size, uint64_t offset);
 
+/* Reads the first `size` bytes, or those before the first that cannot be read, and then errno says
+ * why. Returns their number. */
+size_t read_first_below(struct below *below, uint8_t *to, size_t size);
+
 /* The first bytes of an image, or none. They tell one volume from another: they have the header of
  * LUKS1 with its key slots, or the binary header of LUKS2 with the checksum of the rest. */
 struct start {

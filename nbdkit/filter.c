@@ -82,12 +82,12 @@ static int config_complete(nbdkit_next_config_complete *next, nbdkit_backend *ba
 }
 
 /* Reads the detached header. */
-static int read_header(struct bytes *header)
+static int read_detached(struct bytes *header)
 {
   const int fd = open_stream(parameters.header);
   if (fd < 0)
     return -1;
-  const int status = read_first(parameters.header, fd, MAX_HEADER, header);
+  const int status = read_header(parameters.header, fd, &parameters, header);
   close(fd);
   return status;
 }
@@ -110,7 +110,7 @@ static int take_secret(void)
 static int open_now(void)
 {
   struct bytes header = { 0 };
-  int status = read_header(&header);
+  int status = read_detached(&header);
   if (status == 0)
     status = take_secret();
   if (status == 0 && unlock(&volume, &header, &passphrase, &parameters) != OPENED)
@@ -178,10 +178,13 @@ static enum outcome open_below(struct below *below)
   enum outcome outcome = TRY_LATER;
   if (allocate(&header, below->len < MAX_HEADER ? (size_t)below->len : MAX_HEADER) < 0)
     return TRY_LATER;
-  if (read_below(below, header.at, header.len, 0))
+  const size_t wanted = header.len;
+  header.len = read_first_below(below, header.at, wanted);
+  if (header.len < wanted)
+    nbdkit_error("luksrd: reading the first %zu bytes: after %zu: %s", wanted, header.len,
+                 strerror(errno));
+  if (header.len == wanted || are_enough(&header, &parameters))
     outcome = try_header(&header);
-  else
-    nbdkit_error("luksrd: reading the first %zu bytes: %s", header.len, strerror(errno));
   if (outcome == OPENED)
     keep_start(&opened_start, &header);
   if (outcome == REFUSED) {
@@ -239,12 +242,17 @@ static bool wait_for_volume(void)
 /* Compares what is below with the volume that is open: another image would give noise with this
  * key. An export of the same name has the same volume unless its UUID is another one; its key slots
  * may have changed. One of another name has the same image, as if what is below does not look at
- * names, if it has the same header or, if that is not in it, the same length. */
+ * names, if it starts with the same bytes. If these begin no header, an export of the same name has
+ * to start with them, too, and one of another name to have the same length. */
 static enum likeness compare_volumes(struct below *below, bool is_same_name)
 {
-  if (!has_magic(&opened_start))
-    return is_same_name || below->len == served_len ? SAME : OTHER;
-  return is_same_name ? compare_uuid(below, &opened_start) : compare_start(below, &opened_start);
+  const bool has_uuid = has_magic(&opened_start);
+  if (is_same_name && has_uuid)
+    return compare_uuid(below, &opened_start);
+  if (!is_same_name && !has_uuid && below->len != served_len)
+    return OTHER;
+  /* (if the header is detached, these are no bytes) */
+  return compare_start(below, &opened_start);
 }
 
 /* Whether this connection is served; reports why not. */
@@ -331,22 +339,38 @@ static int add_extents(struct nbdkit_extents *extents, const struct nbdkit_exten
   return 0;
 }
 
+/* The extents of the blocks that contain this range. nbdkit aborts if it gets none of the range, and
+ * the first extents of a block that begins before it may end before it, too: then all extents of
+ * that block alone. */
+static struct nbdkit_extents *find_extents(nbdkit_next *next, const struct below *below,
+                                           uint32_t count, uint64_t offset, uint32_t flags,
+                                           int *err)
+{
+  const struct blocks blocks = blocks_of(below, count, offset);
+  if (blocks.offset < offset)
+    return nbdkit_extents_full(next, blocks_of(below, 1, offset).count, blocks.offset, flags, err);
+  struct nbdkit_extents *found = nbdkit_extents_new(blocks.offset, below->len);
+  if (!found) {
+    *err = errno;
+    return NULL;
+  }
+  if (next->extents(next, blocks.count, blocks.offset, flags, found, err) == 0)
+    return found;
+  nbdkit_extents_free(found);
+  return NULL;
+}
+
 static int extents_plain(nbdkit_next *next, void *handle, uint32_t count, uint64_t offset,
                          uint32_t flags, struct nbdkit_extents *extents, int *err)
 {
   const struct connection *connection = handle;
-  const struct blocks blocks =
-      blocks_of(&connection->below, count, payload_offset(&volume) + offset);
-  struct nbdkit_extents *found = nbdkit_extents_new(blocks.offset, connection->below.len);
-  if (!found) {
-    *err = errno;
+  struct nbdkit_extents *found = find_extents(next, &connection->below, count,
+                                              payload_offset(&volume) + offset, flags, err);
+  if (!found)
     return -1;
-  }
-  int status = next->extents(next, blocks.count, blocks.offset, flags, found, err);
-  if (status == 0 && add_extents(extents, found) < 0) {
+  const int status = add_extents(extents, found);
+  if (status < 0)
     *err = errno;
-    status = -1;
-  }
   nbdkit_extents_free(found);
   return status;
 }

@@ -41,7 +41,10 @@ static int refuse(const char *name, int fd, const char *why)
 /* Opens a file that is not a folder. */
 static int open_file(const char *name, int flags, struct stat *found)
 {
-  const int fd = open(name, O_RDONLY | O_CLOEXEC | O_NOCTTY | flags);
+  int fd = open(name, O_RDONLY | O_CLOEXEC | O_NOCTTY | flags);
+  /* Another program has a lease on a regular file, and was told now to give it back: this waits. */
+  if (fd < 0 && errno == EWOULDBLOCK)
+    fd = open(name, O_RDONLY | O_CLOEXEC | O_NOCTTY);
   if (fd < 0 || fstat(fd, found) < 0)
     return refuse(name, fd, strerror(errno));
   if (S_ISDIR(found->st_mode))
@@ -72,9 +75,9 @@ int open_image(const char *name, uint64_t *len)
   return fd;
 }
 
-/* Reads the next `size` bytes, or fewer only if the file ends. Returns their number; or -1, and
- * errno says why. */
-static ssize_t read_next(int fd, uint8_t *to, size_t size)
+/* Reads the next `size` bytes, or fewer only if the file ends or a read fails. Returns their number;
+ * errno says why a read failed, and is 0 if none did. */
+static size_t read_next(int fd, uint8_t *to, size_t size)
 {
   size_t got = 0;
   while (got < size) {
@@ -84,23 +87,34 @@ static ssize_t read_next(int fd, uint8_t *to, size_t size)
     if (n > 0)
       got += (size_t)n;
     else if (errno != EINTR)
-      return -1;
+      return got;
   }
-  return (ssize_t)got;
+  errno = 0;
+  return got;
+}
+
+bool read_some(const char *name, int fd, size_t max, struct bytes *bytes)
+{
+  if (allocate(bytes, max) < 0)
+    return false;
+  bytes->len = read_next(fd, bytes->at, max);
+  if (errno == 0)
+    return true;
+  nbdkit_error("%s: luksrd: read failed: after %zu bytes: %s", name, bytes->len, strerror(errno));
+  return false;
 }
 
 int read_first(const char *name, int fd, size_t max, struct bytes *bytes)
 {
   if (allocate(bytes, max) < 0)
     return -1;
-  const ssize_t got = read_next(fd, bytes->at, max);
-  if (got < 0) {
+  bytes->len = read_next(fd, bytes->at, max);
+  if (errno != 0) {
     nbdkit_error("%s: luksrd: read failed: %s", name, strerror(errno));
     /* what was read before that may be a part of a secret */
     wipe(bytes);
     return -1;
   }
-  bytes->len = (size_t)got;
   return 0;
 }
 

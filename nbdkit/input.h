@@ -28,6 +28,11 @@ int open_stream(const char *name);
  * and puts its length in bytes there, or -1 and reports why. */
 int open_image(const char *name, uint64_t *len);
 
+/* Reads all of a file, its first `max` bytes, or those before the first that cannot be read, and
+ * then reports why. Returns whether no read failed; or false and no bytes, and reports that there is
+ * no memory. */
+bool read_some(const char *name, int fd, size_t max, struct bytes *bytes);
+
 /* Reads all of a file, or its first `max` bytes. Returns 0; or -1 and reports why not, and then
  * there are no bytes. */
 int read_first(const char *name, int fd, size_t max, struct bytes *bytes);

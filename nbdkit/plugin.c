@@ -92,11 +92,6 @@ static void close_inputs(const struct inputs *inputs)
     close(inputs->key_file);
 }
 
-static int read_header(int fd, struct bytes *header)
-{
-  return read_first(parameters.header ? parameters.header : file, fd, MAX_HEADER, header);
-}
-
 /* nbdkit forks after this: there is one key derivation, and its messages reach the terminal. */
 static int get_ready(void)
 {
@@ -105,7 +100,9 @@ static int get_ready(void)
   int status = -1;
 
   volume.name = file;
-  if (open_inputs(&inputs) == 0 && read_header(inputs.header, &header) == 0 &&
+  if (open_inputs(&inputs) == 0 &&
+      read_header(parameters.header ? parameters.header : file, inputs.header, &parameters,
+                  &header) == 0 &&
       get_passphrase(&parameters, inputs.key_file, &secret) == 0 &&
       unlock(&volume, &header, &secret, &parameters) == OPENED)
     status = 0;

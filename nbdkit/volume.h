@@ -32,6 +32,17 @@ struct image {
   void *from;
 };
 
+/* Reads the first bytes of an image, or of the detached header that the parameters name. If a read
+ * fails, luksrd may still need none of the bytes that are missing: then the others are taken, as if
+ * the image ended there. Returns 0; or -1 and reports why not. */
+int read_header(const char *name, int fd, const struct parameters *parameters,
+                struct bytes *header);
+
+/* Whether luksrd can open a volume with these first bytes of an image, although the next ones cannot
+ * be read: they have its header, or a volume key opens it. It refuses a volume with a key area that
+ * is not there. */
+bool are_enough(const struct bytes *start, const struct parameters *parameters);
+
 /* The end of an attempt to open a volume: it is open; it is refused, and will be; or, if memory was
  * short or a read failed, it may open later. */
 enum outcome { OPENED, REFUSED, TRY_LATER };

@@ -31,11 +31,13 @@ import ctypes
 import errno
 import functools
 import io
+import operator
 import os
 import pathlib
 import stat
 import threading
 import warnings
+import weakref
 from typing import Iterator, NoReturn, Optional, Union
 
 __all__ = ["IncompleteImageWarning", "LuksError", "UncheckedKeyWarning", "Volume", "library_version",
@@ -296,20 +298,37 @@ def _open_image(path: Path) -> tuple[io.FileIO, int]:
     return file, image_len
 
 
-def _read_first(file: io.FileIO, buffer: bytearray) -> memoryview:
-    """The file, or as many of its first bytes as the buffer has room for: a part of the buffer."""
+def _has_headers(start: memoryview) -> bool:
+    """Whether an image that starts with these bytes has its whole header in them: that of LUKS1, or
+    both of LUKS2, which have the length that the first one names."""
+    if len(start) < 592 or start[:7] != b"LUKS\xba\xbe\0":
+        return False
+    return start[7] == 1 or int.from_bytes(start[8:16], "big") <= len(start) // 2
+
+
+def _read_first(file: io.FileIO, buffer: bytearray, is_header: bool = False) -> memoryview:
+    """The file, or as many of its first bytes as the buffer has room for: a part of the buffer. If a
+    read fails after a whole header, the bytes before: luksrd needs few of the others, the key areas,
+    and refuses the volume if one of those is not there."""
     view, done = memoryview(buffer), 0
     while done < len(view):
-        got = os.readv(file.fileno(), [view[done:]])
+        try:
+            got = os.readv(file.fileno(), [view[done:]])
+        except OSError as error:
+            if not is_header or not _has_headers(view[:done]):
+                raise
+            warnings.warn(f"reading the header ended after {done} bytes: {error}",
+                          IncompleteImageWarning, stacklevel=5)
+            break
         if not got:
             break
         done += got
     return view[:done]
 
 
-def _read_file(path: Path, buffer: bytearray) -> memoryview:
+def _read_file(path: Path, buffer: bytearray, is_header: bool = False) -> memoryview:
     with _open_file(path) as file:
-        return _read_first(file, buffer)
+        return _read_first(file, buffer, is_header)
 
 
 def _read_exactly(descriptor: int, view: memoryview, offset: int) -> None:
@@ -346,6 +365,23 @@ def _secret(given: Optional[KeyBytes], path: Optional[Path], longest: int) -> It
         _zero(copy)
 
 
+# The volumes of this process, for a child that is forked
+_volumes: weakref.WeakSet[Volume] = weakref.WeakSet()
+
+
+def _in_child() -> None:
+    """Forgets reads of the threads that are not in the child of a fork, and the locks that they held."""
+    own = threading.get_ident()
+    for volume in list(_volumes):
+        if all(thread != own for thread in volume._readers.values()):
+            volume._moving, volume._idle = threading.RLock(), threading.Condition()
+        for reader in [one for one, thread in volume._readers.items() if thread != own]:
+            del volume._readers[reader]
+
+
+os.register_at_fork(after_in_child=_in_child)
+
+
 class Volume(io.RawIOBase):
     """The plaintext of an open volume; luksrd.open() makes it.
 
@@ -362,14 +398,15 @@ class Volume(io.RawIOBase):
         # one object for each read that runs, with its thread
         self._readers: dict[object, int] = {}
         self._idle, self._is_closing = threading.Condition(), False
+        _volumes.add(self)
         #: the path of the image
         self.name = name
         #: the length of the plaintext in bytes, whole sectors
         self.size = key.plain_len()
         #: the length of a sector in bytes
         self.sector_size = key.sector_size
-        #: the number of the key slot that opened
-        self.key_slot = key.slot
+        #: the number of the key slot that opened, or None if the volume was opened by its key
+        self.key_slot: Optional[int] = key.slot
         #: the error with which luksCat ends if the image is incomplete, or None
         self.incomplete: Optional[LuksError] = key.ending()
 
@@ -443,6 +480,7 @@ class Volume(io.RawIOBase):
         many bytes these are.
 
         If a read fails, this raises OSError, and the buffer is filled with zeros."""
+        offset = operator.index(offset)
         if offset < 0:
             raise ValueError(f"negative offset {offset}")
         view = memoryview(buffer).cast("B")
@@ -460,6 +498,7 @@ class Volume(io.RawIOBase):
 
     def pread(self, length: int, offset: int) -> bytes:
         """The bytes of the plaintext from this one on: fewer than `length` only at its end."""
+        length, offset = operator.index(length), operator.index(offset)
         if length < 0:
             raise ValueError(f"negative length {length}")
         buffer = bytearray(max(0, min(length, self.size - offset)))
@@ -487,6 +526,7 @@ class Volume(io.RawIOBase):
     def seek(self, offset: int, whence: int = os.SEEK_SET) -> int:
         """Moves the position, which may be past the end of the plaintext, and returns it."""
         self._check_open()
+        offset = operator.index(offset)
         with self._moving:
             bases = {os.SEEK_SET: 0, os.SEEK_CUR: self._position, os.SEEK_END: self.size}
             if whence not in bases:
@@ -571,7 +611,8 @@ def open(path: Path, *, passphrase: Optional[Passphrase] = None, key_file: Optio
 
     Raises LuksError if luksrd refuses the volume or no key opens it, OSError if a file cannot be
     opened or read, and TypeError or ValueError for arguments that cannot be. Warns by
-    IncompleteImageWarning of an image that is incomplete."""
+    IncompleteImageWarning of an image that is incomplete, or of which bytes after the header cannot
+    be read."""
     if (passphrase is None) == (key_file is None):
         raise TypeError("either passphrase or key_file is needed")
     options = _options(header, key_slot, max_iterations)
@@ -602,8 +643,8 @@ def _begin(cleanup: contextlib.ExitStack, path: Path,
 def _read_header(header: Optional[Path], file: io.FileIO, image_len: int) -> memoryview:
     """The first bytes of the image, or of the file with the detached header."""
     if header is not None:
-        return _read_file(header, bytearray(_HEADER_BYTES))
-    return _read_first(file, bytearray(min(_HEADER_BYTES, image_len or 1)))
+        return _read_file(header, bytearray(_HEADER_BYTES), True)
+    return _read_first(file, bytearray(min(_HEADER_BYTES, image_len or 1)), True)
 
 
 def _opened_volume(path: Path, file: io.FileIO, key: _Key) -> Volume:
@@ -650,5 +691,6 @@ def open_by_volume_key(path: Path, *, payload_offset: int, volume_key: Optional[
             message = f"{os.fsdecode(path)}: the volume key is not compared: {unchecked}"
             warnings.warn(message, UncheckedKeyWarning, stacklevel=2)
         volume = _opened_volume(path, file, key)
+        volume.key_slot = None
         cleanup.pop_all()
     return volume

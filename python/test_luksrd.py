@@ -6,6 +6,7 @@ import contextlib
 import copy
 import ctypes
 import errno
+import functools
 import gc
 import io
 import mmap
@@ -14,6 +15,7 @@ import pathlib
 import pickle
 import random
 import re
+import signal
 import subprocess
 import sys
 import threading
@@ -324,6 +326,7 @@ def test_another_volume_key(changed):
         assert (caught.value.code, caught.value.status) == (18, 2)
         assert str(caught.value) == "luksrd: volume key does not match the digest in the header"
     with by_key(f"{VOLUME2}.lost", volume_key_file=None, volume_key=other) as volume:
+        assert volume.key_slot is None
         assert volume.size == len(named(VOLUME2).text) and volume.read() != named(VOLUME2).text
 
 
@@ -540,6 +543,63 @@ def test_reading_a_secret_fails(left, monkeypatch):
     with left, pytest.raises(OSError, match="a part of the disk is gone"):
         luksrd.open(FOLDER / VOLUME1, key_file=FOLDER / "pass")
     assert [len(buffer) for _, buffer in left.secrets] == [8388609]
+
+
+def test_bytes_after_the_header_cannot_be_read(monkeypatch):
+    """The volume is opened all the same, unless the header is not whole."""
+    read, ends = os.readv, []
+
+    def readv(descriptor, buffers):
+        if os.readlink(f"/proc/self/fd/{descriptor}").endswith("/pass"):
+            return read(descriptor, buffers)
+        there = ends[-1] - os.lseek(descriptor, 0, os.SEEK_CUR)
+        if there <= 0:
+            raise OSError(errno.EIO, "a part of the disk is gone")
+        return read(descriptor, [buffers[0][:there]])
+
+    monkeypatch.setattr(os, "readv", readv)
+    for image in VOLUME1, VOLUME2:
+        ends.append(os.stat(FOLDER / image).st_size - 4096)
+        with pytest.warns(luksrd.IncompleteImageWarning, match=f"ended after {ends[-1]} bytes"):
+            volume = luksrd.open(FOLDER / image, key_file=FOLDER / "pass")
+        with volume:
+            assert volume.pread(1000, 5000) == named(image).text[5000:6000]
+        for end in 0, 500:
+            ends.append(end)
+            with pytest.raises(OSError, match="a part of the disk is gone"):
+                luksrd.open(FOLDER / image, key_file=FOLDER / "pass")
+
+
+def test_close_in_a_child_of_a_fork(volume):
+    """It waits for no thread of its parent that reads, and takes no lock that one holds."""
+    reading, go = threading.Event(), threading.Event()
+
+    def holds():
+        with volume._moving, volume._idle:
+            volume._readers[reading] = threading.get_ident()
+            reading.set()
+            go.wait()
+            del volume._readers[reading]
+
+    reader = threading.Thread(target=holds)
+    reader.start()
+    reading.wait()
+    child = os.fork()
+    if child == 0:
+        signal.alarm(60)
+        volume.close()
+        os._exit(0)
+    go.set()
+    reader.join()
+    assert os.waitpid(child, 0)[1] == 0
+
+
+def test_whole_numbers_alone(volume):
+    for wrong in 1.5, "1", None:
+        for call in volume.seek, functools.partial(volume.pread, 1), functools.partial(volume.pread_into, bytearray(1)):
+            with pytest.raises(TypeError):
+                call(wrong)
+    assert volume.seek(True) == 1 and volume.read(2) == named(VOLUME2).text[1:3]
 
 
 def interrupts(call):
