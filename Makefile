@@ -380,6 +380,7 @@ install-library: library-built install-shared
 	install -m 644 "$(LIBRARY)" "$(LIBRARIES)/libluksrd.a"
 	ln -sf $(word 2,$(SHARED_NAMES)) "$(LIBRARIES)/$(word 3,$(SHARED_NAMES))"
 	$(call package_config,$(LIBRARIES)/pkgconfig/luksrd.pc)
+	chmod 644 "$(LIBRARIES)/pkgconfig/luksrd.pc"
 	@$(note_library)
 
 # $(call packaged,FILE): the Debian package that has put this file there, or the link of

@@ -101,6 +101,10 @@ same 'no ext2, ext3 or ext4' "$(nbdkit -U - --filter=ext2 luksrd no_ext/disk.img
     "Bad magic number in super-block
 server has no export named '':"
 
+# what helps a truncated ext file system takes nothing from what is none
+cooks no_ext '' RESCUE.md:'# What is left of each file' RESCUE.md:'# The file system knows its length'
+recipes_give no_ext plain.img unformatted
+
 # a truncated image, of which nothing is missing that is in use
 volume truncated ext4
 truncate -s -1500000 truncated/disk.img
@@ -204,8 +208,8 @@ recipes_give 'readers all' files/etc/fstab files/etc/fstab
 cooks 'readers ntfs' plain.img RESCUE.md:'# NTFS'
 recipes_give 'readers ntfs' boot.ini files/etc/fstab
 
-# to qcow2, and sparse copies; after the passphrase a new one is typed, twice in one recipe
-printf '%s\n' 'a secret' 'a new passphrase' 'a new passphrase' >typed_new
+# to qcow2, and sparse copies; after the passphrase a new one is typed, twice for each recipe
+printf '%s\n' 'a secret' 'a new passphrase' 'a new passphrase' 'a new passphrase' 'a new passphrase' >typed_new
 printf %s 'a new passphrase' >newpass
 typed=typed_new
 volume moved ext4

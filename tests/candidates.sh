@@ -6,14 +6,15 @@ sources=$(realpath "$(dirname "$0")/..")
 # shellcheck source=tests/common.sh
 . "$(dirname "$0")/common.sh"
 
-# what the script runs as luksrd: it notes each run; the one that LIMITED names gets too little memory, and the one that
-# HANGING names does not end
+# what the script runs as luksrd: it notes each run; the one that LIMITED names gets too little memory, the one that
+# HANGING names does not end, and each says what SAYING has, as a loader does
 mkdir tools temporary
 cat >tools/luksrd <<TEXT
 #!/bin/sh
 echo >>'$work/runs'
 [ "\$(wc -l <'$work/runs')" != "\${LIMITED-}" ] || ulimit -v "\$(cat '$work/little')"
 [ "\$(wc -l <'$work/runs')" != "\${HANGING-}" ] || { echo \$\$ >'$work/hanging'; exec sleep 10000; }
+[ -z "\${SAYING-}" ] || echo "\$SAYING" >&2
 exec '$program' "\$@"
 TEXT
 chmod +x tools/luksrd
@@ -66,6 +67,9 @@ luksrd-candidates: none of 3 lines opens the volume" 3
 : >empty
 candidates empty volume0
 gives 'a file without lines' 2 '' 'luksrd-candidates: none of 0 lines opens the volume' 0
+
+SAYING='ERROR: ld.so: object cannot be preloaded' candidates lines0 volume0
+gives 'a message of the loader before' 0 'Line 4: Key slot 0 opens the volume.' ''
 
 # a state: a run goes on after one that found nothing, or that ended too soon
 candidates -s state -j 2 wrong volume0
