@@ -68,7 +68,7 @@ for at in $(seq 40 7 400); do
 done
 served "/usr/bin/python3 '$here/clients.py' extents \"\$uri\" 0" file sparse key-file=pass
 cp said holes
-same 'there are holes' "$(($(wc -l <holes) > 20))" 1
+same 'there are holes' "$(($(wc -l <holes) > 10))" 1
 for flags in 0 8; do
     for minimum in 1 4096 65536; do
         served "/usr/bin/python3 '$here/clients.py' extents \"\$uri\" $flags" --filter=blocksize-policy file sparse \
