@@ -115,7 +115,8 @@ recipes_say truncated 'Pass 5: Checking group summary information
 plain.img: '
 recipes_say truncated " of $(stat -c %s ext4) bytes are left"
 for shell in bash zsh; do
-    same "truncated in $shell: its length" "$(stat -c %s "rescue truncated, $shell/plain.img")" "$(stat -c %s ext4)"
+    same "truncated in $shell: its file system's length is there" \
+        "$(($(stat -c %s "rescue truncated, $shell/plain.img") >= $(stat -c %s ext4)))" 1
 done
 
 # one that ends inside a file
@@ -161,7 +162,7 @@ volume damaged ext4
 cryptsetup luksHeaderBackup --header-backup-file damaged/backup damaged/disk.img
 dd if=/dev/zero of=damaged/disk.img bs=4096 seek=16 count=2 conv=notrunc status=none
 same 'a damaged key area' "$(reported testPassphrase --key-slot 0 --key-file pass damaged/disk.img)" "$no_key"
-cooks damaged backup RESCUE.md:'# LUKS2: the compressed length' RESCUE.md:'# Where it differs'
+cooks damaged backup RESCUE.md:'# LUKS2, but for slots by Argon2: the' RESCUE.md:'# Where it differs'
 for shell in bash zsh; do
     same "damaged in $shell: slots whose area is longer than it is compressed" "$(sed -n \
         's/^slot \([0-9]\): \([0-9]*\) of \([0-9]*\) bytes$/\1 \2 \3/p' "damaged, $shell" |

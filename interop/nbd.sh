@@ -373,6 +373,11 @@ with memories
 cat >registers.c <<'TEXT'
 #include "volume.c"
 void nbdkit_error(const char *format, ...) { (void)format; }
+bool read_some(const char *name, int fd, size_t max, struct bytes *bytes)
+{
+  (void)name, (void)fd, (void)max, (void)bytes;
+  return false;
+}
 #define EACH(do) do(0) do(1) do(2) do(3) do(4) do(5) do(6) do(7) \
   do(8) do(9) do(10) do(11) do(12) do(13) do(14) do(15)
 #define FILL(number) __asm__ volatile("movdqu (%0), %%xmm" #number :: "r"(secret));
