@@ -42,7 +42,7 @@ static int refuse(const char *name, int fd, const char *why)
 static int open_file(const char *name, int flags, struct stat *found)
 {
   int fd = open(name, O_RDONLY | O_CLOEXEC | O_NOCTTY | flags);
-  /* Another program has a lease on a regular file, and was told now to give it back: this waits. */
+  /* Another program has a lease on a regular file, and the kernel asks for it: this waits. */
   if (fd < 0 && errno == EWOULDBLOCK)
     fd = open(name, O_RDONLY | O_CLOEXEC | O_NOCTTY);
   if (fd < 0 || fstat(fd, found) < 0)
