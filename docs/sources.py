@@ -12,6 +12,9 @@ START = re.compile(
 )
 RUST = re.compile(r"^pub (?:struct|enum) (\w+)", re.MULTILINE)
 
+# the name of an enum's variant, which may also be that of a type
+VARIANT = re.compile(r"^    [A-Z]\w*", re.MULTILINE)
+
 
 class Definition:
     """A definition of specs/, or a type in Rust: its text, with the comment above it, and the names
@@ -21,14 +24,22 @@ class Definition:
         self.crate, self.place, self.name = crate, place, name
         self.comment, self.lines, self.imports = comment, lines, imports
 
+    def statements(self):
+        """Its lines without comments."""
+        return [line for line in self.lines if not line.lstrip().startswith(("//", "--"))]
+
     def uses(self):
-        return dict.fromkeys(NAME.findall("\n".join(self.lines)))
+        text = "\n".join(self.statements())
+        if self.place.endswith(".rt"):
+            text = VARIANT.sub("", text)
+        return dict.fromkeys(NAME.findall(text))
 
 
 def imports_of(text):
     """The names that a file of specs/ imports: where each is defined, and under which name."""
     found = {}
-    for module, names in re.findall(r"^use Rattle\.([\w.]+)\.\{([^}]*)\}", text, re.MULTILINE):
+    items = r"^(?:pub )?use Rattle\.([\w.]+)\.\{([^}]*)\}"
+    for module, names in re.findall(items, text, re.MULTILINE):
         for item in names.split(", "):
             original, _, other = item.partition(" as ")
             found[(other or original).strip("◌")] = (module, original)
@@ -86,6 +97,15 @@ def all_definitions():
             for name, definition in types_of(crate.name, path).items():
                 types[crate.name, name] = definition
     return found, types
+
+
+def passed_on():
+    """The modules of specs/ that a crate passes on from another: the other's, by its own."""
+    found = {}
+    for path in (TOP / "crates").glob("*/specs/Lib.antt"):
+        for crate, module in re.findall(r"^pub use Rattle\.(\w+)\.specs\.([\w.]+)$", path.read_text(), re.MULTILINE):
+            found[path.parts[-3], module.split(".")[-1]] = crate, module
+    return found
 
 
 def crates_in_order():
