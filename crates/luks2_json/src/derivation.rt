@@ -1,7 +1,8 @@
 //! The parameters of PBKDF2, which key slots and digests state in the same way.
 
 ghost use Rattle.std.specs.Prelude.{◌≡◌, [], IfOk, unwrap_or};
-ghost use Rattle.luks2_json.specs.Member.{base64_member, hash_member, iterations_in, salt_in};
+ghost use Rattle.luks2_json.specs.Member.{base64_member, hash_member, in_member, iterations_in};
+ghost use Rattle.luks2_json.specs.Member.{salt_in};
 ghost use Rattle.serde_json.specs.View.{view as data_of};
 
 use crate::member::{base64_member, integer_member, string_member};
@@ -16,6 +17,13 @@ pub fn hash_member(object: &Value) -> Option<Hash>
     ensures { result ≡ hash_member (data_of object.now) }
 {
     Hash::from_name(string_member(object, "hash")?)
+}
+
+/// The hash function that `hash` names in the object under `object`, if it is known.
+pub fn nested_hash(owner: &Value, object: &str) -> Option<Hash>
+    ensures { result ≡ in_member object.now hash_member (data_of owner.now) }
+{
+    hash_member(owner.get(object)?)
 }
 
 /// The object's iterations of PBKDF2, or 0 if they are missing.

@@ -4,7 +4,8 @@
 ghost use Rattle.std.specs.Prelude.{◌≡◌, List, ℕ, length, option_map, IfOk};
 ghost use Rattle.std.specs.Char.{is_ascii_digit};
 ghost use Rattle.std.specs.List.{list_all};
-ghost use Rattle.luks2_json.specs.Member.{base64_member, decimal_of, decimal_member, string_is};
+ghost use Rattle.luks2_json.specs.Member.{base64_member, decimal_of, decimal_member, in_member};
+ghost use Rattle.luks2_json.specs.Member.{string_is};
 ghost use Rattle.luks2_json.specs.Member.{is_type, string_member as text_of, integer_member};
 ghost use Rattle.serde_json.specs.View.{view};
 
@@ -70,6 +71,28 @@ pub fn decimal_member(object: &Value, name: &str) -> Option<u64>
     ensures { result ≡ decimal_member name.now (view object.now) }
 {
     number_of(string_member(object, name)?)
+}
+
+/// The integer under `name` in the object under `object`.
+pub fn nested_integer(owner: &Value, object: &str, name: &str) -> Option<u64>
+    ensures { result ≡ in_member object.now (integer_member name.now) (view owner.now) }
+{
+    integer_member(owner.get(object)?, name)
+}
+
+/// The string under `name` in the object under `object`.
+pub fn nested_string<'v>(owner: &'v Value, object: &str, name: &str) -> Option<&'v str>
+    ensures { option_map (λ t. t.now) result
+        ≡ in_member object.now (text_of name.now) (view owner.now) }
+{
+    string_member(owner.get(object)?, name)
+}
+
+/// The number in decimal digits under `name` in the object under `object`.
+pub fn nested_decimal(owner: &Value, object: &str, name: &str) -> Option<u64>
+    ensures { result ≡ in_member object.now (decimal_member name.now) (view owner.now) }
+{
+    decimal_member(owner.get(object)?, name)
 }
 
 /// How many bytes are under this name in base64. This allocates nothing.

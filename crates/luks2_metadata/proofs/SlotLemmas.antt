@@ -1,14 +1,14 @@
 -- Properties of usable digests, and of a slot that there is no reason to skip.
 use Rattle.std.proofs.Common.{◌≡◌, ◌∙◌, ℕ, ◌<◌, ◌≤◌, ap, sym, subst, refl, true, false, Option, Some, None, arith}
 use Rattle.std.proofs.Common.{length}
-use Rattle.std.specs.Prelude.{not, codes, is_none, is_some, option_and_then, option_map, unwrap_or}
+use Rattle.std.specs.Prelude.{◌&&◌, ◌||◌, not, codes, is_none, is_some, option_and_then, option_map}
 use Rattle.std.proofs.lemmas.Bool.Decides.{nat_tests}
 use Rattle.std.proofs.lemmas.Bool.{and_parts, ltb-false, not-false, or_parts}
 use Rattle.std.proofs.lemmas.Option.{same_Some}
 use Rattle.luks_cipher.specs.declared.mode.Mode.{Mode}
 use Rattle.luks_cipher.proofs.ModeLemmas.{max_mode_key}
 use Rattle.luks_verdict.specs.Rule.{exceeds, iterations_out_of_range, is_in_range, area_out_of_range}
-use Rattle.luks_verdict.specs.Rule.{is_digest, stripes_out_of_range, max_iteration_count}
+use Rattle.luks_verdict.specs.Rule.{is_digest, key_material_len, stripes_out_of_range, max_iteration_count}
 use Rattle.luks_verdict.specs.Slot.{has_no_usable_digest, material_end, parts_end}
 use Rattle.luks_verdict.specs.Slot.{slot_from, verdict_kind_of}
 use Rattle.luks_verdict.proofs.MadeLemmas.{are_in_range, digest_from-no, digest_from-yes, digest_of, digest_there}
@@ -16,6 +16,7 @@ use Rattle.luks_verdict.proofs.MadeLemmas.{mapped, of_usable, slot_from-yes, slo
 use Rattle.luks_verdict.proofs.RangeLemmas.{in_range}
 use Rattle.luks_verdict.specs.declared.digest.KeyDigest.{KeyDigest}
 use Rattle.luks_verdict.specs.declared.slot.Slot.{Slot}
+use Rattle.luks_verdict.specs.declared.slot.SlotParts.{SlotParts}
 use Rattle.luks_verdict.specs.declared.slot.Verdict.TheVariants.{Usable}
 use Rattle.luks_verdict.specs.declared.slot.VerdictKind.TheVariants.{Usable as KindUsable}
 use Rattle.luks_kdf.specs.declared.hash.Hash.{Hash}
@@ -27,10 +28,8 @@ use Rattle.luks2_metadata.specs.Digest2.{digest2_for, digest2_of, digest_parts2_
 use Rattle.luks2_metadata.specs.Digest2.{value_in}
 use Rattle.luks2_metadata.specs.declared.bounds.Bounds.{Bounds}
 use Rattle.luks2_metadata.specs.Segment2.{payload2_start, payload_mode2_of}
-use Rattle.luks2_metadata.specs.Slot2.{slot_reasons, af_hash_of, are_key_sizes, area_key_size_of, area_mode_of}
-use Rattle.luks2_metadata.specs.Slot2.{area_offset_of, area2_out_of_range, has_unknown_hash, iterations_of_slot}
-use Rattle.luks2_metadata.specs.Slot2.{kdf_hash_of, key_size_of, priority_of, reason2_of, slot2_at, slot2_of}
-use Rattle.luks2_metadata.specs.Slot2.{slot_parts2_of, stripe_count_of, verdict2_at, verdict2_of}
+use Rattle.luks2_metadata.specs.Slot2.{reason2_of, slot2_at, slot2_of, slot_parts2_of, slot_reasons, verdict2_at}
+use Rattle.luks2_metadata.specs.Slot2.{verdict2_of}
 use Rattle.serde_json.specs.Data.{Data}
 
 -- ---- usable digests
@@ -70,12 +69,11 @@ unfolding is_length_for
 key_length_few None bytes is = grind (arith, nat_tests)
 key_length_few (Some mode) bytes is = max_mode_key mode bytes is
 
-pub key_sizes_few : (mode : Option Mode) (slot : Data) → are_key_sizes mode slot ≡ true
-    → (area_key_size_of slot ≤ 64) × (key_size_of slot ≤ 64)
-unfolding are_key_sizes
-key_sizes_few mode slot is =
+pub key_sizes_few : (area_mode mode : Option Mode) (area_bytes bytes : ℕ)
+    → (is_length_for area_mode area_bytes && is_length_for mode bytes) ≡ true → (area_bytes ≤ 64) × (bytes ≤ 64)
+key_sizes_few area_mode mode area_bytes bytes is =
     let parts = and_parts _ _ is in
-    (key_length_few (area_mode_of slot) (area_key_size_of slot) parts.0, key_length_few mode (key_size_of slot) parts.1)
+    (key_length_few area_mode area_bytes parts.0, key_length_few mode bytes parts.1)
 
 pub stripes_few : (stripes : ℕ) → stripes_out_of_range stripes ≡ false → stripes ≤ 4000
 unfolding stripes_out_of_range
@@ -101,22 +99,24 @@ known_area (Some mode) bytes none is = (mode, refl, is)
 
 -- ---- what follows if there is no reason to skip a slot
 
--- none of these reasons holds
-pub record NoReason (tree : Data) (bounds : Bounds) (limit : Option ℕ) (number : ℕ) (slot : Data) : Type 0 where
-  pub hash : has_unknown_hash slot ≡ false
-  pub encryption : is_none (area_mode_of slot) ≡ false
-  pub key_size : not (are_key_sizes (payload_mode2_of tree bounds) slot) ≡ false
-  pub stripes : stripes_out_of_range (stripe_count_of slot) ≡ false
-  pub iterations : iterations_out_of_range limit (iterations_of_slot slot) ≡ false
-  pub area : area2_out_of_range bounds.end (payload2_start tree bounds) slot ≡ false
+-- none of these reasons holds for a slot whose members have these values
+pub record NoReason (tree : Data) (bounds : Bounds) (limit : Option ℕ) (number : ℕ) (parts : SlotParts) : Type 0 where
+  pub hash : (is_none parts.kdf_hash || is_none parts.af_hash) ≡ false
+  pub encryption : is_none parts.area_mode ≡ false
+  pub key_size : not (is_length_for parts.area_mode parts.area_key_bytes
+      && is_length_for (payload_mode2_of tree bounds) parts.key_bytes) ≡ false
+  pub stripes : stripes_out_of_range parts.stripes ≡ false
+  pub iterations : iterations_out_of_range limit parts.iterations ≡ false
+  pub area : area_out_of_range bounds.end (payload2_start tree bounds) parts.area_offset parts.area_size
+      (key_material_len parts.key_bytes parts.stripes) ≡ false
   pub digest : has_no_usable_digest limit (digest2_for tree number) ≡ false
 
 -- a slot's iterations, its stripes and the lengths of its keys fit into four bytes
-pub record IsSmall (slot : Data) : Type 0 where
-  pub iterations : iterations_of_slot slot ≤ max_iteration_count
-  pub stripes : stripe_count_of slot ≤ 4000
-  pub key : key_size_of slot ≤ 64
-  pub area_key : area_key_size_of slot ≤ 64
+pub record IsSmall (parts : SlotParts) : Type 0 where
+  pub iterations : parts.iterations ≤ max_iteration_count
+  pub stripes : parts.stripes ≤ 4000
+  pub key : parts.key_bytes ≤ 64
+  pub area_key : parts.area_key_bytes ≤ 64
 
 -- what is needed to open the slot agrees with the header: its hash functions and its area's mode are known, its keys
 -- have valid lengths for their modes, its key material is after the header and before the payload, and its digest is
@@ -132,10 +132,11 @@ pub record IsOf2 (tree : Data) (bounds : Bounds) (number : ℕ) (usable : Slot) 
   pub digest : digest2_for tree number ≡ Some usable.digest
 
 module _ (tree : Data) (bounds : Bounds) (limit : Option ℕ) (number : ℕ) (slot : Data) where
-  pub no_reason : reason2_of tree bounds limit number slot ≡ None → NoReason tree bounds limit number slot
+  pub no_reason : reason2_of tree bounds limit number slot ≡ None
+      → NoReason tree bounds limit number (slot_parts2_of slot)
   unfolding reason2_of
   no_reason none =
-      let all = none_holds (slot_reasons tree bounds limit number slot) none in
+      let all = none_holds (slot_reasons tree bounds limit number slot (slot_parts2_of slot)) none in
       record {
         hash = all.1.1.1.1.1.0;
         encryption = all.1.1.1.1.1.1.0;
@@ -147,8 +148,8 @@ module _ (tree : Data) (bounds : Bounds) (limit : Option ℕ) (number : ℕ) (sl
       }
 
   -- its numbers are in range
-  pub range_of : NoReason tree bounds limit number slot → are_in_range (slot_parts2_of slot) ≡ true
-  unfolding is_in_range iterations_out_of_range stripes_out_of_range slot_parts2_of area2_out_of_range area_out_of_range
+  pub range_of : NoReason tree bounds limit number (slot_parts2_of slot) → are_in_range (slot_parts2_of slot) ≡ true
+  unfolding is_in_range iterations_out_of_range stripes_out_of_range area_out_of_range
   range_of none =
       let area = none.area in
       let stripes = none.stripes in
@@ -158,7 +159,7 @@ module _ (tree : Data) (bounds : Bounds) (limit : Option ℕ) (number : ℕ) (sl
   no_reason_none : reason2_of tree bounds limit number slot ≡ None → reason2_of tree bounds None number slot ≡ None
   unfolding reason2_of
   no_reason_none none =
-      let all = none_holds (slot_reasons tree bounds limit number slot) none in
+      let all = none_holds (slot_reasons tree bounds limit number slot (slot_parts2_of slot)) none in
       let no = no_reason none in
       rw (
         all.0,
@@ -170,7 +171,7 @@ module _ (tree : Data) (bounds : Bounds) (limit : Option ℕ) (number : ℕ) (sl
         no.encryption,
         no.key_size,
         no.stripes,
-        iterations_in_range_without_limit limit (iterations_of_slot slot) no.iterations,
+        iterations_in_range_without_limit limit (slot_parts2_of slot).iterations no.iterations,
         no.area,
         usable_digest_without_limit limit (digest2_for tree number) no.digest,
       ) refl
@@ -192,41 +193,42 @@ module _ (tree : Data) (bounds : Bounds) (limit : Option ℕ) (number : ℕ) (sl
 
   -- the verdict on it, without what is needed to open it
   pub usable_verdict : reason2_of tree bounds limit number slot ≡ None
-      → verdict_kind_of (verdict2_of tree bounds limit number slot) ≡ KindUsable (unwrap_or (priority_of slot) 0)
-  unfolding verdict2_of slot_of slot_parts2_of
+      → verdict_kind_of (verdict2_of tree bounds limit number slot) ≡ KindUsable (slot_parts2_of slot).priority
+  unfolding verdict2_of slot_of
   usable_verdict none =
       let there = slot_there none in
       rw (none, there.3) refl
 
-  pub small_of : reason2_of tree bounds limit number slot ≡ None → IsSmall slot
-  unfolding slot_parts2_of
+  pub small_of : reason2_of tree bounds limit number slot ≡ None → IsSmall (slot_parts2_of slot)
   small_of none =
+      let parts = slot_parts2_of slot in
       let no = no_reason none in
-      let range = in_range (iterations_of_slot slot) (stripe_count_of slot) (parts_end (slot_parts2_of slot))
-      (range_of no) in
-      let keys = key_sizes_few (payload_mode2_of tree bounds) slot (not-false _ no.key_size) in
+      let range = in_range parts.iterations parts.stripes (parts_end parts) (range_of no) in
+      let keys = key_sizes_few parts.area_mode (payload_mode2_of tree bounds) parts.area_key_bytes parts.key_bytes
+      (not-false _ no.key_size) in
       record { iterations = range.few_iterations; stripes = range.few_stripes; key = keys.1; area_key = keys.0 }
 
   -- if the verdict is that the slot can be tried, this is what is needed to open it, and it agrees with the header
   usable_is : (usable : Slot) → verdict2_of tree bounds limit number slot ≡ Usable usable
       → IsOf2 tree bounds number usable × (slot2_of tree bounds number slot ≡ Some usable)
-  unfolding verdict2_of slot_of slot_parts2_of has_unknown_hash are_key_sizes area2_out_of_range area_out_of_range
+  unfolding verdict2_of slot_of area_out_of_range
   usable_is usable is =
+      let parts = slot_parts2_of slot in
       let verdict = of_usable (reason2_of tree bounds limit number slot) (slot2_of tree bounds number slot) usable is in
       let no = no_reason verdict.0 in
       let there = slot_there verdict.0 in
-      let same : usable ≡ slot_of (slot_parts2_of slot) there.0 there.2 = same_Some _ _ (sym verdict.1 ∙ there.3) in
+      let same : usable ≡ slot_of parts there.0 there.2 = same_Some _ _ (sym verdict.1 ∙ there.3) in
       let hashes = or_parts _ _ no.hash in
       let sizes = and_parts _ _ (not-false _ no.key_size) in
       let past = or_parts _ _ no.area in
       let before = or_parts _ _ past.0 in
       let fits = or_parts _ _ before.0 in
-      let known : IsOf2 tree bounds number (slot_of (slot_parts2_of slot) there.0 there.2) = record {
-        kdf = some_from_not_none (kdf_hash_of slot) hashes.0;
-        af = some_from_not_none (af_hash_of slot) hashes.1;
-        area = known_area (area_mode_of slot) (area_key_size_of slot) no.encryption sizes.0;
+      let known : IsOf2 tree bounds number (slot_of parts there.0 there.2) = record {
+        kdf = some_from_not_none parts.kdf_hash hashes.0;
+        af = some_from_not_none parts.af_hash hashes.1;
+        area = known_area parts.area_mode parts.area_key_bytes no.encryption sizes.0;
         volume_key = sizes.1;
-        after_header = ltb-false (area_offset_of slot) bounds.end fits.0;
+        after_header = ltb-false parts.area_offset bounds.end fits.0;
         before_payload = before.1;
         digest = there.1;
       } in

@@ -1,8 +1,6 @@
 -- The verdicts on the key slots of LUKS2 (LUKS2 On-Disk Format Specification 1.1, section 3, the keyslots object).
 use Rattle.std.specs.Prelude.{ℕ, ◌&&◌, ◌||◌, not, nat_le, Bool, List, [], ◌∷◌, Option, Some, None, codes, is_none}
 use Rattle.std.specs.Prelude.{is_some, if◌then◌else◌, option_and_then, option_map, unwrap_or}
-use Rattle.luks_cipher.specs.declared.mode.Mode.{Mode}
-use Rattle.luks_kdf.specs.declared.hash.Hash.{Hash}
 use Rattle.luks_verdict.specs.Rule.{iterations_out_of_range, area_out_of_range, stripes_out_of_range, key_material_len}
 use Rattle.luks_verdict.specs.Slot.{has_no_usable_digest, slot_from, verdict_by}
 use Rattle.luks_verdict.specs.Table.{first_match}
@@ -14,13 +12,13 @@ use Rattle.luks_verdict.specs.declared.slot.Slot.{Slot}
 use Rattle.luks_verdict.specs.declared.slot.SlotParts.{SlotParts}
 use Rattle.luks_verdict.specs.declared.slot.Verdict.{Verdict}
 use Rattle.luks2_json.specs.Member.{base64_member, decimal_member, has, is_type, passes, string_member, integer_member}
-use Rattle.luks2_json.specs.Member.{in_member, hash_member, iterations_in, salt_in, is_length_for, encryption_mode}
+use Rattle.luks2_json.specs.Member.{in_member, hash_member, is_length_for, encryption_mode}
 use Rattle.luks2_metadata.specs.Digest2.{digest2_for}
 use Rattle.luks2_json.specs.Numbered.{object_numbered}
 use Rattle.luks2_metadata.specs.declared.bounds.Bounds.{Bounds}
+use Rattle.luks2_metadata.specs.declared.slot.values.SlotValues.{SlotValues}
 use Rattle.luks2_metadata.specs.Segment2.{payload2_start, payload_mode2_of}
 use Rattle.serde_json.specs.Data.{Data}
-use Rattle.serde_json.specs.Find.{get}
 
 -- ---- members and their types
 
@@ -66,108 +64,70 @@ has_members slot =
     && passes (codes "area") is_area slot
     && passes (codes "kdf") is_kdf slot
 
--- ---- values of the members (0, no bytes or `None` if missing)
+-- ---- the values of the members
 
 -- the slot's key derivation function is of this type
 abbrev pub is_kdf_type : List ℕ → Data → Bool
 is_kdf_type type slot = passes (codes "kdf") (is_type type) slot
 
--- the hash function of the key derivation
-abbrev pub kdf_hash_of : Data → Option Hash
-kdf_hash_of slot = in_member (codes "kdf") hash_member slot
+-- the values of a slot's members, each 0, no bytes or `None` if it is missing or of another type
+unfoldable pub slot_parts2_of : Data → SlotParts
+slot_parts2_of slot = record {
+  priority = unwrap_or (priority_of slot) 0;
+  kdf_hash = in_member (codes "kdf") hash_member slot;
+  iterations = unwrap_or (in_member (codes "kdf") (integer_member (codes "iterations")) slot) 0;
+  salt = unwrap_or (in_member (codes "kdf") (base64_member (codes "salt")) slot) [];
+  af_hash = in_member (codes "af") hash_member slot;
+  stripes = unwrap_or (in_member (codes "af") (integer_member (codes "stripes")) slot) 0;
+  key_bytes = unwrap_or (integer_member (codes "key_size") slot) 0;
+  area_key_bytes = unwrap_or (in_member (codes "area") (integer_member (codes "key_size")) slot) 0;
+  area_offset = unwrap_or (in_member (codes "area") (decimal_member (codes "offset")) slot) 0;
+  area_size = unwrap_or (in_member (codes "area") (decimal_member (codes "size")) slot) 0;
+  area_mode = option_and_then encryption_mode (in_member (codes "area") (string_member (codes "encryption")) slot);
+}
 
--- its iterations
-abbrev pub iterations_of_slot : Data → ℕ
-iterations_of_slot slot = unwrap_or (option_map iterations_in (get (codes "kdf") slot)) 0
-
--- its salt
-abbrev pub salt_of : Data → List ℕ
-salt_of slot = unwrap_or (option_map salt_in (get (codes "kdf") slot)) []
-
--- the hash function of the stripes
-abbrev pub af_hash_of : Data → Option Hash
-af_hash_of slot = in_member (codes "af") hash_member slot
-
--- the number of stripes
-abbrev pub stripe_count_of : Data → ℕ
-stripe_count_of slot = unwrap_or (in_member (codes "af") (integer_member (codes "stripes")) slot) 0
-
--- the length in bytes of the volume key
-abbrev pub key_size_of : Data → ℕ
-key_size_of slot = unwrap_or (integer_member (codes "key_size") slot) 0
-
--- the length in bytes of the key that encrypts the key material
-abbrev pub area_key_size_of : Data → ℕ
-area_key_size_of slot = unwrap_or (in_member (codes "area") (integer_member (codes "key_size")) slot) 0
-
--- the mode of AES in which the key material is encrypted
-abbrev pub area_mode_of : Data → Option Mode
-area_mode_of slot = option_and_then encryption_mode (in_member (codes "area") (string_member (codes "encryption")) slot)
-
--- the first byte of the key material
-abbrev pub area_offset_of : Data → ℕ
-area_offset_of slot = unwrap_or (in_member (codes "area") (decimal_member (codes "offset")) slot) 0
-
--- the number of bytes that are reserved for the key material
-abbrev pub area_size_of : Data → ℕ
-area_size_of slot = unwrap_or (in_member (codes "area") (decimal_member (codes "size")) slot) 0
+-- the same without the salt
+unfoldable pub values_of : SlotParts → SlotValues
+values_of parts = record {
+  priority = parts.priority;
+  kdf_hash = parts.kdf_hash;
+  iterations = parts.iterations;
+  af_hash = parts.af_hash;
+  stripes = parts.stripes;
+  key_bytes = parts.key_bytes;
+  area_key_bytes = parts.area_key_bytes;
+  area_offset = parts.area_offset;
+  area_size = parts.area_size;
+  area_mode = parts.area_mode;
+}
 
 -- ---- the table of reasons
 
--- a hash function of the slot is not known
-unfoldable pub has_unknown_hash : Data → Bool
-has_unknown_hash slot = is_none (kdf_hash_of slot) || is_none (af_hash_of slot)
-
--- the slot's keys have valid lengths for their modes: the key of the key material for the area's mode, the volume key
--- for the payload's mode
-unfoldable pub are_key_sizes : Option Mode → Data → Bool
-are_key_sizes payload_mode slot =
-    is_length_for (area_mode_of slot) (area_key_size_of slot) && is_length_for payload_mode (key_size_of slot)
-
--- the slot's key area is too small for the key material, or out of range
-unfoldable pub area2_out_of_range : ℕ → Option ℕ → Data → Bool
-area2_out_of_range end payload slot =
-    area_out_of_range end payload (area_offset_of slot) (area_size_of slot)
-    (key_material_len (key_size_of slot) (stripe_count_of slot))
-
--- the reasons to skip the slot of this number, in a header with these bounds
-abbrev pub slot_reasons : Data → Bounds → Option ℕ → ℕ → Data → List (Bool × SkipReason)
-slot_reasons tree bounds limit number slot =
+-- the reasons to skip the slot of this number, whose members have these values, in a header with these bounds
+abbrev pub slot_reasons : Data → Bounds → Option ℕ → ℕ → Data → SlotParts → List (Bool × SkipReason)
+slot_reasons tree bounds limit number slot parts =
     (not (is_type (codes "luks2") slot), Kind)
     ∷ (not (has_members slot), Member)
     ∷ (is_kdf_type (codes "argon2i") slot, Argon2i)
     ∷ (is_kdf_type (codes "argon2id") slot, Argon2id)
     ∷ (not (is_kdf_type (codes "pbkdf2") slot), Kdf)
-    ∷ (has_unknown_hash slot, SkipHash)
-    ∷ (is_none (area_mode_of slot), Encryption)
-    ∷ (not (are_key_sizes (payload_mode2_of tree bounds) slot), KeySize)
-    ∷ (stripes_out_of_range (stripe_count_of slot), Stripes)
-    ∷ (iterations_out_of_range limit (iterations_of_slot slot), Iterations)
-    ∷ (area2_out_of_range bounds.end (payload2_start tree bounds) slot, Area)
+    ∷ (is_none parts.kdf_hash || is_none parts.af_hash, SkipHash)
+    ∷ (is_none parts.area_mode, Encryption)
+    ∷ (not (is_length_for parts.area_mode parts.area_key_bytes
+    && is_length_for (payload_mode2_of tree bounds) parts.key_bytes), KeySize)
+    ∷ (stripes_out_of_range parts.stripes, Stripes)
+    ∷ (iterations_out_of_range limit parts.iterations, Iterations)
+    ∷ (area_out_of_range bounds.end (payload2_start tree bounds) parts.area_offset parts.area_size
+    (key_material_len parts.key_bytes parts.stripes), Area)
     ∷ (has_no_usable_digest limit (digest2_for tree number), Digest)
     ∷ []
 
 -- the first reason to skip the slot
 unfoldable pub reason2_of : Data → Bounds → Option ℕ → ℕ → Data → Option SkipReason
-reason2_of tree bounds limit number slot = first_match (slot_reasons tree bounds limit number slot)
+reason2_of tree bounds limit number slot =
+    first_match (slot_reasons tree bounds limit number slot (slot_parts2_of slot))
 
 -- ---- verdicts
-
--- the values of a slot's members
-unfoldable pub slot_parts2_of : Data → SlotParts
-slot_parts2_of slot = record {
-  priority = unwrap_or (priority_of slot) 0;
-  kdf_hash = kdf_hash_of slot;
-  iterations = iterations_of_slot slot;
-  salt = salt_of slot;
-  af_hash = af_hash_of slot;
-  stripes = stripe_count_of slot;
-  key_bytes = key_size_of slot;
-  area_key_bytes = area_key_size_of slot;
-  area_offset = area_offset_of slot;
-  area_size = area_size_of slot;
-  area_mode = area_mode_of slot;
-}
 
 -- what is needed to open the slot with this number, unless there is a reason to skip it other than a limit on
 -- iterations

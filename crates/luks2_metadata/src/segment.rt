@@ -214,27 +214,27 @@ pub fn segment(metadata: &Metadata, bounds: Bounds) -> Result<Segment, SegmentFa
     segment_in(metadata.tree(), bounds)
 }
 
-/// Where the payload starts, if the header is attached and the segment is not refused.
-#[tactic(auto, unfolding(crate::specs::Segment2::payload2_start))]
-pub fn payload2_start(tree: &Value, bounds: Bounds) -> Option<u64>
-    ensures { result ≡ payload2_start (data_of tree.now) bounds }
-{
-    if bounds.detached {
-        return None;
-    }
-    match segment_in(tree, bounds) {
-        Ok(segment) => Some(segment.offset),
-        Err(_) => None,
-    }
+/// What key slots are checked against.
+#[derive(Clone, Copy)]
+pub(crate) struct Payload {
+    // Where it starts, if the header is attached and the segment is not refused.
+    pub(crate) start: Option<u64>,
+    // Its mode, if the segment is not refused.
+    pub(crate) mode: Option<Mode>,
 }
 
-/// The mode of the payload, if the segment is not refused.
-#[tactic(auto, unfolding(crate::specs::Segment2::payload_mode2_of))]
-pub fn payload_mode(tree: &Value, bounds: Bounds) -> Option<Mode>
-    ensures { result ≡ payload_mode2_of (data_of tree.now) bounds }
+/// The payload of a header with these bounds.
+#[tactic(
+    auto,
+    unfolding(crate::specs::Segment2::payload2_start, crate::specs::Segment2::payload_mode2_of)
+)]
+pub(crate) fn find_payload(tree: &Value, bounds: Bounds) -> Payload
+    ensures start { result.start ≡ payload2_start (data_of tree.now) bounds }
+    ensures mode { result.mode ≡ payload_mode2_of (data_of tree.now) bounds }
 {
     match segment_in(tree, bounds) {
-        Ok(segment) => Some(segment.mode),
-        Err(_) => None,
+        Ok(segment) if bounds.detached => Payload { start: None, mode: Some(segment.mode) },
+        Ok(segment) => Payload { start: Some(segment.offset), mode: Some(segment.mode) },
+        Err(_) => Payload { start: None, mode: None },
     }
 }

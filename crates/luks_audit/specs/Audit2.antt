@@ -14,7 +14,7 @@ use Rattle.luks2_json.specs.List.{strings_at}
 use Rattle.luks2_json.specs.Member.{base64_member, decimal_member, hash_member, has, in_member, integer_member, is_type}
 use Rattle.luks2_json.specs.Member.{iterations_in, string_is, string_member}
 use Rattle.luks2_json.specs.Numbered.{lowest, object_numbered}
-use Rattle.luks2_metadata.specs.Slot2.{af_hash_of, area_key_size_of, iterations_of_slot, kdf_hash_of, key_size_of}
+use Rattle.luks2_metadata.specs.Slot2.{slot_parts2_of}
 use Rattle.luks_audit.specs.Tree.{array_of, hex_text, num, optional_hex, optional_num, optional_text, unless_float}
 use Rattle.luks_audit.specs.Policy.{is_capi_cbc, is_cbc}
 use Rattle.luks_audit.specs.declared.policy.Derivation.{Derivation}
@@ -204,13 +204,13 @@ slot_derivation2 slot = unwrap_or (option_map derivation2_of (get (codes "kdf") 
 unfoldable pub strength2_of : Data → SlotStrength
 strength2_of slot = record {
   derivation = slot_derivation2 slot;
-  kdf_hash = kdf_hash_of slot;
-  iterations = iterations_of_slot slot;
+  kdf_hash = (slot_parts2_of slot).kdf_hash;
+  iterations = (slot_parts2_of slot).iterations;
   memory = unwrap_or (in_member (codes "kdf") (integer_member (codes "memory")) slot) 0;
-  af_hash = af_hash_of slot;
+  af_hash = (slot_parts2_of slot).af_hash;
   is_cbc = names_cbc (in_member (codes "area") (string_member (codes "encryption")) slot);
-  key_bytes = key_size_of slot;
-  area_key_bytes = area_key_size_of slot;
+  key_bytes = (slot_parts2_of slot).key_bytes;
+  area_key_bytes = (slot_parts2_of slot).area_key_bytes;
 }
 
 -- what is judged of a key slot, if it is of type luks2: others hold no key

@@ -1,41 +1,18 @@
 //! Members of objects in objects, and lists of names.
 
-ghost use Rattle.std.specs.Prelude.{◌≡◌, IfOk, OnOk, codes, map, option_map};
+ghost use Rattle.std.specs.Prelude.{◌≡◌, IfOk, OnOk, codes, map};
 ghost use Rattle.luks_audit.specs.Tree.{optional_hex, with_member};
 ghost use Rattle.luks2_json.specs.List.{strings_at};
-ghost use Rattle.luks2_json.specs.Member.{base64_member, decimal_member, in_member, integer_member};
-ghost use Rattle.luks2_json.specs.Member.{string_member};
+ghost use Rattle.luks2_json.specs.Member.{base64_member, in_member};
 ghost use Rattle.serde_json.specs.Data.{string};
 ghost use Rattle.serde_json.specs.View.{view as data_of};
 
 use crate::fields::text_array;
 use crate::tree::{Array, Object, Tree};
 use luks2_json::list::strings_at;
-use luks2_json::member::{base64_member, decimal_member, integer_member, string_member};
+use luks2_json::member::base64_member;
 use serde_json::Value;
 use std::alloc::{AllocError, Global};
-
-/// The text of this name in an object of that one.
-pub(crate) fn nested_text<'v>(owner: &'v Value, object: &str, name: &str) -> Option<&'v str>
-    ensures { option_map (λ t. t.now) result
-        ≡ in_member object.now (string_member name.now) (data_of owner.now) }
-{
-    string_member(owner.get(object)?, name)
-}
-
-/// The number of this name in an object of that one.
-pub(crate) fn nested_integer(owner: &Value, object: &str, name: &str) -> Option<u64>
-    ensures { result ≡ in_member object.now (integer_member name.now) (data_of owner.now) }
-{
-    integer_member(owner.get(object)?, name)
-}
-
-/// The number in decimal digits of this name in an object of that one.
-pub(crate) fn nested_decimal(owner: &Value, object: &str, name: &str) -> Option<u64>
-    ensures { result ≡ in_member object.now (decimal_member name.now) (data_of owner.now) }
-{
-    decimal_member(owner.get(object)?, name)
-}
 
 /// Adds the bytes that are under this name in base64 as hexadecimal digits, or null.
 pub(crate) fn push_bytes(

@@ -6,9 +6,9 @@ ghost use Rattle.luks_audit.specs.Audit2.{stripes2_fields, priority2_of};
 ghost use Rattle.luks_audit.specs.Tree.{with_fields};
 ghost use Rattle.serde_json.specs.View.{view as data_of};
 
-use crate::luks2::member::{nested_decimal, nested_integer, nested_text, push_salt};
+use crate::luks2::member::push_salt;
 use crate::tree::Object;
-use luks2_json::member::integer_member;
+use luks2_json::member::{integer_member, nested_decimal, nested_integer, nested_string};
 use serde_json::Value;
 use std::alloc::{AllocError, Global};
 
@@ -35,8 +35,8 @@ pub(crate) fn push_derivation(
 {
     fields.push_optional_number(alloc, "priority", priority(slot))?;
     fields.push_optional_number(alloc, "key_bytes", integer_member(slot, "key_size"))?;
-    fields.push_optional_text(alloc, "kdf", nested_text(slot, "kdf", "type"))?;
-    fields.push_optional_text(alloc, "hash", nested_text(slot, "kdf", "hash"))?;
+    fields.push_optional_text(alloc, "kdf", nested_string(slot, "kdf", "type"))?;
+    fields.push_optional_text(alloc, "hash", nested_string(slot, "kdf", "hash"))?;
     push_salt(alloc, fields, slot)?;
     fields.push_optional_number(
         alloc,
@@ -65,7 +65,7 @@ pub(crate) fn push_stripes(
     ensures { OnOk result
         (fields.new ≡ with_fields (stripes2_fields (data_of slot.now)) fields.old) }
 {
-    fields.push_optional_text(alloc, "af_hash", nested_text(slot, "af", "hash"))?;
+    fields.push_optional_text(alloc, "af_hash", nested_string(slot, "af", "hash"))?;
     fields.push_optional_number(alloc, "stripes", nested_integer(slot, "af", "stripes"))
 }
 
@@ -77,7 +77,7 @@ pub(crate) fn push_area(alloc: Global, fields: &mut Object, slot: &Value) -> Res
     fields.push_optional_text(
         alloc,
         "area_cipher",
-        nested_text(slot, "area", "encryption"),
+        nested_string(slot, "area", "encryption"),
     )?;
     fields.push_optional_number(
         alloc,

@@ -5,16 +5,13 @@ ghost use Rattle.luks_audit.specs.Audit2.{derivation2_of, digest_strength2, judg
 ghost use Rattle.luks_audit.specs.Audit2.{mode_after_dash};
 ghost use Rattle.luks_audit.specs.Audit2.{names_cbc, slot_derivation2, slot_strength2};
 ghost use Rattle.luks_audit.specs.Audit2.{strength2_of};
-ghost use Rattle.luks2_metadata.specs.Slot2.{af_hash_of, area_key_size_of, iterations_of_slot};
-ghost use Rattle.luks2_metadata.specs.Slot2.{kdf_hash_of, key_size_of};
 ghost use Rattle.serde_json.specs.View.{view as data_of};
 
-use crate::luks2::member::{nested_integer, nested_text};
 use crate::policy::{Derivation, DigestStrength, SlotStrength, is_capi_cbc, is_cbc};
-use luks_kdf::Hash;
 use luks2_json::derivation::{hash_member, iterations_in};
-use luks2_json::member::{integer_member, is_type};
+use luks2_json::member::{is_type, nested_integer, nested_string};
 use luks2_json::numbered::object_numbered;
+use luks2_metadata::slot::values::slot_values;
 use serde_json::Value;
 
 // The index of the first dash.
@@ -69,58 +66,24 @@ fn derivation(slot: &Value) -> Derivation
     }
 }
 
-// The hash function of the key derivation.
-fn kdf_hash(slot: &Value) -> Option<Hash>
-    ensures { result ≡ kdf_hash_of (data_of slot.now) }
-{
-    hash_member(slot.get("kdf")?)
-}
-
-// The iterations of the key derivation, or 0 if they are missing.
-fn iterations(slot: &Value) -> u64
-    ensures { result ≡ iterations_of_slot (data_of slot.now) }
-{
-    match slot.get("kdf") {
-        Some(kdf) => iterations_in(kdf),
-        None => 0,
-    }
-}
-
-// The hash function of the stripes.
-fn af_hash(slot: &Value) -> Option<Hash>
-    ensures { result ≡ af_hash_of (data_of slot.now) }
-{
-    hash_member(slot.get("af")?)
-}
-
-// The length of the volume key in bytes, or 0 if it is missing.
-fn key_size(slot: &Value) -> u64
-    ensures { result ≡ key_size_of (data_of slot.now) }
-{
-    integer_member(slot, "key_size").unwrap_or(0)
-}
-
-// The length in bytes of the key that encrypts the key material, or 0 if it is missing.
-fn area_key_size(slot: &Value) -> u64
-    ensures { result ≡ area_key_size_of (data_of slot.now) }
-{
-    nested_integer(slot, "area", "key_size").unwrap_or(0)
-}
-
 // What is judged of a slot that holds a key.
-#[tactic(auto, unfolding(crate::specs::Audit2::strength2_of))]
+#[tactic(
+    auto,
+    unfolding(crate::specs::Audit2::strength2_of, luks2_metadata::specs::Slot2::values_of)
+)]
 fn strength(slot: &Value) -> SlotStrength
     ensures { result ≡ strength2_of (data_of slot.now) }
 {
+    let values = slot_values(slot);
     SlotStrength {
         derivation: derivation(slot),
-        kdf_hash: kdf_hash(slot),
-        iterations: iterations(slot),
+        kdf_hash: values.kdf_hash,
+        iterations: values.iterations,
         memory: nested_integer(slot, "kdf", "memory").unwrap_or(0),
-        af_hash: af_hash(slot),
-        is_cbc: names_cbc(nested_text(slot, "area", "encryption")),
-        key_bytes: key_size(slot),
-        area_key_bytes: area_key_size(slot),
+        af_hash: values.af_hash,
+        is_cbc: names_cbc(nested_string(slot, "area", "encryption")),
+        key_bytes: values.key_bytes,
+        area_key_bytes: values.area_key_bytes,
     }
 }
 
