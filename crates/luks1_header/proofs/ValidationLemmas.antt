@@ -94,8 +94,8 @@ segment1-none header segment none made = refused_or-none _ _ segment none made
 
 -- ---- slots
 
--- what is needed to open a slot is from this header, its digest is the header's, and its key material ends at or before
--- the payload's start, if the header is attached
+-- what is needed to open a slot is from this header, and its key material ends at or before the payload's start, if the
+-- header is attached
 pub record IsOf (header : Header1) (usable : Slot) : Type 0 where
   pub kdf : usable.parts.kdf_hash ≡ hash1_of header
   pub af : usable.parts.af_hash ≡ hash1_of header
@@ -103,7 +103,6 @@ pub record IsOf (header : Header1) (usable : Slot) : Type 0 where
   pub area_key : usable.parts.area_key_bytes ≡ header.key_bytes
   pub area_mode : usable.parts.area_mode ≡ mode1_of header
   pub before_payload : exceeds (payload1_start header) (material_end usable) ≡ false
-  pub digest : digest1_of header ≡ Some usable.digest
 
 -- key material that is in range ends at or before the payload's start, if that is known, and can be loaded
 area_in_range : (header : Header1) (slot : StoredSlot) → area1_out_of_range header slot ≡ false
@@ -172,7 +171,6 @@ module _ (header : Header1) (limit : Option ℕ) (slot : StoredSlot) where
         area_key = refl;
         area_mode = refl;
         before_payload = (area_in_range header slot all.1.1.1.0).0;
-        digest = there.1;
       } in
       (subst (IsOf header) (sym same) known, verdict.1)
 

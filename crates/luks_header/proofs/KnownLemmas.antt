@@ -71,15 +71,6 @@ unfolding verdict_at slot_at
 slot_of_usable (V1 header) limit number slot is = (slot_usable_at header limit number slot is).1
 slot_of_usable (V2 header tree) limit number slot is = (usable2_at tree (bounds2_of header) limit number slot is).1
 
--- if a key slot can be tried, its digest is that of its number
-pub digest_of_usable : (header : Header) (limit : Option ℕ) (number : ℕ) (slot : Slot)
-    → verdict_at header limit number ≡ Some (Usable slot)
-    → digest_for header number ≡ Some slot.digest
-unfolding verdict_at digest_for
-digest_of_usable (V1 header) limit number slot is = (slot_usable_at header limit number slot is).0.digest
-digest_of_usable (V2 header tree) limit number slot is =
-    (usable2_at tree (bounds2_of header) limit number slot is).0.digest
-
 -- if the segment is valid, the hash functions and key lengths of a key slot that can be tried are known
 pub known_usable : (header : Header) (segment : Segment) (limit : Option ℕ) (number : ℕ) (slot : Slot)
     → segment_of header ≡ Ok segment

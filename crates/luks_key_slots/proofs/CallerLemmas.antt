@@ -2,7 +2,7 @@
 use Rattle.std.proofs.Common.{◌≡◌, ◌∙◌, ℕ, ◌+◌, ◌*◌, ◌/◌, ◌==◌, ◌<◌, ◌≤◌, max, Bool, true, false, List, [], ◌∷◌, ◌++◌}
 use Rattle.std.proofs.Common.{length, take, drop, get_or, Option, Some, None}
 use Rattle.std.proofs.Common.{Ok, IsOk, IsSome, refl, sym, ap, subst, arith}
-use Rattle.std.specs.Prelude.{if◌then◌else◌, is_some, option_map, slice_index_or, sum_by}
+use Rattle.std.specs.Prelude.{if◌then◌else◌, is_some, ok_or, option_map, slice_index_or, sum_by}
 use Rattle.std.specs.List.{AllByRecursion, All}
 use Rattle.std.proofs.lemmas.Bool.{eq-eqb}
 use Rattle.std.proofs.lemmas.List.{drop_more, drop_all}
@@ -36,12 +36,13 @@ use Rattle.luks_header.specs.declared.header.Header.{Header}
 use Rattle.luks_header.proofs.KnownLemmas.{IsKnown, before_payload, known_usable}
 use Rattle.luks_key_slots.specs.Candidate.{candidate_by, candidate_of, decrypted_material}
 use Rattle.luks_key_slots.specs.Candidate.{material_sector, matches_digest, recovered}
-use Rattle.luks_key_slots.specs.Opening.{first_opening, if_matches_digest, slot_key, opened_or, opening_of, answer_of}
+use Rattle.luks_key_slots.specs.Opening.{first_opening, if_matches_digest, slot_key, opened_or, opening_of}
 use Rattle.luks_key_slots.specs.Opening.{OrderModel, entry_with_priority, key_material_end, order_of, order_of_all}
 use Rattle.luks_key_slots.specs.Opening.{order_of_named, skipped_at, tried_with}
 use Rattle.luks_key_slots.specs.Opening.{unless_none, evaluations_of, tried_of, work_of}
 use Rattle.luks_key_slots.specs.Trial.{IsTriable}
 use Rattle.luks_key_slots.specs.declared.entry.Entry.{Entry}
+use Rattle.luks_key_slots.specs.declared.fault.OpenFault.TheVariants.{NoKey}
 use Rattle.luks_key_slots.specs.declared.opening.Opened.{Opened}
 use Rattle.std.proofs.lemmas.List.Sums.{sum_by-cons}
 use Rattle.luks_key_slots.proofs.MaterialLemmas.{length-recovered}
@@ -258,7 +259,7 @@ pub opening_prefix : (order : OrderModel) (n : ℕ) (image pass : List ℕ) → 
     → opening_of order (take n image) pass ≡ opening_of order image pass
 unfolding opening_of first_opening
 opening_prefix order n image pass loaded =
-    ap (λ (first : Option Opened). answer_of first order.skipped)
+    ap (λ (first : Option Opened). ok_or first (NoKey order.skipped))
     (of_entries order.entries (All-key_material_end n order.entries loaded))
   where
     of_entries : (entries : List Entry) → AllByRecursion (λ (entry : Entry). material_end entry.slot ≤ n) entries

@@ -1,6 +1,7 @@
 -- The key that a passphrase gives with a key slot, and whether it is the volume key (LUKS1 On-Disk Format Specification
 -- 1.2.3, "Master key recovery"). Stripes are those of the same standard, and PBKDF2 is that of RFC 8018.
 use Rattle.std.specs.Prelude.{ℕ, ◌+◌, ◌*◌, ◌/◌, Bool, false, bytes_eq, List, Option, Some, None, length, take}
+use Rattle.std.specs.Option.{option_map_or}
 use Rattle.luks_cipher.specs.Sector.{Cipher, sector_decrypted}
 use Rattle.luks_cipher.specs.Xts.{joined}
 use Rattle.luks_cipher.specs.declared.mode.Mode.{Mode}
@@ -41,12 +42,10 @@ unfoldable pub candidate_of : Slot → List ℕ → List ℕ → Option (List �
 candidate_of slot image pass =
     candidate_by slot.parts.kdf_hash slot.parts.af_hash slot.parts.area_mode slot.parts image pass
 
--- PBKDF2 of the key with this hash function gives the whole value of the digest
-abbrev pub matches_digest_by : Option Hash → KeyDigest → List ℕ → Bool
-matches_digest_by (Some hash) digest key =
-    bytes_eq (derived_key hash key digest.salt digest.iterations (length digest.value)) digest.value
-matches_digest_by None digest key = false
-
--- the key matches the digest
+-- the key matches the digest: PBKDF2 of the key gives the whole value of the digest. None does if the name of the
+-- digest's hash function is not known
 unfoldable pub matches_digest : KeyDigest → List ℕ → Bool
-matches_digest digest key = matches_digest_by digest.hash digest key
+matches_digest digest key =
+    option_map_or
+    (λ hash. bytes_eq (derived_key hash key digest.salt digest.iterations (length digest.value)) digest.value)
+    digest.hash false

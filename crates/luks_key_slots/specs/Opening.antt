@@ -1,6 +1,6 @@
 -- The key slots to be tried, which of them opens a volume, and how many evaluations of HMAC that costs.
 use Rattle.std.specs.Prelude.{ℕ, ◌+◌, ◌*◌, sum_by, if◌then◌else◌, List, [], ◌∷◌, Option, Some, None, Result, Ok, Err}
-use Rattle.std.specs.Prelude.{length, is_some, ◌≡◌, ◌==◌, ◌⊎◌, max, MatchResult, ◌++◌}
+use Rattle.std.specs.Prelude.{length, is_some, ok_or, ◌≡◌, ◌==◌, ◌⊎◌, max, MatchResult, ◌++◌}
 use Rattle.std.specs.Int.{div_ceil}
 use Rattle.luks_kdf.specs.Hash.{digest_len}
 use Rattle.luks_kdf.specs.declared.hash.Hash.{Hash}
@@ -104,14 +104,9 @@ first_opening [] image pass = None
 first_opening (entry ∷ entries) image pass =
     opened_or entry.number (slot_key entry image pass) (first_opening entries image pass)
 
--- the key slot that opens, or the fault if none does
-abbrev pub answer_of : Option Opened → List (ℕ × SkipReason) → Result Opened OpenFault
-answer_of (Some opened) skipped = Ok opened
-answer_of None skipped = Err (NoKey skipped)
-
 -- the first of the key slots to be tried that a passphrase opens, or the fault if it opens none
 unfoldable pub opening_of : OrderModel → List ℕ → List ℕ → Result Opened OpenFault
-opening_of order image pass = answer_of (first_opening order.entries image pass) order.skipped
+opening_of order image pass = ok_or (first_opening order.entries image pass) (NoKey order.skipped)
 
 -- the number of HMAC evaluations with which PBKDF2 derives `bytes` bytes
 abbrev pub evaluations : Option Hash → ℕ → ℕ → ℕ

@@ -65,36 +65,6 @@ fn fill_sector<S: Source>(
     Ok(loaded + got)
 }
 
-/// Fills `sector` as [`fill_sector`] does, and writes its plaintext if it is whole. Returns the
-/// number of bytes.
-fn forward_filled<S: Source, O: Sink>(
-    cipher: &SectorCipher,
-    number: u64,
-    prefix: &[u8],
-    sector: &mut [u8],
-    source: &mut S,
-    sink: &mut O,
-) -> Result<usize, PayloadFault>
-    requires whole_blocks { length sector.old % 16 ≡ 0 }
-    requires shortest { 16 ≤ length sector.old }
-    requires longest { length sector.old ≤ 4096 }
-    ensures forwards { SectorEffect cipher.now number (length sector.old) prefix.now result
-        (S.to_come source.old) (S.to_come source.new) (O.written sink.old) (O.written sink.new)
-        (sink.new ≡ sink.old) }
-    ensures reads { Reads (is_pump_read_failure result) (is_short_read result (length sector.old))
-        (S.counts source.old) (S.counts source.new) }
-    ensures writes { Writes (is_pump_write_failure result)
-        (O.counts sink.old) (O.counts sink.new) }
-{
-    let got = fill_sector(prefix, sector, source)?;
-    if got < sector.len() {
-        return Ok(got);
-    }
-    cipher.decrypt_unit(number, sector);
-    put_all(sink, sector)?;
-    Ok(got)
-}
-
 /// Consumes the sector with this data unit number, which starts with the bytes of `prefix`. Writes
 /// its plaintext if it is whole. The sector is decrypted in the source if `prefix` is empty and the
 /// source has all of it buffered, and otherwise in `sector`. Returns the number of bytes.
@@ -126,5 +96,11 @@ pub(crate) fn forward_sector<S: Source, O: Sink>(
             return Ok(sector.len());
         }
     }
-    forward_filled(cipher, number, prefix, sector, source, sink)
+    let got = fill_sector(prefix, sector, source)?;
+    if got < sector.len() {
+        return Ok(got);
+    }
+    cipher.decrypt_unit(number, sector);
+    put_all(sink, sector)?;
+    Ok(got)
 }

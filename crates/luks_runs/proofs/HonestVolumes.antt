@@ -3,6 +3,7 @@
 use Rattle.std.proofs.Common.{◌≡◌, ℕ, ◌%◌, ◌^◌, List, length, ◌∙◌, ◌+◌, ◌*◌, ◌/◌, ◌<◌, ◌≤◌, take, drop, refl, subst}
 use Rattle.std.proofs.Common.{sym, ap, arith, length-drop, ◌-◌, Option, None, Some, Ok, true, [], ◌∷◌, ◌++◌}
 use Rattle.std.specs.Int.{to_le_bytes, w128}
+use Rattle.std.specs.Prelude.{ok_or}
 use Rattle.std.proofs.Math.Nat.{div-mul_cancel, dvd_of_mod-eq-zero}
 use Rattle.std.proofs.lemmas.List.{length-take-le, take_all}
 use Rattle.std.proofs.lemmas.Bool.{le-ltb}
@@ -34,9 +35,10 @@ use Rattle.luks_header.specs.HeaderSegment.{segment_of}
 use Rattle.luks_header.specs.declared.header.Header.{Header}
 use Rattle.luks_header.proofs.KnownLemmas.{known_usable, slot_of_usable, is_attached}
 use Rattle.luks_key_slots.specs.Candidate.{decrypted_material, material_sector, recovered, candidate_of, matches_digest}
-use Rattle.luks_key_slots.specs.Opening.{first_opening, slot_key, opened_or, answer_of, opening_of}
+use Rattle.luks_key_slots.specs.Opening.{first_opening, slot_key, opened_or, opening_of}
 use Rattle.luks_key_slots.specs.declared.entry.Entry.{Entry}
 use Rattle.luks_key_slots.specs.Opening.{key_material_end, order_of}
+use Rattle.luks_key_slots.specs.declared.fault.OpenFault.TheVariants.{NoKey}
 use Rattle.luks_key_slots.specs.declared.opening.Opened.{Opened}
 use Rattle.luks_key_slots.proofs.CallerLemmas.{All-order, IsOf, key_areas_before_payload}
 use Rattle.luks_payload.proofs.SectorLemmas.{one_more_fits}
@@ -235,8 +237,8 @@ module _ (slots : SlotChoice) (image passphrase plain : List ℕ)
       let found = first_again first.before first.entry first.after image passphrase honest.key
       (recursion_from_All (GivesNoOther image passphrase honest.key) first.before first.no_other) gives in (
         found.0,
-        ap (λ (entries : List Entry). answer_of (first_opening entries image passphrase) honest.order.skipped)
-            first.are ∙ ap (λ (opened : Option Opened). answer_of opened honest.order.skipped) found.1,
+        ap (λ (entries : List Entry). ok_or (first_opening entries image passphrase) (NoKey honest.order.skipped))
+            first.are ∙ ap (λ (opened : Option Opened). ok_or opened (NoKey honest.order.skipped)) found.1,
       )
 
   opened_is : (number : ℕ) × (volume_outcome (payload_outcome image passphrase) slots image passphrase
