@@ -68,7 +68,11 @@ abbrev pub UnlocksVolume : FoundVolume → List ℕ → List ℕ → List ℕ �
     → Result UnlockedVolume VolumeFault → Type 0
 UnlocksVolume volume pass area' rest left result =
     ((length pass ≤ max_key_file_len)
-    × TriesSlots volume.segment volume.order pass volume.area.bytes area' rest left result)
+    × TriesSlots (record {
+      segment = volume.segment; order = volume.order; passphrase = pass;
+      loaded = volume.area.bytes; loaded' = area';
+      further = rest; further' = left;
+    }) result)
     ⊎ ((max_key_file_len < length pass) × (result ≡ Err (V.Passphrase TooLong)) × (left ≡ Some rest))
 
 -- the fault of trying the key slots, if none opens

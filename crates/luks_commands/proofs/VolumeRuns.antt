@@ -25,7 +25,8 @@ use Rattle.luks_runs.proofs.VolumeLemmas.{found_whole, message_says, prefix_leng
 use Rattle.luks_runs.proofs.VolumeLemmas.{volume_with}
 use Rattle.luks_report.specs.Faults.{message_for_header, message_for_passphrase, message_for_slots, message_for_volume}
 use Rattle.luks_runs.specs.Volume.{OnOpened, found_outcome, opened_outcome, outcome_after, volume_outcome_by, Volume}
-use Rattle.luks_runs.specs.Volume.{unlock_read_len, volume_by, ConsumedMaterial, CountsTrials, TriesSlots, opened_of}
+use Rattle.luks_runs.specs.Volume.{unlock_read_len, volume_by, ConsumedMaterial, CountsTrials, SlotsTrial, TriesSlots}
+use Rattle.luks_runs.specs.Volume.{opened_of}
 use Rattle.luks_request.specs.declared.command.SlotChoice.{SlotChoice}
 use Rattle.luks_runs.specs.Run.{RunMatches}
 use Rattle.luks_runs.proofs.RunLemmas.{aborted_unwritten, header_read_len_within}
@@ -132,6 +133,18 @@ early_without_volume location slots image left (Passphrase _) stop = absurd stop
 early_without_volume location slots image left KeyAreaCut stop = absurd stop
 early_without_volume location slots image left fault stop = inl (rw stop.0 refl)
 
+-- trying these key slots, after an image's header was read
+abbrev slots_trial : (image area area' : List ℕ) → Option (List ℕ) → Segment → OrderModel → List ℕ → SlotsTrial
+slots_trial image area area' i segment order pass = record {
+  segment = segment;
+  order = order;
+  passphrase = pass;
+  loaded = area;
+  loaded' = area';
+  further = drop (header_read_len image) image;
+  further' = i;
+}
+
 module _ (image area area' : List ℕ) (i : Option (List ℕ)) (prefix : area ≡ take (header_read_len image) image)
     (segment : Segment) (order : OrderModel) (pass : List ℕ) where
   -- the loaded bytes are the first of the image, and those that were consumed, also after its key slots were tried
@@ -143,7 +156,7 @@ module _ (image area area' : List ℕ) (i : Option (List ℕ)) (prefix : area �
   loads_more n grows = let more = area_more image area area' i 0 prefix n grows in (_, more.0, omega arith, more.1)
 
   prefix_tried : (result : Result UnlockedVolume VolumeFault)
-      → TriesSlots segment order pass area area' (drop (header_read_len image) image) i result → LoadedPrefix
+      → TriesSlots (slots_trial image area area' i segment order pass) result → LoadedPrefix
   prefix_tried (Ok volume) tries = loads_more _ tries.0
   prefix_tried (Err (Slots fault)) tries = loads_more _ tries.0
   prefix_tried (Err KeyAreaCut) tries = loads_more _ tries.0
@@ -152,7 +165,7 @@ module _ (image area area' : List ℕ) (i : Option (List ℕ)) (prefix : area �
   prefix_tried (Err _) stop = absurd stop
 
   prefix_unlocked : (s : Option (List ℕ)) (result : Result UnlockedVolume VolumeFault)
-      → UnlockEffect segment order pass area area' (drop (header_read_len image) image) i s result
+      → UnlockEffect (slots_trial image area area' i segment order pass) s result
       → LoadedPrefix
   prefix_unlocked s result (inl (short, read, tries)) = prefix_tried result tries
   prefix_unlocked s result (inr none) = (
@@ -291,7 +304,7 @@ module _ (location : HeaderLocation) (slots : SlotChoice) (image pass : List ℕ
     -- the volume was not opened
     pub runs_without_key : (area area' : List ℕ) → area ≡ take (header_read_len image) image → (on_opened : OnOpened)
         → ConsumesLoaded pass on_opened → (fault : VolumeFault)
-        → UnlockEffect segment order pass area area' (drop (header_read_len image) image) i s (Err fault)
+        → UnlockEffect (slots_trial image area area' i segment order pass) s (Err fault)
         → Matches on_opened (message_for_volume fault)
     runs_without_key area area' prefix on_opened consumes (HeaderNotRead fault) (inl (short, read, lost)) =
         runs_without_area short read area area' prefix on_opened consumes fault lost
@@ -331,7 +344,7 @@ module _ (location : HeaderLocation) (slots : SlotChoice) (image pass : List ℕ
 
     pub counts_opening : (area area' : List ℕ) → area ≡ take (header_read_len image) image
         → (fault : VolumeFault)
-        → UnlockEffect segment order pass area area' (drop (header_read_len image) image) i s (Err fault)
+        → UnlockEffect (slots_trial image area area' i segment order pass) s (Err fault)
         → (trial : Trial) → trial.image.after ≡ i → trial.key_file.after.ends ≡ counted true trial.key_file.before.ends
         → CountsTrials order area' pass (Err fault) trial.work.before trial.work.after
         → CountsTried location slots image pass trial
@@ -349,7 +362,7 @@ module _ (location : HeaderLocation) (slots : SlotChoice) (image pass : List ℕ
 
     -- if the volume was opened, its key slots were tried
     pub counts_unlocked : (area area' : List ℕ) → area ≡ take (header_read_len image) image → (opened : UnlockedVolume)
-        → UnlockEffect segment order pass area area' (drop (header_read_len image) image) i s (Ok opened)
+        → UnlockEffect (slots_trial image area area' i segment order pass) s (Ok opened)
         → (trial : Trial) → trial.image.after ≡ i → trial.key_file.after.ends ≡ counted true trial.key_file.before.ends
         → CountsTrials order area' pass (Ok opened) trial.work.before trial.work.after
         → CountsTried location slots image pass trial
@@ -361,7 +374,7 @@ module _ (location : HeaderLocation) (slots : SlotChoice) (image pass : List ℕ
 
     -- the volume was opened
     pub unlocks_volume : (area area' : List ℕ) → area ≡ take (header_read_len image) image → (opened : UnlockedVolume)
-        → UnlockEffect segment order pass area area' (drop (header_read_len image) image) i s (Ok opened)
+        → UnlockEffect (slots_trial image area area' i segment order pass) s (Ok opened)
         → Unlocks location slots image pass opened.segment (opened_of opened) area' i s
     unlocks_volume area area' prefix opened (inl (short, read, tries)) =
         let loaded = area_loaded image area area' i (key_material_end order.entries) prefix tries.0 tries.1 in

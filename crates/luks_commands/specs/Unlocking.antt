@@ -8,12 +8,11 @@ use Rattle.luks_runs.specs.declared.location.HeaderLocation.{HeaderLocation}
 use Rattle.luks_runs.specs.declared.location.HeaderLocation.TheVariants.{Attached}
 use Rattle.luks_runs.specs.Run.{RunMatches}
 use Rattle.luks_runs.specs.Volume.{HasSegmentBy, OnOpened}
-use Rattle.luks_runs.specs.Volume.{volume_outcome_by, TriesSlots}
+use Rattle.luks_runs.specs.Volume.{SlotsTrial, TriesSlots, volume_outcome_by}
 use Rattle.luks_verdict.specs.declared.segment.Segment.{Segment}
 use Rattle.luks_report.specs.Faults.{message_for_volume}
 use Rattle.luks_report.specs.declared.message.Message.{Message}
 use Rattle.luks_header.specs.Header.{header_read_len}
-use Rattle.luks_key_slots.specs.Opening.{OrderModel}
 use Rattle.luks_key_slots.specs.declared.opening.Opened.{Opened}
 use Rattle.luks_key_slots.specs.declared.fault.PassphraseFault.{PassphraseFault}
 use Rattle.luks_key_slots.specs.declared.fault.VolumeFault.{VolumeFault}
@@ -52,13 +51,12 @@ pub record Unlocks (location : HeaderLocation) (slots : SlotChoice) (image secre
 
 -- the effect of trying to open a volume that was found, under the passphrase in the key file. The key file is read
 -- whole before the key slots are tried; if it cannot be, nothing more of the image is consumed
-abbrev pub UnlockEffect : Segment → OrderModel → List ℕ → List ℕ → List ℕ → List ℕ → Option (List ℕ)
-    → Option (List ℕ) → Result UnlockedVolume VolumeFault → Type 0
-UnlockEffect segment order pass area area' rest left secret' result =
-    ((length pass ≤ max_key_file_len) × ConsumedExactly pass secret' (length pass)
-    × TriesSlots segment order pass area area' rest left result)
-    ⊎ ((fault : PassphraseFault) × (result ≡ Err (Passphrase fault)) × NoKeyFileRead pass secret' fault × (area' ≡ area)
-    × (left ≡ Some rest))
+abbrev pub UnlockEffect : SlotsTrial → Option (List ℕ) → Result UnlockedVolume VolumeFault → Type 0
+UnlockEffect trial secret' result =
+    ((length trial.passphrase ≤ max_key_file_len)
+    × ConsumedExactly trial.passphrase secret' (length trial.passphrase) × TriesSlots trial result)
+    ⊎ ((fault : PassphraseFault) × (result ≡ Err (Passphrase fault)) × NoKeyFileRead trial.passphrase secret' fault
+    × (trial.loaded' ≡ trial.loaded) × (trial.further' ≡ Some trial.further))
 
 -- if the volume was opened, its key slots were tried, and the count of work was raised by what that costs
 abbrev pub CountsUnlocking : {T : Type 0} → HeaderLocation → SlotChoice → Result T VolumeFault → Trial → Type 0

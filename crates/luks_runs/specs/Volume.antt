@@ -202,21 +202,36 @@ abbrev pub ConsumedMaterial : OrderModel → List ℕ → List ℕ → List ℕ 
 ConsumedMaterial order area area' rest left =
     ConsumedOnto area area' rest left (min (key_material_end order.entries - length area) (length rest))
 
+-- trying key slots under a passphrase: the loaded bytes and the image's further bytes, before and after
+pub record SlotsTrial : Type 0 where
+  pub segment : Segment
+  pub order : OrderModel
+  pub passphrase : List ℕ
+  pub loaded : List ℕ
+  pub loaded' : List ℕ
+  pub further : List ℕ
+  pub further' : Option (List ℕ)
+
+-- the image was consumed up to the end of the last key material, or up to its own end if that comes first
+abbrev pub ConsumesMaterial : SlotsTrial → Type 0
+ConsumesMaterial trial = ConsumedMaterial trial.order trial.loaded trial.loaded' trial.further trial.further'
+
 -- the key slots of a volume whose header was read were tried: the image was consumed up to the end of the last key
 -- material, and the result is the volume with this segment that those key slots open under this passphrase, or their
 -- fault. Otherwise the image ended before that, or a read failed, or memory ran out
-abbrev pub TriesSlots : Segment → OrderModel → List ℕ → List ℕ → List ℕ → List ℕ → Option (List ℕ)
-    → Result UnlockedVolume VolumeFault → Type 0
-TriesSlots segment order pass area area' rest left (Ok volume) = ConsumedMaterial order area area' rest left
-    × (key_material_end order.entries ≤ length area') × (volume.segment ≡ segment)
-    × (opening_of order area' pass ≡ Ok (opened_of volume))
-TriesSlots segment order pass area area' rest left (Err (V.Slots fault)) = ConsumedMaterial order area area' rest left
-    × (key_material_end order.entries ≤ length area') × (opening_of order area' pass ≡ Err fault)
-TriesSlots segment order pass area area' rest left (Err V.KeyAreaCut) = ConsumedMaterial order area area' rest left
-    × (length area' < key_material_end order.entries)
-TriesSlots segment order pass area area' rest left (Err (V.Header fault)) =
-    AbortsConsuming (key_material_end order.entries - length area) area area' rest left fault
-TriesSlots segment order pass area area' rest left _ = ⊥
+abbrev pub TriesSlots : SlotsTrial → Result UnlockedVolume VolumeFault → Type 0
+TriesSlots trial (Ok volume) = ConsumesMaterial trial
+    × (key_material_end trial.order.entries ≤ length trial.loaded') × (volume.segment ≡ trial.segment)
+    × (opening_of trial.order trial.loaded' trial.passphrase ≡ Ok (opened_of volume))
+TriesSlots trial (Err (V.Slots fault)) = ConsumesMaterial trial
+    × (key_material_end trial.order.entries ≤ length trial.loaded')
+    × (opening_of trial.order trial.loaded' trial.passphrase ≡ Err fault)
+TriesSlots trial (Err V.KeyAreaCut) = ConsumesMaterial trial
+    × (length trial.loaded' < key_material_end trial.order.entries)
+TriesSlots trial (Err (V.Header fault)) =
+    AbortsConsuming (key_material_end trial.order.entries - length trial.loaded) trial.loaded trial.loaded'
+    trial.further trial.further' fault
+TriesSlots trial _ = ⊥
 
 -- if the key material is loaded, the key slots were tried, and the count of work was raised once by the evaluations of
 -- HMAC that this costs; otherwise they were not tried, and the count is what it was

@@ -30,8 +30,11 @@ pub fn try_slots<I: Source>(
     requires { (slots : SlotChoice) × MatchesHeader slots volume.old }
     ensures run { IfKnown (I.to_come image.old) (λ rest.
         (volume.old.area.ended ≡ true → rest ≡ [])
-        → TriesSlots volume.old.segment volume.old.order
-        pass.now volume.old.area.bytes volume.new.area.bytes rest (I.to_come image.new) result) }
+        → TriesSlots (record {
+          segment = volume.old.segment; order = volume.old.order; passphrase = pass.now;
+          loaded = volume.old.area.bytes; loaded' = volume.new.area.bytes;
+          further = rest; further' = I.to_come image.new;
+        }) result) }
     ensures work { CountsTrials volume.old.order volume.new.area.bytes pass.now result
         work.old work.new }
     ensures kept { volume.new ≡ record volume.old { area = volume.new.area } }

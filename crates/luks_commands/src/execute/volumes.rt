@@ -62,9 +62,11 @@ fn unlock_found<I: Source, K: Source>(
     requires { (slots : SlotChoice) × MatchesHeader slots volume.old }
     ensures run { IfKnown (I.to_come image.old) (λ rest. IfKnown (K.to_come secret.old)
         (λ passphrase. (volume.old.area.ended ≡ true → rest ≡ [])
-        → UnlockEffect volume.old.segment volume.old.order
-        passphrase volume.old.area.bytes volume.new.area.bytes rest (I.to_come image.new)
-        (K.to_come secret.new) result)) }
+        → UnlockEffect (record {
+          segment = volume.old.segment; order = volume.old.order; passphrase = passphrase;
+          loaded = volume.old.area.bytes; loaded' = volume.new.area.bytes;
+          further = rest; further' = I.to_come image.new;
+        }) (K.to_come secret.new) result)) }
     ensures counts { CountsReads ReadsOnce (has_fault is_read_failure result)
         (record { before = I.counts image.old; after = I.counts image.new })
         (record { before = K.counts secret.old; after = K.counts secret.new }) }
