@@ -1,3 +1,6 @@
+pub mod ShiftLemmas
+pub mod GateLemmas
+pub mod PairLemmas
 pub mod MixLemmas
 pub mod WordLemmas
 pub mod RoundLemmas

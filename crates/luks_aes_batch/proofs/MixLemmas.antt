@@ -8,7 +8,7 @@ use Rattle.luks_aes.specs.Columns.{inv_mixed_row}
 use Rattle.luks_aes.proofs.Bytes.{same_below}
 use Rattle.luks_aes.proofs.ColumnLemmas.{times_x_byte, product_byte, xor_byte}
 use Rattle.luks_aes.proofs.MixingLemmas.{inv_mixed, times_x_xor}
-use Rattle.luks_bitslice.specs.BitPlanes.{IsBitPlane}
+use Rattle.luks_aes_batch.specs.BitPlanes.{IsBitPlane}
 use Rattle.luks_aes_batch.specs.Words.{AreRows}
 use Rattle.luks_aes_batch.specs.Mixing.{column_bytes_xor, even_of, step_of, AreBytes, AreShared, AreDoubled}
 

@@ -17,7 +17,7 @@ use Rattle.luks_aes.proofs.Bytes.{each_below_4}
 use Rattle.luks_aes.proofs.ColumnLemmas.{IsState, xor_byte, bytes_take, bytes_drop, columns_state, add_round_key_state}
 use Rattle.luks_aes.proofs.MixingLemmas.{inv_mixed, inv_mixed_row_xor, cell_of, same_cells}
 use Rattle.luks_aes.proofs.Undone.{whole_state, xor_twice, inv_shift_rows_state, inv_sub_bytes_state}
-use Rattle.luks_bitslice.specs.BitPlanes.{rotated_index, HoldBytes}
+use Rattle.luks_aes_batch.specs.BitPlanes.{rotated_index, HoldBytes}
 use Rattle.luks_aes_batch.specs.Words.{words_at, GroupHolds, GroupsHold}
 use Rattle.luks_aes_batch.specs.Blocks.{RepresentStates, RepresentRotated, state_byte, block_in, xored_blocks}
 use Rattle.luks_aes_batch.specs.Mixing.{mixed_and_shifted}

@@ -4,7 +4,7 @@ use Rattle.std.proofs.lemmas.Bool.{cases_lt}
 use Rattle.std.specs.Prelude.{slice_index}
 use Rattle.std.specs.Int.{bit_at}
 use Rattle.luks_aes.proofs.Bytes.{each_below_4, each_below_8}
-use Rattle.luks_bitslice.specs.BitPlanes.{IsBitPlane, HoldBytes}
+use Rattle.luks_aes_batch.specs.BitPlanes.{IsBitPlane, HoldBytes}
 use Rattle.luks_aes_batch.specs.Words.{words_at, AreRows, AreRowsOf, GroupHolds, SameGroup}
 use Rattle.luks_aes_batch.specs.Mixing.{AreBytes}
 use Rattle.luks_aes_batch.specs.declared.state.BitslicedState.{BitslicedState}

@@ -5,7 +5,7 @@
 use Rattle.std.specs.Prelude.{ℕ, ◌<◌}
 use Rattle.luks_aes.specs.Field.{◌⊕◌, times_x}
 use Rattle.luks_aes.specs.Columns.{inv_mixed_row}
-use Rattle.luks_bitslice.specs.BitPlanes.{IsBitPlane, rotated_index}
+use Rattle.luks_aes_batch.specs.BitPlanes.{IsBitPlane, rotated_index}
 
 -- ---- the values that the rows of a column share
 

@@ -1,7 +1,7 @@
 -- The words of a bitsliced state. A batch is groups of 16 blocks. Of the n words of a bit plane the first n / 4 are for
 -- row 0, one for each group, and so on. Bit q of a word belongs to block q % 16 of its group, and to column q / 16.
 use Rattle.std.specs.Prelude.{◌≡◌, ℕ, ◌+◌, ◌*◌, ◌/◌, ◌<◌, List, [], ◌∷◌, slice_index}
-use Rattle.luks_bitslice.specs.BitPlanes.{IsBitPlane, HoldBytes}
+use Rattle.luks_aes_batch.specs.BitPlanes.{IsBitPlane, HoldBytes}
 use Rattle.luks_aes_batch.specs.declared.state.BitslicedState.{BitslicedState}
 
 -- word i of each bit plane

@@ -1,20 +1,26 @@
 //! AES decryption of batches of 32 or 64 blocks, without tables.
 //!
-//! [`BatchKey`] decrypts 512 or 1024 bytes at once. The state is bitsliced: words of 64 bits hold
-//! the bits of all blocks, and the inverse S-box is a circuit of gates on them, so decryption reads
-//! no table. Making a key does: it is expanded by the tables of `luks_aes`, at addresses that
-//! depend on the key. Nothing here allocates memory, and no key is wiped.
+//! [`BatchKey`] decrypts 512 or 1024 bytes at once. The state is bitsliced: each word of 64 bits
+//! holds one bit of 64 bytes, and the inverse S-box is a circuit of gates on words. So decryption
+//! reads no table, and no address in it depends on a key or on data. Making a key reads tables: it
+//! is expanded by those of `luks_aes`, at addresses that depend on the key. Nothing here allocates
+//! memory, and no key is wiped.
 #![tactic(auto)]
 
+mod circuit;
+mod gates;
 mod key;
+mod lane;
 mod mixing;
 mod packing;
+mod pairs;
 mod planes;
 mod round_key;
 mod round_keys;
 mod rounds;
 mod state;
 mod steps;
+mod transpose;
 
 pub use key::BatchKey;
 pub use round_key::{KeyPlane, RoundKey};

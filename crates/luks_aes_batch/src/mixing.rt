@@ -3,12 +3,12 @@
 ghost use Rattle.std.specs.Prelude.{◌<◌, ℕ};
 ghost use Rattle.luks_aes.specs.Field.{◌⊕◌, times_x};
 ghost use Rattle.luks_aes.specs.Columns.{inv_mixed_row};
-ghost use Rattle.luks_bitslice.specs.BitPlanes.{IsBitPlane, rotated_index};
+ghost use Rattle.luks_aes_batch.specs.BitPlanes.{IsBitPlane, rotated_index};
 ghost use Rattle.luks_aes_batch.specs.Words.{AreRows};
 ghost use Rattle.luks_aes_batch.specs.Mixing.{column_bytes_xor, even_of, step_of};
 ghost use Rattle.luks_aes_batch.specs.Mixing.{AreBytes, AreShared, AreDoubled};
 
-use luks_bitslice::{Columns, Lane};
+use crate::lane::{Columns, Lane};
 
 /// The four rows of a bit plane, for one group of blocks or two.
 #[derive(Clone, Copy, Drop)]

@@ -7,9 +7,9 @@ ghost use Rattle.luks_aes.specs.Bytes.{IsBytes};
 ghost use Rattle.luks_aes_batch.specs.Blocks.{masked_block, masked_byte, RepresentStates};
 ghost use Rattle.luks_aes_batch.specs.Words.{words_at};
 
+use crate::pairs::{pair_of_rows, rows_of_pair};
 use crate::planes::BitPlane;
 use crate::state::BitslicedState;
-use luks_bitslice::{pair_of_rows, rows_of_pair};
 use std::simd::prelude::*;
 
 // Block `n` of the batch, XORed with that of the mask.

@@ -2,13 +2,13 @@
 
 ghost use Rattle.std.specs.Prelude.{◌≡◌, ◌+◌, ◌*◌, ◌/◌, ◌%◌, ◌<◌, ◌≤◌, ℕ, length, slice_index};
 ghost use Rattle.luks_aes.specs.Field.{◌⊕◌};
-ghost use Rattle.luks_bitslice.specs.BitPlanes.{rotated_index};
+ghost use Rattle.luks_aes_batch.specs.BitPlanes.{rotated_index};
 ghost use Rattle.luks_aes_batch.specs.Words.{AreRowsOf};
 ghost use Rattle.luks_aes_batch.specs.Mixing.{AreBytes, AreShared, AreDoubled, mixed_and_shifted};
 
+use crate::lane::Lane;
 use crate::mixing::{Rows, SharedValues};
 use crate::round_key::KeyPlane;
-use luks_bitslice::Lane;
 
 /// One bit of each byte of a batch, in words of 64 bits. `specs/Words.antt` says which byte a bit
 /// belongs to.

@@ -2,8 +2,8 @@
 
 ghost use Rattle.std.specs.Prelude.{◌≡◌, ◌+◌, ◌*◌, ◌/◌, ◌<◌, ◌≤◌, ℕ, length, slice_index};
 
+use crate::lane::Lane;
 use crate::mixing::Rows;
-use luks_bitslice::Lane;
 
 /// One bit plane of a round key, for four groups of blocks: one bit of each byte.
 #[repr(C)]
@@ -30,13 +30,13 @@ impl KeyPlane {
     /// The prover knows the length of an array in one struct, but not of all in a struct of
     /// structs.
     #[inline(always)]
-    pub fn is_whole(&self)
+    pub(crate) fn is_whole(&self)
         ensures { length self.now.words ≡ 16 }
     {}
 
     /// The rows, from group `g` on.
     #[inline(always)]
-    pub fn rows<L: Lane>(&self, g: usize) -> Rows<L>
+    pub(crate) fn rows<L: Lane>(&self, g: usize) -> Rows<L>
         requires { g + L.count ≤ 4 }
         ensures row_0 { (l : ℕ) → l < L.count
             → L.word result.row_0 l ≡ slice_index self.now.words (16 / 4 * 0 + (g + l)) }

@@ -5,7 +5,7 @@ ghost use Rattle.std.specs.Int.{bit_at};
 ghost use Rattle.luks_aes.specs.Field.{◌⊕◌};
 ghost use Rattle.luks_aes.specs.Aes.{cell, state_of, rounds_of, key_expansion};
 ghost use Rattle.luks_aes.specs.Bytes.{IsBytes};
-ghost use Rattle.luks_bitslice.specs.BitPlanes.{IsBitPlane};
+ghost use Rattle.luks_aes_batch.specs.BitPlanes.{IsBitPlane};
 ghost use Rattle.luks_aes_batch.specs.Words.{AreRowsOf, GroupsHold};
 ghost use Rattle.luks_aes_batch.specs.RoundKeys.{HasRoundKey, HasInvMixedKey};
 ghost use Rattle.luks_aes_batch.specs.RoundKeys.{HasInvMixedKeys, state_of_key};

@@ -4,11 +4,12 @@ ghost use Rattle.std.specs.Prelude.{◌≡◌, ◌+◌, ◌*◌, ◌<◌, ℕ, l
 ghost use Rattle.std.specs.Int.{bit_at};
 ghost use Rattle.luks_aes.specs.Field.{◌⊕◌};
 ghost use Rattle.luks_aes.specs.Aes.{inv_sbox};
-ghost use Rattle.luks_bitslice.specs.BitPlanes.{HoldBytes};
+ghost use Rattle.luks_aes_batch.specs.BitPlanes.{HoldBytes};
 ghost use Rattle.luks_aes_batch.specs.Words.{words_at};
 
+use crate::circuit::inv_sbox_circuit;
 use crate::planes::BitPlane;
-use luks_bitslice::{inv_sbox_circuit, transposed};
+use crate::transpose::transposed;
 
 /// The states of 4 * `WORDS` blocks, as eight bit planes. `specs/Words.antt` says which byte a bit
 /// belongs to.

@@ -2,15 +2,15 @@
 
 ghost use Rattle.std.specs.Prelude.{◌≡◌, ◌+◌, ◌/◌, ◌%◌, ◌<◌, ◌≤◌, ℕ};
 ghost use Rattle.luks_aes.specs.Field.{◌⊕◌};
-ghost use Rattle.luks_bitslice.specs.BitPlanes.{rotated_index};
+ghost use Rattle.luks_aes_batch.specs.BitPlanes.{rotated_index};
 ghost use Rattle.luks_aes_batch.specs.Words.{GroupHolds, GroupsHold, SameGroup};
 ghost use Rattle.luks_aes_batch.specs.RoundKeys.{state_of_key};
 ghost use Rattle.luks_aes_batch.specs.Mixing.{AreShared, mixed_and_shifted};
 
+use crate::lane::Lane;
 use crate::mixing::SharedValues;
 use crate::round_key::RoundKey;
 use crate::state::BitslicedState;
-use luks_bitslice::Lane;
 use std::simd::prelude::*;
 
 impl<const WORDS: usize> BitslicedState<WORDS> {

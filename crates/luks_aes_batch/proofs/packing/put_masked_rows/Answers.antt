@@ -1,7 +1,7 @@
 use Rattle.std.proofs.Common.{◌≡◌, ◌+◌, ◌*◌, ◌/◌, ◌%◌, arith, ap, ◌∙◌, sym, []}
 use Rattle.std.specs.Prelude.{slice_index, slice_index_or, bit_xor}
 use Rattle.std.specs.Int.{bit_at}
-use Rattle.luks_bitslice.proofs.LaneLemmas.{below_2}
+use Rattle.luks_aes_batch.proofs.PairLemmas.{below_2}
 use Rattle.luks_aes_batch.specs.Blocks.{masked_byte}
 use Rattle.luks_aes_batch.proofs.PackLemmas.{bit_xored_twice}
 use Rattle.luks_aes_batch.proofs.packing.put_masked_rows.Goals as goal

@@ -1,5 +1,5 @@
 use Rattle.std.proofs.Common.{◌≡◌, ◌+◌, ◌<◌, ℕ, arith, sym, subst}
-use Rattle.luks_bitslice.specs.BitPlanes.{rotated_index}
+use Rattle.luks_aes_batch.specs.BitPlanes.{rotated_index}
 use Rattle.luks_aes_batch.specs.Words.{AreRowsOf}
 use Rattle.luks_aes_batch.proofs.MixLemmas.{as_rows}
 use Rattle.luks_aes_batch.proofs.planes.BitPlane.inv_shift_rows.Goals as goal

@@ -1,5 +1,5 @@
 use Rattle.std.proofs.Common.{◌+◌, arith}
-use Rattle.luks_bitslice.specs.BitPlanes.{rotated_index}
+use Rattle.luks_aes_batch.specs.BitPlanes.{rotated_index}
 use Rattle.luks_aes_batch.specs.Mixing.{mixed_and_shifted}
 use Rattle.luks_aes_batch.proofs.MixLemmas.{row_byte, moved_bits, doubled_from}
 use Rattle.luks_aes_batch.proofs.WordLemmas.{group_bytes, in_planes, from_planes}

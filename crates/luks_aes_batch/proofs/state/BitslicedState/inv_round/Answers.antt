@@ -1,6 +1,6 @@
 use Rattle.luks_aes.specs.Field.{◌⊕◌}
 use Rattle.luks_aes.specs.Aes.{inv_sbox, inv_sub_bytes, inv_shift_rows}
-use Rattle.luks_bitslice.specs.BitPlanes.{rotated_index}
+use Rattle.luks_aes_batch.specs.BitPlanes.{rotated_index}
 use Rattle.luks_aes_batch.specs.Blocks.{state_byte}
 use Rattle.luks_aes_batch.proofs.RoundLemmas.{groups_by_words, states_substituted, states_inv_mixed, substituted_all}
 use Rattle.luks_aes_batch.proofs.state.BitslicedState.inv_round.Goals as goal

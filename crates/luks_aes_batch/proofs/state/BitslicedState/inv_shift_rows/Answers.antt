@@ -1,5 +1,5 @@
 use Rattle.std.proofs.Common.{◌∙◌, ℕ, arith, refl}
-use Rattle.luks_bitslice.specs.BitPlanes.{rotated_index}
+use Rattle.luks_aes_batch.specs.BitPlanes.{rotated_index}
 use Rattle.luks_aes_batch.specs.Words.{GroupHolds}
 use Rattle.luks_aes_batch.proofs.WordLemmas.{group_same, one_more_group}
 use Rattle.luks_aes_batch.proofs.state.BitslicedState.inv_shift_rows.Goals as goal

@@ -1,5 +1,5 @@
 use Rattle.std.proofs.Common.{◌/◌, ◌<◌, ◌≤◌, ℕ}
-use Rattle.luks_bitslice.specs.BitPlanes.{rotated_index}
+use Rattle.luks_aes_batch.specs.BitPlanes.{rotated_index}
 use Rattle.luks_aes_batch.specs.Words.{GroupHolds, SameGroup}
 use Rattle.luks_aes_batch.proofs.state.BitslicedState.inv_shift_rows.Given as goal
 

@@ -1,4 +1,4 @@
-use Rattle.luks_bitslice.specs.BitPlanes.{rotated_index}
+use Rattle.luks_aes_batch.specs.BitPlanes.{rotated_index}
 use Rattle.luks_aes_batch.proofs.WordLemmas.{group_bytes, in_planes, from_planes}
 use Rattle.luks_aes_batch.proofs.state.BitslicedState.inv_shift_rows_of.Goals as goal
 

@@ -1,7 +1,7 @@
 use Rattle.std.proofs.Common.{◌≡◌, ◌<◌, ◌≤◌, ℕ}
 use Rattle.luks_aes.specs.Field.{◌⊕◌}
 use Rattle.luks_aes.specs.Aes.{inv_sbox}
-use Rattle.luks_bitslice.specs.BitPlanes.{HoldBytes}
+use Rattle.luks_aes_batch.specs.BitPlanes.{HoldBytes}
 use Rattle.luks_aes_batch.specs.Words.{words_at}
 use Rattle.luks_aes_batch.proofs.state.BitslicedState.inv_sub_bytes.Given as goal
 

@@ -1,3 +1,0 @@
-pub mod GateLemmas
-pub mod LaneLemmas
-pub mod WordLemmas

@@ -1,4 +1,0 @@
-pub mod BitPlanes
-pub mod Columns
-pub mod Runs
-pub mod Shuffles
