@@ -1,10 +1,11 @@
 -- From blocks to bit planes and back: bytes XORed with those of a mask, and the rows of a group.
 use Rattle.std.proofs.Common.{◌≡◌, ℕ, ◌+◌, ◌*◌, ◌/◌, ◌%◌, ◌<◌, ◌≤◌, List, length, take, drop, set}
-use Rattle.std.proofs.Common.{arith, rules, sym, ap, ◌∙◌}
-use Rattle.std.specs.Prelude.{slice_index, ◌≢◌}
+use Rattle.std.proofs.Common.{arith, rules, sym, ap, ◌∙◌, inl, inr}
+use Rattle.std.specs.Prelude.{slice_index}
 use Rattle.std.specs.Int.{bit_at}
 use Rattle.std.specs.Int.Bits.{bit_xor, xor_zero_r}
 use Rattle.std.specs.Simd.Lanes.{zip2, chunk, put_chunk}
+use Rattle.std.proofs.lemmas.Bool.{cases_lt}
 use Rattle.std.proofs.lemmas.Simd.{get_or-zip2, get_or-chunk, length-chunk, length-zip2, put_chunk_whole}
 use Rattle.std.proofs.lemmas.Nat.Bits.{same_from_bits_below}
 use Rattle.std.proofs.lemmas.List.{places, get_or-set_other}
@@ -117,25 +118,46 @@ pub word_inside : (n r h : ℕ) → n % 4 ≡ 0 → r < 4 → h < n / 4 → n / 
 word_inside n r h whole low inside =
     each_below_4 (λ r. n / 4 * r + h < n) (omega arith) (omega arith) (omega arith) (omega arith) r low
 
--- a word of another group after the four words of group g are written
-pub other_group : (w : List ℕ) (n g a b c d r h : ℕ) → g < n → h < n → (h ≡ g → ⊥) → r < 4
-    → slice_index (set (set (set (set w g a) (n + g) b) (2 * n + g) c) (3 * n + g) d) (n * r + h)
-    ≡ slice_index w (n * r + h)
-other_group w n g a b c d r h inside here other low =
-    let one = set w g a in
-    let two = set one (n + g) b in
-    let three = set two (2 * n + g) c in
-    let apart : (k : ℕ) → k ≢ g → k ≢ n + g → k ≢ 2 * n + g → k ≢ 3 * n + g
-    → slice_index (set three (3 * n + g) d) k ≡ slice_index w k =
-    λ k p q r s. get_or-set_other three (3 * n + g) k d 0 s ∙ get_or-set_other two (2 * n + g) k c 0 r
-    ∙ get_or-set_other one (n + g) k b 0 q ∙ get_or-set_other w g k a 0 p in
-    each_below_4 (λ r. slice_index (set three (3 * n + g) d) (n * r + h) ≡ slice_index w (n * r + h))
-    (apart (n * 0 + h) (λ e. other (omega (arith, e))) (λ e. omega (arith, e)) (λ e. omega (arith, e))
-    (λ e. omega (arith, e)))
-    (apart (n * 1 + h) (λ e. omega (arith, e)) (λ e. other (omega (arith, e))) (λ e. omega (arith, e))
-    (λ e. omega (arith, e)))
-    (apart (n * 2 + h) (λ e. omega (arith, e)) (λ e. omega (arith, e)) (λ e. other (omega (arith, e)))
-    (λ e. omega (arith, e)))
-    (apart (n * 3 + h) (λ e. omega (arith, e)) (λ e. omega (arith, e)) (λ e. omega (arith, e))
-    (λ e. other (omega (arith, e))))
+-- k is before position `at`, or not before `end`
+abbrev Outside : ℕ → ℕ → ℕ → Type 0
+Outside at end k = at ≤ k → k < end → ⊥
+
+-- w is v but for the words from position `at` up to `end`
+pub record KeptOutside (at end : ℕ) (v w : List ℕ) : Type 0 where
+  pub kept : (k : ℕ) → Outside at end k → slice_index w k ≡ slice_index v k
+
+pub kept_outside : (v w : List ℕ) {at end : ℕ} → ((k : ℕ) → k < at → slice_index w k ≡ slice_index v k)
+    → ((k : ℕ) → end ≤ k → slice_index w k ≡ slice_index v k) → KeptOutside at end v w
+kept_outside v w {at} {end} before after = record {
+  kept = λ k out.
+      elim (cases_lt k at) [
+        | inl low ↦ before k low
+        | inr from ↦ elim (cases_lt k end) [ inl inside ↦ absurd (out from inside) | inr above ↦ after k above ]
+      ];
+}
+
+pub kept_by_set : (v : List ℕ) (at x : ℕ) → KeptOutside at (at + 1) v (set v at x)
+kept_by_set v at x = record {
+  kept = λ k out. get_or-set_other v at k x 0 (λ e. out (omega (arith, e)) (omega (arith, e)));
+}
+
+-- a word of another group after the rows of `count` groups are written, from group g on
+pub other_group : (n g count i r : ℕ) {u v w x y : List ℕ} → g + count ≤ n → i < n → Outside g (g + count) i → r < 4
+    → KeptOutside g (g + count) u v → KeptOutside (n + g) (n + g + count) v w
+    → KeptOutside (n * 2 + g) (n * 2 + g + count) w x → KeptOutside (n * 3 + g) (n * 3 + g + count) x y
+    → slice_index y (n * r + i) ≡ slice_index u (n * r + i)
+other_group n g count i r {u} {v} {w} {x} {y} fits inside other low one two three four =
+    let kept : (k : ℕ) → Outside g (g + count) k → Outside (n + g) (n + g + count) k
+    → Outside (n * 2 + g) (n * 2 + g + count) k → Outside (n * 3 + g) (n * 3 + g + count) k
+    → slice_index y k ≡ slice_index u k =
+    λ k a b c d. four.kept k d ∙ three.kept k c ∙ two.kept k b ∙ one.kept k a in
+    each_below_4 (λ r. slice_index y (n * r + i) ≡ slice_index u (n * r + i))
+    (kept (n * 0 + i) (λ e f. other (omega (arith, e)) (omega (arith, f))) (λ e f. omega (arith, e))
+    (λ e f. omega (arith, e)) (λ e f. omega (arith, e)))
+    (kept (n * 1 + i) (λ e f. omega (arith, f)) (λ e f. other (omega (arith, e)) (omega (arith, f)))
+    (λ e f. omega (arith, e)) (λ e f. omega (arith, e)))
+    (kept (n * 2 + i) (λ e f. omega (arith, f)) (λ e f. omega (arith, f))
+    (λ e f. other (omega (arith, e)) (omega (arith, f))) (λ e f. omega (arith, e)))
+    (kept (n * 3 + i) (λ e f. omega (arith, f)) (λ e f. omega (arith, f)) (λ e f. omega (arith, f))
+    (λ e f. other (omega (arith, e)) (omega (arith, f))))
     r low

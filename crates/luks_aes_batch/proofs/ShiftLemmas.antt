@@ -6,7 +6,7 @@ use Rattle.std.specs.Int.{bit_at}
 use Rattle.std.specs.Int.Bits.{bit_xor, bit_and}
 use Rattle.std.specs.Simd.Lanes.{zip2, Each1}
 use Rattle.std.proofs.lemmas.Simd.{get_or-zip2, length-zip2, Each1-get_or, get_or-replicate}
-use Rattle.std.proofs.lemmas.Nat.{pow-add}
+use Rattle.std.proofs.lemmas.Nat.{pow-add, pow_pos}
 use Rattle.std.proofs.lemmas.Nat.Bits.{bit_at_xor, bit_at_and, bit_at-lt, bit_at_above, bit_at_cat_low, bit_at_cat_high}
 use Rattle.std.proofs.lemmas.Nat.Bits.{bit_at-zero}
 use Rattle.std.proofs.lemmas.Bool.{agree_below_at, cases_lt, cases_Bool, eqb-true, false≢true}
@@ -34,17 +34,17 @@ bit_shl_low w n q low under =
     let sum : w * 2 ^ n + 0 ≡ w * 2 ^ n = omega arith in
     bit_low (w * 2 ^ n) q low ∙ sym (ap (λ m. bit_at m q) sum) ∙ bit_at_cat_low w n 0 q under ∙ bit_at-zero q
 
-bit_shl_high : (w n q : ℕ) → q < 64 → n ≤ q → 0 < 2 ^ n → bit_at (w * 2 ^ n % 2 ^ 64) q ≡ bit_at w (q - n)
-bit_shl_high w n q low above some =
+bit_shl_high : (w n q : ℕ) → q < 64 → n ≤ q → bit_at (w * 2 ^ n % 2 ^ 64) q ≡ bit_at w (q - n)
+bit_shl_high w n q low above =
     let sum : w * 2 ^ n + 0 ≡ w * 2 ^ n = omega arith in
-    bit_low (w * 2 ^ n) q low ∙ sym (ap (λ m. bit_at m q) sum) ∙ bit_at_cat_high w n 0 q some above
+    bit_low (w * 2 ^ n) q low ∙ sym (ap (λ m. bit_at m q) sum) ∙ bit_at_cat_high w n 0 q (pow_pos n) above
 
 -- ---- rotations
 
 -- a word rotated by n bits to the left
-pub bit_rotated : (w n m q : ℕ) → w < 2 ^ 64 → n + m ≡ 64 → 0 < 2 ^ n → q < 64
+pub bit_rotated : (w n m q : ℕ) → w < 2 ^ 64 → n + m ≡ 64 → q < 64
     → bit_at (bit_xor (w * 2 ^ n % 2 ^ 64) (w / 2 ^ m)) q ≡ bit_at w ((q + 64 - n) % 64)
-bit_rotated w n m q fits whole some low =
+bit_rotated w n m q fits whole low =
     let l = w * 2 ^ n % 2 ^ 64 in
     bit_at_xor l (w / 2 ^ m) q
     ∙ elim (cases_lt q n) [
@@ -59,7 +59,7 @@ bit_rotated w n m q fits whole some low =
       | inr above ↦
           let index : q - n ≡ (q + 64 - n) % 64 = omega arith in
           let bit = bit_at-lt w (q - n) in
-          let left = bit_shl_high w n q low above some in
+          let left = bit_shl_high w n q low above in
           let zero = bit_shr w m q ∙ bit_at_above w 64 (m + q) fits (omega arith) in
           let all : (bit_at l q + bit_at (w / 2 ^ m) q) % 2 ≡ bit_at w (q - n) =
           ap (λ b. (b + bit_at (w / 2 ^ m) q) % 2) left ∙ ap (λ b. (bit_at w (q - n) + b) % 2) zero ∙ omega arith in
@@ -87,12 +87,11 @@ rotated_word v n m l long low =
     ((get_or-zip2 (λ x k. x / 2 ^ k) v (m ∷ m ∷ []) l 0 0 0 (omega arith) low
     ∙ ap (λ k. slice_index v l / 2 ^ k) (index m)) i))
 
-pub bit_rotated_words : (v : List ℕ) (n m l q : ℕ) → length v ≡ 2 → Each1 (Fits w64) v → n + m ≡ 64 → 0 < 2 ^ n
-    → l < 2 → q < 64
+pub bit_rotated_words : (v : List ℕ) (n m l q : ℕ) → length v ≡ 2 → Each1 (Fits w64) v → n + m ≡ 64 → l < 2 → q < 64
     → bit_at (slice_index (rotated_words v n m) l) q ≡ bit_at (slice_index v l) ((q + 64 - n) % 64)
-bit_rotated_words v n m l q long fits whole some low small =
+bit_rotated_words v n m l q long fits whole low small =
     ap (λ w. bit_at w q) (rotated_word v n m l long low)
-    ∙ bit_rotated (slice_index v l) n m q (Each1-get_or (Fits w64) v l 0 (omega arith) fits).fits whole some small
+    ∙ bit_rotated (slice_index v l) n m q (Each1-get_or (Fits w64) v l 0 (omega arith) fits).fits whole small
 
 -- ---- runs
 
@@ -137,11 +136,6 @@ next_run Bit q low = agree_below_at (in_low Bit) (λ q. not (in_low Bit (1 + q))
 next_run Pair q low = agree_below_at (in_low Pair) (λ q. not (in_low Pair (2 + q))) 64 q refl low
 next_run Nibble q low = agree_below_at (in_low Nibble) (λ q. not (in_low Nibble (4 + q))) 64 q refl low
 
-run_some : (r : Run) → 0 < 2 ^ run_bits r
-run_some Bit = omega arith
-run_some Pair = omega arith
-run_some Nibble = omega arith
-
 -- the XOR with a difference makes one bit the other
 changed_upper : (t : Bool) (u w : ℕ) → u < 2 → w < 2 → (u + cond (not t) ((u + w) % 2) 0) % 2 ≡ cond t u w
 changed_upper true u w x y = omega arith
@@ -171,7 +165,7 @@ exchanged_low r a b q low =
           let other : in_low r (q - n) ≡ not t =
           next_run r (q - n) (omega arith) ∙ ap (λ k. not (in_low r k)) index in
           ap (λ u. (bit_at a q + u) % 2)
-          (bit_shl_high (moved r a b) n q low above (run_some r)
+          (bit_shl_high (moved r a b) n q low above
           ∙ moved_bit r a b (q - n) (omega arith)
           ∙ ap (λ k. cond (in_low r (q - n)) ((bit_at a k + bit_at b (q - n)) % 2) 0) index
           ∙ ap (λ k. cond k ((bit_at a q + bit_at b (q - n)) % 2) 0) other)

@@ -35,3 +35,7 @@ abbrev pub AreRowsOf : (ℕ → ℕ → ℕ) → ℕ → ℕ → List ℕ → �
 AreRowsOf y j n words g =
     AreRows y j (slice_index words (n / 4 * 0 + g)) (slice_index words (n / 4 * 1 + g))
     (slice_index words (n / 4 * 2 + g)) (slice_index words (n / 4 * 3 + g))
+
+-- the words of group i are the same in two bit planes of n words
+abbrev pub SameRowsOf : ℕ → ℕ → List ℕ → List ℕ → Type 0
+SameRowsOf n i v w = (r : ℕ) → r < 4 → slice_index v (n / 4 * r + i) ≡ slice_index w (n / 4 * r + i)

@@ -1,6 +1,6 @@
 //! The words that one gate works on at once: one word, or a vector of two.
 
-ghost use Rattle.std.specs.Prelude.{◌≡◌, ◌<◌, ◌+◌, ◌≤◌, ℕ, length, slice_index, bit_xor};
+ghost use Rattle.std.specs.Prelude.{◌≡◌, ◌<◌, ◌+◌, ◌*◌, ◌≤◌, ℕ, length, slice_index, bit_xor};
 ghost use Rattle.std.specs.Int.{bit_at};
 ghost use Rattle.luks_aes_batch.specs.BitPlanes.{rotated_index};
 ghost use Rattle.luks_aes_batch.specs.Columns.{column_count};
@@ -13,6 +13,22 @@ pub(crate) enum Columns {
     One,
     Two,
     Three,
+}
+
+impl Columns {
+    /// How many bits these columns have in a word.
+    #[inline(always)]
+    fn bits(self) -> u32
+        ensures value { result ≡ 16 * column_count self }
+        ensures least { 16 ≤ result }
+        ensures most { result ≤ 48 }
+    {
+        match self {
+            Columns::One => 16,
+            Columns::Two => 32,
+            Columns::Three => 48,
+        }
+    }
 }
 
 /// Neighbouring words of a bit plane, at most two of them.
@@ -67,11 +83,8 @@ impl Lane for u64 {
 
     #[inline(always)]
     fn rotated(self, by: Columns) -> Self {
-        match by {
-            Columns::One => (self << 16) ^ (self >> 48),
-            Columns::Two => (self << 32) ^ (self >> 32),
-            Columns::Three => (self << 48) ^ (self >> 16),
-        }
+        let bits = by.bits();
+        (self << bits) ^ (self >> (64 - bits))
     }
 }
 
@@ -97,10 +110,7 @@ impl Lane for u64x2 {
 
     #[inline(always)]
     fn rotated(self, by: Columns) -> Self {
-        match by {
-            Columns::One => (self << 16) ^ (self >> 48),
-            Columns::Two => (self << 32) ^ (self >> 32),
-            Columns::Three => (self << 48) ^ (self >> 16),
-        }
+        let bits = u64::from(by.bits());
+        (self << u64x2::splat(bits)) ^ (self >> u64x2::splat(64 - bits))
     }
 }

@@ -86,8 +86,8 @@ impl<const WORDS: usize> BitPlane<WORDS> {
         [
             self.words[g],
             self.words[groups + g],
-            self.words[2 * groups + g],
-            self.words[3 * groups + g],
+            self.words[groups * 2 + g],
+            self.words[groups * 3 + g],
         ]
     }
 
@@ -106,8 +106,8 @@ impl<const WORDS: usize> BitPlane<WORDS> {
         let groups = WORDS / 4;
         self.words[g] = rows[0];
         self.words[groups + g] = rows[1];
-        self.words[2 * groups + g] = rows[2];
-        self.words[3 * groups + g] = rows[3];
+        self.words[groups * 2 + g] = rows[2];
+        self.words[groups * 3 + g] = rows[3];
     }
 }
 

@@ -3,7 +3,7 @@
 ghost use Rattle.std.specs.Prelude.{◌≡◌, ◌+◌, ◌*◌, ◌/◌, ◌%◌, ◌<◌, ◌≤◌, ℕ, length, slice_index};
 ghost use Rattle.luks_aes.specs.Field.{◌⊕◌};
 ghost use Rattle.luks_aes_batch.specs.BitPlanes.{rotated_index};
-ghost use Rattle.luks_aes_batch.specs.Words.{AreRowsOf};
+ghost use Rattle.luks_aes_batch.specs.Words.{AreRowsOf, SameRowsOf};
 ghost use Rattle.luks_aes_batch.specs.Mixing.{AreBytes, AreShared, AreDoubled, mixed_and_shifted};
 
 use crate::lane::Lane;
@@ -66,12 +66,9 @@ impl<const WORDS: usize> BitPlane<WORDS> {
             → slice_index self.new.words (WORDS / 4 * 2 + (g + l)) ≡ L.word rows.row_2 l }
         ensures row_3 { (l : ℕ) → l < L.count
             → slice_index self.new.words (WORDS / 4 * 3 + (g + l)) ≡ L.word rows.row_3 l }
-        ensures below { (r i : ℕ) → r < 4 → i < g
-            → slice_index self.new.words (WORDS / 4 * r + i)
-            ≡ slice_index self.old.words (WORDS / 4 * r + i) }
-        ensures above { (r i : ℕ) → r < 4 → g + L.count ≤ i → i < WORDS / 4
-            → slice_index self.new.words (WORDS / 4 * r + i)
-            ≡ slice_index self.old.words (WORDS / 4 * r + i) }
+        ensures below { (i : ℕ) → i < g → SameRowsOf WORDS i self.new.words self.old.words }
+        ensures above { (i : ℕ) → g + L.count ≤ i → i < WORDS / 4
+            → SameRowsOf WORDS i self.new.words self.old.words }
     {
         self.is_whole();
         let groups = WORDS / 4;
@@ -90,12 +87,9 @@ impl<const WORDS: usize> BitPlane<WORDS> {
         ensures plane { (y z : ℕ → ℕ → ℕ) (j : ℕ) → AreRowsOf y j WORDS self.old.words g
             → AreRowsOf z j 16 key.now.words g
             → AreRowsOf (λ r q. y r q ⊕ z r q) j WORDS self.new.words g }
-        ensures below { (r i : ℕ) → r < 4 → i < g
-            → slice_index self.new.words (WORDS / 4 * r + i)
-            ≡ slice_index self.old.words (WORDS / 4 * r + i) }
-        ensures above { (r i : ℕ) → r < 4 → g + 1 ≤ i → i < WORDS / 4
-            → slice_index self.new.words (WORDS / 4 * r + i)
-            ≡ slice_index self.old.words (WORDS / 4 * r + i) }
+        ensures below { (i : ℕ) → i < g → SameRowsOf WORDS i self.new.words self.old.words }
+        ensures above { (i : ℕ) → g + 1 ≤ i → i < WORDS / 4
+            → SameRowsOf WORDS i self.new.words self.old.words }
     {
         let rows: Rows<u64> = self.rows(g);
         self.put_rows(g, rows.keyed(key.rows(g)));
@@ -108,12 +102,9 @@ impl<const WORDS: usize> BitPlane<WORDS> {
         requires inside { g < WORDS / 4 }
         ensures plane { (y : ℕ → ℕ → ℕ) (j : ℕ) → AreRowsOf y j WORDS self.old.words g
             → AreRowsOf (λ r q. y r (rotated_index r q)) j WORDS self.new.words g }
-        ensures below { (r i : ℕ) → r < 4 → i < g
-            → slice_index self.new.words (WORDS / 4 * r + i)
-            ≡ slice_index self.old.words (WORDS / 4 * r + i) }
-        ensures above { (r i : ℕ) → r < 4 → g + 1 ≤ i → i < WORDS / 4
-            → slice_index self.new.words (WORDS / 4 * r + i)
-            ≡ slice_index self.old.words (WORDS / 4 * r + i) }
+        ensures below { (i : ℕ) → i < g → SameRowsOf WORDS i self.new.words self.old.words }
+        ensures above { (i : ℕ) → g + 1 ≤ i → i < WORDS / 4
+            → SameRowsOf WORDS i self.new.words self.old.words }
     {
         let rows: Rows<u64> = self.rows(g);
         self.put_rows(g, rows.inv_shifted());
@@ -139,12 +130,9 @@ impl<const WORDS: usize> BitPlane<WORDS> {
             → AreRowsOf y j WORDS self.old.words (g + l)
             → AreDoubled y j (L.word doubled.all l) (L.word doubled.even l) (L.word doubled.step l)
             → AreShared y j (L.word result.all l) (L.word result.even l) (L.word result.step l) }
-        ensures below { (r i : ℕ) → r < 4 → i < g
-            → slice_index self.new.words (WORDS / 4 * r + i)
-            ≡ slice_index self.old.words (WORDS / 4 * r + i) }
-        ensures above { (r i : ℕ) → r < 4 → g + L.count ≤ i → i < WORDS / 4
-            → slice_index self.new.words (WORDS / 4 * r + i)
-            ≡ slice_index self.old.words (WORDS / 4 * r + i) }
+        ensures below { (i : ℕ) → i < g → SameRowsOf WORDS i self.new.words self.old.words }
+        ensures above { (i : ℕ) → g + L.count ≤ i → i < WORDS / 4
+            → SameRowsOf WORDS i self.new.words self.old.words }
     {
         let rows: Rows<L> = self.rows(g);
         let mixed = rows.inv_mixed(doubled);

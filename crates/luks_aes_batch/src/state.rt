@@ -41,11 +41,17 @@ impl<const WORDS: usize> BitslicedState<WORDS> {
         }
     }
 
-    // Word `i` of each bit plane.
+    // The lengths of all bit planes, for the prover.
     #[inline(always)]
-    fn words_at(&self, i: usize) -> [u64; 8]
-        requires { i < WORDS }
-        ensures { result ≡ words_at i self.now }
+    fn is_whole(&self)
+        ensures plane_0 { length self.now.plane_0.words ≡ WORDS }
+        ensures plane_1 { length self.now.plane_1.words ≡ WORDS }
+        ensures plane_2 { length self.now.plane_2.words ≡ WORDS }
+        ensures plane_3 { length self.now.plane_3.words ≡ WORDS }
+        ensures plane_4 { length self.now.plane_4.words ≡ WORDS }
+        ensures plane_5 { length self.now.plane_5.words ≡ WORDS }
+        ensures plane_6 { length self.now.plane_6.words ≡ WORDS }
+        ensures plane_7 { length self.now.plane_7.words ≡ WORDS }
     {
         self.plane_0.is_whole();
         self.plane_1.is_whole();
@@ -55,6 +61,15 @@ impl<const WORDS: usize> BitslicedState<WORDS> {
         self.plane_5.is_whole();
         self.plane_6.is_whole();
         self.plane_7.is_whole();
+    }
+
+    // Word `i` of each bit plane.
+    #[inline(always)]
+    fn words_at(&self, i: usize) -> [u64; 8]
+        requires { i < WORDS }
+        ensures { result ≡ words_at i self.now }
+    {
+        self.is_whole();
         [
             self.plane_0.words[i],
             self.plane_1.words[i],
@@ -74,14 +89,7 @@ impl<const WORDS: usize> BitslicedState<WORDS> {
         ensures here { words_at i self.new ≡ words }
         ensures others { (k : ℕ) → (k ≡ i → ⊥) → words_at k self.new ≡ words_at k self.old }
     {
-        self.plane_0.is_whole();
-        self.plane_1.is_whole();
-        self.plane_2.is_whole();
-        self.plane_3.is_whole();
-        self.plane_4.is_whole();
-        self.plane_5.is_whole();
-        self.plane_6.is_whole();
-        self.plane_7.is_whole();
+        self.is_whole();
         self.plane_0.words[i] = words[0];
         self.plane_1.words[i] = words[1];
         self.plane_2.words[i] = words[2];

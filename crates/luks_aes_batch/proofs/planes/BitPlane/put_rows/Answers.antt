@@ -1,41 +1,19 @@
-use Rattle.std.proofs.Common.{◌≡◌, ◌∙◌, ◌+◌, ◌*◌, ◌/◌, arith, slice_index}
-use Rattle.luks_aes.proofs.Bytes.{each_below_4}
+use Rattle.std.proofs.Common.{◌/◌, arith}
+use Rattle.luks_aes_batch.proofs.PackLemmas.{other_group, kept_outside}
 use Rattle.luks_aes_batch.proofs.planes.BitPlane.put_rows.Goals as goal
 
 pub returns-clause-below : goal.returns-clause-below
-returns-clause-below g c = λ r i low below.
-    let n = g.row.WORDS / 4 in
-    let first = c.store.ensures in
-    let second = c.store-2.ensures in
-    let third = c.store-3.ensures in
-    let fourth = c.store-4.ensures in
-    each_below_4
-    (λ r. slice_index c.store-4.new.words (n * r + i) ≡ slice_index c.args.self.now.words (n * r + i))
-    (fourth.before _ (omega arith) ∙ third.before _ (omega arith) ∙ second.before _ (omega arith)
-    ∙ first.before _ (omega arith))
-    (fourth.before _ (omega arith) ∙ third.before _ (omega arith) ∙ second.before _ (omega arith)
-    ∙ first.after _ (omega arith))
-    (fourth.before _ (omega arith) ∙ third.before _ (omega arith) ∙ second.after _ (omega arith)
-    ∙ first.after _ (omega arith))
-    (fourth.before _ (omega arith) ∙ third.after _ (omega arith) ∙ second.after _ (omega arith)
-    ∙ first.after _ (omega arith))
-    r low
+returns-clause-below g c = λ i below r low.
+    other_group (g.row.WORDS / 4) c.args.g _ i r c.requires.inside (omega arith) (λ e f. omega (arith, e)) low
+    (kept_outside _ _ c.store.ensures.before c.store.ensures.after)
+    (kept_outside _ _ c.store-2.ensures.before c.store-2.ensures.after)
+    (kept_outside _ _ c.store-3.ensures.before c.store-3.ensures.after)
+    (kept_outside _ _ c.store-4.ensures.before c.store-4.ensures.after)
 
 pub returns-clause-above : goal.returns-clause-above
-returns-clause-above g c = λ r i low above inside.
-    let n = g.row.WORDS / 4 in
-    let first = c.store.ensures in
-    let second = c.store-2.ensures in
-    let third = c.store-3.ensures in
-    let fourth = c.store-4.ensures in
-    each_below_4
-    (λ r. slice_index c.store-4.new.words (n * r + i) ≡ slice_index c.args.self.now.words (n * r + i))
-    (fourth.before _ (omega arith) ∙ third.before _ (omega arith) ∙ second.before _ (omega arith)
-    ∙ first.after _ (omega arith))
-    (fourth.before _ (omega arith) ∙ third.before _ (omega arith) ∙ second.after _ (omega arith)
-    ∙ first.after _ (omega arith))
-    (fourth.before _ (omega arith) ∙ third.after _ (omega arith) ∙ second.after _ (omega arith)
-    ∙ first.after _ (omega arith))
-    (fourth.after _ (omega arith) ∙ third.after _ (omega arith) ∙ second.after _ (omega arith)
-    ∙ first.after _ (omega arith))
-    r low
+returns-clause-above g c = λ i above inside r low.
+    other_group (g.row.WORDS / 4) c.args.g _ i r c.requires.inside inside (λ e f. omega (arith, f)) low
+    (kept_outside _ _ c.store.ensures.before c.store.ensures.after)
+    (kept_outside _ _ c.store-2.ensures.before c.store-2.ensures.after)
+    (kept_outside _ _ c.store-3.ensures.before c.store-3.ensures.after)
+    (kept_outside _ _ c.store-4.ensures.before c.store-4.ensures.after)
