@@ -6,7 +6,7 @@ ghost use Rattle.std.specs.Prelude.{slice_index};
 ghost use Rattle.luks_aes.specs.Aes.{encrypted, decrypted};
 ghost use Rattle.luks_aes.specs.Bytes.{IsBytes};
 ghost use Rattle.luks_aes_batch.specs.RoundKeys.{IsBatchKey};
-ghost use Rattle.luks_cipher.specs.Xts.{block_xor, block_at, joined};
+ghost use Rattle.luks_cipher.specs.Xts.{block_xor, block_at};
 ghost use Rattle.luks_cipher.specs.Cbc.{block_before, cbc_encrypted, cbc_decrypted};
 
 use crate::block::{batch_size, block_of, block_xor};
@@ -73,10 +73,7 @@ fn decrypt_by(
     requires size { length zeros.now ≡ length batch.old }
     requires capacity { length chain.old ≡ length batch.old + 16 }
     ensures value { (key : List ℕ) → IsBatchKey key keys.now
-        → batch.new
-        ≡ joined
-        (λ n. block_xor (decrypted key (block_at batch.old n))
-        (block_before before batch.old n)) (length batch.old / 16) }
+        → batch.new ≡ cbc_decrypted key before batch.old }
     ensures next { result ≡ block_before before batch.old (length batch.old / 16) }
 {
     let len = batch.len();
@@ -92,10 +89,7 @@ fn decrypt_batch(keys: &RoundKeys, before: [u8; 16], batch: &mut [u8]) -> [u8; 1
     requires least { 512 ≤ length batch.old }
     requires most { length batch.old ≤ 1024 }
     ensures value { (key : List ℕ) → IsBatchKey key keys.now
-        → batch.new
-        ≡ joined
-        (λ n. block_xor (decrypted key (block_at batch.old n))
-        (block_before before batch.old n)) (length batch.old / 16) }
+        → batch.new ≡ cbc_decrypted key before batch.old }
     ensures next { result ≡ block_before before batch.old (length batch.old / 16) }
 {
     let len = batch.len();

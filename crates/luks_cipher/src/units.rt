@@ -137,24 +137,6 @@ impl<'a> UnitKeys<'a> {
         self.decrypt_unit(number, &mut units[1024 * pairs..1024 * pairs + 512]);
     }
 
-    // Decrypts sectors as `decrypt_units` below does, one at a time.
-    fn decrypt_in_turn(&self, first: u64, size: usize, units: &mut [u8])
-        requires multiple { size % 512 ≡ 0 }
-        requires shortest { 512 ≤ size }
-        requires longest { size ≤ 4096 }
-        requires whole { length units.old % size ≡ 0 }
-        ensures { (key : List ℕ)
-            → AreKeysOf key self.now.mode self.now.round_keys.now self.now.iv_or_tweak.now
-            → units.new ≡ units_decrypted self.now.mode key first size units.old }
-    {
-        let step = (size / 512) as u64;
-        let count = units.len() / size;
-        'units: for i in 0..count {
-            let number = first.wrapping_add((i as u64).wrapping_mul(step));
-            self.decrypt_unit(number, &mut units[i * size..i * size + size]);
-        }
-    }
-
     /// Decrypts sectors of `size` bytes that follow one another in place, the first of which has
     /// this unit number, by the cipher whose keys these are, if they are.
     pub(crate) fn decrypt_units(&self, first: u64, size: usize, units: &mut [u8])
@@ -168,8 +150,13 @@ impl<'a> UnitKeys<'a> {
     {
         if size == 512 {
             self.decrypt_in_pairs(first, units);
-        } else {
-            self.decrypt_in_turn(first, size, units);
+            return;
+        }
+        let step = (size / 512) as u64;
+        let count = units.len() / size;
+        'units: for i in 0..count {
+            let number = first.wrapping_add((i as u64).wrapping_mul(step));
+            self.decrypt_unit(number, &mut units[i * size..i * size + size]);
         }
     }
 }

@@ -14,6 +14,7 @@ batches-init c = record {
 }
 
 pub batches-preserved : goal.batches-preserved
+unfolding cbc_decrypted
 batches-preserved c =
     let done = c.batches.done in
     let count = c.batch_size-count.result in

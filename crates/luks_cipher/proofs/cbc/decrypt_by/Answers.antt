@@ -1,12 +1,12 @@
 use Rattle.std.proofs.Common.{◌≡◌, ◌+◌, ◌-◌, ◌*◌, ◌/◌, length, take, drop, arith, ap, ◌∙◌}
 use Rattle.luks_aes.specs.Aes.{decrypted}
 use Rattle.luks_cipher.specs.Xts.{block_at, block_xor}
-use Rattle.luks_cipher.specs.Cbc.{block_before}
+use Rattle.luks_cipher.specs.Cbc.{block_before, cbc_decrypted}
 use Rattle.luks_cipher.proofs.UnitLemmas.{from_blocks, zero_mask, block_of_part}
 use Rattle.luks_cipher.proofs.cbc.decrypt_by.Goals as goal
 
 pub returns-clause-value : goal.returns-clause-value
-unfolding block_xor
+unfolding cbc_decrypted block_xor
 returns-clause-value c key is =
     let old = c.args.batch.now in
     let chain = c.put_chain.new.chain in

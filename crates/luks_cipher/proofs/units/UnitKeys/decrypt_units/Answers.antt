@@ -1,7 +1,7 @@
 use Rattle.std.proofs.Common.{◌≡◌, ◌≤◌, ◌*◌, ◌/◌, ◌+◌, length, arith, ap, refl, ◌∙◌}
 use Rattle.std.proofs.Math.Nat.{div-mul_cancel, dvd_of_mod-eq-zero, le-div_iff_mul-le}
 use Rattle.luks_cipher.proofs.PairLemmas.{none_decrypted, one_decrypted, all_decrypted}
-use Rattle.luks_cipher.proofs.units.UnitKeys.decrypt_in_turn.Goals as goal
+use Rattle.luks_cipher.proofs.units.UnitKeys.decrypt_units.Goals as goal
 
 pub units-init : goal.units-init
 units-init c = λ key are. none_decrypted _ _ _ _ _

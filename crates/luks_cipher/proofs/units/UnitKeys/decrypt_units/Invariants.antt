@@ -1,7 +1,7 @@
 use Rattle.std.proofs.Common.{List, ℕ}
 use Rattle.luks_cipher.specs.Expanded.{AreKeysOf}
 use Rattle.luks_cipher.proofs.PairLemmas.{AreDecrypted}
-use Rattle.luks_cipher.proofs.units.UnitKeys.decrypt_in_turn.Given as goal
+use Rattle.luks_cipher.proofs.units.UnitKeys.decrypt_units.Given as goal
 
 -- the sectors before number i are decrypted
 abbrev pub invariant-units : goal.invariant-units
