@@ -2,3 +2,11 @@ pub mod FieldLemmas
 pub mod SlotLemmas
 pub mod MaterialLemmas
 pub mod SectorLemmas
+pub mod Layout1Lemmas
+pub mod Sealed1
+pub mod Bounds
+pub mod TextLemmas
+pub mod MetadataLemmas
+pub mod Verdicts2
+pub mod Header2
+pub mod Sealed2

@@ -1,10 +1,12 @@
-//! What volumes of both formats are made from, for tests and for proofs about honest volumes: their
-//! parameters, the ranges that both share, and the pieces that their images are put together from.
+//! Volumes of both formats made from values that are all passed in, for tests and for proofs about
+//! honest volumes: `seal1` of `luks1` makes one of LUKS1, `seal2` of `luks2` one of LUKS2.
 //!
-//! `seal1` of the crate `luks1_seal` makes a volume of LUKS1, `seal2` of `luks2_seal` one of LUKS2.
-//! Nothing is generated: the caller passes in each salt and each random stripe.
+//! Nothing is generated: the caller passes in each salt and each random stripe. The parameters, the
+//! ranges that both formats share, and the pieces that images are put together from are here, too.
 #![tactic(auto)]
 
+pub mod luks1;
+pub mod luks2;
 pub mod parameters;
 pub mod pieces;
 pub mod ranges;

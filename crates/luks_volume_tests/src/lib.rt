@@ -1,5 +1,5 @@
 //! Tests of the crates on volumes, through their public calls: `luks_access`, `luks_key_slots`,
-//! `luks_payload`, and `luks1_seal` and `luks2_seal` with `luks_seal` below both.
+//! `luks_payload` and `luks_seal`.
 //!
 //! They are in a crate of their own, so that the crates below are not proved again with them.
 #![tactic(auto)]

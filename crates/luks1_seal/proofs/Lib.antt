@@ -1,2 +1,0 @@
-pub mod Layout1Lemmas
-pub mod Sealed1

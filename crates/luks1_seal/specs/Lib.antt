@@ -1,2 +1,0 @@
-pub mod Layout1
-pub mod Ranges1

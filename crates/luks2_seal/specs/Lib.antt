@@ -1,3 +1,0 @@
-pub mod Layout2
-pub mod Members
-pub mod Ranges2
