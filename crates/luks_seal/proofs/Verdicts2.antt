@@ -1,5 +1,6 @@
 -- What a reader finds in the metadata of a sealed LUKS2 volume: a segment that is not refused, the digest of each key
 -- slot, and each key slot with its parts, without a reason to skip it.
+use Rattle.std.specs.Prelude.{◌&&◌, option_and_then}
 use Rattle.std.proofs.Common.{◌≡◌, ◌∙◌, ◌*◌, ◌%◌, ◌<◌, ◌≤◌, ℕ, true, false, Some, None, Ok, length}
 use Rattle.std.proofs.Common.{ap, arith, refl, sym, codes, ◌+◌, le-leb, lt-ltb}
 use Rattle.std.proofs.lemmas.Bool.{eq-eqb, le-ltb}
@@ -11,6 +12,7 @@ use Rattle.luks_verdict.proofs.MadeLemmas.{segment_of_all-yes, slot_from-yes, sl
 use Rattle.luks_verdict.proofs.SectorLemmas.{sector_size_again}
 use Rattle.luks2_json.specs.Member.{decimal_member, string_is, string_member, integer_member, base64_member}
 use Rattle.luks2_json.specs.Member.{hash_member, iterations_in, salt_in, is_length_for}
+use Rattle.luks2_json.specs.Member.{encryption_mode, in_member}
 use Rattle.luks2_metadata.specs.Segment2.{fault2_of, has_requirement, has_segment_members, is_segment, size_is_wrong}
 use Rattle.luks2_metadata.specs.Segment2.{iv_tweak_of, mode2_of, offset_of, sector_size_of}
 use Rattle.luks2_metadata.specs.Segment2.{segment2_of, segment_parts2_of, size_member}
@@ -39,16 +41,12 @@ use Rattle.luks_seal.specs.Sealed.{IsDigestOf}
 use Rattle.luks_seal.proofs.MaterialLemmas.{derived_bytes}
 use Rattle.luks_seal.proofs.MaterialLemmas.{digest_fits, hash_is_named, area_fits, iterations_fit, stripes_fit}
 use Rattle.luks_verdict.specs.declared.slot.SlotParts.{SlotParts}
-use Rattle.luks2_metadata.specs.Slot2.{af_hash_of, area_mode_of, has_members, is_af, is_area, is_kdf, is_pbkdf2}
-use Rattle.luks2_metadata.specs.Slot2.{kdf_hash_of, priority_of, slot_parts2_of, are_key_sizes, has_unknown_hash}
-use Rattle.luks2_metadata.specs.Slot2.{area2_out_of_range, iterations_of_slot, reason2_of, slot2_of}
-use Rattle.luks2_metadata.specs.Slot2.{stripe_count_of, verdict2_at, verdict2_of}
-use Rattle.luks_verdict.specs.Rule.{iterations_out_of_range, stripes_out_of_range, key_material_len}
+use Rattle.luks2_metadata.specs.Slot2.{has_members, is_af, is_area, is_kdf, is_pbkdf2, priority_of, reason2_of}
+use Rattle.luks2_metadata.specs.Slot2.{slot2_of, slot_parts2_of, verdict2_at, verdict2_of}
+use Rattle.luks_verdict.specs.Rule.{area_out_of_range, iterations_out_of_range, key_material_len, stripes_out_of_range}
 use Rattle.luks_verdict.specs.Slot.{has_no_usable_digest}
 use Rattle.luks_verdict.specs.declared.slot.Slot.{Slot}
 use Rattle.luks_verdict.specs.declared.slot.Verdict.TheVariants.{Usable}
-use Rattle.luks2_json.specs.Member.{decimal_member, string_is, string_member, integer_member, base64_member}
-use Rattle.luks2_json.specs.Member.{hash_member, iterations_in, salt_in, is_length_for}
 
 -- ---- the segment
 
@@ -239,7 +237,8 @@ module _ (p : Seal2) (fits : AreParameters2 p) (typed : AreTyped2 p) where
     area_size_is =
         decimal_read (area_size (length p.key.now) slot.stripes) (omega (arith, ends_before, fits.offset.1))
 
-    area_mode_is : area_mode_of (keyslot_object p slot) ≡ Some p.area_mode
+    area_mode_is : option_and_then encryption_mode
+        (in_member (codes "area") (string_member (codes "encryption")) (keyslot_object p slot)) ≡ Some p.area_mode
     unfolding keyslot_object area_object string_member
     area_mode_is = mode_read p.area_mode
 
@@ -247,11 +246,11 @@ module _ (p : Seal2) (fits : AreParameters2 p) (typed : AreTyped2 p) where
     unfolding kdf_object base64_member string_member
     slot_salt_is = base64_read slot.salt used.typed.salt
 
-    kdf_hash_is : kdf_hash_of (keyslot_object p slot) ≡ Some slot.hash
+    kdf_hash_is : in_member (codes "kdf") hash_member (keyslot_object p slot) ≡ Some slot.hash
     unfolding keyslot_object kdf_object hash_member string_member
     kdf_hash_is = (hash_is_named slot.hash).by_name
 
-    af_hash_is : af_hash_of (keyslot_object p slot) ≡ Some slot.af_hash
+    af_hash_is : in_member (codes "af") hash_member (keyslot_object p slot) ≡ Some slot.af_hash
     unfolding keyslot_object af_object hash_member string_member
     af_hash_is = (hash_is_named slot.af_hash).by_name
 
@@ -260,7 +259,7 @@ module _ (p : Seal2) (fits : AreParameters2 p) (typed : AreTyped2 p) where
     priority_is = rw (le-leb slot.priority 2 used.fits.1) refl
 
     slot_parts_are : slot_parts2_of (keyslot_object p slot) ≡ parts_of p slot
-    unfolding slot_parts2_of keyslot_object kdf_object area_object af_object integer_member iterations_in salt_in
+    unfolding slot_parts2_of keyslot_object kdf_object area_object af_object integer_member
     slot_parts_are =
         rw (priority_is, kdf_hash_is, slot_salt_is, af_hash_is, area_offset_is, area_size_is, area_mode_is) refl
 
@@ -287,37 +286,36 @@ module _ (p : Seal2) (fits : AreParameters2 p) (typed : AreTyped2 p) where
 
     -- ---- the reasons, one after the other
 
-    keys_fit : are_key_sizes (payload_mode2_of (metadata_of p) (bounds_of p)) (keyslot_object p slot) ≡ true
-    unfolding are_key_sizes is_length_for keyslot_object area_object integer_member segment_is segment_by
+    keys_fit : (is_length_for (Some p.area_mode) p.area_key_size
+        && is_length_for (payload_mode2_of (metadata_of p) (bounds_of p)) (length p.key.now)) ≡ true
+    unfolding is_length_for segment_is segment_by
     keys_fit =
         let payload = segment2-ok (metadata_of p) (bounds_of p) segment_is segment_read in
-        rw (payload.mode, area_mode_is, fits.keys.0, fits.keys.1) refl
+        rw (payload.mode, fits.keys.0, fits.keys.1) refl
 
-    stripes_ok : stripes_out_of_range (stripe_count_of (keyslot_object p slot)) ≡ false
-    unfolding keyslot_object af_object integer_member
+    stripes_ok : stripes_out_of_range slot.stripes ≡ false
     stripes_ok = stripes_fit slot.stripes used.fits.3 used.fits.4
 
-    iterations_ok : iterations_out_of_range None (iterations_of_slot (keyslot_object p slot)) ≡ false
-    unfolding keyslot_object kdf_object iterations_in integer_member
+    iterations_ok : iterations_out_of_range None slot.iterations ≡ false
     iterations_ok = iterations_fit slot.iterations used.fits.2 used.typed.iterations
 
-    area_ok : area2_out_of_range (2 * p.hdr_size) (payload2_start (metadata_of p) (bounds_of p))
-        (keyslot_object p slot) ≡ false
-    unfolding area2_out_of_range keyslot_object area_object af_object integer_member segment_is segment_by
+    area_ok : area_out_of_range (2 * p.hdr_size) (payload2_start (metadata_of p) (bounds_of p))
+        (area_start p slot.number) (area_size (length p.key.now) slot.stripes)
+        (key_material_len (length p.key.now) slot.stripes) ≡ false
+    unfolding segment_is segment_by
     area_ok =
         let payload = segment2-ok (metadata_of p) (bounds_of p) segment_is segment_read in
         let material_len = material_fits (length p.key.now) slot.stripes in
-        rw (payload.start refl, area_offset_is, area_size_is)
+        rw (payload.start refl)
         (area_fits (2 * p.hdr_size) p.offset (area_start p slot.number) (area_size (length p.key.now) slot.stripes)
         (key_material_len (length p.key.now) slot.stripes) (area_after_headers p slot.number) material_len
         (omega (arith, ends_before, material_len)) fits.offset.1)
 
     -- no reason to skip the slot holds
     no_reasons : reason2_of (metadata_of p) (bounds_of p) None slot.number (keyslot_object p slot) ≡ None
-    unfolding reason2_of has_unknown_hash keyslot_object kdf_object string_is string_member
+    unfolding reason2_of keyslot_object kdf_object string_is string_member
     no_reasons =
-        rw (members_ok, kdf_hash_is, af_hash_is, area_mode_is, keys_fit, stripes_ok, iterations_ok, area_ok, digest_ok)
-        refl
+        rw (slot_parts_are, members_ok, keys_fit, stripes_ok, iterations_ok, area_ok, digest_ok) refl
 
     parts_ok : are_in_range (slot_parts2_of (keyslot_object p slot)) ≡ true
     parts_ok = (slot_there (metadata_of p) (bounds_of p) None slot.number (keyslot_object p slot) no_reasons).2
