@@ -16,7 +16,7 @@ use Rattle.luks_runs.proofs.PayloadLemmas.{plain_len}
 use Rattle.luks_runs.proofs.RunLemmas.{aborted_at, runs_printed}
 use Rattle.luks_commands.proofs.VolumeRuns.{same_segment_by}
 use Rattle.luks_runs.specs.Run.{Outcome, Prints, Aborted, AnyPromptness, Completed, ConsumedNothing}
-use Rattle.luks_runs.specs.Run.{DetachedRunMatches, Promptness, RunMatches, aborts, is_run_read_failure}
+use Rattle.luks_runs.specs.Run.{DetachedRunMatches, Promptness, RunEffects, RunMatches, aborts, is_run_read_failure}
 use Rattle.luks_runs.specs.Run.{is_run_write_failure}
 use Rattle.luks_runs.specs.Volume.{payload_outcome, slot_outcome, volume_outcome, volume_outcome_by}
 use Rattle.luks_runs.specs.Volume.{detached_payload_outcome, HitsMaterialEof, OpeningMessage}
@@ -48,21 +48,17 @@ slot_consumes_loaded secret =
     record { loaded = λ segment opened loaded. omega arith; whole = λ segment opened loaded. refl }
 
 -- a run also matches with a promptness that follows from its own, and with a fact on the payload's image that does
-pub runs_at : (is_prompt is_prompt' : Promptness) (out : Outcome) (message : Message)
-    (ConsumedInput ConsumedPayload ConsumedPayload' ConsumedSecret : ℕ → Type 0) (Wrote : List ℕ → Type 0)
-    → ((input payload secret output : ℕ) → is_prompt message input payload secret output
-    → is_prompt' message input payload secret output)
-    → ((count : ℕ) → ConsumedPayload count → ConsumedPayload' count)
-    → DetachedRunMatches is_prompt out message ConsumedInput ConsumedPayload ConsumedSecret Wrote
-    → DetachedRunMatches is_prompt' out message ConsumedInput ConsumedPayload' ConsumedSecret Wrote
-runs_at is_prompt is_prompt' out message ConsumedInput ConsumedPayload ConsumedPayload' ConsumedSecret Wrote follows
-    consumed = either (aborts message)
+pub runs_at : (is_prompt is_prompt' : Promptness) (out : Outcome) (message : Message) (effects : RunEffects)
+    (ConsumedPayload : ℕ → Type 0) → ((input payload secret output : ℕ)
+    → is_prompt message input payload secret output → is_prompt' message input payload secret output)
+    → ((count : ℕ) → effects.payload count → ConsumedPayload count)
+    → DetachedRunMatches is_prompt out message effects
+    → DetachedRunMatches is_prompt' out message (record effects { payload = ConsumedPayload })
+runs_at is_prompt is_prompt' out message effects ConsumedPayload follows consumed = either (aborts message)
   where
-    either : (b : Bool)
-        → MatchBool b (Aborted is_prompt out message ConsumedInput ConsumedPayload ConsumedSecret Wrote)
-        (Completed out message ConsumedInput ConsumedPayload ConsumedSecret Wrote)
-        → MatchBool b (Aborted is_prompt' out message ConsumedInput ConsumedPayload' ConsumedSecret Wrote)
-        (Completed out message ConsumedInput ConsumedPayload' ConsumedSecret Wrote)
+    either : (b : Bool) → MatchBool b (Aborted is_prompt out message effects) (Completed out message effects)
+        → MatchBool b (Aborted is_prompt' out message (record effects { payload = ConsumedPayload }))
+        (Completed out message (record effects { payload = ConsumedPayload }))
     either true run =
         aborted_at run.input_consumed run.payload_consumed run.secret_consumed run.output_len run.output_within
         (follows run.input_consumed run.payload_consumed run.secret_consumed run.output_len run.is_prompt)
@@ -230,7 +226,12 @@ module _ (slots : SlotChoice) (file image pass : List ℕ) (segment : Segment) (
       → ForwardsPayload segment (segment.mode, opened.key) image 0 i' w w' message
       → DetachedRunMatches (PromptCat Detached file)
       (volume_outcome_by detached_header_of (detached_payload_outcome image pass) slots file pass) message
-      (ConsumedExactly file h) (ConsumedExactly image i') (ConsumedExactly pass s) (Appended w w')
+      (record {
+        input = ConsumedExactly file h;
+        payload = ConsumedExactly image i';
+        secret = ConsumedExactly pass s;
+        output = Appended w w';
+      })
   detached_runs_forwarded OutOfMemory only forwarded = absurd only
   detached_runs_forwarded ReadFailed only (end, later, count, position, whole, inside, consumption, output) =
       rw (u.outcome (detached_payload_outcome image pass))

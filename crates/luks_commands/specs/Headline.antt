@@ -144,8 +144,12 @@ RunsAsSpecified location request message bytes = IfKnown bytes.input.before (λ 
     → KnowsPayload location request input bytes.payload.before image
     → (secret : List ℕ) → KnowsSecret request bytes.secret.before secret → IsCounted request image
     → DetachedRunMatches (promptness_of location request input) (outcome_of location request input image secret) message
-    (ConsumedExactly input bytes.input.after) (ConsumedOfPayload request location image bytes.payload.after)
-    (ConsumedOfSecret request secret bytes.secret.after) (Appended bytes.output.before bytes.output.after))
+    (record {
+      input = ConsumedExactly input bytes.input.after;
+      payload = ConsumedOfPayload request location image bytes.payload.after;
+      secret = ConsumedOfSecret request secret bytes.secret.after;
+      output = Appended bytes.output.before bytes.output.after;
+    }))
 
 -- ---- `work`: the evaluations of HMAC
 

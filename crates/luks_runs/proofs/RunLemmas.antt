@@ -4,7 +4,8 @@ use Rattle.luks_io.proofs.EffectLemmas.{appended-none}
 use Rattle.luks_io.specs.Devices.{Appended, ConsumedExactly, counted}
 use Rattle.luks_report.specs.declared.message.Message.{Message}
 use Rattle.luks_report.specs.declared.message.Message.TheVariants.{OutOfMemory, ReadFailed, WriteFailed, Done, Findings}
-use Rattle.luks_runs.specs.Run.{Prints, Aborted, AnyPromptness, ConsumedNothing, IsPrefixLen, Promptness, RunMatches}
+use Rattle.luks_runs.specs.Run.{Prints, Aborted, AnyPromptness, ConsumedNothing, IsPrefixLen, Promptness, RunEffects}
+use Rattle.luks_runs.specs.Run.{RunMatches}
 use Rattle.luks_runs.specs.Run.{Outcome, no_output}
 use Rattle.std.specs.Prelude.{◌==◌, if◌then◌else◌}
 use Rattle.luks_header.specs.Header.{ReadsNoHeader, header_read_len, header_of}
@@ -29,11 +30,10 @@ never_failed false count = refl
 
 -- a run was aborted after these numbers of bytes were consumed and written
 pub aborted_at : {is_prompt : Promptness} {o : Outcome} {message : Message}
-    {ConsumedInput ConsumedPayload ConsumedSecret : ℕ → Type 0} {Wrote : List ℕ → Type 0}
-    (input payload secret written : ℕ) → IsPrefixLen message written (length o.output)
+    {effects : RunEffects} (input payload secret written : ℕ) → IsPrefixLen message written (length o.output)
     → is_prompt message input payload secret written → input ≤ o.input_consumed → payload ≤ o.payload_consumed
-    → secret ≤ o.secret_consumed → ConsumedInput input → ConsumedPayload payload → ConsumedSecret secret
-    → Wrote (take written o.output) → Aborted is_prompt o message ConsumedInput ConsumedPayload ConsumedSecret Wrote
+    → secret ≤ o.secret_consumed → effects.input input → effects.payload payload → effects.secret secret
+    → effects.output (take written o.output) → Aborted is_prompt o message effects
 aborted_at input payload secret written begins prompt input_within payload_within secret_within of_input of_payload
     of_secret wrote = record {
       input_consumed = input;
@@ -56,7 +56,8 @@ pub aborted_unwritten : {is_prompt : Promptness} {o : Outcome} {message : Messag
     {ConsumedInput ConsumedSecret : ℕ → Type 0} {w : Option (List ℕ)} (input secret : ℕ)
     → IsPrefixLen message 0 (length o.output) → is_prompt message input 0 secret 0
     → input ≤ o.input_consumed → secret ≤ o.secret_consumed → ConsumedInput input → ConsumedSecret secret
-    → Aborted is_prompt o message ConsumedInput ConsumedNothing ConsumedSecret (Appended w w)
+    → Aborted is_prompt o message
+    (record { input = ConsumedInput; payload = ConsumedNothing; secret = ConsumedSecret; output = Appended w w })
 aborted_unwritten {w} input secret begins prompt input_within secret_within of_input of_secret =
     aborted_at input 0 secret 0 begins prompt input_within (omega arith) secret_within of_input refl of_secret
     (appended-none w)

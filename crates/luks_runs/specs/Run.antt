@@ -45,9 +45,15 @@ IsPrefixLen OutOfMemory output specified = output ≡ 0
 IsPrefixLen WriteFailed output specified = output < specified
 IsPrefixLen _ output specified = output ≤ specified
 
+-- what a run does to its devices: facts about each number of bytes that it consumes of an input, and about its output
+pub record RunEffects : Type 1 where
+  pub input : ℕ → Type 0
+  pub payload : ℕ → Type 0
+  pub secret : ℕ → Type 0
+  pub output : List ℕ → Type 0
+
 -- an aborted run: its output is a prefix of the specified one, and no input was consumed further than specified
-pub record Aborted (pace : Promptness) (outcome : Outcome) (message : Message)
-    (ConsumedInput ConsumedPayload ConsumedSecret : ℕ → Type 0) (Wrote : List ℕ → Type 0) : Type 0 where
+pub record Aborted (pace : Promptness) (outcome : Outcome) (message : Message) (effects : RunEffects) : Type 0 where
   pub input_consumed : ℕ
   pub payload_consumed : ℕ
   pub secret_consumed : ℕ
@@ -57,26 +63,23 @@ pub record Aborted (pace : Promptness) (outcome : Outcome) (message : Message)
   pub secret_within : secret_consumed ≤ outcome.secret_consumed
   pub output_within : IsPrefixLen message output_len (length outcome.output)
   pub is_prompt : pace message input_consumed payload_consumed secret_consumed output_len
-  pub input : ConsumedInput input_consumed
-  pub payload : ConsumedPayload payload_consumed
-  pub secret : ConsumedSecret secret_consumed
-  pub output : Wrote (take output_len outcome.output)
+  pub input : effects.input input_consumed
+  pub payload : effects.payload payload_consumed
+  pub secret : effects.secret secret_consumed
+  pub output : effects.output (take output_len outcome.output)
 
 -- a run that was not aborted: the specified message, output and bytes consumed
-pub record Completed (outcome : Outcome) (message : Message)
-    (ConsumedInput ConsumedPayload ConsumedSecret : ℕ → Type 0) (Wrote : List ℕ → Type 0) : Type 0 where
+pub record Completed (outcome : Outcome) (message : Message) (effects : RunEffects) : Type 0 where
   pub as_specified : message ≡ outcome.message
-  pub input : ConsumedInput outcome.input_consumed
-  pub payload : ConsumedPayload outcome.payload_consumed
-  pub secret : ConsumedSecret outcome.secret_consumed
-  pub output : Wrote outcome.output
+  pub input : effects.input outcome.input_consumed
+  pub payload : effects.payload outcome.payload_consumed
+  pub secret : effects.secret outcome.secret_consumed
+  pub output : effects.output outcome.output
 
 -- the run has this outcome, or was aborted on the way to it; the payload is in another image than the header
-abbrev pub DetachedRunMatches : Promptness → Outcome → Message → (ℕ → Type 0) → (ℕ → Type 0) → (ℕ → Type 0)
-    → (List ℕ → Type 0) → Type 0
-DetachedRunMatches pace outcome message ConsumedInput ConsumedPayload ConsumedSecret Wrote =
-    MatchBool (aborts message) (Aborted pace outcome message ConsumedInput ConsumedPayload ConsumedSecret Wrote)
-    (Completed outcome message ConsumedInput ConsumedPayload ConsumedSecret Wrote)
+abbrev pub DetachedRunMatches : Promptness → Outcome → Message → RunEffects → Type 0
+DetachedRunMatches pace outcome message effects =
+    MatchBool (aborts message) (Aborted pace outcome message effects) (Completed outcome message effects)
 
 -- nothing is consumed of an input that a command does not have
 abbrev pub ConsumedNothing : ℕ → Type 0
@@ -85,7 +88,8 @@ ConsumedNothing count = count ≡ 0
 -- the same with no image for the payload alone
 abbrev pub RunMatches : Promptness → Outcome → Message → (ℕ → Type 0) → (ℕ → Type 0) → (List ℕ → Type 0) → Type 0
 RunMatches pace outcome message ConsumedInput ConsumedSecret Wrote =
-    DetachedRunMatches pace outcome message ConsumedInput ConsumedNothing ConsumedSecret Wrote
+    DetachedRunMatches pace outcome message
+    (record { input = ConsumedInput; payload = ConsumedNothing; secret = ConsumedSecret; output = Wrote })
 
 -- a failed read is reported
 abbrev pub is_run_read_failure : Message → Bool

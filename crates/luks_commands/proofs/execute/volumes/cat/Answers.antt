@@ -5,7 +5,7 @@ use Rattle.luks_io.specs.Counts.{MemSourceModel}
 use Rattle.luks_request.specs.Request.{volume_request}
 use Rattle.luks_runs.proofs.RunLemmas.{never_failed}
 use Rattle.luks_runs.proofs.VolumeLemmas.{message_says}
-use Rattle.luks_runs.specs.Run.{ConsumedNothing, is_run_read_failure, result_message}
+use Rattle.luks_runs.specs.Run.{is_run_read_failure, result_message}
 use Rattle.luks_runs.specs.declared.location.HeaderLocation.TheVariants.{Attached, Detached}
 use Rattle.luks_commands.proofs.OpenedRuns.{allows_payload, calls_without_payload}
 use Rattle.luks_commands.proofs.OpenedRuns.{consumed_no_payload, counts_forwarded}
@@ -21,7 +21,7 @@ pub returns-in_err-unlocked-clause-run : goal.returns-in_err-unlocked-clause-run
 returns-in_err-unlocked-clause-run g c =
     let stop = c.in_err-unlocked.ensures in
     rw (given_error _ _ c.from_residual.ensures.1) (λ input is image knows pass has counted.
-    runs_at (PromptCat c.args.location input) (PromptCat c.args.location input) _ _ _ ConsumedNothing _ _ _
+    runs_at (PromptCat c.args.location input) (PromptCat c.args.location input) _ _ _ _
     (λ input payload secret output prompt. prompt)
     (consumed_no_payload c.args.location (volume_request c.args.args.now) input image _ knows)
     (stop.err input is pass has (payload_outcome_at c.args.location image pass)
