@@ -1,5 +1,5 @@
 -- Ranges that volumes of both formats share, and the results of sealing.
-use Rattle.std.specs.Prelude.{◌≡◌, ◌≢◌, ℕ, ◌<◌, ◌≤◌, true, List, [], ◌∷◌, All, length, slice_index, Result, Ok, Err}
+use Rattle.std.specs.Prelude.{◌≡◌, ◌≢◌, ℕ, ◌%◌, ◌<◌, ◌≤◌, true, List, [], ◌∷◌, All, length, slice_index, Result, Ok, Err}
 use Rattle.luks_cipher.specs.Sector.{is_mode_key_length}
 use Rattle.luks_cipher.specs.declared.mode.Mode.{Mode}
 use Rattle.luks_seal.specs.declared.parameters.SealFault.{SealFault}
@@ -21,6 +21,10 @@ AreDistinct number (slot ∷ slots) = All (λ other. number other ≢ number slo
 -- the length in bytes of the longest plaintext that is sealed
 abbrev pub max_plain_len : ℕ
 max_plain_len = 8388608
+
+-- a plaintext of this length is whole sectors of this size, and is not too long
+abbrev pub FitsPlain : ℕ → ℕ → Type 0
+FitsPlain sector len = (len % sector ≡ 0) × (len ≤ max_plain_len)
 
 -- the result of sealing: Parameters exactly if the parameters do not fit, and otherwise a volume or Memory
 abbrev pub SealAnswer : {T : Type 0} → Type 0 → Result T SealFault → Type 0

@@ -1,6 +1,6 @@
 -- The parameters of a volume of LUKS1: their ranges, what their types guarantee, and the passphrases of the key slots.
-use Rattle.std.specs.Prelude.{◌≡◌, ℕ, ◌+◌, ◌-◌, ◌*◌, ◌/◌, ◌%◌, ◌≤◌, All, length, ◌<◌, ◌^◌, List, map}
-use Rattle.luks_seal.specs.Ranges.{AreDistinct, FitsKey, FitsText, max_plain_len}
+use Rattle.std.specs.Prelude.{◌≡◌, ℕ, ◌+◌, ◌-◌, ◌*◌, ◌/◌, ◌≤◌, All, length, ◌<◌, ◌^◌, List, map}
+use Rattle.luks_seal.specs.Ranges.{AreDistinct, FitsKey, FitsPlain, FitsText}
 use Rattle.luks_aes.specs.Bytes.{IsBytes}
 pub use Rattle.luks_seal.specs.declared.parameters.Seal1.{Seal1}
 pub use Rattle.luks_seal.specs.declared.parameters.Slot1.{Slot1}
@@ -14,10 +14,6 @@ abbrev pub FitsCounts1 : Seal1 → Type 0
 FitsCounts1 p = (1 ≤ p.stripes) × (p.stripes ≤ 4000) × (1 ≤ p.digest_iterations)
     × (8 + 8 * area_sectors (length p.key.now) p.stripes ≤ p.payload_sectors) × (p.payload_sectors ≤ 65536)
 
--- a plaintext of this length is whole sectors of 512 bytes, and is not too long
-abbrev pub FitsPlain1 : ℕ → Type 0
-FitsPlain1 len = (len % 512 ≡ 0) × (len ≤ max_plain_len)
-
 -- the slot fits a volume whose slots have this many random bytes each
 abbrev pub FitsSlot1 : ℕ → Slot1 → Type 0
 FitsSlot1 random slot = (slot.number ≤ 7) × (1 ≤ slot.iterations) × (length slot.random.now ≡ random)
@@ -27,7 +23,7 @@ pub record AreParameters1 (p : Seal1) : Type 0 where
   pub key : FitsKey p.mode (length p.key.now)
   pub counts : FitsCounts1 p
   pub uuid : FitsText 40 p.uuid.now
-  pub plain : FitsPlain1 (length p.plain.now)
+  pub plain : FitsPlain 512 (length p.plain.now)
   pub slots : All (FitsSlot1 ((p.stripes - 1) * length p.key.now)) p.slots.now
   pub distinct : AreDistinct (λ (slot : Slot1). slot.number) p.slots.now
 

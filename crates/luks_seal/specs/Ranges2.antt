@@ -6,7 +6,7 @@ use Rattle.std.specs.Option.{option_map_or}
 use Rattle.std.specs.List.{list_any}
 use Rattle.luks_verdict.specs.SectorSize.{bytes_of}
 use Rattle.luks2_binary.specs.Header2.{sizes}
-use Rattle.luks_seal.specs.Ranges.{AreDistinct, FitsKey, FitsText, max_plain_len}
+use Rattle.luks_seal.specs.Ranges.{AreDistinct, FitsKey, FitsPlain, FitsText}
 use Rattle.luks_aes.specs.Bytes.{IsBytes}
 pub use Rattle.luks_seal.specs.declared.parameters.Seal2.{Seal2}
 pub use Rattle.luks_seal.specs.declared.parameters.Slot2.{Slot2}
@@ -45,10 +45,6 @@ FitKeys p = FitsKey p.mode (length p.key.now) × FitsKey p.area_mode p.area_key_
 abbrev pub FitTexts : Seal2 → Type 0
 FitTexts p = FitsText 40 p.uuid.now × FitsText 48 p.label.now × FitsText 48 p.subsystem.now
 
--- a plaintext of this length is whole sectors, and is not too long
-abbrev pub FitsPlain2 : ℕ → ℕ → Type 0
-FitsPlain2 sector len = (len % sector ≡ 0) × (len ≤ max_plain_len)
-
 -- the slot fits a volume whose key has this many bytes
 abbrev pub FitsSlot2 : ℕ → Slot2 → Type 0
 FitsSlot2 key slot = (slot.number ≤ 31) × (slot.priority ≤ 2) × (1 ≤ slot.iterations) × (1 ≤ slot.stripes)
@@ -64,7 +60,7 @@ pub record AreParameters2 (p : Seal2) : Type 0 where
   pub keys : FitKeys p
   pub texts : FitTexts p
   pub min_digest_iterations : 1 ≤ p.digest_iterations
-  pub plain : FitsPlain2 (bytes_of p.sector_size) (length p.plain.now)
+  pub plain : FitsPlain (bytes_of p.sector_size) (length p.plain.now)
   pub slots : All (FitsSlot2 (length p.key.now)) p.slots.now
   pub distinct : AreDistinct (λ (slot : Slot2). slot.number) p.slots.now
   pub offset : FitsOffset p

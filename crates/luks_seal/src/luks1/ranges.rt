@@ -1,12 +1,12 @@
 //! Whether the parameters of a volume of LUKS1 are in their ranges.
 
 ghost use Rattle.std.specs.Prelude.{◌≡◌, ◌*◌, ◌-◌, ◌≤◌, ◌↔◌, All, length, IsTrue};
-ghost use Rattle.luks_seal.specs.Ranges1.{AreParameters1, FitsCounts1, FitsPlain1, FitsSlot1};
-ghost use Rattle.luks_seal.specs.Ranges1.{area_sectors};
+ghost use Rattle.luks_seal.specs.Ranges1.{AreParameters1, FitsCounts1, FitsSlot1, area_sectors};
 
 use crate::parameters::{Seal1, Slot1};
-use crate::ranges::fits_text;
+use crate::ranges::{fits_plain, fits_text};
 use crate::slots::are_distinct;
+use luks_verdict::sector_size::SectorSize;
 
 /// The sectors of 512 bytes that a slot's stripes need, rounded up to a multiple of 8.
 pub(crate) fn area_sectors(key: usize, stripes: u32) -> u32
@@ -28,13 +28,6 @@ fn fits_counts(seal: &Seal1<'_>) -> bool
     }
     let start = 8 + 8 * area_sectors(seal.key.len(), seal.stripes);
     seal.digest_iterations >= 1 && start <= seal.payload_sectors && seal.payload_sectors <= 65536
-}
-
-/// A plaintext of this length is whole sectors of 512 bytes, and is not too long.
-fn fits_plain(len: usize) -> bool
-    ensures { IsTrue result ↔ FitsPlain1 len }
-{
-    len % 512 == 0 && len <= 8_388_608
 }
 
 /// The slot fits a volume whose slots have this many random bytes each.
@@ -61,7 +54,7 @@ pub(crate) fn are_parameters(seal: &Seal1<'_>) -> bool
     }
     let random = (seal.stripes - 1) as usize * seal.key.len();
     fits_text(40, seal.uuid)
-        && fits_plain(seal.plain.len())
+        && fits_plain(SectorSize::B512, seal.plain.len())
         && fit_slots(random, seal.slots)
         && are_distinct(seal.slots)
 }

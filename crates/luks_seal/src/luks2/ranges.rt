@@ -1,15 +1,13 @@
 //! Whether the parameters of a volume of LUKS2 are in their ranges.
 
 ghost use Rattle.std.specs.Prelude.{◌≡◌, ◌≤◌, ◌↔◌, All, length, IsTrue};
-ghost use Rattle.luks_verdict.specs.SectorSize.{bytes_of};
 ghost use Rattle.luks_seal.specs.Ranges2.{AreParameters2, FitKeys, FitTexts, FitsOffset};
-ghost use Rattle.luks_seal.specs.Ranges2.{FitsPlain2, FitsSlot2, is_header_size};
+ghost use Rattle.luks_seal.specs.Ranges2.{FitsSlot2, is_header_size};
 
 use crate::luks2::areas::area_start;
 use crate::parameters::{Seal2, Slot2};
-use crate::ranges::fits_text;
+use crate::ranges::{fits_plain, fits_text};
 use crate::slots::are_distinct;
-use luks_verdict::sector_size::SectorSize;
 
 /// The lengths that a header and its JSON area can have together, in bytes.
 static SIZES: [u64; 9] = [
@@ -36,13 +34,6 @@ fn fit_texts(seal: &Seal2<'_>) -> bool
     ensures { IsTrue result ↔ FitTexts seal.now }
 {
     fits_text(40, seal.uuid) && fits_text(48, seal.label) && fits_text(48, seal.subsystem)
-}
-
-/// A plaintext of this length is whole sectors, and is not too long.
-fn fits_plain(sector: SectorSize, len: usize) -> bool
-    ensures { IsTrue result ↔ FitsPlain2 (bytes_of sector) len }
-{
-    len % sector.bytes() == 0 && len <= 8_388_608
 }
 
 /// The slot fits a volume whose key has this many bytes.
