@@ -1,5 +1,6 @@
 -- Ranges that volumes of both formats share, and the results of sealing.
-use Rattle.std.specs.Prelude.{◌≡◌, ◌≢◌, ℕ, ◌%◌, ◌<◌, ◌≤◌, true, List, [], ◌∷◌, All, length, slice_index, Result, Ok, Err}
+use Rattle.std.specs.Prelude.{◌≡◌, ◌≢◌, ℕ, ◌%◌, ◌<◌, ◌≤◌, true, List, [], ◌∷◌, All, length}
+use Rattle.std.specs.Prelude.{slice_index, Result, Ok, Err}
 use Rattle.luks_cipher.specs.Sector.{is_mode_key_length}
 use Rattle.luks_cipher.specs.declared.mode.Mode.{Mode}
 use Rattle.luks_seal.specs.declared.parameters.SealFault.{SealFault}
