@@ -1,0 +1,14 @@
+use Rattle.std.proofs.Common.{refl}
+use Rattle.sha1.specs.Sha1.{rounds}
+use Rattle.luks_sha_lanes.specs.Lanes.{lane}
+use Rattle.luks_sha_lanes.proofs.LaneLemmas.{window1_of_block}
+use Rattle.luks_sha_lanes.proofs.sha1_block.first_sixteen_steps.Goals as goal
+
+pub returns : goal.returns
+unfolding rounds
+returns g c = λ j b in_lane block.
+    let h = lane j c.args.v in
+    let s1 = c.first_four_steps-v.ensures j b h in_lane block refl in
+    let s2 = c.first_four_steps-v-2.ensures j b h in_lane block s1 in
+    let s3 = c.first_four_steps-v-3.ensures j b h in_lane block s2 in
+    (window1_of_block j c.args.w.now b block, c.first_four_steps.ensures j b h in_lane block s3)
