@@ -5,5 +5,5 @@
 
 mod choice;
 pub mod header;
-pub mod reading;
+pub mod header_search;
 mod validity;

@@ -16,7 +16,7 @@ use luks_io::source::Source;
 use luks1_header::header::{HEADER1_LEN, is_header1};
 pub use luks1_header::header::{Header1, SlotState, StoredSlot};
 pub use luks2_binary::header::{Header2, HeaderRole, PairFinding};
-use luks2_binary::reading::read_header2;
+use luks2_binary::header_search::read_header2;
 pub use luks2_json::tree::Metadata;
 pub use luks2_metadata::bounds::Bounds;
 use std::alloc::Global;

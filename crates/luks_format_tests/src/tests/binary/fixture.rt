@@ -9,7 +9,7 @@ use luks_io::source::Source;
 use luks_kdf::{Hash, digest};
 use luks_test_support::bytes::{put, range_mut};
 use luks2_binary::header::Header2;
-use luks2_binary::reading::read_header2;
+use luks2_binary::header_search::read_header2;
 use std::alloc::Global;
 use std::process::Abort;
 

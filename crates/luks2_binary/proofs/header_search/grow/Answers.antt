@@ -1,7 +1,7 @@
 use Rattle.std.proofs.Common.{◌∙◌, Err, sym}
 use Rattle.luks_io.proofs.ErrorLemmas.{given_error}
 use Rattle.luks2_binary.proofs.PrefixLemmas.{loads_by, loads_none}
-use Rattle.luks2_binary.proofs.reading.grow.Goals as goal
+use Rattle.luks2_binary.proofs.header_search.grow.Goals as goal
 
 pub returns-then-has_ended : goal.returns-then-has_ended
 returns-then-has_ended g c = record {

@@ -6,7 +6,7 @@ use Rattle.luks2_binary.specs.ReadLen2.{search_len}
 use Rattle.luks2_binary.proofs.PrefixLemmas.{loads_aborted, loads_as, loads_none, loads_then, prefix_of_itself}
 use Rattle.luks2_binary.proofs.ValidLemmas.{found_least, found_valid, offset_range, probe_below, searched_all, so_far}
 use Rattle.luks2_binary.proofs.ValidLemmas.{searched_none, searched_on, searched_offset, so_far_next}
-use Rattle.luks2_binary.proofs.reading.search.Goals as goal
+use Rattle.luks2_binary.proofs.header_search.search.Goals as goal
 
 pub loop-offset-init : goal.loop-offset-init
 loop-offset-init g c = record {

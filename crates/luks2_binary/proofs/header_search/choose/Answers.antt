@@ -6,7 +6,7 @@ use Rattle.luks2_binary.proofs.ValidLemmas.{none_fails, some_holds}
 use Rattle.luks2_binary.proofs.ChoiceLemmas.{choice_with_primary_same, chosen_primary, found_chosen, probe_first}
 use Rattle.luks2_binary.proofs.ChoiceLemmas.{probe_other, probe_primary}
 use Rattle.luks2_binary.proofs.PrefixLemmas.{loads_aborted, loads_as, loads_then, prefix_of_itself}
-use Rattle.luks2_binary.proofs.reading.choose.Goals as goal
+use Rattle.luks2_binary.proofs.header_search.choose.Goals as goal
 
 pub returns-in_err-size-clause-loads : goal.returns-in_err-size-clause-loads
 returns-in_err-size-clause-loads g c =

@@ -1,6 +1,6 @@
 use Rattle.luks_io.proofs.ErrorLemmas.{given_error}
 use Rattle.luks2_binary.proofs.PrefixLemmas.{aborted_for, answered_for, loads_finished, loads_unfinished}
-use Rattle.luks2_binary.proofs.reading.read_header2.Goals as goal
+use Rattle.luks2_binary.proofs.header_search.read_header2.Goals as goal
 
 -- a read failed, or memory ran out
 pub returns-in_err-header : goal.returns-in_err-header

@@ -1,7 +1,7 @@
 use Rattle.std.proofs.Common.{Ok, false}
 use Rattle.luks2_binary.specs.Reading2.{LoadsMore, OfEach}
 use Rattle.luks2_binary.proofs.ValidLemmas.{Searched, so_far}
-use Rattle.luks2_binary.proofs.reading.search.Given as goal
+use Rattle.luks2_binary.proofs.header_search.search.Given as goal
 
 -- no valid header is at the offsets so far
 abbrev pub invariant-loop-offset : goal.invariant-loop-offset

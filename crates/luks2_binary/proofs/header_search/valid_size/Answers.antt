@@ -5,7 +5,7 @@ use Rattle.luks2_binary.specs.ReadLen2.{probe_end}
 use Rattle.luks2_binary.proofs.PrefixLemmas.{loads_aborted, loads_as, loads_then}
 use Rattle.luks2_binary.proofs.ValidLemmas.{fit_here, probe_fit, probe_least, probe_unfit, unfit-is_valid, unfit_here}
 use Rattle.luks2_binary.proofs.ValidLemmas.{valid_here}
-use Rattle.luks2_binary.proofs.reading.valid_size.Goals as goal
+use Rattle.luks2_binary.proofs.header_search.valid_size.Goals as goal
 
 pub returns-in_err-grow-clause-loads : goal.returns-in_err-grow-clause-loads
 returns-in_err-grow-clause-loads g c =
