@@ -224,17 +224,23 @@ pub(crate) struct Payload {
 }
 
 /// The payload of a header with these bounds.
-#[tactic(
-    auto,
-    unfolding(crate::specs::Segment2::payload2_start, crate::specs::Segment2::payload_mode2_of)
-)]
+#[tactic(auto, unfolding(crate::specs::Segment2::payload2_start, crate::specs::Segment2::payload_mode2_of))]
 pub(crate) fn find_payload(tree: &Value, bounds: Bounds) -> Payload
     ensures start { result.start ≡ payload2_start (data_of tree.now) bounds }
     ensures mode { result.mode ≡ payload_mode2_of (data_of tree.now) bounds }
 {
     match segment_in(tree, bounds) {
-        Ok(segment) if bounds.detached => Payload { start: None, mode: Some(segment.mode) },
-        Ok(segment) => Payload { start: Some(segment.offset), mode: Some(segment.mode) },
-        Err(_) => Payload { start: None, mode: None },
+        Ok(segment) if bounds.detached => Payload {
+            start: None,
+            mode: Some(segment.mode),
+        },
+        Ok(segment) => Payload {
+            start: Some(segment.offset),
+            mode: Some(segment.mode),
+        },
+        Err(_) => Payload {
+            start: None,
+            mode: None,
+        },
     }
 }

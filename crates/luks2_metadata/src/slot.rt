@@ -170,10 +170,7 @@ fn salt(alloc: Global, slot: &Value) -> Result<HeaderBytes, AllocError>
 }
 
 // The parts of a slot whose members have these values.
-#[tactic(
-    auto,
-    unfolding(crate::specs::Slot2::slot_parts2_of, crate::specs::Slot2::values_of)
-)]
+#[tactic(auto, unfolding(crate::specs::Slot2::slot_parts2_of, crate::specs::Slot2::values_of))]
 fn parts(alloc: Global, slot: &Value, values: SlotValues) -> Result<SlotParts, AllocError>
     requires values { values ≡ values_of (slot_parts2_of (data_of slot.now)) }
     requires iterations { values.iterations ≤ max_iteration_count }

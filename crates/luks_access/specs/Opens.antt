@@ -69,9 +69,13 @@ abbrev pub UnlocksVolume : FoundVolume → List ℕ → List ℕ → List ℕ �
 UnlocksVolume volume pass area' rest left result =
     ((length pass ≤ max_key_file_len)
     × TriesSlots (record {
-      segment = volume.segment; order = volume.order; passphrase = pass;
-      loaded = volume.area.bytes; loaded' = area';
-      further = rest; further' = left;
+      segment = volume.segment;
+      order = volume.order;
+      passphrase = pass;
+      loaded = volume.area.bytes;
+      loaded' = area';
+      further = rest;
+      further' = left;
     }) result)
     ⊎ ((max_key_file_len < length pass) × (result ≡ Err (V.Passphrase TooLong)) × (left ≡ Some rest))
 

@@ -31,9 +31,13 @@ pub fn try_slots<I: Source>(
     ensures run { IfKnown (I.to_come image.old) (λ rest.
         (volume.old.area.ended ≡ true → rest ≡ [])
         → TriesSlots (record {
-          segment = volume.old.segment; order = volume.old.order; passphrase = pass.now;
-          loaded = volume.old.area.bytes; loaded' = volume.new.area.bytes;
-          further = rest; further' = I.to_come image.new;
+          segment = volume.old.segment;
+          order = volume.old.order;
+          passphrase = pass.now;
+          loaded = volume.old.area.bytes;
+          loaded' = volume.new.area.bytes;
+          further = rest;
+          further' = I.to_come image.new;
         }) result) }
     ensures work { CountsTrials volume.old.order volume.new.area.bytes pass.now result
         work.old work.new }

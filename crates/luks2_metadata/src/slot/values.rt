@@ -48,10 +48,7 @@ fn area_mode(slot: &Value) -> Option<Mode>
 }
 
 /// The values of the slot's members.
-#[tactic(
-    auto,
-    unfolding(crate::specs::Slot2::slot_parts2_of, crate::specs::Slot2::values_of)
-)]
+#[tactic(auto, unfolding(crate::specs::Slot2::slot_parts2_of, crate::specs::Slot2::values_of))]
 pub fn slot_values(slot: &Value) -> SlotValues
     ensures { result ≡ values_of (slot_parts2_of (data_of slot.now)) }
 {

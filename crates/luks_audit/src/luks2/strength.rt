@@ -67,10 +67,7 @@ fn derivation(slot: &Value) -> Derivation
 }
 
 // What is judged of a slot that holds a key.
-#[tactic(
-    auto,
-    unfolding(crate::specs::Audit2::strength2_of, luks2_metadata::specs::Slot2::values_of)
-)]
+#[tactic(auto, unfolding(crate::specs::Audit2::strength2_of, luks2_metadata::specs::Slot2::values_of))]
 fn strength(slot: &Value) -> SlotStrength
     ensures { result ≡ strength2_of (data_of slot.now) }
 {

@@ -63,9 +63,13 @@ fn unlock_found<I: Source, K: Source>(
     ensures run { IfKnown (I.to_come image.old) (λ rest. IfKnown (K.to_come secret.old)
         (λ passphrase. (volume.old.area.ended ≡ true → rest ≡ [])
         → UnlockEffect (record {
-          segment = volume.old.segment; order = volume.old.order; passphrase = passphrase;
-          loaded = volume.old.area.bytes; loaded' = volume.new.area.bytes;
-          further = rest; further' = I.to_come image.new;
+          segment = volume.old.segment;
+          order = volume.old.order;
+          passphrase = passphrase;
+          loaded = volume.old.area.bytes;
+          loaded' = volume.new.area.bytes;
+          further = rest;
+          further' = I.to_come image.new;
         }) (K.to_come secret.new) result)) }
     ensures counts { CountsReads ReadsOnce (has_fault is_read_failure result)
         (record { before = I.counts image.old; after = I.counts image.new })
