@@ -71,7 +71,8 @@ has_members slot =
 abbrev pub is_kdf_type : List ℕ → Data → Bool
 is_kdf_type type slot = passes (codes "kdf") (is_type type) slot
 
--- the values of a slot's members, each 0, no bytes or `None` if it is missing or of another type
+-- the values of a slot's members. Each is 0, no bytes or `None` if the member is missing, of another type or, as a
+-- hash function or mode, not known; but a slot without a priority has priority 1
 unfoldable pub slot_parts2_of : Data → SlotParts
 slot_parts2_of slot = record {
   priority = unwrap_or (priority_of slot) 0;

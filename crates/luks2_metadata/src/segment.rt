@@ -214,7 +214,7 @@ pub fn segment(metadata: &Metadata, bounds: Bounds) -> Result<Segment, SegmentFa
     segment_in(metadata.tree(), bounds)
 }
 
-/// What key slots are checked against.
+/// What key slots are checked against of the payload.
 #[derive(Clone, Copy)]
 pub(crate) struct Payload {
     // Where it starts, if the header is attached and the segment is not refused.

@@ -45,7 +45,7 @@ fn is_kdf_type(slot: &Value, expected: &str) -> bool
 }
 
 // The slot's keys have valid lengths for their modes.
-fn are_key_sizes(slot: SlotValues, payload_mode: Option<Mode>) -> bool
+fn are_key_sizes(payload_mode: Option<Mode>, slot: SlotValues) -> bool
     ensures { result ≡ (is_length_for slot.area_mode slot.area_key_bytes
         && is_length_for payload_mode slot.key_bytes) }
 {
@@ -109,7 +109,7 @@ fn reason(
         Some(SkipReason::Hash)
     } else if values.area_mode.is_none() {
         Some(SkipReason::Encryption)
-    } else if !are_key_sizes(values, payload.mode) {
+    } else if !are_key_sizes(payload.mode, values) {
         Some(SkipReason::KeySize)
     } else if stripes_out_of_range(values.stripes) {
         Some(SkipReason::Stripes)
@@ -160,8 +160,8 @@ pub fn verdict_kind(
 
 // The salt of the key derivation, or no bytes if it is missing.
 fn salt(alloc: Global, slot: &Value) -> Result<HeaderBytes, AllocError>
-    ensures { IfOk result (λ salt. salt
-        ≡ unwrap_or (in_member (codes "kdf") (base64_member (codes "salt")) (data_of slot.now)) []) }
+    ensures { IfOk result (λ salt. salt ≡ unwrap_or
+        (in_member (codes "kdf") (base64_member (codes "salt")) (data_of slot.now)) []) }
 {
     match slot.get("kdf") {
         Some(kdf) => bytes_in(alloc, kdf, "salt"),

@@ -1,5 +1,6 @@
 -- Which volume is opened, compared with `luksCat`.
-use Rattle.std.specs.Prelude.{ℕ, ◌≡◌, List, Ok, false, ◌⊎◌, ◌<◌, ◌≤◌, length, Option, None, Some, Result, Err, MatchBool}
+use Rattle.std.specs.Prelude.{ℕ, ◌≡◌, List, Ok, false, ◌⊎◌, ◌<◌, ◌≤◌, length, Option, None, Some, Result, Err}
+use Rattle.std.specs.Prelude.{MatchBool}
 use Rattle.std.specs.Prelude.{if◌then◌else◌, nat_lt}
 use Rattle.luks_io.specs.Devices.{ConsumedAtMost, ConsumedExactly}
 use Rattle.luks_cipher.specs.Sector.{Cipher}

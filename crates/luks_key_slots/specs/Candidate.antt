@@ -42,7 +42,7 @@ unfoldable pub candidate_of : Slot → List ℕ → List ℕ → Option (List �
 candidate_of slot image pass =
     candidate_by slot.parts.kdf_hash slot.parts.af_hash slot.parts.area_mode slot.parts image pass
 
--- the key matches the digest: PBKDF2 of the key gives the whole value of the digest. None does if the name of the
+-- the key matches the digest: PBKDF2 of the key gives the whole value of the digest. No key does if the name of the
 -- digest's hash function is not known
 unfoldable pub matches_digest : KeyDigest → List ℕ → Bool
 matches_digest digest key =

@@ -3,7 +3,8 @@ use Rattle.std.specs.Prelude.{Bool, false, true, Result, Ok, Err}
 use Rattle.luks_header_area.specs.declared.fault.HeaderFault.TheVariants.{Read as HeaderRead, Memory as HeaderMemory}
 use Rattle.luks_key_slots.specs.declared.fault.OpenFault.TheVariants.{Memory, NoKey}
 use Rattle.luks_key_slots.specs.declared.fault.PassphraseFault.{PassphraseFault}
-use Rattle.luks_key_slots.specs.declared.fault.PassphraseFault.TheVariants.{Read as PassphraseRead, Memory as PassphraseMemory}
+use Rattle.luks_key_slots.specs.declared.fault.PassphraseFault.TheVariants.{Read as PassphraseRead}
+use Rattle.luks_key_slots.specs.declared.fault.PassphraseFault.TheVariants.{Memory as PassphraseMemory}
 use Rattle.luks_key_slots.specs.declared.fault.VolumeFault.{VolumeFault}
 use Rattle.luks_key_slots.specs.declared.fault.VolumeFault.TheVariants.{Header, Passphrase, Slots}
 

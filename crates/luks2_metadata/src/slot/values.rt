@@ -13,11 +13,11 @@ use luks2_json::encryption::encryption_mode;
 use luks2_json::member::{integer_member, nested_decimal, nested_integer, nested_string};
 use serde_json::Value;
 
-/// The values of a key slot's members but its salt: each is 0 or `None` if the member is missing or
-/// of another type.
+/// The values of a key slot's members but its salt. Each is 0 or `None` if the member is missing or
+/// of another type, or names a hash function or mode that is not known.
 #[derive(Clone, Copy, Debug)]
 pub struct SlotValues {
-    /// The priority of the slot.
+    /// The priority of the slot: 1 if it has none.
     pub priority: u8,
     /// The hash function with which PBKDF2 derives the key of the key material, if it is known.
     pub kdf_hash: Option<Hash>,

@@ -5,8 +5,8 @@ use Rattle.luks2_metadata.specs.Slot2.{reason2_of, values_of}
 
 pub is_area_out_of_range-requires-clause-short : goal.is_area_out_of_range-requires-clause-short
 is_area_out_of_range-requires-clause-short c =
-    (key_sizes_few c.args.values.area_mode c.find_payload-payload.result.mode c.args.values.area_key_bytes c.args.values.key_bytes
-    (cc)).1
+    let values = c.args.values in
+    (key_sizes_few values.area_mode c.find_payload-payload.result.mode values.area_key_bytes values.key_bytes (cc)).1
 
 pub is_area_out_of_range-requires-clause-few : goal.is_area_out_of_range-requires-clause-few
 is_area_out_of_range-requires-clause-few c = stripes_few c.args.values.stripes (cc)

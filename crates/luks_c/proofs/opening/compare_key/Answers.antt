@@ -1,4 +1,5 @@
-use Rattle.std.proofs.Common.{◌∙◌, ◌≡◌, ◌≢◌, ℕ, List, Option, Result, Ok, Err, Some, ap, arith, refl, rules, sym, false, true}
+use Rattle.std.proofs.Common.{◌∙◌, ◌≡◌, ◌≢◌, ℕ, List, Option, Result, Ok, Err, Some, ap, arith, refl, rules, sym}
+use Rattle.std.proofs.Common.{false, true}
 use Rattle.luks_io.specs.Counts.{MemSourceModel}
 use Rattle.luks_access.specs.Keys.{check_in_header, key_check_of}
 use Rattle.luks_key_slots.specs.declared.fault.VolumeFault.{VolumeFault}
