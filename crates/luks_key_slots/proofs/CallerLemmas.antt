@@ -1,7 +1,7 @@
 -- Properties of the key slots to be tried, in their order, and of their key material, for this crate and its callers.
 use Rattle.std.proofs.Common.{◌≡◌, ◌∙◌, ℕ, ◌+◌, ◌*◌, ◌/◌, ◌==◌, ◌<◌, ◌≤◌, max, Bool, true, false, List, [], ◌∷◌, ◌++◌}
-use Rattle.std.proofs.Common.{length, take, drop, get_or, Option, Some, None}
-use Rattle.std.proofs.Common.{Ok, IsOk, IsSome, refl, sym, ap, subst, arith}
+use Rattle.std.proofs.Common.{length, take, drop, get_or, Option, Some, None, Ok, IsOk, IsSome, refl, sym, ap, subst}
+use Rattle.std.proofs.Common.{arith}
 use Rattle.std.specs.Prelude.{if◌then◌else◌, is_some, ok_or, option_map, slice_index_or, sum_by}
 use Rattle.std.specs.List.{AllByRecursion, All}
 use Rattle.std.proofs.lemmas.Bool.{eq-eqb}
@@ -34,12 +34,11 @@ use Rattle.luks_header.specs.HeaderSegment.{segment_of}
 use Rattle.luks_header.specs.SlotVerdicts.{can_be_tried, verdict_at}
 use Rattle.luks_header.specs.declared.header.Header.{Header}
 use Rattle.luks_header.proofs.KnownLemmas.{IsKnown, before_payload, known_usable}
-use Rattle.luks_key_slots.specs.Candidate.{candidate_by, candidate_of, decrypted_material}
-use Rattle.luks_key_slots.specs.Candidate.{material_sector, matches_digest, recovered}
-use Rattle.luks_key_slots.specs.Opening.{first_opening, if_matches_digest, slot_key, opened_or, opening_of}
-use Rattle.luks_key_slots.specs.Opening.{OrderModel, entry_with_priority, key_material_end, order_of, order_of_all}
-use Rattle.luks_key_slots.specs.Opening.{order_of_named, skipped_at, tried_with}
-use Rattle.luks_key_slots.specs.Opening.{unless_none, evaluations_of, tried_of, work_of}
+use Rattle.luks_key_slots.specs.Candidate.{candidate_by, candidate_of, decrypted_material, material_sector}
+use Rattle.luks_key_slots.specs.Candidate.{matches_digest, recovered}
+use Rattle.luks_key_slots.specs.Opening.{first_opening, if_matches_digest, slot_key, opened_or, opening_of, OrderModel}
+use Rattle.luks_key_slots.specs.Opening.{entry_with_priority, key_material_end, order_of, order_of_all, order_of_named}
+use Rattle.luks_key_slots.specs.Opening.{skipped_at, tried_with, unless_none, evaluations_of, tried_of, work_of}
 use Rattle.luks_key_slots.specs.Trial.{IsTriable}
 use Rattle.luks_key_slots.specs.declared.entry.Entry.{Entry}
 use Rattle.luks_key_slots.specs.declared.fault.OpenFault.TheVariants.{NoKey}

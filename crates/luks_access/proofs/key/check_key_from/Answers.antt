@@ -13,7 +13,8 @@ use Rattle.luks_header.specs.declared.header.Header.{Header}
 use Rattle.luks_key_slots.specs.VolumeKey.{compared, key_digest_of}
 use Rattle.luks_key_slots.specs.declared.volume_key.KeyCheck.TheVariants.{Differs}
 use Rattle.luks_key_slots.specs.Fault.{aborts_opening}
-use Rattle.luks_key_slots.specs.declared.fault.VolumeFault.TheVariants.{Header as HeaderNotRead, Segment as SegmentRefused}
+use Rattle.luks_key_slots.specs.declared.fault.VolumeFault.TheVariants.{Header as HeaderNotRead}
+use Rattle.luks_key_slots.specs.declared.fault.VolumeFault.TheVariants.{Segment as SegmentRefused}
 use Rattle.luks_runs.proofs.RunLemmas.{reading_fault}
 use Rattle.luks_runs.specs.Location.{reader_for}
 use Rattle.luks_runs.specs.declared.location.HeaderLocation.{HeaderLocation}
