@@ -80,7 +80,14 @@ impl Lanes for Sha256 {
 
     const LONE: bool = false;
 
-    fn xor_chains(inner: &[u8], outer: &[u8], _: usize, count: u32, last: &[u8], xors: &mut [u8]) {
+    fn xor_chains(
+        inner: &[u8],
+        outer: &[u8],
+        _used: usize,
+        count: u32,
+        last: &[u8],
+        xors: &mut [u8],
+    ) {
         sha256_chains::xor_chains(inner, outer, count, last, xors);
     }
 
@@ -94,7 +101,14 @@ impl Lanes for Sha384 {
 
     const LONE: bool = true;
 
-    fn xor_chains(inner: &[u8], outer: &[u8], _: usize, count: u32, last: &[u8], xors: &mut [u8]) {
+    fn xor_chains(
+        inner: &[u8],
+        outer: &[u8],
+        _used: usize,
+        count: u32,
+        last: &[u8],
+        xors: &mut [u8],
+    ) {
         sha512_chains::xor_chain384(inner, outer, count, last, xors);
     }
 
@@ -108,7 +122,14 @@ impl Lanes for Sha512 {
 
     const LONE: bool = true;
 
-    fn xor_chains(inner: &[u8], outer: &[u8], _: usize, count: u32, last: &[u8], xors: &mut [u8]) {
+    fn xor_chains(
+        inner: &[u8],
+        outer: &[u8],
+        _used: usize,
+        count: u32,
+        last: &[u8],
+        xors: &mut [u8],
+    ) {
         sha512_chains::xor_chain512(inner, outer, count, last, xors);
     }
 

@@ -46,7 +46,7 @@ fn after_digest<const N: usize>(
     ensures { (j : ℕ) → j < N
         → lane j result ≡ after_digest compress 5 (lane j state.now) (lane j d.now) }
 {
-    compress(state, &digest_block(d))
+    compress::<N, 1>(state, &digest_block(d))
 }
 
 #[inline(always)]
@@ -80,8 +80,10 @@ pub(crate) fn xor_iterations<const N: usize>(
     let mut t = *before;
     'iterations: for _ in 0..count {
         let middle = after_digest(inner, &u);
-        u = after_digest(outer, &middle);
-        t = xor_words(&t, &u);
+        let next = after_digest(outer, &middle);
+        let more = xor_words(&t, &next);
+        u = next;
+        t = more;
     }
     t
 }

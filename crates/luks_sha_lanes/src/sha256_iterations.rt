@@ -86,8 +86,10 @@ pub(crate) fn xor_iterations(
     let mut t = *before;
     'iterations: for _ in 0..count {
         let middle = after_digest(inner, &u);
-        u = after_digest(outer, &middle);
-        t = xor_words(&t, &u);
+        let next = after_digest(outer, &middle);
+        let more = xor_words(&t, &next);
+        u = next;
+        t = more;
     }
     t
 }

@@ -24,15 +24,14 @@ fn pair(first: u64, second: u64) -> u64x2
 fn digest_block512(d: &[u64; 8]) -> [u64x2; 8]
     ensures { ArePairs result (digest_bytes d.now 8 ++ padding 192) }
 {
-    let none = u64x2::splat(0);
     [
         pair(d[0], d[1]),
         pair(d[2], d[3]),
         pair(d[4], d[5]),
         pair(d[6], d[7]),
         pair(ONE_BIT, 0),
-        none,
-        none,
+        pair(0, 0),
+        pair(0, 0),
         pair(0, 0x600),
     ]
 }
@@ -42,15 +41,14 @@ fn digest_block512(d: &[u64; 8]) -> [u64x2; 8]
 fn digest_block384(d: &[u64; 8]) -> [u64x2; 8]
     ensures { ArePairs result (digest_bytes d.now 6 ++ padding 176) }
 {
-    let none = u64x2::splat(0);
     [
         pair(d[0], d[1]),
         pair(d[2], d[3]),
         pair(d[4], d[5]),
         pair(ONE_BIT, 0),
-        none,
-        none,
-        none,
+        pair(0, 0),
+        pair(0, 0),
+        pair(0, 0),
         pair(0, 0x580),
     ]
 }
@@ -100,8 +98,10 @@ pub(crate) fn xor_iterations<const WORDS: usize>(
     let mut t = *before;
     'iterations: for _ in 0..count {
         let middle = after_digest::<WORDS>(inner, &u);
-        u = after_digest::<WORDS>(outer, &middle);
-        t = xor_words(&t, &u);
+        let next = after_digest::<WORDS>(outer, &middle);
+        let more = xor_words(&t, &next);
+        u = next;
+        t = more;
     }
     t
 }

@@ -5,7 +5,7 @@ pub load_block-requires : goal.load_block-requires
 load_block-requires g c = (omega arith, (omega arith, c.requires.block))
 
 pub compress-requires : goal.compress-requires
-compress-requires g c = (omega arith, omega arith)
+compress-requires g c = (omega arith, (omega arith, omega arith))
 
 pub returns : goal.returns
 returns g c = λ j in_lane.

@@ -6,7 +6,7 @@ pub digest_block-requires : goal.digest_block-requires
 digest_block-requires g c = (omega arith, (omega arith, omega arith))
 
 pub compress-requires : goal.compress-requires
-compress-requires g c = (omega arith, omega arith)
+compress-requires g c = (omega arith, (omega arith, omega arith))
 
 pub returns : goal.returns
 unfolding after_digest

@@ -13,9 +13,9 @@ unfolding iterations_xor iterations
 iterations-preserved g c = λ j in_lane.
     let so_far = c.iterations.invariant j in_lane in
     let middle = c.after_digest-middle.ensures j in_lane in
-    let is_next = c.after_digest-u.ensures j in_lane
+    let is_next = c.after_digest-next.ensures j in_lane
     ∙ ap (after_digest compress 5 _) (middle ∙ ap (after_digest compress 5 _) so_far.0) in
-    rw add-one (is_next, c.xor_words-t.ensures j in_lane ∙ ap₂ (xor_words 5) so_far.1 is_next)
+    rw add-one (is_next, c.xor_words-more.ensures j in_lane ∙ ap₂ (xor_words 5) so_far.1 is_next)
 
 pub returns : goal.returns
 returns g c = λ j in_lane.

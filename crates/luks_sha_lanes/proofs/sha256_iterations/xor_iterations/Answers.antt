@@ -13,9 +13,9 @@ unfolding iterations_xor iterations
 iterations-preserved c = λ j in_lane inner outer last.
     let so_far = c.iterations.invariant j in_lane inner outer last in
     let middle = c.after_digest-middle.ensures j in_lane inner so_far.0 in
-    let next = c.after_digest-u.ensures j in_lane outer middle.0 in
+    let next = c.after_digest-next.ensures j in_lane outer middle.0 in
     let is_next = next.1 ∙ ap (after_digest compress 8 _) (middle.1 ∙ ap (after_digest compress 8 _) so_far.1) in
-    rw add-one (next.0, is_next, c.xor_words-t.ensures j in_lane ∙ ap₂ (xor_words 8) so_far.2 is_next)
+    rw add-one (next.0, is_next, c.xor_words-more.ensures j in_lane ∙ ap₂ (xor_words 8) so_far.2 is_next)
 
 pub returns : goal.returns
 returns c = λ j in_lane inner outer last.

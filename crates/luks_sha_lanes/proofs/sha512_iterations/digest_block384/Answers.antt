@@ -8,4 +8,7 @@ returns c = rw (
   c.pair-3.ensures,
   c.pair-4.ensures,
   c.pair-5.ensures,
+  c.pair-6.ensures,
+  c.pair-7.ensures,
+  c.pair-8.ensures,
 ) (padded_words384 c.args.d.now c.fits-d)

@@ -12,9 +12,9 @@ unfolding iterations_xor iterations
 iterations-preserved g c =
     let after = after_digest512 g.row.WORDS in
     let so_far = c.iterations.invariant in
-    let is_next = c.after_digest-u.ensures
+    let is_next = c.after_digest-next.ensures
     ∙ ap (after _) (c.after_digest-middle.ensures ∙ ap (after _) so_far.0) in
-    rw add-one (is_next, c.xor_words-t.ensures ∙ ap₂ (xor_words 8) so_far.1 is_next)
+    rw add-one (is_next, c.xor_words-more.ensures ∙ ap₂ (xor_words 8) so_far.1 is_next)
 
 pub returns : goal.returns
 returns g c =

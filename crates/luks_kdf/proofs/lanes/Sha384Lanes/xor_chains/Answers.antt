@@ -6,5 +6,5 @@ use Rattle.luks_kdf.proofs.lanes.Sha384Lanes.xor_chains.Goals as goal
 
 pub returns : goal.returns
 returns c = lone_chain (hash_of Sha384) 48 c.args.inner.now c.args.outer.now c.args.last.now c.args.xors.now
-    c.xor_chain384.new.xors c.args.count _ (omega arith) (omega arith) (omega arith) (omega arith)
+    c.xor_chain384.new.xors c.args.count c.args._used (omega arith) (omega arith) (omega arith) (omega arith)
     c.xor_chain384.ensures
