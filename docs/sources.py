@@ -12,6 +12,9 @@ START = re.compile(
 )
 RUST = re.compile(r"^pub (?:struct|enum) (\w+)", re.MULTILINE)
 
+# the model of a type
+MODEL = re.compile(r"^(impl(?:<.*>)? Model for (\w+)\S*) \{.*?(ghost Value = .*?;)$", re.MULTILINE | re.DOTALL)
+
 # the name of an enum's variant, which may also be that of a type
 VARIANT = re.compile(r"^    [A-Z]\w*", re.MULTILINE)
 
@@ -68,8 +71,10 @@ def definitions_of(crate, path):
 
 
 def types_of(crate, path):
-    """The public types of a file in Rust, by their names, without their code."""
+    """The public types of a file in Rust, by their names, without their code. Of one with a model, which is what clauses
+    see, that stands in place of its fields."""
     text, found = path.read_text(), {}
+    models = {name: (model, value) for model, name, value in MODEL.findall(text)}
     for item in RUST.finditer(text):
         end = text.index("\n", item.start())
         if re.match(r"[^;\n]*\{$", text[item.start() : end]):
@@ -81,6 +86,9 @@ def types_of(crate, path):
             if line.startswith("///"):
                 comment.insert(0, line)
         lines = [line for line in text[item.start():end].split("\n") if line.strip()]
+        if item[1] in models:
+            model, value = models[item[1]]
+            lines = [lines[0].replace("{", "{ .. }"), f"{model} {{", f"    {value}", "}"]
         found[item[1]] = Definition(crate, path.name, item[1], comment, lines, {})
     return found
 
