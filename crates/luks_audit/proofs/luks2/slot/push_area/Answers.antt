@@ -7,7 +7,7 @@ returns c = simp (
   c.in_ok-push_optional_text.ensures,
   c.in_ok-push_optional_number.ensures,
   c.in_ok-push_optional_number-2.ensures,
-  c.nested_text.ensures,
+  c.nested_string.ensures,
   c.nested_integer.ensures,
   c.nested_decimal.ensures,
   c.nested_decimal-2.ensures,

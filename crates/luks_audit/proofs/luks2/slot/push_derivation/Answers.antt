@@ -11,7 +11,7 @@ returns c = simp (
   c.in_ok-push_salt.ensures,
   c.priority.ensures,
   c.integer_member.ensures,
-  c.nested_text.ensures,
-  c.nested_text-2.ensures,
+  c.nested_string.ensures,
+  c.nested_string-2.ensures,
   c.nested_integer.ensures,
 ) at c.push_optional_number-3.ensures
