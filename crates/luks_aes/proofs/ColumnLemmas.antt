@@ -14,7 +14,7 @@ use Rattle.luks_aes.specs.Aes.{encrypted}
 use Rattle.luks_aes.specs.Bytes.{IsBytes}
 use Rattle.luks_aes.specs.Columns.{bytes_of_words, matrix_column, column_product, IsColumnTable}
 use Rattle.luks_aes.specs.declared.sbox.TheConstants.{SBOX, INV_SBOX}
-use Rattle.luks_aes.specs.declared.mixing.TheConstants.{MIXED_0, MIXED_1, MIXED_2, MIXED_3, INV_MIXED}
+use Rattle.luks_aes.specs.declared.mix_columns.TheConstants.{MIXED_0, MIXED_1, MIXED_2, MIXED_3, INV_MIXED}
 use Rattle.luks_aes.proofs.Bytes.{same_below, sbox_entry, inv_sbox_entry, below_256}
 
 -- ---- elements of the field

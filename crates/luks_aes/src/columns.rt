@@ -6,7 +6,7 @@ ghost use Rattle.luks_aes.specs.Aes.{word_of, word_xor, sub_bytes, shift_rows, m
 ghost use Rattle.luks_aes.specs.Aes.{add_round_key, inv_shift_rows, inv_sub_bytes, inv_mix_columns};
 ghost use Rattle.luks_aes.specs.Columns.{bytes_of_words};
 
-use crate::mixing::{inv_mixed, mixed};
+use crate::mix_columns::{inv_mixed, mixed};
 
 // The column of the 4 bytes from index `at` on.
 #[inline(always)]

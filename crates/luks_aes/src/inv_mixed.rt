@@ -4,7 +4,7 @@ ghost use Rattle.std.specs.Prelude.{◌≡◌, ◌+◌, ◌*◌, ◌≤◌, [], 
 ghost use Rattle.luks_aes.specs.Aes.{word_at};
 ghost use Rattle.luks_aes.specs.Columns.{column_product, IsMultiplied};
 
-use crate::mixing::inv_mixed;
+use crate::mix_columns::inv_mixed;
 use crate::sbox::sbox;
 use crate::schedule::MAX_SCHEDULE_LEN;
 

@@ -10,7 +10,7 @@ mod columns;
 mod field;
 mod inv_mixed;
 pub mod key_schedule;
-mod mixing;
+mod mix_columns;
 mod sbox;
 mod schedule;
 mod state;

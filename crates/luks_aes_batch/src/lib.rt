@@ -10,8 +10,8 @@
 mod circuit;
 mod gates;
 mod key;
+mod inv_mix_columns;
 mod lane;
-mod mixing;
 mod packing;
 mod pairs;
 mod planes;

@@ -7,7 +7,7 @@ ghost use Rattle.luks_aes_batch.specs.Words.{AreRowsOf, SameRowsOf};
 ghost use Rattle.luks_aes_batch.specs.Mixing.{AreBytes, AreShared, AreDoubled, mixed_and_shifted};
 
 use crate::lane::Lane;
-use crate::mixing::{Rows, SharedValues};
+use crate::inv_mix_columns::{Rows, SharedValues};
 use crate::round_key::KeyPlane;
 
 /// One bit of each byte of a batch, in words of 64 bits. `specs/Words.antt` says which byte a bit

@@ -3,7 +3,7 @@
 ghost use Rattle.std.specs.Prelude.{◌≡◌, ◌+◌, ◌*◌, ◌/◌, ◌<◌, ◌≤◌, ℕ, length, slice_index};
 
 use crate::lane::Lane;
-use crate::mixing::Rows;
+use crate::inv_mix_columns::Rows;
 
 /// One bit plane of a round key, for four groups of blocks: one bit of each byte.
 #[repr(C)]

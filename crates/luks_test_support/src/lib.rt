@@ -1,11 +1,12 @@
 //! What the tests of several crates share: comparisons, changes of bytes, pseudorandom numbers,
-//! devices whose calls fail, memory that is used up, and headers of LUKS2.
+//! devices whose calls fail, memory that is used up, and headers.
 //!
 //! Only tests use it.
 #![tactic(auto)]
 
 pub mod bytes;
 pub mod devices;
+pub mod header1;
 pub mod header2;
 pub mod numbers;
 pub mod same;

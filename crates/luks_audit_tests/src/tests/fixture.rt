@@ -7,6 +7,7 @@ use luks_audit::image::{Policy, audit_image};
 use luks_audit::line::Format;
 use luks_io::memory::MemSource;
 use luks_test_support::bytes::{put, put_numbers};
+use luks_test_support::header1::USUAL_NUMBERS;
 use luks_test_support::header2::image_of;
 use serde_json::Value;
 use std::process::Abort;
@@ -28,24 +29,8 @@ pub fn assert_of(rt: &impl Abort, case: &str, holds: bool) {
     assert!(rt; holds, "{case}");
 }
 
-/// The numbers of a LUKS1 header with no slot in use but slot 0, which has 1000 iterations.
-const NUMBERS: [(usize, u32); 15] = [
-    (104, 4096),
-    (108, 64),
-    (164, 1000),
-    (208, 0x00ac_71f3),
-    (212, 1000),
-    (248, 8),
-    (252, 4000),
-    (256, 0xdead),
-    (304, 0xdead),
-    (352, 0xdead),
-    (400, 0xdead),
-    (448, 0xdead),
-    (496, 0xdead),
-    (544, 0xdead),
-    (588, 4000),
-];
+/// The numbers of a LUKS1 header that are not in each: slot 0 is in use, and slot 7 has stripes.
+const FURTHER_NUMBERS: [(usize, u32); 2] = [(208, 0x00ac_71f3), (588, 4000)];
 
 /// A LUKS1 header with this mode and hash function, and with these other numbers.
 pub fn header1(
@@ -59,7 +44,8 @@ pub fn header1(
     put(header, 0, b"LUKS\xba\xbe\0\x01aes");
     put(header, 40, mode.as_bytes());
     put(header, 72, hash.as_bytes());
-    put_numbers(header, &NUMBERS);
+    put_numbers(header, &USUAL_NUMBERS);
+    put_numbers(header, &FURTHER_NUMBERS);
     put_numbers(header, numbers);
     bytes
 }

@@ -5,6 +5,7 @@ use luks_header::refusal::SkipReason;
 use luks_kdf::Work;
 use luks_key_slots::fault::OpenFault;
 use luks_key_slots::opening::Opened;
+use luks_test_support::header1::USUAL_NUMBERS;
 use std::process::Abort;
 
 /// What is changed in a volume.
@@ -16,24 +17,9 @@ enum Change {
     Numbers(&'static [(usize, u32)]),
 }
 
-// The numbers of a usual volume: SHA-256, a key of 64 bytes, 4000 stripes from sector 8 on, the
-// payload from sector 4096 on, and 1000 iterations each for slot 0, which alone is in use, and for
-// the digest. The key material is then not the split of a key.
-const USUAL: Change = Change::Numbers(&[
-    (104, 4096),
-    (108, 64),
-    (164, 1000),
-    (212, 1000),
-    (248, 8),
-    (252, 4000),
-    (256, 0xdead),
-    (304, 0xdead),
-    (352, 0xdead),
-    (400, 0xdead),
-    (448, 0xdead),
-    (496, 0xdead),
-    (544, 0xdead),
-]);
+// The numbers of a usual volume: slot 0 alone is in use. The key material is then not the split of a
+// key.
+const USUAL: Change = Change::Numbers(&USUAL_NUMBERS);
 
 /// Which slot opens, with the volume's key; or none, and these are skipped.
 enum Expected {

@@ -1,7 +1,7 @@
 use Rattle.std.proofs.Common.{◌≡◌, ◌∙◌, ap, arith}
 use Rattle.std.specs.Int.{bit_at}
 use Rattle.luks_aes_batch.specs.BitPlanes.{rotated_index}
-use Rattle.luks_aes_batch.proofs.mixing.Rows.inv_shifted.Goals as goal
+use Rattle.luks_aes_batch.proofs.inv_mix_columns.Rows.inv_shifted.Goals as goal
 
 pub returns : goal.returns
 returns g c = λ l y j low is. record {

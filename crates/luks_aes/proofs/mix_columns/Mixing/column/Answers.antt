@@ -1,6 +1,6 @@
 use Rattle.std.proofs.Common.{[], ◌∷◌}
 use Rattle.luks_aes.proofs.ColumnLemmas.{columns_summed}
-use Rattle.luks_aes.proofs.mixing.Mixing.column.Goals as goal
+use Rattle.luks_aes.proofs.mix_columns.Mixing.column.Goals as goal
 
 pub returns : goal.returns
 returns c =

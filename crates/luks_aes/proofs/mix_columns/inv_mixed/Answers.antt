@@ -1,6 +1,6 @@
 use Rattle.std.proofs.Common.{[], ◌∷◌, arith}
 use Rattle.luks_aes.proofs.ColumnLemmas.{columns_xored}
-use Rattle.luks_aes.proofs.mixing.inv_mixed.Goals as goal
+use Rattle.luks_aes.proofs.mix_columns.inv_mixed.Goals as goal
 
 pub returns : goal.returns
 returns c =

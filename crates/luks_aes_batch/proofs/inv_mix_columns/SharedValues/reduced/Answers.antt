@@ -1,5 +1,5 @@
 use Rattle.luks_aes_batch.proofs.MixLemmas.{reduced_bits, doubled_with}
-use Rattle.luks_aes_batch.proofs.mixing.SharedValues.reduced.Goals as goal
+use Rattle.luks_aes_batch.proofs.inv_mix_columns.SharedValues.reduced.Goals as goal
 
 pub returns-clause-to_1 : goal.returns-clause-to_1
 returns-clause-to_1 g c = λ l y low all has top.

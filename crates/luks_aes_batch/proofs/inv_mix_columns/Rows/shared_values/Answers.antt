@@ -1,5 +1,5 @@
 use Rattle.luks_aes_batch.proofs.MixLemmas.{xor_plane}
-use Rattle.luks_aes_batch.proofs.mixing.Rows.shared_values.Goals as goal
+use Rattle.luks_aes_batch.proofs.inv_mix_columns.Rows.shared_values.Goals as goal
 
 pub returns-clause-all : goal.returns-clause-all
 returns-clause-all g c = λ l y j low is.

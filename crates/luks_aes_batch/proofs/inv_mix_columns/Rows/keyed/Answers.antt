@@ -1,5 +1,5 @@
 use Rattle.luks_aes_batch.proofs.MixLemmas.{xor_plane}
-use Rattle.luks_aes_batch.proofs.mixing.Rows.keyed.Goals as goal
+use Rattle.luks_aes_batch.proofs.inv_mix_columns.Rows.keyed.Goals as goal
 
 pub returns : goal.returns
 returns g c = λ l y z j low is key. record {

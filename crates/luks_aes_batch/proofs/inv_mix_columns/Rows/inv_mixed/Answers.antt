@@ -1,7 +1,7 @@
 use Rattle.std.proofs.Common.{ℕ, arith}
 use Rattle.luks_aes.specs.Columns.{inv_mixed_row}
 use Rattle.luks_aes_batch.proofs.MixLemmas.{xor_plane, plane_also, first_row, second_row, third_row, fourth_row}
-use Rattle.luks_aes_batch.proofs.mixing.Rows.inv_mixed.Goals as goal
+use Rattle.luks_aes_batch.proofs.inv_mix_columns.Rows.inv_mixed.Goals as goal
 
 pub returns-clause-rows : goal.returns-clause-rows
 returns-clause-rows g c = λ l y j low all is doubled.

@@ -1,5 +1,5 @@
 use Rattle.luks_aes.proofs.ColumnLemmas.{mixed_0_table, mixed_1_table, mixed_2_table, mixed_3_table}
-use Rattle.luks_aes.proofs.mixing.Mixing.new.Goals as goal
+use Rattle.luks_aes.proofs.mix_columns.Mixing.new.Goals as goal
 
 pub invariant_of-result : goal.invariant_of-result
 invariant_of-result c = record {
