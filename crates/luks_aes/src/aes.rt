@@ -10,8 +10,8 @@ ghost use Rattle.luks_aes.specs.KeySchedule.{IsScheduleOf, IsAesKey, scheduled_k
 
 use crate::cipher::inv_cipher;
 use crate::inv_mixed::inv_mixed_words;
+use crate::key_expansion::MAX_SCHEDULE_LEN;
 use crate::key_schedule::KeySchedule;
-use crate::schedule::MAX_SCHEDULE_LEN;
 use std::marker::Model;
 
 /// A key of AES-128, AES-192 or AES-256 (FIPS 197). Contracts see it as its bytes.

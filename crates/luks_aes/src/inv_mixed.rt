@@ -4,9 +4,9 @@ ghost use Rattle.std.specs.Prelude.{◌≡◌, ◌+◌, ◌*◌, ◌≤◌, [], 
 ghost use Rattle.luks_aes.specs.Aes.{word_at};
 ghost use Rattle.luks_aes.specs.Columns.{column_product, IsMultiplied};
 
+use crate::key_expansion::MAX_SCHEDULE_LEN;
 use crate::mix_columns::inv_mixed;
 use crate::sbox::sbox;
-use crate::schedule::MAX_SCHEDULE_LEN;
 
 // Word `i` of the schedule after InvMixColumns: the S-box undoes the inverse S-box of the table.
 fn inv_mixed_word(schedule: &[u8; MAX_SCHEDULE_LEN], i: usize) -> [u8; 4]

@@ -5,7 +5,7 @@ ghost use Rattle.luks_aes.specs.Aes.{encrypted, is_aes_key_length, rounds_of};
 ghost use Rattle.luks_aes.specs.KeySchedule.{IsScheduleOf};
 
 use crate::cipher::cipher;
-use crate::schedule::{MAX_SCHEDULE_LEN, key_expansion};
+use crate::key_expansion::{MAX_SCHEDULE_LEN, key_expansion};
 
 /// The number of rounds with the longest key.
 const MAX_ROUNDS: usize = 14;

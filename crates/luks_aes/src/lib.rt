@@ -9,10 +9,10 @@ mod cipher;
 mod columns;
 mod field;
 mod inv_mixed;
+mod key_expansion;
 pub mod key_schedule;
 mod mix_columns;
 mod sbox;
-mod schedule;
 mod state;
 
 pub use aes::AesKey;

@@ -9,8 +9,8 @@
 
 mod circuit;
 mod gates;
-mod key;
 mod inv_mix_columns;
+mod key;
 mod lane;
 mod packing;
 mod pairs;

@@ -6,8 +6,8 @@ ghost use Rattle.luks_aes_batch.specs.BitPlanes.{rotated_index};
 ghost use Rattle.luks_aes_batch.specs.Words.{AreRowsOf, SameRowsOf};
 ghost use Rattle.luks_aes_batch.specs.Mixing.{AreBytes, AreShared, AreDoubled, mixed_and_shifted};
 
-use crate::lane::Lane;
 use crate::inv_mix_columns::{Rows, SharedValues};
+use crate::lane::Lane;
 use crate::round_key::KeyPlane;
 
 /// One bit of each byte of a batch, in words of 64 bits. `specs/Words.antt` says which byte a bit

@@ -2,8 +2,8 @@
 
 ghost use Rattle.std.specs.Prelude.{◌≡◌, ◌+◌, ◌*◌, ◌/◌, ◌<◌, ◌≤◌, ℕ, length, slice_index};
 
-use crate::lane::Lane;
 use crate::inv_mix_columns::Rows;
+use crate::lane::Lane;
 
 /// One bit plane of a round key, for four groups of blocks: one bit of each byte.
 #[repr(C)]

@@ -7,8 +7,8 @@ ghost use Rattle.luks_aes_batch.specs.Words.{GroupHolds, GroupsHold, SameGroup};
 ghost use Rattle.luks_aes_batch.specs.RoundKeys.{state_of_key};
 ghost use Rattle.luks_aes_batch.specs.Mixing.{AreShared, mixed_and_shifted};
 
-use crate::lane::Lane;
 use crate::inv_mix_columns::SharedValues;
+use crate::lane::Lane;
 use crate::round_key::RoundKey;
 use crate::state::BitslicedState;
 use std::simd::prelude::*;

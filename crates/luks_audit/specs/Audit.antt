@@ -24,10 +24,10 @@ use Rattle.luks_audit.specs.Audit2.{segment2_fields, slot_strength2, stripes2_fi
 use Rattle.luks_audit.specs.Audit2.{token2_fields, volume2_fields, volume_key_size}
 use Rattle.luks_audit.specs.Findings.{finding_list}
 use Rattle.luks_audit.specs.Tree.{array_of, empty_object, num, optional_text, with_fields}
-use Rattle.luks_audit.specs.Policy.{digest_weaknesses, segment_weaknesses, slot_weaknesses}
+use Rattle.luks_audit.specs.Weakness.{digest_weaknesses, segment_weaknesses, slot_weaknesses}
 use Rattle.luks_audit.specs.declared.audit.Audit.{Audit}
-use Rattle.luks_audit.specs.declared.policy.DigestStrength.{DigestStrength}
-use Rattle.luks_audit.specs.declared.policy.SlotStrength.{SlotStrength}
+use Rattle.luks_audit.specs.declared.weakness.DigestStrength.{DigestStrength}
+use Rattle.luks_audit.specs.declared.weakness.SlotStrength.{SlotStrength}
 use Rattle.serde_json.specs.Data.{Data, boolean, string}
 
 -- ---- lists by number

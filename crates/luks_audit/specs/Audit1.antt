@@ -7,10 +7,10 @@ use Rattle.luks1_header.specs.Slot1.{hash1_of, is_disabled}
 use Rattle.luks1_header.specs.declared.header.Header1.{Header1}
 use Rattle.luks1_header.specs.declared.header.StoredSlot.{StoredSlot}
 use Rattle.luks_audit.specs.Tree.{array_of, hex_text, num}
-use Rattle.luks_audit.specs.Policy.{is_capi_cbc, is_cbc}
-use Rattle.luks_audit.specs.declared.policy.Derivation.TheVariants.{Pbkdf2}
-use Rattle.luks_audit.specs.declared.policy.DigestStrength.{DigestStrength}
-use Rattle.luks_audit.specs.declared.policy.SlotStrength.{SlotStrength}
+use Rattle.luks_audit.specs.Weakness.{is_capi_cbc, is_cbc}
+use Rattle.luks_audit.specs.declared.weakness.Derivation.TheVariants.{Pbkdf2}
+use Rattle.luks_audit.specs.declared.weakness.DigestStrength.{DigestStrength}
+use Rattle.luks_audit.specs.declared.weakness.SlotStrength.{SlotStrength}
 use Rattle.serde_json.specs.Data.{Data, null, string}
 
 -- the cipher and its mode, as dm-crypt names them

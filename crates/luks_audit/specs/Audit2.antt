@@ -16,11 +16,11 @@ use Rattle.luks2_json.specs.Member.{iterations_in, string_is, string_member}
 use Rattle.luks2_json.specs.Numbered.{lowest, object_numbered}
 use Rattle.luks2_metadata.specs.Slot2.{slot_parts2_of}
 use Rattle.luks_audit.specs.Tree.{array_of, hex_text, num, optional_hex, optional_num, optional_text, unless_float}
-use Rattle.luks_audit.specs.Policy.{is_capi_cbc, is_cbc}
-use Rattle.luks_audit.specs.declared.policy.Derivation.{Derivation}
-use Rattle.luks_audit.specs.declared.policy.Derivation.TheVariants.{Pbkdf2, Argon2, Other}
-use Rattle.luks_audit.specs.declared.policy.DigestStrength.{DigestStrength}
-use Rattle.luks_audit.specs.declared.policy.SlotStrength.{SlotStrength}
+use Rattle.luks_audit.specs.Weakness.{is_capi_cbc, is_cbc}
+use Rattle.luks_audit.specs.declared.weakness.Derivation.{Derivation}
+use Rattle.luks_audit.specs.declared.weakness.Derivation.TheVariants.{Pbkdf2, Argon2, Other}
+use Rattle.luks_audit.specs.declared.weakness.DigestStrength.{DigestStrength}
+use Rattle.luks_audit.specs.declared.weakness.SlotStrength.{SlotStrength}
 use Rattle.serde_json.specs.Data.{Data, null, string}
 use Rattle.serde_json.specs.Find.{get}
 

@@ -4,5 +4,5 @@ pub mod Audit2
 pub mod Findings
 pub mod Image
 pub mod Line
-pub mod Policy
 pub mod Tree
+pub mod Weakness

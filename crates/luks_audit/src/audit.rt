@@ -11,7 +11,7 @@ ghost use Rattle.serde_json.specs.View.{view as data_of};
 use crate::finding::finding_array;
 use crate::slots::slot_array;
 use crate::tree::{Array, Object, Tree};
-use crate::weakness::weak_array;
+use crate::weak_array::weak_array;
 use crate::{luks1, luks2};
 use luks_header::header::{Header, Header1};
 use luks_verdict::rule::MAX_SLOTS;

@@ -13,8 +13,8 @@ ghost use Rattle.luks1_header.specs.Slot1.{is_disabled};
 ghost use Rattle.serde_json.specs.Data.{string};
 
 use crate::fields::escape;
-use crate::policy::{Derivation, DigestStrength, SlotStrength, is_capi_cbc, is_cbc};
 use crate::tree::{Array, Object, Tree};
+use crate::weakness::{Derivation, DigestStrength, SlotStrength, is_capi_cbc, is_cbc};
 use luks_header::header::{Header1, SlotState, StoredSlot};
 use luks_verdict::rule::key_material_len;
 use std::alloc::{AllocError, Global};

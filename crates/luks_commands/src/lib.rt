@@ -5,7 +5,7 @@
 #![tactic(auto)]
 
 pub use luks_args::planning::{PlanFault, plan};
-pub use luks_report::input::{NOT_OPENED, not_opened_text};
+pub use luks_report::input_not_opened::{NOT_OPENED, not_opened_text};
 pub use luks_report::message::Message;
 pub use luks_report::report::Report;
 pub use luks_request::command::{Command, MergeArgs, SlotChoice, SplitArgs, VolumeArgs};

@@ -1,4 +1,5 @@
-//! The start of an image, with its headers and key areas.
+//! The start of an image with its headers and key areas, loaded from a source as far as it is
+//! needed.
 
 ghost use Rattle.std.specs.Prelude.{◌≡◌, ◌-◌, ◌<◌, ◌≤◌, ◌++◌, if◌then◌else◌, true, false, [], OnOk};
 ghost use Rattle.std.specs.Prelude.{OnErr, Ok, Err, length, max, replicate, vec_capacity, vec_len};

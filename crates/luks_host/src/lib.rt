@@ -5,11 +5,11 @@
 pub mod descriptors;
 pub mod device_number;
 pub mod ending;
+pub mod file_kind;
 pub mod input;
+pub mod is_output;
 pub mod loop_device;
-pub mod mode;
 pub mod opening;
 pub mod output;
 pub mod storage;
 pub mod system;
-pub mod target;

@@ -4,9 +4,9 @@ ghost use Rattle.std.specs.Prelude.{◌≡◌, ◌≢◌, codes};
 ghost use Rattle.luks_host.specs.Openings.{IsAccess, IsNamedInput, IsStandardInput};
 
 use crate::input::{Access, access_to};
+use crate::is_output::is_output;
 use crate::storage::FileFacts;
 use crate::system::{InputFault, System};
-use crate::target::is_output;
 use std::alloc::Global;
 
 /// An input that is open, and how it is read.

@@ -1,4 +1,4 @@
-//! Where bytes are stored, and whether standard output would write into an input.
+//! Where the bytes of a file are stored, and whether two files share storage.
 
 ghost use Rattle.std.specs.Prelude.{◌≡◌, ◌↔◌, IsTrue};
 ghost use Rattle.luks_host.specs.Storages.{IsSame, SharesStorage, backing_storage, storage_of};

@@ -5,7 +5,7 @@ ghost use Rattle.std.specs.Fs.{metadata_mode};
 ghost use Rattle.std.specs.IoError.{error_kind};
 ghost use Rattle.luks_host.specs.Modes.{kind_of_mode};
 
-use crate::mode::kind_of_mode;
+use crate::file_kind::kind_of_mode;
 use crate::storage::FileFacts;
 use std::alloc::Global;
 use std::fs::{self, File, Metadata};

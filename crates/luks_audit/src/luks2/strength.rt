@@ -7,7 +7,7 @@ ghost use Rattle.luks_audit.specs.Audit2.{names_cbc, slot_derivation2, slot_stre
 ghost use Rattle.luks_audit.specs.Audit2.{strength2_of};
 ghost use Rattle.serde_json.specs.View.{view as data_of};
 
-use crate::policy::{Derivation, DigestStrength, SlotStrength, is_capi_cbc, is_cbc};
+use crate::weakness::{Derivation, DigestStrength, SlotStrength, is_capi_cbc, is_cbc};
 use luks2_json::derivation::{hash_member, iterations_in};
 use luks2_json::member::{is_type, nested_integer, nested_string};
 use luks2_json::numbered::object_numbered;

@@ -32,7 +32,7 @@ use luks_io::source::Source;
 use luks_kdf::Work;
 use luks_key_slots::fault::VolumeFault;
 use luks_report::message::Message;
-use luks_report::opened::opened_text;
+use luks_report::volume_opened::opened_text;
 use luks_request::command::{SlotChoice, VolumeArgs};
 use luks_runs::found::{FoundVolume, find_volume};
 use luks_runs::key_file::read_key_file;

@@ -3,11 +3,11 @@
 
 use super::assert_that;
 use luks_host::descriptors::stand_ins;
-use luks_host::mode::kind_of_mode;
+use luks_host::file_kind::kind_of_mode;
+use luks_host::is_output::{is_output, is_output_named};
 use luks_host::opening::{OpenedInput, open_input};
 use luks_host::storage::{FileFacts, FileKind};
 use luks_host::system::{InputFault, System};
-use luks_host::target::{is_output, is_output_named};
 use std::alloc::Global;
 use std::os::fd::RawFd;
 use std::process::Abort;

@@ -1,6 +1,6 @@
 use Rattle.std.proofs.Common.{◌≡◌, ◌-◌, ◌*◌, take}
 use Rattle.luks_aes.specs.Aes.{words_after}
-use Rattle.luks_aes.proofs.schedule.expand.Given as goal
+use Rattle.luks_aes.proofs.key_expansion.expand.Given as goal
 
 -- the words before number i are those of the schedule
 abbrev pub invariant-loop-i : goal.invariant-loop-i

@@ -1,6 +1,6 @@
 use Rattle.std.proofs.Common.{◌≡◌, ◌++◌}
 use Rattle.luks_audit.specs.Audit.{by_number, digest_weak}
-use Rattle.luks_audit.proofs.weakness.push_digests.Given as goal
+use Rattle.luks_audit.proofs.weak_array.push_digests.Given as goal
 
 -- the weaknesses of the digests before this one are added
 abbrev pub invariant-loop-number : goal.invariant-loop-number

@@ -2,7 +2,7 @@ use Rattle.std.proofs.Common.{◌≡◌, ◌∙◌, ◌++◌, List, ap, arith, s
 use Rattle.std.proofs.lemmas.List.{append-nil}
 use Rattle.luks_audit.proofs.NumberLemmas.{by_number_added, by_number_none}
 use Rattle.luks_audit.specs.Audit.{by_number, digest_weak}
-use Rattle.luks_audit.proofs.weakness.push_digests.Goals as goal
+use Rattle.luks_audit.proofs.weak_array.push_digests.Goals as goal
 use Rattle.serde_json.specs.Data.{Data}
 
 pub loop-number-init : goal.loop-number-init

@@ -1,5 +1,5 @@
 use Rattle.std.proofs.Common.{◌∙◌, refl, sym}
-use Rattle.luks_audit.proofs.policy.has_few_iterations.Goals as goal
+use Rattle.luks_audit.proofs.weakness.has_few_iterations.Goals as goal
 
 pub returns-then-is_by_pbkdf2 : goal.returns-then-is_by_pbkdf2
 returns-then-is_by_pbkdf2 c =

@@ -1,6 +1,6 @@
 use Rattle.std.proofs.Common.{◌≡◌, drop}
-use Rattle.luks_audit.specs.Policy.{has_word_cbc}
-use Rattle.luks_audit.proofs.policy.has_word_cbc.Given as goal
+use Rattle.luks_audit.specs.Weakness.{has_word_cbc}
+use Rattle.luks_audit.proofs.weakness.has_word_cbc.Given as goal
 
 -- no word before this byte is `cbc`
 abbrev pub invariant-loop-mark : goal.invariant-loop-mark

@@ -2,7 +2,7 @@ use Rattle.std.proofs.Common.{◌≡◌, ◌+◌, ◌-◌, ◌*◌, ◌/◌, len
 use Rattle.std.proofs.lemmas.List.{take_at}
 use Rattle.luks_aes.specs.Aes.{words_after, key_expansion}
 use Rattle.luks_aes.proofs.ScheduleLemmas.{key_length, words_more}
-use Rattle.luks_aes.proofs.schedule.expand.Goals as goal
+use Rattle.luks_aes.proofs.key_expansion.expand.Goals as goal
 
 pub loop-i-init : goal.loop-i-init
 unfolding words_after

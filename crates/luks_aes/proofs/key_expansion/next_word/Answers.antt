@@ -1,12 +1,12 @@
 use Rattle.std.proofs.Common.{◌≡◌, ◌%◌, true, false, eqb, ltb}
 use Rattle.std.proofs.lemmas.Bool.{eq-eqb, ne_eqb, lt-ltb, le-ltb}
 use Rattle.luks_aes.specs.Aes.{next_word}
-use Rattle.luks_aes.proofs.schedule.next_word.Goals as goal
-use Rattle.luks_aes.proofs.schedule.next_word.Goals.{then-i-key_words-eq0}
-use Rattle.luks_aes.proofs.schedule.next_word.Goals.{else-i-key_words-eq0+then-key_words-gt-PLAIN_WORDS+then-i-key_words-eq4}
-use Rattle.luks_aes.proofs.schedule.next_word.Goals.{else-i-key_words-eq0+else-key_words-gt-PLAIN_WORDS}
-use Rattle.luks_aes.proofs.schedule.next_word.Goals.{else-key_words-gt-PLAIN_WORDS-via-then-key_words-gt-PLAIN_WORDS+else-i-key_words-eq4}
-use Rattle.luks_aes.proofs.schedule.next_word.Goals.{else-key_words-gt-PLAIN_WORDS-via-else-key_words-gt-PLAIN_WORDS}
+use Rattle.luks_aes.proofs.key_expansion.next_word.Goals as goal
+use Rattle.luks_aes.proofs.key_expansion.next_word.Goals.{then-i-key_words-eq0}
+use Rattle.luks_aes.proofs.key_expansion.next_word.Goals.{else-i-key_words-eq0+then-key_words-gt-PLAIN_WORDS+then-i-key_words-eq4}
+use Rattle.luks_aes.proofs.key_expansion.next_word.Goals.{else-i-key_words-eq0+else-key_words-gt-PLAIN_WORDS}
+use Rattle.luks_aes.proofs.key_expansion.next_word.Goals.{else-key_words-gt-PLAIN_WORDS-via-then-key_words-gt-PLAIN_WORDS+else-i-key_words-eq4}
+use Rattle.luks_aes.proofs.key_expansion.next_word.Goals.{else-key_words-gt-PLAIN_WORDS-via-else-key_words-gt-PLAIN_WORDS}
 
 pub returns : goal.returns
 unfolding next_word

@@ -4,13 +4,13 @@ use Rattle.std.specs.Prelude.{◌==◌, codes, if◌then◌else◌, nat_le, nat_
 use Rattle.luks_kdf.specs.declared.hash.Hash.{Hash}
 use Rattle.luks_kdf.specs.declared.hash.Hash.TheVariants.{Sha1, Sha224, Sha256, Sha384, Sha512}
 use Rattle.luks_audit.specs.Tree.{empty_object, with_fields}
-use Rattle.luks_audit.specs.declared.policy.Derivation.{Derivation}
-use Rattle.luks_audit.specs.declared.policy.Derivation.TheVariants.{Pbkdf2, Argon2}
-use Rattle.luks_audit.specs.declared.policy.DigestStrength.{DigestStrength}
-use Rattle.luks_audit.specs.declared.policy.SlotStrength.{SlotStrength}
-use Rattle.luks_audit.specs.declared.policy.Weakness.{Weakness}
-use Rattle.luks_audit.specs.declared.policy.Weakness.TheVariants.{FewIterations, BrokenHash, CbcMode, ShortKey}
-use Rattle.luks_audit.specs.declared.policy.Weakness.TheVariants.{LittleMemory, FewDigestIterations}
+use Rattle.luks_audit.specs.declared.weakness.Derivation.{Derivation}
+use Rattle.luks_audit.specs.declared.weakness.Derivation.TheVariants.{Pbkdf2, Argon2}
+use Rattle.luks_audit.specs.declared.weakness.DigestStrength.{DigestStrength}
+use Rattle.luks_audit.specs.declared.weakness.SlotStrength.{SlotStrength}
+use Rattle.luks_audit.specs.declared.weakness.Weakness.{Weakness}
+use Rattle.luks_audit.specs.declared.weakness.Weakness.TheVariants.{FewIterations, BrokenHash, CbcMode, ShortKey}
+use Rattle.luks_audit.specs.declared.weakness.Weakness.TheVariants.{LittleMemory, FewDigestIterations}
 use Rattle.serde_json.specs.Data.{Data, string}
 
 -- ---- the figures

@@ -3,7 +3,7 @@ use Rattle.std.proofs.Common.{length-drop}
 use Rattle.std.proofs.lemmas.List.{length-take-le}
 use Rattle.std.proofs.lemmas.Slice.{take-put_mid}
 use Rattle.luks_aes.specs.Aes.{with_next_word}
-use Rattle.luks_aes.proofs.schedule.write_word.Goals as goal
+use Rattle.luks_aes.proofs.key_expansion.write_word.Goals as goal
 
 pub returns : goal.returns
 unfolding with_next_word

@@ -1,6 +1,6 @@
 use Rattle.std.proofs.Common.{◌≡◌, ◌++◌}
 use Rattle.luks_audit.specs.Audit.{by_number, slot_weak}
-use Rattle.luks_audit.proofs.weakness.push_slots.Given as goal
+use Rattle.luks_audit.proofs.weak_array.push_slots.Given as goal
 
 -- the weaknesses of the slots before this one are added
 abbrev pub invariant-loop-number : goal.invariant-loop-number
