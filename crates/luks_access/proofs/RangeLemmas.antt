@@ -17,7 +17,7 @@ use Rattle.luks_verdict.specs.declared.segment.Segment.{Segment}
 use Rattle.luks_payload.specs.Plain.{plain_of, sector_len, sector_plaintext, sector_start, sectors_of}
 use Rattle.luks_payload.specs.Plain.{unit_number, unit_plain, payload_bytes}
 use Rattle.luks_payload.proofs.SectorLemmas.{one_more_fits}
-use Rattle.luks_runs.proofs.PayloadLemmas.{joined_length, plain_len, sector_size, take_whole}
+use Rattle.luks_runs.proofs.PayloadLemmas.{joined_length, plain_len, sector_size, take_whole, within_len}
 use Rattle.luks_access.proofs.FailingLemmas.{fails_more, few_sectors, some_sector, step_fails}
 use Rattle.luks_access.specs.Steps.{IsStep}
 use Rattle.luks_access.specs.declared.step.ReadStep.{ReadStep}
@@ -132,11 +132,6 @@ plaintext_length s cipher image image_len len long is =
     is ∙ (ap (λ n. payload_bytes s.size (n - s.offset) / sector_len s * sector_len s) (sym long)
     ∙ sym (plain_len s image cipher))
 
--- an image has no more bytes of a payload than from its start on
-payload_within : (size : Option ℕ) (len : ℕ) → payload_bytes size len ≤ len
-payload_within None len = omega arith
-payload_within (Some size) len = omega arith
-
 -- the answer of a read that ended with this fault
 abbrev pub read_answer : ReadAtFault → Result (Unit {0}) ReadAtFault
 read_answer fault = Err fault
@@ -199,7 +194,7 @@ module _ (s : Segment) (cipher : Cipher) (len : ℕ) (image : Option (List ℕ))
           is.within,
           long,
           all,
-          payload_within s.size stored,
+          within_len s.size stored,
           whole,
         )
 

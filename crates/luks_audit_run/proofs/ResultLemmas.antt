@@ -10,8 +10,3 @@ if_ok P Q (Err error) holds next = tt
 pub when_err : {T E : Type 0} (P Q : Type 0) (result : Result T E) → OnErr result P → (P → Q) → OnErr result Q
 when_err P Q (Ok value) holds next = tt
 when_err P Q (Err error) holds next = next holds
-
--- what holds anyway holds if there is an error
-pub on_err : {T E : Type 0} (P : Type 0) (result : Result T E) → P → OnErr result P
-on_err P (Ok _) holds = tt
-on_err P (Err _) holds = holds

@@ -6,7 +6,7 @@ use Rattle.luks_audit_run.specs.declared.image.Scope.TheVariants.{Start}
 use Rattle.luks_audit_run.proofs.StartLemmas.{none_anyway, part_of_none, part_of_told}
 use Rattle.luks_audit_run.proofs.StartLemmas.{start_anyway, start_open, start_tells}
 use Rattle.luks_audit_run.specs.Host.Stored.{image, unknown}
-use Rattle.luks_audit_run.proofs.ResultLemmas.{on_err}
+use Rattle.luks_search.proofs.PlaceLemmas.{on_fault}
 use Rattle.luks_audit_run.proofs.image.audit_start.Goals as goal
 
 pub returns-in_err-made-clause-err : goal.returns-in_err-made-clause-err
@@ -22,7 +22,7 @@ returns-in_err-made-clause-err g c =
       tells = λ bytes is. part_of_none c.args.policy Start c.args.file.now bytes failed;
       anyway = none_anyway c.args.policy c.args.file.now failed;
     } in
-    on_err _ _ aborted
+    on_fault _ _ aborted
 
 pub returns-in_err-put-clause-err : goal.returns-in_err-put-clause-err
 returns-in_err-put-clause-err g c =
@@ -44,7 +44,7 @@ returns-in_err-put-clause-err g c =
       anyway = part_of_told c.args.policy Start unknown c.args.file.now line audited.0 c.in_ok-made.made.state part.0
           (start_anyway audited.0 c.args.policy c.args.file.now line c.in_ok-made.made.state audited.4);
     } in
-    on_err _ _ aborted
+    on_fault _ _ aborted
 
 pub returns-clause-ok : goal.returns-clause-ok
 returns-clause-ok g c =

@@ -6,7 +6,8 @@ use Rattle.luks_audit_run.proofs.SearchLemmas.{Searches, search_part_anyway, sea
 use Rattle.luks_audit_run.proofs.SearchLemmas.{searches_abort_part, searches_end}
 use Rattle.luks_audit_run.proofs.SearchLemmas.{searches_end_part, searches_more, searches_none, searches_part}
 use Rattle.luks_audit_run.proofs.StartLemmas.{part_of_none}
-use Rattle.luks_audit_run.proofs.ResultLemmas.{if_ok, on_err, when_err}
+use Rattle.luks_audit_run.proofs.ResultLemmas.{if_ok, when_err}
+use Rattle.luks_search.proofs.PlaceLemmas.{on_fault}
 use Rattle.luks_search.specs.Search.{SearchModel, reports_failed_read}
 use Rattle.luks_header_area.specs.declared.fault.HeaderFault.{HeaderFault}
 use Rattle.luks_io.specs.Devices.{Appended, counted}
@@ -28,7 +29,7 @@ returns-in_err-search-clause-err g c =
       tells = λ bytes is. part_of_none c.args.policy Everywhere c.args.file.now bytes false;
       anyway = search_part_anyway c.args.policy c.args.file.now [] false;
     } in
-    on_err _ _ aborted
+    on_fault _ _ aborted
 
 pub loop-place-init : goal.loop-place-init
 loop-place-init g c =
@@ -53,7 +54,7 @@ returns-in_err-shown-in-Ok-Some-clause-err g c =
     searches_part c.args.policy c.args.file.now _ _ (g.S.Source.to_come c.next.new.source) _ _ _ c.loop-place.found
     c.loop-place.search c.next.new.self so_far c.in-Ok-Some.place part.0 _ _ next
     (c.in-Ok-Some.ensures.failures ∙ c.loop-place.invariant.failures) part.1 in
-    on_err _ _ aborted
+    on_fault _ _ aborted
 
 pub loop-place-preserved : goal.loop-place-preserved
 loop-place-preserved g c =
@@ -105,7 +106,7 @@ returns-in_err-put_fault-in-Err-clause-err g c =
     (c.in-Err.ensures.failures ∙ ap (counted (reports_failed_read {T = Unit {0}} (Err c.in-Err.fault)))
     c.loop-place.invariant.failures)
     (subst P c.search_fault.ensures part.1) in
-    on_err _ _ aborted
+    on_fault _ _ aborted
 
 pub returns-in-Err-clause-ok : goal.returns-in-Err-clause-ok
 returns-in-Err-clause-ok g c =
