@@ -1,7 +1,6 @@
 //! PBKDF2 with the blocks of a key side by side, if the hash function has lanes for several.
 
 ghost use Rattle.std.specs.Prelude.{◌≡◌, ℕ, ◌+◌, ◌*◌, ◌^◌, ◌<◌, ◌≤◌, List, length, refl, take};
-ghost use Rattle.std.specs.Int.{div_ceil};
 ghost use Rattle.luks_sha_lanes.specs.Chains.{chain_xor, digest_at};
 ghost use Rattle.luks_kdf.specs.Bytes.{joined};
 ghost use Rattle.luks_kdf.specs.Hash.{block_len, hash_of, digest_len};
@@ -111,7 +110,6 @@ impl Lanes for Sha512 {
 /// time as there are lanes.
 pub(crate) fn derive_in_lanes<E: Lanes>(pass: &[u8], salt: &[u8], iterations: u32, out: &mut [u8])
     requires iterations { 1 ≤ iterations }
-    requires some { 1 ≤ length out.old }
     requires capacity { length out.old ≤ 512 }
     ensures { out.new ≡ derived_key E.function pass.now salt.now iterations (length out.old) }
 {
@@ -145,7 +143,6 @@ fn derive_group<E: Lanes>(
 )
     requires iterations { 1 ≤ iterations }
     requires number { number + E.WIDTH < 2 ^ 32 }
-    requires some { 1 ≤ length out.old }
     requires capacity { length out.old ≤ E.WIDTH * digest_len E.function }
     ensures { (pass : List ℕ) → E.holds keyed.now.inner (inner_block E.function pass)
         → E.holds keyed.now.outer (outer_block E.function pass)
