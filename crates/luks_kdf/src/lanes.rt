@@ -1,15 +1,13 @@
 //! PBKDF2 with the blocks of a key side by side, if the hash function has lanes for several.
 
 ghost use Rattle.std.specs.Prelude.{◌≡◌, ℕ, ◌+◌, ◌*◌, ◌^◌, ◌<◌, ◌≤◌, List, length, refl, take};
-ghost use Rattle.std.specs.Int.{div_ceil};
 ghost use Rattle.luks_sha_lanes.specs.Chains.{chain_xor, digest_at};
 ghost use Rattle.luks_kdf.specs.Bytes.{joined};
 ghost use Rattle.luks_kdf.specs.Hash.{block_len, hash_of, digest_len};
 ghost use Rattle.luks_kdf.specs.Lanes.{lanes_of};
 ghost use Rattle.luks_kdf.specs.Hmac.{inner_block, outer_block};
-ghost use Rattle.luks_kdf.specs.Pbkdf2.{capped, derived_key, t_of, u_of};
+ghost use Rattle.luks_kdf.specs.Pbkdf2.{derived_key, t_of, u_of};
 
-use crate::Work;
 use crate::derive::derive_block;
 use crate::engine::Engine;
 use crate::mac::{KeyBlocks, Keyed, key_blocks};
@@ -28,13 +26,13 @@ pub(crate) trait Lanes: Engine {
 
     ghost WIDTH: { ℕ };
 
-    // Whether `xor_chains` is faster than the hasher on a single chain.
+    // Whether `iterate` is faster than the hasher on a single chain.
     const LONE: bool;
 
     /// XORs the next `count` digests of each of the first `used` chains into its bytes in `xors`,
     /// where the chains follow one another. `last` has the last digest of each chain, in the same
     /// order.
-    fn xor_chains(inner: &[u8], outer: &[u8], used: usize, count: u32, last: &[u8], xors: &mut [u8])
+    fn iterate(inner: &[u8], outer: &[u8], used: usize, count: u32, last: &[u8], xors: &mut [u8])
         requires inner { length inner.now ≡ block_len Self.function }
         requires outer { length outer.now ≡ block_len Self.function }
         requires used { used ≤ WIDTH }
@@ -55,14 +53,7 @@ impl Lanes for Sha1 {
 
     const LONE: bool = true;
 
-    fn xor_chains(
-        inner: &[u8],
-        outer: &[u8],
-        used: usize,
-        count: u32,
-        last: &[u8],
-        xors: &mut [u8],
-    ) {
+    fn iterate(inner: &[u8], outer: &[u8], used: usize, count: u32, last: &[u8], xors: &mut [u8]) {
         if used == 1 {
             sha1_chains::xor_chains::<1>(inner, outer, count, &last[..20], &mut xors[..20]);
         } else {
@@ -80,14 +71,7 @@ impl Lanes for Sha256 {
 
     const LONE: bool = false;
 
-    fn xor_chains(
-        inner: &[u8],
-        outer: &[u8],
-        _used: usize,
-        count: u32,
-        last: &[u8],
-        xors: &mut [u8],
-    ) {
+    fn iterate(inner: &[u8], outer: &[u8], _used: usize, count: u32, last: &[u8], xors: &mut [u8]) {
         sha256_chains::xor_chains(inner, outer, count, last, xors);
     }
 
@@ -101,14 +85,7 @@ impl Lanes for Sha384 {
 
     const LONE: bool = true;
 
-    fn xor_chains(
-        inner: &[u8],
-        outer: &[u8],
-        _used: usize,
-        count: u32,
-        last: &[u8],
-        xors: &mut [u8],
-    ) {
+    fn iterate(inner: &[u8], outer: &[u8], _used: usize, count: u32, last: &[u8], xors: &mut [u8]) {
         sha512_chains::xor_chain384(inner, outer, count, last, xors);
     }
 
@@ -122,14 +99,7 @@ impl Lanes for Sha512 {
 
     const LONE: bool = true;
 
-    fn xor_chains(
-        inner: &[u8],
-        outer: &[u8],
-        _used: usize,
-        count: u32,
-        last: &[u8],
-        xors: &mut [u8],
-    ) {
+    fn iterate(inner: &[u8], outer: &[u8], _used: usize, count: u32, last: &[u8], xors: &mut [u8]) {
         sha512_chains::xor_chain512(inner, outer, count, last, xors);
     }
 
@@ -138,22 +108,11 @@ impl Lanes for Sha512 {
 
 /// Fills `out` with the key that PBKDF2 with HMAC derives from the password, as many blocks at a
 /// time as there are lanes.
-pub(crate) fn derive_in_lanes<E: Lanes>(
-    pass: &[u8],
-    salt: &[u8],
-    iterations: u32,
-    out: &mut [u8],
-    work: &mut Work,
-)
+pub(crate) fn derive_in_lanes<E: Lanes>(pass: &[u8], salt: &[u8], iterations: u32, out: &mut [u8])
     requires iterations { 1 ≤ iterations }
-    requires some { 1 ≤ length out.old }
     requires capacity { length out.old ≤ 512 }
-    ensures key { out.new ≡ derived_key E.function pass.now salt.now iterations (length out.old) }
-    ensures work { work.new
-        ≡ capped (work.old + iterations * div_ceil (length out.old) (digest_len E.function)) }
+    ensures { out.new ≡ derived_key E.function pass.now salt.now iterations (length out.old) }
 {
-    // The clause of `count` says that the count is within its range: it is capped from the start.
-    let _before = work.count();
     let blocks = key_blocks::<E>(pass);
     let keyed = Keyed::<E>::after(&blocks);
     let group = E::WIDTH * E::hash().size();
@@ -168,7 +127,6 @@ pub(crate) fn derive_in_lanes<E: Lanes>(
             (E::WIDTH * i) as u32 + 1,
             iterations,
             &mut out[start..end],
-            work,
         );
     }
 }
@@ -182,30 +140,25 @@ fn derive_group<E: Lanes>(
     number: u32,
     iterations: u32,
     out: &mut [u8],
-    work: &mut Work,
 )
     requires iterations { 1 ≤ iterations }
     requires number { number + E.WIDTH < 2 ^ 32 }
-    requires some { 1 ≤ length out.old }
     requires capacity { length out.old ≤ E.WIDTH * digest_len E.function }
-    ensures key { (pass : List ℕ) → E.holds keyed.now.inner (inner_block E.function pass)
+    ensures { (pass : List ℕ) → E.holds keyed.now.inner (inner_block E.function pass)
         → E.holds keyed.now.outer (outer_block E.function pass)
         → take (block_len E.function) blocks.now.inner ≡ inner_block E.function pass
         → take (block_len E.function) blocks.now.outer ≡ outer_block E.function pass
         → out.new ≡ take (length out.old)
         (joined (λ k. t_of E.function pass salt.now (number + k) iterations) E.WIDTH) }
-    ensures work { work.new
-        ≡ capped (work.old + iterations * div_ceil (length out.old) (digest_len E.function)) }
 {
     let size = E::hash().size();
     if out.len() <= size && !E::LONE {
-        derive_block(keyed, salt, number, iterations, out, work);
+        derive_block(keyed, salt, number, iterations, out);
     } else {
         let mut t = [0; MAX_GROUP];
         let t = &mut t[..E::WIDTH * size];
         let count = out.len().div_ceil(size);
         write_group(keyed, blocks, salt, number, count, iterations, t);
-        work.raise_by(count as u128 * iterations as u128);
         out.copy_from_slice(&t[..out.len()]);
     }
 }
@@ -238,7 +191,7 @@ fn write_group<E: Lanes>(
     let size = E::hash().block();
     let inner = &blocks.inner[..size];
     let outer = &blocks.outer[..size];
-    E::xor_chains(inner, outer, count, iterations - 1, u, t);
+    E::iterate(inner, outer, count, iterations - 1, u, t);
 }
 
 // Writes the first U of `count` blocks, from this number on.

@@ -117,7 +117,7 @@ fn after_block<const N: usize>(block: &[u8]) -> [Simd<u32, N>; 5]
     requires block { length block.now ≡ 64 }
     ensures { (j : ℕ) → j < N → lane j result ≡ compress initial_hash block.now }
 {
-    compress::<N, 0>(&first_state(), &load_block(block))
+    compress(&first_state(), &load_block(block))
 }
 
 // The word in lane `j`.

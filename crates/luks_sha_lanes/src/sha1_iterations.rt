@@ -46,7 +46,7 @@ fn after_digest<const N: usize>(
     ensures { (j : ℕ) → j < N
         → lane j result ≡ after_digest compress 5 (lane j state.now) (lane j d.now) }
 {
-    compress::<N, 1>(state, &digest_block(d))
+    compress(state, &digest_block(d))
 }
 
 #[inline(always)]

@@ -1,21 +1,16 @@
-use Rattle.std.proofs.Common.{◌≡◌, ◌∙◌, ℕ, ◌+◌, ◌*◌, ◌<◌, ap, ap₂, length, arith, min, refl, sym}
+use Rattle.std.proofs.Common.{◌≡◌, ◌∙◌, ℕ, ◌+◌, ◌*◌, ◌<◌, ap, ap₂, length, arith, refl, sym}
 use Rattle.luks_kdf.specs.Hash.{digest_len}
 use Rattle.luks_kdf.specs.Pbkdf2.{derived_key}
-use Rattle.luks_kdf.proofs.BytesLemmas.{cut, cut_step, length-part, none_replaced, piece_begins}
-use Rattle.luks_kdf.proofs.Pbkdf2Lemmas.{digest_sizes, count_end, count_group, group_at, group_from, groups_end}
-use Rattle.luks_kdf.proofs.Pbkdf2Lemmas.{length-group_at, some_in_group, block_t, count_none, length-block_t}
-use Rattle.std.specs.Int.{div_ceil}
+use Rattle.luks_kdf.proofs.BytesLemmas.{cut, cut_step, none_replaced, piece_begins}
+use Rattle.luks_kdf.proofs.Pbkdf2Lemmas.{digest_sizes, group_at, group_from, groups_end}
+use Rattle.luks_kdf.proofs.Pbkdf2Lemmas.{length-group_at, some_in_group, block_t, length-block_t}
 use Rattle.luks_kdf.proofs.lanes.derive_in_lanes.Goals as goal
 
 pub fill-init : goal.fill-init
-fill-init g c = (
-  none_replaced (cut (group_at (block_t g.E.Engine.function c.args.pass.now c.args.salt.now c.args.iterations)
-      g.E.Lanes.WIDTH) (c.WIDTH.result * c.size.result) (length c.args.out.now)) (c.WIDTH.result * c.size.result)
-      c.args.out.now,
-  count_none c.args.work.now c.args.iterations
-      (min (g.E.Lanes.WIDTH * 0) (div_ceil (length c.args.out.now) (digest_len g.E.Engine.function))) (omega arith)
-      (omega arith),
-)
+fill-init g c =
+    none_replaced (cut (group_at (block_t g.E.Engine.function c.args.pass.now c.args.salt.now c.args.iterations)
+    g.E.Lanes.WIDTH) (c.WIDTH.result * c.size.result) (length c.args.out.now)) (c.WIDTH.result * c.size.result)
+    c.args.out.now
 
 pub fill-preserved : goal.fill-preserved
 fill-preserved g c =
@@ -38,16 +33,11 @@ fill-preserved g c =
     let is_number = ap (λ (n : ℕ). n * c.fill.i + 1) c.WIDTH-in-fill.ensures in
     let blocks = c.key_blocks-blocks.ensures in
     let keyed = c.after-keyed.ensures in
-    let key = c.derive_group.ensures.key pass (keyed.inner pass blocks.inner) (keyed.outer pass blocks.outer)
-    blocks.inner blocks.outer in (
-      cut_step (group_at t w) group (λ k. length-group_at t (digest_len h) each w k ∙ sym is_group) before
-          c.fill.out c.derive_group.new.out c.fill.i c.min-end.result inside c.fill.auto.out c.fill.invariant.0
-          c.min-end.ensures (λ old. group_from h pass salt iterations w c.fill.i _ _ _ is_number key),
-      count_group h w group c.args.work.now c.fill.work c.derive_group.new.work iterations (length before) c.fill.i
-          _ known is_group c.fill.invariant.1 inside
-          (length-part start group c.min-end.result before c.fill.out c.fill.auto.out c.min-end.ensures)
-          c.derive_group.ensures.work,
-    )
+    let key = c.derive_group.ensures pass (keyed.inner pass blocks.inner) (keyed.outer pass blocks.outer)
+    blocks.inner blocks.outer in
+    cut_step (group_at t w) group (λ k. length-group_at t (digest_len h) each w k ∙ sym is_group) before
+    c.fill.out c.derive_group.new.out c.fill.i c.min-end.result inside c.fill.auto.out c.fill.invariant
+    c.min-end.ensures (λ old. group_from h pass salt iterations w c.fill.i _ _ _ is_number key)
 
 pub returns : goal.returns
 unfolding derived_key
@@ -61,11 +51,7 @@ returns g c =
     let is_size : c.size.result ≡ size = c.size.ensures ∙ ap digest_len c.hash.ensures in
     let is_group : group ≡ w * size = ap₂ ◌*◌ c.WIDTH.ensures is_size in
     let last : c.fill.i ≡ count = omega arith in
-    record {
-      key = groups_end (block_t h c.args.pass.now c.args.salt.now c.args.iterations) size
-          (length-block_t h c.args.pass.now c.args.salt.now c.args.iterations size refl) c.args.out.now c.fill.out w
-          group count c.fill.i (omega (arith, (digest_sizes h).min_len)) (some_in_group h w known) is_group
-          c.div_ceil-count.ensures last c.fill.invariant.0;
-      work = count_end h w group c.args.work.now c.fill.work c.args.iterations (length c.args.out.now) count c.fill.i
-          known is_group c.requires.some c.div_ceil-count.ensures last c.fill.invariant.1;
-    }
+    groups_end (block_t h c.args.pass.now c.args.salt.now c.args.iterations) size
+    (length-block_t h c.args.pass.now c.args.salt.now c.args.iterations size refl) c.args.out.now c.fill.out w
+    group count c.fill.i (omega (arith, (digest_sizes h).min_len)) (some_in_group h w known) is_group
+    c.div_ceil-count.ensures last c.fill.invariant

@@ -13,6 +13,6 @@ returns g c = λ pass holds_inner holds_outer is_inner is_outer k below.
     let first = digest_at (digest_len h) k c.first_iterations.new.u in
     chain_xor_of_block h pass c.args.salt.now inner outer first _ _ c.args.iterations is_inner is_outer
     (c.first_iterations.ensures pass holds_inner holds_outer k below) c.requires.iterations
-    (rw is_size at (c.xor_chains.ensures k below)
+    (rw is_size at (c.iterate.ensures k below)
     ∙ ap (λ (t : List ℕ). chain_xor (hash_of h) inner outer first (digest_at (digest_len h) k t)
     (c.args.iterations - 1)) c.copy_from_slice.ensures.after)

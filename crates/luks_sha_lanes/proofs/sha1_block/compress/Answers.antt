@@ -8,10 +8,10 @@ pub returns : goal.returns
 unfolding compress
 returns g c = λ j b in_lane block.
     let h = lane j c.args.state.now in
-    let chosen = c.choose-v.ensures j b in_lane block in
-    let parities = c.parities-v.ensures j b h in_lane chosen in
-    let majorities = c.majorities-v.ensures j b h in_lane parities in
-    let done = c.lasts-v.ensures j b h in_lane majorities in
+    let s1 = c.first_twenty_steps-v.ensures j b in_lane block in
+    let s2 = c.twenty_steps-v.ensures j b h in_lane s1 in
+    let s3 = c.twenty_steps-v-2.ensures j b h in_lane s2 in
+    let done = c.twenty_steps-v-3.ensures j b h in_lane s3 in
     rw (
       c.five.ensures,
       c.add.ensures j in_lane,

@@ -2,7 +2,7 @@ use Rattle.std.proofs.Common.{arith}
 use Rattle.luks_kdf.specs.Hash.{hash_of}
 use Rattle.luks_kdf.specs.declared.hash.Hash.TheVariants.{Sha512}
 use Rattle.luks_kdf.proofs.Pbkdf2Lemmas.{lone_chain}
-use Rattle.luks_kdf.proofs.lanes.Sha512Lanes.xor_chains.Goals as goal
+use Rattle.luks_kdf.proofs.lanes.Sha512Lanes.iterate.Goals as goal
 
 pub returns : goal.returns
 returns c = lone_chain (hash_of Sha512) 64 c.args.inner.now c.args.outer.now c.args.last.now c.args.xors.now
