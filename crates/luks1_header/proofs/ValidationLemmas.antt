@@ -11,7 +11,8 @@ use Rattle.luks_kdf.specs.declared.hash.Hash.{Hash}
 use Rattle.luks_verdict.specs.Rule.{exceeds, iterations_out_of_range, is_in_range, area_out_of_range}
 use Rattle.luks_verdict.specs.Rule.{stripes_out_of_range, key_material_len}
 use Rattle.luks_verdict.specs.Segment.{segment_from, segment_of_all}
-use Rattle.luks_verdict.specs.Slot.{material_end, verdict_by, verdict_kind_of, slot_from}
+use Rattle.luks_verdict.specs.Slot.{digest_from, material_end, verdict_by, verdict_kind_of, slot_from}
+use Rattle.luks_verdict.specs.Table.{first_match}
 use Rattle.luks_verdict.proofs.MadeLemmas.{are_in_range, digest_there, mapped, of_usable, parts_made, refused_or-err}
 use Rattle.luks_verdict.proofs.MadeLemmas.{refused_or-fault, refused_or-none, refused_or-ok, slot_from-yes, slot_of}
 use Rattle.luks_verdict.proofs.MadeLemmas.{some_from_not_none}
@@ -23,10 +24,10 @@ use Rattle.luks_verdict.specs.declared.segment.Segment.{Segment}
 use Rattle.luks_verdict.specs.declared.slot.Slot.{Slot}
 use Rattle.luks_verdict.specs.declared.slot.Verdict.TheVariants.{Usable, Disabled as VerdictDisabled}
 use Rattle.luks_verdict.specs.declared.slot.VerdictKind.TheVariants.{Usable as KindUsable}
-use Rattle.luks1_header.specs.Segment1.{fault1_of, is_key_length1, overlaps_header1, segment1_of}
+use Rattle.luks1_header.specs.Segment1.{is_key_length1, overlaps_header1, segment1_of}
 use Rattle.luks1_header.specs.Segment1.{segment_faults1, segment_parts1_of}
-use Rattle.luks1_header.specs.Slot1.{digest1_of, hash1_of, is_disabled, area1_out_of_range, mode1_of, payload1_start}
-use Rattle.luks1_header.specs.Slot1.{reason1_of, slot1_at, slot1_of, slot_parts1_of, slot_reasons1, verdict1_at}
+use Rattle.luks1_header.specs.Slot1.{digest_parts1_of, hash1_of, is_disabled, area1_out_of_range, mode1_of}
+use Rattle.luks1_header.specs.Slot1.{payload1_start, slot1_at, slot1_of, slot_parts1_of, slot_reasons1, verdict1_at}
 use Rattle.luks1_header.specs.Slot1.{verdict1_of}
 use Rattle.luks1_header.specs.declared.header.Header1.{Header1}
 use Rattle.luks1_header.specs.declared.header.StoredSlot.{StoredSlot}
@@ -51,23 +52,25 @@ made_in None offset known none = cc
 made_in (Some mode) offset known none = cc
 
 -- a segment without a fault is made
-pub made1 : (header : Header1) → fault1_of header ≡ None → segment_from (segment_parts1_of header) ≢ None
-unfolding fault1_of segment_from
+pub made1 : (header : Header1) → first_match (segment_faults1 header) ≡ None
+    → segment_from (segment_parts1_of header) ≢ None
+unfolding segment_faults1 segment_from
 made1 header no_fault =
     made_in (mode1_of header) (512 * header.payload_offset) (none_holds (segment_faults1 header) no_fault).0
 
 -- so a segment that is refused has that fault
 pub segment1-refused : (header : Header1) (fault : SegmentFault) → segment1_of header ≡ Err fault
-    → fault1_of header ≡ Some fault
+    → first_match (segment_faults1 header) ≡ Some fault
 unfolding segment1_of
 segment1-refused header fault is = refused_or-err _ _ (made1 header) fault is
 
 -- a header whose segment is valid has that segment and can be read
 pub IsReadable-ok : (header : Header1) (segment : Segment) → segment1_of header ≡ Ok segment
     → IsSegment1 header segment × IsReadable header
-unfolding segment1_of segment_from fault1_of overlaps_header1
+unfolding segment1_of segment_from segment_faults1 overlaps_header1
 IsReadable-ok header segment is =
-    let made = refused_or-ok (fault1_of header) (segment_from (segment_parts1_of header)) segment is in
+    let fault = first_match (segment_faults1 header) in
+    let made = refused_or-ok fault (segment_from (segment_parts1_of header)) segment is in
     let parts = parts_made (Some (512 * header.payload_offset)) (Some None) (Some 0) (Some B512) (mode1_of header)
     segment made.1 in
     let all = none_holds (segment_faults1 header) made.0 in
@@ -81,13 +84,13 @@ IsReadable-ok header segment is =
     (record { offset = sym (same_Some _ _ parts.0); mode = parts.1 }, readable)
 
 -- a segment with a fault is refused with that fault
-pub segment1-fault : (header : Header1) (fault : SegmentFault) → fault1_of header ≡ Some fault
+pub segment1-fault : (header : Header1) (fault : SegmentFault) → first_match (segment_faults1 header) ≡ Some fault
     → segment1_of header ≡ Err fault
 unfolding segment1_of
 segment1-fault header fault is =
-    refused_or-fault (fault1_of header) (segment_from (segment_parts1_of header)) fault is
+    refused_or-fault (first_match (segment_faults1 header)) (segment_from (segment_parts1_of header)) fault is
 
-pub segment1-none : (header : Header1) (segment : Segment) → fault1_of header ≡ None
+pub segment1-none : (header : Header1) (segment : Segment) → first_match (segment_faults1 header) ≡ None
     → segment_from (segment_parts1_of header) ≡ Some segment → segment1_of header ≡ Ok segment
 unfolding segment1_of
 segment1-none header segment none made = refused_or-none _ _ segment none made
@@ -102,7 +105,7 @@ pub record IsOf (header : Header1) (usable : Slot) : Type 0 where
   pub volume_key : usable.parts.key_bytes ≡ header.key_bytes
   pub area_key : usable.parts.area_key_bytes ≡ header.key_bytes
   pub area_mode : usable.parts.area_mode ≡ mode1_of header
-  pub before_payload : exceeds (payload1_start header) (material_end usable) ≡ false
+  pub before_payload : exceeds (payload1_start header) (material_end usable.parts) ≡ false
 
 -- key material that is in range ends at or before the payload's start, if that is known, and can be loaded
 area_in_range : (header : Header1) (slot : StoredSlot) → area1_out_of_range header slot ≡ false
@@ -121,22 +124,22 @@ module _ (header : Header1) (limit : Option ℕ) (slot : StoredSlot) where
       grind (arith, nat_tests)
 
   -- if there is no reason to skip the slot, there is what is needed to open it, with the digest
-  pub slot_there : reason1_of header limit slot ≡ None
-      → (digest : KeyDigest) × (digest1_of header ≡ Some digest)
+  pub slot_there : first_match (slot_reasons1 header limit slot) ≡ None
+      → (digest : KeyDigest) × (digest_from (digest_parts1_of header) ≡ Some digest)
       × (is : are_in_range (slot_parts1_of header slot) ≡ true)
       × (slot1_of header slot ≡ Some (slot_of (slot_parts1_of header slot) digest is))
-  unfolding slot1_of reason1_of
+  unfolding slot1_of slot_reasons1
   slot_there none =
       let all = none_holds (slot_reasons1 header limit slot) none in
-      let there = digest_there limit (digest1_of header) all.1.1.1.1.0 in
+      let there = digest_there limit (digest_from (digest_parts1_of header)) all.1.1.1.1.0 in
       let is = range_of all.1.0 all.1.1.0 all.1.1.1.0 in
-      let made : slot_from (slot_parts1_of header slot) (digest1_of header)
+      let made : slot_from (slot_parts1_of header slot) (digest_from (digest_parts1_of header))
       ≡ Some (slot_of (slot_parts1_of header slot) there.0 is) =
       ap (slot_from (slot_parts1_of header slot)) there.1 ∙ slot_from-yes (slot_parts1_of header slot) there.0 is in
       (there.0, there.1, is, made)
 
   -- the kind of verdict on a slot that is not disabled and that there is no reason to skip: it can be tried
-  pub usable_verdict : is_disabled slot.state ≡ false → reason1_of header limit slot ≡ None
+  pub usable_verdict : is_disabled slot.state ≡ false → first_match (slot_reasons1 header limit slot) ≡ None
       → verdict_kind_of (verdict1_of header limit slot) ≡ KindUsable 1
   unfolding verdict1_of slot_of slot_parts1_of
   usable_verdict enabled none =
@@ -145,19 +148,20 @@ module _ (header : Header1) (limit : Option ℕ) (slot : StoredSlot) where
 
   -- if the verdict is that the slot can be tried, there is no reason to skip it, and this is what is needed to open it
   of_verdict : (usable : Slot) → verdict1_of header limit slot ≡ Usable usable
-      → (reason1_of header limit slot ≡ None) × (slot1_of header slot ≡ Some usable)
+      → (first_match (slot_reasons1 header limit slot) ≡ None) × (slot1_of header slot ≡ Some usable)
   unfolding verdict1_of
   of_verdict usable is = by (is_disabled slot.state) is where
     by : (disabled : Bool)
-        → (if disabled then VerdictDisabled else verdict_by (reason1_of header limit slot) (slot1_of header slot))
-        ≡ Usable usable → (reason1_of header limit slot ≡ None) × (slot1_of header slot ≡ Some usable)
+        → (if disabled then VerdictDisabled
+        else verdict_by (first_match (slot_reasons1 header limit slot)) (slot1_of header slot)) ≡ Usable usable
+        → (first_match (slot_reasons1 header limit slot) ≡ None) × (slot1_of header slot ≡ Some usable)
     by true h = absurd cc
-    by false h = of_usable (reason1_of header limit slot) (slot1_of header slot) usable h
+    by false h = of_usable (first_match (slot_reasons1 header limit slot)) (slot1_of header slot) usable h
 
   -- if the slot can be tried, what is needed to open it is from this header
   usable_is : (usable : Slot) → verdict1_of header limit slot ≡ Usable usable
       → IsOf header usable × (slot1_of header slot ≡ Some usable)
-  unfolding slot_of slot_parts1_of reason1_of
+  unfolding slot_of slot_parts1_of slot_reasons1
   usable_is usable is =
       let verdict = of_verdict usable is in
       let all = none_holds (slot_reasons1 header limit slot) verdict.0 in

@@ -1,6 +1,7 @@
 -- Where the payload of LUKS1 is, or why it cannot be read.
 use Rattle.std.specs.Prelude.{◌*◌, ◌&&◌, ℕ, not, nat_lt, Bool, false, List}
 use Rattle.std.specs.Prelude.{[], ◌∷◌, Option, Some, None, Result, is_none}
+use Rattle.std.specs.Option.{option_map_or}
 use Rattle.luks_cipher.specs.Sector.{is_mode_key_length}
 use Rattle.luks_cipher.specs.declared.mode.Mode.{Mode}
 use Rattle.luks_verdict.specs.Segment.{refused_or, segment_from}
@@ -16,25 +17,20 @@ use Rattle.luks1_header.specs.declared.header.Header1.{Header1}
 
 -- the mode is known, and the length of the volume key is one of this mode
 abbrev pub is_key_length1 : Option Mode → ℕ → Bool
-is_key_length1 (Some mode) n = is_mode_key_length mode n
-is_key_length1 None n = false
+is_key_length1 known n = option_map_or (λ mode. is_mode_key_length mode n) known false
 
 -- the payload starts inside an attached header. (It starts at a multiple of 512 bytes.)
 unfoldable pub overlaps_header1 : Header1 → Bool
 overlaps_header1 header = not header.detached && nat_lt (512 * header.payload_offset) header1_len
 
 -- the possible faults of the segment
-abbrev pub segment_faults1 : Header1 → List (Bool × SegmentFault)
+unfoldable pub segment_faults1 : Header1 → List (Bool × SegmentFault)
 segment_faults1 header =
     (is_none (mode1_of header), Encryption)
     ∷ (is_none (hash1_of header), Hash)
     ∷ (not (is_key_length1 (mode1_of header) header.key_bytes), KeyBytes)
     ∷ (overlaps_header1 header, Offset)
     ∷ []
-
--- the first of them
-unfoldable pub fault1_of : Header1 → Option SegmentFault
-fault1_of header = first_match (segment_faults1 header)
 
 -- the parts of the segment: its sectors of 512 bytes are numbered from 0, and it goes to the image's end
 abbrev pub segment_parts1_of : Header1 → SegmentParts
@@ -48,4 +44,4 @@ segment_parts1_of header = record {
 
 -- the segment of a header, or its first fault
 unfoldable pub segment1_of : Header1 → Result Segment SegmentFault
-segment1_of header = refused_or (fault1_of header) (segment_from (segment_parts1_of header))
+segment1_of header = refused_or (first_match (segment_faults1 header)) (segment_from (segment_parts1_of header))

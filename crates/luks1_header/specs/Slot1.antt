@@ -9,7 +9,6 @@ use Rattle.luks_verdict.specs.Rule.{iterations_out_of_range, area_out_of_range, 
 use Rattle.luks_verdict.specs.Slot.{digest_from, has_no_usable_digest, slot_from, verdict_by}
 use Rattle.luks_verdict.specs.Table.{first_match}
 use Rattle.luks_verdict.specs.declared.digest.DigestParts.{DigestParts}
-use Rattle.luks_verdict.specs.declared.digest.KeyDigest.{KeyDigest}
 use Rattle.luks_verdict.specs.declared.refusal.SkipReason.{SkipReason}
 use Rattle.luks_verdict.specs.declared.refusal.SkipReason.TheVariants.{State, Stripes, Iterations, Area, Digest}
 use Rattle.luks_verdict.specs.declared.slot.Slot.{Slot}
@@ -40,7 +39,7 @@ hash1_of header = hash_named header.hash_spec
 unfoldable pub mode1_of : Header1 → Option Mode
 mode1_of header = if bytes_eq header.cipher_name (codes "aes") then mode_named header.cipher_mode else None
 
--- the parts of the header's digest, which all slots share
+-- the parts of the digest, which all slots share
 unfoldable pub digest_parts1_of : Header1 → DigestParts
 digest_parts1_of header = record {
   hash = hash1_of header;
@@ -48,10 +47,6 @@ digest_parts1_of header = record {
   salt = header.digest_salt;
   value = header.digest;
 }
-
--- the digest, if its numbers are in range
-unfoldable pub digest1_of : Header1 → Option KeyDigest
-digest1_of header = digest_from (digest_parts1_of header)
 
 -- the payload's start, if the header is attached. Key material has to end there or before
 unfoldable pub payload1_start : Header1 → Option ℕ
@@ -64,18 +59,14 @@ area1_out_of_range header slot =
     (key_material_len header.key_bytes slot.stripes) (key_material_len header.key_bytes slot.stripes)
 
 -- the reasons to skip a slot that is not disabled
-abbrev pub slot_reasons1 : Header1 → Option ℕ → StoredSlot → List (Bool × SkipReason)
+unfoldable pub slot_reasons1 : Header1 → Option ℕ → StoredSlot → List (Bool × SkipReason)
 slot_reasons1 header limit slot =
     (is_damaged slot.state, State)
     ∷ (stripes_out_of_range slot.stripes, Stripes)
     ∷ (iterations_out_of_range limit slot.iterations, Iterations)
     ∷ (area1_out_of_range header slot, Area)
-    ∷ (has_no_usable_digest limit (digest1_of header), Digest)
+    ∷ (has_no_usable_digest limit (digest_from (digest_parts1_of header)), Digest)
     ∷ []
-
--- the first of them
-unfoldable pub reason1_of : Header1 → Option ℕ → StoredSlot → Option SkipReason
-reason1_of header limit slot = first_match (slot_reasons1 header limit slot)
 
 -- the parts of a slot. The key of its key material is as long as the volume key
 unfoldable pub slot_parts1_of : Header1 → StoredSlot → SlotParts
@@ -95,12 +86,13 @@ slot_parts1_of header slot = record {
 
 -- what is needed to open a slot, if its numbers are in range and there is a usable digest
 unfoldable pub slot1_of : Header1 → StoredSlot → Option Slot
-slot1_of header slot = slot_from (slot_parts1_of header slot) (digest1_of header)
+slot1_of header slot = slot_from (slot_parts1_of header slot) (digest_from (digest_parts1_of header))
 
 -- the verdict on a slot
 unfoldable pub verdict1_of : Header1 → Option ℕ → StoredSlot → Verdict
 verdict1_of header limit slot =
-    if is_disabled slot.state then VerdictDisabled else verdict_by (reason1_of header limit slot) (slot1_of header slot)
+    if is_disabled slot.state then VerdictDisabled
+    else verdict_by (first_match (slot_reasons1 header limit slot)) (slot1_of header slot)
 
 -- the verdict on the slot of this number, 0 to 7
 unfoldable pub verdict1_at : Header1 → Option ℕ → ℕ → Option Verdict

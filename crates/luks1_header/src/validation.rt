@@ -1,11 +1,12 @@
 //! Verdicts on the key slots, the digest and the segment of a header.
 
 ghost use Rattle.std.specs.Prelude.{◌≡◌, ◌*◌, option_map, IfOk};
-ghost use Rattle.luks_verdict.specs.Slot.{has_no_usable_digest, verdict_kind_of};
-ghost use Rattle.luks1_header.specs.Segment1.{fault1_of, segment1_of, overlaps_header1};
-ghost use Rattle.luks1_header.specs.Slot1.{digest1_of, hash1_of, is_disabled, area1_out_of_range};
-ghost use Rattle.luks1_header.specs.Slot1.{mode1_of, payload1_start, reason1_of, slot1_at};
-ghost use Rattle.luks1_header.specs.Slot1.{slot1_of, verdict1_at, verdict1_of};
+ghost use Rattle.luks_verdict.specs.Slot.{digest_from, has_no_usable_digest, verdict_kind_of};
+ghost use Rattle.luks_verdict.specs.Table.{first_match};
+ghost use Rattle.luks1_header.specs.Segment1.{overlaps_header1, segment1_of, segment_faults1};
+ghost use Rattle.luks1_header.specs.Slot1.{area1_out_of_range, digest_parts1_of, hash1_of};
+ghost use Rattle.luks1_header.specs.Slot1.{is_disabled, mode1_of, payload1_start, slot1_at};
+ghost use Rattle.luks1_header.specs.Slot1.{slot1_of, slot_reasons1, verdict1_at, verdict1_of};
 
 use crate::header::{HEADER1_LEN, Header1, SlotState, StoredSlot};
 use luks_cipher::Mode;
@@ -84,17 +85,17 @@ fn area1_out_of_range(header: &Header1, slot: &StoredSlot) -> bool
 }
 
 // Whether there is no usable digest, or its iterations are out of range.
-#[tactic(auto, unfolding(crate::specs::Slot1::digest1_of, crate::specs::Slot1::digest_parts1_of))]
+#[tactic(auto, unfolding(crate::specs::Slot1::digest_parts1_of))]
 fn no_usable_digest1(header: &Header1, limit: Option<u32>) -> bool
-    ensures { result ≡ has_no_usable_digest limit (digest1_of header.now) }
+    ensures { result ≡ has_no_usable_digest limit (digest_from (digest_parts1_of header.now)) }
 {
     DigestParts::no_usable_digest(limit, header.digest_iterations, header.digest.len())
 }
 
 // The first reason to skip a slot.
-#[tactic(auto, unfolding(crate::specs::Slot1::reason1_of))]
+#[tactic(auto, unfolding(crate::specs::Slot1::slot_reasons1))]
 fn reason(header: &Header1, limit: Option<u32>, slot: &StoredSlot) -> Option<SkipReason>
-    ensures { result ≡ reason1_of header.now limit slot.now }
+    ensures { result ≡ first_match (slot_reasons1 header.now limit slot.now) }
 {
     if matches!(slot.state, SlotState::Damaged(_)) {
         Some(SkipReason::State)
@@ -178,9 +179,9 @@ pub fn slot(alloc: Global, header: &Header1, number: u8) -> Result<Option<Slot>,
 }
 
 /// The digest of all slots, if its numbers are in range.
-#[tactic(auto, unfolding(crate::specs::Slot1::digest1_of, crate::specs::Slot1::digest_parts1_of))]
+#[tactic(auto, unfolding(crate::specs::Slot1::digest_parts1_of))]
 pub fn digest(alloc: Global, header: &Header1) -> Result<Option<KeyDigest>, AllocError>
-    ensures { IfOk result (λ digest. digest ≡ digest1_of header.now) }
+    ensures { IfOk result (λ digest. digest ≡ digest_from (digest_parts1_of header.now)) }
 {
     let parts = DigestParts {
         hash: header.hash(),
@@ -200,9 +201,9 @@ fn overlaps_header1(header: &Header1) -> bool
 }
 
 // The first fault of the segment.
-#[tactic(auto, unfolding(crate::specs::Segment1::fault1_of))]
+#[tactic(auto, unfolding(crate::specs::Segment1::segment_faults1))]
 fn fault(header: &Header1) -> Option<SegmentFault>
-    ensures { result ≡ fault1_of header.now }
+    ensures { result ≡ first_match (segment_faults1 header.now) }
 {
     let Some(mode) = header.mode() else {
         return Some(SegmentFault::Encryption);

@@ -10,11 +10,11 @@ use Rattle.luks_header_area.specs.declared.fault.HeaderFault.TheVariants.{NotLuk
 use Rattle.luks_header_area.proofs.FieldLemmas.{at_prefix}
 use Rattle.luks_header_area.specs.Fields.{text_of}
 use Rattle.luks2_binary.specs.Choice2.{with_valid_primary, binary_at, chosen2_of, found_at, header2_of, is_valid}
-use Rattle.luks2_binary.specs.Choice2.{first_valid, size_at}
+use Rattle.luks2_binary.specs.Choice2.{size_at}
 use Rattle.luks2_binary.specs.Header2.{binary_len, checksum_hash_in, header2_from, sequence_in, size_in, sizes}
 use Rattle.luks2_binary.specs.ReadLen2.{header2_read_len, probe2_len, probe_end, search_len}
 use Rattle.luks2_binary.specs.Reading2.{IsPrefixOf, OfEach}
-use Rattle.luks2_binary.specs.Text2.{json_area_of, json_text_of, header_offset}
+use Rattle.luks2_binary.specs.Text2.{json_text_of, header_offset}
 use Rattle.luks2_binary.specs.declared.header.PairFinding.{PairFinding}
 use Rattle.luks2_binary.specs.declared.header.PairFinding.TheVariants.{PrimaryNotValid, SecondaryNotValid}
 use Rattle.luks2_binary.specs.declared.header.PairFinding.TheVariants.{SequencesDiffer}
@@ -37,7 +37,7 @@ module _ (image : List ℕ) where
 
   -- the choice for an image without a valid primary header
   pub chosen_other : is_valid image 0 ≡ false
-      → chosen2_of image ≡ option_and_then (found_at image) (first_valid image)
+      → chosen2_of image ≡ option_and_then (found_at image) (find (is_valid image) sizes)
   unfolding chosen2_of
   chosen_other is = rw is refl
 
@@ -90,7 +90,7 @@ module _ (loaded : List ℕ) (ended : Bool) (image : List ℕ) (prefix : IsPrefi
 pub found_chosen : (loaded : List ℕ) (ended : Bool) (found : Result (Option Header2) HeaderFault)
     → OfEach loaded ended (λ image. is_valid image 0 ≡ false)
     → IfOk found (λ header. OfEach loaded ended (λ image.
-    header ≡ option_and_then (found_at image) (first_valid image)))
+    header ≡ option_and_then (found_at image) (find (is_valid image) sizes)))
     → IfOk found (λ header. OfEach loaded ended (λ image. header ≡ chosen2_of image))
 found_chosen loaded ended (Ok header) none is = λ image prefix.
     is image prefix ∙ sym (chosen_other image (none image prefix))
@@ -175,7 +175,7 @@ module _ (loaded image : List ℕ) (prefix : IsPrefixOf loaded false image) wher
       let walk = walk_same sizes within in (
         chosen_other loaded (first.0 ∙ e)
             ∙ ap (option_and_then (found_at loaded)) walk.0
-            ∙ found_same (first_valid image) refl within
+            ∙ found_same (find (is_valid image) sizes) refl within
             ∙ sym (chosen_other image e),
         probe_other loaded (first.0 ∙ e)
             ∙ ap (max (probe_end loaded 0))
@@ -254,7 +254,7 @@ module _ (image : List ℕ) (header : Header2) where
       by true false false b l e = primary None (rw (b, l, e) at is)
 
   -- the header that the search finds is at the offset where it was found
-  search_result_at : is_valid image 0 ≡ false → (offset : ℕ) → first_valid image ≡ Some offset
+  search_result_at : is_valid image 0 ≡ false → (offset : ℕ) → find (is_valid image) sizes ≡ Some offset
       → found_at image offset ≡ Some header → HasHeaderAt image header offset
   search_result_at none offset least is =
       let one = first_is (is_valid image) (probe_end image) sizes offset least in
@@ -270,7 +270,7 @@ module _ (image : List ℕ) (header : Header2) where
     by : (b : Bool) → is_valid image 0 ≡ b → (offset : ℕ) × HasHeaderAt image header offset
     by true e = choice_with_primary_at e (sym (chosen_primary image e) ∙ is)
     by false e =
-        option_and_then_some (found_at image) (first_valid image) header (sym (chosen_other image e) ∙ is)
+        option_and_then_some (found_at image) (find (is_valid image) sizes) header (sym (chosen_other image e) ∙ is)
         (λ offset least made. (offset, search_result_at e offset least made))
 
   -- the header of an image is at an offset of it
@@ -289,7 +289,7 @@ read_attached image header is = (located image header is).1.attached
 -- the bytes that were read to choose a header have its JSON text: its JSON area ends within them
 pub json_prefix : (image : List ℕ) (header : Header2) → header2_of image ≡ Ok header
     → json_text_of (take (header2_read_len image) image) header ≡ json_text_of image header
-unfolding header2_read_len json_text_of json_area_of
+unfolding header2_read_len json_text_of
 json_prefix image header is =
     let it = located image header is in
     let range = valid_range image it.0 it.1.valid in

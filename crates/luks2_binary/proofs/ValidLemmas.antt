@@ -10,7 +10,6 @@ use Rattle.luks_header_area.specs.Area.{HeaderAreaModel}
 use Rattle.luks_header_area.specs.Fields.{at}
 use Rattle.luks_header_area.proofs.FieldLemmas.{at_prefix}
 use Rattle.luks2_binary.specs.Choice2.{binary_at, fits, is_binary_of, is_valid, size_at, found_at, is_tried}
-use Rattle.luks2_binary.specs.Choice2.{first_valid}
 use Rattle.luks2_binary.specs.ReadLen2.{probe_end, max_of, search_len}
 use Rattle.luks2_binary.specs.Header2.{size_in, sizes, header2_from}
 use Rattle.luks2_binary.specs.Reading2.{IsPrefixOf, valid_size}
@@ -253,7 +252,7 @@ so_far image (suc k) = max (so_far image k) (probe_end image (get_or sizes k 0))
 
 -- none of the first k offsets has a valid header
 pub record Searched (image : List ℕ) (k : ℕ) : Type 0 where
-  pub offset : first_valid image ≡ find (is_valid image) (drop k sizes)
+  pub offset : find (is_valid image) sizes ≡ find (is_valid image) (drop k sizes)
   pub probed : search_len image ≡ max (so_far image k) (ahead image k)
 
 -- the search reads as far as its definition states
@@ -303,7 +302,7 @@ module _ (image : List ℕ) (k : ℕ) (items : List ℕ) (are : items ≡ sizes)
       rw add-one record { offset = searched.offset ∙ rw (here, fails) refl; probed = next }
 
   -- a valid header is here: the search ends
-  pub searched_offset : is_valid image offset ≡ true → (first_valid image ≡ Some offset)
+  pub searched_offset : is_valid image offset ≡ true → (find (is_valid image) sizes ≡ Some offset)
       × (max (so_far image k) (probe_end image offset) ≡ search_len image)
   searched_offset holds =
       (searched.offset ∙ rw (here, holds) refl, omega (arith, ahead_holds holds, searched.probed))
@@ -335,8 +334,8 @@ offset_range items k are inside =
 pub found_least : (loaded : List ℕ) (ended : Bool) (image bytes : List ℕ) (offset : ℕ) (header : Option Header2)
     → IsPrefixOf loaded ended image → bytes ≡ loaded → is_valid loaded offset ≡ true
     → header ≡ header2_from Secondary (Some PrimaryNotValid) (binary_at bytes offset)
-    → first_valid image ≡ Some offset
-    → header ≡ option_and_then (found_at image) (first_valid image)
+    → find (is_valid image) sizes ≡ Some offset
+    → header ≡ option_and_then (found_at image) (find (is_valid image) sizes)
 found_least loaded ended image bytes offset header prefix is valid made first =
     let range = valid_range loaded offset valid in
     let same : binary_at bytes offset ≡ binary_at image offset = ap (λ l. at offset 4096 l) is
@@ -346,7 +345,7 @@ found_least loaded ended image bytes offset header prefix is valid made first =
 
 -- if no offset remains, none has a valid header, and all bytes that the search reads were read
 pub searched_all : (image : List ℕ) (k : ℕ) → Searched image k → length sizes ≤ k
-    → (first_valid image ≡ None) × (so_far image k ≡ search_len image)
+    → (find (is_valid image) sizes ≡ None) × (so_far image k ≡ search_len image)
 unfolding furthest
 searched_all image k searched end =
     let none = drop_all k sizes end in

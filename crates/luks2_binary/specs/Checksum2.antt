@@ -5,13 +5,9 @@ use Rattle.luks_header_area.specs.Fields.{at}
 use Rattle.luks_kdf.specs.Hash.{hash_of, digest_len}
 use Rattle.luks2_binary.specs.Header2.{checksum_hash_in}
 
--- as many zeros as the checksum's field has bytes
-unfoldable pub no_checksum : List ℕ
-no_checksum = replicate 64 0
-
 -- a header and its JSON area with zeros in bytes 448 to 511, in place of the checksum
 unfoldable pub without_checksum : List ℕ → List ℕ
-without_checksum header = take 448 header ++ no_checksum ++ drop 512 header
+without_checksum header = take 448 header ++ replicate 64 0 ++ drop 512 header
 
 -- the checksum matches: it is the hash of the whole header and JSON area, with zeros in place of the checksum itself.
 -- Only as many bytes of its field are compared as the hash has

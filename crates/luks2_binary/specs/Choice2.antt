@@ -55,10 +55,6 @@ is_valid image offset =
 unfoldable pub is_tried : List ℕ → ℕ → Bool
 is_tried image offset = not (list_any (λ other. nat_lt other offset && is_valid image other) sizes)
 
--- the lowest of the nine offsets with a valid header
-abbrev pub first_valid : List ℕ → Option ℕ
-first_valid image = find (is_valid image) sizes
-
 -- the header of an image whose primary one is valid: the secondary one right after it, if that is valid with a higher
 -- sequence number, and otherwise the primary
 unfoldable pub with_valid_primary : List ℕ → Option Header2
@@ -76,10 +72,12 @@ with_valid_primary image =
 abbrev pub found_at : List ℕ → ℕ → Option Header2
 found_at image offset = header2_from Secondary (Some PrimaryNotValid) (binary_at image offset)
 
--- the header of an image, if it has one
+-- the header of an image, if it has one: without a valid primary one, that at the lowest of the nine offsets with a
+-- valid header
 unfoldable pub chosen2_of : List ℕ → Option Header2
 chosen2_of image =
-    if is_valid image 0 then with_valid_primary image else option_and_then (found_at image) (first_valid image)
+    if is_valid image 0 then with_valid_primary image
+    else option_and_then (found_at image) (find (is_valid image) sizes)
 
 -- the LUKS2 header of an image that does not start as LUKS1, or the fault if it has none
 unfoldable pub header2_of : List ℕ → Result Header2 HeaderFault

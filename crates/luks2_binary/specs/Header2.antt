@@ -1,5 +1,5 @@
 -- The binary header of LUKS2: its fields (LUKS2 On-Disk Format Specification 1.1, section 2.1).
-use Rattle.std.specs.Prelude.{ℕ, ◌*◌, false, List, [], ◌∷◌, Option, option_map}
+use Rattle.std.specs.Prelude.{ℕ, false, List, [], ◌∷◌, Option, option_map}
 use Rattle.luks_header_area.specs.Fields.{at, be64, text_of}
 use Rattle.luks_kdf.specs.Hash.{hash_named}
 use Rattle.luks_kdf.specs.declared.hash.Hash.{Hash}
@@ -47,7 +47,3 @@ header2_from role finding binary =
       finding = finding;
       detached = false;
     }) (checksum_hash_in binary)
-
--- the first byte after both headers of an image
-abbrev pub end2_of : Header2 → ℕ
-end2_of header = 2 * header.size

@@ -11,10 +11,8 @@ abbrev pub header_offset : HeaderRole → ℕ → ℕ
 header_offset Primary size = 0
 header_offset Secondary size = size
 
--- the JSON area after the binary header
-unfoldable pub json_area_of : List ℕ → Header2 → List ℕ
-json_area_of image header = at (header_offset header.role header.size + binary_len) (header.size - binary_len) image
-
--- the JSON text of a header, which ends before the first zero byte or with its JSON area
+-- the JSON text of a header, in the JSON area after the binary header. It ends before the first zero byte or with that
+-- area
 unfoldable pub json_text_of : List ℕ → Header2 → List ℕ
-json_text_of image header = text_of (json_area_of image header)
+json_text_of image header =
+    text_of (at (header_offset header.role header.size + binary_len) (header.size - binary_len) image)

@@ -1,7 +1,7 @@
 //! The binary header of LUKS2 (LUKS2 On-Disk Format Specification 1.1, section 2.1).
 
-ghost use Rattle.std.specs.Prelude.{◌≡◌, ◌≤◌, length};
-ghost use Rattle.luks2_binary.specs.Header2.{end2_of, checksum_hash_in, header2_from};
+ghost use Rattle.std.specs.Prelude.{◌≡◌, ◌≤◌, ◌*◌, length};
+ghost use Rattle.luks2_binary.specs.Header2.{checksum_hash_in, header2_from};
 ghost use Rattle.luks2_binary.specs.Header2.{hdr_offset_in, sequence_in, size_in};
 ghost use Rattle.luks2_binary.specs.Text2.{json_text_of};
 
@@ -123,7 +123,7 @@ impl Header2 {
 
     /// The offset of the first byte after both headers of the image.
     pub fn end(&self) -> u64
-        ensures { result ≡ end2_of self.now }
+        ensures { result ≡ 2 * self.now.size }
     {
         2 * u64::from(self.size)
     }
@@ -131,7 +131,7 @@ impl Header2 {
     /// The text of its JSON area within the loaded bytes, not a copy: it ends before the first zero
     /// byte or with the area (LUKS2 On-Disk Format Specification 1.1, section 3). `image` is the
     /// start of the image that was read for the header.
-    #[tactic(auto, unfolding(crate::specs::Text2::json_text_of, crate::specs::Text2::json_area_of))]
+    #[tactic(auto, unfolding(crate::specs::Text2::json_text_of))]
     pub fn json_text<'a>(&self, image: &'a [u8]) -> &'a [u8]
         ensures { result.now ≡ json_text_of image.now self.now }
     {

@@ -2,7 +2,9 @@
 
 ghost use Rattle.std.specs.Prelude.{◌≡◌, ◌≤◌, length, IfOk, IfSome, option_and_then};
 ghost use Rattle.luks_header_area.specs.Area.{is_read_fault, max_loaded_len};
-ghost use Rattle.luks2_binary.specs.Choice2.{chosen2_of, found_at, first_valid};
+ghost use Rattle.std.specs.List.{find};
+ghost use Rattle.luks2_binary.specs.Choice2.{chosen2_of, found_at, is_valid as is_valid_at};
+ghost use Rattle.luks2_binary.specs.Header2.{sizes};
 ghost use Rattle.luks2_binary.specs.ReadLen2.{probe2_len, probe_end, search_len};
 ghost use Rattle.luks2_binary.specs.Reading2.{AnsweredFor, LoadsMore, OfEach, finished, valid_size};
 ghost use Rattle.luks2_binary.specs.Reading2.{without_value};
@@ -55,7 +57,7 @@ fn valid_size<S: Source>(
 // The header at the lowest of the nine offsets with a valid one, if there is one.
 fn search<S: Source>(area: &mut HeaderArea, source: &mut S) -> Result<Option<Header2>, HeaderFault>
     ensures found { IfOk result (λ header. OfEach area.new.bytes area.new.ended
-        (λ image. header ≡ option_and_then (found_at image) (first_valid image))) }
+        (λ image. header ≡ option_and_then (found_at image) (find (is_valid_at image) sizes))) }
     ensures loads { LoadsMore search_len (without_value result) (is_read_fault result)
         area.old area.new (S.to_come source.old) (S.to_come source.new)
         (S.counts source.old) (S.counts source.new) }

@@ -1,11 +1,11 @@
 //! Whether there is a valid header at an offset.
 
 ghost use Rattle.std.specs.Prelude.{◌≡◌, ◌+◌, ◌≤◌, ◌==◌, ◌&&◌, ◌||◌, IfSome, bytes_eq};
-ghost use Rattle.std.specs.Prelude.{if◌then◌else◌, length, Some, None};
+ghost use Rattle.std.specs.Prelude.{if◌then◌else◌, length, replicate, Some, None};
 ghost use Rattle.std.specs.List.{list_any};
 ghost use Rattle.luks_kdf.specs.Hash.{hash_of, digest_len};
 ghost use Rattle.luks_header_area.specs.Fields.{at};
-ghost use Rattle.luks2_binary.specs.Checksum2.{checksum_matches, no_checksum, without_checksum};
+ghost use Rattle.luks2_binary.specs.Checksum2.{checksum_matches, without_checksum};
 ghost use Rattle.luks2_binary.specs.Choice2.{beginning_at, binary_at, fits, is_binary_of, is_valid};
 ghost use Rattle.luks2_binary.specs.Choice2.{size_at};
 ghost use Rattle.luks2_binary.specs.Header2.{checksum_hash_in, size_in, sizes};
@@ -80,9 +80,8 @@ pub(crate) fn fits(bytes: &[u8], offset: usize) -> bool
 static NO_CHECKSUM: [u8; 64] = [0; 64];
 
 // The bytes in place of a checksum while it is computed.
-#[tactic(auto, unfolding(crate::specs::Checksum2::no_checksum))]
 fn no_checksum() -> &'static [u8]
-    ensures { result.now ≡ no_checksum }
+    ensures { result.now ≡ replicate 64 0 }
 {
     &NO_CHECKSUM
 }

@@ -5,7 +5,7 @@ use Rattle.std.specs.Str.{is_utf8}
 use Rattle.std.proofs.lemmas.Str.{IsUtf8-from_is_utf8, is_utf8-from_IsUtf8}
 use Rattle.luks_header_area.specs.declared.fault.HeaderFault.{HeaderFault}
 use Rattle.luks_header_area.specs.declared.fault.HeaderFault.TheVariants.{Json}
-use Rattle.luks2_json.specs.Tree.{has_objects, tree_of, value_of}
+use Rattle.luks2_json.specs.Tree.{has_objects, tree_of}
 use Rattle.serde_json.specs.Data.{Data}
 use Rattle.serde_json.specs.Read.{read}
 
@@ -13,7 +13,7 @@ use Rattle.serde_json.specs.Read.{read}
 pub answer_of-read : (text : List ℕ) (tree : Data) (result : Result Data HeaderFault) → IsUtf8 text
     → read text ≡ Some tree → result ≡ (if has_objects tree then Ok tree else Err Json)
     → IfOk result (λ metadata. tree_of text ≡ Some metadata) × (result ≡ Err Json → tree_of text ≡ None)
-unfolding tree_of value_of
+unfolding tree_of
 answer_of-read text tree result utf8 found is =
     of_test (has_objects tree) (rw (is_utf8-from_IsUtf8 text utf8, found) refl) is
   where
@@ -25,7 +25,7 @@ answer_of-read text tree result utf8 found is =
 
 -- a text that cannot be read has no tree
 pub tree_of-unread : (text : List ℕ) → (IsUtf8 text → read text ≡ None) → tree_of text ≡ None
-unfolding tree_of value_of
+unfolding tree_of
 tree_of-unread text none = of_test (is_utf8 text) refl
   where
     of_test : (test : Bool) → is_utf8 text ≡ test → tree_of text ≡ None

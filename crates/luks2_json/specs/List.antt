@@ -1,19 +1,15 @@
 -- Arrays of strings, as digests have them (LUKS2 On-Disk Format Specification 1.1, section 3, the digests object).
-use Rattle.std.specs.Prelude.{ℕ, ◌&&◌, ◌||◌, Bool, true, false, List, [], bytes_eq, is_some, option_map, unwrap_or}
-use Rattle.std.specs.List.{cons_option}
+use Rattle.std.specs.Prelude.{ℕ, Bool, false, List, [], ◌∷◌, bytes_eq, is_some, option_map, unwrap_or}
+use Rattle.std.specs.List.{cons_option, list_all, list_any}
+use Rattle.std.specs.Option.{option_map_or}
 use Rattle.luks2_json.specs.Member.{in_member}
 use Rattle.serde_json.specs.Data.{Data, Items, no_items, item}
 use Rattle.serde_json.specs.Find.{as_array, as_str}
 
--- all items of the array pass the test
-abbrev pub all_items : (Data → Bool) → Items → Bool
-all_items test no_items = true
-all_items test (item value rest) = test value && all_items test rest
-
--- some item of the array passes the test
-abbrev pub any_item : (Data → Bool) → Items → Bool
-any_item test no_items = false
-any_item test (item value rest) = test value || any_item test rest
+-- the items of an array, as a list
+abbrev pub listed : Items → List Data
+listed no_items = []
+listed (item value rest) = value ∷ listed rest
 
 -- the value is a string
 abbrev pub is_string : Data → Bool
@@ -30,12 +26,12 @@ strings_among (item value rest) = cons_option (as_str value) (strings_among rest
 
 -- there is an array under this name, and all its items are strings
 unfoldable pub has_strings : List ℕ → Data → Bool
-has_strings name owner = unwrap_or (option_map (all_items is_string) (in_member name as_array owner)) false
+has_strings name owner = option_map_or (λ all. list_all is_string (listed all)) (in_member name as_array owner) false
 
 -- there is an array under this name, and it contains the string
 unfoldable pub array_contains : List ℕ → List ℕ → Data → Bool
 array_contains name text owner =
-    unwrap_or (option_map (any_item (is_the_string text)) (in_member name as_array owner)) false
+    option_map_or (λ all. list_any (is_the_string text) (listed all)) (in_member name as_array owner) false
 
 -- the strings in the array under this name
 unfoldable pub strings_at : List ℕ → Data → List (List ℕ)

@@ -1,11 +1,12 @@
 -- The types of members (LUKS2 On-Disk Format Specification 1.1, section 3): each definition finds the value that an
 -- object has under a name, if it is present and of that type. JSON's null is a value like others: a member that is null
 -- is present, and is neither a number nor a string nor an object.
-use Rattle.std.specs.Prelude.{ℕ, ◌&&◌, ◌^◌, Bool, false, List, [], Option, Some, None, bytes_eq, codes, is_some, length}
+use Rattle.std.specs.Prelude.{ℕ, ◌&&◌, ◌^◌, Bool, false, List, Option, Some, None, bytes_eq, codes, is_some, length}
 use Rattle.std.specs.Prelude.{nat_le, nat_lt, ◌==◌, ◌||◌, not, if◌then◌else◌, option_and_then, option_map, slice_index}
 use Rattle.std.specs.Prelude.{unwrap_or, drop, take}
 use Rattle.std.specs.Char.{is_ascii_alphanumeric, is_ascii_digit}
 use Rattle.std.specs.List.{list_all}
+use Rattle.std.specs.Option.{option_map_or}
 use Rattle.std.specs.Str.Parse.{digits_value}
 use Rattle.luks_cipher.specs.Sector.{is_key_length, is_mode_key_length, mode_named}
 use Rattle.luks_cipher.specs.declared.mode.Mode.{Mode}
@@ -67,12 +68,9 @@ passes name test owner = unwrap_or (option_map test (get name owner)) false
 unfoldable pub hash_member : Data → Option Hash
 hash_member owner = option_and_then hash_named (string_member (codes "hash") owner)
 
--- the iterations of PBKDF2 and its salt (0 and no bytes if they are missing)
-unfoldable pub iterations_in : Data → ℕ
+-- its iterations of PBKDF2 (0 if they are missing)
+abbrev pub iterations_in : Data → ℕ
 iterations_in owner = unwrap_or (integer_member (codes "iterations") owner) 0
-
-unfoldable pub salt_in : Data → List ℕ
-salt_in owner = unwrap_or (base64_member (codes "salt") owner) []
 
 -- ---- how sectors are encrypted: the cipher, which is AES, and its mode, in the notation of dm-crypt
 
@@ -83,8 +81,7 @@ encryption_mode encryption =
 
 -- a key of the mode can have this many bytes; if the mode is not known, a key of some mode can
 unfoldable pub is_length_for : Option Mode → ℕ → Bool
-is_length_for None bytes = is_key_length bytes
-is_length_for (Some mode) bytes = is_mode_key_length mode bytes
+is_length_for known bytes = option_map_or (λ mode. is_mode_key_length mode bytes) known (is_key_length bytes)
 
 -- ---- base64 in groups of four symbols (RFC 4648, section 4)
 

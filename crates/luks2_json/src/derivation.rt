@@ -2,7 +2,6 @@
 
 ghost use Rattle.std.specs.Prelude.{◌≡◌, [], IfOk, unwrap_or};
 ghost use Rattle.luks2_json.specs.Member.{base64_member, hash_member, in_member, iterations_in};
-ghost use Rattle.luks2_json.specs.Member.{salt_in};
 ghost use Rattle.serde_json.specs.View.{view as data_of};
 
 use crate::member::{base64_member, integer_member, string_member};
@@ -27,7 +26,6 @@ pub fn nested_hash(owner: &Value, object: &str) -> Option<Hash>
 }
 
 /// The object's iterations of PBKDF2, or 0 if they are missing.
-#[tactic(auto, unfolding(crate::specs::Member::iterations_in))]
 pub fn iterations_in(object: &Value) -> u64
     ensures { result ≡ iterations_in (data_of object.now) }
 {
@@ -43,12 +41,4 @@ pub fn bytes_in(alloc: Global, object: &Value, name: &str) -> Result<HeaderBytes
         Some(bytes) => HeaderBytes::new(alloc, bytes.as_slice()),
         None => HeaderBytes::new(alloc, &[]),
     }
-}
-
-/// The object's salt of PBKDF2, or no bytes if it is missing.
-#[tactic(auto, unfolding(crate::specs::Member::salt_in))]
-pub fn salt_in(alloc: Global, object: &Value) -> Result<HeaderBytes, AllocError>
-    ensures { IfOk result (λ salt. salt ≡ salt_in (data_of object.now)) }
-{
-    bytes_in(alloc, object, "salt")
 }

@@ -14,7 +14,8 @@ use Rattle.luks_verdict.specs.declared.sector_size.SectorSize.{SectorSize as Sec
 use Rattle.luks_verdict.proofs.TableLemmas.{none_holds}
 use Rattle.luks2_metadata.specs.declared.bounds.Bounds.{Bounds}
 use Rattle.luks2_metadata.specs.Segment2.{payload2_start, payload_mode2_of, fault2_of, has_requirement, is_segment}
-use Rattle.luks2_metadata.specs.Segment2.{has_segment_members, is_empty_array, iv_tweak_of, mode2_of, offset_of}
+use Rattle.luks2_json.specs.Member.{decimal_member}
+use Rattle.luks2_metadata.specs.Segment2.{has_segment_members, is_empty_array, mode2_of}
 use Rattle.luks2_metadata.specs.Segment2.{sector_size_of, segment2_of, segment_faults, segment_parts2_of, segment_value}
 use Rattle.luks2_metadata.specs.Segment2.{only_member, size_is_wrong, size_member, offset_is_wrong, the_segment}
 use Rattle.serde_json.specs.Data.{Data, Items, Members, array, object}
@@ -147,8 +148,9 @@ made2 tree bounds no_fault =
     ∷ segment_faults bounds segment) no_fault in
     let lines = all.1.1 in
     let members = members_there _ _ _ lines.0 lines.1.0 in
-    made_of_parts (offset_of segment) (size_member segment) (iv_tweak_of segment) (sector_size_of segment)
-    (mode2_of segment) _ _ members lines.1.1.1.1.0 lines.1.1.1.0 lines.1.1.1.1.1.1.0
+    made_of_parts (decimal_member (codes "offset") segment) (size_member segment)
+    (decimal_member (codes "iv_tweak") segment) (sector_size_of segment) (mode2_of segment) _ _ members
+    lines.1.1.1.1.0 lines.1.1.1.0 lines.1.1.1.1.1.1.0
 
 -- so a segment that is refused has that fault
 pub segment2-refused : (tree : Data) (bounds : Bounds) (fault : SegmentFault) → segment2_of tree bounds ≡ Err fault
@@ -181,9 +183,10 @@ segment2-ok tree bounds segment is =
     let made = refused_or-ok (fault2_of tree bounds) (segment_from (segment_parts2_of value)) segment is in
     let all = none_holds ((has_requirement tree, Requirement) ∷ (is_none (the_segment tree), Segments)
     ∷ segment_faults bounds value) made.0 in
-    let parts = parts_made (offset_of value) (size_member value) (iv_tweak_of value) (sector_size_of value)
+    let offset = decimal_member (codes "offset") value in
+    let parts = parts_made offset (size_member value) (decimal_member (codes "iv_tweak") value) (sector_size_of value)
     (mode2_of value) segment made.1 in
-    let wrong : offset_is_wrong bounds (offset_of value) ≡ false = all.1.1.1.1.1.1.1.0 in
+    let wrong : offset_is_wrong bounds offset ≡ false = all.1.1.1.1.1.1.1.0 in
     let offset_in : Result Segment SegmentFault → Option ℕ =
     λ read. option_map (λ (s : Segment). s.offset) (result_ok read) in
     record {

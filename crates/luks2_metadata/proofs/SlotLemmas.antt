@@ -1,6 +1,5 @@
 -- Properties of usable digests, and of a slot that there is no reason to skip.
 use Rattle.std.proofs.Common.{◌≡◌, ◌∙◌, ℕ, ◌<◌, ◌≤◌, ap, sym, subst, refl, true, false, Option, Some, None, arith}
-use Rattle.std.proofs.Common.{length}
 use Rattle.std.specs.Prelude.{◌&&◌, ◌||◌, not, codes, is_none, is_some, option_and_then, option_map}
 use Rattle.std.proofs.lemmas.Bool.Decides.{nat_tests}
 use Rattle.std.proofs.lemmas.Bool.{and_parts, ltb-false, not-false, or_parts}
@@ -9,10 +8,10 @@ use Rattle.luks_cipher.specs.declared.mode.Mode.{Mode}
 use Rattle.luks_cipher.proofs.ModeLemmas.{max_mode_key}
 use Rattle.luks_verdict.specs.Rule.{exceeds, iterations_out_of_range, is_in_range, area_out_of_range}
 use Rattle.luks_verdict.specs.Rule.{is_digest, key_material_len, stripes_out_of_range, max_iteration_count}
-use Rattle.luks_verdict.specs.Slot.{has_no_usable_digest, material_end, parts_end}
+use Rattle.luks_verdict.specs.Slot.{has_no_usable_digest, material_end}
 use Rattle.luks_verdict.specs.Slot.{slot_from, verdict_kind_of}
 use Rattle.luks_verdict.proofs.MadeLemmas.{are_in_range, digest_from-no, digest_from-yes, digest_of, digest_there}
-use Rattle.luks_verdict.proofs.MadeLemmas.{mapped, of_usable, slot_from-yes, slot_of, some_from_not_none}
+use Rattle.luks_verdict.proofs.MadeLemmas.{is_usable, mapped, of_usable, slot_from-yes, slot_of, some_from_not_none}
 use Rattle.luks_verdict.proofs.RangeLemmas.{in_range}
 use Rattle.luks_verdict.specs.declared.digest.KeyDigest.{KeyDigest}
 use Rattle.luks_verdict.specs.declared.slot.Slot.{Slot}
@@ -22,10 +21,9 @@ use Rattle.luks_verdict.specs.declared.slot.VerdictKind.TheVariants.{Usable as K
 use Rattle.luks_kdf.specs.declared.hash.Hash.{Hash}
 use Rattle.luks_cipher.specs.Sector.{is_mode_key_length}
 use Rattle.luks2_json.specs.Numbered.{object_numbered}
-use Rattle.luks2_json.specs.Member.{is_length_for, iterations_in}
+use Rattle.luks2_json.specs.Member.{is_length_for}
 use Rattle.luks_verdict.proofs.TableLemmas.{none_holds}
 use Rattle.luks2_metadata.specs.Digest2.{digest2_for, digest2_of, digest_parts2_of, is_digest2, iterations_of_digest}
-use Rattle.luks2_metadata.specs.Digest2.{value_in}
 use Rattle.luks2_metadata.specs.declared.bounds.Bounds.{Bounds}
 use Rattle.luks2_metadata.specs.Segment2.{payload2_start, payload_mode2_of}
 use Rattle.luks2_metadata.specs.Slot2.{reason2_of, slot2_at, slot2_of, slot_parts2_of, slot_reasons, verdict2_at}
@@ -41,7 +39,7 @@ not_digest digest is = rw is refl
 
 -- a digest whose numbers are out of range is not usable
 pub out_of_range : (digest : Data) → is_digest2 digest ≡ true
-    → is_digest (iterations_in digest) (length (value_in digest)) ≡ false → digest2_of digest ≡ None
+    → is_usable (digest_parts2_of digest) ≡ false → digest2_of digest ≡ None
 unfolding digest2_of
 out_of_range digest is none = rw is (digest_from-no (digest_parts2_of digest) none)
 
@@ -52,8 +50,8 @@ too_many iterations len many = grind (arith, nat_tests)
 
 -- a digest whose numbers are in range is usable, and has the stated iterations
 pub digest_in_range : (digest : Data) → is_digest2 digest ≡ true
-    → is_digest (iterations_in digest) (length (value_in digest)) ≡ true
-    → option_map iterations_of_digest (digest2_of digest) ≡ Some (iterations_in digest)
+    → is_usable (digest_parts2_of digest) ≡ true
+    → option_map iterations_of_digest (digest2_of digest) ≡ Some (digest_parts2_of digest).iterations
 unfolding digest2_of digest_of
 digest_in_range digest is held = rw (is, digest_from-yes (digest_parts2_of digest) held) refl
 
@@ -89,7 +87,7 @@ usable_digest_without_limit : (limit : Option ℕ) (digest : Option KeyDigest) �
     → has_no_usable_digest None digest ≡ false
 unfolding has_no_usable_digest
 usable_digest_without_limit limit None is = is
-usable_digest_without_limit limit (Some digest) is = iterations_in_range_without_limit limit digest.iterations is
+usable_digest_without_limit limit (Some digest) is = iterations_in_range_without_limit limit digest.parts.iterations is
 
 known_area : (mode : Option Mode) (bytes : ℕ) → is_none mode ≡ false → is_length_for mode bytes ≡ true
     → (known : Mode) × (mode ≡ Some known) × (is_mode_key_length known bytes ≡ true)
@@ -128,7 +126,7 @@ pub record IsOf2 (tree : Data) (bounds : Bounds) (number : ℕ) (usable : Slot) 
       × (is_mode_key_length mode usable.parts.area_key_bytes ≡ true)
   pub volume_key : is_length_for (payload_mode2_of tree bounds) usable.parts.key_bytes ≡ true
   pub after_header : bounds.end ≤ usable.parts.area_offset
-  pub before_payload : exceeds (payload2_start tree bounds) (material_end usable) ≡ false
+  pub before_payload : exceeds (payload2_start tree bounds) (material_end usable.parts) ≡ false
   pub digest : digest2_for tree number ≡ Some usable.digest
 
 module _ (tree : Data) (bounds : Bounds) (limit : Option ℕ) (number : ℕ) (slot : Data) where
@@ -203,7 +201,7 @@ module _ (tree : Data) (bounds : Bounds) (limit : Option ℕ) (number : ℕ) (sl
   small_of none =
       let parts = slot_parts2_of slot in
       let no = no_reason none in
-      let range = in_range parts.iterations parts.stripes (parts_end parts) (range_of no) in
+      let range = in_range parts.iterations parts.stripes (material_end parts) (range_of no) in
       let keys = key_sizes_few parts.area_mode (payload_mode2_of tree bounds) parts.area_key_bytes parts.key_bytes
       (not-false _ no.key_size) in
       record { iterations = range.few_iterations; stripes = range.few_stripes; key = keys.1; area_key = keys.0 }

@@ -7,14 +7,10 @@ use Rattle.luks_verdict.specs.Table.{ascending}
 use Rattle.luks_verdict.specs.declared.digest.DigestParts.{DigestParts}
 use Rattle.luks_verdict.specs.declared.digest.KeyDigest.{KeyDigest}
 use Rattle.luks2_json.specs.List.{has_strings, array_contains, strings_at}
-use Rattle.luks2_json.specs.Member.{base64_member, hash_member, integer_member, is_type, iterations_in, salt_in}
+use Rattle.luks2_json.specs.Member.{base64_member, hash_member, integer_member, is_type}
 use Rattle.luks2_json.specs.Numbered.{lowest, object_numbered}
 use Rattle.luks2_metadata.specs.declared.digest.Digest.{Digest}
 use Rattle.serde_json.specs.Data.{Data}
-
--- the value of a digest (no bytes if it is missing)
-unfoldable pub value_in : Data → List ℕ
-value_in digest = unwrap_or (base64_member (codes "digest") digest) []
 
 -- every member of the digest is present and of the right type, and its hash function is known
 unfoldable pub is_digest2 : Data → Bool
@@ -27,13 +23,13 @@ is_digest2 digest =
     && is_some (base64_member (codes "salt") digest)
     && is_some (base64_member (codes "digest") digest)
 
--- the values of a digest's members
+-- the values of a digest's members. Each is 0, no bytes or `None` if the member is missing or of another type
 abbrev pub digest_parts2_of : Data → DigestParts
 digest_parts2_of digest = record {
   hash = hash_member digest;
-  iterations = iterations_in digest;
-  salt = salt_in digest;
-  value = value_in digest;
+  iterations = unwrap_or (integer_member (codes "iterations") digest) 0;
+  salt = unwrap_or (base64_member (codes "salt") digest) [];
+  value = unwrap_or (base64_member (codes "digest") digest) [];
 }
 
 -- the digest, if it is usable: it has all its members, and its numbers are in range
@@ -57,7 +53,7 @@ digest2_for tree number = lowest (own_digest_at tree number) max_slots
 
 -- the iterations of a digest
 abbrev pub iterations_of_digest : KeyDigest → ℕ
-iterations_of_digest key = key.iterations
+iterations_of_digest key = key.parts.iterations
 
 -- a digest as dumps print it, if it is usable: with the names that it lists
 unfoldable pub listed_of : Data → Option Digest

@@ -3,6 +3,7 @@
 use Rattle.std.specs.Prelude.{ℕ, ◌%◌, ◌==◌, ◌&&◌, ◌||◌, not, nat_lt, Bool}
 use Rattle.std.specs.Prelude.{true, false, List, [], ◌∷◌, Option, Some, None}
 use Rattle.std.specs.Prelude.{Result, codes, is_none, is_some, if◌then◌else◌, option_and_then, option_map, unwrap_or}
+use Rattle.std.specs.Option.{option_map_or}
 use Rattle.std.specs.Result.{result_ok}
 use Rattle.luks_cipher.specs.declared.mode.Mode.{Mode}
 use Rattle.luks_verdict.specs.SectorSize.{has_whole_sectors, sector_size_with}
@@ -27,15 +28,11 @@ abbrev pub is_empty_array : Data → Bool
 is_empty_array (array no_items) = true
 is_empty_array _ = false
 
--- the member with this name is missing or an empty array
-unfoldable pub has_none_of : List ℕ → Data → Bool
-has_none_of name value = unwrap_or (option_map is_empty_array (get name value)) true
-
--- `requirements` that require nothing: an empty array, or an object without mandatory requirements
+-- `requirements` that require nothing: an empty array, or an object whose `mandatory` is missing or an empty array
 unfoldable pub requires_nothing : Data → Bool
 requires_nothing requirements =
     is_empty_array requirements
-    || (is_some (as_object requirements) && has_none_of (codes "mandatory") requirements)
+    || (is_some (as_object requirements) && option_map_or is_empty_array (get (codes "mandatory") requirements) true)
 
 -- the configuration requires something of a program that reads the volume
 unfoldable pub has_requirement : Data → Bool
@@ -59,18 +56,10 @@ the_segment tree = option_and_then (only_member (codes "0")) (in_member (codes "
 abbrev pub segment_value : Data → Data
 segment_value tree = unwrap_or (the_segment tree) null
 
--- the segment's offset: its first byte
-abbrev pub offset_of : Data → Option ℕ
-offset_of segment = decimal_member (codes "offset") segment
-
 -- the segment's length in bytes, or `Some None` if it extends to the image's end
 unfoldable pub size_member : Data → Option (Option ℕ)
 size_member segment = if string_is (codes "size") (codes "dynamic") segment then Some None
     else option_map (λ bytes. Some bytes) (decimal_member (codes "size") segment)
-
--- the unit number of the segment's first sector
-abbrev pub iv_tweak_of : Data → Option ℕ
-iv_tweak_of segment = decimal_member (codes "iv_tweak") segment
 
 -- the segment's sector size, if it is one of the four that the format allows
 unfoldable pub sector_size_of : Data → Option Sector
@@ -83,9 +72,9 @@ mode2_of segment = option_and_then encryption_mode (string_member (codes "encryp
 -- every member of a segment of type crypt is present and of the right type
 unfoldable pub has_segment_members : Data → Bool
 has_segment_members segment =
-    is_some (offset_of segment)
+    is_some (decimal_member (codes "offset") segment)
     && is_some (size_member segment)
-    && is_some (iv_tweak_of segment)
+    && is_some (decimal_member (codes "iv_tweak") segment)
     && is_some (string_member (codes "encryption") segment)
     && is_some (integer_member (codes "sector_size") segment)
 
@@ -115,7 +104,7 @@ segment_faults bounds segment =
     ∷ (has (codes "integrity") segment, Integrity)
     ∷ (is_none (mode2_of segment), Encryption)
     ∷ (is_none (sector_size_of segment), SectorSize)
-    ∷ (offset_is_wrong bounds (offset_of segment), Offset)
+    ∷ (offset_is_wrong bounds (decimal_member (codes "offset") segment), Offset)
     ∷ (size_is_wrong (size_member segment) (sector_size_of segment), Size)
     ∷ []
 
@@ -129,9 +118,9 @@ fault2_of tree bounds = first_match (
 -- the values of a segment's members
 unfoldable pub segment_parts2_of : Data → SegmentParts
 segment_parts2_of segment = record {
-  offset = offset_of segment;
+  offset = decimal_member (codes "offset") segment;
   size = size_member segment;
-  iv_tweak = iv_tweak_of segment;
+  iv_tweak = decimal_member (codes "iv_tweak") segment;
   sector_size = sector_size_of segment;
   mode = mode2_of segment;
 }

@@ -1,19 +1,19 @@
 //! The digests of a header, which identify its volume key.
 
-ghost use Rattle.std.specs.Prelude.{◌≡◌, ◌≤◌, ◌++◌, [], IfOk, OnOk, length, option_map, unwrap_or};
-ghost use Rattle.std.specs.Prelude.{vec_len};
+ghost use Rattle.std.specs.Prelude.{◌≡◌, ◌≤◌, ◌++◌, [], IfOk, OnOk, codes, length, option_map};
+ghost use Rattle.std.specs.Prelude.{unwrap_or, vec_len};
 ghost use Rattle.std.specs.List.{cons_option};
 ghost use Rattle.luks_verdict.specs.Rule.{max_slots};
 ghost use Rattle.luks2_metadata.specs.Digest2.{own_digest_at, digest2_for, digest2_numbered};
 ghost use Rattle.luks2_metadata.specs.Digest2.{digest2_of, digests2_of, is_digest2, is_of_slot};
-ghost use Rattle.luks2_metadata.specs.Digest2.{iterations_of_digest, listed_of, value_in};
+ghost use Rattle.luks2_metadata.specs.Digest2.{iterations_of_digest, listed_of};
+ghost use Rattle.luks2_json.specs.Member.{base64_member};
 ghost use Rattle.serde_json.specs.View.{view as data_of};
 
 use itoa::Buffer;
-use luks_verdict::bytes::HeaderBytes;
 use luks_verdict::digest::{DigestParts, KeyDigest};
 use luks_verdict::rule::{MAX_ITERATION_COUNT, MAX_SLOTS, usable_digest};
-use luks2_json::derivation::{bytes_in, hash_member, iterations_in, salt_in};
+use luks2_json::derivation::{bytes_in, hash_member, iterations_in};
 use luks2_json::list::{Names, array_contains, has_strings, strings_at};
 use luks2_json::member::{base64_len, integer_member, is_type};
 use luks2_json::numbered::object_numbered;
@@ -32,18 +32,10 @@ pub struct Digest {
     pub segments: Names,
 }
 
-// The value of a digest, or no bytes if it is missing.
-#[tactic(auto, unfolding(crate::specs::Digest2::value_in))]
-fn value_in(alloc: Global, digest: &Value) -> Result<HeaderBytes, AllocError>
-    ensures { IfOk result (λ value. value ≡ value_in (data_of digest.now)) }
-{
-    bytes_in(alloc, digest, "digest")
-}
-
-// The length of the value in bytes.
-#[tactic(auto, unfolding(crate::specs::Digest2::value_in))]
+// The length of the value in bytes, or 0 if it is missing.
 fn value_len(digest: &Value) -> usize
-    ensures { result ≡ length (value_in (data_of digest.now)) }
+    ensures { result
+        ≡ length (unwrap_or (base64_member (codes "digest") (data_of digest.now)) []) }
 {
     base64_len(digest, "digest").unwrap_or(0)
 }
@@ -87,8 +79,8 @@ fn digest2_of(alloc: Global, digest: &Value) -> Result<Option<KeyDigest>, AllocE
     let parts = DigestParts {
         hash: hash_member(digest),
         iterations: iterations as u32,
-        salt: salt_in(alloc, digest)?,
-        value: value_in(alloc, digest)?,
+        salt: bytes_in(alloc, digest, "salt")?,
+        value: bytes_in(alloc, digest, "digest")?,
     };
     Ok(KeyDigest::from_parts(parts))
 }

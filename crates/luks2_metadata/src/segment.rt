@@ -1,14 +1,16 @@
 //! Where the payload is, or why it cannot be read.
 
-ghost use Rattle.std.specs.Prelude.{◌≡◌, option_map};
+ghost use Rattle.std.specs.Prelude.{◌≡◌, option_map, true};
+ghost use Rattle.std.specs.Option.{option_map_or};
 ghost use Rattle.luks_verdict.specs.Table.{first_match};
-ghost use Rattle.luks2_metadata.specs.Segment2.{has_none_of, has_requirement, has_segment_members};
+ghost use Rattle.luks2_metadata.specs.Segment2.{has_requirement, has_segment_members};
 ghost use Rattle.luks2_metadata.specs.Segment2.{is_empty_array, is_segment, size_is_wrong};
 ghost use Rattle.luks2_metadata.specs.Segment2.{mode2_of};
 ghost use Rattle.luks2_metadata.specs.Segment2.{payload2_start, payload_mode2_of, requires_nothing};
 ghost use Rattle.luks2_metadata.specs.Segment2.{sector_size_of, segment2_of};
 ghost use Rattle.luks2_metadata.specs.Segment2.{segment_faults, segment_parts2_of, size_member};
 ghost use Rattle.luks2_metadata.specs.Segment2.{offset_is_wrong, the_segment};
+ghost use Rattle.serde_json.specs.Find.{get};
 ghost use Rattle.serde_json.specs.View.{view as data_of};
 
 use crate::bounds::Bounds;
@@ -32,9 +34,8 @@ fn is_empty_array(value: &Value) -> bool
 }
 
 // The member with this name is missing or an empty array.
-#[tactic(auto, unfolding(crate::specs::Segment2::has_none_of))]
 fn has_none_of(name: &str, value: &Value) -> bool
-    ensures { result ≡ has_none_of name.now (data_of value.now) }
+    ensures { result ≡ option_map_or is_empty_array (get name.now (data_of value.now)) true }
 {
     match value.get(name) {
         Some(values) => is_empty_array(values),

@@ -3,7 +3,7 @@ use Rattle.std.proofs.lemmas.Bool.{ltb-false, le-ltb, lt-ltb}
 use Rattle.std.proofs.Common.{◌≡◌, ◌∙◌, ℕ, ◌≤◌, refl, sym, subst, Bool, true, false, List, length, Option, Some, None}
 use Rattle.std.proofs.Common.{Result, Ok, Err, ◌<◌, ◌⊎◌, inl, inr, [], ap, take, drop, length-take-le, min, take_all}
 use Rattle.std.proofs.Common.{arith}
-use Rattle.std.specs.Prelude.{nat_lt, if◌then◌else◌, IsTrue, ◌↔◌, not}
+use Rattle.std.specs.Prelude.{nat_lt, if◌then◌else◌, IsTrue, ◌↔◌, not, ok_or, option_map}
 use Rattle.luks_cipher.specs.Sector.{is_mode_key_length}
 use Rattle.luks_cipher.specs.declared.mode.Mode.{Mode}
 use Rattle.luks_kdf.specs.declared.hash.Hash.{Hash}
@@ -30,7 +30,7 @@ use Rattle.luks2_metadata.proofs.SegmentLemmas.{segment2-ok}
 use Rattle.luks2_metadata.proofs.SlotLemmas.{usable2_at}
 use Rattle.luks_verdict.specs.Rule.{exceeds}
 use Rattle.luks_header.specs.HeaderDigests.{digest_for}
-use Rattle.luks_header.specs.Header.{bounds2_of, header_of, is_detached, with_metadata, with_text, ConsumedHeaderLen}
+use Rattle.luks_header.specs.Header.{bounds2_of, header_of, is_detached, with_text, ConsumedHeaderLen}
 use Rattle.luks_header.specs.Header.{IsRead, ReadsNoHeader, falls_short, header_read_len, probe_len}
 use Rattle.luks_header.specs.HeaderSegment.{segment_of}
 use Rattle.luks_header.specs.SlotVerdicts.{slot_at, verdict_at}
@@ -107,7 +107,7 @@ unfolding header_of is_detached header1_of
 is_attached image header is = by (is_luks1 image) refl
   where
     of_tree : (second : Header2) → header2_of image ≡ Ok second → (tree : Option Data)
-        → with_metadata second tree ≡ Ok header → is_detached header ≡ false
+        → ok_or (option_map (V2 second) tree) Json ≡ Ok header → is_detached header ≡ false
     of_tree second found None h = absurd cc
     of_tree second found (Some tree) h =
         let same : V2 second tree ≡ header = cc in
@@ -133,22 +133,22 @@ is_attached image header is = by (is_luks1 image) refl
 pub before_payload : (header : Header) (segment : Segment) (limit : Option ℕ) (number : ℕ) (slot : Slot)
     → is_detached header ≡ false
     → segment_of header ≡ Ok segment
-    → verdict_at header limit number ≡ Some (Usable slot) → material_end slot ≤ segment.offset
+    → verdict_at header limit number ≡ Some (Usable slot) → material_end slot.parts ≤ segment.offset
 unfolding verdict_at segment_of is_detached payload1_start bounds2_of
 before_payload (V1 header) segment limit number slot attached is_segment is =
     let start = (IsReadable-ok header segment is_segment).0.offset in
     let known : payload1_start header ≡ Some segment.offset = rw (attached, start) refl in
-    ends_before (payload1_start header) segment.offset (material_end slot) known
+    ends_before (payload1_start header) segment.offset (material_end slot.parts) known
     (slot_usable_at header limit number slot is).0.before_payload
 before_payload (V2 header tree) segment limit number slot attached is_segment is =
     let read = segment2-ok tree (bounds2_of header) segment is_segment in
-    ends_before (payload2_start tree (bounds2_of header)) segment.offset (material_end slot) (read.start attached)
+    ends_before (payload2_start tree (bounds2_of header)) segment.offset (material_end slot.parts) (read.start attached)
     (usable2_at tree (bounds2_of header) limit number slot is).0.before_payload
 
 -- the search for the header goes at least 592 bytes into an image, and as many bytes are read, or all of a shorter one
 pub probe_is : (image : List ℕ)
     → (header_read_len image ≡ min (probe_len image) (length image)) × (592 ≤ probe_len image)
-unfolding header_read_len probe_len header2_read_len
+unfolding header_read_len probe_len
 probe_is image = by (is_luks1 image) refl where
   by : (b : Bool) → is_luks1 image ≡ b
       → (header_read_len image ≡ min (probe_len image) (length image)) × (592 ≤ probe_len image)
@@ -267,7 +267,7 @@ rest_reading_aborted image left whole ends before ends' fault is found aborts =
 module _ (image : List ℕ) (other : is_luks1 image ≡ false) where
   -- if the image does not start as LUKS1, as many bytes are read, and the search goes as far, as for a LUKS2 header
   lengths_other : (header_read_len image ≡ header2_read_len image) × (probe_len image ≡ probe2_len image)
-  unfolding header_read_len probe_len
+  unfolding header_read_len probe_len header2_read_len
   lengths_other = rw other (refl, refl)
 
   -- it has the LUKS2 header with its JSON text, or none
@@ -286,12 +286,13 @@ module _ (image : List ℕ) (old new : HeaderAreaModel) (other : is_luks1 image 
 
   -- the image has the LUKS2 header with the JSON text in the loaded bytes
   header_loaded : (header : Header2) (tree : Option Data) → AnsweredFor image new.bytes (Ok header)
-      → tree_of (json_text_of new.bytes header) ≡ tree → header_of image ≡ with_metadata header tree
+      → tree_of (json_text_of new.bytes header) ≡ tree → header_of image ≡ ok_or (option_map (V2 header) tree) Json
   header_loaded header tree (found, long) read =
       let text : json_text_of new.bytes header ≡ json_text_of image header =
       ap (λ bytes. json_text_of bytes header) (sym prefix.begins ∙ ap (λ n. take n image) long)
       ∙ json_prefix image header found in
-      header_other image other (Ok header) found ∙ ap (with_metadata header) (ap tree_of (sym text) ∙ read)
+      header_other image other (Ok header) found
+      ∙ ap (λ tree. ok_or (option_map (V2 header) tree) Json) (ap tree_of (sym text) ∙ read)
 
   -- a header and its JSON text were read
   pub found_read : (header : Header2) (tree : Data) → AnsweredFor image new.bytes (Ok header)

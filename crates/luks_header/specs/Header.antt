@@ -1,18 +1,16 @@
 -- Which header an image has, and how many of its bytes are read for it.
-use Rattle.std.specs.Prelude.{◌≡◌, ◌⊎◌, ℕ, Bool, true, false, List, Option, Some, None, Result, Ok, Err, length, min}
-use Rattle.std.specs.Prelude.{nat_lt, if◌then◌else◌}
+use Rattle.std.specs.Prelude.{◌≡◌, ◌⊎◌, ℕ, Bool, true, false, List, Option, Result, Ok, Err, length, min}
+use Rattle.std.specs.Prelude.{◌*◌, nat_lt, if◌then◌else◌, ok_or, option_map}
 use Rattle.luks_io.specs.Devices.{ConsumedExactly, ConsumedFewer, ConsumedAtMost, counted}
 use Rattle.luks_header_area.specs.Area.{HeaderAreaModel}
 use Rattle.luks_header_area.specs.Fields.{at}
 use Rattle.luks1_header.specs.Header1.{header1_len, header1_of, is_luks1}
 use Rattle.luks2_binary.specs.Choice2.{header2_of}
-use Rattle.luks2_binary.specs.ReadLen2.{header2_read_len, probe2_len}
-use Rattle.luks2_binary.specs.Header2.{end2_of}
+use Rattle.luks2_binary.specs.ReadLen2.{probe2_len}
 use Rattle.luks2_binary.specs.Text2.{json_text_of}
 use Rattle.luks2_binary.specs.declared.header.Header2.{Header2}
 use Rattle.luks2_json.specs.Tree.{tree_of}
 use Rattle.luks2_metadata.specs.declared.bounds.Bounds.{Bounds}
-use Rattle.serde_json.specs.Data.{Data}
 use Rattle.luks_header.specs.declared.header.Header.{Header}
 use Rattle.luks_header.specs.declared.header.Header.TheVariants.{V1, V2}
 use Rattle.luks_header_area.specs.declared.fault.HeaderFault.{HeaderFault}
@@ -30,16 +28,11 @@ detached_of (V2 header tree) = V2 (record header { detached = true }) tree
 
 -- the bounds that a LUKS2 header sets for key material and for the payload
 unfoldable pub bounds2_of : Header2 → Bounds
-bounds2_of header = record { end = end2_of header; detached = header.detached }
+bounds2_of header = record { end = 2 * header.size; detached = header.detached }
 
--- the LUKS2 header with this binary header and the metadata of its JSON text, if that could be read
-abbrev pub with_metadata : Header2 → Option Data → Result Header HeaderFault
-with_metadata header None = Err Json
-with_metadata header (Some tree) = Ok (V2 header tree)
-
--- the LUKS2 header of these bytes, if they have a binary header
+-- the LUKS2 header of these bytes, if they have a binary header and its JSON text can be read
 abbrev pub with_text : List ℕ → Result Header2 HeaderFault → Result Header HeaderFault
-with_text image (Ok header) = with_metadata header (tree_of (json_text_of image header))
+with_text image (Ok header) = ok_or (option_map (V2 header) (tree_of (json_text_of image header))) Json
 with_text image (Err fault) = Err fault
 
 -- the header of an image, or why there is none
@@ -51,7 +44,7 @@ header_of image =
 
 -- the number of bytes of the image that are read to learn which header it has
 unfoldable pub header_read_len : List ℕ → ℕ
-header_read_len image = if is_luks1 image then min header1_len (length image) else header2_read_len image
+header_read_len image = min (if is_luks1 image then header1_len else probe2_len image) (length image)
 
 -- how far into an image the search for its header goes; the image may end before
 unfoldable pub probe_len : List ℕ → ℕ

@@ -142,13 +142,13 @@ named_tried number _ is = absurd cc
 
 -- all key material ends at or before an offset if and only if that of each key slot does
 pub key_material_end-le : (most : ℕ) (entries : List Entry)
-    → AllByRecursion (λ (entry : Entry). material_end entry.slot ≤ most) entries → key_material_end entries ≤ most
+    → AllByRecursion (λ (entry : Entry). material_end entry.slot.parts ≤ most) entries → key_material_end entries ≤ most
 unfolding key_material_end
 key_material_end-le most [] all = omega arith
 key_material_end-le most (entry ∷ entries) all = omega (arith, key_material_end-le most entries all.1, all.0)
 
 pub All-key_material_end : (most : ℕ) (entries : List Entry) → key_material_end entries ≤ most
-    → AllByRecursion (λ (entry : Entry). material_end entry.slot ≤ most) entries
+    → AllByRecursion (λ (entry : Entry). material_end entry.slot.parts ≤ most) entries
 unfolding key_material_end
 All-key_material_end most [] all = tt
 All-key_material_end most (entry ∷ entries) all = (omega arith, All-key_material_end most entries (omega arith))
@@ -169,7 +169,7 @@ from_entry entries i entry there is = drop_more entries i entry there
 -- the remaining key material ends where that of the next key slot or of those after it ends, whichever is later
 pub key_material_end-drop : (entries : List Entry) (i : ℕ) (entry : Entry) → i < length entries
     → entry ≡ get_or entries i entry
-    → key_material_end (drop i entries) ≡ max (material_end entry.slot) (key_material_end (drop (i + 1) entries))
+    → key_material_end (drop i entries) ≡ max (material_end entry.slot.parts) (key_material_end (drop (i + 1) entries))
 unfolding key_material_end
 key_material_end-drop entries i entry there is = ap key_material_end (from_entry entries i entry there is)
 
@@ -194,7 +194,7 @@ module _ (header : Header) (named limit : Option ℕ) (order : OrderModel)
     All-IsTriable loaded there = λ k d below.
         let entry = slice_index_or order.entries k d in
         let known : IsKnown segment entry.slot = each_known k d below in
-        let ends = All-from_recursion (λ (entry : Entry). material_end entry.slot ≤ loaded) order.entries
+        let ends = All-from_recursion (λ (entry : Entry). material_end entry.slot.parts ≤ loaded) order.entries
         (All-key_material_end loaded order.entries there) k d below in
         record {
           kdf = known.kdf;
@@ -218,7 +218,7 @@ pub key_areas_before_payload : (header : Header) (segment : Segment) (named limi
     → order_of header named limit ≡ Ok order → key_material_end order.entries ≤ segment.offset
 key_areas_before_payload header segment named limit order attached is_segment is_order =
     key_material_end-le segment.offset order.entries
-    (recursion_from_All (λ (entry : Entry). material_end entry.slot ≤ segment.offset) order.entries (λ k d below.
+    (recursion_from_All (λ (entry : Entry). material_end entry.slot.parts ≤ segment.offset) order.entries (λ k d below.
     let entry = slice_index_or order.entries k d in
     let is = each_of_header header named limit order is_order k d below in
     before_payload header segment limit entry.number entry.slot attached is_segment is.usable))
@@ -236,7 +236,7 @@ recovered_prefix af cipher image offset key_bytes stripes n before =
     (joined_same _ _ (key_material_len key_bytes stripes / 512) sectors)
 
 -- a key slot whose key material ends at or before offset n gives the same volume key from the first n bytes alone
-key_prefix : (entry : Entry) (n : ℕ) (image pass : List ℕ) → material_end entry.slot ≤ n
+key_prefix : (entry : Entry) (n : ℕ) (image pass : List ℕ) → material_end entry.slot.parts ≤ n
     → slot_key entry (take n image) pass ≡ slot_key entry image pass
 unfolding slot_key candidate_of
 key_prefix entry n image pass before =
@@ -261,7 +261,7 @@ opening_prefix order n image pass loaded =
     ap (λ (first : Option Opened). ok_or first (NoKey order.skipped))
     (of_entries order.entries (All-key_material_end n order.entries loaded))
   where
-    of_entries : (entries : List Entry) → AllByRecursion (λ (entry : Entry). material_end entry.slot ≤ n) entries
+    of_entries : (entries : List Entry) → AllByRecursion (λ (entry : Entry). material_end entry.slot.parts ≤ n) entries
         → first_opening entries (take n image) pass ≡ first_opening entries image pass
     of_entries [] ends = refl
     of_entries (entry ∷ entries) ends =
@@ -276,7 +276,7 @@ unfolding work_of tried_of
 work_prefix order n image pass loaded =
     ap (sum_by evaluations_of) (of_entries order.entries (All-key_material_end n order.entries loaded))
   where
-    of_entries : (entries : List Entry) → AllByRecursion (λ (entry : Entry). material_end entry.slot ≤ n) entries
+    of_entries : (entries : List Entry) → AllByRecursion (λ (entry : Entry). material_end entry.slot.parts ≤ n) entries
         → tried_of entries (take n image) pass ≡ tried_of entries image pass
     of_entries [] ends = refl
     of_entries (entry ∷ entries) ends =

@@ -46,6 +46,6 @@ candidate_of slot image pass =
 -- digest's hash function is not known
 unfoldable pub matches_digest : KeyDigest → List ℕ → Bool
 matches_digest digest key =
-    option_map_or
-    (λ hash. bytes_eq (derived_key hash key digest.salt digest.iterations (length digest.value)) digest.value)
-    digest.hash false
+    let parts = digest.parts in
+    option_map_or (λ hash. bytes_eq (derived_key hash key parts.salt parts.iterations (length parts.value)) parts.value)
+    parts.hash false

@@ -80,7 +80,7 @@ IsOrMemory specified answer =
 -- the end of the last key material of these key slots
 unfoldable pub key_material_end : List Entry → ℕ
 key_material_end [] = 0
-key_material_end (entry ∷ entries) = max (material_end entry.slot) (key_material_end entries)
+key_material_end (entry ∷ entries) = max (material_end entry.slot.parts) (key_material_end entries)
 
 -- ---- opening
 
@@ -117,7 +117,7 @@ evaluations None iterations bytes = 0
 unfoldable pub evaluations_of : Entry → ℕ
 evaluations_of entry =
     evaluations entry.slot.parts.kdf_hash entry.slot.parts.iterations entry.slot.parts.area_key_bytes
-    + evaluations entry.slot.digest.hash entry.slot.digest.iterations (length entry.slot.digest.value)
+    + evaluations entry.slot.digest.parts.hash entry.slot.digest.parts.iterations (length entry.slot.digest.parts.value)
 
 -- the key slots that are tried: up to the first that opens, or all
 unfoldable pub tried_of : List Entry → List ℕ → List ℕ → List Entry

@@ -14,4 +14,4 @@ pub record IsTriable (loaded : ℕ) (slot : Slot) : Type 0 where
   pub volume_key : is_key_length slot.parts.key_bytes ≡ true
   pub area : (mode : Mode) × (slot.parts.area_mode ≡ Some mode)
       × (is_mode_key_length mode slot.parts.area_key_bytes ≡ true)
-  pub there : material_end slot ≤ loaded
+  pub there : material_end slot.parts ≤ loaded

@@ -36,12 +36,12 @@ key_digest_of header = option_or (first_of_segment (digests_of header)) (digest_
 unfoldable pub compared : Option ℕ → Option KeyDigest → List ℕ → KeyCheck
 compared limit None key = NoDigest
 compared limit (Some digest) key =
-    if iterations_out_of_range limit digest.iterations then NoDigest
+    if iterations_out_of_range limit digest.parts.iterations then NoDigest
     else if matches_digest digest key then Matches else Differs
 
 -- the evaluations of HMAC that this costs
 unfoldable pub comparing_costs : Option ℕ → Option KeyDigest → ℕ
 comparing_costs limit None = 0
 comparing_costs limit (Some digest) =
-    if iterations_out_of_range limit digest.iterations then 0
-    else evaluations digest.hash digest.iterations (length digest.value)
+    if iterations_out_of_range limit digest.parts.iterations then 0
+    else evaluations digest.parts.hash digest.parts.iterations (length digest.parts.value)

@@ -14,19 +14,20 @@ use luks_kdf::Work;
 pub(crate) fn key_matches_digest(digest: &KeyDigest, key: &[u8], work: &mut Work) -> bool
     ensures value { result ≡ matches_digest digest.now key.now }
     ensures work { work.new ≡ capped (work.old
-        + evaluations digest.now.hash digest.now.iterations (length digest.now.value)) }
+        + evaluations digest.now.parts.hash digest.now.parts.iterations
+        (length digest.now.parts.value)) }
 {
     // Without a hash function the count does not change, and it is within its range.
     let _before = work.count();
-    let Some(hash) = digest.hash else {
+    let Some(hash) = digest.parts.hash else {
         return false;
     };
-    let value = digest.value.as_slice();
+    let value = digest.parts.value.as_slice();
     let derived = Key::derived(
         hash,
         key,
-        digest.salt.as_slice(),
-        digest.iterations,
+        digest.parts.salt.as_slice(),
+        digest.parts.iterations,
         value.len(),
         work,
     );

@@ -64,7 +64,7 @@ fn compare(digest: &KeyDigest, limit: Option<u32>, key: &[u8], work: &mut Work) 
 {
     // Without a comparison the count does not change, and it is within its range.
     let _before = work.count();
-    if iterations_out_of_range(limit, u64::from(digest.iterations)) {
+    if iterations_out_of_range(limit, u64::from(digest.parts.iterations)) {
         return KeyCheck::NoDigest;
     }
     if key_matches_digest(digest, key, work) {

@@ -1,14 +1,14 @@
 -- The first 8 MiB of an image decide which header it has.
 use Rattle.std.proofs.Common.{◌≡◌, ◌∙◌, ℕ, ◌≤◌, ◌++◌, List, [], ◌∷◌, Bool, true, false, ap, sym}
 use Rattle.std.proofs.Common.{refl, length, take, min, arith, Result, Ok, Err, length-append}
-use Rattle.std.specs.Prelude.{nat_le, nat_lt, ok_or}
+use Rattle.std.specs.Prelude.{nat_le, nat_lt, ok_or, option_map}
 use Rattle.std.specs.List.{list_all}
 use Rattle.std.proofs.lemmas.Bool.{and_parts, leb-true, le-ltb}
 use Rattle.std.proofs.Math.Seq.{take-length}
 use Rattle.std.proofs.lemmas.List.{take-append-le}
 use Rattle.luks_header_area.specs.Fields.{at}
 use Rattle.luks_header_area.specs.declared.fault.HeaderFault.{HeaderFault}
-use Rattle.luks_header_area.specs.declared.fault.HeaderFault.TheVariants.{NotLuks}
+use Rattle.luks_header_area.specs.declared.fault.HeaderFault.TheVariants.{Json, NotLuks}
 use Rattle.luks1_header.specs.Header1.{is_luks1}
 use Rattle.luks2_binary.specs.Choice2.{binary_at, chosen2_of, fits, header2_of, is_valid}
 use Rattle.luks2_binary.specs.Header2.{sizes}
@@ -20,8 +20,9 @@ use Rattle.luks2_binary.proofs.ChoiceLemmas.{json_prefix, probe_other, probe_pri
 use Rattle.luks2_binary.proofs.ValidLemmas.{fits_parts, furthest, probe_fit, probe_unfit, search_len_is}
 use Rattle.luks2_binary.proofs.ValidLemmas.{size_range, valid_range}
 use Rattle.luks2_json.specs.Tree.{tree_of}
-use Rattle.luks_header.specs.Header.{header_of, with_metadata, with_text}
+use Rattle.luks_header.specs.Header.{header_of, with_text}
 use Rattle.luks_header.proofs.KnownLemmas.{begins_longer, header_other}
+use Rattle.luks_header.specs.declared.header.Header.TheVariants.{V2}
 
 -- ---- no more than 8 MiB are read
 
@@ -108,7 +109,7 @@ module _ (bytes rest : List ℕ) (long : 8388608 ≤ length bytes) where
 
   same_with_text : (read : Result Header2 HeaderFault) → header2_of image ≡ read
       → with_text image read ≡ with_text bytes read
-  same_with_text (Ok header) is = ap (λ text. with_metadata header (tree_of text)) (same_text header is)
+  same_with_text (Ok header) is = ap (λ text. ok_or (option_map (V2 header) (tree_of text)) Json) (same_text header is)
   same_with_text (Err fault) is = refl
 
   -- the header of an image is that of its first bytes

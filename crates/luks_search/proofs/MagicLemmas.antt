@@ -9,7 +9,7 @@ use Rattle.std.proofs.lemmas.List.{drop-append-le, drop-drop, drop_all, take-app
 use Rattle.std.proofs.lemmas.Slice.Eq.{bytes_eq-Decides}
 use Rattle.luks_header_area.specs.declared.fault.HeaderFault.TheVariants.{NotLuks}
 use Rattle.luks1_header.specs.Header1.{is_luks1}
-use Rattle.luks2_binary.specs.Choice2.{beginning_at, chosen2_of, first_valid, fits}
+use Rattle.luks2_binary.specs.Choice2.{beginning_at, chosen2_of, fits}
 use Rattle.luks2_binary.specs.Choice2.{found_at, header2_of, is_binary_of, is_valid}
 use Rattle.luks2_binary.specs.Header2.{sizes}
 use Rattle.luks2_binary.proofs.ChoiceLemmas.{chosen_other}
@@ -90,7 +90,7 @@ quiet_none bytes none =
     let unfit : (offset : ℕ) → begins_magic (drop offset bytes) ≡ false → is_valid bytes offset ≡ false =
     λ offset quiet. unfit-is_valid bytes offset (fits_magic bytes offset quiet) in
     let first : is_valid bytes 0 ≡ false = unfit 0 parts.0 in
-    let search : first_valid bytes ≡ None =
+    let search : find (is_valid bytes) sizes ≡ None =
     find_none (λ size. begins_magic (drop size bytes)) (is_valid bytes) sizes unfit parts.1 in
     let chosen : chosen2_of bytes ≡ None =
     chosen_other bytes first ∙ ap (option_and_then (found_at bytes)) search in

@@ -7,7 +7,7 @@ use Rattle.luks_cipher.specs.declared.mode.Mode.{Mode}
 use Rattle.luks_verdict.specs.Rule.{evidence_if, is_digest, is_in_range, iterations_out_of_range}
 use Rattle.luks_verdict.specs.SectorSize.{has_whole_sectors}
 use Rattle.luks_verdict.specs.Segment.{refused_or, segment_of_all}
-use Rattle.luks_verdict.specs.Slot.{digest_from, has_no_usable_digest, parts_end}
+use Rattle.luks_verdict.specs.Slot.{digest_from, has_no_usable_digest, material_end}
 use Rattle.luks_verdict.specs.Slot.{slot_from, verdict_by, verdict_kind_of}
 use Rattle.luks_verdict.specs.declared.digest.DigestParts.{DigestParts}
 use Rattle.luks_verdict.specs.declared.digest.KeyDigest.{KeyDigest}
@@ -32,7 +32,7 @@ evidence_if-no false is = refl
 
 -- the parts of a key slot are in range
 abbrev pub are_in_range : SlotParts → Bool
-are_in_range parts = is_in_range parts.iterations parts.stripes (parts_end parts)
+are_in_range parts = is_in_range parts.iterations parts.stripes (material_end parts)
 
 -- the key slot with these parts, which are in range, and this digest
 unfoldable pub slot_of : (parts : SlotParts) (digest : KeyDigest) → are_in_range parts ≡ true → Slot
@@ -55,8 +55,7 @@ is_usable parts = is_digest parts.iterations (length parts.value)
 
 -- the digest with these parts, which are in range
 unfoldable pub digest_of : (parts : DigestParts) → is_usable parts ≡ true → KeyDigest
-digest_of parts is =
-    record { hash = parts.hash; iterations = parts.iterations; salt = parts.salt; value = parts.value; usable = is }
+digest_of parts is = record { parts = parts; usable = is }
 
 pub digest_from-yes : (parts : DigestParts) (is : is_usable parts ≡ true)
     → digest_from parts ≡ Some (digest_of parts is)

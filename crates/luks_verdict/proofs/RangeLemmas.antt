@@ -6,8 +6,7 @@ use Rattle.std.proofs.lemmas.Option.{none-some, same_Some}
 use Rattle.std.specs.Option.{ForSome}
 use Rattle.luks_header_area.specs.Area.{max_loaded_len}
 use Rattle.luks_verdict.specs.Rule.{is_digest, is_in_range, iterations_out_of_range}
-use Rattle.luks_verdict.specs.Rule.{max_digest_len, max_iteration_count}
-use Rattle.luks_verdict.specs.Rule.{max_stripes, min_digest_len, stripes_out_of_range}
+use Rattle.luks_verdict.specs.Rule.{max_iteration_count, max_stripes, stripes_out_of_range}
 use Rattle.luks_verdict.specs.SectorSize.{bytes_of, has_whole_sectors}
 use Rattle.luks_verdict.specs.Slot.{material_end}
 use Rattle.luks_verdict.specs.declared.digest.KeyDigest.{KeyDigest}
@@ -34,15 +33,15 @@ in_range iterations stripes end is = record {
 }
 
 -- the numbers of every slot that can be opened are in range
-pub slot_range : (slot : Slot) → InRange slot.parts.iterations slot.parts.stripes (material_end slot)
-slot_range slot = in_range slot.parts.iterations slot.parts.stripes (material_end slot) slot.in_range
+pub slot_range : (slot : Slot) → InRange slot.parts.iterations slot.parts.stripes (material_end slot.parts)
+slot_range slot = in_range slot.parts.iterations slot.parts.stripes (material_end slot.parts) slot.in_range
 
 -- the bounds of the numbers of a digest that can be used
 pub record IsDigest (iterations len : ℕ) : Type 0 where
   pub some_iterations : 1 ≤ iterations
   pub few_iterations : iterations ≤ max_iteration_count
-  pub enough : min_digest_len ≤ len
-  pub few : len ≤ max_digest_len
+  pub enough : 20 ≤ len
+  pub few : len ≤ 64
 
 pub usable_digest : (iterations len : ℕ) → is_digest iterations len ≡ true → IsDigest iterations len
 unfolding is_digest iterations_out_of_range
@@ -54,8 +53,8 @@ usable_digest iterations len is = record {
 }
 
 -- every digest that identifies a volume key can be used
-pub digest_range : (digest : KeyDigest) → IsDigest digest.iterations (length digest.value)
-digest_range digest = usable_digest digest.iterations (length digest.value) digest.usable
+pub digest_range : (digest : KeyDigest) → IsDigest digest.parts.iterations (length digest.parts.value)
+digest_range digest = usable_digest digest.parts.iterations (length digest.parts.value) digest.usable
 
 -- what `has_whole_sectors` tests, as a type
 abbrev pub HasWholeSectors : Option ℕ → SectorSize → Type 0

@@ -2,6 +2,7 @@
 -- an area.
 use Rattle.std.specs.Prelude.{◌≡◌, ℕ, ◌+◌, ◌*◌, ◌/◌, ◌==◌, ◌&&◌, ◌||◌, not, nat_lt, Bool, true, false, Option}
 use Rattle.std.specs.Prelude.{Some, None, refl}
+use Rattle.std.specs.Option.{option_map_or}
 use Rattle.luks_header_area.specs.Area.{max_loaded_len}
 
 -- the largest number of slots in a header; they are numbered from 0
@@ -16,18 +17,9 @@ max_stripes = 4000
 abbrev pub max_iteration_count : ℕ
 max_iteration_count = 4294967295
 
--- the smallest length of a digest in bytes
-abbrev pub min_digest_len : ℕ
-min_digest_len = 20
-
--- the largest length of a digest in bytes
-abbrev pub max_digest_len : ℕ
-max_digest_len = 64
-
 -- the number is above the limit, if there is one
 abbrev pub exceeds : Option ℕ → ℕ → Bool
-exceeds None n = false
-exceeds (Some limit) n = nat_lt limit n
+exceeds limit n = option_map_or (λ most. nat_lt most n) limit false
 
 -- this number of iterations is refused: 0, more than fits into four bytes, or above the limit
 unfoldable pub iterations_out_of_range : Option ℕ → ℕ → Bool
@@ -54,10 +46,9 @@ unfoldable pub is_in_range : ℕ → ℕ → ℕ → Bool
 is_in_range iterations stripes end = not (iterations_out_of_range None iterations) && not (stripes_out_of_range stripes)
     && not (nat_lt max_loaded_len end)
 
--- a digest with this number of iterations and this length can be used
+-- a digest with this number of iterations and this length can be used: it has 20 to 64 bytes
 unfoldable pub is_digest : ℕ → ℕ → Bool
-is_digest iterations len = not (iterations_out_of_range None iterations) && not (nat_lt len min_digest_len)
-    && not (nat_lt max_digest_len len)
+is_digest iterations len = not (iterations_out_of_range None iterations) && not (nat_lt len 20) && not (nat_lt 64 len)
 
 -- evidence that a test holds, for values that are made only if it does
 abbrev pub evidence_if : (test : Bool) → Option (test ≡ true)

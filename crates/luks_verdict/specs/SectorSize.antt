@@ -1,5 +1,7 @@
 -- The lengths of sectors.
-use Rattle.std.specs.Prelude.{◌%◌, ◌==◌, if◌then◌else◌, ℕ, Bool, true, Option, Some, None}
+use Rattle.std.specs.Prelude.{◌%◌, ◌==◌, ℕ, Bool, true, [], ◌∷◌, Option}
+use Rattle.std.specs.List.{find}
+use Rattle.std.specs.Option.{option_map_or}
 use Rattle.luks_verdict.specs.declared.sector_size.SectorSize.{SectorSize}
 use Rattle.luks_verdict.specs.declared.sector_size.SectorSize.TheVariants.{B512, B1024, B2048, B4096}
 
@@ -12,11 +14,8 @@ bytes_of B4096 = 4096
 
 -- the sector size of this many bytes, if there is one
 abbrev pub sector_size_with : ℕ → Option SectorSize
-sector_size_with bytes =
-    if bytes == 512 then Some B512 else if bytes == 1024 then Some B1024 else if bytes == 2048 then Some B2048
-    else if bytes == 4096 then Some B4096 else None
+sector_size_with bytes = find (λ size. bytes == bytes_of size) (B512 ∷ B1024 ∷ B2048 ∷ B4096 ∷ [])
 
 -- the length of a payload is a multiple of the sectors' length, if it is fixed
 abbrev pub has_whole_sectors : Option ℕ → SectorSize → Bool
-has_whole_sectors None sector_size = true
-has_whole_sectors (Some bytes) sector_size = bytes % bytes_of sector_size == 0
+has_whole_sectors size sector_size = option_map_or (λ bytes. bytes % bytes_of sector_size == 0) size true

@@ -1,5 +1,6 @@
 -- Segments, made from the parts that were read.
-use Rattle.std.specs.Prelude.{ℕ, ◌+◌, ◌*◌, ◌/◌, ◌%◌, ◌^◌, Option, Some, None, Result, Ok, Err, option_map}
+use Rattle.std.specs.Prelude.{ℕ, ◌+◌, ◌*◌, ◌/◌, ◌%◌, ◌^◌, Option, Some, None, Result, Err, ok_or, option_map}
+use Rattle.std.specs.Option.{option_map_or}
 use Rattle.luks_cipher.specs.declared.mode.Mode.{Mode}
 use Rattle.luks_verdict.specs.Rule.{evidence_if}
 use Rattle.luks_verdict.specs.SectorSize.{bytes_of, has_whole_sectors}
@@ -26,12 +27,10 @@ segment_of_all _ _ _ _ _ = None
 unfoldable pub segment_from : SegmentParts → Option Segment
 segment_from parts = segment_of_all parts.offset parts.size parts.iv_tweak parts.sector_size parts.mode
 
--- the payload's segment, or its fault. The third case does not occur: a segment without a fault has all its parts, and
--- they are in range
+-- the payload's segment, or its fault. A segment without a fault has all its parts, and they are in range, so that this
+-- adds no `Member`
 abbrev pub refused_or : Option SegmentFault → Option Segment → Result Segment SegmentFault
-refused_or (Some fault) segment = Err fault
-refused_or None (Some segment) = Ok segment
-refused_or None None = Err Member
+refused_or fault segment = option_map_or Err fault (ok_or segment Member)
 
 -- the unit number of sector i: unit numbers count in steps of 512 bytes, whatever the sector's length, and wrap at 2^64
 abbrev pub unit_number : Segment → ℕ → ℕ

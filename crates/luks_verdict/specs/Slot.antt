@@ -1,5 +1,6 @@
 -- Key slots and digests, made from the parts that were read, and the verdicts on key slots.
 use Rattle.std.specs.Prelude.{ℕ, ◌+◌, Bool, true, Option, Some, None, length, option_map}
+use Rattle.std.specs.Option.{option_map_or}
 use Rattle.luks_verdict.specs.Rule.{evidence_if, is_digest, is_in_range, iterations_out_of_range, key_material_len}
 use Rattle.luks_verdict.specs.declared.digest.DigestParts.{DigestParts}
 use Rattle.luks_verdict.specs.declared.digest.KeyDigest.{KeyDigest}
@@ -13,27 +14,21 @@ use Rattle.luks_verdict.specs.declared.slot.VerdictKind.{VerdictKind}
 use Rattle.luks_verdict.specs.declared.slot.VerdictKind.TheVariants.{Usable as KindUsable, Disabled as KindDisabled}
 use Rattle.luks_verdict.specs.declared.slot.VerdictKind.TheVariants.{Skipped as KindSkipped}
 
--- the end of the key material in the image, by the parts of its key slot
-abbrev pub parts_end : SlotParts → ℕ
-parts_end parts = parts.area_offset + key_material_len parts.key_bytes parts.stripes
-
 -- the end of a key slot's key material in the image
-abbrev pub material_end : Slot → ℕ
-material_end slot = parts_end slot.parts
+abbrev pub material_end : SlotParts → ℕ
+material_end parts = parts.area_offset + key_material_len parts.key_bytes parts.stripes
 
 -- the key slot with these parts and this digest, if their numbers are in range and there is a digest
 unfoldable pub slot_from : SlotParts → Option KeyDigest → Option Slot
 slot_from parts (Some digest) =
     option_map (λ is. record { parts = parts; digest = digest; in_range = is })
-    (evidence_if (is_in_range parts.iterations parts.stripes (parts_end parts)))
+    (evidence_if (is_in_range parts.iterations parts.stripes (material_end parts)))
 slot_from parts None = None
 
--- a key slot can be tried if there is no reason to skip it. The third case does not occur: without a reason the parts
--- are in range and there is a digest
+-- a key slot can be tried if there is no reason to skip it. Without a reason the parts are in range and there is a
+-- digest, so that this adds no `Member`
 abbrev pub verdict_by : Option SkipReason → Option Slot → Verdict
-verdict_by (Some reason) slot = Skipped reason
-verdict_by None (Some slot) = Usable slot
-verdict_by None None = Skipped Member
+verdict_by reason slot = option_map_or Skipped reason (option_map_or Usable slot (Skipped Member))
 
 -- the verdict on a key slot, without what is needed to open it
 abbrev pub verdict_kind_of : Verdict → VerdictKind
@@ -44,15 +39,9 @@ verdict_kind_of (Skipped reason) = KindSkipped reason
 -- the digest with these parts, if their numbers are in range
 unfoldable pub digest_from : DigestParts → Option KeyDigest
 digest_from parts =
-    option_map (λ is. record {
-      hash = parts.hash;
-      iterations = parts.iterations;
-      salt = parts.salt;
-      value = parts.value;
-      usable = is;
-    }) (evidence_if (is_digest parts.iterations (length parts.value)))
+    option_map (λ is. record { parts = parts; usable = is })
+    (evidence_if (is_digest parts.iterations (length parts.value)))
 
 -- there is no usable digest for a key slot, or its iterations are out of range
 unfoldable pub has_no_usable_digest : Option ℕ → Option KeyDigest → Bool
-has_no_usable_digest limit None = true
-has_no_usable_digest limit (Some digest) = iterations_out_of_range limit digest.iterations
+has_no_usable_digest limit found = option_map_or (λ key. iterations_out_of_range limit key.parts.iterations) found true

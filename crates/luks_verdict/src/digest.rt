@@ -25,16 +25,9 @@ pub struct DigestParts {
 /// iteration, and a value of 20 to 64 bytes.
 #[derive(Drop, Debug)]
 pub struct KeyDigest {
-    /// The hash function of PBKDF2. `None` only for LUKS1, if the name of the hash function is not
-    /// known.
-    pub hash: Option<Hash>,
-    /// The iterations of PBKDF2.
-    pub iterations: u32,
-    /// The salt of PBKDF2.
-    pub salt: HeaderBytes,
-    /// The output of PBKDF2.
-    pub value: HeaderBytes,
-    ghost usable: { is_digest iterations (length value) ≡ true },
+    /// Its parts, as they were read.
+    pub parts: DigestParts,
+    ghost usable: { is_digest parts.iterations (length parts.value) ≡ true },
 }
 
 impl DigestParts {
@@ -65,11 +58,6 @@ impl KeyDigest {
         if !usable_digest(u64::from(parts.iterations), parts.value.as_slice().len()) {
             return None;
         }
-        Some(KeyDigest {
-            hash: parts.hash,
-            iterations: parts.iterations,
-            salt: parts.salt,
-            value: parts.value,
-        })
+        Some(KeyDigest { parts })
     }
 }

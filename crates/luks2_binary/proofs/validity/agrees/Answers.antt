@@ -1,9 +1,9 @@
 use Rattle.std.proofs.Common.{◌≡◌, ◌-◌, ◌++◌, ◌∙◌, ap, arith, drop, take, length, length-take-le, sym}
-use Rattle.std.specs.Prelude.{bytes_eq, nat_eq}
+use Rattle.std.specs.Prelude.{bytes_eq, nat_eq, replicate}
 use Rattle.std.specs.List.{starts_with}
 use Rattle.std.proofs.lemmas.List.{take_rest}
 use Rattle.luks_kdf.specs.Hash.{hash_of, digest_len}
-use Rattle.luks2_binary.specs.Checksum2.{no_checksum, without_checksum}
+use Rattle.luks2_binary.specs.Checksum2.{without_checksum}
 use Rattle.luks2_binary.proofs.validity.agrees.Goals as goal
 
 pub slice_bounds-digest-end : goal.slice_bounds-digest-end
@@ -15,11 +15,11 @@ returns c =
     let header = c.args.header.now in
     let out = c.digest.new.out in
     let long : length out ≡ digest_len c.args.hash = c.digest.auto.out ∙ c.requires.capacity in
-    let sum : out ≡ hash_of c.args.hash (take 448 header ++ no_checksum ++ drop 512 header) =
+    let sum : out ≡ hash_of c.args.hash (take 448 header ++ replicate 64 0 ++ drop 512 header) =
     c.digest.ensures
     ∙ ap (λ zeros. hash_of c.args.hash (take 448 header ++ zeros ++ take (length header - 512) (drop 512 header)))
     c.no_checksum.ensures
-    ∙ ap (λ rest. hash_of c.args.hash (take 448 header ++ no_checksum ++ rest)) (take_rest header 512) in
+    ∙ ap (λ rest. hash_of c.args.hash (take 448 header ++ replicate 64 0 ++ rest)) (take_rest header 512) in
     c.starts_with.ensures.value
     ∙ ap (λ l. starts_with nat_eq l out) (take_rest header 448)
     ∙ ap (λ n. bytes_eq out (take n (drop 448 header))) long
