@@ -3,7 +3,7 @@ use Rattle.std.proofs.Common.{◌≡◌, ◌≢◌, ◌∙◌, ℕ, ◌+◌, ◌
 use Rattle.std.proofs.Common.{None, Ok, Err, arith}
 use Rattle.std.specs.Prelude.{if◌then◌else◌, is_none, option_and_then, slice_get}
 use Rattle.std.proofs.lemmas.Bool.Decides.{nat_tests}
-use Rattle.std.proofs.lemmas.Bool.{ltb-false, not-false}
+use Rattle.std.proofs.lemmas.Bool.{not-false}
 use Rattle.std.proofs.lemmas.Option.{same_Some}
 use Rattle.luks_header_area.specs.Area.{max_loaded_len}
 use Rattle.luks_cipher.specs.declared.mode.Mode.{Mode}
@@ -13,7 +13,7 @@ use Rattle.luks_verdict.specs.Rule.{stripes_out_of_range, key_material_len}
 use Rattle.luks_verdict.specs.Segment.{segment_from, segment_of_all}
 use Rattle.luks_verdict.specs.Slot.{digest_from, material_end, verdict_by, verdict_kind_of, slot_from}
 use Rattle.luks_verdict.specs.Table.{first_match}
-use Rattle.luks_verdict.proofs.MadeLemmas.{are_in_range, digest_there, mapped, of_usable, parts_made, refused_or-err}
+use Rattle.luks_verdict.proofs.MadeLemmas.{are_in_range, digest_there, mapped, of_usable, parts_made}
 use Rattle.luks_verdict.proofs.MadeLemmas.{refused_or-fault, refused_or-none, refused_or-ok, slot_from-yes, slot_of}
 use Rattle.luks_verdict.proofs.MadeLemmas.{some_from_not_none}
 use Rattle.luks_verdict.proofs.TableLemmas.{none_holds}
@@ -24,7 +24,7 @@ use Rattle.luks_verdict.specs.declared.segment.Segment.{Segment}
 use Rattle.luks_verdict.specs.declared.slot.Slot.{Slot}
 use Rattle.luks_verdict.specs.declared.slot.Verdict.TheVariants.{Usable, Disabled as VerdictDisabled}
 use Rattle.luks_verdict.specs.declared.slot.VerdictKind.TheVariants.{Usable as KindUsable}
-use Rattle.luks1_header.specs.Segment1.{is_key_length1, overlaps_header1, segment1_of}
+use Rattle.luks1_header.specs.Segment1.{is_key_length1, segment1_of}
 use Rattle.luks1_header.specs.Segment1.{segment_faults1, segment_parts1_of}
 use Rattle.luks1_header.specs.Slot1.{digest_parts1_of, hash1_of, is_disabled, area1_out_of_range, mode1_of}
 use Rattle.luks1_header.specs.Slot1.{payload1_start, slot1_at, slot1_of, slot_parts1_of, slot_reasons1, verdict1_at}
@@ -32,13 +32,11 @@ use Rattle.luks1_header.specs.Slot1.{verdict1_of}
 use Rattle.luks1_header.specs.declared.header.Header1.{Header1}
 use Rattle.luks1_header.specs.declared.header.StoredSlot.{StoredSlot}
 
--- a volume that can be read: its mode and hash function are known, its key has a length that the mode allows, and with
--- an attached header its payload starts after the header
+-- a volume that can be read: its mode and hash function are known, and its key has a length that the mode allows
 pub record IsReadable (header : Header1) : Type 0 where
   pub mode : (mode : Mode) × (mode1_of header ≡ Some mode)
   pub hash : (hash : Hash) × (hash1_of header ≡ Some hash)
   pub key : is_key_length1 (mode1_of header) header.key_bytes ≡ true
-  pub after_header : header.detached ≡ false → 592 ≤ 512 * header.payload_offset
 
 -- the segment of a header, by its fields
 pub record IsSegment1 (header : Header1) (segment : Segment) : Type 0 where
@@ -58,28 +56,20 @@ unfolding segment_faults1 segment_from
 made1 header no_fault =
     made_in (mode1_of header) (512 * header.payload_offset) (none_holds (segment_faults1 header) no_fault).0
 
--- so a segment that is refused has that fault
-pub segment1-refused : (header : Header1) (fault : SegmentFault) → segment1_of header ≡ Err fault
-    → first_match (segment_faults1 header) ≡ Some fault
-unfolding segment1_of
-segment1-refused header fault is = refused_or-err _ _ (made1 header) fault is
-
 -- a header whose segment is valid has that segment and can be read
 pub IsReadable-ok : (header : Header1) (segment : Segment) → segment1_of header ≡ Ok segment
     → IsSegment1 header segment × IsReadable header
-unfolding segment1_of segment_from segment_faults1 overlaps_header1
+unfolding segment1_of segment_from segment_faults1
 IsReadable-ok header segment is =
     let fault = first_match (segment_faults1 header) in
     let made = refused_or-ok fault (segment_from (segment_parts1_of header)) segment is in
     let parts = parts_made (Some (512 * header.payload_offset)) (Some None) (Some 0) (Some B512) (mode1_of header)
     segment made.1 in
     let all = none_holds (segment_faults1 header) made.0 in
-    let outside : overlaps_header1 header ≡ false = all.1.1.1.0 in
     let readable : IsReadable header = record {
       mode = some_from_not_none (mode1_of header) all.0;
       hash = some_from_not_none (hash1_of header) all.1.0;
       key = not-false (is_key_length1 (mode1_of header) header.key_bytes) all.1.1.0;
-      after_header = λ attached. ltb-false (512 * header.payload_offset) 592 (rw attached at outside);
     } in
     (record { offset = sym (same_Some _ _ parts.0); mode = parts.1 }, readable)
 

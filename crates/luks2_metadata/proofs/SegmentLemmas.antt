@@ -1,13 +1,12 @@
 -- Properties of the segment of a header, and of the values that it is read from.
-use Rattle.std.proofs.Common.{◌≡◌, ◌∙◌, ℕ, ◌≤◌, ap, sym, subst, refl, true, false, Option, Some, None, arith, ◌≢◌}
+use Rattle.std.proofs.Common.{◌≡◌, ◌∙◌, ℕ, ap, sym, subst, refl, true, false, Option, Some, None, arith, ◌≢◌}
 use Rattle.std.proofs.Common.{List, [], ◌∷◌, Result, Ok, Err, String, Global, length}
-use Rattle.std.specs.Prelude.{not, codes, is_none, is_some, option_map, ◌==◌, ◌%◌}
-use Rattle.std.specs.Prelude.{◌||◌, ◌&&◌, Bool, nat_lt, if◌then◌else◌}
-use Rattle.std.proofs.lemmas.Bool.Decides.{nat_tests}
+use Rattle.std.specs.Prelude.{not, codes, is_none, is_some, option_map, ◌==◌}
+use Rattle.std.specs.Prelude.{◌||◌, ◌&&◌, Bool, if◌then◌else◌}
 use Rattle.std.proofs.lemmas.Bool.{not-false, ne_eqb}
 use Rattle.std.proofs.lemmas.Option.{none-some}
 use Rattle.luks_cipher.specs.declared.mode.Mode.{Mode}
-use Rattle.luks_verdict.proofs.MadeLemmas.{parts_made, refused_or-err, refused_or-fault, refused_or-none, refused_or-ok}
+use Rattle.luks_verdict.proofs.MadeLemmas.{refused_or-fault, refused_or-none}
 use Rattle.luks_verdict.proofs.MadeLemmas.{segment_of_all-yes}
 use Rattle.luks_verdict.specs.SectorSize.{has_whole_sectors}
 use Rattle.luks_verdict.specs.declared.sector_size.SectorSize.{SectorSize as Sector}
@@ -17,7 +16,7 @@ use Rattle.luks2_metadata.specs.Segment2.{payload2_start, payload_mode2_of, faul
 use Rattle.luks2_json.specs.Member.{decimal_member}
 use Rattle.luks2_metadata.specs.Segment2.{has_segment_members, is_empty_array, mode2_of}
 use Rattle.luks2_metadata.specs.Segment2.{sector_size_of, segment2_of, segment_faults, segment_parts2_of, segment_value}
-use Rattle.luks2_metadata.specs.Segment2.{only_member, size_is_wrong, size_member, offset_is_wrong, the_segment}
+use Rattle.luks2_metadata.specs.Segment2.{only_member, size_is_wrong, size_member, the_segment}
 use Rattle.serde_json.specs.Data.{Data, Items, Members, array, object}
 use Rattle.std.specs.Result.{result_ok}
 use Rattle.luks_verdict.specs.Segment.{segment_from, segment_of_all}
@@ -152,41 +151,17 @@ made2 tree bounds no_fault =
     (decimal_member (codes "iv_tweak") segment) (sector_size_of segment) (mode2_of segment) _ _ members
     lines.1.1.1.1.0 lines.1.1.1.0 lines.1.1.1.1.1.1.0
 
--- so a segment that is refused has that fault
-pub segment2-refused : (tree : Data) (bounds : Bounds) (fault : SegmentFault) → segment2_of tree bounds ≡ Err fault
-    → fault2_of tree bounds ≡ Some fault
-unfolding segment2_of
-segment2-refused tree bounds fault is = refused_or-err _ _ (made2 tree bounds) fault is
-
 -- ---- a segment that is not refused
 
--- with an attached header, a payload with a valid offset starts after the header
-starts_right : (bounds : Bounds) (offset : ℕ) → offset_is_wrong bounds (Some offset) ≡ false → bounds.detached ≡ false
-    → bounds.end ≤ offset
-unfolding offset_is_wrong
-starts_right bounds offset is attached =
-    let right : (nat_lt offset bounds.end || not (offset % 512 == 0)) ≡ false = rw attached at is in
-    grind (arith, nat_tests)
-
--- a segment that is not refused has the mode that key slots are checked against; with an attached header, it also has
--- the offset that they are checked against, and starts after the header
+-- a segment that is not refused has the mode that key slots are checked against, and with an attached header the offset
 pub record IsSegment2 (tree : Data) (bounds : Bounds) (segment : Segment) : Type 0 where
   pub start : bounds.detached ≡ false → payload2_start tree bounds ≡ Some segment.offset
   pub mode : payload_mode2_of tree bounds ≡ Some segment.mode
-  pub after_header : bounds.detached ≡ false → bounds.end ≤ segment.offset
 
 pub segment2-ok : (tree : Data) (bounds : Bounds) (segment : Segment) → segment2_of tree bounds ≡ Ok segment
     → IsSegment2 tree bounds segment
-unfolding segment2_of payload2_start payload_mode2_of fault2_of segment_from segment_parts2_of
+unfolding payload2_start payload_mode2_of
 segment2-ok tree bounds segment is =
-    let value = segment_value tree in
-    let made = refused_or-ok (fault2_of tree bounds) (segment_from (segment_parts2_of value)) segment is in
-    let all = none_holds ((has_requirement tree, Requirement) ∷ (is_none (the_segment tree), Segments)
-    ∷ segment_faults bounds value) made.0 in
-    let offset = decimal_member (codes "offset") value in
-    let parts = parts_made offset (size_member value) (decimal_member (codes "iv_tweak") value) (sector_size_of value)
-    (mode2_of value) segment made.1 in
-    let wrong : offset_is_wrong bounds offset ≡ false = all.1.1.1.1.1.1.1.0 in
     let offset_in : Result Segment SegmentFault → Option ℕ =
     λ read. option_map (λ (s : Segment). s.offset) (result_ok read) in
     record {
@@ -194,5 +169,4 @@ segment2-ok tree bounds segment is =
           subst (λ detached. (if detached then None else offset_in (segment2_of tree bounds)) ≡ Some segment.offset)
           (sym attached) (ap offset_in is);
       mode = rw is refl;
-      after_header = starts_right bounds segment.offset (subst (λ o. offset_is_wrong bounds o ≡ false) parts.0 wrong);
     }

@@ -2,7 +2,7 @@
 use Rattle.std.proofs.Common.{◌≡◌, ◌∙◌, ℕ, ◌<◌, ◌≤◌, ap, sym, subst, refl, true, false, Option, Some, None, arith}
 use Rattle.std.specs.Prelude.{◌&&◌, ◌||◌, not, codes, is_none, is_some, option_and_then, option_map}
 use Rattle.std.proofs.lemmas.Bool.Decides.{nat_tests}
-use Rattle.std.proofs.lemmas.Bool.{and_parts, ltb-false, not-false, or_parts}
+use Rattle.std.proofs.lemmas.Bool.{and_parts, not-false, or_parts}
 use Rattle.std.proofs.lemmas.Option.{same_Some}
 use Rattle.luks_cipher.specs.declared.mode.Mode.{Mode}
 use Rattle.luks_cipher.proofs.ModeLemmas.{max_mode_key}
@@ -117,15 +117,13 @@ pub record IsSmall (parts : SlotParts) : Type 0 where
   pub area_key : parts.area_key_bytes ≤ 64
 
 -- what is needed to open the slot agrees with the header: its hash functions and its area's mode are known, its keys
--- have valid lengths for their modes, its key material is after the header and before the payload, and its digest is
--- that of its number
+-- have valid lengths for their modes, its key material is before the payload, and its digest is that of its number
 pub record IsOf2 (tree : Data) (bounds : Bounds) (number : ℕ) (usable : Slot) : Type 0 where
   pub kdf : (hash : Hash) × (usable.parts.kdf_hash ≡ Some hash)
   pub af : (hash : Hash) × (usable.parts.af_hash ≡ Some hash)
   pub area : (mode : Mode) × (usable.parts.area_mode ≡ Some mode)
       × (is_mode_key_length mode usable.parts.area_key_bytes ≡ true)
   pub volume_key : is_length_for (payload_mode2_of tree bounds) usable.parts.key_bytes ≡ true
-  pub after_header : bounds.end ≤ usable.parts.area_offset
   pub before_payload : exceeds (payload2_start tree bounds) (material_end usable.parts) ≡ false
   pub digest : digest2_for tree number ≡ Some usable.digest
 
@@ -220,13 +218,11 @@ module _ (tree : Data) (bounds : Bounds) (limit : Option ℕ) (number : ℕ) (sl
       let sizes = and_parts _ _ (not-false _ no.key_size) in
       let past = or_parts _ _ no.area in
       let before = or_parts _ _ past.0 in
-      let fits = or_parts _ _ before.0 in
       let known : IsOf2 tree bounds number (slot_of parts there.0 there.2) = record {
         kdf = some_from_not_none parts.kdf_hash hashes.0;
         af = some_from_not_none parts.af_hash hashes.1;
         area = known_area parts.area_mode parts.area_key_bytes no.encryption sizes.0;
         volume_key = sizes.1;
-        after_header = ltb-false parts.area_offset bounds.end fits.0;
         before_payload = before.1;
         digest = there.1;
       } in

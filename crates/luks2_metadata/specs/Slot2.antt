@@ -115,12 +115,18 @@ slot_reasons tree bounds limit number slot parts =
     ∷ (not (is_kdf_type (codes "pbkdf2") slot), Kdf)
     ∷ (is_none parts.kdf_hash || is_none parts.af_hash, SkipHash)
     ∷ (is_none parts.area_mode, Encryption)
-    ∷ (not (is_length_for parts.area_mode parts.area_key_bytes
-    && is_length_for (payload_mode2_of tree bounds) parts.key_bytes), KeySize)
+    ∷ (
+      not (is_length_for parts.area_mode parts.area_key_bytes
+          && is_length_for (payload_mode2_of tree bounds) parts.key_bytes),
+      KeySize,
+    )
     ∷ (stripes_out_of_range parts.stripes, Stripes)
     ∷ (iterations_out_of_range limit parts.iterations, Iterations)
-    ∷ (area_out_of_range bounds.end (payload2_start tree bounds) parts.area_offset parts.area_size
-    (key_material_len parts.key_bytes parts.stripes), Area)
+    ∷ (
+      area_out_of_range bounds.end (payload2_start tree bounds) parts.area_offset parts.area_size
+          (key_material_len parts.key_bytes parts.stripes),
+      Area,
+    )
     ∷ (has_no_usable_digest limit (digest2_for tree number), Digest)
     ∷ []
 

@@ -1,1 +1,2 @@
+pub mod HorizonLemmas
 pub mod KnownLemmas

@@ -1,4 +1,3 @@
-pub mod HorizonLemmas
 pub mod MagicLemmas
 pub mod PlaceLemmas
 pub mod RingLemmas

@@ -2,10 +2,10 @@
 use Rattle.std.proofs.Common.{◌≡◌, ◌∙◌, ℕ, zero, suc, ◌+◌, ◌-◌, ◌*◌, ◌<◌, ◌≤◌}
 use Rattle.std.proofs.Common.{◌++◌, List, [], ◌∷◌, Bool, true, false, ap, sym}
 use Rattle.std.proofs.Common.{Option, Some, None, refl, length, take, drop}
-use Rattle.std.proofs.Common.{arith, Result, Ok, Err, add-one, length-drop}
+use Rattle.std.proofs.Common.{arith, Result, Ok, Err, add-one, length-append, length-drop}
 use Rattle.std.proofs.Common.{◌⊎◌, inl, inr, min, append_assoc}
 use Rattle.std.proofs.lemmas.List.{append-nil, drop-append-le, drop-drop, drop-take}
-use Rattle.std.proofs.lemmas.List.{drop_all, length-take, take-append-drop}
+use Rattle.std.proofs.lemmas.List.{drop_all, length-take, take-append-drop, take-append-le}
 use Rattle.std.proofs.lemmas.List.{take-take}
 use Rattle.std.proofs.lemmas.Bool.{leb-false, leb-true, ltb-true}
 use Rattle.std.proofs.Math.Seq.{take-add, take-length}
@@ -15,11 +15,17 @@ use Rattle.luks_header_area.specs.declared.fault.HeaderFault.{HeaderFault}
 use Rattle.luks_header.specs.Header.{header_of}
 use Rattle.luks_header.specs.declared.header.Header.{Header}
 use Rattle.luks_search.specs.Magic.{IsQuiet, begins_magic}
+use Rattle.luks_header.proofs.HorizonLemmas.{header_of_start}
 use Rattle.luks_search.specs.Places.{found_in, header_at, max_searched_sectors}
 use Rattle.luks_search.specs.Places.{place_if, places_below, places_of, sectors_in}
 use Rattle.luks_search.specs.Search.{IsIn, IsNear, ReadsOn, SearchModel}
-use Rattle.luks_search.proofs.HorizonLemmas.{header_by_start}
 use Rattle.luks_search.proofs.MagicLemmas.{nothing_none, quiet_at, quiet_before, quiet_none}
+
+-- the header of an image is that of its first bytes, if there are 8 MiB of them or more
+header_by_start : (bytes rest : List ℕ) → 8388608 ≤ length bytes → header_of (bytes ++ rest) ≡ header_of bytes
+header_by_start bytes rest long =
+    sym ((header_of_start (bytes ++ rest) (length bytes) long (omega (arith, length-append bytes rest))).0)
+    ∙ ap header_of (take-append-le (length bytes) bytes rest (omega arith) ∙ take-length bytes)
 
 -- one more sector
 pub places_more : (image : List ℕ) (n : ℕ)

@@ -1,5 +1,5 @@
 -- Values made from parts that were read and are in range, and the verdicts on key slots that they give.
-use Rattle.std.proofs.Common.{◌≡◌, ◌≢◌, ℕ, Bool, true, false, Option, Some, None, Ok, Err, ap, sym, refl, length}
+use Rattle.std.proofs.Common.{◌≡◌, ℕ, Bool, true, false, Option, Some, None, Ok, Err, ap, sym, refl, length}
 use Rattle.std.specs.Prelude.{is_none, option_map}
 use Rattle.std.proofs.Math.Bool.{Bool-set}
 use Rattle.std.proofs.lemmas.Option.{none-some, same_Some}
@@ -123,13 +123,6 @@ pub refused_or-ok : (found : Option SegmentFault) (there : Option Segment) (segm
 refused_or-ok (Some found) there segment is = absurd cc
 refused_or-ok None (Some there) segment is = (refl, cc)
 refused_or-ok None None segment is = absurd cc
-
--- a segment that is refused has that fault, if one without a fault is made: the third case does not occur
-pub refused_or-err : (found : Option SegmentFault) (there : Option Segment) → (found ≡ None → there ≢ None)
-    → (fault : SegmentFault) → refused_or found there ≡ Err fault → found ≡ Some fault
-refused_or-err (Some found) there made fault is = cc
-refused_or-err None (Some there) made fault is = absurd cc
-refused_or-err None None made fault is = absurd (made refl refl)
 
 -- if the parts of a digest are in range, it is unusable only if its iterations are out of range under the limit
 pub no_usable_digest-yes : (limit : Option ℕ) (parts : DigestParts) → is_usable parts ≡ true
