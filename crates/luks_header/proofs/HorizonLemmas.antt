@@ -31,21 +31,19 @@ module _ (image : List ℕ) where
         omega (arith, probe_fit image offset is, size.1, near)
     by false is = omega (arith, probe_unfit image offset is, near)
 
-  -- at the offsets of the search, which are within the first 4 MiB
+  -- at some offsets within the first 4 MiB
+  walk_near : (offsets : List ℕ) → max_of offsets ≤ 4194304
+      → furthest (is_valid image) (probe_end image) offsets ≤ 8388608
+  unfolding furthest
+  walk_near [] near = omega arith
+  walk_near (offset ∷ offsets) near = by (is_valid image offset) (walk_near offsets (omega arith)) where
+    by : (valid : Bool) {rest : ℕ} → rest ≤ 8388608 → max (probe_end image offset) (if valid then 0 else rest) ≤ 8388608
+    by true far = omega (arith, probe_near offset (omega arith))
+    by false far = omega (arith, probe_near offset (omega arith), far)
+
   search_near : search_len image ≤ 8388608
   unfolding sizes
-  search_near = rw (search_len_is image) (walk_near sizes (lit≤ tt)) where
-    by : (b : Bool) (here rest : ℕ) → here ≤ 8388608 → rest ≤ 8388608 → max here (if b then 0 else rest) ≤ 8388608
-    by true here rest near far = omega arith
-    by false here rest near far = omega arith
-
-    walk_near : (offsets : List ℕ) → max_of offsets ≤ 4194304
-        → furthest (is_valid image) (probe_end image) offsets ≤ 8388608
-    unfolding furthest
-    walk_near [] near = omega arith
-    walk_near (offset ∷ offsets) near =
-        by (is_valid image offset) (probe_end image offset) (furthest (is_valid image) (probe_end image) offsets)
-        (probe_near offset (omega arith)) (walk_near offsets (omega arith))
+  search_near = rw (search_len_is image) (walk_near sizes (lit≤ tt))
 
   all_near : probe2_len image ≤ 8388608
   all_near = by (is_valid image 0) refl where
