@@ -1,5 +1,4 @@
 pub mod FileLemmas
-pub mod ResultLemmas
 pub mod RunLemmas
 pub mod SearchLemmas
 pub mod SearchedLemmas

@@ -17,7 +17,7 @@ use Rattle.luks_verdict.specs.declared.segment.Segment.{Segment}
 use Rattle.luks_payload.specs.Plain.{payload_bytes}
 use Rattle.luks_access.specs.Steps.{IsNextStep}
 use Rattle.luks_c.specs.Steps.{Plans, plan_code, plan_code_by, plain_len_of, prepare_code, prepare_code_by, step_in}
-use Rattle.luks_c.specs.Stored.{decrypt_code, range_code, segment_code, Filled, Stores, cipher_in, has_size_of}
+use Rattle.luks_c.specs.Stored.{Filled, Stores, cipher_in, has_size_of}
 use Rattle.luks_c.specs.Stored.{mode_in, mode_number, segment_in, size_stored_in}
 use Rattle.luks_c.specs.declared.step.LuksrdStep.{LuksrdStep}
 use Rattle.luks_c.specs.declared.volume.LuksrdVolume.{LuksrdVolume}
@@ -53,10 +53,6 @@ module _ (c : LuksrdVolume) (v : UnlockedVolume) (stored : Stores c v) where
       let s = v.segment in
       rw (stored_sector, stored_mode, stored.offset, stored_size, stored.iv_tweak)
       (segment_of_all-yes s.offset s.size s.iv_tweak s.sector_size s.mode s.whole_sectors)
-
-  -- the code of decrypting is that of the range: the struct is not refused as one that holds no volume
-  pub stored_code : (first len : ℕ) → decrypt_code c first len ≡ range_code v.segment.sector_size first len
-  stored_code first len = ap (λ (s : Option Segment). segment_code s first len) stored_segment
 
   -- what holds of the segment and the cipher that were read from the struct holds of the volume's
   pub for_volume : (P : Segment → Cipher → Type 0) (s : Segment) → Some s ≡ segment_in c → P s (cipher_in c s.mode)

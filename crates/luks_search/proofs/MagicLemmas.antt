@@ -4,7 +4,7 @@ use Rattle.std.proofs.Common.{List, [], ◌∷◌, Bool, true, false, None, ap, 
 use Rattle.std.proofs.Common.{refl, length, length-drop, take, drop, arith, Err, ◌||◌, ◌==◌}
 use Rattle.std.specs.Prelude.{map, nat_le, nat_lt, if◌then◌else◌, ok_or, option_and_then}
 use Rattle.std.specs.List.{find, list_all, list_any}
-use Rattle.std.proofs.lemmas.Bool.{and_parts, leb-true, ltb-false, ltb-true}
+use Rattle.std.proofs.lemmas.Bool.{and_parts, false_from_ne_true, leb-true, ltb-false, ltb-true, or_parts}
 use Rattle.std.proofs.lemmas.List.{drop-append-le, drop-drop, drop_all, take-append-drop, take-append-le, take-take}
 use Rattle.std.proofs.lemmas.Slice.Eq.{bytes_eq-Decides}
 use Rattle.luks_header_area.specs.declared.fault.HeaderFault.TheVariants.{NotLuks}
@@ -18,15 +18,6 @@ use Rattle.luks_header.specs.Header.{header_of}
 use Rattle.luks_header.proofs.KnownLemmas.{header_other}
 use Rattle.luks_search.specs.Magic.{IsQuiet, begins_magic, may_have_header}
 use Rattle.luks_search.specs.Places.{found_in}
-
-or_none : (a b : Bool) → (a || b) ≡ false → (a ≡ false) × (b ≡ false)
-or_none false b e = (refl, e)
-or_none true b e = absurd cc
-
--- a Bool that is true and false
-not_both : (b : Bool) → (b ≡ true → ⊥) → b ≡ false
-not_both true none = absurd (none refl)
-not_both false none = refl
 
 -- the first eight bytes begin with the magic bytes
 begins_by : (bytes : List ℕ) (p q : ℕ)
@@ -48,14 +39,14 @@ begins_by_second bytes p q e =
 -- a LUKS1 header begins with them
 pub first_magic : (bytes : List ℕ) → begins_magic bytes ≡ false → is_luks1 bytes ≡ false
 unfolding is_luks1
-first_magic bytes none = not_both _ (λ is.
+first_magic bytes none = false_from_ne_true _ (λ is.
     let e : take 8 bytes ≡ 0x4c ∷ 0x55 ∷ 0x4b ∷ 0x53 ∷ 0xba ∷ 0xbe ∷ 0x00 ∷ 0x01 ∷ [] = (bytes_eq-Decides _ _).0 is in
     let wrong : true ≡ false = sym (begins_by bytes 0x00 0x01 e) ∙ none in cc)
 
 -- so does a binary header of LUKS2
 pub fits_magic : (bytes : List ℕ) (offset : ℕ) → begins_magic (drop offset bytes) ≡ false → fits bytes offset ≡ false
 unfolding is_binary_of beginning_at
-fits_magic bytes offset none = not_both _ (λ is.
+fits_magic bytes offset none = false_from_ne_true _ (λ is.
     let binary = (fits_parts bytes offset is).1 in
     let four = and_parts _ _ binary in
     let three = and_parts _ _ four.0 in
@@ -79,14 +70,14 @@ find_none : (test : ℕ → Bool) (valid : ℕ → Bool) (offsets : List ℕ)
     → find valid offsets ≡ None
 find_none test valid [] fails none = refl
 find_none test valid (offset ∷ offsets) fails none =
-    let parts = or_none (test offset) (list_any test offsets) none in
+    let parts = or_parts (test offset) (list_any test offsets) none in
     rw (fails offset parts.0) (find_none test valid offsets fails parts.1)
 
 -- bytes that fail the test have no header
 pub quiet_none : (bytes : List ℕ) → may_have_header bytes ≡ false → found_in (header_of bytes) ≡ None
 unfolding may_have_header header2_of
 quiet_none bytes none =
-    let parts = or_none (begins_magic bytes) _ none in
+    let parts = or_parts (begins_magic bytes) _ none in
     let unfit : (offset : ℕ) → begins_magic (drop offset bytes) ≡ false → is_valid bytes offset ≡ false =
     λ offset quiet. unfit-is_valid bytes offset (fits_magic bytes offset quiet) in
     let first : is_valid bytes 0 ≡ false = unfit 0 parts.0 in

@@ -4,7 +4,7 @@ use Rattle.std.proofs.Common.{◌++◌, List, [], ◌∷◌, Bool, true, false, 
 use Rattle.std.proofs.Common.{Option, Some, None, refl, length, take, drop}
 use Rattle.std.proofs.Common.{arith, Result, Ok, Err, add-one, length-append, length-drop}
 use Rattle.std.proofs.Common.{◌⊎◌, inl, inr, min, append_assoc}
-use Rattle.std.proofs.lemmas.List.{append-nil, drop-append-le, drop-drop, drop-take}
+use Rattle.std.proofs.lemmas.List.{append-nil, drop-append-le, drop-drop, drop-take, nil_from_length}
 use Rattle.std.proofs.lemmas.List.{drop_all, length-take, take-append-drop, take-append-le}
 use Rattle.std.proofs.lemmas.List.{take-take}
 use Rattle.std.proofs.lemmas.Bool.{leb-false, leb-true, ltb-true}
@@ -203,16 +203,12 @@ skips search count loaded = by search.ended refl where
   by true e = inl e
   by false e = inr (some_loaded count (loaded e))
 
-nil_of : (bytes : List ℕ) → length bytes ≡ 0 → bytes ≡ []
-nil_of [] none = refl
-nil_of (byte ∷ bytes) none = absurd (omega (arith, none))
-
 -- no bytes are loaded, although the next sector could be tried
 pub none_left : (image : List ℕ) (search : SearchModel) (left : Option (List ℕ)) → IsIn image search left
     → search.sector ≤ max_searched_sectors → (search.ended ≡ true) ⊎ (8388608 ≤ length search.bytes)
     → length search.bytes ≡ 0 → places_of image ≡ places_below image search.sector
 none_left image search left is bound (inl ended) none =
-    nothing_left image search left is bound (nil_of search.bytes none) ended
+    nothing_left image search left is bound (nil_from_length search.bytes none) ended
 none_left image search left is bound (inr long) none = absurd (omega (arith, long, none))
 
 -- the next sector was tried

@@ -6,7 +6,7 @@ use Rattle.luks_audit_run.proofs.SearchLemmas.{Searches, search_part_anyway, sea
 use Rattle.luks_audit_run.proofs.SearchLemmas.{searches_abort_part, searches_end}
 use Rattle.luks_audit_run.proofs.SearchLemmas.{searches_end_part, searches_more, searches_none, searches_part}
 use Rattle.luks_audit_run.proofs.StartLemmas.{part_of_none}
-use Rattle.luks_audit_run.proofs.ResultLemmas.{if_ok, when_err}
+use Rattle.std.proofs.lemmas.Result.{IfOk-weaker, on_err_weaker}
 use Rattle.luks_search.proofs.PlaceLemmas.{on_fault}
 use Rattle.luks_search.specs.Search.{SearchModel, reports_failed_read}
 use Rattle.luks_header_area.specs.declared.fault.HeaderFault.{HeaderFault}
@@ -77,19 +77,19 @@ pub returns-in-Ok-None-clause-ok : goal.returns-in-Ok-None-clause-ok
 returns-in-Ok-None-clause-ok g c =
     let so_far = c.loop-place.invariant.so_far in
     let next = rw c.in-Ok-None.field-0-is at c.in-Ok-None.ensures.found in
-    if_ok _ _ c.end_search.result c.end_search.ensures.ok (λ state ended.
+    IfOk-weaker c.end_search.result _ _ (λ state ended.
     searches_end c.args.policy c.args.file.now _ _ (g.S.Source.to_come c.next.new.source) _ _ _ c.loop-place.found
     c.loop-place.search c.next.new.self so_far _ _ state next
-    (c.in-Ok-None.ensures.failures ∙ c.loop-place.invariant.failures) ended.0 ended.1)
+    (c.in-Ok-None.ensures.failures ∙ c.loop-place.invariant.failures) ended.0 ended.1) c.end_search.ensures.ok
 
 pub returns-in-Ok-None-clause-err : goal.returns-in-Ok-None-clause-err
 returns-in-Ok-None-clause-err g c =
     let so_far = c.loop-place.invariant.so_far in
     let next = rw c.in-Ok-None.field-0-is at c.in-Ok-None.ensures.found in
-    when_err _ _ c.end_search.result c.end_search.ensures.err (λ part.
+    on_err_weaker c.end_search.result (λ part.
     searches_end_part c.args.policy c.args.file.now _ _ (g.S.Source.to_come c.next.new.source) _ _ _ c.loop-place.found
     c.loop-place.search c.next.new.self so_far part.0 _ _ next
-    (c.in-Ok-None.ensures.failures ∙ c.loop-place.invariant.failures) part.1)
+    (c.in-Ok-None.ensures.failures ∙ c.loop-place.invariant.failures) part.1) c.end_search.ensures.err
 
 pub returns-in_err-put_fault-in-Err-clause-err : goal.returns-in_err-put_fault-in-Err-clause-err
 returns-in_err-put_fault-in-Err-clause-err g c =

@@ -3,7 +3,7 @@ use Rattle.std.proofs.Common.{take}
 use Rattle.std.proofs.lemmas.List.{map_more, take-map}
 use Rattle.std.proofs.Math.Seq.{take-length}
 use Rattle.luks_audit_run.proofs.RunLemmas.{moved_file, moved_part, partly_more, partly_none, runs_more, runs_none}
-use Rattle.luks_audit_run.proofs.ResultLemmas.{on_err}
+use Rattle.luks_search.proofs.PlaceLemmas.{on_fault}
 use Rattle.luks_audit_run.specs.Run.{Runs, RunsPartly}
 use Rattle.luks_audit_run.proofs.run.write_all.Goals as goal
 
@@ -15,7 +15,7 @@ returns-in_err-put_head-clause-err g c =
     (g.H.Images.failures c.args.host.now) (g.H.Images.failures c.args.host.now)
     (g.O.Sink.written c.args.out.now) (g.O.Sink.written c.put_head.new.out) =
     partly_none c.args.policy c.args.scope stored _ _ _ _ part.0 part.1 in
-    on_err _ _ holds
+    on_fault _ _ holds
 
 pub loop-file-init : goal.loop-file-init
 loop-file-init g c = record {
@@ -37,7 +37,7 @@ returns-in_err-shown-clause-err g c =
     (take-map (λ file. file.now) (c.loop-file.file-index + 1) c.args.files.now
     ∙ map_more (λ file. file.now) c.args.files.now c.loop-file.file-index _ c.loop-file-test.true)
     c.loop-file.invariant.so_far part in
-    on_err _ _ holds
+    on_fault _ _ holds
 
 pub loop-file-preserved : goal.loop-file-preserved
 loop-file-preserved g c =
