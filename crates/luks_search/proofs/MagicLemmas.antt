@@ -1,7 +1,7 @@
 -- Without magic bytes there is no header.
 use Rattle.std.proofs.Common.{◌≡◌, ◌∙◌, ℕ, ◌+◌, ◌-◌, ◌*◌, ◌/◌, ◌<◌, ◌≤◌, ◌++◌}
 use Rattle.std.proofs.Common.{List, [], ◌∷◌, Bool, true, false, None, ap, sym}
-use Rattle.std.proofs.Common.{refl, length, length-drop, take, drop, arith, Err, ◌||◌, ◌==◌}
+use Rattle.std.proofs.Common.{refl, length, length-drop, take, drop, arith, Err, ◌==◌}
 use Rattle.std.specs.Prelude.{map, nat_le, nat_lt, if◌then◌else◌, ok_or, option_and_then}
 use Rattle.std.specs.List.{find, list_all, list_any}
 use Rattle.std.proofs.lemmas.Bool.{and_parts, false_from_ne_true, leb-true, ltb-false, ltb-true, or_parts}
