@@ -45,7 +45,6 @@ candidate_of slot image pass =
 -- the key matches the digest: PBKDF2 of the key gives the whole value of the digest. No key does if the name of the
 -- digest's hash function is not known
 unfoldable pub matches_digest : KeyDigest → List ℕ → Bool
-matches_digest digest key =
-    option_map_or
+matches_digest digest key = option_map_or
     (λ hash. bytes_eq (derived_key hash key digest.salt digest.iterations (length digest.value)) digest.value)
     digest.hash false
