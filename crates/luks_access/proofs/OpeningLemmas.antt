@@ -32,7 +32,7 @@ use Rattle.luks_runs.specs.declared.found.FoundVolume.{FoundVolume}
 use Rattle.luks_runs.specs.declared.unlocked.UnlockedVolume.{UnlockedVolume}
 use Rattle.luks_verdict.specs.declared.segment.Segment.{Segment}
 use Rattle.luks_payload.proofs.SectorLemmas.{by_ending}
-use Rattle.luks_payload.specs.Plain.{ending_of, ending_of_len, bytes_from_start, sector_len}
+use Rattle.luks_payload.specs.Plain.{ending_of, ending_of_len, sector_len}
 use Rattle.luks_payload.specs.declared.fault.PayloadFault.{PayloadFault}
 use Rattle.luks_payload.specs.declared.fault.PayloadFault.TheVariants.{CutBeforePayload as VolumeCutBeforePayload}
 use Rattle.luks_payload.specs.declared.state.Step.{Step}
@@ -174,10 +174,10 @@ ends_whole : (s : Segment) (image : List ℕ) → WholeIfDone (ending_of s image
 ends_whole s image = by (nat_lt (length image) s.offset)
   where
     by : (b : Bool) → WholeIfDone (if b then Err VolumeCutBeforePayload
-        else ending_of_len s.size (sector_len s) (bytes_from_start s image))
+        else ending_of_len s.size (sector_len s) (length image - s.offset))
     by true = λ cut. cc
     by false =
-        by_ending WholeIfDone (λ _. refl) (λ n torn. cc) (λ n cut. cc) s.size (sector_len s) (bytes_from_start s image)
+        by_ending WholeIfDone (λ _. refl) (λ n torn. cc) (λ n cut. cc) s.size (sector_len s) (length image - s.offset)
 
 -- ---- the statements about a volume that is opened, and about a refusal
 

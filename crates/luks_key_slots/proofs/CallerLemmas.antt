@@ -2,8 +2,9 @@
 use Rattle.std.proofs.Common.{◌≡◌, ◌∙◌, ℕ, ◌+◌, ◌*◌, ◌/◌, ◌==◌, ◌<◌, ◌≤◌, max, Bool, true, false, List, [], ◌∷◌, ◌++◌}
 use Rattle.std.proofs.Common.{length, take, drop, get_or, Option, Some, None, Ok, IsOk, IsSome, refl, sym, ap, subst}
 use Rattle.std.proofs.Common.{arith}
-use Rattle.std.specs.Prelude.{if◌then◌else◌, is_some, ok_or, option_map, slice_index_or, sum_by}
+use Rattle.std.specs.Prelude.{if◌then◌else◌, is_some, ok_or, option_and_then, option_map, slice_index_or, sum_by}
 use Rattle.std.specs.List.{AllByRecursion, All}
+use Rattle.std.specs.Option.{option_or}
 use Rattle.std.proofs.lemmas.Bool.{eq-eqb}
 use Rattle.std.proofs.lemmas.List.{drop_more, drop_all}
 use Rattle.std.proofs.lemmas.List.Elements.{All-from_recursion, recursion_from_All}
@@ -20,6 +21,7 @@ use Rattle.luks_cipher.proofs.UnitsUndone.{joined_same}
 use Rattle.luks_verdict.specs.Rule.{max_slots, key_material_len}
 use Rattle.luks_verdict.specs.Slot.{material_end, verdict_kind_of}
 use Rattle.luks_verdict.specs.Table.{ascending}
+use Rattle.luks_verdict.specs.declared.digest.KeyDigest.{KeyDigest}
 use Rattle.luks_verdict.specs.declared.refusal.SkipReason.{SkipReason}
 use Rattle.luks_verdict.specs.declared.segment.Segment.{Segment}
 use Rattle.luks_verdict.specs.declared.slot.Slot.{Slot}
@@ -36,8 +38,8 @@ use Rattle.luks_header.specs.declared.header.Header.{Header}
 use Rattle.luks_header.proofs.KnownLemmas.{IsKnown, before_payload, known_usable}
 use Rattle.luks_key_slots.specs.Candidate.{candidate_by, candidate_of, decrypted_material, material_sector}
 use Rattle.luks_key_slots.specs.Candidate.{matches_digest, recovered}
-use Rattle.luks_key_slots.specs.Opening.{first_opening, if_matches_digest, slot_key, opened_or, opening_of, OrderModel}
-use Rattle.luks_key_slots.specs.Opening.{entry_with_priority, key_material_end, order_of, order_of_all, order_of_named}
+use Rattle.luks_key_slots.specs.Opening.{first_opening, slot_key, opening_of, OrderModel}
+use Rattle.luks_key_slots.specs.Opening.{entry_with_priority, key_material_end, order_of, order_of_named}
 use Rattle.luks_key_slots.specs.Opening.{skipped_at, tried_with, unless_none, evaluations_of, tried_of, work_of}
 use Rattle.luks_key_slots.specs.Trial.{IsTriable}
 use Rattle.luks_key_slots.specs.declared.entry.Entry.{Entry}
@@ -80,7 +82,7 @@ order-unless_none (entry ∷ entries) skipped order is =
 -- all entries of an order are ones of the header
 pub All-order : (header : Header) (named limit : Option ℕ) (order : OrderModel) → order_of header named limit ≡ Ok order
     → AllByRecursion (IsOf header limit) order.entries
-unfolding order_of order_of_all
+unfolding order_of
 All-order header None limit order is =
     subst (AllByRecursion (IsOf header limit))
     (order-unless_none _ (ascending (skipped_at header limit) max_slots) order is)
@@ -234,6 +236,14 @@ recovered_prefix af cipher image offset key_bytes stripes n before =
     λ i below. ap (sector_decrypted cipher.0 cipher.1 i) (at_prefix (offset + 512 * i) 512 n image (omega arith)) in
     ap (λ material. merged af key_bytes (take (key_bytes * stripes) material))
     (joined_same _ _ (key_material_len key_bytes stripes / 512) sectors)
+
+-- the candidate, if it matches the digest
+abbrev if_matches_digest : KeyDigest → Option (List ℕ) → Option (List ℕ)
+if_matches_digest digest = option_and_then (λ key. if matches_digest digest key then Some key else None)
+
+-- this key slot if it opens, or else the further one that opens
+abbrev pub opened_or : ℕ → Option (List ℕ) → Option Opened → Option Opened
+opened_or number key = option_or (option_map (λ k. record { slot = number; key = k }) key)
 
 -- a key slot whose key material ends at or before offset n gives the same volume key from the first n bytes alone
 key_prefix : (entry : Entry) (n : ℕ) (image pass : List ℕ) → material_end entry.slot.parts ≤ n

@@ -1,10 +1,11 @@
 -- The key slots to be tried, which of them opens a volume, and how many evaluations of HMAC that costs.
 use Rattle.std.specs.Prelude.{ℕ, ◌+◌, ◌*◌, sum_by, if◌then◌else◌, List, [], ◌∷◌, Option, Some, None, Result, Ok, Err}
-use Rattle.std.specs.Prelude.{length, is_some, ok_or, ◌≡◌, ◌==◌, ◌⊎◌, max, MatchResult, ◌++◌}
+use Rattle.std.specs.Prelude.{length, is_some, ok_or, option_and_then, option_map, ◌≡◌, ◌==◌, ◌⊎◌, max, MatchResult}
+use Rattle.std.specs.Prelude.{◌++◌}
 use Rattle.std.specs.Int.{div_ceil}
+use Rattle.std.specs.Option.{option_or}
 use Rattle.luks_kdf.specs.Hash.{digest_len}
 use Rattle.luks_kdf.specs.declared.hash.Hash.{Hash}
-use Rattle.luks_verdict.specs.declared.digest.KeyDigest.{KeyDigest}
 use Rattle.luks_verdict.specs.declared.refusal.SkipReason.{SkipReason}
 use Rattle.luks_key_slots.specs.Candidate.{candidate_of, matches_digest}
 use Rattle.luks_key_slots.specs.declared.entry.Entry.{Entry}
@@ -53,12 +54,6 @@ abbrev pub unless_none : List Entry → List (ℕ × SkipReason) → Result Orde
 unless_none [] skipped = Err (NothingTried skipped)
 unless_none (entry ∷ entries) skipped = Ok record { entries = entry ∷ entries; skipped = skipped }
 
--- the order if no key slot is named: those of priority 2, then those of priority 1, each by ascending number
-unfoldable pub order_of_all : Header → Option ℕ → Result OrderModel OpenFault
-order_of_all header limit =
-    unless_none (ascending (tried_with header limit 2) max_slots ++ ascending (tried_with header limit 1) max_slots)
-    (ascending (skipped_at header limit) max_slots)
-
 -- the order if the key slot of this number, with this verdict, is named: it alone is tried, whatever its priority
 abbrev pub order_of_named : ℕ → Option Verdict → Result OrderModel OpenFault
 order_of_named number None = Err (NoSuchSlot number)
@@ -67,9 +62,12 @@ order_of_named number (Some (Usable slot)) =
 order_of_named number (Some VerdictDisabled) = Err (Disabled number)
 order_of_named number (Some (Skipped reason)) = Err (NamedSkipped number reason)
 
--- the key slots of a header to be tried, by the named key slot and the limit on iterations, or why there are none
+-- the key slots of a header to be tried, by the named key slot and the limit on iterations, or why there are none. If
+-- no key slot is named: those of priority 2, then those of priority 1, each by ascending number
 unfoldable pub order_of : Header → Option ℕ → Option ℕ → Result OrderModel OpenFault
-order_of header None limit = order_of_all header limit
+order_of header None limit =
+    unless_none (ascending (tried_with header limit 2) max_slots ++ ascending (tried_with header limit 1) max_slots)
+    (ascending (skipped_at header limit) max_slots)
 order_of header (Some named) limit = order_of_named named (verdict_at header limit named)
 
 -- an answer is the specified one, or memory ran out
@@ -84,25 +82,17 @@ key_material_end (entry ∷ entries) = max (material_end entry.slot.parts) (key_
 
 -- ---- opening
 
--- the candidate, if it matches the digest
-abbrev pub if_matches_digest : KeyDigest → Option (List ℕ) → Option (List ℕ)
-if_matches_digest digest None = None
-if_matches_digest digest (Some key) = if matches_digest digest key then Some key else None
-
--- the volume key that a key slot gives under a passphrase, if it opens
+-- the volume key that a key slot gives under a passphrase, if it opens: the candidate, if it matches the digest
 unfoldable pub slot_key : Entry → List ℕ → List ℕ → Option (List ℕ)
-slot_key entry image pass = if_matches_digest entry.slot.digest (candidate_of entry.slot image pass)
-
--- this key slot if it opens, or else the further one that opens
-abbrev pub opened_or : ℕ → Option (List ℕ) → Option Opened → Option Opened
-opened_or number (Some key) further = Some record { slot = number; key = key }
-opened_or number None further = further
+slot_key entry image pass = option_and_then
+    (λ key. if matches_digest entry.slot.digest key then Some key else None) (candidate_of entry.slot image pass)
 
 -- the first of these key slots that opens, and the volume key that it gives
 unfoldable pub first_opening : List Entry → List ℕ → List ℕ → Option Opened
 first_opening [] image pass = None
 first_opening (entry ∷ entries) image pass =
-    opened_or entry.number (slot_key entry image pass) (first_opening entries image pass)
+    option_or (option_map (λ key. record { slot = entry.number; key = key }) (slot_key entry image pass))
+    (first_opening entries image pass)
 
 -- the first of the key slots to be tried that a passphrase opens, or the fault if it opens none
 unfoldable pub opening_of : OrderModel → List ℕ → List ℕ → Result Opened OpenFault

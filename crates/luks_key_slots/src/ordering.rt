@@ -6,7 +6,7 @@ ghost use Rattle.std.specs.List.{cons_option};
 ghost use Rattle.luks_verdict.specs.Rule.{max_slots};
 ghost use Rattle.luks_verdict.specs.Table.{ascending};
 ghost use Rattle.luks_key_slots.specs.Opening.{IsOrMemory, order_of, skipped_at};
-ghost use Rattle.luks_key_slots.specs.Opening.{order_of_all, order_of_named, tried_with};
+ghost use Rattle.luks_key_slots.specs.Opening.{order_of_named, tried_with};
 ghost use Rattle.luks_header.specs.SlotVerdicts.{verdict_at};
 
 use crate::entry::Entry;
@@ -97,10 +97,10 @@ fn skipped(header: &Header, limit: Option<u32>) -> SkippedSlots
 }
 
 // The order if no key slot is named.
-#[tactic(auto, unfolding(crate::specs::Opening::order_of_all))]
+#[tactic(auto, unfolding(crate::specs::Opening::order_of))]
 fn order_all(alloc: Global, header: &Header, limit: Option<u32>) -> Result<Order, OpenFault>
-    ensures answer { IsOrMemory (order_of_all header.now limit) result }
-    ensures memory { result ≡ Err OpenFault.Memory → IsOk (order_of_all header.now limit) }
+    ensures answer { IsOrMemory (order_of header.now None limit) result }
+    ensures memory { result ≡ Err OpenFault.Memory → IsOk (order_of header.now None limit) }
 {
     let mut entries = Vec::new(alloc);
     push_usable(alloc, &mut entries, header, limit, 2)?;

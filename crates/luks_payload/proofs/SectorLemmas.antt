@@ -8,11 +8,15 @@ use Rattle.std.proofs.lemmas.Nat.{div-mul-add}
 use Rattle.std.proofs.Math.Nat.{div-mul-le_self, mod-eq-sub-div-mul, le-div_iff_mul-le, mul-le-mul_right}
 use Rattle.std.proofs.Math.Nat.{mul-le-mul_left, zero-div}
 use Rattle.luks_payload.specs.PumpEffects.{max_sectors_of}
-use Rattle.luks_payload.specs.Plain.{payload_end_in, ending_of_len, payload_bytes}
+use Rattle.luks_payload.specs.Plain.{ending_of_len, payload_bytes}
 use Rattle.luks_payload.specs.declared.fault.PayloadFault.{PayloadFault}
 use Rattle.luks_payload.specs.declared.fault.PayloadFault.TheVariants.{Tail, Short}
 use Rattle.luks_payload.specs.declared.state.Step.{Step}
 use Rattle.luks_payload.specs.declared.state.Step.TheVariants.{End}
+
+-- the end of a payload of this size at this offset, in an image of `len` bytes
+abbrev pub payload_end_in : Option ℕ → ℕ → ℕ → ℕ
+payload_end_in size offset len = min len (offset + payload_bytes size (len - offset))
 
 -- if n is below the number of whole sectors, n sectors and one more fit
 pub one_more_fits : (n size z : ℕ) → n < size / z → n * z + z ≤ size
@@ -37,7 +41,7 @@ module _ (z : ℕ) (some : 0 < z) where
   -- an offset before the end of sector n is not past the payload's end
   pub is_within : (size : Option ℕ) (n start len offset : ℕ) → n < max_sectors_of size z → offset < start + (n * z + z)
       → offset ≤ len → offset ≤ payload_end_in size start len
-  is_within None n start len offset below before there = there
+  is_within None n start len offset below before there = omega arith
   is_within (Some size) n start len offset below before there =
       let whole = one_more_fits n size z below in
       omega arith
@@ -46,7 +50,7 @@ module _ (z : ℕ) (some : 0 < z) where
   pub at_torn : (size : Option ℕ) (n more offset : ℕ) → n < max_sectors_of size z → more < z
       → (n ≡ payload_bytes size (n * z + more) / z)
       × (payload_end_in size offset (offset + (n * z + more)) ≡ offset + (n * z + more))
-  at_torn None n more offset below torn = (sym (div-mul-add n z more torn), refl)
+  at_torn None n more offset below torn = (sym (div-mul-add n z more torn), omega arith)
   at_torn (Some size) n more offset below torn =
       let whole = one_more_fits n size z below in
       let least : min size (n * z + more) ≡ n * z + more = omega arith in
@@ -75,12 +79,6 @@ none_whole None z = zero-div z
 none_whole (Some size) z =
     let none : min size 0 ≡ 0 = omega arith in
     rw none (zero-div z)
-
--- where a payload ends, by the number of its bytes
-pub payload_ends : (size : Option ℕ) (offset len : ℕ)
-    → payload_end_in size offset len ≡ min len (offset + payload_bytes size (len - offset))
-payload_ends None offset len = omega arith
-payload_ends (Some size) offset len = omega arith
 
 -- a property of both outcomes of a test holds for its result
 by_test : (P : Result Step PayloadFault → Type 0) (b : Bool) (x y : Result Step PayloadFault) → P x → P y

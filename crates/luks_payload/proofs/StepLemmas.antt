@@ -14,7 +14,7 @@ use Rattle.luks_io.specs.declared.counts.WriteCounts.{WriteCounts}
 use Rattle.luks_io.proofs.EffectLemmas.{consumed_behind, consumed_sum, no_writes}
 use Rattle.luks_payload.specs.PumpEffects.{PositionedAt, AbortsDiscarding, AbortsInSector, is_pump_read_failure}
 use Rattle.luks_payload.specs.PumpEffects.{is_cut_before_payload, is_pump_write_failure, max_sectors}
-use Rattle.luks_payload.specs.Plain.{payload_end_in, ending_of_len, payload_end_of, bytes_from_start, sector_len}
+use Rattle.luks_payload.specs.Plain.{ending_of_len, payload_end_of, sector_len}
 use Rattle.luks_payload.specs.Plain.{sector_plaintext, sector_start, unit_number, unit_plain}
 use Rattle.luks_verdict.proofs.RangeLemmas.{segment_whole}
 use Rattle.luks_verdict.proofs.SectorLemmas.{sector_blocks}
@@ -28,7 +28,7 @@ use Rattle.luks_payload.specs.declared.fault.PayloadFault.TheVariants.{CutBefore
 use Rattle.luks_payload.specs.declared.state.Step.{Step}
 use Rattle.luks_payload.specs.declared.state.Step.TheVariants.{Sector, End}
 use Rattle.luks_payload.proofs.SectorLemmas.{at_limit, at_torn, by_ending, is_whole, is_within, none_whole}
-use Rattle.luks_payload.proofs.SectorLemmas.{payload_ends}
+use Rattle.luks_payload.proofs.SectorLemmas.{payload_end_in}
 
 module _ (s : Segment) (image : List ℕ) (count : ℕ) where
   -- an end with the specified answer is the effect of a step
@@ -68,7 +68,7 @@ module _ (s : Segment) (image : List ℕ) (count : ℕ) where
         let all : next_byte + (sector_len s - length prefix) ≡ max next_byte (sector_start s (count + 1)) =
         omega arith in
         record {
-          is_one = is_whole (sector_len s) (omega arith) s.size count (bytes_from_start s image) below
+          is_one = is_whole (sector_len s) (omega arith) s.size count (length image - s.offset) below
               (omega (arith, there, long));
           consumption = subst (ConsumedExactly image left') all (consumed_behind image left left' next_byte
               (sector_len s - length prefix) positioned.consumption next);
@@ -107,7 +107,7 @@ module _ (s : Segment) (image : List ℕ) (count : ℕ) where
         let rest = drop next_byte image in
         let whole : length image ≡ s.offset + (count * sector_len s + got) =
         omega (arith, (next rest positioned.consumption.left).0, length-append prefix rest, there, long) in
-        let len : bytes_from_start s image ≡ count * sector_len s + got = omega arith in
+        let len : length image - s.offset ≡ count * sector_len s + got = omega arith in
         let behind : nat_lt (length image) s.offset ≡ false = le-ltb (length image) s.offset (omega arith) in
         let ends = at_torn (sector_len s) some s.size count got s.offset below torn in
         let end : payload_end_of s image ≡ length image =
@@ -232,11 +232,11 @@ module _ (p : PumpModel) (image : List ℕ) (r r' before after : Option (List �
   pub steps_unskipped : (fault : PayloadFault) → SkipEffect p image (Err fault) r'
       → StepEffect p.segment p.cipher p.count (consumed_by p) image (Err fault) r' before after
   steps_unskipped CutBeforePayload (cut, left) =
-      let len : bytes_from_start p.segment image ≡ 0 = omega arith in
+      let len : length image - p.segment.offset ≡ 0 = omega arith in
       let behind : nat_lt (length image) p.segment.offset ≡ true = lt-ltb (length image) p.segment.offset cut in
       let there : consumed_by p ≤ length image = positioned.positioned.consumption.within in
       let end : max (consumed_by p) (payload_end_of p.segment image) ≡ length image =
-      omega (arith, payload_ends p.segment.size p.segment.offset (length image)) in
+      omega arith in
       record {
         all = rw len (fresh.0 ∙ sym (none_whole p.segment.size (sector_len p.segment)));
         as_specified = rw behind refl;
@@ -244,7 +244,7 @@ module _ (p : PumpModel) (image : List ℕ) (r r' before after : Option (List �
       }
   steps_unskipped Read (offset, least, most, left) =
       let from : consumed_by p ≤ offset = omega (arith, at_first p first fresh.1) in
-      (offset, from, omega (arith, left.within, payload_ends p.segment.size p.segment.offset (length image)), left)
+      (offset, from, omega (arith, left.within), left)
   steps_unskipped _ stops = absurd stops
 
 -- the reads of a failed skip are those of its step, which makes no write
@@ -264,7 +264,7 @@ module _ (s : Segment) (cipher : Cipher) (count already : ℕ) (image : List ℕ
       → EndEffect image s count already answer l
   ends_earlier answer ends =
       let same : max s.offset (payload_end_of s image) ≡ max already (payload_end_of s image) =
-      omega (arith, payload_ends s.size s.offset (length image)) in
+      omega arith in
       record { all = ends.all; as_specified = ends.as_specified; consumption = rw same at ends.consumption }
 
   consumes_earlier : ConsumesSector image s count s.offset l → ConsumesSector image s count already l

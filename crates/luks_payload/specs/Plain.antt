@@ -28,18 +28,14 @@ abbrev pub sector_plaintext : Segment → Cipher → List ℕ → ℕ → List �
 sector_plaintext s cipher image i = unit_plain cipher (unit_number s i) (take (sector_len s) (drop
     (sector_start s i) image))
 
--- the number of bytes of the image from the payload's start on
-abbrev pub bytes_from_start : Segment → List ℕ → ℕ
-bytes_from_start s image = length image - s.offset
-
--- the number of these bytes that belong to the payload
+-- the number of bytes that belong to a payload of this size if the image has `len` bytes from its start on
 abbrev pub payload_bytes : Option ℕ → ℕ → ℕ
 payload_bytes None len = len
 payload_bytes (Some size) len = min size len
 
 -- the number of whole sectors that the payload has
 abbrev pub sectors_of : Segment → List ℕ → ℕ
-sectors_of s image = payload_bytes s.size (bytes_from_start s image) / sector_len s
+sectors_of s image = payload_bytes s.size (length image - s.offset) / sector_len s
 
 -- the plaintext: all whole sectors, joined
 abbrev pub plain_of : Segment → Cipher → List ℕ → List ℕ
@@ -52,15 +48,9 @@ ending_of_len (Some size) sector len = if nat_lt len size then Err (Short (size 
 
 -- how the payload ends
 abbrev pub ending_of : Segment → List ℕ → Result Step PayloadFault
-ending_of s image =
-    if nat_lt (length image) s.offset then Err CutBeforePayload else ending_of_len s.size (sector_len s)
-    (bytes_from_start s image)
-
--- the end of a payload of this size at this offset, in an image of `len` bytes
-abbrev pub payload_end_in : Option ℕ → ℕ → ℕ → ℕ
-payload_end_in None offset len = len
-payload_end_in (Some size) offset len = min len (offset + size)
+ending_of s image = if nat_lt (length image) s.offset then Err CutBeforePayload
+    else ending_of_len s.size (sector_len s) (length image - s.offset)
 
 -- the end of the payload in the image
 abbrev pub payload_end_of : Segment → List ℕ → ℕ
-payload_end_of s image = payload_end_in s.size s.offset (length image)
+payload_end_of s image = min (length image) (s.offset + payload_bytes s.size (length image - s.offset))

@@ -35,12 +35,12 @@ use Rattle.luks_header.specs.HeaderSegment.{segment_of}
 use Rattle.luks_header.specs.declared.header.Header.{Header}
 use Rattle.luks_header.proofs.KnownLemmas.{known_usable, slot_of_usable, is_attached}
 use Rattle.luks_key_slots.specs.Candidate.{decrypted_material, material_sector, recovered, candidate_of, matches_digest}
-use Rattle.luks_key_slots.specs.Opening.{first_opening, slot_key, opened_or, opening_of}
+use Rattle.luks_key_slots.specs.Opening.{first_opening, slot_key, opening_of}
 use Rattle.luks_key_slots.specs.declared.entry.Entry.{Entry}
 use Rattle.luks_key_slots.specs.Opening.{key_material_end, order_of}
 use Rattle.luks_key_slots.specs.declared.fault.OpenFault.TheVariants.{NoKey}
 use Rattle.luks_key_slots.specs.declared.opening.Opened.{Opened}
-use Rattle.luks_key_slots.proofs.CallerLemmas.{All-order, IsOf, key_areas_before_payload}
+use Rattle.luks_key_slots.proofs.CallerLemmas.{All-order, IsOf, key_areas_before_payload, opened_or}
 use Rattle.luks_payload.proofs.SectorLemmas.{one_more_fits}
 use Rattle.luks_payload.specs.Plain.{ending_of, ending_of_len, plain_of, sector_len, sector_plaintext, unit_number}
 use Rattle.luks_payload.specs.Plain.{unit_plain, payload_bytes}

@@ -16,7 +16,6 @@ use Rattle.luks_io.proofs.EffectLemmas.{appended-more, appended-none, no_reads}
 use Rattle.luks_io.specs.Counts.{Reads}
 use Rattle.luks_io.specs.Devices.{Appended, ConsumedExactly}
 use Rattle.luks_io.specs.declared.counts.ReadCounts.{ReadCounts}
-use Rattle.luks_payload.proofs.SectorLemmas.{payload_ends}
 use Rattle.luks_payload.specs.Plain.{ending_of, payload_end_of, plain_of, sector_len, sector_plaintext}
 use Rattle.luks_payload.specs.Plain.{sector_start, sectors_of, unit_number, unit_plain, payload_bytes}
 use Rattle.luks_payload.specs.PumpEffects.{EndEffect, PumpModel, PositionedIn, StepEffect, WritesSectors, after_step}
@@ -72,11 +71,11 @@ module _ (s : Segment) (image : List ℕ) where
       let more : (i + 1) * sector_len s
       ≤ sectors_of s image * sector_len s = mul-le-mul_right (sector_len s) (omega arith) in
       let some : 1 * sector_len s ≤ (i + 1) * sector_len s = mul-le-mul_right (sector_len s) (omega arith) in
-      omega (arith, z.long, payload_ends s.size s.offset (length image), within_len s.size (length image - s.offset))
+      omega (arith, z.long, within_len s.size (length image - s.offset))
 
   -- so it also ends at the image's end or before it
   sector_there : (i : ℕ) → i < sectors_of s image → sector_start s (i + 1) ≤ length image
-  sector_there i below = omega (arith, sector_before_end i below, payload_ends s.size s.offset (length image))
+  sector_there i below = omega (arith, sector_before_end i below)
 
   -- an image of fewer than 2^64 bytes has fewer than 2^64 - 1 sectors
   pub few_sectors : length image < 2 ^ 64 → sectors_of s image < 2 ^ 64 - 1
@@ -206,7 +205,7 @@ module _ (p : PumpModel) (image : List ℕ) (loaded : ℕ) (l b w l' w' : Option
         let within = so_far.positioned.positioned.consumption.within in
         let all : p.count * z ≤ sectors_of p.segment image * z = mul-le-mul_right z so_far.few in
         let whole = div-mul-le_self (payload_bytes p.segment.size (length image - p.segment.offset)) z in
-        omega (arith, so_far.most, payload_ends p.segment.size p.segment.offset (length image))
+        omega (arith, so_far.most)
 
     -- the payload ended as specified
     ended : (answer : Result Step PayloadFault) → EndEffect image p.segment p.count (consumed_by p) answer l' → w' ≡ w

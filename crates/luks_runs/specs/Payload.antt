@@ -1,12 +1,13 @@
 -- The effects of forwarding a payload on its devices.
-use Rattle.std.specs.Prelude.{◌≡◌, ℕ, ◌+◌, ◌-◌, ◌*◌, ◌/◌, ◌^◌, ◌<◌, ◌≤◌, List, length, max, take, Option}
+use Rattle.std.specs.Prelude.{◌≡◌, ℕ, ◌+◌, ◌-◌, ◌*◌, ◌/◌, ◌^◌, ◌<◌, ◌≤◌, List, length, max, min, take, Option}
 use Rattle.std.specs.Prelude.{Bool, true, false}
+use Rattle.std.specs.Option.{option_map_or}
 use Rattle.luks_cipher.specs.Sector.{Cipher}
 use Rattle.luks_io.specs.Counts.{allowed_to}
 use Rattle.luks_io.specs.Devices.{Appended, ConsumedExactly, max_count}
 use Rattle.luks_io.specs.declared.counts.ReadCounts.{ReadCounts}
 use Rattle.luks_verdict.specs.declared.segment.Segment.{Segment}
-use Rattle.luks_payload.specs.Plain.{payload_end_in, ending_of, payload_end_of, plain_of, sector_len, sector_start}
+use Rattle.luks_payload.specs.Plain.{ending_of, payload_end_of, plain_of, sector_len, sector_start}
 use Rattle.luks_payload.specs.Plain.{sectors_of}
 use Rattle.luks_report.specs.Faults.{message_at_end}
 use Rattle.luks_report.specs.declared.message.Message.{Message}
@@ -15,7 +16,7 @@ use Rattle.luks_report.specs.declared.message.Message.TheVariants.{Done, ReadFai
 -- the end of the payload, in the longest image whose bytes can be counted: a payload without a fixed size ends with its
 -- image
 abbrev pub max_payload_end : Segment → ℕ
-max_payload_end s = payload_end_in s.size s.offset max_count
+max_payload_end s = option_map_or (λ size. min max_count (s.offset + size)) s.size max_count
 
 -- the counts of the payload's image, for which read-ahead is allowed up to the payload's end
 abbrev pub with_payload_allowed : Segment → ReadCounts → ReadCounts
