@@ -8,26 +8,22 @@ ghost use Rattle.luks_kdf.specs.Lanes.{lanes_of};
 ghost use Rattle.luks_kdf.specs.Hmac.{inner_block, outer_block};
 ghost use Rattle.luks_kdf.specs.Pbkdf2.{derived_key, t_of, u_of};
 
-use crate::derive::derive_block;
+use crate::bytes::xor_into;
 use crate::engine::Engine;
 use crate::mac::{KeyBlocks, Keyed, key_blocks};
 use luks_sha_lanes::{sha1_chains, sha256_chains, sha512_chains};
 use sha1::Sha1;
-use sha2::{Sha256, Sha384, Sha512};
+use sha2::{Sha224, Sha256, Sha384, Sha512};
 
 // The maximum total length in bytes of the digests that are computed side by side.
 const MAX_GROUP: usize = 80;
 
-/// A hash function that computes chains of digests by code of its own, side by side if there are
-/// lanes for several.
+/// A hash function that computes chains of digests, side by side if there are lanes for several.
 pub(crate) trait Lanes: Engine {
     // The number of chains side by side.
     const WIDTH: usize;
 
     ghost WIDTH: { ℕ };
-
-    // Whether `iterate` is faster than the hasher on a single chain.
-    const LONE: bool;
 
     /// XORs the next `count` digests of each of the first `used` chains into its bytes in `xors`,
     /// where the chains follow one another. `last` has the last digest of each chain, in the same
@@ -51,8 +47,6 @@ impl Lanes for Sha1 {
 
     ghost WIDTH = { 4 };
 
-    const LONE: bool = true;
-
     fn iterate(inner: &[u8], outer: &[u8], used: usize, count: u32, last: &[u8], xors: &mut [u8]) {
         if used == 1 {
             sha1_chains::xor_chains::<1>(inner, outer, count, &last[..20], &mut xors[..20]);
@@ -64,15 +58,30 @@ impl Lanes for Sha1 {
     ghost known = { refl };
 }
 
+impl Lanes for Sha224 {
+    const WIDTH: usize = 1;
+
+    ghost WIDTH = { 1 };
+
+    fn iterate(inner: &[u8], outer: &[u8], _used: usize, count: u32, last: &[u8], xors: &mut [u8]) {
+        iterate_by::<Sha224>(inner, outer, count, last, xors);
+    }
+
+    ghost known = { refl };
+}
+
 impl Lanes for Sha256 {
     const WIDTH: usize = 2;
 
     ghost WIDTH = { 2 };
 
-    const LONE: bool = false;
-
-    fn iterate(inner: &[u8], outer: &[u8], _used: usize, count: u32, last: &[u8], xors: &mut [u8]) {
-        sha256_chains::xor_chains(inner, outer, count, last, xors);
+    // The hasher is faster on a single chain.
+    fn iterate(inner: &[u8], outer: &[u8], used: usize, count: u32, last: &[u8], xors: &mut [u8]) {
+        if used == 1 {
+            iterate_by::<Sha256>(inner, outer, count, &last[..32], &mut xors[..32]);
+        } else {
+            sha256_chains::xor_chains(inner, outer, count, last, xors);
+        }
     }
 
     ghost known = { refl };
@@ -82,8 +91,6 @@ impl Lanes for Sha384 {
     const WIDTH: usize = 1;
 
     ghost WIDTH = { 1 };
-
-    const LONE: bool = true;
 
     fn iterate(inner: &[u8], outer: &[u8], _used: usize, count: u32, last: &[u8], xors: &mut [u8]) {
         sha512_chains::xor_chain384(inner, outer, count, last, xors);
@@ -96,8 +103,6 @@ impl Lanes for Sha512 {
     const WIDTH: usize = 1;
 
     ghost WIDTH = { 1 };
-
-    const LONE: bool = true;
 
     fn iterate(inner: &[u8], outer: &[u8], _used: usize, count: u32, last: &[u8], xors: &mut [u8]) {
         sha512_chains::xor_chain512(inner, outer, count, last, xors);
@@ -131,8 +136,7 @@ pub(crate) fn derive_in_lanes<E: Lanes>(pass: &[u8], salt: &[u8], iterations: u3
     }
 }
 
-// Fills `out` with the first bytes of the blocks T from this number on, one in each lane. The
-// hasher computes a single block if it is faster.
+// Fills `out` with the first bytes of the blocks T from this number on, one in each lane.
 fn derive_group<E: Lanes>(
     keyed: &Keyed<E>,
     blocks: &KeyBlocks,
@@ -152,15 +156,11 @@ fn derive_group<E: Lanes>(
         (joined (λ k. t_of E.function pass salt.now (number + k) iterations) E.WIDTH) }
 {
     let size = E::hash().size();
-    if out.len() <= size && !E::LONE {
-        derive_block(keyed, salt, number, iterations, out);
-    } else {
-        let mut t = [0; MAX_GROUP];
-        let t = &mut t[..E::WIDTH * size];
-        let count = out.len().div_ceil(size);
-        write_group(keyed, blocks, salt, number, count, iterations, t);
-        out.copy_from_slice(&t[..out.len()]);
-    }
+    let mut t = [0; MAX_GROUP];
+    let t = &mut t[..E::WIDTH * size];
+    let count = out.len().div_ceil(size);
+    write_group(keyed, blocks, salt, number, count, iterations, t);
+    out.copy_from_slice(&t[..out.len()]);
 }
 
 // Writes `count` of the blocks T, from this number on.
@@ -228,4 +228,33 @@ fn first_iteration<E: Engine>(keyed: &Keyed<E>, salt: &[u8], number: u32, u: &mu
     inner.absorb(salt);
     inner.absorb(&number.to_be_bytes());
     keyed.complete(inner, u);
+}
+
+// XORs the next `count` digests of a chain into `xors`, by the hasher. `last` is its last digest.
+fn iterate_by<E: Engine>(inner: &[u8], outer: &[u8], count: u32, last: &[u8], xors: &mut [u8])
+    requires last { length last.now ≡ digest_len E.function }
+    requires xors { length xors.old ≡ digest_len E.function }
+    ensures { xors.new
+        ≡ chain_xor (hash_of E.function) inner.now outer.now last.now xors.old count }
+{
+    let mut u = [0; MAX_GROUP];
+    let u = &mut u[..last.len()];
+    u.copy_from_slice(last);
+    xor_more(&Keyed::<E>::of(inner, outer), count, u, xors);
+}
+
+// The same, with the last digest in `u`, which has that of the last iteration afterwards.
+fn xor_more<E: Engine>(keyed: &Keyed<E>, count: u32, u: &mut [u8], xors: &mut [u8])
+    requires u { length u.old ≡ digest_len E.function }
+    requires xors { length xors.old ≡ digest_len E.function }
+    ensures { (inner outer : List ℕ) → E.holds keyed.now.inner inner
+        → E.holds keyed.now.outer outer
+        → xors.new ≡ chain_xor (hash_of E.function) inner outer u.old xors.old count }
+{
+    'iterations: for _ in 0..count {
+        let mut next = keyed.begin();
+        next.absorb(u);
+        keyed.complete(next, u);
+        xor_into(xors, u);
+    }
 }

@@ -1,18 +1,10 @@
-use Rattle.std.proofs.Common.{◌≡◌, ◌∙◌, ap, arith, length}
+use Rattle.std.proofs.Common.{◌≡◌, ◌∙◌, ap, length}
 use Rattle.luks_kdf.specs.Hash.{digest_len}
-use Rattle.luks_kdf.proofs.Pbkdf2Lemmas.{group_of_digests, group_of_one}
+use Rattle.luks_kdf.proofs.Pbkdf2Lemmas.{group_of_digests}
 use Rattle.luks_kdf.proofs.lanes.derive_group.Goals as goal
 
-pub returns-then-not-LONE : goal.returns-then-not-LONE
-returns-then-not-LONE g c = λ pass holds_inner holds_outer is_inner is_outer.
-    let h = g.E.Engine.function in
-    let is_size : c.size-size.result ≡ digest_len h = c.size-size.ensures ∙ ap digest_len c.hash.ensures in
-    c.derive_block.ensures pass holds_inner holds_outer
-    ∙ group_of_one h pass c.args.salt.now c.args.number c.args.iterations g.E.Lanes.WIDTH (length c.args.out.now)
-    (omega arith) c.requires.capacity
-
-pub returns-else-out-size : goal.returns-else-out-size
-returns-else-out-size g c = λ pass holds_inner holds_outer is_inner is_outer.
+pub returns : goal.returns
+returns g c = λ pass holds_inner holds_outer is_inner is_outer.
     let h = g.E.Engine.function in
     let is_size : c.size-size.result ≡ digest_len h = c.size-size.ensures ∙ ap digest_len c.hash.ensures in
     c.copy_from_slice.ensures.after
