@@ -2,13 +2,14 @@
 use Rattle.std.proofs.Common.{◌≡◌, ◌∙◌, ℕ, inl, inr, List, [], ◌∷◌, Ok, Err, true, false, ap, refl}
 use Rattle.std.proofs.Common.{Bool, sym, length, arith, ◌≤◌, Result, take}
 use Rattle.std.proofs.Common.{length-take-le, max, take-take, take_all, lit≤}
-use Rattle.std.specs.Prelude.{ok_or, if◌then◌else◌}
+use Rattle.std.specs.Prelude.{ok_or, option_map, if◌then◌else◌}
 use Rattle.std.proofs.lemmas.Bool.{le-ltb, cases_lt}
 use Rattle.luks_header_area.specs.Area.{max_loaded_len}
 use Rattle.luks_header_area.specs.declared.fault.HeaderFault.{HeaderFault}
-use Rattle.luks_header_area.specs.declared.fault.HeaderFault.TheVariants.{NotLuks}
-use Rattle.luks_header.specs.Header.{header_read_len, header_of, with_metadata, with_text}
+use Rattle.luks_header_area.specs.declared.fault.HeaderFault.TheVariants.{Json, NotLuks}
+use Rattle.luks_header.specs.Header.{header_read_len, header_of, with_text}
 use Rattle.luks_header.proofs.KnownLemmas.{begins_longer}
+use Rattle.luks_header.specs.declared.header.Header.TheVariants.{V2}
 use Rattle.luks_key_slots.specs.Opening.{key_material_end, opening_of}
 use Rattle.luks_key_slots.specs.declared.fault.OpenFault.{OpenFault}
 use Rattle.luks_key_slots.proofs.CallerLemmas.{opening_prefix, key_material_end-within}
@@ -92,7 +93,7 @@ module _ (image : List ℕ) (n : ℕ) (far : 8388608 ≤ n) (more : n ≤ length
   with_text_prefix (Ok header) found =
       let within = probe2_within image in
       let cut = ap (λ k. take k (take n image)) prefix2.1 ∙ take-take (header2_read_len image) n image (omega arith) in
-      ap (λ text. with_metadata header (tree_of text))
+      ap (λ text. ok_or (option_map (V2 header) (tree_of text)) Json)
       (sym (json_prefix (take n image) header (prefix2.0 ∙ found))
       ∙ ap (λ bytes. json_text_of bytes header) cut ∙ json_prefix image header found)
   with_text_prefix (Err fault) found = refl
@@ -103,7 +104,7 @@ module _ (image : List ℕ) (n : ℕ) (far : 8388608 ≤ n) (more : n ≤ length
   -- the first bytes of an image have the header of the whole image, and reading it consumes as many bytes
   header_by : (b : Bool) → is_luks1 image ≡ b
       → (header_of (take n image) ≡ header_of image) × (header_read_len (take n image) ≡ header_read_len image)
-  unfolding header_of header_read_len
+  unfolding header_of header_read_len header2_read_len
   header_by true is =
       let short = le-ltb (length (take n image)) 592 (omega (arith, long)) in
       let shorter = le-ltb (length image) 592 (omega arith) in (
