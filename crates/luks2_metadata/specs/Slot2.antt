@@ -1,6 +1,7 @@
 -- The verdicts on the key slots of LUKS2 (LUKS2 On-Disk Format Specification 1.1, section 3, the keyslots object).
 use Rattle.std.specs.Prelude.{ℕ, ◌&&◌, ◌||◌, not, nat_le, Bool, List, [], ◌∷◌, Option, Some, None, codes, is_none}
 use Rattle.std.specs.Prelude.{is_some, if◌then◌else◌, option_and_then, option_map, unwrap_or}
+use Rattle.luks_cipher.specs.declared.mode.Mode.{Mode}
 use Rattle.luks_verdict.specs.Rule.{iterations_out_of_range, area_out_of_range, stripes_out_of_range, key_material_len}
 use Rattle.luks_verdict.specs.Slot.{has_no_usable_digest, slot_from, verdict_by}
 use Rattle.luks_verdict.specs.Table.{first_match}
@@ -104,8 +105,18 @@ values_of parts = record {
 
 -- ---- the table of reasons
 
--- the reasons to skip the slot of this number, whose members have these values, in a header with these bounds. The key
--- of the key material needs a length for the area's mode, and the volume key one for the payload's
+-- the slot's keys have valid lengths for their modes: the key of the key material for the area's mode, the volume key
+-- for the payload's mode
+abbrev pub are_key_sizes : Option Mode → SlotParts → Bool
+are_key_sizes payload_mode parts =
+    is_length_for parts.area_mode parts.area_key_bytes && is_length_for payload_mode parts.key_bytes
+
+-- the slot's key area is too small for the key material, or out of range
+abbrev pub area2_out_of_range : ℕ → Option ℕ → SlotParts → Bool
+area2_out_of_range end payload parts =
+    area_out_of_range end payload parts.area_offset parts.area_size (key_material_len parts.key_bytes parts.stripes)
+
+-- the reasons to skip the slot of this number, whose members have these values, in a header with these bounds
 abbrev pub slot_reasons : Data → Bounds → Option ℕ → ℕ → Data → SlotParts → List (Bool × SkipReason)
 slot_reasons tree bounds limit number slot parts =
     (not (is_type (codes "luks2") slot), Kind)
@@ -115,18 +126,10 @@ slot_reasons tree bounds limit number slot parts =
     ∷ (not (is_kdf_type (codes "pbkdf2") slot), Kdf)
     ∷ (is_none parts.kdf_hash || is_none parts.af_hash, SkipHash)
     ∷ (is_none parts.area_mode, Encryption)
-    ∷ (
-      not (is_length_for parts.area_mode parts.area_key_bytes
-          && is_length_for (payload_mode2_of tree bounds) parts.key_bytes),
-      KeySize,
-    )
+    ∷ (not (are_key_sizes (payload_mode2_of tree bounds) parts), KeySize)
     ∷ (stripes_out_of_range parts.stripes, Stripes)
     ∷ (iterations_out_of_range limit parts.iterations, Iterations)
-    ∷ (
-      area_out_of_range bounds.end (payload2_start tree bounds) parts.area_offset parts.area_size
-          (key_material_len parts.key_bytes parts.stripes),
-      Area,
-    )
+    ∷ (area2_out_of_range bounds.end (payload2_start tree bounds) parts, Area)
     ∷ (has_no_usable_digest limit (digest2_for tree number), Digest)
     ∷ []
 

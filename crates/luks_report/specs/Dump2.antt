@@ -105,8 +105,9 @@ names_text (name ∷ names) = escaped name ++ more_names names
 -- the text of a usable digest: its hash function, iterations and length in bytes, and the names that it lists
 unfoldable pub digest_text : Digest → List ℕ
 digest_text digest =
-    codes "USABLE hash=" ++ hash_text digest.key.hash ++ codes " iterations=" ++ decimal digest.key.iterations
-    ++ codes " bytes=" ++ decimal (length digest.key.value) ++ codes " keyslots=" ++ names_text digest.keyslots
+    codes "USABLE hash=" ++ hash_text digest.key.parts.hash ++ codes " iterations="
+    ++ decimal digest.key.parts.iterations
+    ++ codes " bytes=" ++ decimal (length digest.key.parts.value) ++ codes " keyslots=" ++ names_text digest.keyslots
     ++ codes " segments=" ++ names_text digest.segments
 
 -- the text of a digest, or that it is refused

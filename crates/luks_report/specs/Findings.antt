@@ -65,7 +65,8 @@ slot_finding _ = []
 
 -- two areas of key material share a byte: the later of their starts is below the earlier of their ends
 unfoldable pub do_overlap : Slot → Slot → Bool
-do_overlap a b = nat_lt (max a.parts.area_offset b.parts.area_offset) (min (material_end a) (material_end b))
+do_overlap a b =
+    nat_lt (max a.parts.area_offset b.parts.area_offset) (min (material_end a.parts) (material_end b.parts))
 
 -- the finding about two key slots: both can be tried, and their areas overlap
 abbrev pub overlap : ℕ × Verdict → ℕ × Verdict → List ℕ

@@ -160,8 +160,9 @@ module _ (passphrase key image : List ℕ) where
   matches_again : (digest : KeyDigest) → IsDigestOf digest key → matches_digest digest key ≡ true
   unfolding matches_digest
   matches_again digest is =
-      rw is.is_hash ((bytes_eq-Decides (derived_key is.hash key digest.salt digest.iterations (length digest.value))
-      digest.value).1 (sym is.value))
+      let parts = digest.parts in
+      rw is.is_hash ((bytes_eq-Decides (derived_key is.hash key parts.salt parts.iterations (length parts.value))
+      parts.value).1 (sym is.value))
 
   -- a sealed key slot opens under its passphrase and gives the key
   key_again : (header : Header) (segment : Segment) (limit : Option ℕ) (entry : Entry)

@@ -2,6 +2,7 @@
 use Rattle.std.proofs.Common.{◌≡◌, ◌≢◌, ◌∙◌, ◌+◌, ◌-◌, ◌≤◌, ◌==◌, ℕ, true, List, [], ◌∷◌, ◌++◌, Some, length, take}
 use Rattle.std.proofs.Common.{drop, ap, arith, refl, sym, append_assoc, append-nil, length-append, ◌||◌, codes, le-leb}
 use Rattle.std.specs.Int.{to_be_bytes, w64}
+use Rattle.std.specs.Prelude.{replicate}
 use Rattle.std.proofs.lemmas.Bool.{eq-eqb, ne_eqb, or_right}
 use Rattle.std.proofs.lemmas.List.{drop_at, take_at}
 use Rattle.std.proofs.lemmas.Nat.{from_be_bytes-to_be_bytes_8}
@@ -10,7 +11,7 @@ use Rattle.luks_header_area.specs.Fields.{at, be64, text_of}
 use Rattle.luks_kdf.specs.Hash.{hash_named, hash_of}
 use Rattle.luks_kdf.specs.declared.hash.Hash.TheVariants.{Sha256}
 use Rattle.luks_kdf.proofs.Pbkdf2Lemmas.{length-hash_of}
-use Rattle.luks2_binary.specs.Checksum2.{checksum_matches, no_checksum, without_checksum}
+use Rattle.luks2_binary.specs.Checksum2.{checksum_matches, without_checksum}
 use Rattle.luks2_binary.specs.Choice2.{beginning_at, is_binary_of, binary_at, fits as has_binary, is_valid, size_at}
 use Rattle.luks2_binary.specs.Header2.{checksum_hash_in, hdr_offset_in, sequence_in, size_in}
 use Rattle.luks_seal.specs.Pieces.{padded}
@@ -135,9 +136,9 @@ module _ (p : Seal2) (fits : AreParameters2 p) (json : FitsJson p) (magic salt :
 
   -- the bytes that the checksum is computed over
   zeroed : without_checksum made_header ≡ fields_of p magic salt offset ++ padded 64 [] ++ body_bytes p
-  unfolding without_checksum no_checksum header2_bytes padded
+  unfolding without_checksum header2_bytes padded
   zeroed =
-      zeroed_of (fields_of p magic salt offset) (padded 64 checksum) (body_bytes p) no_checksum length-fields
+      zeroed_of (fields_of p magic salt offset) (padded 64 checksum) (body_bytes p) (replicate 64 0) length-fields
       length-csum
 
   -- the checksum matches

@@ -22,8 +22,8 @@ use Rattle.luks_cipher.specs.Sector.{Cipher, mode_named, mode_name}
 use Rattle.luks_kdf.proofs.BytesLemmas.{length-xor}
 use Rattle.luks_kdf.proofs.StripesLemmas.{length-splitter_block}
 use Rattle.luks_verdict.specs.Rule.{key_material_len, area_out_of_range, is_digest}
-use Rattle.luks_verdict.specs.Rule.{iterations_out_of_range, max_digest_len}
-use Rattle.luks_verdict.specs.Rule.{max_iteration_count, max_stripes, min_digest_len, stripes_out_of_range}
+use Rattle.luks_verdict.specs.Rule.{iterations_out_of_range}
+use Rattle.luks_verdict.specs.Rule.{max_iteration_count, max_stripes, stripes_out_of_range}
 use Rattle.luks_verdict.specs.declared.slot.SlotParts.{SlotParts}
 use Rattle.luks_seal.specs.Sealed.{IsMaterial, IsStoredEncrypted}
 use Rattle.luks_seal.proofs.SectorLemmas.{length-sectors_encrypted, sectors_are_stored}
@@ -219,7 +219,7 @@ pub digest_fits : (iterations len : ℕ) → 1 ≤ iterations → iterations < 2
     → is_digest iterations len ≡ true
 unfolding is_digest
 digest_fits iterations len some few least most =
-    rw (iterations_fit iterations some few, le-ltb len min_digest_len least, le-ltb max_digest_len len most) refl
+    rw (iterations_fit iterations some few, le-ltb len 20 least, le-ltb 64 len most) refl
 
 -- an area is in range if it is after the headers, large enough, before the payload and within what is loaded
 pub area_fits : (start payload offset size material_len : ℕ) → start ≤ offset → material_len ≤ size

@@ -5,14 +5,15 @@ use Rattle.std.proofs.Common.{List, [], ◌∷◌, get_or, bytes_eq, option_map,
 use Rattle.luks_kdf.proofs.Pbkdf2Lemmas.{length-derived_key}
 use Rattle.luks_verdict.specs.Rule.{key_material_len}
 use Rattle.luks_verdict.specs.Segment.{segment_from}
-use Rattle.luks_verdict.specs.Slot.{has_no_usable_digest, slot_from}
+use Rattle.luks_verdict.specs.Slot.{digest_from, has_no_usable_digest, slot_from}
+use Rattle.luks_verdict.specs.Table.{first_match}
 use Rattle.luks_verdict.specs.declared.sector_size.SectorSize.TheVariants.{B512}
 use Rattle.luks_verdict.specs.declared.slot.Verdict.TheVariants.{Usable}
 use Rattle.luks_verdict.proofs.MadeLemmas.{are_in_range, digest_from-yes, digest_of, is_usable, no_usable_digest-yes}
 use Rattle.luks_verdict.proofs.MadeLemmas.{segment_by, slot_from-yes, slot_of}
-use Rattle.luks1_header.specs.Segment1.{fault1_of, segment1_of, overlaps_header1}
-use Rattle.luks1_header.specs.Slot1.{digest1_of, digest_parts1_of, hash1_of, area1_out_of_range, mode1_of}
-use Rattle.luks1_header.specs.Slot1.{payload1_start, reason1_of, slot1_of, slot_parts1_of, verdict1_of, verdict1_at}
+use Rattle.luks1_header.specs.Segment1.{segment1_of, segment_faults1, overlaps_header1}
+use Rattle.luks1_header.specs.Slot1.{digest_parts1_of, hash1_of, area1_out_of_range, mode1_of}
+use Rattle.luks1_header.specs.Slot1.{payload1_start, slot_reasons1, slot1_of, slot_parts1_of, verdict1_of, verdict1_at}
 use Rattle.luks1_header.proofs.ValidationLemmas.{segment1-none, slot_there}
 use Rattle.luks_seal.specs.Sealed.{IsDigestOf, GivesKey, Sealed, SealsKey, SealsPlain}
 use Rattle.luks_seal.proofs.MaterialLemmas.{area_fits, digest_fits, hash_is_named, iterations_fit, mode_is_named}
@@ -65,8 +66,8 @@ module _ (p : Seal1) (fits : AreParameters1 p) (typed : AreTyped1 p) where
 
   -- ---- the segment
 
-  no_fault : fault1_of (found_header p) ≡ None
-  unfolding fault1_of overlaps_header1
+  no_fault : first_match (segment_faults1 (found_header p)) ≡ None
+  unfolding segment_faults1 overlaps_header1
   no_fault =
       rw (mode1_is, hash1_is, fits.key, le-ltb (512 * p.payload_sectors) 592 (omega (arith, fits.counts.3))) refl
 
@@ -91,8 +92,8 @@ module _ (p : Seal1) (fits : AreParameters1 p) (typed : AreTyped1 p) where
         (sym (length-derived_key p.hash p.key.now p.digest_salt p.digest_iterations 20));
   }
 
-  digest_ok : has_no_usable_digest None (digest1_of (found_header p)) ≡ false
-  unfolding digest1_of digest_parts1_of
+  digest_ok : has_no_usable_digest None (digest_from (digest_parts1_of (found_header p))) ≡ false
+  unfolding digest_parts1_of
   digest_ok =
       no_usable_digest-yes None (digest_parts1_of (found_header p)) digest_usable
       ∙ iterations_fit p.digest_iterations fits.counts.2 typed.iterations
@@ -108,8 +109,8 @@ module _ (p : Seal1) (fits : AreParameters1 p) (typed : AreTyped1 p) where
         (omega arith)
         (omega arith) (ends_before p fits typed slot used) (omega (arith, fits.counts.4))
 
-    no_reason : reason1_of (found_header p) None (found_slot p slot) ≡ None
-    unfolding reason1_of
+    no_reason : first_match (slot_reasons1 (found_header p) None (found_slot p slot)) ≡ None
+    unfolding slot_reasons1
     no_reason =
         let stripes_ok = stripes_fit p.stripes fits.counts.0 fits.counts.1 in
         let iterations_ok = iterations_fit slot.iterations used.fits.1 used.typed.iterations in
@@ -121,7 +122,7 @@ module _ (p : Seal1) (fits : AreParameters1 p) (typed : AreTyped1 p) where
     slot1_is : slot1_of (found_header p) (found_slot p slot)
         ≡ Some (slot_of (slot_parts1_of (found_header p) (found_slot p slot))
         (digest_of (digest_parts1_of (found_header p)) digest_usable) parts_ok)
-    unfolding slot1_of digest1_of
+    unfolding slot1_of
     slot1_is =
         let parts = slot_parts1_of (found_header p) (found_slot p slot) in
         let digest_parts = digest_parts1_of (found_header p) in

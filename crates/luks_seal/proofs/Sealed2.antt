@@ -28,10 +28,10 @@ use Rattle.luks_kdf.specs.declared.hash.Hash.TheVariants.{Sha256}
 use Rattle.luks1_header.specs.Header1.{is_luks1}
 use Rattle.luks2_binary.specs.Choice2.{beginning_at, with_valid_primary, binary_at, chosen2_of, header2_of}
 use Rattle.luks2_binary.specs.Header2.{header2_from, sequence_in, size_in}
-use Rattle.luks2_binary.specs.Text2.{json_area_of, json_text_of}
+use Rattle.luks2_binary.specs.Text2.{json_text_of}
 use Rattle.luks2_binary.specs.declared.header.Header2.{Header2}
 use Rattle.luks2_binary.specs.declared.header.HeaderRole.TheVariants.{Primary}
-use Rattle.luks2_json.specs.Tree.{has_objects, tree_of, value_of}
+use Rattle.luks2_json.specs.Tree.{has_objects, tree_of}
 use Rattle.luks_header.specs.Header.{bounds2_of, header_of as read_header}
 use Rattle.luks_header.specs.declared.header.Header.TheVariants.{V2}
 use Rattle.luks_seal.proofs.MetadataLemmas.{area_after_headers}
@@ -180,7 +180,7 @@ module _ (p : Seal2) (fits : AreParameters2 p) (json : FitsJson p) (back : Reads
   -- ---- the JSON text
 
   text_there : json_text_of (image2_of p) header_is ≡ json_of p
-  unfolding json_text_of json_area_of header_is padded
+  unfolding json_text_of header_is padded
   text_there =
       ap (λ n. text_of (at 4096 (n - 4096) (image2_of p))) primary.size
       ∙ ap text_of primary.json
@@ -188,7 +188,7 @@ module _ (p : Seal2) (fits : AreParameters2 p) (json : FitsJson p) (back : Reads
 
   -- reading the image gives this header and the metadata
   pub header_read : read_header (image2_of p) ≡ Ok (V2 header_is (metadata_of p))
-  unfolding read_header header2_of tree_of value_of has_objects metadata_of
+  unfolding read_header header2_of tree_of has_objects metadata_of
   header_read = rw (not_luks1, chosen, text_there, is_utf8-from_IsUtf8 (json_of p) back.0, back.1) refl
 
   -- the header sets these bounds

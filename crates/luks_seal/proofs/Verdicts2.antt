@@ -11,10 +11,10 @@ use Rattle.luks_verdict.proofs.MadeLemmas.{are_in_range, digest_from-yes, digest
 use Rattle.luks_verdict.proofs.MadeLemmas.{segment_of_all-yes, slot_from-yes, slot_of}
 use Rattle.luks_verdict.proofs.SectorLemmas.{sector_size_again}
 use Rattle.luks2_json.specs.Member.{decimal_member, string_is, string_member, integer_member, base64_member}
-use Rattle.luks2_json.specs.Member.{hash_member, iterations_in, salt_in, is_length_for}
+use Rattle.luks2_json.specs.Member.{hash_member, is_length_for}
 use Rattle.luks2_json.specs.Member.{encryption_mode, in_member}
 use Rattle.luks2_metadata.specs.Segment2.{fault2_of, has_requirement, has_segment_members, is_segment, size_is_wrong}
-use Rattle.luks2_metadata.specs.Segment2.{iv_tweak_of, mode2_of, offset_of, sector_size_of}
+use Rattle.luks2_metadata.specs.Segment2.{mode2_of, sector_size_of}
 use Rattle.luks2_metadata.specs.Segment2.{segment2_of, segment_parts2_of, size_member}
 use Rattle.luks2_metadata.specs.Segment2.{offset_is_wrong, the_segment, payload2_start, payload_mode2_of}
 use Rattle.luks2_metadata.specs.declared.bounds.Bounds.{Bounds}
@@ -36,7 +36,7 @@ use Rattle.luks2_json.specs.List.{has_strings, array_contains}
 use Rattle.luks2_json.specs.Numbered.{object_numbered}
 use Rattle.luks2_json.proofs.NumberedLemmas.{lowest_found, lowest_none}
 use Rattle.luks2_metadata.specs.Digest2.{digest2_for, digest2_of, is_digest2, is_of_slot}
-use Rattle.luks2_metadata.specs.Digest2.{own_digest_at, value_in}
+use Rattle.luks2_metadata.specs.Digest2.{own_digest_at}
 use Rattle.luks_seal.specs.Sealed.{IsDigestOf}
 use Rattle.luks_seal.proofs.MaterialLemmas.{derived_bytes}
 use Rattle.luks_seal.proofs.MaterialLemmas.{digest_fits, hash_is_named, area_fits, iterations_fit, stripes_fit}
@@ -97,7 +97,7 @@ material_fits key stripes = omega arith
 module _ (p : Seal2) (fits : AreParameters2 p) (typed : AreTyped2 p) where
   -- ---- the segment: its members
 
-  offset_is : offset_of (segment_object p) ≡ Some p.offset
+  offset_is : decimal_member (codes "offset") (segment_object p) ≡ Some p.offset
   unfolding segment_object decimal_member string_member
   offset_is = decimal_read p.offset (omega (arith, fits.offset.1))
 
@@ -105,7 +105,7 @@ module _ (p : Seal2) (fits : AreParameters2 p) (typed : AreTyped2 p) where
   unfolding size_member string_is segment_object decimal_member string_member
   size_is = size_read p.fixed (length p.plain.now) (omega (arith, fits.plain.1))
 
-  iv_tweak_is : iv_tweak_of (segment_object p) ≡ Some p.iv_tweak
+  iv_tweak_is : decimal_member (codes "iv_tweak") (segment_object p) ≡ Some p.iv_tweak
   unfolding segment_object decimal_member string_member
   iv_tweak_is = decimal_read p.iv_tweak typed.iv_tweak
 
@@ -187,7 +187,7 @@ module _ (p : Seal2) (fits : AreParameters2 p) (typed : AreTyped2 p) where
   digest_is = digest_of (digest_parts p) usable
 
   digest_found : digest2_of (digest_object p) ≡ Some digest_is
-  unfolding digest2_of digest_is iterations_in salt_in value_in digest_object integer_member
+  unfolding digest2_of digest_is digest_object integer_member
   digest_found =
       rw (digest_object_is, hash_is, digest_salt_is, value_is) (digest_from-yes (digest_parts p) usable)
 

@@ -59,8 +59,9 @@ pub record GivesKey (parts : SlotParts) (passphrase key image : List ℕ) : Type
 -- the digest is that of the key: PBKDF2 of the key
 pub record IsDigestOf (digest : KeyDigest) (key : List ℕ) : Type 0 where
   pub hash : Hash
-  pub is_hash : digest.hash ≡ Some hash
-  pub value : digest.value ≡ derived_key hash key digest.salt digest.iterations (length digest.value)
+  pub is_hash : digest.parts.hash ≡ Some hash
+  pub value : digest.parts.value
+      ≡ derived_key hash key digest.parts.salt digest.parts.iterations (length digest.parts.value)
 
 -- the key slot of this number is usable without a limit on iterations, it gives the key under this passphrase, and the
 -- digest of the slot is that of the key

@@ -40,7 +40,7 @@ fn digests_of(rt: &(impl Abort + AllocGlobal), members: &[&str]) -> Digests {
 // The iterations of a digest, or 0 if it is not usable.
 fn iterations(digest: &Option<Digest>) -> u32 {
     match digest {
-        Some(digest) => digest.key.iterations,
+        Some(digest) => digest.key.parts.iterations,
         None => 0,
     }
 }
@@ -117,10 +117,11 @@ fn has_names(digest: &Digest) -> bool {
 }
 
 fn has_parts(key: &KeyDigest) -> bool {
-    (key.hash == Some(Hash::Sha256))
-        & (key.iterations == 1000)
-        & (key.salt.as_slice() == [1u8; 8].as_slice())
-        & (key.value.as_slice() == [2u8; 20].as_slice())
+    let parts = &key.parts;
+    (parts.hash == Some(Hash::Sha256))
+        & (parts.iterations == 1000)
+        & (parts.salt.as_slice() == [1u8; 8].as_slice())
+        & (parts.value.as_slice() == [2u8; 20].as_slice())
 }
 
 #[test]

@@ -168,7 +168,7 @@ fn has_parts(slot: &Slot, stripes: u32, hash: Option<Hash>) -> bool {
         parts.area_key_bytes,
     ];
     let sizes = [slot.key_material_len(), parts.area_size, parts.area_offset];
-    let (salt, value) = (parts.salt.as_slice(), slot.digest.value.as_slice());
+    let (salt, value) = (parts.salt.as_slice(), slot.digest.parts.value.as_slice());
     (numbers == [1000, stripes, 64, 64])
         & (parts.priority == 1)
         & ([parts.kdf_hash, parts.af_hash] == [hash, hash])
@@ -335,9 +335,10 @@ fn a_slot_has_its_verdict_by_number(rt: HostRuntime) {
 }
 
 fn has_numbers(digest: &KeyDigest) -> bool {
-    let (salt, value) = (digest.salt.as_slice(), digest.value.as_slice());
-    (digest.hash == Some(Hash::Sha256))
-        & (digest.iterations == 1000)
+    let parts = &digest.parts;
+    let (salt, value) = (parts.salt.as_slice(), parts.value.as_slice());
+    (parts.hash == Some(Hash::Sha256))
+        & (parts.iterations == 1000)
         & ([salt.len(), value.len()] == [32, 20])
         & (salt.first() == Some(&0x20))
         & (value.last() == Some(&0x13))

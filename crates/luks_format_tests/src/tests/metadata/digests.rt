@@ -18,7 +18,7 @@ const NO_USABLE_DIGEST: VerdictKind = VerdictKind::Skipped(SkipReason::Digest);
 // The iterations of the digest of a slot, if it has one.
 fn iterations(rt: &(impl Abort + AllocGlobal), metadata: &Metadata, slot: u8) -> Option<u32> {
     match digest_for(rt.alloc(), metadata, slot).expect(rt, "memory") {
-        Some(key) => Some(key.iterations),
+        Some(key) => Some(key.parts.iterations),
         None => None,
     }
 }
@@ -143,10 +143,11 @@ fn which_digest_a_slot_has(rt: HostRuntime) {
 }
 
 fn has_parts(key: &KeyDigest) -> bool {
-    (key.hash == Some(Hash::Sha256))
-        & (key.iterations == 1000)
-        & (key.salt.as_slice() == [1u8; 32].as_slice())
-        & (key.value.as_slice() == [2u8; 32].as_slice())
+    let parts = &key.parts;
+    (parts.hash == Some(Hash::Sha256))
+        & (parts.iterations == 1000)
+        & (parts.salt.as_slice() == [1u8; 32].as_slice())
+        & (parts.value.as_slice() == [2u8; 32].as_slice())
 }
 
 // Whether a digest lists slots 0 and 2 and segment 0.

@@ -54,7 +54,7 @@ fn has_values(slot: &Slot) -> bool {
         & (parts.salt.as_slice() == [1u8; 32].as_slice())
         & (area == [32_768, 258_048, 256_000])
         & (parts.area_mode == Some(Mode::XtsPlain64))
-        & (slot.digest.value.as_slice() == [2u8; 32].as_slice())
+        & (slot.digest.parts.value.as_slice() == [2u8; 32].as_slice())
 }
 
 // The number of a slot of the text, a limit on iterations, and the verdict on the slot.

@@ -81,9 +81,9 @@ fn push_usable(alloc: Global, text: &mut String, digest: &Digest) -> Result<(), 
     ensures { OnOk result
         (string_bytes text.new ≡ string_bytes text.old ++ digest_text digest.now) }
 {
-    let hash = hash_text(digest.key.hash);
-    let iterations = digest.key.iterations;
-    let bytes = digest.key.value.as_slice().len();
+    let hash = hash_text(digest.key.parts.hash);
+    let iterations = digest.key.parts.iterations;
+    let bytes = digest.key.parts.value.as_slice().len();
     write!(
         text,
         "USABLE hash={hash} iterations={iterations} bytes={bytes} keyslots="
