@@ -29,7 +29,6 @@ use Rattle.luks2_metadata.specs.Segment2.{payload2_start}
 use Rattle.luks2_metadata.proofs.SegmentLemmas.{segment2-ok}
 use Rattle.luks2_metadata.proofs.SlotLemmas.{usable2_at}
 use Rattle.luks_verdict.specs.Rule.{exceeds}
-use Rattle.luks_header.specs.HeaderDigests.{digest_for}
 use Rattle.luks_header.specs.Header.{bounds2_of, header_of, is_detached, with_text, ConsumedHeaderLen}
 use Rattle.luks_header.specs.Header.{IsRead, ReadsNoHeader, falls_short, header_read_len, probe_len}
 use Rattle.luks_header.specs.HeaderSegment.{segment_of}

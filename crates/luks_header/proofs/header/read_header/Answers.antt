@@ -1,4 +1,4 @@
-use Rattle.std.proofs.Common.{◌∙◌, Err, ap, length, refl, sym, not, true, false, arith}
+use Rattle.std.proofs.Common.{◌∙◌, Err, ap, length, refl, sym, not, false, arith}
 use Rattle.luks_io.proofs.EffectLemmas.{reads_more}
 use Rattle.luks_io.proofs.ErrorLemmas.{given_error}
 use Rattle.luks1_header.specs.Header1.{header1_of}
