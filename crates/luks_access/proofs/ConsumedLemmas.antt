@@ -35,7 +35,7 @@ module _ (options : Options) (image pass : List ℕ) where
   on_slot = slot_outcome pass
 
   abbrev consumed_of : Outcome → ℕ
-  consumed_of outcome = outcome.input_consumed
+  consumed_of outcome = outcome.consumed.input
 
   -- opening that consumes exactly what it needs may end in any way
   exactly : {T : Type 0} (result : Result T VolumeFault) (left : Option (List ℕ)) (n : ℕ)

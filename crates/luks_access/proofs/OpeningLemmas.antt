@@ -25,7 +25,7 @@ use Rattle.luks_runs.proofs.HonestVolumes.{unsealed}
 use Rattle.luks_runs.proofs.VolumeLemmas.{area_cut, found_cut, found_is, found_long, message_says, outcome_is, tried_is}
 use Rattle.luks_runs.proofs.VolumeLemmas.{tried_whole, volume_is}
 use Rattle.luks_runs.specs.Volume.{FindsNoVolume, MatchesHeader, opened_of, OnOpened, Volume, OpeningMessage}
-use Rattle.luks_runs.specs.Volume.{detached_payload_outcome, found_outcome, payload_outcome, unlock_read_len}
+use Rattle.luks_runs.specs.Volume.{found_outcome, payload_outcome, unlock_read_len}
 use Rattle.luks_runs.specs.KeyFile.{max_key_file_len}
 use Rattle.luks_runs.specs.Volume.{volume_by, volume_outcome_by}
 use Rattle.luks_runs.specs.declared.found.FoundVolume.{FoundVolume}
@@ -160,10 +160,10 @@ module _ (slots : SlotChoice) (header image pass : List ℕ) (v : UnlockedVolume
       ≡ on_opened v.segment (opened_of v) loaded)
       → HasPlaintext (cat_outcome_of location slots header image pass) v (payload_image_of location header image)
   cat_by Attached outcome =
-      let cat = outcome (payload_outcome header pass) in
+      let cat = outcome (payload_outcome Attached header pass) in
       (ap (λ (out : Outcome). out.output) cat, ap (λ (out : Outcome). out.message) cat)
   cat_by Detached outcome =
-      let cat = outcome (detached_payload_outcome image pass) in
+      let cat = outcome (payload_outcome Detached image pass) in
       (ap (λ (out : Outcome). out.output) cat, ap (λ (out : Outcome). out.message) cat)
 
 -- if the message at a payload's end is `Done`, the payload is whole
@@ -220,7 +220,7 @@ volume_refused options image pass fault is_fault refuses only_long = record {
   refuses = refuses;
   only_long = only_long;
   no_honest = λ plain attached never honest.
-      let refused = rw attached at ((refuses never).outcome (payload_outcome image pass)) in
+      let refused = rw attached at ((refuses never).outcome (payload_outcome Attached image pass)) in
       let sealed = unsealed options.slots image pass plain honest in
       let done = sym (ap (λ (out : Outcome). out.message) refused) ∙ sealed.1 in
       subst OpeningMessage done (message_says fault).opening;

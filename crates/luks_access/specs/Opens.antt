@@ -20,7 +20,7 @@ use Rattle.luks_runs.specs.Location.{detached_header_of, reader_for}
 use Rattle.luks_runs.specs.declared.location.HeaderLocation.{HeaderLocation}
 use Rattle.luks_runs.specs.declared.location.HeaderLocation.TheVariants.{Attached, Detached}
 use Rattle.luks_runs.specs.Honest.{OpensHonest}
-use Rattle.luks_runs.specs.Volume.{TriesSlots, opened_of, OnOpened, detached_payload_outcome, payload_outcome}
+use Rattle.luks_runs.specs.Volume.{TriesSlots, opened_of, OnOpened, payload_outcome}
 use Rattle.luks_runs.specs.declared.found.FoundVolume.{FoundVolume}
 use Rattle.luks_runs.specs.declared.unlocked.UnlockedVolume.{UnlockedVolume}
 use Rattle.luks_runs.specs.Volume.{Volume, slot_outcome, volume_by, volume_outcome, volume_outcome_by}
@@ -55,7 +55,7 @@ pub record Refuses (options : Options) (header pass : List ℕ) (fault : VolumeF
 -- the number of bytes of an image or detached header that opening consumes: as many as `testPassphrase` does
 abbrev pub open_read_len : Options → List ℕ → List ℕ → ℕ
 open_read_len options header pass =
-    (volume_outcome_by (reader_for options.location) (slot_outcome pass) options.slots header pass).input_consumed
+    (volume_outcome_by (reader_for options.location) (slot_outcome pass) options.slots header pass).consumed.input
 
 -- opening ended in this way: it consumed as many bytes, or no more than these if a read failed or memory ran out
 abbrev pub ConsumesToOpen : {T : Type 0} → Options → List ℕ → List ℕ → Result T VolumeFault → Option (List ℕ) → Type 0
@@ -101,9 +101,10 @@ payload_image_of Detached header image = image
 
 -- the outcome of `luksCat`, with an attached header, or with a detached one and this image
 abbrev pub cat_outcome_of : HeaderLocation → SlotChoice → List ℕ → List ℕ → List ℕ → Outcome
-cat_outcome_of Attached slots header image pass = volume_outcome (payload_outcome header pass) slots header pass
+cat_outcome_of Attached slots header image pass =
+    volume_outcome (payload_outcome Attached header pass) slots header pass
 cat_outcome_of Detached slots header image pass =
-    volume_outcome_by detached_header_of (detached_payload_outcome image pass) slots header pass
+    volume_outcome_by detached_header_of (payload_outcome Detached image pass) slots header pass
 
 -- the volume's plaintext in this image is written, and the run ends as the payload does
 abbrev pub HasPlaintext : Outcome → UnlockedVolume → List ℕ → Type 0

@@ -15,17 +15,16 @@ use Rattle.luks_payload.specs.Plain.{payload_end_of, sector_len, sector_start, s
 use Rattle.luks_runs.proofs.PayloadLemmas.{plain_len}
 use Rattle.luks_runs.proofs.RunLemmas.{aborted_at, runs_printed}
 use Rattle.luks_commands.proofs.VolumeRuns.{same_segment_by}
-use Rattle.luks_runs.specs.Run.{Outcome, Prints, Aborted, AnyPromptness, Completed, ConsumedNothing}
+use Rattle.luks_runs.specs.Run.{Consumed, Outcome, Prints, Aborted, AnyPromptness, Completed, ConsumedNothing}
 use Rattle.luks_runs.specs.Run.{DetachedRunMatches, Promptness, RunEffects, RunMatches, aborts, is_run_read_failure}
 use Rattle.luks_runs.specs.Run.{is_run_write_failure}
 use Rattle.luks_runs.specs.Volume.{payload_outcome, slot_outcome, volume_outcome, volume_outcome_by}
-use Rattle.luks_runs.specs.Volume.{detached_payload_outcome, HitsMaterialEof, OpeningMessage}
+use Rattle.luks_runs.specs.Volume.{HitsMaterialEof, OpeningMessage}
 use Rattle.luks_request.specs.Request.{Request, VolumeRequest, luks_cat}
 use Rattle.luks_commands.specs.Headline.{CatAllows, Change, ConsumedAtLeast, ConsumedOfPayload, CountsCalls}
 use Rattle.luks_commands.specs.Headline.{CountsReads}
 use Rattle.luks_commands.specs.Headline.{CountsTried, EndsWithoutKey, KnowsPayload, PromptCat, ReadsOnce, ReadsPayload}
 use Rattle.luks_commands.specs.Headline.{Trial}
-use Rattle.luks_commands.specs.Headline.{payload_outcome_at}
 use Rattle.luks_commands.specs.Unlocking.{ConsumesLoaded, Unlocks}
 use Rattle.luks_runs.specs.Location.{reader_for, detached_header_of}
 use Rattle.luks_runs.specs.declared.location.HeaderLocation.{HeaderLocation}
@@ -50,8 +49,8 @@ slot_consumes_loaded secret =
 
 -- a run also matches with a promptness that follows from its own, and with a fact on the payload's image that does
 pub runs_at : (is_prompt is_prompt' : Promptness) (out : Outcome) (message : Message) (effects : RunEffects)
-    (ConsumedPayload : ℕ → Type 0) → ((input payload secret output : ℕ)
-    → is_prompt message input payload secret output → is_prompt' message input payload secret output)
+    (ConsumedPayload : ℕ → Type 0) → ((consumed : Consumed) (output : ℕ)
+    → is_prompt message consumed output → is_prompt' message consumed output)
     → ((count : ℕ) → effects.payload count → ConsumedPayload count)
     → DetachedRunMatches is_prompt out message effects
     → DetachedRunMatches is_prompt' out message (record effects { payload = ConsumedPayload })
@@ -61,14 +60,14 @@ runs_at is_prompt is_prompt' out message effects ConsumedPayload follows consume
         → MatchBool b (Aborted is_prompt' out message (record effects { payload = ConsumedPayload }))
         (Completed out message (record effects { payload = ConsumedPayload }))
     either true run =
-        aborted_at run.input_consumed run.payload_consumed run.secret_consumed run.output_len run.output_within
-        (follows run.input_consumed run.payload_consumed run.secret_consumed run.output_len run.is_prompt)
+        aborted_at run.consumed.input run.consumed.payload run.consumed.secret run.output_len run.output_within
+        (follows run.consumed run.output_len run.is_prompt)
         run.input_within run.payload_within run.secret_within run.input
-        (consumed run.payload_consumed run.payload) run.secret run.output
+        (consumed run.consumed.payload run.payload) run.secret run.output
     either false run = record {
       as_specified = run.as_specified;
       input = run.input;
-      payload = consumed out.payload_consumed run.payload;
+      payload = consumed out.consumed.payload run.payload;
       secret = run.secret;
       output = run.output;
     }
@@ -125,12 +124,12 @@ module _ (slots : SlotChoice) (image pass : List ℕ) (segment : Segment) (opene
   pub runs_forwarded : (left i' w w' : Option (List ℕ)) (message : Message) → PayloadMessage message
       → ForwardsPayload segment (segment.mode, opened.key) image (length loaded) left w w' message
       → ((n : ℕ) → length loaded ≤ n → ConsumedExactly image left n → ConsumedExactly image i' n)
-      → RunMatches (PromptCat Attached image) (volume_outcome (payload_outcome image pass) slots image pass) message
-      (ConsumedExactly image i') (ConsumedExactly pass s) (Appended w w')
+      → RunMatches (PromptCat Attached image) (volume_outcome (payload_outcome Attached image pass) slots image pass)
+      message (ConsumedExactly image i') (ConsumedExactly pass s) (Appended w w')
   runs_forwarded left i' w w' OutOfMemory only forwarded as_source = absurd only
   runs_forwarded left i' w w' ReadFailed only (end, later, count, position, whole, inside, consumption, output)
       as_source =
-      rw (u.outcome (payload_outcome image pass)) (aborted_at end 0 (length pass) (count * sector_len segment)
+      rw (u.outcome (payload_outcome Attached image pass)) (aborted_at end 0 (length pass) (count * sector_len segment)
       (omega (arith, plain_len segment image (segment.mode, opened.key), mul-le-mul_right (sector_len segment) whole))
       (λ other is is_past_header. rw (same_segment_by header_of image segment other u.has is)
       (ap (λ n. n * sector_len segment) position)) (omega (arith, inside)) (omega arith) (omega arith)
@@ -138,14 +137,15 @@ module _ (slots : SlotChoice) (image pass : List ℕ) (segment : Segment) (opene
   runs_forwarded left i' w w' WriteFailed only (count, written, few, less, inside, consumption, output) as_source =
       let end = max (length loaded) (sector_start segment (count + 1)) in
       let within = positioned_within segment image count written few less in
-      rw (u.outcome (payload_outcome image pass)) (aborted_at end 0 (length pass) (count * sector_len segment + written)
+      rw (u.outcome (payload_outcome Attached image pass))
+      (aborted_at end 0 (length pass) (count * sector_len segment + written)
       (omega (arith, plain_len segment image (segment.mode, opened.key), within.0))
       (λ other is. rw (same_segment_by header_of image segment other u.has is, within.1)
       (omega (arith, u.no_further refl)))
       (omega (arith, inside)) (omega arith) (omega arith) (as_source end (omega arith) consumption) refl
       u.secret_consumed output)
   runs_forwarded left i' w w' message only forwarded as_source =
-      rw (u.outcome (payload_outcome image pass)) (record {
+      rw (u.outcome (payload_outcome Attached image pass)) (record {
         as_specified = forwarded.0;
         input = as_source (max (length loaded) (payload_end_of segment image)) (omega arith) forwarded.1;
         payload = refl;
@@ -213,7 +213,7 @@ counts_forwarded slots image pass segment opened loaded s i' w w' trial message 
 -- the payload's outcome consumes at least the loaded bytes of the image, or of the file with the header, and the whole
 -- key file
 pub payload_consumes_loaded : (location : HeaderLocation) (image pass : List ℕ)
-    → ConsumesLoaded pass (payload_outcome_at location image pass)
+    → ConsumesLoaded pass (payload_outcome location image pass)
 payload_consumes_loaded Attached image pass =
     record { loaded = λ segment opened loaded. omega arith; whole = λ segment opened loaded. refl }
 payload_consumes_loaded Detached image pass =
@@ -226,7 +226,7 @@ module _ (slots : SlotChoice) (file image pass : List ℕ) (segment : Segment) (
   pub detached_runs_forwarded : (message : Message) → PayloadMessage message
       → ForwardsPayload segment (segment.mode, opened.key) image 0 i' w w' message
       → DetachedRunMatches (PromptCat Detached file)
-      (volume_outcome_by detached_header_of (detached_payload_outcome image pass) slots file pass) message
+      (volume_outcome_by detached_header_of (payload_outcome Detached image pass) slots file pass) message
       (record {
         input = ConsumedExactly file h;
         payload = ConsumedExactly image i';
@@ -235,7 +235,7 @@ module _ (slots : SlotChoice) (file image pass : List ℕ) (segment : Segment) (
       })
   detached_runs_forwarded OutOfMemory only forwarded = absurd only
   detached_runs_forwarded ReadFailed only (end, later, count, position, whole, inside, consumption, output) =
-      rw (u.outcome (detached_payload_outcome image pass))
+      rw (u.outcome (payload_outcome Detached image pass))
       (aborted_at (length loaded) end (length pass) (count * sector_len segment)
       (omega (arith, plain_len segment image (segment.mode, opened.key), mul-le-mul_right (sector_len segment) whole))
       (λ other is is_past_header. rw (same_segment_by detached_header_of file segment other u.has is)
@@ -243,7 +243,7 @@ module _ (slots : SlotChoice) (file image pass : List ℕ) (segment : Segment) (
       (omega arith) (omega (arith, inside)) (omega arith) u.input_consumed consumption u.secret_consumed output)
   detached_runs_forwarded WriteFailed only (count, written, few, less, inside, consumption, output) =
       let within = positioned_within segment image count written few less in
-      rw (u.outcome (detached_payload_outcome image pass))
+      rw (u.outcome (payload_outcome Detached image pass))
       (aborted_at (length loaded) (max 0 (sector_start segment (count + 1))) (length pass)
       (count * sector_len segment + written)
       (omega (arith, plain_len segment image (segment.mode, opened.key), within.0))
@@ -251,7 +251,7 @@ module _ (slots : SlotChoice) (file image pass : List ℕ) (segment : Segment) (
       (omega arith) (omega (arith, inside)) (omega arith) u.input_consumed consumption u.secret_consumed output)
   detached_runs_forwarded message only forwarded =
       let all : max 0 (payload_end_of segment image) ≡ payload_end_of segment image = omega arith in
-      rw (u.outcome (detached_payload_outcome image pass)) (record {
+      rw (u.outcome (payload_outcome Detached image pass)) (record {
         as_specified = forwarded.0;
         input = u.input_consumed;
         payload = subst (ConsumedExactly image i') all forwarded.1;

@@ -71,7 +71,7 @@ prompt_early segment header_len _ consumed few = tt
 
 -- nothing was consumed past the header
 prompt_in_header : (location : HeaderLocation) (image : List ℕ) (message : Message) (a b : ℕ)
-    → a ≤ header_read_len image → PromptCat location image message a 0 b 0
+    → a ≤ header_read_len image → PromptCat location image message (record { input = a; payload = 0; secret = b }) 0
 prompt_in_header Attached image message a b few =
     λ segment has. prompt_early segment (header_read_len image) message a (omega arith)
 prompt_in_header Detached image message a b few = λ segment has. prompt_early segment 0 message 0 (omega arith)
@@ -80,7 +80,7 @@ prompt_in_header Detached image message a b few = λ segment has. prompt_early s
 prompt_before_payload : (location : HeaderLocation) (image : List ℕ) (message : Message) (a b : ℕ)
     (segment : Segment) → HasSegmentBy (reader_for location) image segment
     → (location ≡ Attached → a ≤ max (header_read_len image) segment.offset)
-    → PromptCat location image message a 0 b 0
+    → PromptCat location image message (record { input = a; payload = 0; secret = b }) 0
 prompt_before_payload Attached image message a b segment has early = λ other is.
     prompt_early other (header_read_len image) message a
     (rw (same_segment_by header_of image segment other has is) (early refl))
@@ -92,8 +92,8 @@ prompt_before_payload Detached image message a b segment has early =
 module _ (on_opened : OnOpened) (v : Volume) (image secret : List ℕ)
     (consumes : ConsumesLoaded secret on_opened) where
   opened_within : (r : Result Opened OpenFault)
-      → (unlock_read_len image v ≤ (opened_outcome on_opened v image secret r).input_consumed)
-      × (length secret ≤ (opened_outcome on_opened v image secret r).secret_consumed)
+      → (unlock_read_len image v ≤ (opened_outcome on_opened v image secret r).consumed.input)
+      × (length secret ≤ (opened_outcome on_opened v image secret r).consumed.secret)
   opened_within (Ok opened) =
       let n = unlock_read_len image v in
       (consumes.loaded v.segment opened n, omega (arith, consumes.whole v.segment opened n))
@@ -101,8 +101,8 @@ module _ (on_opened : OnOpened) (v : Volume) (image secret : List ℕ)
 
   -- a key file that is not too long is consumed whole, and at least the loaded bytes of the image are consumed
   area_within : length secret ≤ max_key_file_len
-      → (min (length image) (unlock_read_len image v) ≤ (found_outcome on_opened v image secret).input_consumed)
-      × (length secret ≤ (found_outcome on_opened v image secret).secret_consumed)
+      → (min (length image) (unlock_read_len image v) ≤ (found_outcome on_opened v image secret).consumed.input)
+      × (length secret ≤ (found_outcome on_opened v image secret).consumed.secret)
   area_within short = elim (cases_lt (length image) (key_material_end v.order.entries)) [
     | inl few ↦ rw (found_cut on_opened v image secret short few) (omega arith, omega arith)
     | inr enough ↦
@@ -111,8 +111,8 @@ module _ (on_opened : OnOpened) (v : Volume) (image secret : List ℕ)
   ]
 
   -- at least the header is consumed, and at least as much of the key file as is ever read of it
-  found_within : (header_read_len image ≤ (found_outcome on_opened v image secret).input_consumed)
-      × (min (length secret) (max_key_file_len + 1) ≤ (found_outcome on_opened v image secret).secret_consumed)
+  found_within : (header_read_len image ≤ (found_outcome on_opened v image secret).consumed.input)
+      × (min (length secret) (max_key_file_len + 1) ≤ (found_outcome on_opened v image secret).consumed.secret)
   found_within = elim (cases_lt max_key_file_len (length secret)) [
     | inl long ↦ rw (found_long on_opened v image secret long) (omega arith, omega arith)
     | inr short ↦
@@ -186,12 +186,12 @@ module _ (location : HeaderLocation) (slots : SlotChoice) (image pass : List ℕ
 
   module _ (on_opened : OnOpened) (consumes : ConsumesLoaded pass on_opened) where
     header_read_len_consumed : header_read_len image
-        ≤ (volume_outcome_by (reader_for location) on_opened slots image pass).input_consumed
+        ≤ (volume_outcome_by (reader_for location) on_opened slots image pass).consumed.input
     unfolding volume_outcome_by
     header_read_len_consumed = after (volume_by (reader_for location) slots image)
       where
         after : (r : Result Volume VolumeFault)
-            → header_read_len image ≤ (outcome_after on_opened image pass r).input_consumed
+            → header_read_len image ≤ (outcome_after on_opened image pass r).consumed.input
         after (Ok v) = (found_within on_opened v image pass consumes).0
         after (Err fault) = omega arith
 

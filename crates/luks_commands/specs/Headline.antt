@@ -14,13 +14,13 @@ use Rattle.luks_runs.specs.Location.{HeaderReader, reader_for, detached_header_o
 use Rattle.luks_runs.specs.declared.location.HeaderLocation.{HeaderLocation}
 use Rattle.luks_runs.specs.declared.location.HeaderLocation.TheVariants.{Attached, Detached}
 use Rattle.luks_runs.specs.Payload.{max_payload_end}
-use Rattle.luks_runs.specs.Run.{Promptness, ConsumedNothing, AnyPromptness, is_run_read_failure}
+use Rattle.luks_runs.specs.Run.{Promptness, AnyPromptness, is_run_read_failure}
 use Rattle.luks_runs.specs.Run.{is_run_write_failure, DetachedRunMatches, aborts, Outcome}
 use Rattle.luks_runs.specs.Stripe.{max_key_len, PromptSplit, merge_outcome, split_outcome}
 use Rattle.luks_runs.specs.Volume.{HasSegmentBy, slot_outcome, volume_by, OnOpened}
 use Rattle.luks_runs.specs.Volume.{Volume, volume_outcome_by, OpeningMessage, unlock_read_len}
 use Rattle.luks_runs.specs.Volume.{ends_untried}
-use Rattle.luks_runs.specs.Volume.{detached_payload_outcome, payload_outcome}
+use Rattle.luks_runs.specs.Volume.{payload_outcome}
 use Rattle.luks_runs.specs.Honest.{OpensHonest}
 use Rattle.luks_verdict.specs.declared.segment.Segment.{Segment}
 use Rattle.luks_report.specs.declared.message.Message.{Message}
@@ -37,54 +37,39 @@ use Rattle.luks_runs.specs.RunMessages.{SplitMessage}
 
 -- ---- `run`: the outcome of a command for the bytes of its inputs, and how a run is compared with it
 
--- the outcome of a command for the bytes of its first and of its second input, if its header is read in this way, and
--- if this is what `luksCat` does with an opened volume
-abbrev pub outcome_by : HeaderReader → OnOpened → Request → List ℕ → List ℕ → Outcome
-outcome_by read on_payload (is_luks _) image secret = is_luks_outcome image
-outcome_by read on_payload (luks_uuid _) image secret = print_outcome_by read Uuid image
-outcome_by read on_payload (luks_dump _) image secret = print_outcome_by read Dump image
-outcome_by read on_payload (luks_check _) image secret = print_outcome_by read Check image
-outcome_by read on_payload (test_passphrase o) image secret =
-    volume_outcome_by read (slot_outcome secret) o.slots image secret
-outcome_by read on_payload (luks_cat o) image secret = volume_outcome_by read on_payload o.slots image secret
-outcome_by read on_payload (af_split s) image secret = split_outcome s.hash s.stripes image secret
-outcome_by read on_payload (af_merge m) image secret = merge_outcome m.hash m.stripes m.key_bytes image
-
--- what `luksCat` does with an opened volume whose payload is in this image, if its header is at this location
-abbrev pub payload_outcome_at : HeaderLocation → List ℕ → List ℕ → OnOpened
-payload_outcome_at Attached = payload_outcome
-payload_outcome_at Detached = detached_payload_outcome
-
 -- the outcome of a command for the bytes of its first input, of the image with the payload and of its second input, if
 -- its header is at this location
 abbrev pub outcome_of : HeaderLocation → Request → List ℕ → List ℕ → List ℕ → Outcome
-outcome_of location request input image secret =
-    outcome_by (reader_for location) (payload_outcome_at location image secret) request input secret
-
--- the header's bytes end before the payload starts, or the run consumed more than the header's bytes. (Neither holds
--- only if a damaged primary header has a size that reaches past the payload's start, and the run consumed no byte past
--- that size.)
-abbrev pub IsPastHeader : Segment → ℕ → ℕ → Type 0
-IsPastHeader s header_len consumed = (header_len ≤ s.offset) ⊎ (header_len < consumed)
+outcome_of location (is_luks _) input image secret = is_luks_outcome input
+outcome_of location (luks_uuid _) input image secret = print_outcome_by (reader_for location) Uuid input
+outcome_of location (luks_dump _) input image secret = print_outcome_by (reader_for location) Dump input
+outcome_of location (luks_check _) input image secret = print_outcome_by (reader_for location) Check input
+outcome_of location (test_passphrase o) input image secret =
+    volume_outcome_by (reader_for location) (slot_outcome secret) o.slots input secret
+outcome_of location (luks_cat o) input image secret =
+    volume_outcome_by (reader_for location) (payload_outcome location image secret) o.slots input secret
+outcome_of location (af_split s) input image secret = split_outcome s.hash s.stripes input secret
+outcome_of location (af_merge m) input image secret = merge_outcome m.hash m.stripes m.key_bytes input
 
 -- forwarding a payload is aborted: if a write fails, no byte of the image past the sector in which it failed was
--- consumed, except for the header's; if a read fails, the output is the whole sectors that were consumed
+-- consumed, except for the header's; if a read fails, the output is the whole sectors that were consumed. This is said
+-- of a failed read if the header's bytes end before the payload starts, or the run consumed more than the header's
+-- bytes. (Neither holds only if a damaged primary header has a size that reaches past the payload's start, and the run
+-- consumed no byte past that size.)
 abbrev pub PromptForwarding : Segment → ℕ → Message → ℕ → ℕ → Type 0
 PromptForwarding s header_len WriteFailed consumed output =
     consumed ≤ max header_len (sector_start s (output / sector_len s + 1))
-PromptForwarding s header_len ReadFailed consumed output = IsPastHeader s header_len consumed
+PromptForwarding s header_len ReadFailed consumed output = (header_len ≤ s.offset) ⊎ (header_len < consumed)
     → output ≡ (consumed - s.offset) / sector_len s * sector_len s
 PromptForwarding s header_len _ consumed output = Unit {0}
 
 -- opening a volume or `luksCat` was aborted, and forwarding the payload was prompt. With a detached header, the payload
 -- is in an image of its own, and no byte of that image is consumed for a header
 abbrev pub PromptCat : HeaderLocation → List ℕ → Promptness
-PromptCat Attached image message input_consumed payload_consumed secret_consumed output =
-    (segment : Segment) → HasSegmentBy header_of image segment
-    → PromptForwarding segment (header_read_len image) message input_consumed output
-PromptCat Detached file message input_consumed payload_consumed secret_consumed output =
-    (segment : Segment) → HasSegmentBy detached_header_of file segment
-    → PromptForwarding segment 0 message payload_consumed output
+PromptCat Attached image message consumed output = (segment : Segment) → HasSegmentBy header_of image segment
+    → PromptForwarding segment (header_read_len image) message consumed.input output
+PromptCat Detached file message consumed output = (segment : Segment) → HasSegmentBy detached_header_of file segment
+    → PromptForwarding segment 0 message consumed.payload output
 
 -- how promptly a command ends if it is aborted, with this image, or this file with a detached header
 abbrev pub promptness_of : HeaderLocation → Request → List ℕ → Promptness
@@ -111,14 +96,14 @@ IsCounted _ image = Unit {0}
 -- what was consumed of the image with the payload. If the header is attached, that was counted as the first input's
 abbrev pub ConsumedOfPayload : Request → HeaderLocation → List ℕ → Option (List ℕ) → ℕ → Type 0
 ConsumedOfPayload (luks_cat o) Detached image left = ConsumedExactly image left
-ConsumedOfPayload request location image left = ConsumedNothing
+ConsumedOfPayload request location image left = λ count. count ≡ 0
 
 -- what was consumed of the second input
 abbrev pub ConsumedOfSecret : Request → List ℕ → Option (List ℕ) → ℕ → Type 0
 ConsumedOfSecret (test_passphrase o) secret left = ConsumedExactly secret left
 ConsumedOfSecret (luks_cat o) secret left = ConsumedExactly secret left
 ConsumedOfSecret (af_split s) secret left = ConsumedExactly secret left
-ConsumedOfSecret _ secret left = ConsumedNothing
+ConsumedOfSecret _ secret left = λ count. count ≡ 0
 
 -- what a device has before and after a run
 pub record Change (T : Type 0) : Type 0 where
@@ -137,8 +122,7 @@ pub record Devices (In Out : Type 0) : Type 0 where
 
 -- if the inputs of a command know their bytes, and the image with the payload is not too long to be counted, the run
 -- has the outcome that is specified for those bytes, or was aborted on the way to it. (`DetachedRunMatches` counts what
--- is consumed of an image that has the payload alone; if the header is attached, there is none, and this is
--- `ConsumedNothing`.)
+-- is consumed of an image that has the payload alone; if the header is attached, there is none, and this is 0.)
 abbrev pub RunsAsSpecified : HeaderLocation → Request → Message → Devices (Option (List ℕ)) (Option (List ℕ)) → Type 0
 RunsAsSpecified location request message bytes = IfKnown bytes.input.before (λ input. (image : List ℕ)
     → KnowsPayload location request input bytes.payload.before image

@@ -24,9 +24,9 @@ use Rattle.luks_commands.specs.Headline.{CountsOpening, CountsTried, IfInputsKno
 -- whatever is done with a volume consumes at least the bytes of its image that are loaded, and the whole key file
 pub record ConsumesLoaded (secret : List ℕ) (on_opened : OnOpened) : Type 0 where
   pub loaded : (segment : Segment) (opened : Opened) (loaded : ℕ)
-      → loaded ≤ (on_opened segment opened loaded).input_consumed
+      → loaded ≤ (on_opened segment opened loaded).consumed.input
   pub whole : (segment : Segment) (opened : Opened) (loaded : ℕ)
-      → (on_opened segment opened loaded).secret_consumed ≡ length secret
+      → (on_opened segment opened loaded).consumed.secret ≡ length secret
 
 -- the volume was not opened, and the message says why: nothing was written, and the run matches the specified outcome,
 -- whatever the command would do with an open volume

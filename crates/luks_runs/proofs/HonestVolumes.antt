@@ -242,8 +242,8 @@ module _ (slots : SlotChoice) (image passphrase plain : List ℕ)
             first.are ∙ ap (λ (opened : Option Opened). ok_or opened (NoKey honest.order.skipped)) found.1,
       )
 
-  opened_is : (number : ℕ) × (volume_outcome (payload_outcome image passphrase) slots image passphrase
-      ≡ payload_outcome image passphrase honest.sealed.segment (record { slot = number; key = honest.key })
+  opened_is : (number : ℕ) × (volume_outcome (payload_outcome Attached image passphrase) slots image passphrase
+      ≡ payload_outcome Attached image passphrase honest.sealed.segment (record { slot = number; key = honest.key })
       (unlock_read_len image volume))
   opened_is =
       let sealed = honest.sealed in
@@ -251,7 +251,7 @@ module _ (slots : SlotChoice) (image passphrase plain : List ℕ)
       (is_attached image sealed.header sealed.is_header) sealed.is_segment honest.is_order in
       let within : key_material_end honest.order.entries ≤ length image =
       omega (arith, before, sealed.payload.is_stored.there) in
-      let cat = payload_outcome image passphrase in (
+      let cat = payload_outcome Attached image passphrase in (
         opens.0,
         found_is Attached slots image passphrase sealed.header sealed.segment honest.order sealed.is_header
             sealed.is_segment honest.is_order cat
@@ -260,8 +260,8 @@ module _ (slots : SlotChoice) (image passphrase plain : List ℕ)
       )
 
   -- `luksCat` writes the plaintext and succeeds
-  pub unsealed : ((volume_outcome (payload_outcome image passphrase) slots image passphrase).output ≡ plain)
-      × ((volume_outcome (payload_outcome image passphrase) slots image passphrase).message ≡ Done)
+  pub unsealed : ((volume_outcome (payload_outcome Attached image passphrase) slots image passphrase).output ≡ plain)
+      × ((volume_outcome (payload_outcome Attached image passphrase) slots image passphrase).message ≡ Done)
   unsealed =
       let sealed = honest.sealed in (
         ap (λ (out : Outcome). out.output) opened_is.1

@@ -31,14 +31,13 @@ never_failed false count = refl
 -- a run was aborted after these numbers of bytes were consumed and written
 pub aborted_at : {is_prompt : Promptness} {o : Outcome} {message : Message}
     {effects : RunEffects} (input payload secret written : ℕ) → IsPrefixLen message written (length o.output)
-    → is_prompt message input payload secret written → input ≤ o.input_consumed → payload ≤ o.payload_consumed
-    → secret ≤ o.secret_consumed → effects.input input → effects.payload payload → effects.secret secret
+    → is_prompt message (record { input = input; payload = payload; secret = secret }) written
+    → input ≤ o.consumed.input → payload ≤ o.consumed.payload → secret ≤ o.consumed.secret
+    → effects.input input → effects.payload payload → effects.secret secret
     → effects.output (take written o.output) → Aborted is_prompt o message effects
 aborted_at input payload secret written begins prompt input_within payload_within secret_within of_input of_payload
     of_secret wrote = record {
-      input_consumed = input;
-      payload_consumed = payload;
-      secret_consumed = secret;
+      consumed = record { input = input; payload = payload; secret = secret };
       output_len = written;
       input_within = input_within;
       payload_within = payload_within;
@@ -54,8 +53,9 @@ aborted_at input payload secret written begins prompt input_within payload_withi
 -- a run was aborted before anything was written
 pub aborted_unwritten : {is_prompt : Promptness} {o : Outcome} {message : Message}
     {ConsumedInput ConsumedSecret : ℕ → Type 0} {w : Option (List ℕ)} (input secret : ℕ)
-    → IsPrefixLen message 0 (length o.output) → is_prompt message input 0 secret 0
-    → input ≤ o.input_consumed → secret ≤ o.secret_consumed → ConsumedInput input → ConsumedSecret secret
+    → IsPrefixLen message 0 (length o.output)
+    → is_prompt message (record { input = input; payload = 0; secret = secret }) 0
+    → input ≤ o.consumed.input → secret ≤ o.consumed.secret → ConsumedInput input → ConsumedSecret secret
     → Aborted is_prompt o message
     (record { input = ConsumedInput; payload = ConsumedNothing; secret = ConsumedSecret; output = Appended w w })
 aborted_unwritten {w} input secret begins prompt input_within secret_within of_input of_secret =
@@ -64,13 +64,13 @@ aborted_unwritten {w} input secret begins prompt input_within secret_within of_i
 
 -- the output was printed, whole or in part, or memory for it ran out
 pub runs_printed : (o : Outcome) (ConsumedInput ConsumedSecret : ℕ → Type 0) (w w' : Option (List ℕ))
-    (message : Message) → ConsumedInput o.input_consumed → o.payload_consumed ≡ 0 → ConsumedSecret o.secret_consumed
+    (message : Message) → ConsumedInput o.consumed.input → o.consumed.payload ≡ 0 → ConsumedSecret o.consumed.secret
     → Prints o.output o.message w w' message
     → RunMatches AnyPromptness o message ConsumedInput ConsumedSecret (Appended w w')
 runs_printed o ConsumedInput ConsumedSecret w w' OutOfMemory input none secret same = rw same
-    (aborted_unwritten o.input_consumed o.secret_consumed refl tt (omega arith) (omega arith) input secret)
+    (aborted_unwritten o.consumed.input o.consumed.secret refl tt (omega arith) (omega arith) input secret)
 runs_printed o ConsumedInput ConsumedSecret w w' WriteFailed input none secret part =
-    aborted_at o.input_consumed 0 o.secret_consumed part.0 part.1 tt (omega arith) (omega arith) (omega arith) input
+    aborted_at o.consumed.input 0 o.consumed.secret part.0 part.1 tt (omega arith) (omega arith) (omega arith) input
     refl secret part.2
 runs_printed o ConsumedInput ConsumedSecret w w' ReadFailed input none secret lost = absurd lost
 runs_printed o ConsumedInput ConsumedSecret w w' _ input none secret all =

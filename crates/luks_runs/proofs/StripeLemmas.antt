@@ -89,7 +89,7 @@ module _ (h : Hash) (count : ℕ) (key random : List ℕ) where
       ≡ false = grind (arith, nat_tests) in rw none refl
 
   -- the outcome allows c bytes of the key to be consumed, if the key has them and c is at most 513
-  split_consumes_key : (c : ℕ) → c ≤ min (length key) 513 → c ≤ (split_outcome h count key random).input_consumed
+  split_consumes_key : (c : ℕ) → c ≤ min (length key) 513 → c ≤ (split_outcome h count key random).consumed.input
   unfolding split_outcome
   split_consumes_key c few = grind (arith, nat_tests)
 
@@ -108,7 +108,7 @@ module _ (h : Hash) (count : ℕ) (key random : List ℕ) where
 
 -- `consumed` random bytes may be consumed, and the specified output starts with the first `whole` ones
 record MayForward (o : Outcome) (random : List ℕ) (consumed whole : ℕ) : Type 0 where
-  within : consumed ≤ o.secret_consumed
+  within : consumed ≤ o.consumed.secret
   fits : whole ≤ length o.output
   begins : (written : ℕ) → written ≤ whole → take written o.output ≡ take written random
 
@@ -164,7 +164,7 @@ module _ (h : Hash) (count : ℕ) (key random : List ℕ) (some : 1 ≤ length k
         RunMatches (PromptSplit (length key)) (split_outcome h count key random) message (ConsumedExactly key k)
         (ConsumedExactly random r) (Appended b after)
 
-    key_whole : length key ≤ (split_outcome h count key random).input_consumed
+    key_whole : length key ≤ (split_outcome h count key random).consumed.input
     key_whole = split_consumes_key h count key random (length key) (omega arith)
 
     -- forwarding the random stripes was aborted
@@ -263,7 +263,7 @@ module _ (h : Hash) (count len : ℕ) (bytes : List ℕ) where
 
   -- merging consumes at least as many bytes as are both needed and available
   merge_consumes_within : (consumed : ℕ) → consumed ≤ count * len → consumed ≤ length bytes
-      → consumed ≤ (merge_outcome h count len bytes).input_consumed
+      → consumed ≤ (merge_outcome h count len bytes).consumed.input
   unfolding merge_outcome
   merge_consumes_within consumed needed there = grind (arith, nat_tests)
 

@@ -7,20 +7,26 @@ use Rattle.luks_report.specs.declared.message.Message.{Message}
 use Rattle.luks_report.specs.declared.message.Message.TheVariants.{OutOfMemory, ReadFailed, WriteFailed}
 use Rattle.luks_io.specs.Devices.{Appended}
 
--- the output, the message, and how many bytes are consumed of each input. `input_consumed` counts the input that is
--- read first: the image, the file with a detached header, the key, or the stripes. `payload_consumed` counts the
--- payload's image if the header is detached; otherwise it is 0, since the payload is in the image that was counted
+-- how many bytes are consumed of each input
+pub record Consumed : Type 0 where
+  -- of the input that is read first: the image, the file with a detached header, the key, or the stripes
+  pub input : ℕ
+  -- of the payload's image if the header is detached; otherwise it is 0, since the payload is in the image that was
+  -- counted
+  pub payload : ℕ
+  -- of the key file, or of the random bytes
+  pub secret : ℕ
+
+-- what a run gives: its output, its message, and how many bytes it consumes of each input
 pub record Outcome : Type 0 where
   pub output : List ℕ
   pub message : Message
-  pub input_consumed : ℕ
-  pub secret_consumed : ℕ
-  pub payload_consumed : ℕ
+  pub consumed : Consumed
 
 -- an outcome without output
 abbrev pub no_output : Message → ℕ → ℕ → Outcome
 no_output message input secret =
-    record { output = []; message = message; input_consumed = input; secret_consumed = secret; payload_consumed = 0 }
+    record { output = []; message = message; consumed = record { input = input; payload = 0; secret = secret } }
 
 -- an allocation, a read or a write failed
 abbrev pub aborts : Message → Bool
@@ -29,14 +35,14 @@ aborts ReadFailed = true
 aborts WriteFailed = true
 aborts _ = false
 
--- how promptly a run was aborted: a fact about its message, the bytes that it consumed of the first input, of the
--- payload's image and of the second input, and the length of its output
+-- how promptly a run was aborted: a fact about its message, the bytes that it consumed of each input, and the length of
+-- its output
 abbrev pub Promptness : Type 1
-Promptness = Message → ℕ → ℕ → ℕ → ℕ → Type 0
+Promptness = Message → Consumed → ℕ → Type 0
 
 -- no promptness is specified
 abbrev pub AnyPromptness : Promptness
-AnyPromptness _ _ _ _ _ = Unit {0}
+AnyPromptness _ _ _ = Unit {0}
 
 -- the output has a valid length: at most that of the specified output, less if a write failed, and none if memory ran
 -- out
@@ -54,26 +60,24 @@ pub record RunEffects : Type 1 where
 
 -- an aborted run: its output is a prefix of the specified one, and no input was consumed further than specified
 pub record Aborted (pace : Promptness) (outcome : Outcome) (message : Message) (effects : RunEffects) : Type 0 where
-  pub input_consumed : ℕ
-  pub payload_consumed : ℕ
-  pub secret_consumed : ℕ
+  pub consumed : Consumed
   pub output_len : ℕ
-  pub input_within : input_consumed ≤ outcome.input_consumed
-  pub payload_within : payload_consumed ≤ outcome.payload_consumed
-  pub secret_within : secret_consumed ≤ outcome.secret_consumed
+  pub input_within : consumed.input ≤ outcome.consumed.input
+  pub payload_within : consumed.payload ≤ outcome.consumed.payload
+  pub secret_within : consumed.secret ≤ outcome.consumed.secret
   pub output_within : IsPrefixLen message output_len (length outcome.output)
-  pub is_prompt : pace message input_consumed payload_consumed secret_consumed output_len
-  pub input : effects.input input_consumed
-  pub payload : effects.payload payload_consumed
-  pub secret : effects.secret secret_consumed
+  pub is_prompt : pace message consumed output_len
+  pub input : effects.input consumed.input
+  pub payload : effects.payload consumed.payload
+  pub secret : effects.secret consumed.secret
   pub output : effects.output (take output_len outcome.output)
 
 -- a run that was not aborted: the specified message, output and bytes consumed
 pub record Completed (outcome : Outcome) (message : Message) (effects : RunEffects) : Type 0 where
   pub as_specified : message ≡ outcome.message
-  pub input : effects.input outcome.input_consumed
-  pub payload : effects.payload outcome.payload_consumed
-  pub secret : effects.secret outcome.secret_consumed
+  pub input : effects.input outcome.consumed.input
+  pub payload : effects.payload outcome.consumed.payload
+  pub secret : effects.secret outcome.consumed.secret
   pub output : effects.output outcome.output
 
 -- the run has this outcome, or was aborted on the way to it; the payload is in another image than the header

@@ -5,7 +5,7 @@ use Rattle.luks_kdf.specs.Stripes.{merged, split_stripes}
 use Rattle.luks_kdf.specs.declared.hash.Hash.{Hash}
 use Rattle.luks_report.specs.declared.message.Message.TheVariants.{Done, KeyLength, FewRandomBytes, FewStripes}
 use Rattle.luks_report.specs.declared.message.Message.TheVariants.{ReadFailed, WriteFailed}
-use Rattle.luks_runs.specs.Run.{Outcome, no_output, is_run_read_failure}
+use Rattle.luks_runs.specs.Run.{Outcome, Promptness, no_output, is_run_read_failure}
 use Rattle.luks_io.specs.Counts.{Reads}
 use Rattle.luks_io.specs.Devices.{Appended, ConsumedExactly, ConsumedAtMost}
 use Rattle.luks_io.specs.declared.counts.ReadCounts.{ReadCounts}
@@ -85,10 +85,10 @@ AbortsReadingStripes count len known left _ = ⊥
 
 -- an aborted split: if a write fails, nothing past the stripe in which it failed was consumed; if a read fails, the
 -- whole random stripes that were consumed are written
-abbrev pub PromptSplit : ℕ → Message → ℕ → ℕ → ℕ → ℕ → Type 0
-PromptSplit len WriteFailed input payload secret output = secret ≤ (output / len + 1) * len
-PromptSplit len ReadFailed input payload secret output = output ≡ secret / len * len
-PromptSplit len _ input payload secret output = Unit {0}
+abbrev pub PromptSplit : ℕ → Promptness
+PromptSplit len WriteFailed consumed output = consumed.secret ≤ (output / len + 1) * len
+PromptSplit len ReadFailed consumed output = output ≡ consumed.secret / len * len
+PromptSplit len _ consumed output = Unit {0}
 
 -- there were too few bytes: the end of the stripes or of the random bytes was hit
 abbrev pub is_few : Message → Bool

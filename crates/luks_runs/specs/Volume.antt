@@ -2,6 +2,7 @@
 -- slot is tried, then the outcome of a run. Then what finding a volume and trying its key slots leave in the device.
 use Rattle.std.specs.Prelude.{ℕ, ◌+◌, List, length, max, nat_lt, if◌then◌else◌, Option, Result, Ok, Err, ◌≡◌, take, ◌-◌}
 use Rattle.std.specs.Prelude.{◌<◌, ◌≤◌, ◌⊎◌, min, Bool, false, true}
+use Rattle.std.specs.Result.{result_map_both}
 use Rattle.luks_header.specs.Header.{header_read_len, header_of}
 use Rattle.luks_header.specs.HeaderSegment.{segment_of}
 use Rattle.luks_header.specs.declared.header.Header.{Header}
@@ -31,6 +32,7 @@ use Rattle.luks_report.specs.declared.message.Message.{Message}
 use Rattle.luks_io.specs.Devices.{ConsumedExactly, ConsumedAtMost, IfKnown}
 use Rattle.luks_io.specs.declared.counts.ReadCounts.{ReadCounts}
 use Rattle.luks_runs.specs.declared.location.HeaderLocation.{HeaderLocation}
+use Rattle.luks_runs.specs.declared.location.HeaderLocation.TheVariants.{Attached, Detached}
 use Rattle.luks_runs.specs.declared.found.FoundVolume.{FoundVolume}
 use Rattle.luks_header.specs.Area.{AbortsConsuming, ConsumedOnto}
 use Rattle.luks_kdf.specs.Pbkdf2.{capped}
@@ -72,15 +74,11 @@ pub record Volume : Type 0 where
   pub segment : Segment
   pub order : OrderModel
 
--- the volume with this order of key slots
-abbrev pub volume_in_order : Header → Segment → Result OrderModel OpenFault → Result Volume VolumeFault
-volume_in_order header segment (Ok order) = Ok (record { header = header; segment = segment; order = order })
-volume_in_order header segment (Err fault) = Err (V.Slots fault)
-
 -- the volume with this segment
 abbrev pub volume_in_segment : SlotChoice → Header → Result Segment SegmentFault → Result Volume VolumeFault
-volume_in_segment slots header (Ok segment) =
-    volume_in_order header segment (order_of header slots.named slots.max_iterations)
+volume_in_segment slots header (Ok segment) = result_map_both
+    (λ order. record { header = header; segment = segment; order = order })
+    V.Slots (order_of header slots.named slots.max_iterations)
 volume_in_segment slots header (Err fault) = Err (V.Segment fault)
 
 -- the volume with this header, by the key slots that may be tried
@@ -112,21 +110,19 @@ abbrev pub slot_outcome : List ℕ → OnOpened
 slot_outcome secret segment opened loaded =
     record (no_output Done loaded (length secret)) { output = opened_line opened.slot }
 
--- `luksCat`: the payload is written as plaintext
-abbrev pub payload_outcome : List ℕ → List ℕ → OnOpened
-payload_outcome image secret segment opened loaded = record {
+-- `luksCat`, with a header at this location: the payload in the image is written as plaintext. If the header is
+-- detached, the image holds the payload alone
+abbrev pub payload_outcome : HeaderLocation → List ℕ → List ℕ → OnOpened
+payload_outcome Attached image secret segment opened loaded = record {
   output = plain_of segment (segment.mode, opened.key) image;
   message = message_at_end (ending_of segment image);
-  input_consumed = max loaded (payload_end_of segment image);
-  secret_consumed = length secret;
-  payload_consumed = 0;
+  consumed = record { input = max loaded (payload_end_of segment image); payload = 0; secret = length secret };
 }
-
--- `luksCat` with a detached header: the image holds the payload alone
-abbrev pub detached_payload_outcome : List ℕ → List ℕ → OnOpened
-detached_payload_outcome image secret segment opened loaded =
-    record (payload_outcome image secret segment opened loaded)
-    { input_consumed = loaded; payload_consumed = payload_end_of segment image }
+payload_outcome Detached image secret segment opened loaded = record {
+  output = plain_of segment (segment.mode, opened.key) image;
+  message = message_at_end (ending_of segment image);
+  consumed = record { input = loaded; payload = payload_end_of segment image; secret = length secret };
+}
 
 -- the outcome after the key slots were tried
 abbrev pub opened_outcome : OnOpened → Volume → List ℕ → List ℕ → Result Opened OpenFault → Outcome
@@ -139,11 +135,11 @@ opened_outcome on_opened volume image secret (Err fault) =
 -- and the key slots are tried
 unfoldable pub found_outcome : OnOpened → Volume → List ℕ → List ℕ → Outcome
 found_outcome on_opened volume image secret =
-    if nat_lt max_key_file_len (length secret) then no_output KeyFileLength (header_read_len image)
-    (max_key_file_len + 1)
-    else (if nat_lt (length image) (key_material_end volume.order.entries)
+    if nat_lt max_key_file_len (length secret)
+    then no_output KeyFileLength (header_read_len image) (max_key_file_len + 1)
+    else if nat_lt (length image) (key_material_end volume.order.entries)
     then no_output Cut (length image) (length secret)
-    else opened_outcome on_opened volume image secret (opening_of volume.order image secret))
+    else opened_outcome on_opened volume image secret (opening_of volume.order image secret)
 
 -- the outcome, whether or not a volume was found
 abbrev pub outcome_after : OnOpened → List ℕ → List ℕ → Result Volume VolumeFault → Outcome

@@ -6,6 +6,7 @@ use Rattle.luks_request.specs.Request.{volume_request}
 use Rattle.luks_runs.proofs.RunLemmas.{never_failed}
 use Rattle.luks_runs.proofs.VolumeLemmas.{message_says}
 use Rattle.luks_runs.specs.Run.{is_run_read_failure, result_message}
+use Rattle.luks_runs.specs.Volume.{payload_outcome}
 use Rattle.luks_runs.specs.declared.location.HeaderLocation.TheVariants.{Attached, Detached}
 use Rattle.luks_commands.proofs.OpenedRuns.{allows_payload, calls_without_payload}
 use Rattle.luks_commands.proofs.OpenedRuns.{consumed_no_payload, counts_forwarded}
@@ -14,7 +15,7 @@ use Rattle.luks_commands.proofs.OpenedRuns.{loaded_whole, no_write_unopened}
 use Rattle.luks_commands.proofs.OpenedRuns.{none_allowed, none_failed, payload_after}
 use Rattle.luks_commands.proofs.OpenedRuns.{payload_consumes_loaded, runs_at, runs_forwarded}
 use Rattle.luks_commands.proofs.OpenedRuns.{with_key}
-use Rattle.luks_commands.specs.Headline.{PromptCat, payload_outcome_at}
+use Rattle.luks_commands.specs.Headline.{PromptCat}
 use Rattle.luks_commands.proofs.execute.volumes.cat.Goals as goal
 
 pub returns-in_err-unlocked-clause-run : goal.returns-in_err-unlocked-clause-run
@@ -22,9 +23,9 @@ returns-in_err-unlocked-clause-run g c =
     let stop = c.in_err-unlocked.ensures in
     rw (given_error _ _ c.from_residual.ensures.1) (λ input is image knows pass has counted.
     runs_at (PromptCat c.args.location input) (PromptCat c.args.location input) _ _ _ _
-    (λ input payload secret output prompt. prompt)
+    (λ consumed output prompt. prompt)
     (consumed_no_payload c.args.location (volume_request c.args.args.now) input image _ knows)
-    (stop.err input is pass has (payload_outcome_at c.args.location image pass)
+    (stop.err input is pass has (payload_outcome c.args.location image pass)
     (payload_consumes_loaded c.args.location image pass) _))
 
 pub returns-in_err-unlocked-clause-calls : goal.returns-in_err-unlocked-clause-calls

@@ -9,7 +9,7 @@ use Rattle.luks_commands.proofs.execute.volumes.test_passphrase.Goals as goal
 pub returns-in_err-unlocked-clause-run : goal.returns-in_err-unlocked-clause-run
 returns-in_err-unlocked-clause-run g c =
     rw (given_error _ _ c.from_residual.ensures.1) (λ known is pass has.
-    runs_at _ AnyPromptness _ _ _ ConsumedNothing (λ input payload secret output is. tt)
+    runs_at _ AnyPromptness _ _ _ ConsumedNothing (λ consumed output is. tt)
     (λ count none. none)
     (c.in_err-unlocked.ensures.err known is pass has (slot_outcome pass) (slot_consumes_loaded pass) _))
 
