@@ -11,7 +11,7 @@ use Rattle.std.proofs.lemmas.Iterator.{YieldsList}
 use Rattle.std.proofs.lemmas.Iterator.Consumers.{YieldsList-from_shown}
 use Rattle.std.proofs.lemmas.Bool.{cases_lt}
 use Rattle.std.proofs.lemmas.List.{take_more}
-use Rattle.luks2_json.specs.List.{listed, strings_among}
+use Rattle.luks2_json.specs.List.{items_listed, strings_among}
 use Rattle.luks2_json.specs.Numbered.{any_name, is_number_below, lowest}
 use Rattle.serde_json.specs.Data.{Data}
 use Rattle.serde_json.specs.Find.{as_str}
@@ -21,12 +21,12 @@ use Rattle.serde_json.specs.declared.value.Value.{Value}
 -- ---- items of arrays
 
 pub list_all-items : (test : Data → Bool) (values : List Value)
-    → list_all (λ value. test (view value)) values ≡ list_all test (listed (items_view values))
+    → list_all (λ value. test (view value)) values ≡ list_all test (items_listed (items_view values))
 list_all-items test [] = refl
 list_all-items test (value ∷ rest) = ap (λ others. test (view value) && others) (list_all-items test rest)
 
 pub list_any-items : (test : Data → Bool) (values : List Value)
-    → list_any (λ value. test (view value)) values ≡ list_any test (listed (items_view values))
+    → list_any (λ value. test (view value)) values ≡ list_any test (items_listed (items_view values))
 list_any-items test [] = refl
 list_any-items test (value ∷ rest) = ap (λ others. test (view value) || others) (list_any-items test rest)
 

@@ -7,9 +7,9 @@ use Rattle.serde_json.specs.Data.{Data, Items, no_items, item}
 use Rattle.serde_json.specs.Find.{as_array, as_str}
 
 -- the items of an array, as a list
-abbrev pub listed : Items → List Data
-listed no_items = []
-listed (item value rest) = value ∷ listed rest
+abbrev pub items_listed : Items → List Data
+items_listed no_items = []
+items_listed (item value rest) = value ∷ items_listed rest
 
 -- the value is a string
 abbrev pub is_string : Data → Bool
@@ -26,12 +26,12 @@ strings_among (item value rest) = cons_option (as_str value) (strings_among rest
 
 -- there is an array under this name, and all its items are strings
 unfoldable pub has_strings : List ℕ → Data → Bool
-has_strings name owner = option_map_or (λ all. list_all is_string (listed all)) (in_member name as_array owner) false
+has_strings name owner = option_map_or (λ all. list_all is_string (items_listed all)) (in_member name as_array owner) false
 
 -- there is an array under this name, and it contains the string
 unfoldable pub array_contains : List ℕ → List ℕ → Data → Bool
 array_contains name text owner =
-    option_map_or (λ all. list_any (is_the_string text) (listed all)) (in_member name as_array owner) false
+    option_map_or (λ all. list_any (is_the_string text) (items_listed all)) (in_member name as_array owner) false
 
 -- the strings in the array under this name
 unfoldable pub strings_at : List ℕ → Data → List (List ℕ)

@@ -2,7 +2,7 @@
 
 ghost use Rattle.std.specs.Prelude.{◌≡◌, ◌++◌, [], IfOk, OnOk, List, ℕ, map, string_bytes};
 ghost use Rattle.std.specs.List.{cons_option, list_all, list_any};
-ghost use Rattle.luks2_json.specs.List.{has_strings, is_string, is_the_string, listed};
+ghost use Rattle.luks2_json.specs.List.{has_strings, is_string, is_the_string, items_listed};
 ghost use Rattle.luks2_json.specs.List.{array_contains, strings_among, strings_at};
 ghost use Rattle.serde_json.specs.Find.{as_str};
 ghost use Rattle.serde_json.specs.View.{items_view, view as data_of};
@@ -23,14 +23,14 @@ fn is_the_string(value: &Value, text: &str) -> bool
 
 // All items of the array are strings.
 fn all_strings(values: &[Value]) -> bool
-    ensures { result ≡ list_all is_string (listed (items_view values.now)) }
+    ensures { result ≡ list_all is_string (items_listed (items_view values.now)) }
 {
     values.iter().all(|value| value.is_string())
 }
 
 // Some item of the array is this string.
 fn any_string(values: &[Value], text: &str) -> bool
-    ensures { result ≡ list_any (is_the_string text.now) (listed (items_view values.now)) }
+    ensures { result ≡ list_any (is_the_string text.now) (items_listed (items_view values.now)) }
 {
     values.iter().any(|value| is_the_string(value, text))
 }
