@@ -26,7 +26,8 @@ strings_among (item value rest) = cons_option (as_str value) (strings_among rest
 
 -- there is an array under this name, and all its items are strings
 unfoldable pub has_strings : List ℕ → Data → Bool
-has_strings name owner = option_map_or (λ all. list_all is_string (items_listed all)) (in_member name as_array owner) false
+has_strings name owner =
+    option_map_or (λ all. list_all is_string (items_listed all)) (in_member name as_array owner) false
 
 -- there is an array under this name, and it contains the string
 unfoldable pub array_contains : List ℕ → List ℕ → Data → Bool

@@ -7,14 +7,16 @@ returns-in-Ok-clause-ok g c =
     IfOk-weaker c.audit_open-shown.result _ _ (λ state audited.
     file_opened c.args.policy c.args.scope c.args.file.now g.H.Image.Source.to_come
     (g.H.Images.stored c.args.host.now c.args.file.now) c.in-Ok.image _ _ _ _ _ _ _ _ state
-    c.in-Ok.ensures.image c.in-Ok.ensures.unread c.in-Ok.ensures.failures c.close.ensures.failures audited) c.audit_open-shown.ensures.ok
+    c.in-Ok.ensures.image c.in-Ok.ensures.unread c.in-Ok.ensures.failures c.close.ensures.failures audited)
+    c.audit_open-shown.ensures.ok
 
 pub returns-in-Ok-clause-err : goal.returns-in-Ok-clause-err
 returns-in-Ok-clause-err g c =
     on_err_weaker c.audit_open-shown.result (λ audited.
     file_opened_part c.args.policy c.args.scope c.args.file.now g.H.Image.Source.to_come
     (g.H.Images.stored c.args.host.now c.args.file.now) c.in-Ok.image _ _ _ _ _ _ _
-    c.in-Ok.ensures.image c.in-Ok.ensures.unread c.in-Ok.ensures.failures c.close.ensures.failures audited) c.audit_open-shown.ensures.err
+    c.in-Ok.ensures.image c.in-Ok.ensures.unread c.in-Ok.ensures.failures c.close.ensures.failures audited)
+    c.audit_open-shown.ensures.err
 
 pub returns-in-Err-clause-ok : goal.returns-in-Err-clause-ok
 returns-in-Err-clause-ok g c =

@@ -17,8 +17,8 @@ enum Change {
     Numbers(&'static [(usize, u32)]),
 }
 
-// The numbers of a usual volume: slot 0 alone is in use. The key material is then not the split of a
-// key.
+// The numbers of a usual volume: slot 0 alone is in use. The key material is then not the split of
+// a key.
 const USUAL: Change = Change::Numbers(&USUAL_NUMBERS);
 
 /// Which slot opens, with the volume's key; or none, and these are skipped.
