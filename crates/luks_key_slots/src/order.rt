@@ -50,7 +50,7 @@ impl Order {
 
 /// The number of the image's first bytes that must be loaded to try these key slots: up to the end
 /// of the last key material. At most 33,554,432.
-pub fn held_end(order: &Order) -> usize
+pub fn key_material_end(order: &Order) -> usize
     ensures value { result ≡ key_material_end order.now.entries }
     ensures within { result ≤ max_loaded_len }
 {

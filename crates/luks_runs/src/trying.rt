@@ -14,7 +14,7 @@ use luks_io::source::Source;
 use luks_kdf::Work;
 use luks_key_slots::fault::VolumeFault;
 use luks_key_slots::opening::open;
-use luks_key_slots::order::held_end;
+use luks_key_slots::order::key_material_end;
 
 /// Tries the key slots of a volume under a passphrase, after reading on in the image up to the end
 /// of the last key material. Nothing is read if EOF was hit on the image before. If all key
@@ -50,7 +50,7 @@ pub fn try_slots<I: Source>(
     ensures area { IfOk result (λ _. volume.new.area.ended ≡ volume.old.area.ended) }
 {
     let segment = volume.segment;
-    let end = held_end(&volume.order);
+    let end = key_material_end(&volume.order);
     if is_cut(&volume.area, end) {
         return Err(VolumeFault::KeyAreaCut);
     }

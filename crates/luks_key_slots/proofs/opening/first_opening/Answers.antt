@@ -1,6 +1,6 @@
 use Rattle.std.proofs.Common.{◌≡◌, ◌∙◌, None, Some, sym}
 use Rattle.luks_key_slots.specs.Opening.{slot_key}
-use Rattle.luks_key_slots.proofs.CallerLemmas.{none_opens, one_opens, one_unopened}
+use Rattle.luks_key_slots.proofs.TrialLemmas.{none_opens, one_opens, one_unopened}
 use Rattle.luks_key_slots.proofs.opening.first_opening.Goals as goal
 
 pub returns-in-Some-clause-value : goal.returns-in-Some-clause-value

@@ -1,4 +1,4 @@
-use Rattle.luks_key_slots.proofs.CallerLemmas.{NoneOpenedBefore}
+use Rattle.luks_key_slots.proofs.TrialLemmas.{NoneOpenedBefore}
 use Rattle.luks_key_slots.proofs.opening.first_opening.Given as goal
 
 -- none of the earlier key slots opened

@@ -7,18 +7,18 @@ use Rattle.luks_runs.proofs.trying.try_slots.Goals as goal
 pub returns-in_err-extend_to-clause-run : goal.returns-in_err-extend_to-clause-run
 returns-in_err-extend_to-clause-run g c =
     rw (given_error _ _ c.from_residual.ensures.1) (λ rest there nothing.
-    rw c.held_end-end.ensures.value at (c.in_err-extend_to.ensures.consumed rest there))
+    rw c.key_material_end-end.ensures.value at (c.in_err-extend_to.ensures.consumed rest there))
 
 pub returns-in_err-extend_to-clause-work : goal.returns-in_err-extend_to-clause-work
 returns-in_err-extend_to-clause-work g c =
     rw (given_error _ _ c.from_residual.ensures.1)
-    (inr (rw c.held_end-end.ensures.value at c.in_err-extend_to.ensures.loads.fewer, refl, refl))
+    (inr (rw c.key_material_end-end.ensures.value at c.in_err-extend_to.ensures.loads.fewer, refl, refl))
 
 pub returns-then-not-branch-clause-work : goal.returns-then-not-branch-clause-work
 returns-then-not-branch-clause-work g c =
     let whole = c.in_ok-extend_to.ensures.loads.whole in
     inr (
-      rw c.held_end-end.ensures.value at
+      rw c.key_material_end-end.ensures.value at
           (short_from_not_whole c.in_ok-extend_to.field-0 _ _ whole c.if-not-branch.true),
       refl,
       refl,
@@ -26,22 +26,22 @@ returns-then-not-branch-clause-work g c =
 
 pub returns-then-is_cut-clause-work : goal.returns-then-is_cut-clause-work
 returns-then-is_cut-clause-work g c =
-    inr (rw c.held_end-end.ensures.value at (c.is_cut.ensures.cut c.if-is_cut.true).1, refl, refl)
+    inr (rw c.key_material_end-end.ensures.value at (c.is_cut.ensures.cut c.if-is_cut.true).1, refl, refl)
 
 pub returns-then-not-branch-clause-run : goal.returns-then-not-branch-clause-run
 returns-then-not-branch-clause-run g c rest there nothing =
-    let end = c.held_end-end.ensures.value in
+    let end = c.key_material_end-end.ensures.value in
     let whole = c.in_ok-extend_to.ensures.loads.whole in
     let few = short_from_not_whole c.in_ok-extend_to.field-0 _ _ whole c.if-not-branch.true in
     (rw end at (c.in_ok-extend_to.ensures.consumed rest there), rw end at few)
 
 pub open-requires-clause-loaded : goal.open-requires-clause-loaded
 open-requires-clause-loaded g c =
-    rw c.held_end-end.ensures.value at (c.in_ok-extend_to.ensures.loads.whole.0 c.if-not-branch.false)
+    rw c.key_material_end-end.ensures.value at (c.in_ok-extend_to.ensures.loads.whole.0 c.if-not-branch.false)
 
 pub returns-clause-run : goal.returns-clause-run
 returns-clause-run g c rest there nothing =
-    let end = c.held_end-end.ensures.value in (
+    let end = c.key_material_end-end.ensures.value in (
       rw end at (c.in_ok-extend_to.ensures.consumed rest there),
       rw end at (c.in_ok-extend_to.ensures.loads.whole.0 c.if-not-branch.false),
       c.new.ensures.segment,
@@ -50,20 +50,20 @@ returns-clause-run g c rest there nothing =
 
 pub returns-clause-work : goal.returns-clause-work
 returns-clause-work g c = inl (
-  rw c.held_end-end.ensures.value at (c.in_ok-extend_to.ensures.loads.whole.0 c.if-not-branch.false),
+  rw c.key_material_end-end.ensures.value at (c.in_ok-extend_to.ensures.loads.whole.0 c.if-not-branch.false),
   c.open.ensures.work,
 )
 
 pub returns-in_err-opened-clause-work : goal.returns-in_err-opened-clause-work
 returns-in_err-opened-clause-work g c = inl (
-  rw c.held_end-end.ensures.value at (c.in_ok-extend_to.ensures.loads.whole.0 c.if-not-branch.false),
+  rw c.key_material_end-end.ensures.value at (c.in_ok-extend_to.ensures.loads.whole.0 c.if-not-branch.false),
   c.open.ensures.work,
 )
 
 pub returns-in_err-opened-clause-run : goal.returns-in_err-opened-clause-run
 returns-in_err-opened-clause-run g c = rw (given_error _ _ c.from_residual-in_err-opened.ensures.1)
     (λ rest there nothing.
-    let end = c.held_end-end.ensures.value in (
+    let end = c.key_material_end-end.ensures.value in (
       rw end at (c.in_ok-extend_to.ensures.consumed rest there),
       rw end at (c.in_ok-extend_to.ensures.loads.whole.0 c.if-not-branch.false),
       sym c.in_err-opened.ensures.value,
@@ -74,7 +74,7 @@ pub returns-then-is_cut-clause-run : goal.returns-then-is_cut-clause-run
 returns-then-is_cut-clause-run g c rest there nothing =
     let cut = c.is_cut.ensures.cut c.if-is_cut.true in
     let none = none_after_end c.args.volume.now.area.bytes rest _ _ there (nothing cut.0) in
-    (none, rw c.held_end-end.ensures.value at cut.1)
+    (none, rw c.key_material_end-end.ensures.value at cut.1)
 
 -- EOF was hit on the image before, and all key areas are loaded
 pub returns-in_err-extend_to-clause-ended : goal.returns-in_err-extend_to-clause-ended

@@ -5,7 +5,7 @@ use luks_header::header::{Header, read_header};
 use luks_header::refusal::SkipReason;
 use luks_io::memory::MemSource;
 use luks_key_slots::fault::OpenFault;
-use luks_key_slots::order::{Order, held_end};
+use luks_key_slots::order::{Order, key_material_end};
 use luks_key_slots::ordering::order;
 use luks_test_support::scarce::Scarcity;
 use std::alloc::Global;
@@ -88,7 +88,7 @@ fn has_slots(order: &Order, slots: &[u8]) -> bool {
 fn is_expected(answer: &Result<Order, OpenFault>, expected: &Expected) -> bool {
     match (answer, expected) {
         (Ok(order), Expected::Slots(slots, end)) => {
-            has_slots(order, slots) && held_end(order) == *end
+            has_slots(order, slots) && key_material_end(order) == *end
         }
         (Err(OpenFault::NothingTried(slots)), Expected::NothingTried(skipped)) => {
             slots.as_slice() == *skipped

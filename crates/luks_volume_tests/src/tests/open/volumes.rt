@@ -15,7 +15,7 @@ use luks_io::memory::MemSource;
 use luks_kdf::Work;
 use luks_key_slots::fault::OpenFault;
 use luks_key_slots::opening::{Opened, open};
-use luks_key_slots::order::held_end;
+use luks_key_slots::order::key_material_end;
 use luks_key_slots::ordering::order;
 use std::process::Abort;
 
@@ -92,7 +92,7 @@ fn opened(
         Ok(order) => order,
         Err(fault) => return Err(fault),
     };
-    let Ok(true) = area.extend_to(source, held_end(&order)) else {
+    let Ok(true) = area.extend_to(source, key_material_end(&order)) else {
         panic!(rt; "the image is cut");
     };
     open(header, area, &order, question.pass, work)

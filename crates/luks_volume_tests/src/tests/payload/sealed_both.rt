@@ -12,7 +12,7 @@ use luks_io::memory::MemSource;
 use luks_kdf::{Hash, Work};
 use luks_key_slots::fault::OpenFault;
 use luks_key_slots::opening::{Opened, open};
-use luks_key_slots::order::held_end;
+use luks_key_slots::order::key_material_end;
 use luks_key_slots::ordering::order;
 use luks_payload::pump::Pump;
 use luks_payload::state::Step;
@@ -70,7 +70,7 @@ fn opened(
     let Ok(order) = order(rt.alloc(), header, named, None) else {
         panic!(rt; "nothing is tried");
     };
-    let Ok(true) = area.extend_to(source, held_end(&order)) else {
+    let Ok(true) = area.extend_to(source, key_material_end(&order)) else {
         panic!(rt; "the image is cut");
     };
     open(header, area, &order, pass, &mut Work::new(0))

@@ -2,7 +2,7 @@ use Rattle.std.proofs.Common.{◌≡◌, drop, ap, arith}
 use Rattle.std.proofs.lemmas.List.{drop_all}
 use Rattle.luks_key_slots.specs.Opening.{key_material_end}
 use Rattle.luks_key_slots.proofs.CallerLemmas.{key_material_end-drop, key_material_end-within}
-use Rattle.luks_key_slots.proofs.order.held_end.Goals as goal
+use Rattle.luks_key_slots.proofs.order.key_material_end.Goals as goal
 
 pub overflow_add-slot : goal.overflow_add-slot
 overflow_add-slot c =
