@@ -1,30 +1,27 @@
 -- How many bytes of an image or detached header are consumed to open its volume.
-use Rattle.std.proofs.Common.{◌≡◌, ℕ, inl, inr, List, Option, Result, Ok, Err, ◌∙◌, ap, refl, take, drop}
-use Rattle.std.proofs.Common.{length, Bool, true, false, arith, min, ◌+◌, ◌-◌, ◌≤◌}
-use Rattle.std.proofs.lemmas.Bool.{cases_lt}
+use Rattle.std.proofs.Common.{◌≡◌, ℕ, inl, inr, List, Option, Result, Ok, Err, ◌∙◌, ap, take, drop}
+use Rattle.std.proofs.Common.{length, Bool, true, false, arith, ◌+◌, ◌-◌, ◌≤◌}
 use Rattle.std.specs.Prelude.{MatchBool}
 use Rattle.luks_header_area.specs.Area.{AbortsConsuming}
 use Rattle.luks_header_area.specs.declared.fault.HeaderFault.{HeaderFault}
 use Rattle.luks_header_area.specs.declared.fault.HeaderFault.TheVariants.{Read as HeaderRead, Memory as HeaderMemory}
 use Rattle.luks_header.specs.Header.{header_read_len}
 use Rattle.luks_io.specs.Devices.{ConsumedAtMost, ConsumedExactly}
-use Rattle.luks_key_slots.specs.Opening.{key_material_end, opening_of}
-use Rattle.luks_key_slots.specs.declared.fault.OpenFault.{OpenFault}
+use Rattle.luks_key_slots.specs.Opening.{key_material_end}
 use Rattle.luks_key_slots.specs.Fault.{aborts_opening, has_fault}
 use Rattle.luks_key_slots.specs.declared.fault.OpenFault.TheVariants.{Memory}
 use Rattle.luks_key_slots.specs.declared.fault.VolumeFault.{VolumeFault}
 use Rattle.luks_key_slots.specs.declared.fault.VolumeFault.TheVariants.{Header as HeaderNotRead, KeyAreaCut, Passphrase}
 use Rattle.luks_key_slots.specs.declared.fault.VolumeFault.TheVariants.{Slots}
-use Rattle.luks_key_slots.specs.declared.opening.Opened.{Opened}
 use Rattle.luks_runs.proofs.RunLemmas.{header_read_len_within}
 use Rattle.luks_runs.specs.KeyFile.{max_key_file_len}
 use Rattle.luks_runs.specs.Location.{reader_for}
 use Rattle.luks_runs.specs.Run.{Outcome}
 use Rattle.luks_runs.proofs.VolumeLemmas.{area_cut, area_loaded, area_more, found_cut, found_is, found_long}
-use Rattle.luks_runs.proofs.VolumeLemmas.{found_whole, outcome_is, prefix_length, tried_is}
+use Rattle.luks_runs.proofs.VolumeLemmas.{area_within, header_read_len_consumed, outcome_is, prefix_length}
+use Rattle.luks_runs.proofs.VolumeLemmas.{slot_consumes_loaded, tried_is}
 use Rattle.luks_runs.specs.Volume.{FindsNoVolume, MatchesHeader, OnOpened, Volume, found_outcome}
-use Rattle.luks_runs.specs.Volume.{opened_of, opened_outcome, outcome_after, slot_outcome, unlock_read_len, volume_by}
-use Rattle.luks_runs.specs.Volume.{volume_outcome_by}
+use Rattle.luks_runs.specs.Volume.{opened_of, slot_outcome, unlock_read_len}
 use Rattle.luks_runs.specs.declared.found.FoundVolume.{FoundVolume}
 use Rattle.luks_runs.specs.declared.unlocked.UnlockedVolume.{UnlockedVolume}
 use Rattle.luks_access.specs.Opens.{ConsumesToOpen, UnlocksVolume, open_read_len}
@@ -48,36 +45,9 @@ module _ (options : Options) (image pass : List ℕ) where
       by true = (n, omega (arith, is), consumed)
       by false = rw is consumed
 
-  module _ (v : Volume) where
-    slot_consumed : (r : Result Opened OpenFault)
-        → consumed_of (opened_outcome on_slot v image pass r) ≡ unlock_read_len image v
-    slot_consumed (Ok opened) = refl
-    slot_consumed (Err fault) = refl
-
-    -- with a passphrase that is not too long: up to the end of the last key material, or the image's own end
-    found_least : length pass ≤ max_key_file_len → min (length image) (unlock_read_len image v)
-        ≤ consumed_of (found_outcome on_slot v image pass)
-    found_least short = elim (cases_lt (length image) (key_material_end v.order.entries)) [
-      | inl few ↦ rw (found_cut on_slot v image pass short few) (omega arith)
-      | inr enough ↦
-          let all = slot_consumed (opening_of v.order image pass) in
-          rw (found_whole on_slot v image pass short enough) (omega (arith, all))
-    ]
-
-    header_consumed : header_read_len image ≤ consumed_of (found_outcome on_slot v image pass)
-    header_consumed = elim (cases_lt max_key_file_len (length pass)) [
-      | inl long ↦ rw (found_long on_slot v image pass long) (omega arith)
-      | inr short ↦ omega (arith, found_least short, header_read_len_within image)
-    ]
-
   header_least : header_read_len image ≤ open_read_len options image pass
-  unfolding volume_outcome_by
-  header_least = after (volume_by (reader_for options.location) options.slots image)
-    where
-      after : (r : Result Volume VolumeFault)
-          → header_read_len image ≤ consumed_of (outcome_after on_slot image pass r)
-      after (Ok v) = header_consumed v
-      after (Err fault) = omega arith
+  header_least =
+      header_read_len_consumed options.location options.slots image pass on_slot (slot_consumes_loaded pass)
 
   -- no volume was found
   pub consumed_unfound : (fault : VolumeFault) (left : Option (List ℕ))
@@ -113,7 +83,7 @@ module _ (options : Options) (image pass : List ℕ) where
         let more = area_more image volume.area.bytes area' left 0 prefix n grows in
         let start = prefix_length image volume.area.bytes area' left 0 prefix in (
           header_read_len image + n,
-          omega (arith, few, start, found_consumed, found_least described short, more.1.within),
+          omega (arith, few, start, found_consumed, (area_within on_slot described image pass (slot_consumes_loaded pass) short).0, more.1.within),
           more.1,
         )
     aborted_by short HeaderMemory grows =

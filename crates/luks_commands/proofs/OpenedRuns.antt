@@ -19,13 +19,13 @@ use Rattle.luks_runs.specs.Run.{Consumed, Outcome, Prints, Aborted, AnyPromptnes
 use Rattle.luks_runs.specs.Run.{DetachedRunMatches, Promptness, RunEffects, RunMatches, aborts, is_run_read_failure}
 use Rattle.luks_runs.specs.Run.{is_run_write_failure}
 use Rattle.luks_runs.specs.Volume.{payload_outcome, slot_outcome, volume_outcome, volume_outcome_by}
-use Rattle.luks_runs.specs.Volume.{HitsMaterialEof, OpeningMessage}
+use Rattle.luks_runs.specs.Volume.{ConsumesLoaded, HitsMaterialEof, OpeningMessage}
 use Rattle.luks_request.specs.Request.{Request, VolumeRequest, luks_cat}
 use Rattle.luks_commands.specs.Headline.{CatAllows, Change, ConsumedAtLeast, ConsumedOfPayload, CountsCalls}
 use Rattle.luks_commands.specs.Headline.{CountsReads}
 use Rattle.luks_commands.specs.Headline.{CountsTried, EndsWithoutKey, KnowsPayload, PromptCat, ReadsOnce, ReadsPayload}
 use Rattle.luks_commands.specs.Headline.{Trial}
-use Rattle.luks_commands.specs.Unlocking.{ConsumesLoaded, Unlocks}
+use Rattle.luks_commands.specs.Unlocking.{Unlocks}
 use Rattle.luks_runs.specs.Location.{reader_for, detached_header_of}
 use Rattle.luks_runs.specs.declared.location.HeaderLocation.{HeaderLocation}
 use Rattle.luks_runs.specs.declared.unlocked.UnlockedVolume.{UnlockedVolume}
@@ -42,10 +42,6 @@ use Rattle.luks_io.specs.Counts.{Reads, Writes, allowed_to}
 use Rattle.luks_io.specs.declared.counts.ReadCounts.{ReadCounts}
 use Rattle.luks_io.specs.declared.counts.WriteCounts.{WriteCounts}
 use Rattle.luks_runs.proofs.VolumeLemmas.{reads_on}
-
-pub slot_consumes_loaded : (secret : List ℕ) → ConsumesLoaded secret (slot_outcome secret)
-slot_consumes_loaded secret =
-    record { loaded = λ segment opened loaded. omega arith; whole = λ segment opened loaded. refl }
 
 -- a run also matches with a promptness that follows from its own, and with a fact on the payload's image that does
 pub runs_at : (is_prompt is_prompt' : Promptness) (out : Outcome) (message : Message) (effects : RunEffects)

@@ -1,8 +1,7 @@
 -- How the commands on volumes end if their volume is not opened, and what holds if it is.
 use Rattle.std.proofs.Common.{◌≡◌, ℕ, ◌+◌, ◌-◌, ◌<◌, ◌≤◌, inl, inr, List, Option, Some, Result, Ok, Err, ◌∙◌, ap, sym}
-use Rattle.std.proofs.Common.{refl, take, drop, length, max, min, arith, ◌*◌}
+use Rattle.std.proofs.Common.{refl, take, drop, length, max, arith, ◌*◌}
 use Rattle.std.proofs.Common.{◌/◌, length-take, false, true, is_err, ◌⊎◌}
-use Rattle.std.proofs.lemmas.Bool.{cases_lt}
 use Rattle.luks_header.specs.Area.{AbortsConsuming, ConsumedOnto}
 use Rattle.luks_header.specs.Header.{header_read_len, header_of}
 use Rattle.luks_header.specs.HeaderSegment.{segment_of}
@@ -21,10 +20,10 @@ use Rattle.luks_key_slots.specs.declared.fault.VolumeFault.TheVariants.{Header a
 use Rattle.luks_key_slots.specs.declared.fault.VolumeFault.TheVariants.{Slots}
 use Rattle.luks_key_slots.specs.declared.opening.Opened.{Opened}
 use Rattle.luks_runs.proofs.VolumeLemmas.{area_cut, area_loaded, area_more, found_cut, found_is, found_long}
-use Rattle.luks_runs.proofs.VolumeLemmas.{found_whole, message_says, prefix_length, outcome_is, tried_is, volume_is}
-use Rattle.luks_runs.proofs.VolumeLemmas.{volume_with}
+use Rattle.luks_runs.proofs.VolumeLemmas.{message_says, prefix_length, outcome_is, tried_is, volume_is}
+use Rattle.luks_runs.proofs.VolumeLemmas.{area_within, found_within, header_read_len_consumed, volume_with}
 use Rattle.luks_report.specs.Faults.{message_for_header, message_for_passphrase, message_for_slots, message_for_volume}
-use Rattle.luks_runs.specs.Volume.{OnOpened, found_outcome, opened_outcome, outcome_after, volume_outcome_by, Volume}
+use Rattle.luks_runs.specs.Volume.{OnOpened, found_outcome, opened_outcome, volume_outcome_by, Volume}
 use Rattle.luks_runs.specs.Volume.{unlock_read_len, volume_by, ConsumedMaterial, CountsTrials, SlotsTrial, TriesSlots}
 use Rattle.luks_runs.specs.Volume.{opened_of}
 use Rattle.luks_request.specs.declared.command.SlotChoice.{SlotChoice}
@@ -34,8 +33,8 @@ use Rattle.luks_io.proofs.EffectLemmas.{appended-none, consumed-none}
 use Rattle.luks_io.specs.Devices.{Appended, ConsumedAtMost, ConsumedExactly, counted}
 use Rattle.luks_runs.specs.KeyFile.{NoKeyFileRead, max_key_file_len}
 use Rattle.luks_commands.specs.Headline.{CountsTried, EndsUntried, PromptCat, PromptForwarding, Trial}
-use Rattle.luks_commands.specs.Unlocking.{ConsumesLoaded, UnlockEffect, Unlocks}
-use Rattle.luks_runs.specs.Volume.{ends_untried, FindsNoVolume, HasSegmentBy}
+use Rattle.luks_commands.specs.Unlocking.{UnlockEffect, Unlocks}
+use Rattle.luks_runs.specs.Volume.{ConsumesLoaded, ends_untried, FindsNoVolume, HasSegmentBy}
 use Rattle.luks_runs.specs.declared.unlocked.UnlockedVolume.{UnlockedVolume}
 use Rattle.luks_runs.specs.Location.{reader_for, HeaderReader}
 use Rattle.luks_runs.specs.declared.location.HeaderLocation.{HeaderLocation}
@@ -86,39 +85,6 @@ prompt_before_payload Attached image message a b segment has early = λ other is
     (rw (same_segment_by header_of image segment other has is) (early refl))
 prompt_before_payload Detached image message a b segment has early =
     λ other is. prompt_early other 0 message 0 (omega arith)
-
--- ---- how much is consumed of a volume that was found
-
-module _ (on_opened : OnOpened) (v : Volume) (image secret : List ℕ)
-    (consumes : ConsumesLoaded secret on_opened) where
-  opened_within : (r : Result Opened OpenFault)
-      → (unlock_read_len image v ≤ (opened_outcome on_opened v image secret r).consumed.input)
-      × (length secret ≤ (opened_outcome on_opened v image secret r).consumed.secret)
-  opened_within (Ok opened) =
-      let n = unlock_read_len image v in
-      (consumes.loaded v.segment opened n, omega (arith, consumes.whole v.segment opened n))
-  opened_within (Err fault) = (omega arith, omega arith)
-
-  -- a key file that is not too long is consumed whole, and at least the loaded bytes of the image are consumed
-  area_within : length secret ≤ max_key_file_len
-      → (min (length image) (unlock_read_len image v) ≤ (found_outcome on_opened v image secret).consumed.input)
-      × (length secret ≤ (found_outcome on_opened v image secret).consumed.secret)
-  area_within short = elim (cases_lt (length image) (key_material_end v.order.entries)) [
-    | inl few ↦ rw (found_cut on_opened v image secret short few) (omega arith, omega arith)
-    | inr enough ↦
-        let all = opened_within (opening_of v.order image secret) in
-        rw (found_whole on_opened v image secret short enough) (omega (arith, all.0), all.1)
-  ]
-
-  -- at least the header is consumed, and at least as much of the key file as is ever read of it
-  found_within : (header_read_len image ≤ (found_outcome on_opened v image secret).consumed.input)
-      × (min (length secret) (max_key_file_len + 1) ≤ (found_outcome on_opened v image secret).consumed.secret)
-  found_within = elim (cases_lt max_key_file_len (length secret)) [
-    | inl long ↦ rw (found_long on_opened v image secret long) (omega arith, omega arith)
-    | inr short ↦
-        let all = area_within short in
-        (omega (arith, all.0, header_read_len_within image), omega (arith, all.1))
-  ]
 
 -- ---- how many evaluations of HMAC a run needs
 
@@ -185,28 +151,22 @@ module _ (location : HeaderLocation) (slots : SlotChoice) (image pass : List ℕ
       (ConsumedExactly image i) (ConsumedExactly pass s) (Appended w w)
 
   module _ (on_opened : OnOpened) (consumes : ConsumesLoaded pass on_opened) where
-    header_read_len_consumed : header_read_len image
+    header_consumed : header_read_len image
         ≤ (volume_outcome_by (reader_for location) on_opened slots image pass).consumed.input
-    unfolding volume_outcome_by
-    header_read_len_consumed = after (volume_by (reader_for location) slots image)
-      where
-        after : (r : Result Volume VolumeFault)
-            → header_read_len image ≤ (outcome_after on_opened image pass r).consumed.input
-        after (Ok v) = (found_within on_opened v image pass consumes).0
-        after (Err fault) = omega arith
+    header_consumed = header_read_len_consumed location slots image pass on_opened consumes
 
     -- memory ran out before a volume was found
     out_of_memory : ConsumedAtMost image i (header_read_len image) → s ≡ Some pass → Matches on_opened OutOfMemory
     out_of_memory stop whole =
         aborted_unwritten stop.0 0 refl (prompt_in_header location image OutOfMemory stop.0 0 stop.1)
-        (omega (arith, stop.1, header_read_len_consumed)) (omega arith) stop.2 (consumed-none pass s whole)
+        (omega (arith, stop.1, header_consumed)) (omega arith) stop.2 (consumed-none pass s whole)
 
     -- no volume was found, or reading the header failed
     pub runs_without_volume : (fault : VolumeFault) → FindsNoVolume (reader_for location) slots image i fault
         → s ≡ Some pass → Matches on_opened (message_for_volume fault)
     runs_without_volume (HeaderNotRead HeaderRead) stop whole =
         aborted_unwritten stop.0 0 (omega arith) (prompt_in_header location image ReadFailed stop.0 0 stop.1)
-        (omega (arith, stop.1, header_read_len_consumed)) (omega arith) stop.2 (consumed-none pass s whole)
+        (omega (arith, stop.1, header_consumed)) (omega arith) stop.2 (consumed-none pass s whole)
     runs_without_volume (HeaderNotRead HeaderMemory) stop whole = out_of_memory stop whole
     runs_without_volume (Slots Memory) stop whole = out_of_memory stop whole
     runs_without_volume (Passphrase _) stop whole = absurd stop

@@ -7,8 +7,7 @@ use Rattle.luks_runs.specs.Location.{reader_for}
 use Rattle.luks_runs.specs.declared.location.HeaderLocation.{HeaderLocation}
 use Rattle.luks_runs.specs.declared.location.HeaderLocation.TheVariants.{Attached}
 use Rattle.luks_runs.specs.Run.{RunMatches}
-use Rattle.luks_runs.specs.Volume.{HasSegmentBy, OnOpened}
-use Rattle.luks_runs.specs.Volume.{SlotsTrial, TriesSlots, volume_outcome_by}
+use Rattle.luks_runs.specs.Volume.{ConsumesLoaded, HasSegmentBy, OnOpened, SlotsTrial, TriesSlots, volume_outcome_by}
 use Rattle.luks_verdict.specs.declared.segment.Segment.{Segment}
 use Rattle.luks_report.specs.Faults.{message_for_volume}
 use Rattle.luks_report.specs.declared.message.Message.{Message}
@@ -20,13 +19,6 @@ use Rattle.luks_key_slots.specs.declared.fault.VolumeFault.TheVariants.{Passphra
 use Rattle.luks_runs.specs.KeyFile.{NoKeyFileRead, max_key_file_len}
 use Rattle.luks_runs.specs.declared.unlocked.UnlockedVolume.{UnlockedVolume}
 use Rattle.luks_commands.specs.Headline.{CountsOpening, CountsTried, IfInputsKnown, PromptCat, Trial}
-
--- whatever is done with a volume consumes at least the bytes of its image that are loaded, and the whole key file
-pub record ConsumesLoaded (secret : List ℕ) (on_opened : OnOpened) : Type 0 where
-  pub loaded : (segment : Segment) (opened : Opened) (loaded : ℕ)
-      → loaded ≤ (on_opened segment opened loaded).consumed.input
-  pub whole : (segment : Segment) (opened : Opened) (loaded : ℕ)
-      → (on_opened segment opened loaded).consumed.secret ≡ length secret
 
 -- the volume was not opened, and the message says why: nothing was written, and the run matches the specified outcome,
 -- whatever the command would do with an open volume

@@ -3,7 +3,7 @@ use Rattle.std.proofs.Common.{◌≡◌, ◌∙◌, ℕ, ◌⊎◌, inl, inr, Li
 use Rattle.std.proofs.Common.{Bool, min, sym, length, append-nil, arith, ◌+◌, ◌-◌, ◌<◌, ◌≤◌, ◌++◌, Result, take, drop}
 use Rattle.std.proofs.Common.{length-drop, length-take-le, max}
 use Rattle.std.specs.Prelude.{is_err}
-use Rattle.std.proofs.lemmas.Bool.{le-ltb, lt-ltb}
+use Rattle.std.proofs.lemmas.Bool.{cases_lt, le-ltb, lt-ltb}
 use Rattle.std.proofs.lemmas.List.{drop-drop}
 use Rattle.std.proofs.Math.Seq.{take-add}
 use Rattle.luks_io.proofs.EffectLemmas.{reads_more}
@@ -41,7 +41,8 @@ use Rattle.luks_runs.specs.Location.{LoadedFrom, reader_for}
 use Rattle.luks_runs.specs.declared.location.HeaderLocation.{HeaderLocation}
 use Rattle.luks_runs.specs.KeyFile.{max_key_file_len}
 use Rattle.luks_runs.specs.Volume.{FindsNoVolume, FindsVolume, OnOpened, OpeningMessage, ends_untried, volume_by}
-use Rattle.luks_runs.specs.Volume.{Volume, found_outcome, opened_outcome, outcome_after, volume_outcome_by}
+use Rattle.luks_runs.specs.Volume.{ConsumesLoaded, Volume, found_outcome, opened_outcome, outcome_after, slot_outcome}
+use Rattle.luks_runs.specs.Volume.{unlock_read_len, volume_outcome_by}
 use Rattle.luks_runs.specs.declared.found.FoundVolume.{FoundVolume}
 
 -- if no bytes of an image remain, nothing is consumed from it
@@ -179,6 +180,56 @@ module _ (on_opened : OnOpened) (v : Volume) (image secret : List ℕ) where
   found_whole short enough =
       let allowed = le-ltb max_key_file_len (length secret) short in
       rw (allowed, le-ltb (length image) (key_material_end v.order.entries) enough) refl
+
+-- ---- how much is consumed of a volume that was found
+
+module _ (on_opened : OnOpened) (v : Volume) (image secret : List ℕ)
+    (consumes : ConsumesLoaded secret on_opened) where
+  opened_within : (r : Result Opened OpenFault)
+      → (unlock_read_len image v ≤ (opened_outcome on_opened v image secret r).consumed.input)
+      × (length secret ≤ (opened_outcome on_opened v image secret r).consumed.secret)
+  opened_within (Ok opened) =
+      let n = unlock_read_len image v in
+      (consumes.loaded v.segment opened n, omega (arith, consumes.whole v.segment opened n))
+  opened_within (Err fault) = (omega arith, omega arith)
+
+  -- a key file that is not too long is consumed whole, and at least the loaded bytes of the image are consumed
+  pub area_within : length secret ≤ max_key_file_len
+      → (min (length image) (unlock_read_len image v) ≤ (found_outcome on_opened v image secret).consumed.input)
+      × (length secret ≤ (found_outcome on_opened v image secret).consumed.secret)
+  area_within short = elim (cases_lt (length image) (key_material_end v.order.entries)) [
+    | inl few ↦ rw (found_cut on_opened v image secret short few) (omega arith, omega arith)
+    | inr enough ↦
+        let all = opened_within (opening_of v.order image secret) in
+        rw (found_whole on_opened v image secret short enough) (omega (arith, all.0), all.1)
+  ]
+
+  -- at least the header is consumed, and at least as much of the key file as is ever read of it
+  pub found_within : (header_read_len image ≤ (found_outcome on_opened v image secret).consumed.input)
+      × (min (length secret) (max_key_file_len + 1) ≤ (found_outcome on_opened v image secret).consumed.secret)
+  found_within = elim (cases_lt max_key_file_len (length secret)) [
+    | inl long ↦ rw (found_long on_opened v image secret long) (omega arith, omega arith)
+    | inr short ↦
+        let all = area_within short in
+        (omega (arith, all.0, header_read_len_within image), omega (arith, all.1))
+  ]
+
+pub slot_consumes_loaded : (secret : List ℕ) → ConsumesLoaded secret (slot_outcome secret)
+slot_consumes_loaded secret =
+    record { loaded = λ segment opened loaded. omega arith; whole = λ segment opened loaded. refl }
+
+-- at least the header is consumed, whether or not a volume is found
+pub header_read_len_consumed : (location : HeaderLocation) (slots : SlotChoice) (image secret : List ℕ)
+    (on_opened : OnOpened) → ConsumesLoaded secret on_opened
+    → header_read_len image ≤ (volume_outcome_by (reader_for location) on_opened slots image secret).consumed.input
+unfolding volume_outcome_by
+header_read_len_consumed location slots image secret on_opened consumes =
+    after (volume_by (reader_for location) slots image)
+  where
+    after : (r : Result Volume VolumeFault)
+        → header_read_len image ≤ (outcome_after on_opened image secret r).consumed.input
+    after (Ok v) = (found_within on_opened v image secret consumes).0
+    after (Err fault) = omega arith
 
 module _ (image area area' : List ℕ) (i : Option (List ℕ)) (loaded : ℕ)
     (prefix : area ≡ take (header_read_len image) image) where

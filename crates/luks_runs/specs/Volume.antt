@@ -105,6 +105,13 @@ unlock_read_len image volume = max (header_read_len image) (key_material_end vol
 abbrev pub OnOpened : Type 0
 OnOpened = Segment → Opened → ℕ → Outcome
 
+-- whatever is done with a volume consumes at least the bytes of its image that are loaded, and the whole key file
+pub record ConsumesLoaded (secret : List ℕ) (on_opened : OnOpened) : Type 0 where
+  pub loaded : (segment : Segment) (opened : Opened) (loaded : ℕ)
+      → loaded ≤ (on_opened segment opened loaded).consumed.input
+  pub whole : (segment : Segment) (opened : Opened) (loaded : ℕ)
+      → (on_opened segment opened loaded).consumed.secret ≡ length secret
+
 -- `testPassphrase`: the line about the key slot that opens is written
 abbrev pub slot_outcome : List ℕ → OnOpened
 slot_outcome secret segment opened loaded =
