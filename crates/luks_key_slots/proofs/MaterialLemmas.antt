@@ -3,9 +3,10 @@ use Rattle.std.proofs.Common.{◌^◌}
 use Rattle.std.proofs.Common.{◌≡◌, ◌∙◌, ℕ, zero, suc, ◌+◌, ◌-◌, ◌*◌, ◌/◌, ◌%◌, ◌<◌, ◌≤◌, ◌⊎◌, inl, inr, true, List}
 use Rattle.std.proofs.Common.{◌++◌, length, replicate, take, drop, refl, sym, ap, append_assoc, mul_assoc, arith}
 use Rattle.std.proofs.Common.{length-append, length-drop}
-use Rattle.std.proofs.Math.Nat.{mul_comm}
+use Rattle.std.proofs.Math.Nat.{add-mul, mod-lt, mul-le-mul_right, mul_comm}
 use Rattle.std.proofs.Math.Seq.{take-add, take-append-add}
 use Rattle.std.proofs.lemmas.Bool.Decides.{nat_tests}
+use Rattle.std.proofs.lemmas.Nat.{div-add-mod'}
 use Rattle.std.proofs.lemmas.List.{drop-drop, length-take-le, take-append-le, take_all}
 use Rattle.luks_header_area.proofs.FieldLemmas.{at_prefix}
 use Rattle.luks_cipher.specs.Sector.{Cipher, is_key_length, sector_decrypted, units_decrypted}
@@ -54,38 +55,29 @@ pub in_pairs : (len stripes pairs rest left : ℕ) → is_key_length len ≡ tru
     → pairs ≡ (stripes - 1) / (1024 / len) → rest ≡ (stripes - 1) % (1024 / len)
     → left ≡ (rest * len + len + 511) / 512 * 512 → AreInPairs len stripes pairs rest left
 unfolding key_material_len
-in_pairs len stripes pairs rest left is some =
-    by_length
-    (λ n. pairs ≡ (stripes - 1) / (1024 / n) → rest ≡ (stripes - 1) % (1024 / n)
-    → left ≡ (rest * n + n + 511) / 512 * 512 → AreInPairs n stripes pairs rest left)
-    (λ p r l. record {
-      fits = refl;
-      there = omega arith;
-      whole = omega arith;
-      within = omega arith;
-      few = omega arith;
-      before = omega arith;
-      all = omega arith;
-    })
-    (λ p r l. record {
-      fits = refl;
-      there = omega arith;
-      whole = omega arith;
-      within = omega arith;
-      few = omega arith;
-      before = omega arith;
-      all = omega arith;
-    })
-    (λ p r l. record {
-      fits = refl;
-      there = omega arith;
-      whole = omega arith;
-      within = omega arith;
-      few = omega arith;
-      before = omega arith;
-      all = omega arith;
-    })
-    len is
+in_pairs len stripes pairs rest left is some is_pairs is_rest is_left =
+    let each = 1024 / len in
+    let whole : (each * len ≡ 1024) × (0 < each) =
+    by_length (λ n. (1024 / n * n ≡ 1024) × (0 < 1024 / n)) (refl, omega arith) (refl, omega arith) (refl, omega arith)
+    len is in
+    let split : stripes ≡ (pairs * each + rest) + 1 =
+    rw (is_pairs, is_rest) (omega (arith, div-add-mod' (stripes - 1) each)) in
+    let before : (pairs * each + rest) * len ≡ pairs * 1024 + rest * len =
+    add-mul (pairs * each) rest len
+    ∙ ap (λ n. n + rest * len) (mul_assoc pairs each len ∙ ap (λ n. pairs * n) whole.0) in
+    let all : len * stripes ≡ pairs * 1024 + (rest * len + len) =
+    mul_comm len stripes ∙ ap (λ n. n * len) split ∙ add-mul (pairs * each + rest) 1 len ∙ omega (arith, before) in
+    let less : rest < each = rw is_rest (mod-lt (stripes - 1) whole.1) in
+    let few : rest * len + len ≤ 1024 = omega (arith, mul-le-mul_right len less, whole.0) in
+    record {
+      fits = whole.0;
+      there = omega (arith, all, is_left);
+      whole = omega (arith, is_left);
+      within = omega (arith, is_left);
+      few = omega (arith, is_left, few);
+      before = before;
+      all = all;
+    }
 
 -- the splitter after one more stripe
 pub stripe_absorbed : (h : Hash) (len : ℕ) (before stripes stripe : List ℕ) (number i : ℕ) (splitter : AfSplitterModel)
