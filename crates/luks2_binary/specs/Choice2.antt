@@ -72,8 +72,8 @@ with_valid_primary image =
 abbrev pub found_at : List ℕ → ℕ → Option Header2
 found_at image offset = header2_from Secondary (Some PrimaryNotValid) (binary_at image offset)
 
--- the header of an image, if it has one: without a valid primary one, that at the lowest of the nine offsets with a
--- valid header
+-- the header of an image, if it has one. If the primary one is not valid, it is the header at the lowest of the nine
+-- offsets that has a valid one
 unfoldable pub chosen2_of : List ℕ → Option Header2
 chosen2_of image =
     if is_valid image 0 then with_valid_primary image

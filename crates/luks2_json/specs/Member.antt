@@ -68,7 +68,7 @@ passes name test owner = unwrap_or (option_map test (get name owner)) false
 unfoldable pub hash_member : Data → Option Hash
 hash_member owner = option_and_then hash_named (string_member (codes "hash") owner)
 
--- its iterations of PBKDF2 (0 if they are missing)
+-- the iterations of PBKDF2 in an object (0 if the member is missing or of another type)
 abbrev pub iterations_in : Data → ℕ
 iterations_in owner = unwrap_or (integer_member (codes "iterations") owner) 0
 

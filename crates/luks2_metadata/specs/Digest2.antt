@@ -23,7 +23,8 @@ is_digest2 digest =
     && is_some (base64_member (codes "salt") digest)
     && is_some (base64_member (codes "digest") digest)
 
--- the values of a digest's members. Each is 0, no bytes or `None` if the member is missing or of another type
+-- the values of a digest's members. Each is 0, no bytes or `None` if the member is missing or of another type, or names
+-- a hash function that is not known
 abbrev pub digest_parts2_of : Data → DigestParts
 digest_parts2_of digest = record {
   hash = hash_member digest;

@@ -81,9 +81,10 @@ module _ (options : Options) (image pass : List ℕ) where
         → ConsumesToOpen {T = UnlockedVolume} options image pass (Err (HeaderNotRead fault)) left
     aborted_by short HeaderRead (n, few, grows) =
         let more = area_more image volume.area.bytes area' left 0 prefix n grows in
-        let start = prefix_length image volume.area.bytes area' left 0 prefix in (
+        let start = prefix_length image volume.area.bytes area' left 0 prefix in
+        let least = area_within on_slot described image pass (slot_consumes_loaded pass) short in (
           header_read_len image + n,
-          omega (arith, few, start, found_consumed, (area_within on_slot described image pass (slot_consumes_loaded pass) short).0, more.1.within),
+          omega (arith, few, start, found_consumed, least.0, more.1.within),
           more.1,
         )
     aborted_by short HeaderMemory grows =

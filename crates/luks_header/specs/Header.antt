@@ -26,8 +26,8 @@ unfoldable pub detached_of : Header → Header
 detached_of (V1 header) = V1 (record header { detached = true })
 detached_of (V2 header tree) = V2 (record header { detached = true }) tree
 
--- the bounds that a LUKS2 header sets for key material and for the payload: where both headers end, each as long as the
--- other, and whether it is detached
+-- the bounds that a LUKS2 header sets for key material and for the payload: where the two headers end, which have the
+-- same length, and whether they are detached
 unfoldable pub bounds2_of : Header2 → Bounds
 bounds2_of header = record { end = 2 * header.size; detached = header.detached }
 

@@ -1,6 +1,6 @@
 //! Opening a volume: which key slots are tried, in which order, and which key a passphrase gives.
 //!
-//! [`order`](order::order) says which key slots of a header are tried,
+//! [`order`](ordering::order) says which key slots of a header are tried,
 //! [`key_material_end`](order::key_material_end) how much of the image must be loaded for that, and
 //! [`open`](opening::open) tries them.
 #![tactic(auto)]

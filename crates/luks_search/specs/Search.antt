@@ -46,8 +46,8 @@ FindsPlace image from to place =
 abbrev pub FindsNone : List ℕ → ℕ → ℕ → Type 0
 FindsNone image from to = places_below image to ≡ places_below image from
 
--- sectors of this image were left behind, which have no header: the search is at the next one. After a failure, at most
--- 32 MiB from there on were read
+-- sectors of this image without a header were left behind: the search is at the sector after them. After a failure, at
+-- most 32 MiB from there on were read
 pub record LeavesBehind (image : List ℕ) (before after : SearchModel) (left : Option (List ℕ)) (failed : Bool) : Type 0
   where
     pub none : FindsNone image before.sector after.sector

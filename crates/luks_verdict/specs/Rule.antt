@@ -46,7 +46,8 @@ unfoldable pub is_in_range : ℕ → ℕ → ℕ → Bool
 is_in_range iterations stripes end = not (iterations_out_of_range None iterations) && not (stripes_out_of_range stripes)
     && not (nat_lt max_loaded_len end)
 
--- a digest with this number of iterations and this length can be used: it has 20 to 64 bytes
+-- a digest with this number of iterations and this length can be used: the iterations are in range without a limit, and
+-- it has 20 to 64 bytes
 unfoldable pub is_digest : ℕ → ℕ → Bool
 is_digest iterations len = not (iterations_out_of_range None iterations) && not (nat_lt len 20) && not (nat_lt 64 len)
 

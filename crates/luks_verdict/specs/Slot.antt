@@ -26,7 +26,7 @@ slot_from parts (Some digest) =
 slot_from parts None = None
 
 -- a key slot can be tried if there is no reason to skip it. Without a reason the parts are in range and there is a
--- digest, so that this adds no `Member`
+-- digest, so `Member` is never added here
 abbrev pub verdict_by : Option SkipReason → Option Slot → Verdict
 verdict_by reason slot = option_map_or Skipped reason (option_map_or Usable slot (Skipped Member))
 

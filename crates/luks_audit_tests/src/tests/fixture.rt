@@ -29,7 +29,7 @@ pub fn assert_of(rt: &impl Abort, case: &str, holds: bool) {
     assert!(rt; holds, "{case}");
 }
 
-/// The numbers of a LUKS1 header that are not in each: slot 0 is in use, and slot 7 has stripes.
+/// The numbers of a LUKS1 header beside the usual ones: slot 0 is in use, and slot 7 has stripes.
 const FURTHER_NUMBERS: [(usize, u32); 2] = [(208, 0x00ac_71f3), (588, 4000)];
 
 /// A LUKS1 header with this mode and hash function, and with these other numbers.
