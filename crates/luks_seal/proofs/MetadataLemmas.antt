@@ -1,4 +1,4 @@
--- The key slots by their numbers: each is stored under its number and is listed by the digest, and its area is after
+-- The key slots by their numbers: each is stored under its number and is items_listed by the digest, and its area is after
 -- the headers. No number of the metadata is a fraction, and it does not nest deeply: its text can be written and read.
 use Rattle.std.proofs.Common.{◌≡◌, ◌≢◌, ◌∙◌, ◌<◌, ◌≤◌, ◌*◌, ◌^◌, ℕ, zero, suc, Bool, true, List, [], ◌∷◌, ◌++◌, Some}
 use Rattle.std.proofs.Common.{inl, inr, length, ap, arith, refl, Contains, decimal, slice_index_or, false, Less, Equal}
@@ -12,7 +12,7 @@ use Rattle.serde_json.specs.Data.{Data, put, string, Members, depth, items_depth
 use Rattle.serde_json.specs.Find.{get_member}
 use Rattle.serde_json.specs.View.{items_of}
 use Rattle.std.specs.List.{list_all, list_any}
-use Rattle.luks2_json.specs.List.{is_string, is_the_string, listed as list_of}
+use Rattle.luks2_json.specs.List.{is_string, is_the_string, items_listed as list_of}
 use Rattle.luks_seal.specs.Layout2.{decimal_value, keyslot_object, keyslots_below, names_below, ReadsBack, af_object}
 use Rattle.luks_seal.specs.Layout2.{area_object, config_object, digest_object, json_of, kdf_object, metadata_of}
 use Rattle.luks_seal.specs.Layout2.{segment_object, size_value}
@@ -58,13 +58,13 @@ module _ (p : Seal2) where
 
   -- ---- a slot in the digest's list
 
-  listed : (n m : ℕ) (slot : Slot2) → slot_numbered n p.slots.now ≡ Some slot → n < m
+  items_listed : (n m : ℕ) (slot : Slot2) → slot_numbered n p.slots.now ≡ Some slot → n < m
       → Contains (names_below p m) (decimal_value n)
   unfolding names_below
-  listed n zero slot is below = absurd (omega arith)
-  listed n (suc m) slot is below = elim (cases_lt n m) [
+  items_listed n zero slot is below = absurd (omega arith)
+  items_listed n (suc m) slot is below = elim (cases_lt n m) [
     | inl earlier ↦
-        let before = listed n m slot is earlier in
+        let before = items_listed n m slot is earlier in
         map_or_has (λ (names : List Data). Contains names (decimal_value n))
         (λ (other : Slot2). names_below p m ++ decimal_value m ∷ []) (names_below p m) (slot_numbered m p.slots.now)
         before (λ other. Contains-append_left (names_below p m) (decimal_value m ∷ []) (decimal_value n) before)
@@ -76,7 +76,7 @@ module _ (p : Seal2) where
   pub slot_listed : (n m : ℕ) (slot : Slot2) → slot_numbered n p.slots.now ≡ Some slot → n < m
       → list_any (is_the_string (decimal n)) (list_of (items_of (names_below p m))) ≡ true
   slot_listed n m slot is below =
-      let found = listed n m slot is below in
+      let found = items_listed n m slot is below in
       any_passes (is_the_string (decimal n)) (names_below p m) (decimal_value n) found.0 found.1 found.2
       ((bytes_eq-Decides (decimal n) (decimal n)).1 refl)
 
@@ -125,7 +125,7 @@ strings_push (d ∷ ds) text are =
       flat = omega (arith, are.flat, later.flat);
     }
 
--- the numbers of the key slots are listed as strings
+-- the numbers of the key slots are items_listed as strings
 pub names_are : (p : Seal2) (n : ℕ) → AreStrings (names_below p n)
 unfolding names_below
 names_are p zero = record { strings = refl; whole = refl; flat = omega arith }
