@@ -1,4 +1,4 @@
--- The key slots by their numbers: each is stored under its number and is items_listed by the digest, and its area is after
+-- The key slots by their numbers: each is stored under its number and is listed by the digest, and its area is after
 -- the headers. No number of the metadata is a fraction, and it does not nest deeply: its text can be written and read.
 use Rattle.std.proofs.Common.{◌≡◌, ◌≢◌, ◌∙◌, ◌<◌, ◌≤◌, ◌*◌, ◌^◌, ℕ, zero, suc, Bool, true, List, [], ◌∷◌, ◌++◌, Some}
 use Rattle.std.proofs.Common.{inl, inr, length, ap, arith, refl, Contains, decimal, slice_index_or, false, Less, Equal}
@@ -12,7 +12,7 @@ use Rattle.serde_json.specs.Data.{Data, put, string, Members, depth, items_depth
 use Rattle.serde_json.specs.Find.{get_member}
 use Rattle.serde_json.specs.View.{items_of}
 use Rattle.std.specs.List.{list_all, list_any}
-use Rattle.luks2_json.specs.List.{is_string, is_the_string, items_listed as list_of}
+use Rattle.luks2_json.specs.List.{is_string, is_the_string, items_listed}
 use Rattle.luks_seal.specs.Layout2.{decimal_value, keyslot_object, keyslots_below, names_below, ReadsBack, af_object}
 use Rattle.luks_seal.specs.Layout2.{area_object, config_object, digest_object, json_of, kdf_object, metadata_of}
 use Rattle.luks_seal.specs.Layout2.{segment_object, size_value}
@@ -27,12 +27,12 @@ use Rattle.luks_seal.proofs.SlotLemmas.{map_or_has}
 
 -- some item of an array passes a test if item k does
 any_passes : (test : Data → Bool) (ds : List Data) (d : Data) (k : ℕ) → k < length ds → slice_index_or ds k d ≡ d
-    → test d ≡ true → list_any test (list_of (items_of ds)) ≡ true
+    → test d ≡ true → list_any test (items_listed (items_of ds)) ≡ true
 any_passes test [] d k low is passes = absurd (omega arith)
 any_passes test (e ∷ ds) d zero low is passes =
-    or_left (test e) (list_any test (list_of (items_of ds))) (ap test is ∙ passes)
+    or_left (test e) (list_any test (items_listed (items_of ds))) (ap test is ∙ passes)
 any_passes test (e ∷ ds) d (suc k) low is passes =
-    or_right (test e) (list_any test (list_of (items_of ds))) (any_passes test ds d k (omega arith) is passes)
+    or_right (test e) (list_any test (items_listed (items_of ds))) (any_passes test ds d k (omega arith) is passes)
 
 module _ (p : Seal2) where
   -- ---- a slot under its name
@@ -58,13 +58,13 @@ module _ (p : Seal2) where
 
   -- ---- a slot in the digest's list
 
-  items_listed : (n m : ℕ) (slot : Slot2) → slot_numbered n p.slots.now ≡ Some slot → n < m
+  listed : (n m : ℕ) (slot : Slot2) → slot_numbered n p.slots.now ≡ Some slot → n < m
       → Contains (names_below p m) (decimal_value n)
   unfolding names_below
-  items_listed n zero slot is below = absurd (omega arith)
-  items_listed n (suc m) slot is below = elim (cases_lt n m) [
+  listed n zero slot is below = absurd (omega arith)
+  listed n (suc m) slot is below = elim (cases_lt n m) [
     | inl earlier ↦
-        let before = items_listed n m slot is earlier in
+        let before = listed n m slot is earlier in
         map_or_has (λ (names : List Data). Contains names (decimal_value n))
         (λ (other : Slot2). names_below p m ++ decimal_value m ∷ []) (names_below p m) (slot_numbered m p.slots.now)
         before (λ other. Contains-append_left (names_below p m) (decimal_value m ∷ []) (decimal_value n) before)
@@ -74,9 +74,9 @@ module _ (p : Seal2) where
   ]
 
   pub slot_listed : (n m : ℕ) (slot : Slot2) → slot_numbered n p.slots.now ≡ Some slot → n < m
-      → list_any (is_the_string (decimal n)) (list_of (items_of (names_below p m))) ≡ true
+      → list_any (is_the_string (decimal n)) (items_listed (items_of (names_below p m))) ≡ true
   slot_listed n m slot is below =
-      let found = items_listed n m slot is below in
+      let found = listed n m slot is below in
       any_passes (is_the_string (decimal n)) (names_below p m) (decimal_value n) found.0 found.1 found.2
       ((bytes_eq-Decides (decimal n) (decimal n)).1 refl)
 
@@ -108,14 +108,14 @@ pub record IsFlat (n : ℕ) (d : Data) : Type 0 where
 
 -- what is known of an array's items if all of them are strings
 pub record AreStrings (ds : List Data) : Type 0 where
-  pub strings : list_all is_string (list_of (items_of ds)) ≡ true
+  pub strings : list_all is_string (items_listed (items_of ds)) ≡ true
   pub whole : items_have_float (items_of ds) ≡ false
   pub flat : items_depth (items_of ds) ≤ 0
 
 strings_push : (ds : List Data) (text : List ℕ) → AreStrings ds → AreStrings (ds ++ string text ∷ [])
 strings_push [] text are = record { strings = refl; whole = refl; flat = omega arith }
 strings_push (d ∷ ds) text are =
-    let strings = and_parts (is_string d) (list_all is_string (list_of (items_of ds))) are.strings in
+    let strings = and_parts (is_string d) (list_all is_string (items_listed (items_of ds))) are.strings in
     let whole = or_parts (has_float d) (items_have_float (items_of ds)) are.whole in
     let before : AreStrings ds = record { strings = strings.1; whole = whole.1; flat = omega (arith, are.flat) } in
     let later = strings_push ds text before in
@@ -125,7 +125,7 @@ strings_push (d ∷ ds) text are =
       flat = omega (arith, are.flat, later.flat);
     }
 
--- the numbers of the key slots are items_listed as strings
+-- the numbers of the key slots are listed as strings
 pub names_are : (p : Seal2) (n : ℕ) → AreStrings (names_below p n)
 unfolding names_below
 names_are p zero = record { strings = refl; whole = refl; flat = omega arith }
