@@ -46,14 +46,6 @@ FindsPlace image from to place =
 abbrev pub FindsNone : List ℕ → ℕ → ℕ → Type 0
 FindsNone image from to = places_below image to ≡ places_below image from
 
--- sectors of this image without a header were left behind: the search is at the sector after them. After a failure, at
--- most 32 MiB from there on were read
-pub record LeavesBehind (image : List ℕ) (before after : SearchModel) (left : Option (List ℕ)) (failed : Bool) : Type 0
-  where
-    pub none : FindsNone image before.sector after.sector
-    pub held : failed ≡ false → IsIn image after left
-    pub behind : failed ≡ true → IsNear image after.sector left
-
 -- what a search found in an image, from one sector up to another: the next place and its header, or that there is no
 -- further place; up to a fault there is none
 abbrev pub FindsNext : List ℕ → ℕ → ℕ → Result (Option Place) SearchFault → Type 0

@@ -5,7 +5,7 @@ ghost use Rattle.std.specs.Prelude.{IfOk, IfSome, OnErr, OnOk, drop, false, is_e
 ghost use Rattle.std.specs.Prelude.{true};
 ghost use Rattle.luks_io.specs.Devices.{counted};
 ghost use Rattle.luks_search.specs.Magic.{IsQuiet};
-ghost use Rattle.luks_search.specs.Search.{FindsNext, IsEnd, IsIn, IsNear, LeavesBehind, ReadsOn};
+ghost use Rattle.luks_search.specs.Search.{FindsNext, FindsNone, IsEnd, IsIn, IsNear, ReadsOn};
 ghost use Rattle.luks_search.specs.Search.{StepsOn};
 ghost use Rattle.luks_search.specs.Search.{reports_failed_read};
 
@@ -161,8 +161,12 @@ impl Search {
         requires range { self.old.sector ≤ 18014398509481984 }
         ensures sector { IfOk result (λ count. self.new.sector ≡ self.old.sector + count) }
         ensures range { self.new.sector ≤ 18014398509481984 }
-        ensures leaves { (image : List ℕ) → IsIn image self.old (S.to_come source.old)
-            → LeavesBehind image self.old self.new (S.to_come source.new) (is_err result) }
+        ensures none { (image : List ℕ) → IsIn image self.old (S.to_come source.old)
+            → FindsNone image self.old.sector self.new.sector }
+        ensures held { (image : List ℕ) → IsIn image self.old (S.to_come source.old)
+            → OnOk result (IsIn image self.new (S.to_come source.new)) }
+        ensures behind { (image : List ℕ) → IsIn image self.old (S.to_come source.old)
+            → OnErr result (IsNear image self.new.sector (S.to_come source.new)) }
         ensures failures { (S.counts source.new).failures
             ≡ counted (reports_failed_read result) (S.counts source.old).failures }
     {
@@ -226,8 +230,12 @@ impl Search {
         ensures within { self.new.sector ≤ 18014398509481984 }
         ensures enough { IfOk result (λ count. count ≡ 0 →
             (self.new.ended ≡ true) ⊎ (8388608 ≤ length self.new.bytes)) }
-        ensures leaves { (image : List ℕ) → IsIn image self.old (S.to_come source.old)
-            → LeavesBehind image self.old self.new (S.to_come source.new) (is_err result) }
+        ensures none { (image : List ℕ) → IsIn image self.old (S.to_come source.old)
+            → FindsNone image self.old.sector self.new.sector }
+        ensures held { (image : List ℕ) → IsIn image self.old (S.to_come source.old)
+            → OnOk result (IsIn image self.new (S.to_come source.new)) }
+        ensures behind { (image : List ℕ) → IsIn image self.old (S.to_come source.old)
+            → OnErr result (IsNear image self.new.sector (S.to_come source.new)) }
         ensures failures { (S.counts source.new).failures
             ≡ counted (reports_failed_read result) (S.counts source.old).failures }
     {
