@@ -29,7 +29,7 @@ pub returns-clause-run : goal.returns-clause-run
 returns-clause-run g c input is image same secret has counted =
     let request = request_of c.args.command.now in
     runs_at (promptness_of Attached request input) (promptness_of Attached request input) _ _ _ _
-    (λ input payload secret output prompt. prompt) (consumed_attached request image _ _)
+    (λ consumed output prompt. prompt) (consumed_attached request image _ _)
     (c.run.ensures.run input is image same secret has counted)
 
 pub returns-clause-honest : goal.returns-clause-honest
