@@ -14,7 +14,7 @@ use Rattle.luks_key_slots.specs.declared.opening.Opened.{Opened}
 use Rattle.luks_payload.specs.Plain.{payload_end_of, sector_len, sector_start, sectors_of}
 use Rattle.luks_runs.proofs.PayloadLemmas.{plain_len}
 use Rattle.luks_runs.proofs.RunLemmas.{aborted_at, runs_printed}
-use Rattle.luks_commands.proofs.VolumeRuns.{same_segment_by}
+use Rattle.luks_commands.proofs.VolumeRuns.{same_segment_by, unlocking}
 use Rattle.luks_runs.specs.Run.{Consumed, Outcome, Prints, Aborted, AnyPromptness, Completed, ConsumedNothing}
 use Rattle.luks_runs.specs.Run.{DetachedRunMatches, Promptness, RunEffects, RunMatches, aborts, is_run_read_failure}
 use Rattle.luks_runs.specs.Run.{is_run_write_failure}
@@ -83,7 +83,8 @@ consumed_no_payload Detached o input image device knows count none =
     subst (ConsumedExactly image device) (sym none) (consumed-none image device knows)
 
 module _ (location : HeaderLocation) (slots : SlotChoice) (image pass : List ℕ) (segment : Segment) (opened : Opened)
-    (loaded : List ℕ) (i s : Option (List ℕ)) (u : Unlocks location slots image pass segment opened loaded i s) where
+    (loaded : List ℕ) (i s : Option (List ℕ))
+    (u : Unlocks (unlocking location slots image pass i s) segment opened loaded) where
   -- the line about the key slot was written, whole or in part, or memory for it ran out
   pub runs_slot : (w w' : Option (List ℕ)) (message : Message) → Prints (opened_line opened.slot) Done w w' message
       → RunMatches AnyPromptness (volume_outcome_by (reader_for location) (slot_outcome pass) slots image pass) message
@@ -115,7 +116,7 @@ positioned_within segment image count written few less =
     (omega arith, div-eq_of_lt-le (sector_len segment) (omega arith) (omega arith))
 
 module _ (slots : SlotChoice) (image pass : List ℕ) (segment : Segment) (opened : Opened) (loaded : List ℕ)
-    (i s : Option (List ℕ)) (u : Unlocks Attached slots image pass segment opened loaded i s) where
+    (i s : Option (List ℕ)) (u : Unlocks (unlocking Attached slots image pass i s) segment opened loaded) where
   -- the payload was forwarded, to its end or not; the image was consumed as far as its source says
   pub runs_forwarded : (left i' w w' : Option (List ℕ)) (message : Message) → PayloadMessage message
       → ForwardsPayload segment (segment.mode, opened.key) image (length loaded) left w w' message
@@ -184,7 +185,7 @@ forwarded_at_least s cipher image loaded left before after message forwarded = (
 -- after the key slots were tried, the payload was forwarded
 pub counts_forwarded : (slots : SlotChoice) (image pass : List ℕ) (segment : Segment) (opened : Opened)
     (loaded : List ℕ) (s i' w w' : Option (List ℕ)) (trial : Trial) (message : Message)
-    → Unlocks Attached slots image pass segment opened loaded trial.image.after s
+    → Unlocks (unlocking Attached slots image pass trial.image.after s) segment opened loaded
     → CountsTried Attached slots image pass trial
     → (length image < 2 ^ 64
     → ForwardsPayload segment (segment.mode, opened.key) image (length loaded) i' w w' message)
@@ -216,7 +217,7 @@ payload_consumes_loaded Detached image pass =
     record { loaded = λ segment opened loaded. omega arith; whole = λ segment opened loaded. refl }
 
 module _ (slots : SlotChoice) (file image pass : List ℕ) (segment : Segment) (opened : Opened) (loaded : List ℕ)
-    (h s : Option (List ℕ)) (u : Unlocks Detached slots file pass segment opened loaded h s)
+    (h s : Option (List ℕ)) (u : Unlocks (unlocking Detached slots file pass h s) segment opened loaded)
     (i' w w' : Option (List ℕ)) where
   -- the payload was forwarded, to its end or not
   pub detached_runs_forwarded : (message : Message) → PayloadMessage message
@@ -332,7 +333,7 @@ none_allowed location slots message known known_secret failed before after reads
 pub allows_payload : (location : HeaderLocation) (slots : SlotChoice) (message : Message)
     (input secret : Option (List ℕ)) (segment : Segment) (opened : Opened) (loaded : List ℕ)
     (input' secret' : Option (List ℕ)) → PayloadMessage message → IfKnown input (λ known. IfKnown secret
-    (λ passphrase. Unlocks location slots known passphrase segment opened loaded input' secret'))
+    (λ passphrase. Unlocks (unlocking location slots known passphrase input' secret') segment opened loaded))
     → CatAllows location slots message input secret (max_payload_end segment)
 allows_payload location slots message input secret segment opened loaded input' secret' forwarded unlocks = (
   (λ without. absurd (with_key message forwarded without)),

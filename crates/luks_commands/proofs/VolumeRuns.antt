@@ -33,7 +33,7 @@ use Rattle.luks_io.proofs.EffectLemmas.{appended-none, consumed-none}
 use Rattle.luks_io.specs.Devices.{Appended, ConsumedAtMost, ConsumedExactly, counted}
 use Rattle.luks_runs.specs.KeyFile.{NoKeyFileRead, max_key_file_len}
 use Rattle.luks_commands.specs.Headline.{CountsTried, EndsUntried, PromptCat, PromptForwarding, Trial}
-use Rattle.luks_commands.specs.Unlocking.{UnlockEffect, Unlocks}
+use Rattle.luks_commands.specs.Unlocking.{UnlockEffect, Unlocking, Unlocks}
 use Rattle.luks_runs.specs.Volume.{ConsumesLoaded, ends_untried, FindsNoVolume, HasSegmentBy}
 use Rattle.luks_runs.specs.declared.unlocked.UnlockedVolume.{UnlockedVolume}
 use Rattle.luks_runs.specs.Location.{reader_for, HeaderReader}
@@ -140,6 +140,17 @@ module _ (image area area' : List ℕ) (i : Option (List ℕ)) (prefix : area �
     omega arith,
     record { within = header_read_len_within image; left = none.4 },
   )
+
+-- opening a volume from an image and a key file, of which these bytes remained
+abbrev pub unlocking : HeaderLocation → SlotChoice → List ℕ → List ℕ → Option (List ℕ) → Option (List ℕ) → Unlocking
+unlocking location slots image secret image' secret' = record {
+  location = location;
+  slots = slots;
+  image = image;
+  image' = image';
+  secret = secret;
+  secret' = secret';
+}
 
 -- ---- runs on a volume
 
@@ -335,7 +346,7 @@ module _ (location : HeaderLocation) (slots : SlotChoice) (image pass : List ℕ
     -- the volume was opened
     pub unlocks_volume : (area area' : List ℕ) → area ≡ take (header_read_len image) image → (opened : UnlockedVolume)
         → UnlockEffect (slots_trial image area area' i segment order pass) s (Ok opened)
-        → Unlocks location slots image pass opened.segment (opened_of opened) area' i s
+        → Unlocks (unlocking location slots image pass i s) opened.segment (opened_of opened) area'
     unlocks_volume area area' prefix opened (inl (short, read, tries)) =
         let loaded = area_loaded image area area' i (key_material_end order.entries) prefix tries.0 tries.1 in
         rw tries.2 (record {

@@ -29,17 +29,28 @@ EndsLocked location slots image secret message image' secret' =
     → RunMatches (PromptCat location image) (volume_outcome_by (reader_for location) on_opened slots image secret)
     message (ConsumedExactly image image') (ConsumedExactly secret secret') (Appended written written)
 
+-- an opening of a volume: from which bytes, and which of them remained
+pub record Unlocking : Type 0 where
+  pub location : HeaderLocation
+  pub slots : SlotChoice
+  -- the image, or the file with the header
+  pub image : List ℕ
+  pub image' : Option (List ℕ)
+  -- the key file
+  pub secret : List ℕ
+  pub secret' : Option (List ℕ)
+
 -- the volume was opened: its segment and its key are these, and these first bytes of the image, or of the file with the
 -- header, are loaded. With an attached header they reach past the payload's start only as far as the header was read
-pub record Unlocks (location : HeaderLocation) (slots : SlotChoice) (image secret : List ℕ) (segment : Segment)
-    (opened : Opened) (loaded : List ℕ) (image' secret' : Option (List ℕ)) : Type 0 where
+pub record Unlocks (from : Unlocking) (segment : Segment) (opened : Opened) (loaded : List ℕ) : Type 0 where
   pub outcome : (on_opened : OnOpened)
-      → volume_outcome_by (reader_for location) on_opened slots image secret ≡ on_opened segment opened (length loaded)
-  pub has : HasSegmentBy (reader_for location) image segment
-  pub no_further : location ≡ Attached → length loaded ≤ max (header_read_len image) segment.offset
-  pub prefix : loaded ≡ take (length loaded) image
-  pub input_consumed : ConsumedExactly image image' (length loaded)
-  pub secret_consumed : ConsumedExactly secret secret' (length secret)
+      → volume_outcome_by (reader_for from.location) on_opened from.slots from.image from.secret
+      ≡ on_opened segment opened (length loaded)
+  pub has : HasSegmentBy (reader_for from.location) from.image segment
+  pub no_further : from.location ≡ Attached → length loaded ≤ max (header_read_len from.image) segment.offset
+  pub prefix : loaded ≡ take (length loaded) from.image
+  pub input_consumed : ConsumedExactly from.image from.image' (length loaded)
+  pub secret_consumed : ConsumedExactly from.secret from.secret' (length from.secret)
 
 -- the effect of trying to open a volume that was found, under the passphrase in the key file. The key file is read
 -- whole before the key slots are tried; if it cannot be, nothing more of the image is consumed

@@ -107,9 +107,14 @@ fn unlock<I: Source, K: Source>(
 ) -> Result<LoadedVolume, VolumeFault>
     ensures ok { IfOk result (λ unlocked. IfKnown (I.to_come image.old) (λ known.
         IfKnown (K.to_come secret.old) (λ passphrase.
-        Unlocks location slots known passphrase unlocked.volume.segment
-        (opened_of unlocked.volume) unlocked.area.bytes (I.to_come image.new)
-        (K.to_come secret.new)))) }
+        Unlocks (record {
+          location = location;
+          slots = slots;
+          image = known;
+          image' = I.to_come image.new;
+          secret = passphrase;
+          secret' = K.to_come secret.new;
+        }) unlocked.volume.segment (opened_of unlocked.volume) unlocked.area.bytes))) }
     ensures err { IfErr result (λ fault. IfKnown (I.to_come image.old) (λ known.
         IfKnown (K.to_come secret.old) (λ passphrase.
         EndsLocked location slots known passphrase (message_for_volume fault)
