@@ -1,6 +1,6 @@
 -- The outcome of opening a volume, compared with that of `luksCat`.
 use Rattle.std.proofs.Common.{◌≡◌, ℕ, inl, inr, List, Option, Result, Ok, Err, Some, ◌∙◌, ap, sym, refl, subst, take}
-use Rattle.std.proofs.Common.{drop}
+use Rattle.std.proofs.Common.{◌-◌, drop}
 use Rattle.std.proofs.Common.{length, Bool, true, false}
 use Rattle.std.specs.Prelude.{nat_lt, if◌then◌else◌}
 use Rattle.std.proofs.lemmas.Bool.{le-ltb, lt-ltb}
