@@ -1,19 +1,17 @@
 -- The header of an image: which one is chosen, where it is, and how far the image is read for it.
-use Rattle.std.proofs.Common.{◌≡◌, ◌∙◌, ℕ, ◌+◌, ◌-◌, ◌*◌, ◌<◌, ◌≤◌, List, [], ◌∷◌, Option, Some, None, Bool, true}
-use Rattle.std.proofs.Common.{false, ap, sym, refl, take, length, max, arith}
-use Rattle.std.specs.Prelude.{IfOk, Result, Ok, Err, nat_lt, ok_or, option_and_then}
+use Rattle.std.proofs.Common.{◌≡◌, ◌∙◌, ℕ, ◌+◌, ◌-◌, ◌*◌, ◌<◌, ◌≤◌, List, [], ◌∷◌, ◌++◌, Option, Some, None, Bool, true}
+use Rattle.std.proofs.Common.{false, ap, sym, refl, length, max, arith}
+use Rattle.std.specs.Prelude.{Ok, Err, nat_lt, ok_or, option_and_then}
 use Rattle.std.specs.List.{find}
+use Rattle.std.proofs.lemmas.Bool.{ltb-false, ltb-true}
 use Rattle.std.proofs.lemmas.Option.{option_and_then_some}
 use Rattle.luks_kdf.specs.declared.hash.Hash.{Hash}
-use Rattle.luks_header_area.specs.declared.fault.HeaderFault.{HeaderFault}
 use Rattle.luks_header_area.specs.declared.fault.HeaderFault.TheVariants.{NotLuks}
-use Rattle.luks_header_area.proofs.FieldLemmas.{at_prefix}
 use Rattle.luks_header_area.specs.Fields.{text_of}
 use Rattle.luks2_binary.specs.Choice2.{with_valid_primary, binary_at, chosen2_of, found_at, header2_of, is_valid}
-use Rattle.luks2_binary.specs.Choice2.{size_at}
+use Rattle.luks2_binary.specs.Choice2.{fits, size_at}
 use Rattle.luks2_binary.specs.Header2.{binary_len, checksum_hash_in, header2_from, sequence_in, size_in, sizes}
-use Rattle.luks2_binary.specs.ReadLen2.{header2_read_len, probe2_len, probe_end, search_len}
-use Rattle.luks2_binary.specs.Reading2.{IsPrefixOf, OfEach}
+use Rattle.luks2_binary.specs.ReadLen2.{needed2, probe2_len, probe_end, search_len}
 use Rattle.luks2_binary.specs.Text2.{json_text_of, header_offset}
 use Rattle.luks2_binary.specs.declared.header.PairFinding.{PairFinding}
 use Rattle.luks2_binary.specs.declared.header.PairFinding.TheVariants.{PrimaryNotValid, SecondaryNotValid}
@@ -21,9 +19,9 @@ use Rattle.luks2_binary.specs.declared.header.PairFinding.TheVariants.{Sequences
 use Rattle.luks2_binary.specs.declared.header.Header2.{Header2}
 use Rattle.luks2_binary.specs.declared.header.HeaderRole.{HeaderRole}
 use Rattle.luks2_binary.specs.declared.header.HeaderRole.TheVariants.{Primary, Secondary}
-use Rattle.luks2_binary.proofs.ValidLemmas.{first_is, furthest, search_len_is}
-use Rattle.luks2_binary.proofs.ValidLemmas.{at-prefix, fits-prefix, own_size, probe_fit, probe_least, short-fits}
-use Rattle.luks2_binary.proofs.ValidLemmas.{unfit-is_valid, valid-prefix, valid_parts, valid_range}
+use Rattle.luks2_binary.proofs.ValidLemmas.{at_more, found_passes, furthest, next_enough, next_within, own_size, probe_fit}
+use Rattle.luks2_binary.proofs.ValidLemmas.{probe_grows, probe_least, probe_more, probe_unfit, search_len_is, short-fits}
+use Rattle.luks2_binary.proofs.ValidLemmas.{unfit-is_valid, valid_more, valid_parts, valid_range, walk_same}
 
 module _ (image : List ℕ) where
   -- the choice for an image with a valid primary header
@@ -59,43 +57,6 @@ module _ (image : List ℕ) where
   pub probe_some : 4096 ≤ probe2_len image
   probe_some = omega (arith, probe_first, probe_least image 0)
 
-module _ (loaded : List ℕ) (ended : Bool) (image : List ℕ) (prefix : IsPrefixOf loaded ended image)
-    (valid : is_valid image 0 ≡ true) where
-  choice_with_primary_whole : 2 * size_at image 0 ≤ length loaded → with_valid_primary loaded ≡ with_valid_primary image
-  unfolding with_valid_primary
-  choice_with_primary_whole whole =
-      let range = valid_range image 0 valid in
-      let size = size_at image 0 in
-      let long : size + 4096 ≤ length loaded = omega (arith, range.1, whole) in
-      let second : is_valid loaded size ≡ is_valid image size =
-      valid-prefix loaded ended image prefix size long
-      (λ fit.
-      let own = own_size image size fit (λ none. absurd (omega (arith, range.1, none))) in
-      omega (arith, own, whole)) in
-      rw (
-        at-prefix loaded ended image prefix 0 4096 (omega (arith, long)),
-        second,
-        at-prefix loaded ended image prefix size 4096 long,
-      ) refl
-
-  -- the loaded bytes of the two headers decide which one is chosen
-  pub choice_with_primary_same : (ended ≡ false → 2 * size_at image 0 ≤ length loaded)
-      → with_valid_primary loaded ≡ with_valid_primary image
-  choice_with_primary_same whole = by ended refl where
-    by : (b : Bool) → ended ≡ b → with_valid_primary loaded ≡ with_valid_primary image
-    by true e = ap with_valid_primary (sym (prefix.ends e))
-    by false e = choice_with_primary_whole (whole e)
-
--- if the primary header is not valid, the header that the search finds is the chosen one
-pub found_chosen : (loaded : List ℕ) (ended : Bool) (found : Result (Option Header2) HeaderFault)
-    → OfEach loaded ended (λ image. is_valid image 0 ≡ false)
-    → IfOk found (λ header. OfEach loaded ended (λ image.
-    header ≡ option_and_then (found_at image) (find (is_valid image) sizes)))
-    → IfOk found (λ header. OfEach loaded ended (λ image. header ≡ chosen2_of image))
-found_chosen loaded ended (Ok header) none is = λ image prefix.
-    is image prefix ∙ sym (chosen_other image (none image prefix))
-found_chosen loaded ended (Err fault) none is = tt
-
 -- if no offset is valid, there is no first valid one
 none_first : (valid : ℕ → Bool) (offsets : List ℕ) → ((offset : ℕ) → valid offset ≡ false) → find valid offsets ≡ None
 none_first valid [] none = refl
@@ -110,79 +71,108 @@ none_short image short =
     ap (λ chosen. ok_or chosen NotLuks)
     (chosen_other image (none 0) ∙ ap (option_and_then (found_at image)) (none_first (is_valid image) sizes none))
 
--- ---- loaded bytes that reach as far as an image is read
+-- ---- loading the image step by step
 
-module _ (loaded image : List ℕ) (prefix : IsPrefixOf loaded false image) where
-  probe_same : (offset : ℕ) → offset + 4096 ≤ length loaded → probe_end loaded offset ≡ probe_end image offset
-  unfolding probe_end
-  probe_same offset there =
-      let fits_same = fits-prefix loaded false image prefix offset there in
-      rw (fits_same, at-prefix loaded false image prefix offset 4096 there) refl
+-- if no more bytes are to be loaded, all that are read are loaded
+pub needed_enough : (loaded : List ℕ) → needed2 loaded ≤ length loaded → probe2_len loaded ≤ length loaded
+unfolding needed2
+needed_enough loaded within =
+    by (is_valid loaded 0) (nat_lt (length loaded) (probe_end loaded 0)) refl refl
+  where
+    by : (valid short : Bool) → is_valid loaded 0 ≡ valid → nat_lt (length loaded) (probe_end loaded 0) ≡ short
+        → probe2_len loaded ≤ length loaded
+    by true short v s =
+        let end = rw v at within in
+        omega (arith, end, probe_primary loaded v, probe_fit loaded 0 (valid_parts loaded 0 v).0)
+    by false true v s = (let end = rw (v, s) at within in absurd (omega (arith, end, ltb-true (length loaded) _ s)))
+    by false false v s =
+        let end = next_enough loaded sizes (rw (v, s) at within) in
+        omega (arith, end, probe_other loaded v, search_len_is loaded, ltb-false (length loaded) _ s)
 
-  -- an offset for which all bytes to be read are loaded
-  offset_same : (offset : ℕ) → probe_end image offset ≤ length loaded
-      → (is_valid loaded offset ≡ is_valid image offset) × (probe_end loaded offset ≡ probe_end image offset)
-  offset_same offset within =
-      let there : offset + 4096 ≤ length loaded = omega (arith, within, probe_least image offset) in (
-        valid-prefix loaded false image prefix offset there (λ fit. omega (arith, within, probe_fit image offset fit)),
-        probe_same offset there,
-      )
+module _ (loaded more image : List ℕ) (is : image ≡ loaded ++ more) where
+  first_valid : probe_end loaded 0 ≤ length loaded → is_valid image 0 ≡ is_valid loaded 0
+  first_valid = valid_more loaded more image is 0
 
-  abbrev AreSame : List ℕ → Type 0
-  AreSame offsets = (find (is_valid loaded) offsets ≡ find (is_valid image) offsets)
-      × (furthest (is_valid loaded) (probe_end loaded) offsets ≡ furthest (is_valid image) (probe_end image) offsets)
+  -- no more bytes are to be loaded next than are read of the image, if any
+  pub needed_within : needed2 loaded ≤ max (length loaded) (probe2_len image)
+  unfolding needed2
+  needed_within = by (is_valid loaded 0) (nat_lt (length loaded) (probe_end loaded 0)) refl refl where
+    by : (valid short : Bool) → is_valid loaded 0 ≡ valid → nat_lt (length loaded) (probe_end loaded 0) ≡ short
+        → needed2 loaded ≤ max (length loaded) (probe2_len image)
+    by true short v s =
+        let fit = valid_parts loaded 0 v in
+        let range = valid_range loaded 0 v in
+        let end : probe_end loaded 0 ≡ size_at loaded 0 = omega (arith, probe_fit loaded 0 fit.0, range.1) in
+        let first = first_valid (omega (arith, end, fit.1)) in
+        let size = ap size_in (at_more loaded more image is 0 4096 (omega (arith, range.0))) in
+        rw v (omega (arith, end, size, probe_primary image (first ∙ v)))
+    by false true v s =
+        rw (v, s) (omega (arith, probe_grows loaded more image is 0, probe_first image))
+    by false false v s =
+        let first = first_valid (ltb-false (length loaded) _ s) in
+        rw (v, s) (omega (
+          arith,
+          next_within loaded more image is sizes,
+          probe_other image (first ∙ v),
+          search_len_is image,
+        ))
 
-  walk_same : (offsets : List ℕ) → furthest (is_valid image) (probe_end image) offsets ≤ length loaded → AreSame offsets
-  unfolding furthest
-  walk_same [] within = (refl, refl)
-  walk_same (offset ∷ offsets) within = by (is_valid image offset) refl (walk_same offsets) where
-    by : (b : Bool) → is_valid image offset ≡ b
-        → (furthest (is_valid image) (probe_end image) offsets ≤ length loaded → AreSame offsets)
-        → AreSame (offset ∷ offsets)
-    by true e next =
-        let same = offset_same offset (omega (arith, within)) in
-        (rw (same.0, e) refl, rw (same.0, same.1, e) refl)
-    by false e next =
-        let same = offset_same offset (omega (arith, within)) in
-        let rest = next (let inside = (rw e at within) in omega (arith, inside)) in
-        (rw (same.0, e) rest.0, rw (same.0, same.1, e) (ap (max (probe_end image offset)) rest.1))
+  choice_with_primary_same : is_valid loaded 0 ≡ true → 2 * size_at loaded 0 ≤ length loaded
+      → with_valid_primary image ≡ with_valid_primary loaded
+  unfolding with_valid_primary
+  choice_with_primary_same valid whole =
+      let range = valid_range loaded 0 valid in
+      let size = size_at loaded 0 in
+      let first = at_more loaded more image is 0 4096 (omega (arith, range.0)) in
+      let second = at_more loaded more image is size 4096 (omega (arith, range.1, whole)) in
+      let probe : probe_end loaded size ≤ length loaded = by_fit size (fits loaded size) refl (range.1, range.2) whole in
+      rw (first, valid_more loaded more image is size probe, second) refl
+    where
+      by_fit : (size : ℕ) (fit : Bool) → fits loaded size ≡ fit → (16384 ≤ size) × (size ≤ 4194304)
+          → 2 * size ≤ length loaded → probe_end loaded size ≤ length loaded
+      by_fit size true fit range whole =
+          let own = own_size loaded size fit (λ none. absurd (omega (arith, range, none))) in
+          omega (arith, own, range, whole, probe_fit loaded size fit)
+      by_fit size false fit range whole = omega (arith, range, whole, probe_unfit loaded size fit)
 
-  found_same : (first : Option ℕ) → find (is_valid image) sizes ≡ first
-      → furthest (is_valid image) (probe_end image) sizes ≤ length loaded
-      → option_and_then (found_at loaded) first ≡ option_and_then (found_at image) first
-  found_same None is within = refl
-  found_same (Some offset) is within =
-      let below = first_is (is_valid image) (probe_end image) sizes offset is in
-      ap (header2_from Secondary (Some PrimaryNotValid))
-      (at-prefix loaded false image prefix offset 4096 (omega (arith, below.1, within, probe_least image offset)))
+  found_same : (first : Option ℕ) → find (is_valid loaded) sizes ≡ first
+      → option_and_then (found_at image) first ≡ option_and_then (found_at loaded) first
+  found_same None is_first = refl
+  found_same (Some offset) is_first =
+      let range = valid_range loaded offset (found_passes (is_valid loaded) sizes offset is_first).0 in
+      ap (header2_from Secondary (Some PrimaryNotValid)) (at_more loaded more image is offset 4096 range.0)
 
-  -- if all bytes to be read of an image are loaded, these have the same header, and as many of them are to be read
-  pub stable_by : (b : Bool) → is_valid image 0 ≡ b → probe2_len image ≤ length loaded
-      → (chosen2_of loaded ≡ chosen2_of image) × (probe2_len loaded ≡ probe2_len image)
-  stable_by true e whole =
-      let first = offset_same 0 (omega (arith, probe_first image, whole)) in
-      let size : size_at loaded 0 ≡ size_at image 0 =
-      ap size_in (at-prefix loaded false image prefix 0 4096 (omega (arith, probe_some image, whole))) in (
-        chosen_primary loaded (first.0 ∙ e)
-            ∙ choice_with_primary_same loaded false image prefix e (λ _. omega (arith, probe_primary image e, whole))
-            ∙ sym (chosen_primary image e),
-        probe_primary loaded (first.0 ∙ e) ∙ ap (λ n. 2 * n) size ∙ sym (probe_primary image e),
-      )
-  stable_by false e whole =
-      let first = offset_same 0 (omega (arith, probe_first image, whole)) in
-      let within : furthest (is_valid image) (probe_end image) sizes ≤ length loaded =
-      omega (arith, probe_other image e, search_len_is image, whole) in
-      let walk = walk_same sizes within in (
-        chosen_other loaded (first.0 ∙ e)
-            ∙ ap (option_and_then (found_at loaded)) walk.0
-            ∙ found_same (find (is_valid image) sizes) refl within
-            ∙ sym (chosen_other image e),
-        probe_other loaded (first.0 ∙ e)
-            ∙ ap (max (probe_end loaded 0))
-            (search_len_is loaded ∙ walk.1 ∙ sym (search_len_is image))
-            ∙ ap (λ n. max n (search_len image)) first.1
-            ∙ sym (probe_other image e),
-      )
+  -- if all bytes to be read are loaded, the image has the same header, and as many of its bytes are to be read
+  pub decided2 : probe2_len loaded ≤ length loaded
+      → (header2_of image ≡ header2_of loaded) × (probe2_len image ≡ probe2_len loaded)
+  unfolding header2_of
+  decided2 whole = (let same = by (is_valid loaded 0) refl in (ap (λ chosen. ok_or chosen NotLuks) same.0, same.1)) where
+    within : probe_end loaded 0 ≤ length loaded
+    within = omega (arith, probe_first loaded, whole)
+
+    by : (b : Bool) → is_valid loaded 0 ≡ b
+        → (chosen2_of image ≡ chosen2_of loaded) × (probe2_len image ≡ probe2_len loaded)
+    by true e =
+        let size = ap size_in (at_more loaded more image is 0 4096 (omega (arith, within, probe_least loaded 0))) in (
+          chosen_primary image (first_valid within ∙ e)
+              ∙ choice_with_primary_same e (omega (arith, probe_primary loaded e, whole))
+              ∙ sym (chosen_primary loaded e),
+          probe_primary image (first_valid within ∙ e) ∙ ap (λ n. 2 * n) size ∙ sym (probe_primary loaded e),
+        )
+    by false e =
+        let inside : furthest (is_valid loaded) (probe_end loaded) sizes ≤ length loaded =
+        omega (arith, probe_other loaded e, search_len_is loaded, whole) in
+        let walk = walk_same loaded more image is sizes inside in
+        let first = probe_more loaded more image is 0 (omega (arith, within, probe_least loaded 0)) in (
+          chosen_other image (first_valid within ∙ e)
+              ∙ ap (option_and_then (found_at image)) walk.0
+              ∙ found_same (find (is_valid loaded) sizes) refl
+              ∙ sym (chosen_other loaded e),
+          probe_other image (first_valid within ∙ e)
+              ∙ ap (max (probe_end image 0)) (search_len_is image ∙ walk.1 ∙ sym (search_len_is loaded))
+              ∙ ap (λ n. max n (search_len loaded)) first
+              ∙ sym (probe_other loaded e),
+        )
 
 -- ---- where the header and its JSON text are
 
@@ -197,12 +187,11 @@ made_of role finding binary header is = by (checksum_hash_in binary) refl where
   by (Some hash) e = (let made = rw e at is in (cc, cc, cc))
   by None e = absurd (let made = rw e at is in cc)
 
--- a header is at this offset of the image, is valid there, is within the bytes that are to be read, and is attached
+-- a header is at this offset of the image, is valid there, and is attached
 record HasHeaderAt (image : List ℕ) (header : Header2) (offset : ℕ) : Type 0 where
   pub valid : is_valid image offset ≡ true
   pub here : header_offset header.role header.size ≡ offset
   pub size : header.size ≡ size_at image offset
-  pub probed : offset + header.size ≤ probe2_len image
   pub attached : header.detached ≡ false
 
 -- the sequence number of the header at an offset
@@ -212,15 +201,14 @@ sequence_at image offset = sequence_in (binary_at image offset)
 module _ (image : List ℕ) (header : Header2) where
   -- a header that was made of the bytes at an offset is there, if its role and length give this offset
   header_at : (role : HeaderRole) (finding : Option PairFinding) (offset : ℕ) → is_valid image offset ≡ true
-      → header_offset role (size_at image offset) ≡ offset → offset + size_at image offset ≤ probe2_len image
+      → header_offset role (size_at image offset) ≡ offset
       → header2_from role finding (binary_at image offset) ≡ Some header → HasHeaderAt image header offset
-  header_at role finding offset valid own probe is =
+  header_at role finding offset valid own is =
       let made = made_of role finding (binary_at image offset) header is in
       record {
         valid = valid;
         here = ap (λ p. header_offset p header.size) made.0 ∙ ap (λ n. header_offset role n) made.1 ∙ own;
         size = made.1;
-        probed = omega (arith, made.1, probe);
         attached = made.2;
       }
 
@@ -234,8 +222,7 @@ module _ (image : List ℕ) (header : Header2) where
     where
       primary : (finding : Option PairFinding) → header2_from Primary finding (binary_at image 0) ≡ Some header
           → (offset : ℕ) × HasHeaderAt image header offset
-      primary finding made =
-          (0, header_at Primary finding 0 valid refl (omega (arith, probe_primary image valid)) made)
+      primary finding made = (0, header_at Primary finding 0 valid refl made)
 
       by : (both later earlier : Bool) → is_valid image (size_at image 0) ≡ both
           → nat_lt (sequence_at image 0) (sequence_at image (size_at image 0)) ≡ later
@@ -245,11 +232,8 @@ module _ (image : List ℕ) (header : Header2) where
       by true true _ b l _ =
           let range = valid_range image 0 valid in
           let fit = valid_parts image (size_at image 0) b in
-          let own = own_size image (size_at image 0) fit.0 (λ none. absurd (omega (arith, range.1, none))) in (
-            size_at image 0,
-            header_at Secondary (Some SequencesDiffer) (size_at image 0) b own
-                (omega (arith, own, probe_primary image valid)) (rw (b, l) at is),
-          )
+          let own = own_size image (size_at image 0) fit.0 (λ none. absurd (omega (arith, range.1, none))) in
+          (size_at image 0, header_at Secondary (Some SequencesDiffer) (size_at image 0) b own (rw (b, l) at is))
       by true false true b l e = primary (Some SequencesDiffer) (rw (b, l, e) at is)
       by true false false b l e = primary None (rw (b, l, e) at is)
 
@@ -257,12 +241,11 @@ module _ (image : List ℕ) (header : Header2) where
   search_result_at : is_valid image 0 ≡ false → (offset : ℕ) → find (is_valid image) sizes ≡ Some offset
       → found_at image offset ≡ Some header → HasHeaderAt image header offset
   search_result_at none offset least is =
-      let one = first_is (is_valid image) (probe_end image) sizes offset least in
+      let one = found_passes (is_valid image) sizes offset least in
       let some : offset ≡ 0 → ⊥ =
       λ start. (let wrong : true ≡ false = sym one.0 ∙ ap (is_valid image) start ∙ none in cc) in
-      let fit = valid_parts image offset one.0 in
-      header_at Secondary (Some PrimaryNotValid) offset one.0 (own_size image offset fit.0 some)
-      (omega (arith, one.1, probe_fit image offset fit.0, search_len_is image, probe_other image none)) is
+      let own = own_size image offset (valid_parts image offset one.0).0 some in
+      header_at Secondary (Some PrimaryNotValid) offset one.0 own is
 
   -- the header that is chosen is at an offset of the image
   chosen_header_at : chosen2_of image ≡ Some header → (offset : ℕ) × HasHeaderAt image header offset
@@ -286,14 +269,13 @@ module _ (image : List ℕ) (header : Header2) where
 pub read_attached : (image : List ℕ) (header : Header2) → header2_of image ≡ Ok header → header.detached ≡ false
 read_attached image header is = (located image header is).1.attached
 
--- the bytes that were read to choose a header have its JSON text: its JSON area ends within them
-pub json_prefix : (image : List ℕ) (header : Header2) → header2_of image ≡ Ok header
-    → json_text_of (take (header2_read_len image) image) header ≡ json_text_of image header
-unfolding header2_read_len json_text_of
-json_prefix image header is =
-    let it = located image header is in
-    let range = valid_range image it.0 it.1.valid in
-    let whole = valid_parts image it.0 it.1.valid in
-    let offset = header_offset header.role header.size + binary_len in
-    ap text_of (at_prefix offset (header.size - binary_len) (header2_read_len image) image
-    (omega (arith, range.1, it.1.here, it.1.size, it.1.probed, whole.1)))
+-- the JSON area of a header ends within the bytes that are read to choose it
+pub text_more : (loaded more image : List ℕ) → image ≡ loaded ++ more → (header : Header2)
+    → header2_of loaded ≡ Ok header → json_text_of image header ≡ json_text_of loaded header
+unfolding json_text_of
+text_more loaded more image same header is =
+    let it = located loaded header is in
+    let range = valid_range loaded it.0 it.1.valid in
+    let whole = valid_parts loaded it.0 it.1.valid in
+    ap text_of (at_more loaded more image same (header_offset header.role header.size + binary_len)
+    (header.size - binary_len) (omega (arith, range.1, it.1.here, it.1.size, whole.1)))

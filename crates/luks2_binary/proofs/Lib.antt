@@ -1,3 +1,2 @@
 pub mod ChoiceLemmas
-pub mod PrefixLemmas
 pub mod ValidLemmas

@@ -1,24 +1,17 @@
 -- Properties of a header that fits or is valid, in an image and in its loaded start.
-use Rattle.std.proofs.Common.{◌≡◌, ◌∙◌, ◌==◌, ◌||◌, ℕ, ◌+◌, ◌<◌, ◌≤◌, List, Some, None, Bool, true, false, ap, sym}
-use Rattle.std.proofs.Common.{refl, length, max, arith, zero, suc, ◌&&◌, [], ◌∷◌, Option, drop, get_or, add-one}
-use Rattle.std.specs.Prelude.{if◌then◌else◌, filter, is_some, map, nat_le, nat_lt, not, option_and_then}
-use Rattle.std.specs.Bool.{then_some}
+use Rattle.std.proofs.Common.{◌≡◌, ◌∙◌, ◌==◌, ◌||◌, ℕ, ◌+◌, ◌<◌, ◌≤◌, List, Some, Bool, true, false, ap, sym}
+use Rattle.std.proofs.Common.{refl, length, max, arith, ◌&&◌, [], ◌∷◌, ◌++◌, Option, drop, take, inl, inr}
+use Rattle.std.proofs.Common.{length-append, length-drop}
+use Rattle.std.specs.Prelude.{if◌then◌else◌, filter, map, nat_lt, not}
 use Rattle.std.specs.List.{list_any, find}
-use Rattle.std.proofs.lemmas.Bool.{and_parts, leb-true, eqb-true, le-leb, lt-leb, ne_eqb}
+use Rattle.std.specs.Option.{option_map_or}
+use Rattle.std.proofs.lemmas.Bool.{and_parts, cases_lt, leb-true, eqb-true, le-leb, lt-leb, ltb-false, ltb-true, ne_eqb}
 use Rattle.std.proofs.lemmas.Bool.Decides.{nat_tests}
-use Rattle.luks_header_area.specs.Area.{HeaderAreaModel}
+use Rattle.std.proofs.lemmas.List.{drop-append-le, take-append-le}
 use Rattle.luks_header_area.specs.Fields.{at}
-use Rattle.luks_header_area.proofs.FieldLemmas.{at_prefix}
-use Rattle.luks2_binary.specs.Choice2.{binary_at, fits, is_binary_of, is_valid, size_at, found_at, is_tried}
-use Rattle.luks2_binary.specs.ReadLen2.{probe_end, max_of, search_len}
-use Rattle.luks2_binary.specs.Header2.{size_in, sizes, header2_from}
-use Rattle.luks2_binary.specs.Reading2.{IsPrefixOf, valid_size}
-use Rattle.std.proofs.Math.Seq.{drop-cons}
-use Rattle.std.proofs.lemmas.List.{drop_all}
-use Rattle.std.proofs.lemmas.List.Sums.{AllPass-from_list_all}
-use Rattle.luks2_binary.specs.declared.header.PairFinding.TheVariants.{PrimaryNotValid}
-use Rattle.luks2_binary.specs.declared.header.Header2.{Header2}
-use Rattle.luks2_binary.specs.declared.header.HeaderRole.TheVariants.{Secondary}
+use Rattle.luks2_binary.specs.Choice2.{binary_at, fits, is_binary_of, is_valid, size_at, is_tried}
+use Rattle.luks2_binary.specs.ReadLen2.{probe_end, max_of, search_len, stops}
+use Rattle.luks2_binary.specs.Header2.{size_in, sizes}
 
 -- the range of a length that is one of the nine
 known_size : (n : ℕ) → list_any (λ size. size == n) sizes ≡ true → (16384 ≤ n) × (n ≤ 4194304)
@@ -100,96 +93,60 @@ module _ (image : List ℕ) (offset : ℕ) where
   unfolding probe_end
   probe_fit is = rw is refl
 
--- ---- the loaded start of an image has the same headers as the image, as far as it is loaded
+-- ---- an image that starts with loaded bytes has the same headers, as far as it is loaded
 
-module _ (loaded : List ℕ) (ended : Bool) (image : List ℕ) (prefix : IsPrefixOf loaded ended image) where
+module _ (loaded more image : List ℕ) (is : image ≡ loaded ++ more) where
   -- loaded bytes are the image's
-  pub at-prefix : (offset n : ℕ) → offset + n ≤ length loaded → at offset n loaded ≡ at offset n image
-  at-prefix offset n within =
-      ap (λ l. at offset n l) (sym prefix.begins) ∙ at_prefix offset n (length loaded) image within
+  pub at_more : (offset n : ℕ) → offset + n ≤ length loaded → at offset n image ≡ at offset n loaded
+  at_more offset n within =
+      ap (λ l. at offset n l) is
+      ∙ ap (take n) (drop-append-le offset loaded more (omega (arith, within)))
+      ∙ take-append-le n (drop offset loaded) more (omega (arith, within, length-drop offset loaded))
 
-  -- if a binary header's length is loaded, a header fits the loaded bytes if and only if it fits the image
-  pub fits-prefix : (offset : ℕ) → offset + 4096 ≤ length loaded → fits loaded offset ≡ fits image offset
+  -- an image is no shorter than its start
+  pub longer : length loaded ≤ length image
+  longer = omega (arith, ap length is, length-append loaded more)
+
+  -- if a binary header's length is loaded, a header fits the image if and only if it fits the loaded bytes
+  fits_more : (offset : ℕ) → offset + 4096 ≤ length loaded → fits image offset ≡ fits loaded offset
   unfolding fits
-  fits-prefix offset within =
+  fits_more offset within =
       rw (
         le-leb (offset + 4096) (length loaded) within,
-        le-leb (offset + 4096) (length image) (omega (arith, prefix.within)),
-        at-prefix offset 4096 within,
+        le-leb (offset + 4096) (length image) (omega (arith, longer)),
+        at_more offset 4096 within,
       ) refl
 
-  -- a header that is loaded whole, or does not fit, is valid in the loaded bytes if and only if it is in the image
-  pub valid-prefix : (offset : ℕ) → offset + 4096 ≤ length loaded
-      → (fits image offset ≡ true → offset + size_at image offset ≤ length loaded)
-      → is_valid loaded offset ≡ is_valid image offset
+  -- as many bytes of the image are read to check the offset, or more
+  pub probe_more : (offset : ℕ) → offset + 4096 ≤ length loaded → probe_end image offset ≡ probe_end loaded offset
+  unfolding probe_end
+  probe_more offset within = rw (fits_more offset within, at_more offset 4096 within) refl
+
+  pub probe_grows : (offset : ℕ) → probe_end loaded offset ≤ probe_end image offset
+  probe_grows offset = elim (cases_lt (length loaded) (offset + 4096)) [
+    | inl short ↦ omega (arith, probe_least image offset, probe_unfit loaded offset (short-fits loaded offset short))
+    | inr there ↦ omega (arith, probe_more offset there)
+  ]
+
+  -- if all bytes that are read to check it are loaded, a header is valid in the image if and only if it is there
+  pub valid_more : (offset : ℕ) → probe_end loaded offset ≤ length loaded → is_valid image offset ≡ is_valid loaded offset
   unfolding is_valid
-  valid-prefix offset within whole = by (fits image offset) refl where
-    by : (fit : Bool) → fits image offset ≡ fit → is_valid loaded offset ≡ is_valid image offset
-    by true is =
+  valid_more offset whole = by (fits loaded offset) refl where
+    there : offset + 4096 ≤ length loaded
+    there = omega (arith, probe_least loaded offset, whole)
+
+    by : (fit : Bool) → fits loaded offset ≡ fit → is_valid image offset ≡ is_valid loaded offset
+    by true fit =
+        let end : offset + size_at loaded offset ≤ length loaded = omega (arith, probe_fit loaded offset fit, whole) in
         rw (
-          fits-prefix offset within,
-          is,
-          at-prefix offset 4096 within,
-          le-leb (offset + size_at image offset) (length loaded) (whole is),
-          le-leb (offset + size_at image offset) (length image) (omega (arith, whole is, prefix.within)),
-          at-prefix offset (size_at image offset) (whole is),
+          fits_more offset there,
+          fit,
+          at_more offset 4096 there,
+          le-leb (offset + size_at loaded offset) (length loaded) end,
+          le-leb (offset + size_at loaded offset) (length image) (omega (arith, end, longer)),
+          at_more offset (size_at loaded offset) end,
         ) refl
-    by false is = rw (fits-prefix offset within, is) refl
-
--- a test whose answer is `None` does not hold
-pub none_fails : (b : Bool) (n : ℕ) → None ≡ (if b then Some n else None) → b ≡ false
-none_fails true n is = absurd (cc)
-none_fails false n is = refl
-
--- a test whose answer is a number holds, and that is the number
-pub some_holds : (b : Bool) (size n : ℕ) → Some size ≡ (if b then Some n else None) → (b ≡ true) × (size ≡ n)
-some_holds true size n is = (refl, cc)
-some_holds false size n is = absurd (cc)
-
-then_some_is : (b : Bool) (n : ℕ) → then_some b n ≡ (if b then Some n else None)
-then_some_is true n = refl
-then_some_is false n = refl
-
-module _ (area : HeaderAreaModel) (image bytes : List ℕ) (offset : ℕ) (prefix : IsPrefixOf area.bytes area.ended image)
-    (is : bytes ≡ area.bytes) where
-  -- if a binary header's length is loaded or the image has ended, a header fits the image if it fits the loaded bytes
-  fits-bytes : (area.ended ≡ false → offset + 4096 ≤ length area.bytes) → fits bytes offset ≡ fits image offset
-  fits-bytes there = ap (λ l. fits l offset) is ∙ by area.ended refl where
-    by : (b : Bool) → area.ended ≡ b → fits area.bytes offset ≡ fits image offset
-    by true e = ap (λ l. fits l offset) (sym (prefix.ends e))
-    by false e = fits-prefix area.bytes area.ended image prefix offset (there e)
-
-  -- if no header fits the loaded bytes, none fits the image
-  pub unfit_here : (area.ended ≡ false → offset + 4096 ≤ length area.bytes)
-      → None ≡ (if fits bytes offset then Some (size_at bytes offset) else None) → fits image offset ≡ false
-  unfit_here there none = sym (fits-bytes there) ∙ none_fails (fits bytes offset) (size_at bytes offset) none
-
-  -- if a header of this length fits the loaded bytes, it fits the image, and its binary header is loaded
-  pub fit_here : (size : ℕ) → Some size ≡ (if fits bytes offset then Some (size_at bytes offset) else None)
-      → (fits image offset ≡ true) × (size ≡ size_at image offset) × (offset + 4096 ≤ length area.bytes)
-  fit_here size some =
-      let one = some_holds (fits bytes offset) size (size_at bytes offset) some in
-      let parts = fits_parts bytes offset one.0 in
-      let there : offset + 4096 ≤ length area.bytes = omega (arith, parts.0, ap length is) in (
-        sym (fits-bytes (λ _. there)) ∙ one.0,
-        one.1 ∙ ap (λ l. size_at l offset) is
-            ∙ ap size_in (at-prefix area.bytes area.ended image prefix offset 4096 there),
-        there,
-      )
-
-  -- if the header is loaded whole or the image has ended, the loaded bytes give the same length as the image, or none
-  -- if it is not valid
-  pub valid_here : (size : ℕ) → size ≡ size_at image offset → offset + 4096 ≤ length area.bytes
-      → (area.ended ≡ false → offset + size ≤ length area.bytes)
-      → then_some (is_valid bytes offset) size ≡ valid_size image offset
-  valid_here size long there whole =
-      let valid : is_valid bytes offset ≡ is_valid image offset = ap (λ l. is_valid l offset) is ∙ by area.ended refl in
-      rw (valid, long) (then_some_is (is_valid image offset) (size_at image offset))
-    where
-      by : (b : Bool) → area.ended ≡ b → is_valid area.bytes offset ≡ is_valid image offset
-      by true e = ap (λ l. is_valid l offset) (sym (prefix.ends e))
-      by false e =
-          valid-prefix area.bytes area.ended image prefix offset there (λ fit. omega (arith, long, whole e))
+    by false fit = rw (fits_more offset there, fit) refl
 
 -- ---- the search for a secondary header, offset by offset: it gives what its definition states
 
@@ -197,20 +154,6 @@ module _ (area : HeaderAreaModel) (image bytes : List ℕ) (offset : ℕ) (prefi
 unfoldable pub furthest : (ℕ → Bool) → (ℕ → ℕ) → List ℕ → ℕ
 furthest valid probe [] = 0
 furthest valid probe (offset ∷ offsets) = max (probe offset) (if valid offset then 0 else furthest valid probe offsets)
-
--- the first valid offset is valid, and the search reads at least as far as it does for this offset
-pub first_is : (valid : ℕ → Bool) (probe : ℕ → ℕ) (offsets : List ℕ) (offset : ℕ) → find valid offsets ≡ Some offset
-    → (valid offset ≡ true) × (probe offset ≤ furthest valid probe offsets)
-unfolding furthest
-first_is valid probe [] offset is = absurd (cc)
-first_is valid probe (here ∷ offsets) offset is = by (valid here) refl (first_is valid probe offsets offset) where
-  by : (b : Bool) → valid here ≡ b
-      → (find valid offsets ≡ Some offset → (valid offset ≡ true) × (probe offset ≤ furthest valid probe offsets))
-      → (valid offset ≡ true) × (probe offset ≤ furthest valid probe (here ∷ offsets))
-  by true e behind =
-      let same : here ≡ offset = (let first : Some here ≡ Some offset = rw e at is in cc) in
-      (ap valid (sym same) ∙ e, omega (arith, ap probe same))
-  by false e behind = (let rest = behind (rw e at is) in (rest.0, rw e (omega (arith, rest.1))))
 
 module _ (valid : ℕ → Bool) (probe : ℕ → ℕ) where
   -- no lower one of the nine offsets has a valid header
@@ -241,113 +184,100 @@ module _ (valid : ℕ → Bool) (probe : ℕ → ℕ) where
       one_by (valid 16384) (valid 32768) (valid 65536) (valid 131072) (valid 262144) (valid 524288) (valid 1048576)
       (valid 2097152) (valid 4194304) refl refl refl refl refl refl refl refl refl
 
--- the end of the bytes that are read to check the offsets from number k on
-abbrev pub ahead : List ℕ → ℕ → ℕ
-ahead image k = furthest (is_valid image) (probe_end image) (drop k sizes)
-
--- the end of the bytes that are read to check the first k offsets
-abbrev pub so_far : List ℕ → ℕ → ℕ
-so_far image zero = 0
-so_far image (suc k) = max (so_far image k) (probe_end image (get_or sizes k 0))
-
--- none of the first k offsets has a valid header
-pub record Searched (image : List ℕ) (k : ℕ) : Type 0 where
-  pub offset : find (is_valid image) sizes ≡ find (is_valid image) (drop k sizes)
-  pub probed : search_len image ≡ max (so_far image k) (ahead image k)
-
 -- the search reads as far as its definition states
-pub search_len_is : (image : List ℕ) → search_len image ≡ ahead image 0
+pub search_len_is : (image : List ℕ) → search_len image ≡ furthest (is_valid image) (probe_end image) sizes
 unfolding search_len is_tried
 search_len_is image = sym (are_one (is_valid image) (probe_end image))
 
--- before the first offset
-pub searched_none : (image : List ℕ) → Searched image 0
-searched_none image = record { offset = refl; probed = omega (arith, search_len_is image) }
+-- an offset that is found among others passes the test, and is no greater than their maximum
+pub found_passes : (test : ℕ → Bool) (offsets : List ℕ) (offset : ℕ) → find test offsets ≡ Some offset
+    → (test offset ≡ true) × (offset ≤ max_of offsets)
+found_passes test [] offset is = absurd (cc)
+found_passes test (here ∷ offsets) offset is = by (test here) refl (found_passes test offsets offset) where
+  by : (b : Bool) → test here ≡ b
+      → (find test offsets ≡ Some offset → (test offset ≡ true) × (offset ≤ max_of offsets))
+      → (test offset ≡ true) × (offset ≤ max here (max_of offsets))
+  by true e behind =
+      let same : here ≡ offset = (let first : Some here ≡ Some offset = rw e at is in cc) in
+      (ap test (sym same) ∙ e, omega (arith, same))
+  by false e behind = (let rest = behind (rw e at is) in (rest.0, omega (arith, rest.1)))
 
--- at offset number k of the list of offsets
-module _ (image : List ℕ) (k : ℕ) (items : List ℕ) (are : items ≡ sizes) (inside : k < length items)
-    (searched : Searched image k) where
-  abbrev pub offset : ℕ
-  offset = get_or items k 0
+-- ---- loading step by step
 
-  here : drop k sizes ≡ offset ∷ drop (suc k) sizes
-  here =
-      drop-cons sizes k 0 (omega (arith, inside, ap length are))
-      ∙ ap (λ p. p ∷ drop (suc k) sizes) (sym (ap (λ l. get_or l k 0) are))
+-- the end of the bytes that are to be loaded next for these offsets
+abbrev pub next_end : List ℕ → Option ℕ → ℕ
+next_end loaded found = option_map_or (probe_end loaded) found 0
 
-  -- the end of the bytes that are read to check the offsets from this one on
-  ahead_fails : is_valid image offset ≡ false → ahead image k ≡ max (probe_end image offset) (ahead image (suc k))
+-- loading does not stop at an offset: all bytes that are read to check it are loaded, and no valid header is there
+goes_on : (loaded : List ℕ) (offset : ℕ) → stops loaded offset ≡ false
+    → (is_valid loaded offset ≡ false) × (probe_end loaded offset ≤ length loaded)
+unfolding stops
+goes_on loaded offset is = by (is_valid loaded offset) is where
+  by : (b : Bool) → (b || nat_lt (length loaded) (probe_end loaded offset)) ≡ false
+      → (b ≡ false) × (probe_end loaded offset ≤ length loaded)
+  by true e = absurd (cc)
+  by false e = (refl, ltb-false (length loaded) (probe_end loaded offset) e)
+
+module _ (loaded more image : List ℕ) (is : image ≡ loaded ++ more) where
+  -- no more bytes are to be loaded next than are read to check the offsets
+  pub next_within : (offsets : List ℕ)
+      → next_end loaded (find (stops loaded) offsets) ≤ furthest (is_valid image) (probe_end image) offsets
   unfolding furthest
-  ahead_fails fails = rw (here, fails) refl
+  next_within [] = omega arith
+  next_within (offset ∷ offsets) = by (stops loaded offset) refl (next_within offsets) where
+    by : (b : Bool) → stops loaded offset ≡ b
+        → next_end loaded (find (stops loaded) offsets) ≤ furthest (is_valid image) (probe_end image) offsets
+        → next_end loaded (find (stops loaded) (offset ∷ offsets))
+        ≤ furthest (is_valid image) (probe_end image) (offset ∷ offsets)
+    by true e rest = rw e (omega (arith, probe_grows loaded more image is offset))
+    by false e rest =
+        let on = goes_on loaded offset e in
+        rw (e, valid_more loaded more image is offset on.1, on.0) (omega (arith, rest))
 
-  ahead_holds : is_valid image offset ≡ true → ahead image k ≡ probe_end image offset
+  -- loaded bytes that reach as far as is read have the same first valid offset as the image, and as many are read
+  abbrev AreSame : List ℕ → Type 0
+  AreSame offsets = (find (is_valid image) offsets ≡ find (is_valid loaded) offsets)
+      × (furthest (is_valid image) (probe_end image) offsets ≡ furthest (is_valid loaded) (probe_end loaded) offsets)
+
+  pub walk_same : (offsets : List ℕ) → furthest (is_valid loaded) (probe_end loaded) offsets ≤ length loaded
+      → AreSame offsets
   unfolding furthest
-  ahead_holds holds = rw (here, holds) (omega arith)
+  walk_same [] within = (refl, refl)
+  walk_same (offset ∷ offsets) within = by (is_valid loaded offset) refl (walk_same offsets) where
+    first : probe_end loaded offset ≤ length loaded
+    first = omega (arith, within)
 
-  -- the bytes that are read to check this offset are among those that the search reads
-  pub probe_below : max (so_far image k) (probe_end image offset) ≤ search_len image
-  probe_below = by (is_valid image offset) refl where
-    by : (b : Bool) → is_valid image offset ≡ b → max (so_far image k) (probe_end image offset) ≤ search_len image
-    by true e = omega (arith, ahead_holds e, searched.probed)
-    by false e = omega (arith, ahead_fails e, searched.probed)
+    valid : is_valid image offset ≡ is_valid loaded offset
+    valid = valid_more loaded more image is offset first
 
-  -- no valid header is here: the search continues
-  pub searched_on : is_valid image offset ≡ false → Searched image (k + 1)
-  searched_on fails =
-      let same : probe_end image offset ≡ probe_end image (get_or sizes k 0) =
-      ap (λ l. probe_end image (get_or l k 0)) are in
-      let next : search_len image
-      ≡ max (max (so_far image k) (probe_end image (get_or sizes k 0))) (ahead image (suc k)) =
-      omega (arith, ahead_fails fails, searched.probed, same) in
-      rw add-one record { offset = searched.offset ∙ rw (here, fails) refl; probed = next }
+    probe : probe_end image offset ≡ probe_end loaded offset
+    probe = probe_more loaded more image is offset (omega (arith, probe_least loaded offset, first))
 
-  -- a valid header is here: the search ends
-  pub searched_offset : is_valid image offset ≡ true → (find (is_valid image) sizes ≡ Some offset)
-      × (max (so_far image k) (probe_end image offset) ≡ search_len image)
-  searched_offset holds =
-      (searched.offset ∙ rw (here, holds) refl, omega (arith, ahead_holds holds, searched.probed))
+    by : (b : Bool) → is_valid loaded offset ≡ b
+        → (furthest (is_valid loaded) (probe_end loaded) offsets ≤ length loaded → AreSame offsets)
+        → AreSame (offset ∷ offsets)
+    by true e next = (rw (valid, e) refl, rw (valid, probe, e) refl)
+    by false e next =
+        let rest = next (let inside = (rw e at within) in omega (arith, inside)) in
+        (rw (valid, e) rest.0, rw (valid, probe, e) (ap (max (probe_end loaded offset)) rest.1))
 
--- the end of the bytes that are read to check one more offset
-pub so_far_next : (image items : List ℕ) (k : ℕ) → items ≡ sizes
-    → max (so_far image k) (probe_end image (get_or items k 0)) ≡ so_far image (k + 1)
-so_far_next image items k are =
-    ap (λ l. max (so_far image k) (probe_end image (get_or l k 0))) are ∙ ap (so_far image) (sym (add-one k))
-
-some_if : (b : Bool) (n : ℕ) → is_some (if b then Some n else None) ≡ b
-some_if true n = refl
-some_if false n = refl
-
--- a header is valid exactly if it has a length
-pub found_valid : (image : List ℕ) (offset : ℕ) (found : Option ℕ) → found ≡ valid_size image offset
-    → is_valid image offset ≡ is_some found
-found_valid image offset found is = sym (ap is_some is ∙ some_if (is_valid image offset) (size_at image offset))
-
--- the offsets are in range
-pub offset_range : (items : List ℕ) (k : ℕ) → items ≡ sizes → k < length items → get_or items k 0 ≤ 4194304
-unfolding sizes
-offset_range items k are inside =
-    let few : k < length sizes = omega (arith, inside, ap length are) in
-    rw are (leb-true (get_or sizes k 0) 4194304
-    (AllPass-from_list_all (λ size. nat_le size 4194304) sizes refl k 0 few))
-
--- the header that was found is that of the lowest valid offset
-pub found_least : (loaded : List ℕ) (ended : Bool) (image bytes : List ℕ) (offset : ℕ) (header : Option Header2)
-    → IsPrefixOf loaded ended image → bytes ≡ loaded → is_valid loaded offset ≡ true
-    → header ≡ header2_from Secondary (Some PrimaryNotValid) (binary_at bytes offset)
-    → find (is_valid image) sizes ≡ Some offset
-    → header ≡ option_and_then (found_at image) (find (is_valid image) sizes)
-found_least loaded ended image bytes offset header prefix is valid made first =
-    let range = valid_range loaded offset valid in
-    let same : binary_at bytes offset ≡ binary_at image offset = ap (λ l. at offset 4096 l) is
-    ∙ at-prefix loaded ended image prefix offset 4096 range.0 in
-    made ∙ ap (header2_from Secondary (Some PrimaryNotValid)) same
-    ∙ sym (ap (option_and_then (found_at image)) first)
-
--- if no offset remains, none has a valid header, and all bytes that the search reads were read
-pub searched_all : (image : List ℕ) (k : ℕ) → Searched image k → length sizes ≤ k
-    → (find (is_valid image) sizes ≡ None) × (so_far image k ≡ search_len image)
-unfolding furthest
-searched_all image k searched end =
-    let none = drop_all k sizes end in
-    let rest : ahead image k ≡ 0 = rw none refl in
-    (searched.offset ∙ rw none refl, omega (arith, searched.probed, rest))
+-- if no more bytes are to be loaded, all that are read to check the offsets are loaded
+pub next_enough : (loaded offsets : List ℕ) → next_end loaded (find (stops loaded) offsets) ≤ length loaded
+    → furthest (is_valid loaded) (probe_end loaded) offsets ≤ length loaded
+unfolding furthest stops
+next_enough loaded [] within = omega arith
+next_enough loaded (offset ∷ offsets) within =
+    by (is_valid loaded offset) (nat_lt (length loaded) (probe_end loaded offset)) refl refl
+    (next_enough loaded offsets)
+  where
+    by : (valid short : Bool) → is_valid loaded offset ≡ valid
+        → nat_lt (length loaded) (probe_end loaded offset) ≡ short
+        → (next_end loaded (find (stops loaded) offsets) ≤ length loaded
+        → furthest (is_valid loaded) (probe_end loaded) offsets ≤ length loaded)
+        → furthest (is_valid loaded) (probe_end loaded) (offset ∷ offsets) ≤ length loaded
+    by true short v s rest = (let end = rw v at within in rw v (omega (arith, end)))
+    by false true v s rest =
+        (let end = rw (v, s) at within in absurd (omega (arith, end, ltb-true (length loaded) _ s)))
+    by false false v s rest =
+        let end = rest (rw (v, s) at within) in
+        rw v (omega (arith, end, ltb-false (length loaded) (probe_end loaded offset) s))

@@ -1,6 +1,5 @@
 pub mod Checksum2
 pub mod Choice2
-pub mod Reading2
 pub mod Header2
 pub mod ReadLen2
 pub mod Text2

@@ -1,10 +1,10 @@
 //! Which of two valid headers is chosen.
 
-ghost use Rattle.std.specs.Prelude.{◌≡◌, ◌≤◌, true};
-ghost use Rattle.luks2_binary.specs.Choice2.{with_valid_primary, binary_at, is_valid, size_at};
+ghost use Rattle.std.specs.Prelude.{◌≡◌, true};
+ghost use Rattle.luks2_binary.specs.Choice2.{with_valid_primary, binary_at, is_valid};
 ghost use Rattle.luks2_binary.specs.Header2.{header2_from};
 
-use crate::header::{Header2, HeaderRole, PairFinding, sequence_in};
+use crate::header::{Header2, HeaderRole, PairFinding, sequence_in, size_in};
 use crate::validity::{binary_at, is_valid};
 
 /// The valid header in these bytes at an offset.
@@ -14,22 +14,20 @@ pub(crate) fn valid_header(
     role: HeaderRole,
     finding: Option<PairFinding>,
 ) -> Option<Header2>
-    requires valid { is_valid bytes.now start ≡ true }
-    requires range { start ≤ 4194304 }
+    requires { is_valid bytes.now start ≡ true }
     ensures { result ≡ header2_from role finding (binary_at bytes.now start) }
 {
     Header2::from_bytes(role, finding, binary_at(bytes, start))
 }
 
-/// The header of an image whose primary one is valid and of this length: the secondary one if that
-/// is valid with a higher sequence number, and otherwise the primary.
+/// The header of an image whose primary one is valid: the secondary one if that is valid with a
+/// higher sequence number, and otherwise the primary.
 #[tactic(auto, unfolding(crate::specs::Choice2::with_valid_primary))]
-pub(crate) fn with_valid_primary(bytes: &[u8], size: usize) -> Option<Header2>
-    requires valid { is_valid bytes.now 0 ≡ true }
-    requires long { size ≡ size_at bytes.now 0 }
-    requires range { size ≤ 4194304 }
+pub(crate) fn with_valid_primary(bytes: &[u8]) -> Option<Header2>
+    requires { is_valid bytes.now 0 ≡ true }
     ensures { result ≡ with_valid_primary bytes.now }
 {
+    let size = size_in(binary_at(bytes, 0)) as usize;
     if !is_valid(bytes, size) {
         return valid_header(
             bytes,

@@ -68,13 +68,13 @@ pub(crate) fn binary_at(bytes: &[u8], offset: usize) -> &[u8]
     &bytes[offset..offset + BINARY_LEN]
 }
 
-/// Whether a binary header for this offset is at the offset.
+// Whether a binary header for this offset is at the offset.
 #[tactic(auto, unfolding(crate::specs::Choice2::fits))]
-pub(crate) fn fits(bytes: &[u8], offset: usize) -> bool
-    requires { offset ≤ 4194304 }
+fn fits(bytes: &[u8], offset: usize) -> bool
     ensures { result ≡ fits bytes.now offset }
 {
-    offset + BINARY_LEN <= bytes.len() && is_binary_of(offset as u64, binary_at(bytes, offset))
+    offset.saturating_add(BINARY_LEN) <= bytes.len()
+        && is_binary_of(offset as u64, binary_at(bytes, offset))
 }
 
 static NO_CHECKSUM: [u8; 64] = [0; 64];
@@ -115,7 +115,6 @@ fn checksum_matches(header: &[u8]) -> bool
 /// Whether a valid header is at the offset: it fits, all of it is there, and its checksum matches.
 #[tactic(auto, unfolding(crate::specs::Choice2::is_valid))]
 pub(crate) fn is_valid(bytes: &[u8], offset: usize) -> bool
-    requires { offset ≤ 4194304 }
     ensures { result ≡ is_valid bytes.now offset }
 {
     let Some(size) = fitting_size(bytes, offset) else {
@@ -126,7 +125,6 @@ pub(crate) fn is_valid(bytes: &[u8], offset: usize) -> bool
 
 /// The length of the header at the offset, if one fits.
 pub(crate) fn fitting_size(bytes: &[u8], offset: usize) -> Option<usize>
-    requires { offset ≤ 4194304 }
     ensures value { result
         ≡ (if fits bytes.now offset then Some (size_at bytes.now offset) else None) }
     ensures range { IfSome result (λ size. (16384 ≤ size) × (size ≤ 4194304)) }

@@ -1,4 +1,3 @@
-pub mod ConsumedLemmas
 pub mod FailingLemmas
 pub mod OpeningLemmas
 pub mod RangeLemmas

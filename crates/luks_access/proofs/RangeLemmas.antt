@@ -1,7 +1,7 @@
 -- Parts of a plaintext: sectors that are decrypted one after the other, and ranges that are joined from smaller ones.
 use Rattle.std.proofs.Common.{◌≡◌, ℕ, ◌+◌, ◌-◌, ◌*◌, ◌/◌, ◌%◌, ◌<◌, ◌≤◌, List, ◌++◌, length, take, drop}
 use Rattle.std.proofs.Common.{◌^◌, arith, refl, sym, ap, ◌∙◌}
-use Rattle.std.proofs.Common.{length-append, length-drop, Option, None, Some, Result, Ok, Err, Bool, subst}
+use Rattle.std.proofs.Common.{length-append, length-drop, Option, Some, Result, Ok, Err, Bool, subst}
 use Rattle.std.proofs.lemmas.List.{drop-drop, drop_at, length-take-le, take-take}
 use Rattle.std.proofs.lemmas.Slice.{take-put_mid}
 use borrow.Rule.Slice.PartMut.{put_mid}

@@ -1,29 +1,21 @@
 -- Which volume is opened, compared with `luksCat`.
-use Rattle.std.specs.Prelude.{ℕ, ◌≡◌, List, Ok, false, ◌⊎◌, ◌<◌, ◌≤◌, length, Option, None, Some, Result, Err}
-use Rattle.std.specs.Prelude.{MatchBool}
-use Rattle.std.specs.Prelude.{if◌then◌else◌, nat_lt}
-use Rattle.luks_io.specs.Devices.{ConsumedAtMost, ConsumedExactly}
+use Rattle.std.specs.Prelude.{ℕ, ◌≡◌, List, Ok, false, Option, Result, Err}
 use Rattle.luks_cipher.specs.Sector.{Cipher}
 use Rattle.luks_key_slots.specs.Fault.{aborts_opening, has_fault}
-use Rattle.luks_key_slots.specs.Opening.{key_material_end, opening_of}
-use Rattle.luks_key_slots.specs.declared.fault.OpenFault.{OpenFault}
 use Rattle.luks_key_slots.specs.declared.fault.PassphraseFault.{PassphraseFault}
 use Rattle.luks_key_slots.specs.declared.fault.PassphraseFault.TheVariants.{TooLong}
 use Rattle.luks_key_slots.specs.declared.fault.VolumeFault.{VolumeFault}
 use Rattle.luks_key_slots.specs.declared.fault.VolumeFault.TheVariants as V
-use Rattle.luks_key_slots.specs.declared.opening.Opened.{Opened}
-use Rattle.luks_report.specs.Faults.{message_at_end, message_for_volume}
+use Rattle.luks_report.specs.Faults.{message_at_end}
 use Rattle.luks_request.specs.declared.command.SlotChoice.{SlotChoice}
-use Rattle.luks_runs.specs.KeyFile.{max_key_file_len}
-use Rattle.luks_runs.specs.Run.{Outcome, no_output}
+use Rattle.luks_runs.specs.Run.{Outcome}
 use Rattle.luks_runs.specs.Location.{detached_header_of, reader_for}
 use Rattle.luks_runs.specs.declared.location.HeaderLocation.{HeaderLocation}
 use Rattle.luks_runs.specs.declared.location.HeaderLocation.TheVariants.{Attached, Detached}
 use Rattle.luks_runs.specs.Honest.{OpensHonest}
-use Rattle.luks_runs.specs.Volume.{TriesSlots, opened_of, OnOpened, payload_outcome}
-use Rattle.luks_runs.specs.declared.found.FoundVolume.{FoundVolume}
+use Rattle.luks_runs.specs.Volume.{ConsumedUnless, VolumeOpening, opened_of, payload_outcome, volume_opening_by}
+use Rattle.luks_runs.specs.Volume.{volume_outcome, volume_outcome_by}
 use Rattle.luks_runs.specs.declared.unlocked.UnlockedVolume.{UnlockedVolume}
-use Rattle.luks_runs.specs.Volume.{Volume, slot_outcome, volume_by, volume_outcome, volume_outcome_by}
 use Rattle.luks_payload.specs.Plain.{ending_of, plain_of}
 use Rattle.luks_payload.specs.declared.state.Step.TheVariants.{End}
 use Rattle.luks_access.specs.declared.options.Options.{Options}
@@ -36,63 +28,24 @@ cipher_of v = (v.segment.mode, v.key)
 abbrev pub plaintext_of : UnlockedVolume → List ℕ → List ℕ
 plaintext_of v image = plain_of v.segment (cipher_of v) image
 
--- every command with these options that opens a volume opens this one by this passphrase, from this image or detached
+-- how every command with these options that opens a volume opens it under this passphrase, from this image or detached
 -- header
-pub record Opens (options : Options) (header pass : List ℕ) (v : UnlockedVolume) : Type 0 where
-  pub loaded : ℕ
-  pub outcome : (on_opened : OnOpened)
-      → volume_outcome_by (reader_for options.location) on_opened options.slots header pass
-      ≡ on_opened v.segment (opened_of v) loaded
+abbrev pub opening_with : Options → List ℕ → List ℕ → VolumeOpening
+opening_with options header pass = volume_opening_by (reader_for options.location) options.slots header pass
 
--- every such command ends with the message for this fault, and no output
-pub record Refuses (options : Options) (header pass : List ℕ) (fault : VolumeFault) : Type 0 where
-  pub header_consumed : ℕ
-  pub secret_consumed : ℕ
-  pub outcome : (on_opened : OnOpened)
-      → volume_outcome_by (reader_for options.location) on_opened options.slots header pass
-      ≡ no_output (message_for_volume fault) header_consumed secret_consumed
+-- every such command opens this volume
+abbrev pub Opens : Options → List ℕ → List ℕ → UnlockedVolume → Type 0
+Opens options header pass v = (opening_with options header pass).result ≡ Ok (v.segment, opened_of v)
 
--- the number of bytes of an image or detached header that opening consumes: as many as `testPassphrase` does
-abbrev pub open_read_len : Options → List ℕ → List ℕ → ℕ
-open_read_len options header pass =
-    (volume_outcome_by (reader_for options.location) (slot_outcome pass) options.slots header pass).consumed.input
+-- every such command ends with this fault, and no output
+abbrev pub Refuses : Options → List ℕ → List ℕ → VolumeFault → Type 0
+Refuses options header pass fault = (opening_with options header pass).result ≡ Err fault
 
--- opening ended in this way: it consumed as many bytes, or no more than these if a read failed or memory ran out
+-- opening ended in this way: it consumed as many bytes as every such command consumes to open the volume, or no more
+-- than these if a read failed or memory ran out
 abbrev pub ConsumesToOpen : {T : Type 0} → Options → List ℕ → List ℕ → Result T VolumeFault → Option (List ℕ) → Type 0
 ConsumesToOpen options header pass result left =
-    MatchBool (has_fault aborts_opening result) (ConsumedAtMost header left (open_read_len options header pass))
-    (ConsumedExactly header left (open_read_len options header pass))
-
--- the key slots of a volume were tried with a passphrase that is not too long, or the passphrase is too long, and
--- nothing was read
-abbrev pub UnlocksVolume : FoundVolume → List ℕ → List ℕ → List ℕ → Option (List ℕ)
-    → Result UnlockedVolume VolumeFault → Type 0
-UnlocksVolume volume pass area' rest left result =
-    ((length pass ≤ max_key_file_len)
-    × TriesSlots (record {
-      segment = volume.segment;
-      order = volume.order;
-      passphrase = pass;
-      loaded = volume.area.bytes;
-      loaded' = area';
-      further = rest;
-      further' = left;
-    }) result)
-    ⊎ ((max_key_file_len < length pass) × (result ≡ Err (V.Passphrase TooLong)) × (left ≡ Some rest))
-
--- the fault of trying the key slots, if none opens
-abbrev pub fault_of_slots : Result Opened OpenFault → Option VolumeFault
-fault_of_slots (Ok _) = None
-fault_of_slots (Err fault) = Some (V.Slots fault)
-
--- the fault with which opening this volume ends under this passphrase, if it is not opened; or the fault because of
--- which there is no volume
-abbrev pub fault_of_opening : List ℕ → List ℕ → Result Volume VolumeFault → Option VolumeFault
-fault_of_opening header pass (Err fault) = Some fault
-fault_of_opening header pass (Ok volume) =
-    if nat_lt max_key_file_len (length pass) then Some (V.Passphrase TooLong)
-    else (if nat_lt (length header) (key_material_end volume.order.entries) then Some V.KeyAreaCut
-    else fault_of_slots (opening_of volume.order header pass))
+    ConsumedUnless (has_fault aborts_opening result) header left (opening_with options header pass).consumed
 
 -- the image of the payload: the one that the header is attached to, or another
 abbrev pub payload_image_of : HeaderLocation → List ℕ → List ℕ → List ℕ
@@ -120,12 +73,9 @@ pub record OpensVolume (options : Options) (header pass : List ℕ) (v : Unlocke
   pub honest : (plain : List ℕ) → options.location ≡ Attached → OpensHonest options.slots header pass plain
       → (plaintext_of v header ≡ plain) × (ending_of v.segment header ≡ Ok End)
 
--- no volume was opened. Unless memory ran out or a read failed, this is the fault of the image under the passphrase
--- (`is_fault`), every command ends with its message (`refuses`), and the image is no honestly sealed volume, with an
--- attached header, that this passphrase opens (`no_honest`)
+-- no volume was opened. Unless memory ran out or a read failed, every command ends with this fault (`refuses`), and the
+-- image is no honestly sealed volume, with an attached header, that this passphrase opens (`no_honest`)
 pub record RefusesVolume (options : Options) (header pass : List ℕ) (fault : VolumeFault) : Type 0 where
-  pub is_fault : aborts_opening fault ≡ false
-      → fault_of_opening header pass (volume_by (reader_for options.location) options.slots header) ≡ Some fault
   pub refuses : aborts_opening fault ≡ false → Refuses options header pass fault
   -- the passphrase is there and is not read: it can only be too long
   pub only_long : (passphrase : PassphraseFault) → fault ≡ V.Passphrase passphrase → passphrase ≡ TooLong

@@ -1,19 +1,16 @@
 //! Open volumes.
 
 ghost use Rattle.std.specs.Prelude.{◌≡◌, ◌≢◌, ◌+◌, ◌-◌, ◌%◌, ◌^◌, ◌<◌};
-ghost use Rattle.std.specs.Prelude.{◌≤◌, ◌⊎◌, Bool, List, ℕ, Err};
-ghost use Rattle.std.specs.Prelude.{[], IfErr, IfOk, OnOk, is_err, length, replicate, true};
+ghost use Rattle.std.specs.Prelude.{◌≤◌, Bool, List, ℕ, Err};
+ghost use Rattle.std.specs.Prelude.{IfErr, IfOk, OnOk, length, replicate};
 ghost use Rattle.luks_cipher.specs.Expanded.{AreExpanded};
-ghost use Rattle.luks_runs.specs.KeyFile.{max_key_file_len};
 ghost use Rattle.luks_io.specs.Counts.{Reads};
 ghost use Rattle.luks_io.specs.Devices.{IfKnown};
 ghost use Rattle.luks_key_slots.specs.Fault.{has_fault, is_read_failure};
-ghost use Rattle.luks_request.specs.declared.command.SlotChoice.{SlotChoice};
-ghost use Rattle.luks_runs.specs.Volume.{CountsTrials, MatchesHeader};
 ghost use Rattle.luks_payload.specs.Plain.{ending_of, sector_len};
 ghost use Rattle.luks_access.specs.Sectors.{FailsInRange, IsRangeOf};
 ghost use Rattle.luks_access.specs.Opens.{ConsumesToOpen, OpensVolume, RefusesVolume};
-ghost use Rattle.luks_access.specs.Opens.{UnlocksVolume, plaintext_of};
+ghost use Rattle.luks_access.specs.Opens.{plaintext_of};
 
 use crate::fault::RangeFault;
 use crate::image::ReadAt;
@@ -29,7 +26,7 @@ use luks_kdf::Work;
 use luks_key_slots::fault::{PassphraseFault, VolumeFault};
 use luks_payload::fault::PayloadFault;
 use luks_payload::state::Step;
-use luks_runs::found::{FoundVolume, find_volume};
+use luks_runs::found::find_volume;
 use luks_runs::trying::try_slots;
 use luks_runs::unlocked::UnlockedVolume;
 use std::alloc::Global;
@@ -57,33 +54,6 @@ impl Model for Volume {
     ghost invariant = { λ v. AreExpanded v.unlocked.key v.unlocked.segment.mode v.keys };
 }
 
-/// Tries the key slots of a volume that was found, unless the passphrase is too long. The volume is
-/// passed by value, so it cannot be tried again.
-fn unlock<S: Source>(
-    found: FoundVolume,
-    source: &mut S,
-    pass: &[u8],
-    work: &mut Work,
-) -> Result<UnlockedVolume, VolumeFault>
-    requires { (slots : SlotChoice) × MatchesHeader slots found }
-    ensures run { IfKnown (S.to_come source.old) (λ rest. (found.area.ended ≡ true → rest ≡ [])
-        → (loaded : List ℕ) × UnlocksVolume found pass.now loaded rest
-        (S.to_come source.new) result) }
-    ensures work { ((loaded : List ℕ) × CountsTrials found.order loaded pass.now
-        result work.old work.new)
-        ⊎ ((max_key_file_len < length pass.now) × (is_err result ≡ true)
-        × (work.new ≡ work.old)) }
-    ensures reads { (ended : Bool) × Reads (has_fault is_read_failure result) ended
-        (S.counts source.old) (S.counts source.new) }
-    ensures ended { found.area.ended ≡ true → source.new ≡ source.old }
-{
-    if pass.len() > MAX_PASSPHRASE_LEN {
-        return Err(VolumeFault::Passphrase(PassphraseFault::TooLong));
-    }
-    let mut found = found;
-    try_slots(&mut found, source, pass, work)
-}
-
 impl Volume {
     /// Opens a volume by a passphrase. The source gives the bytes of its image, or of its detached
     /// header.
@@ -106,8 +76,11 @@ impl Volume {
         ensures reads { (ended : Bool) × Reads (has_fault is_read_failure result) ended
             (S.counts source.old) (S.counts source.new) }
     {
-        let found = find_volume(alloc, options.location, options.slots, source)?;
-        let unlocked = unlock(found, source, pass, &mut Work::new(0))?;
+        let mut found = find_volume(alloc, options.location, options.slots, source)?;
+        if pass.len() > MAX_PASSPHRASE_LEN {
+            return Err(VolumeFault::Passphrase(PassphraseFault::TooLong));
+        }
+        let unlocked = try_slots(&mut found, source, pass, &mut Work::new(0))?;
         let keys = ExpandedKeys::new(unlocked.segment.mode, unlocked.key.as_slice());
         Ok(Volume { unlocked, keys })
     }

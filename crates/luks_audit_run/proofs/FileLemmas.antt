@@ -1,38 +1,29 @@
 -- The audit of an image under a name.
-use Rattle.std.proofs.Common.{◌≡◌, ◌∙◌, ℕ, List, Option, Ok, Err, refl, sym, ap, subst, Bool, true, false, take}
-use Rattle.std.specs.Prelude.{nat_lt}
-use Rattle.luks_io.specs.Devices.{Appended, IfKnown, counted}
+use Rattle.std.proofs.Common.{◌≡◌, ◌∙◌, ℕ, List, Option, Result, Ok, Err, refl, ap, Bool, true, false}
+use Rattle.std.specs.Prelude.{IfOk, is_err, nat_lt}
+use Rattle.luks_io.specs.Devices.{IfKnown, counted}
 use Rattle.luks_audit.specs.declared.image.Policy.{Policy}
 use Rattle.luks_audit.specs.declared.image.State.{State}
 use Rattle.luks_audit.specs.declared.image.State.TheVariants.{Unread}
 use Rattle.luks_audit_run.specs.Host.{OpensAs, Stored}
 use Rattle.luks_audit_run.specs.Host.Stored.{image, absent, unknown}
-use Rattle.luks_audit_run.specs.Run.{Audits, AuditsFile, AuditsFilePartly, AuditsPartly, Tells, TellsOpen, TellsPart}
+use Rattle.luks_audit_run.specs.Run.{Audits, AuditsFile, Puts, Tells, TellsOpen}
 use Rattle.luks_audit_run.specs.Run.{image_state, image_text, unopened_line}
 use Rattle.luks_audit_run.specs.Run.Course.{not_opened}
 use Rattle.luks_audit_run.specs.declared.host.NotOpened.{NotOpened}
+use Rattle.luks_audit_run.specs.declared.image.RunFault.{RunFault}
 use Rattle.luks_audit_run.specs.declared.image.Scope.{Scope}
-use Rattle.luks_audit_run.proofs.StartLemmas.{part_of_told}
 
 module _ (policy : Policy) (scope : Scope) (file : List ℕ) where
   -- an opened one
   opened_tells : {I : Type 0} (to_come : I → Option (List ℕ)) (stored : Stored) (source : I) (text : List ℕ)
-      (left : Option (List ℕ)) (failed : Bool) (state : State) → OpensAs to_come stored (Ok source)
-      → IfKnown (to_come source) (λ bytes. TellsOpen policy scope bytes left file text failed state)
+      (left : Option (List ℕ)) (failed : Bool) (state : State) (aborted : Bool) → OpensAs to_come stored (Ok source)
+      → IfKnown (to_come source) (λ bytes. TellsOpen policy scope bytes left file text failed state aborted)
       → Tells policy scope unknown file text failed state
       → Tells policy scope stored file text failed state
-  opened_tells to_come (image bytes) source text left failed state opens told anyway = (told bytes opens).tells
-  opened_tells to_come absent source text left failed state opens told anyway = absurd opens
-  opened_tells to_come unknown source text left failed state opens told anyway = anyway
-
-  opened_part : {I : Type 0} (to_come : I → Option (List ℕ)) (stored : Stored) (source : I) (part : List ℕ)
-      (failed : Bool) → OpensAs to_come stored (Ok source)
-      → IfKnown (to_come source) (λ bytes. TellsPart policy scope (image bytes) file part failed)
-      → TellsPart policy scope unknown file part failed
-      → TellsPart policy scope stored file part failed
-  opened_part to_come (image bytes) source part failed opens told anyway = told bytes opens
-  opened_part to_come absent source part failed opens told anyway = absurd opens
-  opened_part to_come unknown source part failed opens told anyway = anyway
+  opened_tells to_come (image bytes) source text left failed state aborted opens told anyway = (told bytes opens).tells
+  opened_tells to_come absent source text left failed state aborted opens told anyway = absurd opens
+  opened_tells to_come unknown source text left failed state aborted opens told anyway = anyway
 
   -- one that was not opened
   pub unopened_tells : {I : Type 0} (to_come : I → Option (List ℕ)) (stored : Stored) (error : NotOpened)
@@ -59,65 +50,39 @@ closed_count failed failures failures1 failures2 reads reads' none same closed i
     closed ∙ ap (λ b. counted b failures1) (failed_count failed reads reads' none is) ∙ ap (counted failed) same
 
 module _ (policy : Policy) (scope : Scope) (file : List ℕ) where
-  -- an image was opened, audited and closed
+  -- an image was opened, audited and closed, or that was aborted
   pub file_opened : {I : Type 0} (to_come : I → Option (List ℕ)) (stored : Stored) (source : I)
       (left : Option (List ℕ)) (failures failures1 failures2 reads reads' : ℕ) (before after : Option (List ℕ))
-      (state : State) → OpensAs to_come stored (Ok source) → reads ≡ 0 → failures1 ≡ failures
+      (result : Result State RunFault) → OpensAs to_come stored (Ok source) → reads ≡ 0 → failures1 ≡ failures
       → failures2 ≡ counted (nat_lt 0 reads') failures1
-      → Audits policy scope file (to_come source) left reads reads' before after state
-      → AuditsFile policy scope file stored failures failures2 before after state
-  file_opened to_come stored source left failures failures1 failures2 reads reads' before after state opens none same
+      → Audits policy scope file (to_come source) left reads reads' before after result
+      → AuditsFile policy scope file stored failures failures2 before after result
+  file_opened to_come stored source left failures failures1 failures2 reads reads' before after result opens none same
       closed audited = record {
         text = audited.text;
         failed = audited.failed;
-        written = audited.written;
+        shown = audited.shown;
+        puts = audited.puts;
         failures_is = closed_count audited.failed failures failures1 failures2 reads reads' none same closed
             audited.failures_is;
-        tells = opened_tells policy scope file to_come stored source audited.text left audited.failed state opens
-            audited.tells audited.anyway;
-      }
-
-  pub file_opened_part : {I : Type 0} (to_come : I → Option (List ℕ)) (stored : Stored) (source : I)
-      (failures failures1 failures2 reads reads' : ℕ) (before after : Option (List ℕ))
-      → OpensAs to_come stored (Ok source) → reads ≡ 0 → failures1 ≡ failures
-      → failures2 ≡ counted (nat_lt 0 reads') failures1
-      → AuditsPartly policy scope file (to_come source) reads reads' before after
-      → AuditsFilePartly policy scope file stored failures failures2 before after
-  file_opened_part to_come stored source failures failures1 failures2 reads reads' before after opens none same
-      closed audited = record {
-        part = audited.part;
-        failed = audited.failed;
-        written = audited.written;
-        failures_is = closed_count audited.failed failures failures1 failures2 reads reads' none same closed
-            audited.failures_is;
-        tells = opened_part policy scope file to_come stored source audited.part audited.failed opens audited.tells
-            audited.anyway;
+        shows = audited.shows;
+        tells = opened_tells policy scope file to_come stored source audited.text left audited.failed audited.shown
+            (is_err result) opens audited.tells audited.anyway;
       }
 
   -- it was not opened
   pub file_unopened : {I : Type 0} (to_come : I → Option (List ℕ)) (stored : Stored) (error : NotOpened)
-      (failures failures1 : ℕ) (before after : Option (List ℕ)) (state : State) → OpensAs to_come stored (Err error)
-      → failures1 ≡ failures → Appended before after (unopened_line policy.format file) → state ≡ Unread
-      → AuditsFile policy scope file stored failures failures1 before after state
-  file_unopened to_come stored error failures failures1 before after state opens same line shown = record {
+      (failures failures1 : ℕ) (before after : Option (List ℕ)) (result : Result State RunFault)
+      → OpensAs to_come stored (Err error) → failures1 ≡ failures
+      → Puts before after (unopened_line policy.format file) (is_err result)
+      → IfOk result (λ state. state ≡ Unread)
+      → AuditsFile policy scope file stored failures failures1 before after result
+  file_unopened to_come stored error failures failures1 before after result opens same puts shows = record {
     text = unopened_line policy.format file;
     failed = false;
-    written = line;
+    shown = Unread;
+    puts = puts;
     failures_is = same;
-    tells =
-        let P : State → Type 0 = Tells policy scope stored file (unopened_line policy.format file) false in
-        subst P (sym shown) (unopened_tells policy scope file to_come stored error opens);
-  }
-
-  pub file_unopened_part : {I : Type 0} (to_come : I → Option (List ℕ)) (stored : Stored) (error : NotOpened) (n : ℕ)
-      (failures failures1 : ℕ) (before after : Option (List ℕ)) → OpensAs to_come stored (Err error)
-      → failures1 ≡ failures → Appended before after (take n (unopened_line policy.format file))
-      → AuditsFilePartly policy scope file stored failures failures1 before after
-  file_unopened_part to_come stored error n failures failures1 before after opens same line = record {
-    part = take n (unopened_line policy.format file);
-    failed = false;
-    written = line;
-    failures_is = same;
-    tells = part_of_told policy scope stored file (unopened_line policy.format file) false Unread n
-        (unopened_tells policy scope file to_come stored error opens);
+    shows = shows;
+    tells = unopened_tells policy scope file to_come stored error opens;
   }

@@ -1,4 +1,5 @@
 pub mod FileLemmas
+pub mod PutLemmas
 pub mod RunLemmas
 pub mod SearchLemmas
 pub mod SearchedLemmas

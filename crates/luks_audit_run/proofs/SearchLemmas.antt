@@ -1,26 +1,29 @@
 -- The audit of an image that is searched.
-use Rattle.std.proofs.Common.{◌≡◌, ◌∙◌, ℕ, List, [], ◌++◌, Option, Some, None, Ok, Err, refl, sym, ap, append_assoc}
-use Rattle.std.proofs.Common.{Bool, false, take, drop}
-use Rattle.std.proofs.lemmas.List.{append-nil, take-append-drop}
+use Rattle.std.proofs.Common.{◌≡◌, ◌∙◌, ℕ, List, [], ◌++◌, Option, Some, None, Result, Ok, Err, refl, sym, ap, arith}
+use Rattle.std.proofs.Common.{Bool, false, true}
+use Rattle.std.specs.Prelude.{IfOk, IsErr, OnErr, OnOk, is_err}
+use Rattle.std.proofs.lemmas.Result.{IfOk-from_err}
 use Rattle.luks_io.specs.Devices.{Appended, IfKnown, counted}
 use Rattle.luks_io.proofs.EffectLemmas.{appended-more, appended-none}
 use Rattle.luks_header_area.specs.declared.fault.HeaderFault.TheVariants.{Memory, Read}
+use Rattle.luks_search.proofs.PlaceLemmas.{in_near}
 use Rattle.luks_search.specs.Places.{places_below}
 use Rattle.luks_search.specs.Search.{FindsNext, IsIn, IsNear, SearchModel, reports_failed_read}
 use Rattle.luks_search.specs.declared.place.Place.{Place}
 use Rattle.luks_search.specs.declared.place.SearchFault.{SearchFault}
 use Rattle.luks_search.specs.declared.place.SearchFault.TheVariants.{Memory as SearchMemory, Read as SearchRead}
-use Rattle.std.specs.Prelude.{OnErr, OnOk}
 use Rattle.luks_audit.specs.Image.{fault_line, header_line, header_state}
 use Rattle.luks_audit.specs.declared.image.Policy.{Policy}
 use Rattle.luks_audit.specs.declared.image.State.{State}
 use Rattle.luks_audit.specs.declared.image.State.TheVariants.{Unread}
 use Rattle.luks_audit_run.specs.Host.Stored.{unknown}
-use Rattle.luks_audit_run.specs.Run.{Audits, AuditsPartly, Tells, TellsOpen, TellsPart, image_state, image_text}
+use Rattle.luks_audit_run.specs.Run.{Audits, Puts, Tells, TellsOpen, image_state, image_text}
 use Rattle.luks_audit_run.specs.Run.Course.{whole, not_read, no_memory, untold}
 use Rattle.luks_audit_run.specs.Searched.{end_line, end_state, graver_of, place_lines, search_fault}
-use Rattle.luks_audit_run.proofs.SearchedLemmas.{Told, told_all, told_more, told_none}
+use Rattle.luks_audit_run.specs.declared.image.RunFault.{RunFault}
 use Rattle.luks_audit_run.specs.declared.image.Scope.TheVariants.{Everywhere}
+use Rattle.luks_audit_run.proofs.PutLemmas.{puts_before, puts_behind, puts_none}
+use Rattle.luks_audit_run.proofs.SearchedLemmas.{Told, told_all, told_more, told_none}
 
 -- what a search wrote of an image whose bytes nobody knows
 search_anyway : (policy : Policy) (file text : List ℕ) (failed : Bool) (state : State)
@@ -32,17 +35,6 @@ search_anyway policy file text failed state = record {
   failed_is = refl;
   text_is = refl;
   state_is = refl;
-}
-
-pub search_part_anyway : (policy : Policy) (file part : List ℕ) (failed : Bool)
-    → TellsPart policy Everywhere unknown file part failed
-unfolding image_text
-search_part_anyway policy file part failed = record {
-  course = untold failed part Unread;
-  possible = tt;
-  failed_is = refl;
-  rest = [];
-  text_is = append-nil part;
 }
 
 module _ (policy : Policy) (file : List ℕ) (known left : Option (List ℕ)) (before now : Option (List ℕ))
@@ -84,103 +76,74 @@ module _ (policy : Policy) (file : List ℕ) (known left left' : Option (List �
     }
 
     -- writing its line was aborted
-    pub searches_part : (place : Place) (n failures failures' : ℕ)
+    pub searches_part : (place : Place) (failures failures' : ℕ) (result : Result State RunFault) → IsErr result
         → ((bytes : List ℕ) → IsIn bytes search left
         → IsIn bytes search' left' × FindsNext bytes search.sector search'.sector (Ok (Some place)))
-        → failures' ≡ failures → Appended now after (take n (header_line policy file place.offset place.header))
-        → AuditsPartly policy Everywhere file known failures failures' before after
-    unfolding image_text
-    searches_part place n failures failures' next same line =
-        let whole_line = header_line policy file place.offset place.header in
+        → failures' ≡ failures → Puts now after (header_line policy file place.offset place.header) true
+        → Audits policy Everywhere file known left' failures failures' before after result
+    unfolding image_text image_state
+    searches_part place failures failures' result aborted next same puts =
+        let line = header_line policy file place.offset place.header in
+        let last = fault_line policy.format file Memory in
         record {
-          part = so_far.text ++ take n whole_line;
+          text = (so_far.text ++ line) ++ last;
           failed = false;
+          shown = Unread;
+          puts = puts_before before after (so_far.text ++ line) last (is_err result) aborted
+              (puts_behind before now after so_far.text line true so_far.written puts);
           failures_is = same;
-          anyway = search_part_anyway policy file (so_far.text ++ take n whole_line) false;
-          written = appended-more before now after so_far.text (take n whole_line) so_far.written line;
+          shows = IfOk-from_err result _ aborted;
+          anyway = search_anyway policy file ((so_far.text ++ line) ++ last) false Unread;
           tells = λ bytes is.
               let told = so_far.told bytes is in
               let found_next = next bytes told.is_in in
               let more = told_more policy file bytes search search' left left' so_far.text found place told found_next.0
               found_next.1.0 found_next.1.1 in
               record {
-                course = no_memory search'.sector;
-                possible = tt;
-                failed_is = refl;
-                rest = drop n whole_line ++ fault_line policy.format file Memory;
-                text_is = sym (append_assoc (so_far.text ++ take n whole_line) (drop n whole_line)
-                    (fault_line policy.format file Memory))
-                    ∙ ap (λ (text : List ℕ). text ++ fault_line policy.format file Memory)
-                    (append_assoc so_far.text (take n whole_line) (drop n whole_line)
-                    ∙ ap (λ (line : List ℕ). so_far.text ++ line) (take-append-drop n whole_line)
-                    ∙ more.text_is);
+                tells = record {
+                  course = no_memory search'.sector;
+                  possible = tt;
+                  failed_is = refl;
+                  text_is = ap (λ (text : List ℕ). text ++ last) more.text_is;
+                  state_is = refl;
+                };
+                near = λ wrong. absurd cc;
               };
         }
 
     -- there are no further places
-    pub searches_end : (failures failures' : ℕ) (state : State)
+    pub searches_end : (failures failures' : ℕ) (result : Result State RunFault)
         → ((bytes : List ℕ) → IsIn bytes search left
         → IsIn bytes search' left' × FindsNext bytes search.sector search'.sector (Ok None))
-        → failures' ≡ failures → Appended now after (end_line policy file found) → state ≡ end_state found
-        → Audits policy Everywhere file known left' failures failures' before after state
+        → failures' ≡ failures → Puts now after (end_line policy file found) (is_err result)
+        → IfOk result (λ state. state ≡ end_state found)
+        → Audits policy Everywhere file known left' failures failures' before after result
     unfolding image_text image_state
-    searches_end failures failures' state next same line shown = record {
+    searches_end failures failures' result next same puts shows = record {
       text = so_far.text ++ end_line policy file found;
       failed = false;
-      written = appended-more before now after so_far.text (end_line policy file found) so_far.written line;
+      shown = end_state found;
+      puts = puts_behind before now after so_far.text (end_line policy file found) (is_err result) so_far.written puts;
       failures_is = same;
-      anyway = search_anyway policy file (so_far.text ++ end_line policy file found) false state;
+      shows = shows;
+      anyway = search_anyway policy file (so_far.text ++ end_line policy file found) false (end_state found);
       tells = λ bytes is.
           let told = so_far.told bytes is in
           let all = told_all policy file bytes search left so_far.text found told (next bytes told.is_in).1 in
           record {
-            tells = record {
-              course = whole;
-              possible = tt;
-              failed_is = refl;
-              text_is = all.0;
-              state_is = shown ∙ all.1;
-            };
-            near = tt;
+            tells = record { course = whole; possible = tt; failed_is = refl; text_is = all.0; state_is = all.1 };
+            near = λ _. tt;
           };
     }
-
-    -- writing that there is none was aborted
-    pub searches_end_part : (n failures failures' : ℕ)
-        → ((bytes : List ℕ) → IsIn bytes search left
-        → IsIn bytes search' left' × FindsNext bytes search.sector search'.sector (Ok None))
-        → failures' ≡ failures → Appended now after (take n (end_line policy file found))
-        → AuditsPartly policy Everywhere file known failures failures' before after
-    unfolding image_text
-    searches_end_part n failures failures' next same line =
-        let last = end_line policy file found in
-        record {
-          part = so_far.text ++ take n last;
-          failed = false;
-          written = appended-more before now after so_far.text (take n last) so_far.written line;
-          failures_is = same;
-          anyway = search_part_anyway policy file (so_far.text ++ take n last) false;
-          tells = λ bytes is.
-              let told = so_far.told bytes is in
-              let all = told_all policy file bytes search left so_far.text found told (next bytes told.is_in).1 in
-              record {
-                course = whole;
-                possible = tt;
-                failed_is = refl;
-                rest = drop n last;
-                text_is = append_assoc so_far.text (take n last) (drop n last)
-                    ∙ ap (λ (line : List ℕ). so_far.text ++ line) (take-append-drop n last) ∙ all.0;
-              };
-        }
 
     aborted_tells : (fault : SearchFault) (bytes : List ℕ)
         → so_far.text ≡ place_lines policy file bytes (places_below bytes search'.sector)
         → IsNear bytes search'.sector left'
-        → TellsOpen policy Everywhere bytes left' file
+        → (aborted : Bool) → TellsOpen policy Everywhere bytes left' file
         (so_far.text ++ fault_line policy.format file (search_fault fault))
-        (reports_failed_read {T = Unit {0}} (Err fault)) Unread
+        (reports_failed_read {T = Unit {0}} (Err fault)) Unread aborted
     unfolding image_text image_state
-    aborted_tells SearchRead bytes is near = record {
+    aborted_tells SearchRead bytes is near aborted = record {
       tells = record {
         course = not_read search'.sector;
         possible = tt;
@@ -188,9 +151,9 @@ module _ (policy : Policy) (file : List ℕ) (known left left' : Option (List �
         text_is = ap (λ (text : List ℕ). text ++ fault_line policy.format file Read) is;
         state_is = refl;
       };
-      near = near;
+      near = λ _. near;
     }
-    aborted_tells SearchMemory bytes is near = record {
+    aborted_tells SearchMemory bytes is near aborted = record {
       tells = record {
         course = no_memory search'.sector;
         possible = tt;
@@ -198,7 +161,7 @@ module _ (policy : Policy) (file : List ℕ) (known left left' : Option (List �
         text_is = ap (λ (text : List ℕ). text ++ fault_line policy.format file Memory) is;
         state_is = refl;
       };
-      near = near;
+      near = λ _. near;
     }
 
     module _ (fault : SearchFault)
@@ -207,54 +170,36 @@ module _ (policy : Policy) (file : List ℕ) (known left left' : Option (List �
         × FindsNext bytes search.sector search'.sector (Err fault))
         (behind : (bytes : List ℕ) → IsIn bytes search left
         → OnErr {T = Option Place} {E = SearchFault} (Err fault) (IsNear bytes search'.sector left')) where
-      told_after : (bytes : List ℕ) → known ≡ Some bytes
-          → TellsOpen policy Everywhere bytes left' file
-          (so_far.text ++ fault_line policy.format file (search_fault fault))
-          (reports_failed_read {T = Unit {0}} (Err fault)) Unread
-      told_after bytes is =
-          let told = so_far.told bytes is in
-          aborted_tells fault bytes
-          (told.text_is ∙ ap (place_lines policy file bytes) (sym (next bytes told.is_in).1))
-          (behind bytes told.is_in)
-
       -- the search was aborted
-      pub searches_abort : (failures failures' : ℕ)
+      pub searches_abort : (failures failures' : ℕ) (result : Result State RunFault)
           → failures' ≡ counted (reports_failed_read {T = Unit {0}} (Err fault)) failures
-          → Appended now after (fault_line policy.format file (search_fault fault))
-          → Audits policy Everywhere file known left' failures failures' before after Unread
-      searches_abort failures failures' more line = record {
+          → Puts now after (fault_line policy.format file (search_fault fault)) (is_err result)
+          → IfOk result (λ state. state ≡ Unread)
+          → Audits policy Everywhere file known left' failures failures' before after result
+      searches_abort failures failures' result more puts shows = record {
         text = so_far.text ++ fault_line policy.format file (search_fault fault);
         failed = reports_failed_read {T = Unit {0}} (Err fault);
-        written = appended-more before now after so_far.text (fault_line policy.format file (search_fault fault))
-            so_far.written line;
+        shown = Unread;
+        puts = puts_behind before now after so_far.text (fault_line policy.format file (search_fault fault))
+            (is_err result) so_far.written puts;
         failures_is = more;
+        shows = shows;
         anyway = search_anyway policy file (so_far.text ++ fault_line policy.format file (search_fault fault))
             (reports_failed_read {T = Unit {0}} (Err fault)) Unread;
-        tells = told_after;
+        tells = λ bytes is.
+            let told = so_far.told bytes is in
+            aborted_tells fault bytes
+            (told.text_is ∙ ap (place_lines policy file bytes) (sym (next bytes told.is_in).1))
+            (behind bytes told.is_in) (is_err result);
       }
 
-      -- writing that was aborted as well
-      pub searches_abort_part : (n failures failures' : ℕ)
-          → failures' ≡ counted (reports_failed_read {T = Unit {0}} (Err fault)) failures
-          → Appended now after (take n (fault_line policy.format file (search_fault fault)))
-          → AuditsPartly policy Everywhere file known failures failures' before after
-      searches_abort_part n failures failures' more line =
-          let last = fault_line policy.format file (search_fault fault) in
-          record {
-            part = so_far.text ++ take n last;
-            failed = reports_failed_read {T = Unit {0}} (Err fault);
-            written = appended-more before now after so_far.text (take n last) so_far.written line;
-            failures_is = more;
-            anyway = search_part_anyway policy file (so_far.text ++ take n last)
-                (reports_failed_read {T = Unit {0}} (Err fault));
-            tells = λ bytes is.
-                let told = (told_after bytes is).tells in
-                record {
-                  course = told.course;
-                  possible = told.possible;
-                  failed_is = told.failed_is;
-                  rest = drop n last;
-                  text_is = append_assoc so_far.text (take n last) (drop n last)
-                      ∙ ap (λ (line : List ℕ). so_far.text ++ line) (take-append-drop n last) ∙ told.text_is;
-                };
-          }
+-- memory ran out before the search began
+pub searches_unbegun : (policy : Policy) (file : List ℕ) (known before : Option (List ℕ)) (failures : ℕ)
+    (result : Result State RunFault) → IsErr result
+    → Audits policy Everywhere file known known failures failures before before result
+searches_unbegun policy file known before failures result aborted =
+    let first : SearchModel = record { sector = 0; bytes = []; ended = false } in
+    searches_abort policy file known known known before before before None first first
+    (searches_none policy file known before) SearchMemory (λ bytes is. (tt, refl))
+    (λ bytes is. in_near bytes first known is (omega arith)) failures failures result refl
+    (puts_none before _ (is_err result) aborted) (IfOk-from_err result _ aborted)

@@ -1,15 +1,17 @@
--- The audit of an image at whose start a header is sought, and prefixes of what is written.
-use Rattle.std.proofs.Common.{◌∙◌, ℕ, List, [], Option, Err, refl, Bool, true, false, take, drop, inl, inr}
-use Rattle.std.proofs.lemmas.List.{take-append-drop}
-use Rattle.luks_header_area.specs.declared.fault.HeaderFault.TheVariants.{NotLuks, Read}
-use Rattle.luks_audit.specs.Image.{IsAudited, IsAuditedAnyway}
+-- The audit of an image at whose start a header is sought.
+use Rattle.std.proofs.Common.{◌≡◌, ℕ, List, Option, Result, Err, refl, Bool, true, false, inl, inr}
+use Rattle.std.specs.Prelude.{IfOk, is_err}
+use Rattle.luks_io.specs.Devices.{IfKnown, counted}
+use Rattle.luks_header_area.specs.declared.fault.HeaderFault.{HeaderFault}
+use Rattle.luks_header_area.specs.declared.fault.HeaderFault.TheVariants.{Memory, Read}
+use Rattle.luks_audit.specs.Image.{IsAudited, IsAuditedAnyway, fault_line}
 use Rattle.luks_audit.specs.declared.image.Policy.{Policy}
 use Rattle.luks_audit.specs.declared.image.State.{State}
-use Rattle.luks_audit_run.specs.Host.{Stored}
+use Rattle.luks_audit.specs.declared.image.State.TheVariants.{Unread}
 use Rattle.luks_audit_run.specs.Host.Stored.{image, unknown}
-use Rattle.luks_audit_run.specs.Run.{Tells, TellsOpen, TellsPart, image_state, image_text}
+use Rattle.luks_audit_run.specs.Run.{Audits, Puts, Tells, image_state, image_text}
 use Rattle.luks_audit_run.specs.Run.Course.{whole, not_read, no_memory, found as some_found}
-use Rattle.luks_audit_run.specs.declared.image.Scope.{Scope}
+use Rattle.luks_audit_run.specs.declared.image.RunFault.{RunFault}
 use Rattle.luks_audit_run.specs.declared.image.Scope.TheVariants.{Start}
 
 -- what was written of an image at whose start a header was sought
@@ -38,12 +40,6 @@ start_tells true policy file bytes line state audited = record {
   state_is = audited.1;
 }
 
--- it was read in one piece, however much of it was read
-pub start_open : (failed : Bool) (policy : Policy) (file bytes line : List ℕ) (left : Option (List ℕ)) (state : State)
-    → IsAudited failed policy file bytes line state → TellsOpen policy Start bytes left file line failed state
-start_open failed policy file bytes line left state audited =
-    record { tells = start_tells failed policy file bytes line state audited; near = tt }
-
 -- its bytes need not be known
 pub start_anyway : (failed : Bool) (policy : Policy) (file line : List ℕ) (state : State)
     → IsAuditedAnyway failed policy file line state → Tells policy Start unknown file line failed state
@@ -56,48 +52,40 @@ start_anyway failed policy file line state anyway = record {
   state_is = anyway.audited.1;
 }
 
--- a prefix of it
-pub part_of_told : (policy : Policy) (scope : Scope) (stored : Stored) (file text : List ℕ) (failed : Bool)
-    (state : State) (n : ℕ) → Tells policy scope stored file text failed state
-    → TellsPart policy scope stored file (take n text) failed
-part_of_told policy scope stored file text failed state n told = record {
-  course = told.course;
-  possible = told.possible;
-  failed_is = told.failed_is;
-  rest = drop n text;
-  text_is = take-append-drop n text ∙ told.text_is;
-}
+-- the fault of an audit that was aborted before there was a line
+abbrev pub unmade_fault : Bool → HeaderFault
+unmade_fault true = Read
+unmade_fault false = Memory
 
--- nothing, whether or not a read failed
-pub part_of_none : (policy : Policy) (scope : Scope) (file bytes : List ℕ) (failed : Bool)
-    → TellsPart policy scope (image bytes) file [] failed
-part_of_none policy scope file bytes false = record {
-  course = whole;
-  possible = tt;
-  failed_is = refl;
-  rest = image_text policy scope file bytes whole;
-  text_is = refl;
-}
-part_of_none policy scope file bytes true = record {
-  course = not_read 0;
-  possible = tt;
-  failed_is = refl;
-  rest = image_text policy scope file bytes (not_read 0);
-  text_is = refl;
-}
+pub unmade : (failed : Bool) (policy : Policy) (file bytes : List ℕ)
+    → IsAudited failed policy file bytes (fault_line policy.format file (unmade_fault failed)) Unread
+unmade true policy file bytes = (refl, refl)
+unmade false policy file bytes = inr (refl, refl)
 
-pub none_anyway : (policy : Policy) (file : List ℕ) (failed : Bool) → TellsPart policy Start unknown file [] failed
-none_anyway policy file false = record {
-  course = some_found (Err NotLuks);
-  possible = tt;
-  failed_is = refl;
-  rest = image_text policy Start file [] (some_found (Err NotLuks));
-  text_is = refl;
-}
-none_anyway policy file true = record {
-  course = some_found (Err Read);
-  possible = tt;
-  failed_is = refl;
-  rest = image_text policy Start file [] (some_found (Err Read));
-  text_is = refl;
-}
+pub unmade_anyway : (failed : Bool) (policy : Policy) (file : List ℕ)
+    → IsAuditedAnyway failed policy file (fault_line policy.format file (unmade_fault failed)) Unread
+unmade_anyway true policy file =
+    record { found = Err Read; some = tt; failed_is = refl; audited = (refl, refl) }
+unmade_anyway false policy file =
+    record { found = Err Memory; some = tt; failed_is = refl; audited = (refl, refl) }
+
+-- the line was written, or that was aborted; the image was read in one piece, however much of it was read
+pub start_audits : (policy : Policy) (file : List ℕ) (known left : Option (List ℕ)) (failures failures' : ℕ)
+    (before after : Option (List ℕ)) (failed : Bool) (line : List ℕ) (state : State) (result : Result State RunFault)
+    → failures' ≡ counted failed failures
+    → IfKnown known (λ bytes. IsAudited failed policy file bytes line state)
+    → IsAuditedAnyway failed policy file line state → Puts before after line (is_err result)
+    → IfOk result (λ shown. shown ≡ state)
+    → Audits policy Start file known left failures failures' before after result
+start_audits policy file known left failures failures' before after failed line state result same audited anyway puts
+    shows = record {
+      text = line;
+      failed = failed;
+      shown = state;
+      puts = puts;
+      failures_is = same;
+      shows = shows;
+      tells = λ bytes is.
+          record { tells = start_tells failed policy file bytes line state (audited bytes is); near = λ _. tt };
+      anyway = start_anyway failed policy file line state anyway;
+    }

@@ -1,5 +1,5 @@
 -- What a run writes, and how it ends.
-use Rattle.std.specs.Prelude.{◌≡◌, ℕ, ◌++◌, Bool, true, false, List, [], ◌∷◌, Option, Result, Err, codes, take}
+use Rattle.std.specs.Prelude.{◌≡◌, ℕ, ◌++◌, Bool, true, false, List, [], ◌∷◌, IfOk, Option, Result, Err, codes, flat_map, is_err, map, take}
 use Rattle.luks_header_area.specs.Area.{is_read_fault}
 use Rattle.luks_header_area.specs.declared.fault.HeaderFault.{HeaderFault}
 use Rattle.luks_header_area.specs.declared.fault.HeaderFault.TheVariants.{Read, Memory}
@@ -114,38 +114,45 @@ bytes_in unknown = []
 
 -- ---- all images
 
--- what is written of the images, in their order
-unfoldable pub texts_of : Policy → Scope → (List ℕ → Stored) → List (List ℕ) → List Course → List ℕ
-texts_of policy scope stored (file ∷ files) (course ∷ courses) =
-    image_text policy scope file (bytes_in (stored file)) course ++ texts_of policy scope stored files courses
-texts_of policy scope stored _ _ = []
+-- an image under a name, and how its audit went
+pub record Audited : Type 0 where
+  pub file : List ℕ
+  pub course : Course
 
--- everything that is written
-unfoldable pub audit_text : Policy → Scope → (List ℕ → Stored) → List (List ℕ) → List Course → List ℕ
-audit_text policy scope stored files courses = head_of policy.format ++ texts_of policy scope stored files courses
+-- everything that is written: the line before all others, and what is written of the images, in their order
+unfoldable pub audit_text : Policy → Scope → (List ℕ → Stored) → List Audited → List ℕ
+audit_text policy scope stored images =
+    head_of policy.format
+    ++ flat_map (λ one. image_text policy scope one.file (bytes_in (stored one.file)) one.course) images
 
 -- the gravest state of all images
-unfoldable pub gravest_state : Policy → Scope → (List ℕ → Stored) → List (List ℕ) → List Course → State
-gravest_state policy scope stored (file ∷ files) (course ∷ courses) =
-    graver (image_state policy scope (bytes_in (stored file)) course)
-    (gravest_state policy scope stored files courses)
-gravest_state policy scope stored _ _ = Clean
+unfoldable pub gravest_state : Policy → Scope → (List ℕ → Stored) → List Audited → State
+gravest_state policy scope stored [] = Clean
+gravest_state policy scope stored (one ∷ images) =
+    graver (image_state policy scope (bytes_in (stored one.file)) one.course) (gravest_state policy scope stored images)
 
 -- the audit of each image can go in this way
-unfoldable pub ArePossible : Scope → (List ℕ → Stored) → List (List ℕ) → List Course → Type 0
-ArePossible scope stored [] [] = Unit {0}
-ArePossible scope stored (file ∷ files) (course ∷ courses) =
-    IsPossible scope (stored file) course × ArePossible scope stored files courses
-ArePossible scope stored _ _ = ⊥
+unfoldable pub ArePossible : Scope → (List ℕ → Stored) → List Audited → Type 0
+ArePossible scope stored [] = Unit {0}
+ArePossible scope stored (one ∷ images) =
+    IsPossible scope (stored one.file) one.course × ArePossible scope stored images
 
 -- the number of images of which a read failed, after these images
-unfoldable pub failures_after : ℕ → List Course → ℕ
+unfoldable pub failures_after : ℕ → List Audited → ℕ
 failures_after failures [] = failures
-failures_after failures (course ∷ courses) = failures_after (counted (is_failed course) failures) courses
+failures_after failures (one ∷ images) = failures_after (counted (is_failed one.course) failures) images
 
 -- ---- what a run does
 
--- what was written of one image, and the state that was shown, are those of this course of its audit
+-- a text was written; if that was aborted, a prefix of it
+pub record Puts (before after : Option (List ℕ)) (text : List ℕ) (aborted : Bool) : Type 0 where
+  pub part : List ℕ
+  pub rest : List ℕ
+  pub text_is : part ++ rest ≡ text
+  pub written : Appended before after part
+  pub all : aborted ≡ false → rest ≡ []
+
+-- this text and this state are those of one image in this course of its audit
 pub record Tells (policy : Policy) (scope : Scope) (stored : Stored) (file text : List ℕ) (failed : Bool)
     (state : State) : Type 0 where
   pub course : Course
@@ -154,86 +161,58 @@ pub record Tells (policy : Policy) (scope : Scope) (stored : Stored) (file text 
   pub text_is : text ≡ image_text policy scope file (bytes_in stored) course
   pub state_is : state ≡ image_state policy scope (bytes_in stored) course
 
--- what was written is a prefix of what is written of one image in this course of its audit
-pub record TellsPart (policy : Policy) (scope : Scope) (stored : Stored) (file part : List ℕ) (failed : Bool) : Type 0
-  where
-    pub course : Course
-    pub possible : IsPossible scope stored course
-    pub failed_is : failed ≡ is_failed course
-    pub rest : List ℕ
-    pub text_is : part ++ rest ≡ image_text policy scope file (bytes_in stored) course
-
--- the same of an open image with these bytes, and that the search came near those that were read
+-- the same of an open image with these bytes; and unless this was aborted, the search came near those that were read
 pub record TellsOpen (policy : Policy) (scope : Scope) (bytes : List ℕ) (left : Option (List ℕ)) (file text : List ℕ)
-    (failed : Bool) (state : State) : Type 0 where
+    (failed : Bool) (state : State) (aborted : Bool) : Type 0 where
   pub tells : Tells policy scope (image bytes) file text failed state
-  pub near : CameNear scope bytes left tells.course
+  pub near : aborted ≡ false → CameNear scope bytes left tells.course
 
--- an open image was audited: what was written of it, and how many of its reads have failed now
+-- an open image was audited, or that was aborted: what was written of it, and how many of its reads have failed now
 pub record Audits (policy : Policy) (scope : Scope) (file : List ℕ) (known left : Option (List ℕ))
-    (failures failures' : ℕ) (before after : Option (List ℕ)) (state : State) : Type 0 where
+    (failures failures' : ℕ) (before after : Option (List ℕ)) (result : Result State RunFault) : Type 0 where
   pub text : List ℕ
   pub failed : Bool
-  pub written : Appended before after text
+  pub shown : State
+  pub puts : Puts before after text (is_err result)
   pub failures_is : failures' ≡ counted failed failures
-  pub tells : IfKnown known (λ bytes. TellsOpen policy scope bytes left file text failed state)
-  pub anyway : Tells policy scope unknown file text failed state
+  pub shows : IfOk result (λ state. state ≡ shown)
+  pub tells : IfKnown known (λ bytes. TellsOpen policy scope bytes left file text failed shown (is_err result))
+  pub anyway : Tells policy scope unknown file text failed shown
 
--- its audit was aborted
-pub record AuditsPartly (policy : Policy) (scope : Scope) (file : List ℕ) (known : Option (List ℕ))
-    (failures failures' : ℕ) (before after : Option (List ℕ)) : Type 0 where
-  pub part : List ℕ
-  pub failed : Bool
-  pub written : Appended before after part
-  pub failures_is : failures' ≡ counted failed failures
-  pub tells : IfKnown known (λ bytes. TellsPart policy scope (image bytes) file part failed)
-  pub anyway : TellsPart policy scope unknown file part failed
-
--- an image was opened, audited and closed, or not opened
+-- an image was opened, audited and closed, or not opened; or that was aborted
 pub record AuditsFile (policy : Policy) (scope : Scope) (file : List ℕ) (stored : Stored)
-    (failures failures' : ℕ) (before after : Option (List ℕ)) (state : State) : Type 0 where
+    (failures failures' : ℕ) (before after : Option (List ℕ)) (result : Result State RunFault) : Type 0 where
   pub text : List ℕ
   pub failed : Bool
-  pub written : Appended before after text
+  pub shown : State
+  pub puts : Puts before after text (is_err result)
   pub failures_is : failures' ≡ counted failed failures
-  pub tells : Tells policy scope stored file text failed state
+  pub shows : IfOk result (λ state. state ≡ shown)
+  pub tells : Tells policy scope stored file text failed shown
 
--- this was aborted
-pub record AuditsFilePartly (policy : Policy) (scope : Scope) (file : List ℕ) (stored : Stored)
-    (failures failures' : ℕ) (before after : Option (List ℕ)) : Type 0 where
-  pub part : List ℕ
-  pub failed : Bool
-  pub written : Appended before after part
-  pub failures_is : failures' ≡ counted failed failures
-  pub tells : TellsPart policy scope stored file part failed
-
--- everything was written; the state is the gravest; and a read of an image failed for each image of which that is
--- written
+-- these images were audited, or that was aborted in the last of them: what was written; the state is the gravest; and a
+-- read of an image failed for each image of which that is written
 pub record Runs (policy : Policy) (scope : Scope) (stored : List ℕ → Stored) (files : List (List ℕ))
-    (failures failures' : ℕ) (before after : Option (List ℕ)) (state : State) : Type 0 where
-  pub courses : List Course
-  pub possible : ArePossible scope stored files courses
-  pub written : Appended before after (audit_text policy scope stored files courses)
-  pub state_is : state ≡ gravest_state policy scope stored files courses
-  pub failed : failures' ≡ failures_after failures courses
+    (failures failures' : ℕ) (before after : Option (List ℕ)) (state : State) (aborted : Bool) : Type 0 where
+  pub images : List Audited
+  pub files_are : map (λ one. one.file) images ≡ files
+  pub possible : ArePossible scope stored images
+  pub puts : Puts before after (audit_text policy scope stored images) aborted
+  pub state_is : state ≡ gravest_state policy scope stored images
+  pub failed : failures' ≡ failures_after failures images
 
--- a prefix of what is written of the first images was written; and a read failed as often as that says
-pub record RunsPartly (policy : Policy) (scope : Scope) (stored : List ℕ → Stored) (files : List (List ℕ))
-    (failures failures' : ℕ) (before after : Option (List ℕ)) : Type 0 where
-  pub count : ℕ
-  pub courses : List Course
-  pub possible : ArePossible scope stored (take count files) courses
-  pub part : List ℕ
-  pub rest : List ℕ
-  pub text_is : part ++ rest ≡ audit_text policy scope stored (take count files) courses
-  pub written : Appended before after part
-  pub failed : failures' ≡ failures_after failures courses
+-- a prefix of what is written of the first images was written
+abbrev pub RunsPartly : Policy → Scope → (List ℕ → Stored) → List (List ℕ) → ℕ → ℕ → Option (List ℕ)
+    → Option (List ℕ) → Type 0
+RunsPartly policy scope stored files failures failures' before after =
+    (count : ℕ) × (state : State)
+    × Runs policy scope stored (take count files) failures failures' before after state true
 
 -- a run ends in this way: everything was written, or it was aborted
 abbrev pub EndsAudit : Policy → Scope → (List ℕ → Stored) → List (List ℕ) → ℕ → ℕ → Option (List ℕ)
     → Option (List ℕ) → Ending → Type 0
 EndsAudit policy scope stored files failures failures' before after (Done state) =
-    Runs policy scope stored files failures failures' before after state
+    Runs policy scope stored files failures failures' before after state false
 EndsAudit policy scope stored files failures failures' before after OutOfMemory =
     RunsPartly policy scope stored files failures failures' before after
 EndsAudit policy scope stored files failures failures' before after WriteFailed =

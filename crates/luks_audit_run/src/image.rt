@@ -1,13 +1,13 @@
 //! The audit of one open image: of the header at its start, or of every header in it.
 
-ghost use Rattle.std.specs.Prelude.{◌≡◌, ℕ, IfOk, OnErr, OnOk, Some, false, take};
-ghost use Rattle.luks_io.specs.Devices.{Appended, counted};
+ghost use Rattle.std.specs.Prelude.{◌≡◌, IfOk, is_err};
+ghost use Rattle.luks_io.specs.Devices.{counted};
 ghost use Rattle.luks_audit.specs.Image.{fault_line, header_line, header_state};
-ghost use Rattle.luks_audit_run.specs.Run.{Audits, AuditsPartly, is_unwritten};
+ghost use Rattle.luks_audit_run.specs.Run.{Audits, Puts, is_unwritten};
 ghost use Rattle.luks_audit_run.specs.Searched.{end_line, end_state, graver, graver_of};
 ghost use Rattle.luks_audit_run.specs.Searched.{search_fault};
 
-use luks_audit::image::{Policy, State, audit_image, fault_line, header_line};
+use luks_audit::image::{ImageLine, Policy, State, audit_image, fault_line, header_line};
 use luks_header::fault::HeaderFault;
 use luks_io::sink::{Sink, put_all};
 use luks_io::source::Source;
@@ -75,9 +75,7 @@ fn search_fault(fault: SearchFault) -> HeaderFault
 
 /// Writes bytes.
 pub(crate) fn put<O: Sink>(bytes: &[u8], out: &mut O) -> Result<(), RunFault>
-    ensures ok { OnOk result (Appended (O.written out.old) (O.written out.new) bytes.now) }
-    ensures err { OnErr result ((n : ℕ)
-        × Appended (O.written out.old) (O.written out.new) (take n bytes.now)) }
+    ensures puts { Puts (O.written out.old) (O.written out.new) bytes.now (is_err result) }
     ensures writes { (O.counts out.new).failures
         ≡ counted (is_unwritten result) (O.counts out.old).failures }
 {
@@ -87,23 +85,34 @@ pub(crate) fn put<O: Sink>(bytes: &[u8], out: &mut O) -> Result<(), RunFault>
     }
 }
 
-// Writes the line of an image without a header.
+/// Writes a line, and returns the state that was found with it.
+pub(crate) fn put_line<O: Sink>(made: ImageLine, out: &mut O) -> Result<State, RunFault>
+    ensures puts { Puts (O.written out.old) (O.written out.new) made.line.items (is_err result) }
+    ensures shows { IfOk result (λ state. state ≡ made.state) }
+    ensures writes { (O.counts out.new).failures
+        ≡ counted (is_unwritten result) (O.counts out.old).failures }
+{
+    put(made.line.as_slice(), out)?;
+    Ok(made.state)
+}
+
+// Writes the line of an image without a header, and returns this state.
 fn put_fault<O: Sink>(
     alloc: Global,
     policy: Policy,
     file: &str,
     fault: HeaderFault,
+    state: State,
     out: &mut O,
-) -> Result<(), RunFault>
-    ensures ok { OnOk result (Appended (O.written out.old) (O.written out.new)
-        (fault_line policy.format file.now fault)) }
-    ensures err { OnErr result ((n : ℕ) × Appended (O.written out.old) (O.written out.new)
-        (take n (fault_line policy.format file.now fault))) }
+) -> Result<State, RunFault>
+    ensures puts { Puts (O.written out.old) (O.written out.new)
+        (fault_line policy.format file.now fault) (is_err result) }
+    ensures shows { IfOk result (λ shown. shown ≡ state) }
     ensures writes { (O.counts out.new).failures
         ≡ counted (is_unwritten result) (O.counts out.old).failures }
 {
     let line = fault_line(alloc, policy.format, file, fault)?;
-    put(line.as_slice(), out)
+    put_line(ImageLine { line, state }, out)
 }
 
 // Writes the line of the header at a place, and returns what its audit showed.
@@ -114,17 +123,14 @@ fn put_place<O: Sink>(
     place: Place,
     out: &mut O,
 ) -> Result<State, RunFault>
-    ensures ok { IfOk result (λ state. Appended (O.written out.old) (O.written out.new)
-        (header_line policy file.now place.offset place.header)
-        × (state ≡ header_state policy.minimum place.header)) }
-    ensures err { OnErr result ((n : ℕ) × Appended (O.written out.old) (O.written out.new)
-        (take n (header_line policy file.now place.offset place.header))) }
+    ensures puts { Puts (O.written out.old) (O.written out.new)
+        (header_line policy file.now place.offset place.header) (is_err result) }
+    ensures shows { IfOk result (λ state. state ≡ header_state policy.minimum place.header) }
     ensures writes { (O.counts out.new).failures
         ≡ counted (is_unwritten result) (O.counts out.old).failures }
 {
     let made = header_line(alloc, policy, file, place.offset, &place.header)?;
-    put(made.line.as_slice(), out)?;
-    Ok(made.state)
+    put_line(made, out)
 }
 
 /// Writes the line of the header at the start of an image, or why there is none, and returns what
@@ -136,19 +142,14 @@ pub(crate) fn audit_start<S: Source, O: Sink>(
     source: &mut S,
     out: &mut O,
 ) -> Result<State, RunFault>
-    ensures ok { IfOk result (λ state. Audits policy Scope.Start file.now
-        (S.to_come source.old) (S.to_come source.new)
-        (S.counts source.old).failures (S.counts source.new).failures
-        (O.written out.old) (O.written out.new) state) }
-    ensures err { OnErr result (AuditsPartly policy Scope.Start file.now (S.to_come source.old)
-        (S.counts source.old).failures (S.counts source.new).failures
-        (O.written out.old) (O.written out.new)) }
+    ensures audits { Audits policy Scope.Start file.now (S.to_come source.old)
+        (S.to_come source.new) (S.counts source.old).failures (S.counts source.new).failures
+        (O.written out.old) (O.written out.new) result }
     ensures writes { (O.counts out.new).failures
         ≡ counted (is_unwritten result) (O.counts out.old).failures }
 {
     let made = audit_image(alloc, policy, file, source)?;
-    put(made.line.as_slice(), out)?;
-    Ok(made.state)
+    put_line(made, out)
 }
 
 // Ends the search of an image: writes that there is no header, if none was found.
@@ -159,19 +160,22 @@ fn end_search<O: Sink>(
     found: Option<State>,
     out: &mut O,
 ) -> Result<State, RunFault>
-    ensures ok { IfOk result (λ state. Appended (O.written out.old) (O.written out.new)
-        (end_line policy file.now found) × (state ≡ end_state found)) }
-    ensures err { OnErr result ((n : ℕ) × Appended (O.written out.old) (O.written out.new)
-        (take n (end_line policy file.now found))) }
+    ensures puts { Puts (O.written out.old) (O.written out.new)
+        (end_line policy file.now found) (is_err result) }
+    ensures shows { IfOk result (λ state. state ≡ end_state found) }
     ensures writes { (O.counts out.new).failures
         ≡ counted (is_unwritten result) (O.counts out.old).failures }
 {
     match found {
         Some(state) => Ok(state),
-        None => {
-            put_fault(alloc, policy, file, HeaderFault::NotLuks, out)?;
-            Ok(State::Flawed)
-        }
+        None => put_fault(
+            alloc,
+            policy,
+            file,
+            HeaderFault::NotLuks,
+            State::Flawed,
+            out,
+        ),
     }
 }
 
@@ -184,13 +188,9 @@ pub(crate) fn search_image<S: Source, O: Sink>(
     source: &mut S,
     out: &mut O,
 ) -> Result<State, RunFault>
-    ensures ok { IfOk result (λ state. Audits policy Scope.Everywhere file.now
-        (S.to_come source.old) (S.to_come source.new)
-        (S.counts source.old).failures (S.counts source.new).failures
-        (O.written out.old) (O.written out.new) state) }
-    ensures err { OnErr result (AuditsPartly policy Scope.Everywhere file.now
-        (S.to_come source.old) (S.counts source.old).failures (S.counts source.new).failures
-        (O.written out.old) (O.written out.new)) }
+    ensures audits { Audits policy Scope.Everywhere file.now (S.to_come source.old)
+        (S.to_come source.new) (S.counts source.old).failures (S.counts source.new).failures
+        (O.written out.old) (O.written out.new) result }
     ensures writes { (O.counts out.new).failures
         ≡ counted (is_unwritten result) (O.counts out.old).failures }
 {
@@ -204,8 +204,8 @@ pub(crate) fn search_image<S: Source, O: Sink>(
             }
             Ok(None) => return end_search(alloc, policy, file, found, out),
             Err(fault) => {
-                put_fault(alloc, policy, file, search_fault(fault), out)?;
-                return Ok(State::Unread);
+                let fault = search_fault(fault);
+                return put_fault(alloc, policy, file, fault, State::Unread, out);
             }
         }
     }

@@ -1,16 +1,16 @@
 //! A run: the images in their order.
 
-ghost use Rattle.std.specs.Prelude.{◌≡◌, ℕ, IfOk, OnErr, OnOk, map, take};
-ghost use Rattle.luks_io.specs.Devices.{Appended, counted};
+ghost use Rattle.std.specs.Prelude.{◌≡◌, IfOk, OnErr, false, is_err, map};
+ghost use Rattle.luks_io.specs.Devices.{counted};
 ghost use Rattle.luks_audit.specs.Line.{error_value, head_of, line_text};
-ghost use Rattle.luks_audit_run.specs.Run.{Audits, AuditsFile, AuditsFilePartly, AuditsPartly};
-ghost use Rattle.luks_audit_run.specs.Run.{EndsAudit, Runs, RunsPartly, ending_status};
+ghost use Rattle.luks_audit_run.specs.Run.{Audits, AuditsFile, EndsAudit, Puts, Runs, RunsPartly};
+ghost use Rattle.luks_audit_run.specs.Run.{ending_status};
 ghost use Rattle.luks_audit_run.specs.Run.{ends_unwritten};
 ghost use Rattle.luks_audit_run.specs.Run.{is_unwritten, unopened_line};
 
 use crate::host::{Images, NotOpened};
-use crate::image::{RunFault, Scope, audit_start, graver, put, search_image};
-use luks_audit::image::{Policy, State};
+use crate::image::{RunFault, Scope, audit_start, graver, put, put_line, search_image};
+use luks_audit::image::{ImageLine, Policy, State};
 use luks_audit::line::{Format, error_tree, head_of, line_text};
 use luks_io::sink::Sink;
 use luks_io::source::Source;
@@ -57,16 +57,15 @@ fn put_unopened<O: Sink>(
     file: &str,
     out: &mut O,
 ) -> Result<State, RunFault>
-    ensures ok { IfOk result (λ state. Appended (O.written out.old) (O.written out.new)
-        (unopened_line format file.now) × (state ≡ State.Unread)) }
-    ensures err { OnErr result ((n : ℕ) × Appended (O.written out.old) (O.written out.new)
-        (take n (unopened_line format file.now))) }
+    ensures puts { Puts (O.written out.old) (O.written out.new)
+        (unopened_line format file.now) (is_err result) }
+    ensures shows { IfOk result (λ state. state ≡ State.Unread) }
     ensures writes { (O.counts out.new).failures
         ≡ counted (is_unwritten result) (O.counts out.old).failures }
 {
     let line = unopened_line(alloc, format, file)?;
-    put(line.as_slice(), out)?;
-    Ok(State::Unread)
+    let state = State::Unread;
+    put_line(ImageLine { line, state }, out)
 }
 
 // Audits an open image.
@@ -78,13 +77,9 @@ fn audit_open<S: Source, O: Sink>(
     source: &mut S,
     out: &mut O,
 ) -> Result<State, RunFault>
-    ensures ok { IfOk result (λ state. Audits policy scope file.now
-        (S.to_come source.old) (S.to_come source.new)
+    ensures audits { Audits policy scope file.now (S.to_come source.old) (S.to_come source.new)
         (S.counts source.old).failures (S.counts source.new).failures
-        (O.written out.old) (O.written out.new) state) }
-    ensures err { OnErr result (AuditsPartly policy scope file.now (S.to_come source.old)
-        (S.counts source.old).failures (S.counts source.new).failures
-        (O.written out.old) (O.written out.new)) }
+        (O.written out.old) (O.written out.new) result }
     ensures writes { (O.counts out.new).failures
         ≡ counted (is_unwritten result) (O.counts out.old).failures }
 {
@@ -104,12 +99,9 @@ fn audit_file<H: Images, O: Sink>(
     out: &mut O,
 ) -> Result<State, RunFault>
     ensures kept { H.stored host.new ≡ H.stored host.old }
-    ensures ok { IfOk result (λ state. AuditsFile policy scope file.now
-        (H.stored host.old file.now) (H.failures host.old) (H.failures host.new)
-        (O.written out.old) (O.written out.new) state) }
-    ensures err { OnErr result (AuditsFilePartly policy scope file.now
-        (H.stored host.old file.now) (H.failures host.old) (H.failures host.new)
-        (O.written out.old) (O.written out.new)) }
+    ensures audits { AuditsFile policy scope file.now (H.stored host.old file.now)
+        (H.failures host.old) (H.failures host.new)
+        (O.written out.old) (O.written out.new) result }
     ensures writes { (O.counts out.new).failures
         ≡ counted (is_unwritten result) (O.counts out.old).failures }
 {
@@ -125,9 +117,8 @@ fn audit_file<H: Images, O: Sink>(
 
 // Writes the line before all others.
 fn put_head<O: Sink>(alloc: Global, format: Format, out: &mut O) -> Result<(), RunFault>
-    ensures ok { OnOk result (Appended (O.written out.old) (O.written out.new) (head_of format)) }
-    ensures err { OnErr result ((n : ℕ)
-        × Appended (O.written out.old) (O.written out.new) (take n (head_of format))) }
+    ensures puts { Puts (O.written out.old) (O.written out.new) (head_of format)
+        (is_err result) }
     ensures writes { (O.counts out.new).failures
         ≡ counted (is_unwritten result) (O.counts out.old).failures }
 {
@@ -146,7 +137,7 @@ fn write_all<H: Images, O: Sink>(
 ) -> Result<State, RunFault>
     ensures ok { IfOk result (λ state. Runs policy scope (H.stored host.old)
         (map (λ file. file.now) files.now) (H.failures host.old) (H.failures host.new)
-        (O.written out.old) (O.written out.new) state) }
+        (O.written out.old) (O.written out.new) state false) }
     ensures err { OnErr result (RunsPartly policy scope (H.stored host.old)
         (map (λ file. file.now) files.now) (H.failures host.old) (H.failures host.new)
         (O.written out.old) (O.written out.new)) }

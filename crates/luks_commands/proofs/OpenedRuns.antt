@@ -41,7 +41,6 @@ use Rattle.luks_io.proofs.EffectLemmas.{consumed-none, no_reads, no_writes, read
 use Rattle.luks_io.specs.Counts.{Reads, Writes, allowed_to}
 use Rattle.luks_io.specs.declared.counts.ReadCounts.{ReadCounts}
 use Rattle.luks_io.specs.declared.counts.WriteCounts.{WriteCounts}
-use Rattle.luks_runs.proofs.VolumeLemmas.{reads_on}
 
 -- a run also matches with a promptness that follows from its own, and with a fact on the payload's image that does
 pub runs_at : (is_prompt is_prompt' : Promptness) (out : Outcome) (message : Message) (effects : RunEffects)
@@ -277,17 +276,6 @@ pub no_write_in_is_luks : (message : Message) {out : WriteCounts} → IsLuksMess
     → Writes (is_run_write_failure message) out out
 no_write_in_is_luks WriteFailed only = absurd only
 no_write_in_is_luks _ only = no_writes _
-
--- the start of the image was read before; if that hit EOF on the image, the image was not read again
-pub reads_before : {failed ended : Bool} {image image' image'' : ReadCounts} {secret : Change ReadCounts}
-    → Reads false ended image image' → (ended ≡ true → image'' ≡ image')
-    → CountsReads ReadsOnce failed (record { before = image'; after = image'' }) secret
-    → CountsReads ReadsOnce failed (record { before = image; after = image'' }) secret
-reads_before first kept then = record {
-  in_input = then.in_input;
-  input_reads = reads_on _ _ then.input_reads.0 _ _ _ first kept then.input_reads.1;
-  secret_reads = then.secret_reads;
-}
 
 -- the key areas were read, or a read of them failed; if a key slot opened, the image did not end within them
 pub within_areas : (result : Result UnlockedVolume VolumeFault) (Same : Type 0) (ended : Bool)

@@ -1,50 +1,56 @@
 -- How the commands on volumes end if their volume is not opened, and what holds if it is.
-use Rattle.std.proofs.Common.{◌≡◌, ℕ, ◌+◌, ◌-◌, ◌<◌, ◌≤◌, inl, inr, List, Option, Some, Result, Ok, Err, ◌∙◌, ap, sym}
-use Rattle.std.proofs.Common.{refl, take, drop, length, max, arith, ◌*◌}
-use Rattle.std.proofs.Common.{◌/◌, length-take, false, true, is_err, ◌⊎◌}
-use Rattle.luks_header.specs.Area.{AbortsConsuming, ConsumedOnto}
+use Rattle.std.proofs.Common.{◌≡◌, ℕ, ◌+◌, ◌-◌, ◌*◌, ◌/◌, ◌≤◌, ◌⊎◌, inl, inr, Bool, List, Option, Some, Result, Ok, Err, ◌∙◌}
+use Rattle.std.proofs.Common.{ap, sym, refl, length, max, arith, false, true, is_err}
+use Rattle.std.specs.Prelude.{MatchBool}
+use Rattle.std.specs.Result.{result_map_both}
+use Rattle.std.proofs.Math.Nat.{zero-div}
 use Rattle.luks_header.specs.Header.{header_read_len, header_of}
-use Rattle.luks_header.specs.HeaderSegment.{segment_of}
 use Rattle.luks_header.specs.declared.header.Header.{Header}
-use Rattle.luks_header_area.specs.declared.fault.HeaderFault.{HeaderFault}
-use Rattle.luks_header_area.specs.declared.fault.HeaderFault.TheVariants.{Read as HeaderRead, Memory as HeaderMemory}
+use Rattle.luks_header.proofs.KnownLemmas.{is_attached}
 use Rattle.luks_verdict.specs.declared.segment.Segment.{Segment}
+use Rattle.luks_key_slots.proofs.CallerLemmas.{key_areas_before_payload}
+use Rattle.luks_key_slots.specs.Fault.{aborts_opening, has_fault, is_untried}
 use Rattle.luks_kdf.specs.Pbkdf2.{capped}
-use Rattle.luks_key_slots.specs.Opening.{opening_of, work_of, OrderModel, key_material_end, order_of}
+use Rattle.luks_key_slots.specs.Opening.{OrderModel, order_of, work_of}
 use Rattle.luks_key_slots.specs.declared.fault.OpenFault.{OpenFault}
-use Rattle.luks_key_slots.specs.declared.fault.OpenFault.TheVariants.{Memory}
 use Rattle.luks_key_slots.specs.declared.fault.PassphraseFault.{PassphraseFault}
-use Rattle.luks_key_slots.specs.declared.fault.PassphraseFault.TheVariants.{TooLong, Read, Memory as PassphraseMemory}
 use Rattle.luks_key_slots.specs.declared.fault.VolumeFault.{VolumeFault}
-use Rattle.luks_key_slots.specs.declared.fault.VolumeFault.TheVariants.{Header as HeaderNotRead, KeyAreaCut, Passphrase}
-use Rattle.luks_key_slots.specs.declared.fault.VolumeFault.TheVariants.{Slots}
-use Rattle.luks_key_slots.specs.declared.opening.Opened.{Opened}
-use Rattle.luks_runs.proofs.VolumeLemmas.{area_cut, area_loaded, area_more, found_cut, found_is, found_long}
-use Rattle.luks_runs.proofs.VolumeLemmas.{message_says, prefix_length, outcome_is, tried_is, volume_is}
-use Rattle.luks_runs.proofs.VolumeLemmas.{area_within, found_within, header_read_len_consumed, volume_with}
-use Rattle.luks_report.specs.Faults.{message_for_header, message_for_passphrase, message_for_slots, message_for_volume}
-use Rattle.luks_runs.specs.Volume.{OnOpened, found_outcome, opened_outcome, volume_outcome_by, Volume}
-use Rattle.luks_runs.specs.Volume.{unlock_read_len, volume_by, ConsumedMaterial, CountsTrials, SlotsTrial, TriesSlots}
-use Rattle.luks_runs.specs.Volume.{opened_of}
-use Rattle.luks_request.specs.declared.command.SlotChoice.{SlotChoice}
-use Rattle.luks_runs.specs.Run.{RunMatches}
-use Rattle.luks_runs.proofs.RunLemmas.{aborted_unwritten, header_read_len_within}
+use Rattle.luks_key_slots.specs.declared.fault.VolumeFault.TheVariants.{Passphrase, Slots}
 use Rattle.luks_io.proofs.EffectLemmas.{appended-none, consumed-none}
-use Rattle.luks_io.specs.Devices.{Appended, ConsumedAtMost, ConsumedExactly, counted}
-use Rattle.luks_runs.specs.KeyFile.{NoKeyFileRead, max_key_file_len}
-use Rattle.luks_commands.specs.Headline.{CountsTried, EndsUntried, PromptCat, PromptForwarding, Trial}
-use Rattle.luks_commands.specs.Unlocking.{UnlockEffect, Unlocking, Unlocks}
-use Rattle.luks_runs.specs.Volume.{ConsumesLoaded, ends_untried, FindsNoVolume, HasSegmentBy}
-use Rattle.luks_runs.specs.declared.unlocked.UnlockedVolume.{UnlockedVolume}
-use Rattle.luks_runs.specs.Location.{reader_for, HeaderReader}
-use Rattle.luks_runs.specs.declared.location.HeaderLocation.{HeaderLocation}
-use Rattle.luks_runs.specs.declared.location.HeaderLocation.TheVariants.{Attached, Detached}
+use Rattle.luks_io.specs.Devices.{Appended, ConsumedExactly, counted}
+use Rattle.luks_payload.specs.Plain.{sector_len}
+use Rattle.luks_report.specs.Faults.{message_for_volume}
 use Rattle.luks_report.specs.declared.message.Message.{Message}
 use Rattle.luks_report.specs.declared.message.Message.TheVariants.{OutOfMemory, ReadFailed, WriteFailed}
-use Rattle.std.proofs.Math.Nat.{zero-div}
-use Rattle.luks_header.proofs.KnownLemmas.{is_attached}
-use Rattle.luks_key_slots.proofs.CallerLemmas.{key_areas_before_payload, work_prefix}
-use Rattle.luks_payload.specs.Plain.{sector_len}
+use Rattle.luks_request.specs.declared.command.SlotChoice.{SlotChoice}
+use Rattle.luks_runs.proofs.RunLemmas.{aborted_unwritten}
+use Rattle.luks_runs.proofs.VolumeLemmas.{aborted_untried, area_within, consumed_all, found_within, is_volume}
+use Rattle.luks_runs.proofs.VolumeLemmas.{message_says, opening_consumed, opening_found_is, opening_is, opens_unfound}
+use Rattle.luks_runs.proofs.VolumeLemmas.{opens_unread}
+use Rattle.luks_runs.specs.KeyFile.{NoKeyFileRead, max_key_file_len}
+use Rattle.luks_runs.specs.Location.{HeaderReader, reader_for}
+use Rattle.luks_runs.specs.Run.{Aborted, Completed, ConsumedNothing, IsPrefixLen}
+use Rattle.luks_runs.specs.Volume.{ConsumedUnless, FindsNoVolume, FoundIn, HasSegmentBy, OpeningMessage}
+use Rattle.luks_runs.specs.Volume.{OpensAs, TriesSlots, Volume, VolumeOpening, described, ends_untried, opened_of}
+use Rattle.luks_runs.specs.Volume.{opening_after, outcome_after, outcome_by, volume_by, volume_opening_by}
+use Rattle.luks_runs.specs.Volume.{unlock_read_len, volume_outcome_by}
+use Rattle.luks_runs.specs.declared.found.FoundVolume.{FoundVolume}
+use Rattle.luks_runs.specs.declared.location.HeaderLocation.{HeaderLocation}
+use Rattle.luks_runs.specs.declared.location.HeaderLocation.TheVariants.{Attached, Detached}
+use Rattle.luks_runs.specs.declared.unlocked.UnlockedVolume.{UnlockedVolume}
+use Rattle.luks_commands.specs.Headline.{CountsTried, EndsUntried, PromptCat, PromptForwarding, Trial}
+use Rattle.luks_commands.specs.Unlocking.{EndsLocked, Unlocking, Unlocks}
+
+-- opening a volume from an image and a key file, of which these bytes remained
+abbrev pub unlocking : HeaderLocation → SlotChoice → List ℕ → List ℕ → Option (List ℕ) → Option (List ℕ) → Unlocking
+unlocking location slots image secret image' secret' = record {
+  location = location;
+  slots = slots;
+  image = image;
+  image' = image';
+  secret = secret;
+  secret' = secret';
+}
 
 -- ---- promptness: how much of the image a run on a volume consumed before it was aborted
 
@@ -68,295 +74,191 @@ prompt_early segment header_len ReadFailed consumed few = λ is_past_header. eli
 prompt_early segment header_len WriteFailed consumed few = omega arith
 prompt_early segment header_len _ consumed few = tt
 
--- nothing was consumed past the header
-prompt_in_header : (location : HeaderLocation) (image : List ℕ) (message : Message) (a b : ℕ)
-    → a ≤ header_read_len image → PromptCat location image message (record { input = a; payload = 0; secret = b }) 0
-prompt_in_header Attached image message a b few =
-    λ segment has. prompt_early segment (header_read_len image) message a (omega arith)
-prompt_in_header Detached image message a b few = λ segment has. prompt_early segment 0 message 0 (omega arith)
+-- the volume with this header, this segment and this order
+abbrev volume_with : Header → Segment → OrderModel → Volume
+volume_with header segment order = record { header = header; segment = segment; order = order }
 
--- nothing was consumed past the header's end or this segment's start
-prompt_before_payload : (location : HeaderLocation) (image : List ℕ) (message : Message) (a b : ℕ)
-    (segment : Segment) → HasSegmentBy (reader_for location) image segment
-    → (location ≡ Attached → a ≤ max (header_read_len image) segment.offset)
-    → PromptCat location image message (record { input = a; payload = 0; secret = b }) 0
-prompt_before_payload Attached image message a b segment has early = λ other is.
-    prompt_early other (header_read_len image) message a
-    (rw (same_segment_by header_of image segment other has is) (early refl))
-prompt_before_payload Detached image message a b segment has early =
-    λ other is. prompt_early other 0 message 0 (omega arith)
-
--- ---- how many evaluations of HMAC a run needs
-
--- no volume was found: the image has none, or a read failed, or memory ran out
-pub early_without_volume : (location : HeaderLocation) (slots : SlotChoice) (image : List ℕ) (left : Option (List ℕ))
-    (fault : VolumeFault) → FindsNoVolume (reader_for location) slots image left fault
-    → (is_err (volume_by (reader_for location) slots image) ≡ true) ⊎ (ends_untried (message_for_volume fault) ≡ true)
-early_without_volume location slots image left (HeaderNotRead HeaderRead) stop = inr refl
-early_without_volume location slots image left (HeaderNotRead HeaderMemory) stop = inr refl
-early_without_volume location slots image left (Slots Memory) stop = inr refl
-early_without_volume location slots image left (Passphrase _) stop = absurd stop
-early_without_volume location slots image left KeyAreaCut stop = absurd stop
-early_without_volume location slots image left fault stop = inl (rw stop.0 refl)
-
--- trying these key slots, after an image's header was read
-abbrev slots_trial : (image area area' : List ℕ) → Option (List ℕ) → Segment → OrderModel → List ℕ → SlotsTrial
-slots_trial image area area' i segment order pass = record {
-  segment = segment;
-  order = order;
-  passphrase = pass;
-  loaded = area;
-  loaded' = area';
-  further = drop (header_read_len image) image;
-  further' = i;
-}
-
-module _ (image area area' : List ℕ) (i : Option (List ℕ)) (prefix : area ≡ take (header_read_len image) image)
-    (segment : Segment) (order : OrderModel) (pass : List ℕ) where
-  -- the loaded bytes are the first of the image, and those that were consumed, also after its key slots were tried
-  abbrev LoadedPrefix : Type 0
-  LoadedPrefix =
-      (n : ℕ) × (area' ≡ take n image) × (header_read_len image ≤ n) × ConsumedExactly image i n
-
-  loads_more : (n : ℕ) → ConsumedOnto area area' (drop (header_read_len image) image) i n → LoadedPrefix
-  loads_more n grows = let more = area_more image area area' i 0 prefix n grows in (_, more.0, omega arith, more.1)
-
-  prefix_tried : (result : Result UnlockedVolume VolumeFault)
-      → TriesSlots (slots_trial image area area' i segment order pass) result → LoadedPrefix
-  prefix_tried (Ok volume) tries = loads_more _ tries.0
-  prefix_tried (Err (Slots fault)) tries = loads_more _ tries.0
-  prefix_tried (Err KeyAreaCut) tries = loads_more _ tries.0
-  prefix_tried (Err (HeaderNotRead HeaderRead)) stop = loads_more stop.0 stop.2
-  prefix_tried (Err (HeaderNotRead HeaderMemory)) stop = loads_more 0 stop
-  prefix_tried (Err _) stop = absurd stop
-
-  prefix_unlocked : (s : Option (List ℕ)) (result : Result UnlockedVolume VolumeFault)
-      → UnlockEffect (slots_trial image area area' i segment order pass) s result
-      → LoadedPrefix
-  prefix_unlocked s result (inl (short, read, tries)) = prefix_tried result tries
-  prefix_unlocked s result (inr none) = (
-    header_read_len image,
-    none.3 ∙ prefix,
-    omega arith,
-    record { within = header_read_len_within image; left = none.4 },
-  )
-
--- opening a volume from an image and a key file, of which these bytes remained
-abbrev pub unlocking : HeaderLocation → SlotChoice → List ℕ → List ℕ → Option (List ℕ) → Option (List ℕ) → Unlocking
-unlocking location slots image secret image' secret' = record {
-  location = location;
-  slots = slots;
-  image = image;
-  image' = image';
-  secret = secret;
-  secret' = secret';
-}
-
--- ---- runs on a volume
-
-module _ (location : HeaderLocation) (slots : SlotChoice) (image pass : List ℕ) (i s w : Option (List ℕ)) where
-  -- a run that wrote nothing matches the outcome of what is done with an opened volume
-  abbrev Matches : OnOpened → Message → Type 0
-  Matches on_opened message =
-      RunMatches (PromptCat location image) (volume_outcome_by (reader_for location) on_opened slots image pass) message
-      (ConsumedExactly image i) (ConsumedExactly pass s) (Appended w w)
-
-  module _ (on_opened : OnOpened) (consumes : ConsumesLoaded pass on_opened) where
-    header_consumed : header_read_len image
-        ≤ (volume_outcome_by (reader_for location) on_opened slots image pass).consumed.input
-    header_consumed = header_read_len_consumed location slots image pass on_opened consumes
-
-    -- memory ran out before a volume was found
-    out_of_memory : ConsumedAtMost image i (header_read_len image) → s ≡ Some pass → Matches on_opened OutOfMemory
-    out_of_memory stop whole =
-        aborted_unwritten stop.0 0 refl (prompt_in_header location image OutOfMemory stop.0 0 stop.1)
-        (omega (arith, stop.1, header_consumed)) (omega arith) stop.2 (consumed-none pass s whole)
-
-    -- no volume was found, or reading the header failed
-    pub runs_without_volume : (fault : VolumeFault) → FindsNoVolume (reader_for location) slots image i fault
-        → s ≡ Some pass → Matches on_opened (message_for_volume fault)
-    runs_without_volume (HeaderNotRead HeaderRead) stop whole =
-        aborted_unwritten stop.0 0 (omega arith) (prompt_in_header location image ReadFailed stop.0 0 stop.1)
-        (omega (arith, stop.1, header_consumed)) (omega arith) stop.2 (consumed-none pass s whole)
-    runs_without_volume (HeaderNotRead HeaderMemory) stop whole = out_of_memory stop whole
-    runs_without_volume (Slots Memory) stop whole = out_of_memory stop whole
-    runs_without_volume (Passphrase _) stop whole = absurd stop
-    runs_without_volume KeyAreaCut stop whole = absurd stop
-    runs_without_volume fault stop whole =
-        let unread = consumed-none pass s whole in
-        rw (outcome_is location slots image pass on_opened (Err fault) stop.0) (record
-        { as_specified = refl; input = stop.1; payload = refl; secret = unread; output = appended-none w })
-
-  -- the header names this segment and these key slots to be tried
-  module _ (header : Header) (segment : Segment) (order : OrderModel) (found : reader_for location image ≡ Ok header)
-      (is_segment : segment_of header ≡ Ok segment)
-      (ordered : order_of header slots.named slots.max_iterations ≡ Ok order) where
-    abbrev volume : Volume
-    volume = volume_with header segment order
-
-    outcome_found : (on_opened : OnOpened) → volume_outcome_by (reader_for location) on_opened slots image pass
-        ≡ found_outcome on_opened volume image pass
-    outcome_found on_opened = found_is location slots image pass header segment order found is_segment ordered on_opened
-
-    -- with an attached header, the key material of the slots to be tried ends before the payload starts
-    loaded_before_payload : location ≡ Attached
-        → unlock_read_len image volume ≤ max (header_read_len image) segment.offset
-    loaded_before_payload attached =
+-- opening a volume with an attached header consumes nothing past the header's end or the payload's start
+before_payload : (slots : SlotChoice) (image pass : List ℕ) (segment : Segment) → HasSegmentBy header_of image segment
+    → (volume_opening_by header_of slots image pass).consumed ≤ max (header_read_len image) segment.offset
+unfolding volume_opening_by volume_by
+before_payload slots image pass segment (header, found, is_segment) =
+    rw (found, is_segment) (by (order_of header slots.named slots.max_iterations) refl)
+  where
+    by : (r : Result OrderModel OpenFault) → order_of header slots.named slots.max_iterations ≡ r
+        → (opening_after image pass (result_map_both (volume_with header segment) Slots r)).consumed
+        ≤ max (header_read_len image) segment.offset
+    by (Ok order) ordered =
         let few = key_areas_before_payload header segment slots.named slots.max_iterations order
-        (is_attached image header (rw attached at found)) is_segment ordered in
-        omega (arith, few)
+        (is_attached image header found) is_segment ordered in
+        omega (arith, few, (found_within (volume_with header segment order) image pass).1)
+    by (Err fault) ordered = omega arith
 
+no_further : (location : HeaderLocation) (slots : SlotChoice) (image pass : List ℕ) (segment : Segment)
+    → location ≡ Attached → HasSegmentBy (reader_for location) image segment
+    → (volume_opening_by (reader_for location) slots image pass).consumed
+    ≤ max (header_read_len image) segment.offset
+no_further Attached slots image pass segment attached has = before_payload slots image pass segment has
+no_further Detached slots image pass segment attached has = absurd cc
+
+-- a run that consumed no more than opening its volume does
+prompt_opening : (location : HeaderLocation) (slots : SlotChoice) (image pass : List ℕ) (message : Message) (a b : ℕ)
+    → a ≤ (volume_opening_by (reader_for location) slots image pass).consumed
+    → PromptCat location image message (record { input = a; payload = 0; secret = b }) 0
+prompt_opening Attached slots image pass message a b few = λ segment has.
+    prompt_early segment (header_read_len image) message a
+    (omega (arith, few, before_payload slots image pass segment has))
+prompt_opening Detached slots image pass message a b few =
+    λ segment has. prompt_early segment 0 message 0 (omega arith)
+
+-- ---- the volume was not opened
+
+-- a run that opened no volume wrote nothing
+unwritten : (message : Message) (n : ℕ) → OpeningMessage message → IsPrefixLen message 0 n
+unwritten OutOfMemory n opening = refl
+unwritten WriteFailed n opening = absurd opening
+unwritten _ n opening = omega arith
+
+module _ (location : HeaderLocation) (slots : SlotChoice) (image pass : List ℕ) (i s : Option (List ℕ)) where
+  abbrev opening : VolumeOpening
+  opening = volume_opening_by (reader_for location) slots image pass
+
+  -- the volume was not opened, so whatever the command does with open volumes, the run has its outcome
+  pub ends_locked : (fault : VolumeFault)
+      → OpensAs opening image (Err fault) i
+      → ConsumedUnless (aborts_opening fault) pass s
+      opening.secret_consumed
+      → EndsLocked location slots image pass (message_for_volume fault) i s
+  unfolding volume_outcome_by
+  ends_locked fault opens read on_opened consumes w =
+      let says = message_says fault in
+      rw (← says.aborted) (by (aborts_opening fault) opens.answer opens.consumed read)
+    where
+      by : (b : Bool) → (b ≡ false → Err fault ≡ opening.result) → ConsumedUnless b image i opening.consumed
+          → ConsumedUnless b pass s opening.secret_consumed
+          → MatchBool b (Aborted (PromptCat location image) (outcome_after on_opened opening) (message_for_volume fault)
+          (record {
+            input = ConsumedExactly image i;
+            payload = ConsumedNothing;
+            secret = ConsumedExactly pass s;
+            output = Appended w w;
+          })) (Completed (outcome_after on_opened opening) (message_for_volume fault) (record {
+            input = ConsumedExactly image i;
+            payload = ConsumedNothing;
+            secret = ConsumedExactly pass s;
+            output = Appended w w;
+          }))
+      by true answer (a, few, consumed) (b, fewer, read) =
+          let within = opening_consumed location slots image pass on_opened consumes in
+          aborted_unwritten a b (unwritten (message_for_volume fault) _ (message_says fault).opening)
+          (prompt_opening location slots image pass (message_for_volume fault) a b few) (omega (arith, few, within.0))
+          (omega (arith, fewer, within.1)) consumed read
+      by false answer consumed read = rw (← answer refl) (record
+          { as_specified = refl; input = consumed; payload = refl; secret = read; output = appended-none w })
+
+  -- no volume was found
+  pub locked_unfound : (fault : VolumeFault) → FindsNoVolume (reader_for location) slots image i fault → s ≡ Some pass
+      → EndsLocked location slots image pass (message_for_volume fault) i s
+  locked_unfound fault finds whole =
+      ends_locked fault (opens_unfound location slots image pass fault i finds) (by (aborts_opening fault) finds.none)
+    where
+      by : (b : Bool) → (b ≡ false → volume_by (reader_for location) slots image ≡ Err fault)
+          → ConsumedUnless b pass s opening.secret_consumed
+      by true none = (0, omega arith, consumed-none pass s whole)
+      by false none = rw (opening_is location slots image pass (Err fault) (none refl)) (consumed-none pass s whole)
+
+  -- nor was a key slot tried
+  pub early_unfound : (fault : VolumeFault) → FindsNoVolume (reader_for location) slots image i fault
+      → (is_err (volume_by (reader_for location) slots image) ≡ true)
+      ⊎ (ends_untried (message_for_volume fault) ≡ true)
+  early_unfound fault finds = by (aborts_opening fault) refl
+    where
+      by : (b : Bool) → aborts_opening fault ≡ b → (is_err (volume_by (reader_for location) slots image) ≡ true)
+          ⊎ (ends_untried (message_for_volume fault) ≡ true)
+      by true is = inr ((message_says fault).untried ∙ aborted_untried fault is)
+      by false is = inl (rw (finds.none is) refl)
+
+  -- a volume was found
+  module _ (volume : FoundVolume) (left : Option (List ℕ)) (found : FoundIn location slots image volume left) where
     -- the key file was not read
-    runs_without_secret : (on_opened : OnOpened) → ConsumesLoaded pass on_opened → (fault : PassphraseFault)
-        → NoKeyFileRead pass s fault → ConsumedExactly image i (header_read_len image)
-        → Matches on_opened (message_for_passphrase fault)
-    runs_without_secret on_opened consumes TooLong stop rest =
-        rw (outcome_found on_opened, found_long on_opened volume image pass stop.0) (record
-        { as_specified = refl; input = rest; payload = refl; secret = stop.1; output = appended-none w })
-    runs_without_secret on_opened consumes PassphraseMemory stop rest =
-        let within = found_within on_opened volume image pass consumes in
-        rw (outcome_found on_opened) (aborted_unwritten (header_read_len image) stop.0 refl
-        (prompt_in_header location image OutOfMemory (header_read_len image) stop.0 (omega arith)) within.0
-        (omega (arith, stop.1, within.1)) rest stop.2)
-    runs_without_secret on_opened consumes Read stop rest =
-        let within = found_within on_opened volume image pass consumes in
-        rw (outcome_found on_opened) (aborted_unwritten (header_read_len image) stop.0 (omega arith)
-        (prompt_in_header location image ReadFailed (header_read_len image) stop.0 (omega arith)) within.0
-        (omega (arith, stop.1, within.1)) rest stop.2)
+    pub locked_unread : i ≡ left → (fault : PassphraseFault) → NoKeyFileRead pass s fault
+        → EndsLocked location slots image pass (message_for_volume (Passphrase fault)) i s
+    locked_unread same fault stop =
+        let ends = opens_unread location slots image pass volume left found s fault stop in
+        ends_locked (Passphrase fault) (rw same ends.0) ends.1
 
-    -- the key file was read
+    -- the key slots were tried under a passphrase that is not too long
     module _ (short : length pass ≤ max_key_file_len) (read : ConsumedExactly pass s (length pass))
-        (area area' : List ℕ) (prefix : area ≡ take (header_read_len image) image) where
-      -- the key areas could not be read
-      runs_without_area : (on_opened : OnOpened) → ConsumesLoaded pass on_opened → (fault : HeaderFault)
-          → AbortsConsuming (key_material_end order.entries - length area) area area' (drop
-          (header_read_len image) image) i fault → Matches on_opened (message_for_header fault)
-      runs_without_area on_opened consumes HeaderRead stop =
-          let more = area_more image area area' i (key_material_end order.entries) prefix stop.0 stop.2 in
-          let few : header_read_len image + stop.0 ≤ unlock_read_len image volume =
-          omega (arith, stop.1, prefix_length image area area' i (key_material_end order.entries) prefix) in
-          let within = area_within on_opened volume image pass consumes short in
-          rw (outcome_found on_opened) (aborted_unwritten (header_read_len image + stop.0) (length pass) (omega arith)
-          (prompt_before_payload location image ReadFailed (header_read_len image + stop.0) (length pass) segment
-          (header, found, is_segment) (λ attached. omega (arith, few, loaded_before_payload attached)))
-          (omega (arith, within.0, more.1.within, few)) within.1 more.1 read)
-      runs_without_area on_opened consumes HeaderMemory stop =
-          let within = area_within on_opened volume image pass consumes short in
-          rw (outcome_found on_opened) (aborted_unwritten (header_read_len image) (length pass) refl
-          (prompt_in_header location image OutOfMemory (header_read_len image) (length pass) (omega arith))
-          (omega (arith, within.0, header_read_len_within image)) within.1
-          (record { within = header_read_len_within image; left = stop.0.left }) read)
-      runs_without_area on_opened consumes _ stop = absurd stop
+        (area' : List ℕ) where
+      -- none of them opens
+      pub locked_tried : (fault : VolumeFault) (work work' : ℕ)
+          → TriesSlots location slots image pass (described volume) area' (Err fault) i work work'
+          → EndsLocked location slots image pass (message_for_volume fault) i s
+      locked_tried fault work work' tries =
+          let whole : opening.secret_consumed ≡ length pass =
+          ap (λ (o : VolumeOpening). o.secret_consumed)
+          (opening_found_is location slots image pass volume left found)
+          ∙ (area_within (described volume) image pass short).2 in
+          ends_locked fault (tries.opens short) (rw whole (consumed_all (aborts_opening fault) pass s _ read))
 
-      -- the key slots were tried
-      module _ (grows : ConsumedMaterial order area area' (drop (header_read_len image) image) i)
-          (enough : key_material_end order.entries ≤ length area') where
-        outcome_tried : (r : Result Opened OpenFault) → opening_of order area' pass ≡ r → (on_opened : OnOpened)
-            → volume_outcome_by (reader_for location) on_opened slots image pass
-            ≡ opened_outcome on_opened volume image pass r
-        outcome_tried r tried on_opened =
-            tried_is location slots image pass header segment order found is_segment ordered short area area' i prefix
-            grows enough r tried on_opened
-
-        -- none of them opens
-        runs_unopened : (fault : OpenFault) → opening_of order area' pass ≡ Err fault → (on_opened : OnOpened)
-            → Matches on_opened (message_for_slots fault)
-        runs_unopened Memory tried on_opened =
-            let loaded = area_loaded image area area' i (key_material_end order.entries) prefix grows enough in
-            rw (outcome_tried (Err Memory) tried on_opened)
-            (aborted_unwritten (unlock_read_len image volume) (length pass) refl
-            (prompt_before_payload location image OutOfMemory (unlock_read_len image volume) (length pass) segment
-            (header, found, is_segment) loaded_before_payload) (omega arith) (omega arith) loaded.3 read)
-        runs_unopened fault tried on_opened =
-            let loaded = area_loaded image area area' i (key_material_end order.entries) prefix grows enough in
-            rw (outcome_tried (Err fault) tried on_opened)
-            (record { as_specified = refl; input = loaded.3; payload = refl; secret = read; output = appended-none w })
-
-    -- the volume was not opened
-    pub runs_without_key : (area area' : List ℕ) → area ≡ take (header_read_len image) image → (on_opened : OnOpened)
-        → ConsumesLoaded pass on_opened → (fault : VolumeFault)
-        → UnlockEffect (slots_trial image area area' i segment order pass) s (Err fault)
-        → Matches on_opened (message_for_volume fault)
-    runs_without_key area area' prefix on_opened consumes (HeaderNotRead fault) (inl (short, read, lost)) =
-        runs_without_area short read area area' prefix on_opened consumes fault lost
-    runs_without_key area area' prefix on_opened consumes KeyAreaCut (inl (short, read, (grows, few))) =
-        let ends = area_cut image area area' i (key_material_end order.entries) prefix grows few in
-        rw (outcome_found on_opened, found_cut on_opened volume image pass short ends.0) (record
-        { as_specified = refl; input = ends.1; payload = refl; secret = read; output = appended-none w })
-    runs_without_key area area' prefix on_opened consumes (Slots fault) (inl (short, read, (grows, enough, tried))) =
-        runs_unopened short read area area' prefix grows enough fault tried on_opened
-    runs_without_key area area' prefix on_opened consumes _ (inl (short, read, none)) = absurd none
-    runs_without_key area area' prefix on_opened consumes fault (inr none) =
-        let same : fault ≡ Passphrase none.0 = cc in
-        rw same (runs_without_secret on_opened consumes none.0 none.2
-        (record { within = header_read_len_within image; left = none.4 }))
-
-    is_volume : volume_by (reader_for location) slots image ≡ Ok volume
-    is_volume = volume_is location slots image header segment order found is_segment ordered
-
-    -- the work of trying its key slots does not depend on which bytes were loaded
-    counts_tried : (area' : List ℕ) (n : ℕ) → area' ≡ take n image → header_read_len image ≤ n
-        → ConsumedExactly image i n → key_material_end order.entries ≤ length area'
-        → (trial : Trial) → trial.image.after ≡ i → trial.key_file.after.ends ≡ counted true trial.key_file.before.ends
-        → trial.work.after ≡ capped (trial.work.before + work_of order area' pass)
-        → CountsTried location slots image pass trial
-    counts_tried area' n begins header_read consumption enough trial left ended counted =
-        let loaded : key_material_end order.entries ≤ n =
-        omega (arith, enough, ap length begins, length-take n image) in (
-          volume,
+      -- one of them opened
+      pub unlocked_tried : (opened : UnlockedVolume) (work work' : ℕ)
+          → TriesSlots location slots image pass (described volume) area' (Ok opened) i work work'
+          → Unlocks (unlocking location slots image pass i s) opened.segment (opened_of opened) area'
+      unfolding volume_outcome_by
+      unlocked_tried opened work work' tries =
+          let opens = tries.opens short in
+          let loaded = tries.loaded short in
           record {
-            is_volume = is_volume;
-            key_file = ended;
-            material = λ countable. (n, omega (arith, loaded, header_read), rw left consumption);
-          },
-          counted ∙ ap (λ (cost : ℕ). capped (trial.work.before + cost))
-              (ap (λ (bytes : List ℕ). work_of order bytes pass) begins ∙ work_prefix order n image pass loaded),
-        )
+            outcome = λ on_opened.
+                ap (outcome_by on_opened opening.consumed
+                opening.secret_consumed) (sym (opens.answer refl))
+                ∙ ap (on_opened opened.segment (opened_of opened)) (sym loaded.0);
+            has = (volume.header, found.header, rw tries.segment found.slots.segment);
+            no_further = λ attached. rw loaded.0 (no_further location slots image pass opened.segment attached
+                (volume.header, found.header, rw tries.segment found.slots.segment));
+            prefix = rw loaded.0 loaded.1;
+            input_consumed = rw loaded.0 opens.consumed;
+            secret_consumed = read;
+          }
 
-    pub counts_opening : (area area' : List ℕ) → area ≡ take (header_read_len image) image
-        → (fault : VolumeFault)
-        → UnlockEffect (slots_trial image area area' i segment order pass) s (Err fault)
-        → (trial : Trial) → trial.image.after ≡ i → trial.key_file.after.ends ≡ counted true trial.key_file.before.ends
-        → CountsTrials order area' pass (Err fault) trial.work.before trial.work.after
-        → CountsTried location slots image pass trial
-        ⊎ (EndsUntried location slots image (message_for_volume fault) trial × (trial.work.after ≡ trial.work.before))
-    counts_opening area area' prefix fault effect trial left ended (inl (enough, counted)) =
-        let begins = prefix_unlocked image area area' i prefix segment order pass s (Err fault) effect in
-        inl (counts_tried area' begins.0 begins.1 begins.2 begins.3 enough trial left ended counted)
-    counts_opening area area' prefix fault effect trial left ended (inr (few, untried, same)) =
-        let begins = prefix_unlocked image area area' i prefix segment order pass s (Err fault) effect in
-        let fewer : begins.0 < unlock_read_len image volume =
-        omega (arith, few, ap length begins.1, length-take begins.0 image, begins.3.within) in
-        let early = (message_says fault).untried ∙ untried in
-        let consumed : ConsumedExactly image trial.image.after begins.0 = rw left begins.3 in
-        inr (record { unread = inr (volume, is_volume, (begins.0, fewer, consumed)); early = inr early }, same)
+    -- whether or not the key slots were tried, the count of work is that of trying them, or what it was
+    module _ (area' : List ℕ) (result : Result UnlockedVolume VolumeFault) (trial : Trial)
+        (tries : TriesSlots location slots image pass (described volume) area' result trial.image.after
+        trial.work.before trial.work.after)
+        (ended : trial.key_file.after.ends ≡ counted true trial.key_file.before.ends) where
+      tried : ConsumedExactly image trial.image.after (unlock_read_len image (described volume))
+          → trial.work.after ≡ capped (trial.work.before + work_of volume.order image pass)
+          → CountsTried location slots image pass trial
+      tried consumed counts = (
+        described volume,
+        record {
+          is_volume = is_volume location slots image pass volume left found;
+          key_file = ended;
+          material = λ countable. (_, omega arith, consumed);
+        },
+        counts,
+      )
 
-    -- if the volume was opened, its key slots were tried
-    pub counts_unlocked : (area area' : List ℕ) → area ≡ take (header_read_len image) image → (opened : UnlockedVolume)
-        → UnlockEffect (slots_trial image area area' i segment order pass) s (Ok opened)
-        → (trial : Trial) → trial.image.after ≡ i → trial.key_file.after.ends ≡ counted true trial.key_file.before.ends
-        → CountsTrials order area' pass (Ok opened) trial.work.before trial.work.after
-        → CountsTried location slots image pass trial
-    counts_unlocked area area' prefix opened effect trial left ended (inl (enough, counted)) =
-        let begins = prefix_unlocked image area area' i prefix segment order pass s (Ok opened) effect in
-        counts_tried area' begins.0 begins.1 begins.2 begins.3 enough trial left ended counted
-    counts_unlocked area area' prefix opened effect trial left ended (inr (few, untried, same)) =
-        absurd (let wrong : false ≡ true = untried in cc)
+      pub counts_unopened : (fault : VolumeFault) → result ≡ Err fault → CountsTried location slots image pass trial
+          ⊎ (EndsUntried location slots image (message_for_volume fault) trial
+          × (trial.work.after ≡ trial.work.before))
+      counts_unopened fault is = elim tries.counts [
+        | inl all ↦ inl (tried all.0 all.1)
+        | inr few ↦
+            let untried : is_untried fault ≡ true =
+            ap (has_fault is_untried) (sym is) ∙ few.1 in
+            inr (
+              record {
+                unread = inr (described volume, is_volume location slots image pass volume left found, few.0);
+                early = inr ((message_says fault).untried ∙ untried);
+              },
+              few.2,
+            )
+      ]
 
-    -- the volume was opened
-    pub unlocks_volume : (area area' : List ℕ) → area ≡ take (header_read_len image) image → (opened : UnlockedVolume)
-        → UnlockEffect (slots_trial image area area' i segment order pass) s (Ok opened)
-        → Unlocks (unlocking location slots image pass i s) opened.segment (opened_of opened) area'
-    unlocks_volume area area' prefix opened (inl (short, read, tries)) =
-        let loaded = area_loaded image area area' i (key_material_end order.entries) prefix tries.0 tries.1 in
-        rw tries.2 (record {
-          outcome = λ on_opened.
-              outcome_tried short read area area' prefix tries.0 tries.1 (Ok (opened_of opened)) tries.3 on_opened
-              ∙ ap (on_opened segment (opened_of opened)) (sym loaded.1);
-          has = (header, found, is_segment);
-          no_further = λ attached. omega (arith, loaded.1, loaded_before_payload attached);
-          prefix = rw (← loaded.1) at loaded.2;
-          input_consumed = rw (← loaded.1) at loaded.3;
-          secret_consumed = read;
-        })
-    unlocks_volume area area' prefix opened (inr none) = cc
+      pub counts_opened : (opened : UnlockedVolume) → result ≡ Ok opened → CountsTried location slots image pass trial
+      counts_opened opened is = elim tries.counts [
+        | inl all ↦ tried all.0 all.1
+        | inr few ↦ absurd (let wrong : false ≡ true = ap (has_fault is_untried) (sym is) ∙ few.1 in cc)
+      ]

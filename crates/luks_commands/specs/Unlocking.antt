@@ -1,5 +1,5 @@
 -- Opening a volume by the passphrase in a key file: what it does to the devices, and what is known of the volume then.
-use Rattle.std.specs.Prelude.{◌≡◌, ℕ, max, List, length, Option, Some, ◌⊎◌}
+use Rattle.std.specs.Prelude.{◌≡◌, ℕ, max, List, length, Option}
 use Rattle.std.specs.Prelude.{◌≤◌, take, Result, Ok, Err}
 use Rattle.luks_io.specs.Devices.{Appended, ConsumedExactly}
 use Rattle.luks_request.specs.declared.command.SlotChoice.{SlotChoice}
@@ -7,17 +7,13 @@ use Rattle.luks_runs.specs.Location.{reader_for}
 use Rattle.luks_runs.specs.declared.location.HeaderLocation.{HeaderLocation}
 use Rattle.luks_runs.specs.declared.location.HeaderLocation.TheVariants.{Attached}
 use Rattle.luks_runs.specs.Run.{RunMatches}
-use Rattle.luks_runs.specs.Volume.{ConsumesLoaded, HasSegmentBy, OnOpened, SlotsTrial, TriesSlots, volume_outcome_by}
+use Rattle.luks_runs.specs.Volume.{ConsumesLoaded, HasSegmentBy, OnOpened, volume_outcome_by}
 use Rattle.luks_verdict.specs.declared.segment.Segment.{Segment}
 use Rattle.luks_report.specs.Faults.{message_for_volume}
 use Rattle.luks_report.specs.declared.message.Message.{Message}
 use Rattle.luks_header.specs.Header.{header_read_len}
 use Rattle.luks_key_slots.specs.declared.opening.Opened.{Opened}
-use Rattle.luks_key_slots.specs.declared.fault.PassphraseFault.{PassphraseFault}
 use Rattle.luks_key_slots.specs.declared.fault.VolumeFault.{VolumeFault}
-use Rattle.luks_key_slots.specs.declared.fault.VolumeFault.TheVariants.{Passphrase}
-use Rattle.luks_runs.specs.KeyFile.{NoKeyFileRead, max_key_file_len}
-use Rattle.luks_runs.specs.declared.unlocked.UnlockedVolume.{UnlockedVolume}
 use Rattle.luks_commands.specs.Headline.{CountsOpening, CountsTried, IfInputsKnown, PromptCat, Trial}
 
 -- the volume was not opened, and the message says why: nothing was written, and the run matches the specified outcome,
@@ -51,15 +47,6 @@ pub record Unlocks (from : Unlocking) (segment : Segment) (opened : Opened) (loa
   pub prefix : loaded ≡ take (length loaded) from.image
   pub input_consumed : ConsumedExactly from.image from.image' (length loaded)
   pub secret_consumed : ConsumedExactly from.secret from.secret' (length from.secret)
-
--- the effect of trying to open a volume that was found, under the passphrase in the key file. The key file is read
--- whole before the key slots are tried; if it cannot be, nothing more of the image is consumed
-abbrev pub UnlockEffect : SlotsTrial → Option (List ℕ) → Result UnlockedVolume VolumeFault → Type 0
-UnlockEffect trial secret' result =
-    ((length trial.passphrase ≤ max_key_file_len)
-    × ConsumedExactly trial.passphrase secret' (length trial.passphrase) × TriesSlots trial result)
-    ⊎ ((fault : PassphraseFault) × (result ≡ Err (Passphrase fault)) × NoKeyFileRead trial.passphrase secret' fault
-    × (trial.loaded' ≡ trial.loaded) × (trial.further' ≡ Some trial.further))
 
 -- if the volume was opened, its key slots were tried, and the count of work was raised by what that costs
 abbrev pub CountsUnlocking : {T : Type 0} → HeaderLocation → SlotChoice → Result T VolumeFault → Trial → Type 0

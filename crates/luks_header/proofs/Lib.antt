@@ -1,2 +1,3 @@
 pub mod HorizonLemmas
 pub mod KnownLemmas
+pub mod LoadingLemmas

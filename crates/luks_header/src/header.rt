@@ -1,14 +1,13 @@
 //! Which header an image has.
 
-ghost use Rattle.std.specs.Prelude.{◌≡◌, ℕ, Bool, List, Some, Ok, Err, IfOk, IfErr, OnOk};
+ghost use Rattle.std.specs.Prelude.{◌≡◌, ◌<◌, ◌≤◌, Bool, Some, None, Ok, Err, IfOk, IfErr, IfSome};
 ghost use Rattle.std.specs.Prelude.{[], length, take, true, false};
 ghost use Rattle.luks_io.specs.Devices.{ConsumedExactly, IfKnown};
 ghost use Rattle.luks_io.specs.Counts.{Reads};
-ghost use Rattle.luks_header_area.specs.Area.{is_read_fault};
+ghost use Rattle.luks_header_area.specs.Area.{is_read_fault, max_loaded_len};
 ghost use Rattle.luks1_header.specs.Header1.{is_luks1};
-ghost use Rattle.luks2_binary.specs.Reading2.{LoadedPrefixOf, OfEach};
-ghost use Rattle.luks_header.specs.Header.{IsRead, ReadsNoHeader, bounds2_of};
-ghost use Rattle.luks_header.specs.Header.{header_read_len, detached_of, falls_short, header_of};
+ghost use Rattle.luks_header.specs.Header.{HasNone, ReadsNoHeader, bounds2_of};
+ghost use Rattle.luks_header.specs.Header.{header_read_len, detached_of, falls_short, header_of, needed};
 
 use luks_header_area::area::HeaderArea;
 use luks_header_area::fault::HeaderFault;
@@ -16,7 +15,7 @@ use luks_io::source::Source;
 use luks1_header::header::{HEADER1_LEN, is_header1};
 pub use luks1_header::header::{Header1, SlotState, StoredSlot};
 pub use luks2_binary::header::{Header2, HeaderRole, PairFinding};
-use luks2_binary::header_search::read_header2;
+use luks2_binary::header_search::{header2, needed2};
 pub use luks2_json::tree::Metadata;
 pub use luks2_metadata::bounds::Bounds;
 use std::alloc::Global;
@@ -58,6 +57,61 @@ pub fn bounds(header: &Header2) -> Bounds
     }
 }
 
+/// The header of an image with these bytes (LUKS1 On-Disk Format Specification 1.2.3; LUKS2 On-Disk
+/// Format Specification 1.1, section 2).
+///
+/// # Errors
+///
+/// [`HeaderFault::NotLuks`] for an image that has neither a LUKS1 header nor a valid LUKS2 header,
+/// [`HeaderFault::Cut`] for one that starts as LUKS1 and is shorter than the header,
+/// [`HeaderFault::Json`] for a LUKS2 header whose JSON area cannot be read, and
+/// [`HeaderFault::Memory`] if memory ran out.
+#[tactic(auto, unfolding(crate::specs::Header::header_of, luks2_binary::specs::Choice2::header2_of))]
+pub fn header_in(alloc: Global, bytes: &[u8]) -> Result<Header, HeaderFault>
+    ensures ok { IfOk result (λ header. header_of bytes.now ≡ Ok header) }
+    ensures none { IfErr result (HasNone bytes.now) }
+{
+    if is_header1(bytes) {
+        if bytes.len() < HEADER1_LEN {
+            return Err(HeaderFault::Cut);
+        }
+        return Ok(Header::V1(Header1::from_bytes(&bytes[..HEADER1_LEN])));
+    }
+    let Some(header) = header2(bytes) else {
+        return Err(HeaderFault::NotLuks);
+    };
+    let metadata = Metadata::read(alloc, header.json_text(bytes))?;
+    Ok(Header::V2(header, metadata))
+}
+
+// The end of the bytes that are to be loaded next of an image that starts with these, and no more
+// than are loaded if they decide which header it has.
+#[tactic(auto, unfolding(crate::specs::Header::needed))]
+fn needed(bytes: &[u8]) -> usize
+    ensures { result ≡ needed bytes.now }
+{
+    if bytes.len() < HEADER1_LEN || is_header1(bytes) {
+        HEADER1_LEN
+    } else {
+        needed2(bytes)
+    }
+}
+
+// The end of the bytes that are to be loaded next, if there are any and EOF was not hit.
+fn lacking(area: &HeaderArea) -> Option<usize>
+    ensures some { IfSome result (λ end. (area.now.ended ≡ false) × (end ≡ needed area.now.bytes)
+        × (length area.now.bytes < end) × (end ≤ max_loaded_len)) }
+    ensures none { result ≡ None → area.now.ended ≡ false
+        → needed area.now.bytes ≤ length area.now.bytes }
+{
+    if area.has_ended() {
+        return None;
+    }
+    let bytes = area.as_slice();
+    let end = needed(bytes);
+    if bytes.len() < end { Some(end) } else { None }
+}
+
 /// Reads the header at the start of an image, and returns it with the bytes that were read. It
 /// reads no more than it has to: 592 bytes for LUKS1, or all of a shorter image; for LUKS2 both
 /// headers, or, if the first is not valid, as much as finding the second requires (LUKS1 On-Disk
@@ -93,42 +147,9 @@ pub fn read_header<S: Source>(
         → IfKnown (S.to_come source.old) (λ _. S.to_come source.new ≡ Some []))) }
 {
     let mut area = HeaderArea::new(alloc);
-    let whole = area.extend_to(source, HEADER1_LEN)?;
-    if is_header1(area.as_slice()) {
-        if !whole {
-            return Err(HeaderFault::Cut);
-        }
-        let header = Header1::from_bytes(area.as_slice());
-        return Ok((Header::V1(header), area));
+    while let Some(end) = lacking(&area) {
+        area.extend_to(source, end)?;
     }
-    if !whole {
-        return Err(HeaderFault::NotLuks);
-    }
-    let header = read2(alloc, &mut area, source)?;
+    let header = header_in(alloc, area.as_slice())?;
     Ok((header, area))
-}
-
-// Reads the LUKS2 header of an image whose first bytes are loaded and do not start as LUKS1.
-fn read2<S: Source>(
-    alloc: Global,
-    area: &mut HeaderArea,
-    source: &mut S,
-) -> Result<Header, HeaderFault>
-    requires first { (length area.old.bytes ≡ 592) × (area.old.ended ≡ false)
-        × (is_luks1 area.old.bytes ≡ false) }
-    ensures found { IfOk result (λ header. OfEach area.new.bytes area.new.ended
-        (λ image. IsRead image area.new header)) }
-    ensures holds { OnOk result ((image : List ℕ)
-        → LoadedPrefixOf image area.old (S.to_come source.old)
-        → LoadedPrefixOf image area.new (S.to_come source.new)) }
-    ensures no_header { IfErr result (λ fault. (image : List ℕ)
-        → LoadedPrefixOf image area.old (S.to_come source.old)
-        → ReadsNoHeader image (S.to_come source.new)
-        (S.counts source.old).ends (S.counts source.new).ends fault) }
-    ensures reads { Reads (is_read_fault result) area.new.ended
-        (S.counts source.old) (S.counts source.new) }
-{
-    let header = read_header2(area, source)?;
-    let metadata = Metadata::read(alloc, header.json_text(area.as_slice()))?;
-    Ok(Header::V2(header, metadata))
 }

@@ -54,8 +54,11 @@ use Rattle.luks_runs.specs.Run.{Outcome}
 use Rattle.luks_runs.specs.declared.location.HeaderLocation.TheVariants.{Attached}
 use Rattle.luks_runs.specs.KeyFile.{max_key_file_len}
 use Rattle.luks_runs.specs.Honest.{GivesNoOther, OpensHonest}
-use Rattle.luks_runs.specs.Volume.{Volume, unlock_read_len, opened_outcome, payload_outcome, volume_outcome}
-use Rattle.luks_runs.proofs.VolumeLemmas.{found_whole, found_is}
+use Rattle.luks_runs.specs.Volume.{Volume, unlock_read_len, outcome_after, outcome_by, payload_outcome, volume_outcome}
+use Rattle.luks_runs.specs.Volume.{volume_outcome_by}
+use Rattle.std.specs.Result.{result_map_both}
+use Rattle.luks_key_slots.specs.declared.fault.VolumeFault.TheVariants.{Slots}
+use Rattle.luks_runs.proofs.VolumeLemmas.{found_whole, opening_is, volume_is}
 
 -- ---- decryption of a sector undoes its encryption, in every mode
 
@@ -245,18 +248,21 @@ module _ (slots : SlotChoice) (image passphrase plain : List ℕ)
   opened_is : (number : ℕ) × (volume_outcome (payload_outcome Attached image passphrase) slots image passphrase
       ≡ payload_outcome Attached image passphrase honest.sealed.segment (record { slot = number; key = honest.key })
       (unlock_read_len image volume))
+  unfolding volume_outcome_by
   opened_is =
       let sealed = honest.sealed in
       let before = key_areas_before_payload sealed.header sealed.segment slots.named slots.max_iterations honest.order
       (is_attached image sealed.header sealed.is_header) sealed.is_segment honest.is_order in
       let within : key_material_end honest.order.entries ≤ length image =
       omega (arith, before, sealed.payload.is_stored.there) in
+      let there = volume_is Attached slots image sealed.header sealed.segment honest.order sealed.is_header
+      sealed.is_segment honest.is_order in
       let cat = payload_outcome Attached image passphrase in (
         opens.0,
-        found_is Attached slots image passphrase sealed.header sealed.segment honest.order sealed.is_header
-            sealed.is_segment honest.is_order cat
-            ∙ found_whole cat volume image passphrase honest.short within
-            ∙ ap (opened_outcome cat volume image passphrase) opens.1,
+        ap (outcome_after cat) (opening_is Attached slots image passphrase (Ok volume) there
+            ∙ found_whole volume image passphrase honest.short within)
+            ∙ ap (λ r. outcome_by cat (unlock_read_len image volume) (length passphrase)
+            (result_map_both (λ opened. (sealed.segment, opened)) Slots r)) opens.1,
       )
 
   -- `luksCat` writes the plaintext and succeeds

@@ -10,7 +10,7 @@ use Rattle.luks_io.proofs.EffectLemmas.{reads_more}
 use Rattle.luks_io.specs.Counts.{Reads}
 use Rattle.luks_io.specs.Devices.{ConsumedExactly, counted}
 use Rattle.luks_io.specs.declared.counts.ReadCounts.{ReadCounts}
-use Rattle.luks_header_area.specs.Area.{ConsumedOnto, HeaderAreaModel}
+use Rattle.luks_header_area.specs.Area.{AbortsConsuming, ConsumedOnto, HeaderAreaModel}
 use Rattle.luks_header_area.specs.declared.fault.HeaderFault.{HeaderFault}
 use Rattle.luks_header_area.specs.declared.fault.HeaderFault.TheVariants.{Read as HeaderRead, Memory as HeaderMemory}
 use Rattle.luks_header_area.specs.declared.fault.HeaderFault.TheVariants.{NotLuks, Cut as HeaderCut, Json}
@@ -20,9 +20,11 @@ use Rattle.luks_header.specs.Header.{ReadsNoHeader, header_read_len}
 use Rattle.luks_header.proofs.KnownLemmas.{memory_below}
 use Rattle.luks_header.specs.HeaderSegment.{segment_of}
 use Rattle.luks_header.specs.declared.header.Header.{Header}
-use Rattle.luks_key_slots.specs.Opening.{OrderModel, order_of, key_material_end, opening_of}
+use Rattle.luks_key_slots.specs.Opening.{OrderModel, order_of, key_material_end, opening_of, work_of}
 use Rattle.luks_key_slots.specs.declared.fault.OpenFault.{OpenFault}
-use Rattle.luks_key_slots.specs.Fault.{aborts_opening, is_read_failure, is_untried}
+use Rattle.luks_key_slots.specs.Fault.{aborts_opening, has_fault, is_read_failure, is_untried}
+use Rattle.luks_kdf.specs.Pbkdf2.{capped}
+use Rattle.std.specs.Result.{result_map_both}
 use Rattle.luks_key_slots.specs.declared.fault.OpenFault.TheVariants.{Disabled, Memory, NamedSkipped, NoKey, NoSuchSlot}
 use Rattle.luks_key_slots.specs.declared.fault.OpenFault.TheVariants.{NothingTried}
 use Rattle.luks_key_slots.specs.declared.fault.PassphraseFault.TheVariants.{TooLong, Read as PassphraseRead}
@@ -30,19 +32,21 @@ use Rattle.luks_key_slots.specs.declared.fault.PassphraseFault.TheVariants.{Memo
 use Rattle.luks_key_slots.specs.declared.fault.VolumeFault.{VolumeFault}
 use Rattle.luks_key_slots.specs.declared.fault.VolumeFault.TheVariants.{Header as HeaderNotRead, KeyAreaCut, Passphrase}
 use Rattle.luks_key_slots.specs.declared.fault.VolumeFault.TheVariants.{Segment as SegmentRefused, Slots}
-use Rattle.luks_key_slots.proofs.CallerLemmas.{opening_prefix}
+use Rattle.luks_key_slots.proofs.CallerLemmas.{opening_prefix, work_prefix}
 use Rattle.luks_key_slots.specs.declared.opening.Opened.{Opened}
 use Rattle.luks_report.specs.Faults.{message_for_volume}
-use Rattle.luks_report.specs.declared.message.Message.TheVariants.{Cut, KeyFileLength}
 use Rattle.luks_request.specs.declared.command.SlotChoice.{SlotChoice}
 use Rattle.luks_runs.proofs.RunLemmas.{reading_fault, header_read_len_within}
-use Rattle.luks_runs.specs.Run.{aborts, is_run_read_failure, no_output}
+use Rattle.luks_runs.specs.Run.{aborts, is_run_read_failure}
 use Rattle.luks_runs.specs.Location.{LoadedFrom, reader_for}
 use Rattle.luks_runs.specs.declared.location.HeaderLocation.{HeaderLocation}
-use Rattle.luks_runs.specs.KeyFile.{max_key_file_len}
+use Rattle.luks_runs.specs.KeyFile.{NoKeyFileRead, max_key_file_len}
 use Rattle.luks_runs.specs.Volume.{FindsNoVolume, FindsVolume, OnOpened, OpeningMessage, ends_untried, volume_by}
-use Rattle.luks_runs.specs.Volume.{ConsumesLoaded, Volume, found_outcome, opened_outcome, outcome_after, slot_outcome}
-use Rattle.luks_runs.specs.Volume.{unlock_read_len, volume_outcome_by}
+use Rattle.luks_runs.specs.Volume.{ConsumesLoaded, Volume, VolumeOpening, opening_found, opening_tried, slot_outcome}
+use Rattle.luks_runs.specs.Volume.{unlock_read_len, volume_opening_by, outcome_after, outcome_by, opening_after}
+use Rattle.luks_runs.specs.Volume.{ConsumedUnless, CountsTrials, FoundIn, IsLoaded, OpensAs, described, opened_result}
+use Rattle.luks_runs.specs.declared.unlocked.UnlockedVolume.{UnlockedVolume}
+use Rattle.luks_key_slots.specs.declared.fault.PassphraseFault.{PassphraseFault}
 use Rattle.luks_runs.specs.declared.found.FoundVolume.{FoundVolume}
 
 -- if no bytes of an image remain, nothing is consumed from it
@@ -87,6 +91,11 @@ message_says (Slots (NothingTried _)) = record { opening = tt; read = refl; untr
 message_says (Slots (NoKey _)) = record { opening = tt; read = refl; untried = refl; aborted = refl }
 message_says (Slots Memory) = record { opening = tt; read = refl; untried = refl; aborted = refl }
 
+-- no key slot was tried before a read failed, or memory ran out
+pub aborted_untried : (fault : VolumeFault) → aborts_opening fault ≡ true → is_untried fault ≡ true
+aborted_untried (Slots (NoKey _)) aborted = absurd cc
+aborted_untried _ aborted = refl
+
 -- ---- counts of reads
 
 -- if the first reads hit EOF and the others changed no count, all of them together hit EOF
@@ -118,9 +127,11 @@ module _ (location : HeaderLocation) (slots : SlotChoice) (image : List ℕ) (le
   pub aborts_without_header : (ends ends' : ℕ) (fault : HeaderFault) → ReadsNoHeader image left ends ends' fault
       → FindsNoVolume (reader_for location) slots image left (HeaderNotRead fault)
   unfolding volume_by
-  aborts_without_header ends ends' HeaderRead stop = stop.0
-  aborts_without_header ends ends' HeaderMemory stop = memory_below image left ends ends' stop
-  aborts_without_header ends ends' fault stop = (rw (reading_fault location image fault stop.0) refl, stop.1.0)
+  aborts_without_header ends ends' HeaderRead stop = record { none = λ never. absurd cc; consumed = stop.0 }
+  aborts_without_header ends ends' HeaderMemory stop =
+      record { none = λ never. absurd cc; consumed = memory_below image left ends ends' stop }
+  aborts_without_header ends ends' fault stop =
+      record { none = λ never. rw (reading_fault location image fault stop.0) refl; consumed = stop.1.0 }
 
   module _ (header : Header) (found : reader_for location image ≡ Ok header)
       (rest : ConsumedExactly image left (header_read_len image)) where
@@ -128,16 +139,18 @@ module _ (location : HeaderLocation) (slots : SlotChoice) (image : List ℕ) (le
     pub aborts_without_segment : (fault : SegmentFault) → segment_of header ≡ Err fault
         → FindsNoVolume (reader_for location) slots image left (SegmentRefused fault)
     unfolding volume_by
-    aborts_without_segment fault is = (rw (found, is) refl, rest)
+    aborts_without_segment fault is = record { none = λ never. rw (found, is) refl; consumed = rest }
 
     -- if there is no order of its key slots, or memory for that ran out, no volume is found
     pub aborts_without_order : (segment : Segment) → segment_of header ≡ Ok segment → (fault : OpenFault)
         → (fault ≡ Memory) ⊎ (order_of header slots.named slots.max_iterations ≡ Err fault)
         → FindsNoVolume (reader_for location) slots image left (Slots fault)
     unfolding volume_by
-    aborts_without_order segment is Memory why = (header_read_len image, omega arith, rest)
+    aborts_without_order segment is Memory why =
+        record { none = λ never. absurd cc; consumed = (header_read_len image, omega arith, rest) }
     aborts_without_order segment is _ (inl memory) = cc
-    aborts_without_order segment is _ (inr none) = (rw (found, is, none) refl, rest)
+    aborts_without_order segment is _ (inr none) =
+        record { none = λ never. rw (found, is, none) refl; consumed = rest }
 
 -- the header of an image, its segment and its order make its volume
 pub volume_is : (location : HeaderLocation) (slots : SlotChoice) (image : List ℕ) (header : Header) (segment : Segment)
@@ -153,83 +166,69 @@ pub there_is_volume : (location : HeaderLocation) (slots : SlotChoice) (volume :
     → FindsVolume location slots volume left left' counts counts' → left ≡ Some known
     → is_err (volume_by (reader_for location) slots known) ≡ true → ⊥
 there_is_volume location slots volume left left' counts counts' known found is none =
-    let there = volume_is location slots known volume.header volume.segment volume.order (found.header known is).0
+    let there = volume_is location slots known volume.header volume.segment volume.order (found.found known is).header
     found.slots.segment found.slots.order in
     let wrong : false ≡ true = rw there at none in
     cc
 
--- ---- the outcome of a volume that was found
+-- ---- bytes that were consumed, unless that was aborted
 
-module _ (on_opened : OnOpened) (v : Volume) (image secret : List ℕ) where
-  pub found_long : max_key_file_len < length secret → found_outcome on_opened v image secret
-      ≡ no_output KeyFileLength (header_read_len image) (max_key_file_len + 1)
-  unfolding found_outcome
+pub consumed_all : (aborted : Bool) (known : List ℕ) (left : Option (List ℕ)) (count : ℕ)
+    → ConsumedExactly known left count → ConsumedUnless aborted known left count
+consumed_all true known left count consumed = (count, omega arith, consumed)
+consumed_all false known left count consumed = consumed
+
+-- ---- opening a volume that was found
+
+module _ (v : Volume) (image secret : List ℕ) where
+  pub found_long : max_key_file_len < length secret → opening_found v image secret ≡ record {
+    result = Err (Passphrase TooLong);
+    consumed = header_read_len image;
+    secret_consumed = max_key_file_len + 1;
+  }
+  unfolding opening_found
   found_long long = rw (lt-ltb max_key_file_len (length secret) long) refl
 
   pub found_cut : length secret ≤ max_key_file_len → length image < key_material_end v.order.entries
-      → found_outcome on_opened v image secret ≡ no_output Cut (length image) (length secret)
-  unfolding found_outcome
+      → opening_found v image secret
+      ≡ record { result = Err KeyAreaCut; consumed = length image; secret_consumed = length secret }
+  unfolding opening_found
   found_cut short few =
       let allowed = le-ltb max_key_file_len (length secret) short in
       rw (allowed, lt-ltb (length image) (key_material_end v.order.entries) few) refl
 
   pub found_whole : length secret ≤ max_key_file_len → key_material_end v.order.entries ≤ length image
-      → found_outcome on_opened v image secret
-      ≡ opened_outcome on_opened v image secret (opening_of v.order image secret)
-  unfolding found_outcome
+      → opening_found v image secret ≡ opening_tried v image secret
+  unfolding opening_found
   found_whole short enough =
       let allowed = le-ltb max_key_file_len (length secret) short in
       rw (allowed, le-ltb (length image) (key_material_end v.order.entries) enough) refl
 
--- ---- how much is consumed of a volume that was found
-
-module _ (on_opened : OnOpened) (v : Volume) (image secret : List ℕ)
-    (consumes : ConsumesLoaded secret on_opened) where
-  opened_within : (r : Result Opened OpenFault)
-      → (unlock_read_len image v ≤ (opened_outcome on_opened v image secret r).consumed.input)
-      × (length secret ≤ (opened_outcome on_opened v image secret r).consumed.secret)
-  opened_within (Ok opened) =
-      let n = unlock_read_len image v in
-      (consumes.loaded v.segment opened n, omega (arith, consumes.whole v.segment opened n))
-  opened_within (Err fault) = (omega arith, omega arith)
-
-  -- a key file that is not too long is consumed whole, and at least the loaded bytes of the image are consumed
+  -- a passphrase that is not too long is consumed whole, and at least the bytes that can be loaded are consumed
   pub area_within : length secret ≤ max_key_file_len
-      → (min (length image) (unlock_read_len image v) ≤ (found_outcome on_opened v image secret).consumed.input)
-      × (length secret ≤ (found_outcome on_opened v image secret).consumed.secret)
+      → (min (length image) (unlock_read_len image v) ≤ (opening_found v image secret).consumed)
+      × ((opening_found v image secret).consumed ≤ unlock_read_len image v)
+      × ((opening_found v image secret).secret_consumed ≡ length secret)
   area_within short = elim (cases_lt (length image) (key_material_end v.order.entries)) [
-    | inl few ↦ rw (found_cut on_opened v image secret short few) (omega arith, omega arith)
-    | inr enough ↦
-        let all = opened_within (opening_of v.order image secret) in
-        rw (found_whole on_opened v image secret short enough) (omega (arith, all.0), all.1)
+    | inl few ↦ rw (found_cut short few) (omega arith, omega arith, refl)
+    | inr enough ↦ rw (found_whole short enough) (omega arith, omega arith, refl)
   ]
 
-  -- at least the header is consumed, and at least as much of the key file as is ever read of it
-  pub found_within : (header_read_len image ≤ (found_outcome on_opened v image secret).consumed.input)
-      × (min (length secret) (max_key_file_len + 1) ≤ (found_outcome on_opened v image secret).consumed.secret)
+  -- at least the header is consumed and no byte after the last key material, and of the passphrase as much as is ever
+  -- read of it
+  pub found_within : (header_read_len image ≤ (opening_found v image secret).consumed)
+      × ((opening_found v image secret).consumed ≤ unlock_read_len image v)
+      × ((opening_found v image secret).secret_consumed ≡ min (length secret) (max_key_file_len + 1))
   found_within = elim (cases_lt max_key_file_len (length secret)) [
-    | inl long ↦ rw (found_long on_opened v image secret long) (omega arith, omega arith)
+    | inl long ↦ rw (found_long long) (omega arith, omega arith, omega arith)
     | inr short ↦
         let all = area_within short in
-        (omega (arith, all.0, header_read_len_within image), omega (arith, all.1))
+        (omega (arith, all.0, header_read_len_within image), all.1, omega (arith, all.2))
   ]
 
 pub slot_consumes_loaded : (secret : List ℕ) → ConsumesLoaded secret (slot_outcome secret)
 slot_consumes_loaded secret =
     record { loaded = λ segment opened loaded. omega arith; whole = λ segment opened loaded. refl }
-
--- at least the header is consumed, whether or not a volume is found
-pub header_read_len_consumed : (location : HeaderLocation) (slots : SlotChoice) (image secret : List ℕ)
-    (on_opened : OnOpened) → ConsumesLoaded secret on_opened
-    → header_read_len image ≤ (volume_outcome_by (reader_for location) on_opened slots image secret).consumed.input
-unfolding volume_outcome_by
-header_read_len_consumed location slots image secret on_opened consumes =
-    after (volume_by (reader_for location) slots image)
-  where
-    after : (r : Result Volume VolumeFault)
-        → header_read_len image ≤ (outcome_after on_opened image secret r).consumed.input
-    after (Ok v) = (found_within on_opened v image secret consumes).0
-    after (Err fault) = omega arith
 
 module _ (image area area' : List ℕ) (i : Option (List ℕ)) (loaded : ℕ)
     (prefix : area ≡ take (header_read_len image) image) where
@@ -277,55 +276,174 @@ module _ (image area area' : List ℕ) (i : Option (List ℕ)) (loaded : ℕ)
         let all : end ≡ max (header_read_len image) loaded = omega (arith, grown.0, header_read_len_within image) in
         (omega (arith, grown.0, header_read_len_within image), grown.0 ∙ all, rw all at grown.1, rw all at grown.2)
 
--- ---- the outcome on an image
-
--- the volume with this header, this segment and this order
-abbrev pub volume_with : Header → Segment → OrderModel → Volume
-volume_with header segment order = record { header = header; segment = segment; order = order }
+-- ---- opening the volume of an image
 
 module _ (location : HeaderLocation) (slots : SlotChoice) (image pass : List ℕ) where
-  pub outcome_is : (on_opened : OnOpened) (r : Result Volume VolumeFault)
-      → volume_by (reader_for location) slots image ≡ r
-      → volume_outcome_by (reader_for location) on_opened slots image pass
-      ≡ outcome_after on_opened image pass r
-  unfolding volume_outcome_by
-  outcome_is on_opened r is = rw is refl
+  abbrev opening : VolumeOpening
+  opening = volume_opening_by (reader_for location) slots image pass
 
-  -- the header has this segment and these key slots to be tried
-  module _ (header : Header) (segment : Segment) (order : OrderModel) (found : reader_for location image ≡ Ok header)
-      (is_segment : segment_of header ≡ Ok segment)
-      (ordered : order_of header slots.named slots.max_iterations ≡ Ok order) where
-    pub found_is : (on_opened : OnOpened) → volume_outcome_by (reader_for location) on_opened slots image pass
-        ≡ found_outcome on_opened (volume_with header segment order) image pass
-    found_is on_opened =
-        outcome_is on_opened (Ok (volume_with header segment order))
-        (volume_is location slots image header segment order found is_segment ordered)
+  pub opening_is : (r : Result Volume VolumeFault) → volume_by (reader_for location) slots image ≡ r
+      → opening ≡ opening_after image pass r
+  unfolding volume_opening_by
+  opening_is r is = ap (opening_after image pass) is
 
-    -- if the key areas were loaded, trying the key slots has the same result with the whole image
-    pub tried_whole : (area area' : List ℕ) (i : Option (List ℕ)) (prefix : area ≡ take (header_read_len image) image)
-        (grows : ConsumedOnto area area' (drop (header_read_len image) image) i
-        (min (key_material_end order.entries - length area) (length (drop (header_read_len image) image))))
-        (enough : key_material_end order.entries ≤ length area') (r : Result Opened OpenFault)
-        (tried : opening_of order area' pass ≡ r)
-        → (key_material_end order.entries ≤ length image) × (opening_of order image pass ≡ r)
-    tried_whole area area' i prefix grows enough r tried =
-        let loaded = area_loaded image area area' i (key_material_end order.entries) prefix grows enough in (
-          loaded.0,
-          sym (opening_prefix order (max (header_read_len image) (key_material_end order.entries)) image pass
-              (omega arith)) ∙ ap (λ l. opening_of order l pass) (sym loaded.2) ∙ tried,
+  -- at least the header is consumed, and no more of the passphrase than there is
+  pub opening_within : (header_read_len image ≤ opening.consumed) × (opening.secret_consumed ≤ length pass)
+  unfolding volume_opening_by
+  opening_within = after (volume_by (reader_for location) slots image)
+    where
+      after : (r : Result Volume VolumeFault) → (header_read_len image ≤ (opening_after image pass r).consumed)
+          × ((opening_after image pass r).secret_consumed ≤ length pass)
+      after (Ok v) =
+          let within = found_within v image pass in
+          (within.0, omega (arith, within.2))
+      after (Err fault) = (omega arith, omega arith)
+
+  -- whatever is done with an opened volume consumes at least as much
+  pub opening_consumed : (on_opened : OnOpened) → ConsumesLoaded pass on_opened
+      → (opening.consumed ≤ (outcome_after on_opened opening).consumed.input)
+      × (opening.secret_consumed ≤ (outcome_after on_opened opening).consumed.secret)
+  opening_consumed on_opened consumes = by opening.result
+    where
+      by : (r : Result (Segment × Opened) VolumeFault)
+          → (opening.consumed
+          ≤ (outcome_by on_opened opening.consumed opening.secret_consumed r).consumed.input)
+          × (opening.secret_consumed
+          ≤ (outcome_by on_opened opening.consumed opening.secret_consumed r).consumed.secret)
+      by (Ok opened) = (
+        consumes.loaded opened.0 opened.1 opening.consumed,
+        omega (arith, consumes.whole opened.0 opened.1 opening.consumed, opening_within.1),
+      )
+      by (Err fault) = (omega arith, omega arith)
+
+  -- no volume was found
+  pub opens_unfound : (fault : VolumeFault) (left : Option (List ℕ))
+      → FindsNoVolume (reader_for location) slots image left fault → OpensAs opening image (Err fault) left
+  opens_unfound fault left finds = record {
+    answer = λ never. sym (ap (λ (o : VolumeOpening). o.result) (opening_is (Err fault) (finds.none never)));
+    consumed = by (aborts_opening fault)
+        (λ never. ap (λ (o : VolumeOpening). o.consumed) (opening_is (Err fault) (finds.none never))) finds.consumed;
+  }
+    where
+      by : (b : Bool) → (b ≡ false → opening.consumed ≡ header_read_len image)
+          → ConsumedUnless b image left (header_read_len image) → ConsumedUnless b image left opening.consumed
+      by true is consumed = (consumed.0, omega (arith, consumed.1, opening_within.0), consumed.2)
+      by false is consumed = rw (is refl) consumed
+
+  -- a volume was found
+  module _ (volume : FoundVolume) (left : Option (List ℕ)) (found : FoundIn location slots image volume left) where
+    pub is_volume : volume_by (reader_for location) slots image ≡ Ok (described volume)
+    is_volume =
+        volume_is location slots image volume.header volume.segment volume.order found.header found.slots.segment
+        found.slots.order
+
+    pub opening_found_is : opening ≡ opening_found (described volume) image pass
+    opening_found_is = opening_is (Ok (described volume)) is_volume
+
+    -- the passphrase was not read
+    pub opens_unread : (secret' : Option (List ℕ)) (fault : PassphraseFault) → NoKeyFileRead pass secret' fault
+        → OpensAs opening image (Err (Passphrase fault)) left
+        × ConsumedUnless (aborts_opening (Passphrase fault)) pass secret' opening.secret_consumed
+    opens_unread secret' TooLong stop =
+        rw (opening_found_is ∙ found_long (described volume) image pass stop.0)
+        (record { answer = λ never. refl; consumed = found.consumed }, stop.1)
+    opens_unread secret' PassphraseMemory stop =
+        let within = found_within (described volume) image pass in
+        rw opening_found_is (
+          record { answer = λ never. absurd cc; consumed = (_, within.0, found.consumed) },
+          (stop.0, omega (arith, stop.1, within.2), stop.2),
+        )
+    opens_unread secret' PassphraseRead stop =
+        let within = found_within (described volume) image pass in
+        rw opening_found_is (
+          record { answer = λ never. absurd cc; consumed = (_, within.0, found.consumed) },
+          (stop.0, omega (arith, stop.1, within.2), stop.2),
         )
 
-    -- and the outcome is that of the result
-    pub tried_is : (short : length pass ≤ max_key_file_len) (area area' : List ℕ) (i : Option (List ℕ))
-        (prefix : area ≡ take (header_read_len image) image)
-        (grows : ConsumedOnto area area' (drop (header_read_len image) image) i
-        (min (key_material_end order.entries - length area) (length (drop (header_read_len image) image))))
-        (enough : key_material_end order.entries ≤ length area') (r : Result Opened OpenFault)
-        (tried : opening_of order area' pass ≡ r) (on_opened : OnOpened)
-        → volume_outcome_by (reader_for location) on_opened slots image pass
-        ≡ opened_outcome on_opened (volume_with header segment order) image pass r
-    tried_is short area area' i prefix grows enough r tried on_opened =
-        let v = volume_with header segment order in
-        let whole = tried_whole area area' i prefix grows enough r tried in
-        found_is on_opened ∙ found_whole on_opened v image pass short whole.0
-        ∙ ap (opened_outcome on_opened v image pass) whole.1
+    module _ (area' : List ℕ) (i : Option (List ℕ)) where
+      abbrev remaining : List ℕ
+      remaining = drop (header_read_len image) image
+
+      abbrev areas_end : ℕ
+      areas_end = key_material_end volume.order.entries
+
+      abbrev Grows : ℕ → Type 0
+      Grows = ConsumedOnto volume.area.bytes area' remaining i
+
+      -- the image was not read up to the areas_end of the last key material
+      pub counts_untried : (result : Result UnlockedVolume VolumeFault) (n work : ℕ) → Grows n → length area' < areas_end
+          → has_fault is_untried result ≡ true
+          → CountsTrials image (described volume) pass result i work work
+      counts_untried result n work grows few untried =
+          let more = area_more image volume.area.bytes area' i areas_end found.area n grows in
+          let long = ap length more.0 ∙ length-take-le _ image more.1.within in
+          inr ((header_read_len image + n, omega (arith, few, long), more.1), untried, refl)
+
+      pub counts_aborted : (fault : HeaderFault) (work : ℕ)
+          → AbortsConsuming (areas_end - length volume.area.bytes) volume.area.bytes area' remaining i fault
+          → length area' < areas_end
+          → CountsTrials image (described volume) pass (Err (HeaderNotRead fault)) i work work
+      counts_aborted HeaderRead work stop few = counts_untried (Err (HeaderNotRead HeaderRead)) stop.0 work stop.2 few refl
+      counts_aborted HeaderMemory work stop few = counts_untried (Err (HeaderNotRead HeaderMemory)) 0 work stop few refl
+      counts_aborted _ work stop few = absurd stop
+
+      pub opens_aborted : length pass ≤ max_key_file_len → (fault : HeaderFault)
+          → AbortsConsuming (areas_end - length volume.area.bytes) volume.area.bytes area' remaining i fault
+          → OpensAs opening image (Err (HeaderNotRead fault)) i
+      opens_aborted short HeaderRead stop =
+          let more = area_more image volume.area.bytes area' i areas_end found.area stop.0 stop.2 in
+          let within = area_within (described volume) image pass short in
+          let len = prefix_length image volume.area.bytes area' i areas_end found.area in
+          rw opening_found_is (record {
+            answer = λ never. absurd cc;
+            consumed = (header_read_len image + stop.0, omega (arith, stop.1, len, within.0, more.1.within), more.1);
+          })
+      opens_aborted short HeaderMemory stop =
+          let more = area_more image volume.area.bytes area' i areas_end found.area 0 stop in
+          rw opening_found_is (record {
+            answer = λ never. absurd cc;
+            consumed = (header_read_len image + 0, omega (arith, (found_within (described volume) image pass).0), more.1);
+          })
+      opens_aborted short _ stop = absurd stop
+
+      module _ (grows : Grows (min (areas_end - length volume.area.bytes) (length remaining))) where
+        pub opens_cut : length pass ≤ max_key_file_len → length area' < areas_end
+            → OpensAs opening image (Err KeyAreaCut) i
+        opens_cut short few =
+            let cut = area_cut image volume.area.bytes area' i areas_end found.area grows few in
+            rw (opening_found_is ∙ found_cut (described volume) image pass short cut.0)
+            (record { answer = λ never. refl; consumed = cut.1 })
+
+        -- the key slots were tried
+        module _ (enough : areas_end ≤ length area') where
+          pub loaded : length pass ≤ max_key_file_len → IsLoaded opening image area'
+          loaded short =
+              let all = area_loaded image volume.area.bytes area' i areas_end found.area grows enough in
+              rw (opening_found_is ∙ found_whole (described volume) image pass short all.0) (all.1, all.2)
+
+          pub counts_tried : (result : Result UnlockedVolume VolumeFault) (work work' : ℕ)
+              → work' ≡ capped (work + work_of volume.order area' pass)
+              → CountsTrials image (described volume) pass result i work work'
+          counts_tried result work work' counted =
+              let all = area_loaded image volume.area.bytes area' i areas_end found.area grows enough in
+              inl (
+                all.3,
+                counted ∙ ap (λ (cost : ℕ). capped (work + cost))
+                    (ap (λ (bytes : List ℕ). work_of volume.order bytes pass) all.2
+                    ∙ work_prefix volume.order (unlock_read_len image (described volume)) image pass (omega arith)),
+              )
+
+          pub opens_tried : length pass ≤ max_key_file_len → (r : Result Opened OpenFault)
+              → opening_of volume.order area' pass ≡ r → (result : Result UnlockedVolume VolumeFault)
+              → opened_result result ≡ result_map_both (λ opened. (volume.segment, opened)) Slots r
+              → OpensAs opening image result i
+          opens_tried short r tried result is =
+              let all = area_loaded image volume.area.bytes area' i areas_end found.area grows enough in
+              let whole : opening_of volume.order image pass ≡ r =
+              sym (opening_prefix volume.order (unlock_read_len image (described volume)) image pass (omega arith))
+              ∙ ap (λ (bytes : List ℕ). opening_of volume.order bytes pass) (sym all.2) ∙ tried in
+              rw (opening_found_is ∙ found_whole (described volume) image pass short all.0) (record {
+                answer = λ never. is
+                    ∙ ap (result_map_both (λ opened. (volume.segment, opened)) Slots) (sym whole);
+                consumed = consumed_all (has_fault aborts_opening result) image i _ all.3;
+              })

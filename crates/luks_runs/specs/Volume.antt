@@ -1,22 +1,21 @@
 -- The outcomes of the commands that open volumes: first the volume that an image's header describes, before any key
 -- slot is tried, then the outcome of a run. Then what finding a volume and trying its key slots leave in the device.
-use Rattle.std.specs.Prelude.{ℕ, ◌+◌, List, length, max, nat_lt, if◌then◌else◌, Option, Result, Ok, Err, ◌≡◌, take, ◌-◌}
-use Rattle.std.specs.Prelude.{◌<◌, ◌≤◌, ◌⊎◌, min, Bool, false, true}
+use Rattle.std.specs.Prelude.{ℕ, ◌+◌, List, length, max, nat_lt, if◌then◌else◌, Option, Result, Ok, Err, ◌≡◌, take}
+use Rattle.std.specs.Prelude.{◌≤◌, ◌⊎◌, Bool, false, true, IfOk, MatchBool, drop, []}
 use Rattle.std.specs.Result.{result_map_both}
 use Rattle.luks_header.specs.Header.{header_read_len, header_of}
 use Rattle.luks_header.specs.HeaderSegment.{segment_of}
 use Rattle.luks_header.specs.declared.header.Header.{Header}
 use Rattle.luks_header_area.specs.declared.fault.HeaderFault.{HeaderFault}
-use Rattle.luks_header_area.specs.declared.fault.HeaderFault.TheVariants.{Read as HeaderRead, Memory as HeaderMemory}
 use Rattle.luks_verdict.specs.declared.refusal.SegmentFault.{SegmentFault}
 use Rattle.luks_verdict.specs.declared.segment.Segment.{Segment}
 use Rattle.luks_key_slots.specs.Opening.{OrderModel, key_material_end, order_of, opening_of, work_of}
-use Rattle.luks_key_slots.specs.declared.fault.OpenFault.{OpenFault}
-use Rattle.luks_key_slots.specs.declared.fault.OpenFault.TheVariants.{Memory}
+use Rattle.luks_key_slots.specs.declared.fault.PassphraseFault.{PassphraseFault}
+use Rattle.luks_key_slots.specs.declared.fault.PassphraseFault.TheVariants.{TooLong}
 use Rattle.luks_key_slots.specs.declared.fault.VolumeFault.{VolumeFault}
 use Rattle.luks_key_slots.specs.declared.fault.VolumeFault.TheVariants as V
-use Rattle.luks_key_slots.specs.Fault.{has_fault, is_untried}
-use Rattle.luks_report.specs.Faults.{message_at_end, message_for_slots, message_for_volume}
+use Rattle.luks_key_slots.specs.Fault.{aborts_opening, has_fault, is_untried}
+use Rattle.luks_report.specs.Faults.{message_at_end, message_for_volume}
 use Rattle.luks_request.specs.declared.command.SlotChoice.{SlotChoice}
 use Rattle.luks_key_slots.specs.declared.opening.Opened.{Opened}
 use Rattle.luks_payload.specs.Plain.{ending_of, payload_end_of, plain_of}
@@ -29,12 +28,11 @@ use Rattle.luks_runs.specs.KeyFile.{max_key_file_len}
 use Rattle.luks_runs.specs.Run.{Outcome, no_output}
 use Rattle.luks_runs.specs.Location.{HeaderReader, LoadedFrom, reader_for}
 use Rattle.luks_report.specs.declared.message.Message.{Message}
-use Rattle.luks_io.specs.Devices.{ConsumedExactly, ConsumedAtMost, IfKnown}
+use Rattle.luks_io.specs.Devices.{ConsumedExactly, ConsumedAtMost, ConsumedFewer, IfKnown}
 use Rattle.luks_io.specs.declared.counts.ReadCounts.{ReadCounts}
 use Rattle.luks_runs.specs.declared.location.HeaderLocation.{HeaderLocation}
 use Rattle.luks_runs.specs.declared.location.HeaderLocation.TheVariants.{Attached, Detached}
 use Rattle.luks_runs.specs.declared.found.FoundVolume.{FoundVolume}
-use Rattle.luks_header.specs.Area.{AbortsConsuming, ConsumedOnto}
 use Rattle.luks_kdf.specs.Pbkdf2.{capped}
 use Rattle.luks_runs.specs.declared.unlocked.UnlockedVolume.{UnlockedVolume}
 
@@ -131,32 +129,58 @@ payload_outcome Detached image secret segment opened loaded = record {
   consumed = record { input = loaded; payload = payload_end_of segment image; secret = length secret };
 }
 
--- the outcome after the key slots were tried
-abbrev pub opened_outcome : OnOpened → Volume → List ℕ → List ℕ → Result Opened OpenFault → Outcome
-opened_outcome on_opened volume image secret (Ok opened) =
-    on_opened volume.segment opened (unlock_read_len image volume)
-opened_outcome on_opened volume image secret (Err fault) =
-    no_output (message_for_slots fault) (unlock_read_len image volume) (length secret)
+-- how opening a volume ends: with the segment of its payload and the key slot that opens, or with a fault; and how many
+-- bytes of its image, or of the file with its header, and of the passphrase are consumed for that
+pub record VolumeOpening : Type 0 where
+  pub result : Result (Segment × Opened) VolumeFault
+  pub consumed : ℕ
+  pub secret_consumed : ℕ
 
--- the outcome if a volume was found: the key file is read whole, then the image up to the end of the last key material,
--- and the key slots are tried
-unfoldable pub found_outcome : OnOpened → Volume → List ℕ → List ℕ → Outcome
-found_outcome on_opened volume image secret =
-    if nat_lt max_key_file_len (length secret)
-    then no_output KeyFileLength (header_read_len image) (max_key_file_len + 1)
+-- all key areas are loaded, and the key slots are tried
+abbrev pub opening_tried : Volume → List ℕ → List ℕ → VolumeOpening
+opening_tried volume image secret = record {
+  result = result_map_both (λ opened. (volume.segment, opened)) V.Slots (opening_of volume.order image secret);
+  consumed = unlock_read_len image volume;
+  secret_consumed = length secret;
+}
+
+-- a volume was found: the passphrase is read whole, then the image up to the end of the last key material, and the key
+-- slots are tried
+unfoldable pub opening_found : Volume → List ℕ → List ℕ → VolumeOpening
+opening_found volume image secret =
+    if nat_lt max_key_file_len (length secret) then record {
+      result = Err (V.Passphrase TooLong);
+      consumed = header_read_len image;
+      secret_consumed = max_key_file_len + 1;
+    }
     else if nat_lt (length image) (key_material_end volume.order.entries)
-    then no_output Cut (length image) (length secret)
-    else opened_outcome on_opened volume image secret (opening_of volume.order image secret)
+    then record { result = Err V.KeyAreaCut; consumed = length image; secret_consumed = length secret }
+    else opening_tried volume image secret
 
--- the outcome, whether or not a volume was found
-abbrev pub outcome_after : OnOpened → List ℕ → List ℕ → Result Volume VolumeFault → Outcome
-outcome_after on_opened image secret (Ok volume) = found_outcome on_opened volume image secret
-outcome_after on_opened image secret (Err fault) = no_output (message_for_volume fault) (header_read_len image) 0
+-- the same, whether or not a volume was found
+abbrev pub opening_after : List ℕ → List ℕ → Result Volume VolumeFault → VolumeOpening
+opening_after image secret (Ok volume) = opening_found volume image secret
+opening_after image secret (Err fault) =
+    record { result = Err fault; consumed = header_read_len image; secret_consumed = 0 }
+
+-- how opening the volume of an image ends, under a passphrase, if its header is read in this way
+unfoldable pub volume_opening_by : HeaderReader → SlotChoice → List ℕ → List ℕ → VolumeOpening
+volume_opening_by read slots image secret = opening_after image secret (volume_by read slots image)
+
+-- the outcome of what is done with an opened volume, or the message for the fault
+abbrev pub outcome_by : OnOpened → ℕ → ℕ → Result (Segment × Opened) VolumeFault → Outcome
+outcome_by on_opened consumed secret_consumed (Ok opened) = on_opened opened.0 opened.1 consumed
+outcome_by on_opened consumed secret_consumed (Err fault) =
+    no_output (message_for_volume fault) consumed secret_consumed
+
+-- the same by how opening the volume ended
+abbrev pub outcome_after : OnOpened → VolumeOpening → Outcome
+outcome_after on_opened opening = outcome_by on_opened opening.consumed opening.secret_consumed opening.result
 
 -- the outcome of a command that opens a volume whose header is read in this way
 unfoldable pub volume_outcome_by : HeaderReader → OnOpened → SlotChoice → List ℕ → List ℕ → Outcome
 volume_outcome_by read on_opened slots image secret =
-    outcome_after on_opened image secret (volume_by read slots image)
+    outcome_after on_opened (volume_opening_by read slots image secret)
 
 -- the outcome of a command that opens a volume
 abbrev pub volume_outcome : OnOpened → SlotChoice → List ℕ → List ℕ → Outcome
@@ -168,21 +192,32 @@ volume_outcome = volume_outcome_by header_of
 abbrev pub HasSegmentBy : HeaderReader → List ℕ → Segment → Type 0
 HasSegmentBy read image segment = (header : Header) × (read image ≡ Ok header) × (segment_of header ≡ Ok segment)
 
+-- this many of a source's bytes were consumed, or no more than these if that was aborted
+abbrev pub ConsumedUnless : Bool → List ℕ → Option (List ℕ) → ℕ → Type 0
+ConsumedUnless aborted known left count =
+    MatchBool aborted (ConsumedAtMost known left count) (ConsumedExactly known left count)
+
 -- no volume whose header is read in this way was found, for this reason: a read failed, memory ran out, or the image
 -- has none. No passphrase and no key area is read for that
-abbrev pub FindsNoVolume : HeaderReader → SlotChoice → List ℕ → Option (List ℕ) → VolumeFault → Type 0
-FindsNoVolume read slots image left (V.Header HeaderRead) = ConsumedAtMost image left (header_read_len image)
-FindsNoVolume read slots image left (V.Header HeaderMemory) = ConsumedAtMost image left (header_read_len image)
-FindsNoVolume read slots image left (V.Slots Memory) = ConsumedAtMost image left (header_read_len image)
-FindsNoVolume read slots image left (V.Passphrase _) = ⊥
-FindsNoVolume read slots image left V.KeyAreaCut = ⊥
-FindsNoVolume read slots image left fault =
-    (volume_by read slots image ≡ Err fault) × ConsumedExactly image left (header_read_len image)
+pub record FindsNoVolume (read : HeaderReader) (slots : SlotChoice) (image : List ℕ) (left : Option (List ℕ))
+    (fault : VolumeFault) : Type 0 where
+  pub none : aborts_opening fault ≡ false → volume_by read slots image ≡ Err fault
+  pub consumed : ConsumedUnless (aborts_opening fault) image left (header_read_len image)
 
 -- a volume has the segment of its header, and the order of its header's key slots
 pub record MatchesHeader (slots : SlotChoice) (volume : FoundVolume) : Type 0 where
   pub segment : segment_of volume.header ≡ Ok volume.segment
   pub order : order_of volume.header slots.named slots.max_iterations ≡ Ok volume.order
+
+-- a volume was found in this image: it has the header, its area has the bytes that are read for it, and those after
+-- them remain
+pub record FoundIn (location : HeaderLocation) (choice : SlotChoice) (image : List ℕ) (volume : FoundVolume)
+    (left : Option (List ℕ)) : Type 0 where
+  pub slots : MatchesHeader choice volume
+  pub header : reader_for location image ≡ Ok volume.header
+  pub area : volume.area.bytes ≡ take (header_read_len image) image
+  pub consumed : ConsumedExactly image left (header_read_len image)
+  pub ended : volume.area.ended ≡ true → drop (header_read_len image) image ≡ []
 
 -- a volume was found: its area has the bytes that were consumed and no more, and its header is the one read from them
 pub record FindsVolume (location : HeaderLocation) (choice : SlotChoice) (volume : FoundVolume)
@@ -190,9 +225,16 @@ pub record FindsVolume (location : HeaderLocation) (choice : SlotChoice) (volume
   pub slots : MatchesHeader choice volume
   pub of_area : reader_for location volume.area.bytes ≡ Ok volume.header
   pub area : length volume.area.bytes ≡ header_read_len volume.area.bytes
-  pub header : IfKnown before (λ known. (reader_for location known ≡ Ok volume.header)
-      × (volume.area.bytes ≡ take (header_read_len known) known) × ConsumedExactly known after (header_read_len known))
+  pub found : IfKnown before (λ known. FoundIn location choice known volume after)
   pub loaded : LoadedFrom volume.area before after counts counts'
+
+-- the volume that was found
+abbrev pub described : FoundVolume → Volume
+described volume = record { header = volume.header; segment = volume.segment; order = volume.order }
+
+-- no passphrase was refused
+abbrev pub NoPassphraseFault : {T : Type 0} → Result T VolumeFault → Type 0
+NoPassphraseFault result = (fault : PassphraseFault) → result ≡ Err (V.Passphrase fault) → ⊥
 
 -- ---- trying the key slots of a volume
 
@@ -200,48 +242,42 @@ pub record FindsVolume (location : HeaderLocation) (choice : SlotChoice) (volume
 abbrev pub opened_of : UnlockedVolume → Opened
 opened_of volume = record { slot = volume.slot; key = volume.key }
 
--- the image was consumed up to the end of the last key material, or up to its own end if that comes first
-abbrev pub ConsumedMaterial : OrderModel → List ℕ → List ℕ → List ℕ → Option (List ℕ) → Type 0
-ConsumedMaterial order area area' rest left =
-    ConsumedOnto area area' rest left (min (key_material_end order.entries - length area) (length rest))
+-- the segment of a volume and the key slot that opened it, or the fault
+abbrev pub opened_result : Result UnlockedVolume VolumeFault → Result (Segment × Opened) VolumeFault
+opened_result (Ok volume) = Ok (volume.segment, opened_of volume)
+opened_result (Err fault) = Err fault
 
--- trying key slots under a passphrase: the loaded bytes and the image's further bytes, before and after
-pub record SlotsTrial : Type 0 where
-  pub segment : Segment
-  pub order : OrderModel
-  pub passphrase : List ℕ
-  pub loaded : List ℕ
-  pub loaded' : List ℕ
-  pub further : List ℕ
-  pub further' : Option (List ℕ)
+-- opening a volume ended as specified, with as many bytes of its image consumed, or was aborted
+pub record OpensAs (opening : VolumeOpening) (image : List ℕ) (result : Result UnlockedVolume VolumeFault)
+    (left : Option (List ℕ)) : Type 0 where
+  pub answer : has_fault aborts_opening result ≡ false → opened_result result ≡ opening.result
+  pub consumed : ConsumedUnless (has_fault aborts_opening result) image left opening.consumed
 
--- the image was consumed up to the end of the last key material, or up to its own end if that comes first
-abbrev pub ConsumesMaterial : SlotsTrial → Type 0
-ConsumesMaterial trial = ConsumedMaterial trial.order trial.loaded trial.loaded' trial.further trial.further'
-
--- the key slots of a volume whose header was read were tried: the image was consumed up to the end of the last key
--- material, and the result is the volume with this segment that those key slots open under this passphrase, or their
--- fault. Otherwise the image ended before that, or a read failed, or memory ran out
-abbrev pub TriesSlots : SlotsTrial → Result UnlockedVolume VolumeFault → Type 0
-TriesSlots trial (Ok volume) = ConsumesMaterial trial
-    × (key_material_end trial.order.entries ≤ length trial.loaded') × (volume.segment ≡ trial.segment)
-    × (opening_of trial.order trial.loaded' trial.passphrase ≡ Ok (opened_of volume))
-TriesSlots trial (Err (V.Slots fault)) = ConsumesMaterial trial
-    × (key_material_end trial.order.entries ≤ length trial.loaded')
-    × (opening_of trial.order trial.loaded' trial.passphrase ≡ Err fault)
-TriesSlots trial (Err V.KeyAreaCut) = ConsumesMaterial trial
-    × (length trial.loaded' < key_material_end trial.order.entries)
-TriesSlots trial (Err (V.Header fault)) =
-    AbortsConsuming (key_material_end trial.order.entries - length trial.loaded) trial.loaded trial.loaded'
-    trial.further trial.further' fault
-TriesSlots trial _ = ⊥
-
--- if the key material is loaded, the key slots were tried, and the count of work was raised once by the evaluations of
+-- all key areas were consumed, the key slots were tried, and the count of work was raised once by the evaluations of
 -- HMAC that this costs; otherwise they were not tried, and the count is what it was
-abbrev pub CountsTrials : OrderModel → List ℕ → List ℕ → Result UnlockedVolume VolumeFault → ℕ → ℕ → Type 0
-CountsTrials order area pass result work work' =
-    ((key_material_end order.entries ≤ length area) × (work' ≡ capped (work + work_of order area pass)))
-    ⊎ ((length area < key_material_end order.entries) × (has_fault is_untried result ≡ true) × (work' ≡ work))
+abbrev pub CountsTrials : List ℕ → Volume → List ℕ → Result UnlockedVolume VolumeFault → Option (List ℕ) → ℕ → ℕ
+    → Type 0
+CountsTrials image volume pass result left work work' =
+    (ConsumedExactly image left (unlock_read_len image volume)
+    × (work' ≡ capped (work + work_of volume.order image pass)))
+    ⊎ (ConsumedFewer image left (unlock_read_len image volume) × (has_fault is_untried result ≡ true)
+    × (work' ≡ work))
+
+-- all bytes that opening the volume consumes are loaded
+abbrev pub IsLoaded : VolumeOpening → List ℕ → List ℕ → Type 0
+IsLoaded opening image area = (length area ≡ opening.consumed) × (area ≡ take opening.consumed image)
+
+-- the key slots of a volume that was found in this image were tried under a passphrase that is not too long: opening it
+-- ended as specified, and if a key slot opened, the bytes that were consumed are loaded
+pub record TriesSlots (location : HeaderLocation) (slots : SlotChoice) (image pass : List ℕ) (volume : Volume)
+    (area : List ℕ) (result : Result UnlockedVolume VolumeFault) (left : Option (List ℕ)) (work work' : ℕ) : Type 0
+  where
+    pub opens : length pass ≤ max_key_file_len
+        → OpensAs (volume_opening_by (reader_for location) slots image pass) image result left
+    pub loaded : length pass ≤ max_key_file_len → IfOk result (λ _.
+        IsLoaded (volume_opening_by (reader_for location) slots image pass) image area)
+    pub segment : IfOk result (λ opened. opened.segment ≡ volume.segment)
+    pub counts : CountsTrials image volume pass result left work work'
 
 -- trying the key slots hit EOF on the image only if the image ended inside a key area
 abbrev pub HitsMaterialEof : Result UnlockedVolume VolumeFault → Bool → Type 0

@@ -5,7 +5,7 @@ ghost use Rattle.luks_io.specs.Counts.{Reads};
 ghost use Rattle.luks_io.specs.Devices.{IfKnown};
 ghost use Rattle.luks_key_slots.specs.Fault.{has_fault, is_read_failure};
 ghost use Rattle.luks_runs.specs.Location.{reader_for};
-ghost use Rattle.luks_runs.specs.Volume.{FindsNoVolume, FindsVolume};
+ghost use Rattle.luks_runs.specs.Volume.{FindsNoVolume, FindsVolume, NoPassphraseFault};
 
 use crate::location::{HeaderLocation, read_header_at};
 use luks_header::area::HeaderArea;
@@ -43,6 +43,7 @@ pub fn find_volume<I: Source>(
 ) -> Result<FoundVolume, VolumeFault>
     ensures found { IfOk result (λ volume. FindsVolume location slots volume
         (I.to_come image.old) (I.to_come image.new) (I.counts image.old) (I.counts image.new)) }
+    ensures only { NoPassphraseFault result }
     ensures err { IfErr result (λ fault. IfKnown (I.to_come image.old)
         (λ known. FindsNoVolume (reader_for location) slots known (I.to_come image.new) fault)) }
     ensures reads { (ended : Bool) × Reads (has_fault is_read_failure result) ended

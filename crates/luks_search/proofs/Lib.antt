@@ -1,3 +1,2 @@
 pub mod MagicLemmas
 pub mod PlaceLemmas
-pub mod RingLemmas

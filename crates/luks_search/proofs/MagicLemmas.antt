@@ -1,11 +1,11 @@
 -- Without magic bytes there is no header.
-use Rattle.std.proofs.Common.{◌≡◌, ◌∙◌, ℕ, ◌+◌, ◌-◌, ◌*◌, ◌/◌, ◌<◌, ◌≤◌, ◌++◌}
+use Rattle.std.proofs.Common.{◌≡◌, ◌∙◌, ℕ, ◌+◌, ◌*◌, ◌<◌, ◌≤◌, ◌++◌}
 use Rattle.std.proofs.Common.{List, [], ◌∷◌, Bool, true, false, None, ap, sym}
-use Rattle.std.proofs.Common.{refl, length, length-drop, take, drop, arith, Err, ◌==◌}
+use Rattle.std.proofs.Common.{refl, length, take, drop, arith, Err, ◌==◌}
 use Rattle.std.specs.Prelude.{map, nat_le, nat_lt, if◌then◌else◌, ok_or, option_and_then}
 use Rattle.std.specs.List.{find, list_all, list_any}
 use Rattle.std.proofs.lemmas.Bool.{and_parts, false_from_ne_true, leb-true, ltb-false, ltb-true, or_parts}
-use Rattle.std.proofs.lemmas.List.{drop-append-le, drop-drop, drop_all, take-append-drop, take-append-le, take-take}
+use Rattle.std.proofs.lemmas.List.{drop-drop, drop_all, take-append-le, take-take}
 use Rattle.std.proofs.lemmas.Slice.Eq.{bytes_eq-Decides}
 use Rattle.luks_header_area.specs.declared.fault.HeaderFault.TheVariants.{NotLuks}
 use Rattle.luks1_header.specs.Header1.{is_luks1}
@@ -15,7 +15,7 @@ use Rattle.luks2_binary.specs.Header2.{sizes}
 use Rattle.luks2_binary.proofs.ChoiceLemmas.{chosen_other}
 use Rattle.luks2_binary.proofs.ValidLemmas.{fits_parts, unfit-is_valid}
 use Rattle.luks_header.specs.Header.{header_of}
-use Rattle.luks_header.proofs.KnownLemmas.{header_other}
+use Rattle.luks_header.proofs.LoadingLemmas.{header_other}
 use Rattle.luks_search.specs.Magic.{IsQuiet, begins_magic, may_have_header}
 use Rattle.luks_search.specs.Places.{found_in}
 
@@ -96,17 +96,9 @@ nothing_none = quiet_none [] refl
 -- ---- bytes of which no sector begins with the magic bytes
 
 -- the first six bytes decide
-six_decide : (bytes rest : List ℕ) → 6 ≤ length bytes → begins_magic (bytes ++ rest) ≡ begins_magic bytes
+pub six_decide : (bytes rest : List ℕ) → 6 ≤ length bytes → begins_magic (bytes ++ rest) ≡ begins_magic bytes
 unfolding begins_magic
 six_decide bytes rest long = rw (take-append-le 6 bytes rest long) refl
-
--- further bytes change nothing for a sector of which six bytes are there
-pub quiet_before : (bytes rest : List ℕ) → IsQuiet bytes → (k : ℕ) → 512 * k + 6 ≤ length bytes
-    → begins_magic (drop (512 * k) (bytes ++ rest)) ≡ false
-quiet_before bytes rest quiet k within =
-    ap begins_magic (drop-append-le (512 * k) bytes rest (omega (arith, within)))
-    ∙ six_decide (drop (512 * k) bytes) rest (omega (arith, within, length-drop (512 * k) bytes))
-    ∙ quiet k
 
 -- no multiple of 512 up to the largest offset of a secondary header passes a test
 any_none : (test : ℕ → Bool) (numbers : List ℕ) → ((k : ℕ) → k ≤ 8192 → test (512 * k) ≡ false)
@@ -134,26 +126,6 @@ quiet_at image j none =
 
     first : 512 * j ≡ 512 * (j + 0)
     first = omega arith
-
--- some bytes had no sector with magic bytes, and of those after more were read, neither the last of them has any nor
--- one after it
-pub still_quiet : (old bytes : List ℕ) → take (length old) bytes ≡ old → IsQuiet old
-    → IsQuiet (drop (512 * (length old / 512)) bytes) → IsQuiet bytes
-still_quiet old bytes front before after k = by (nat_lt k (length old / 512)) refl where
-  parts : old ++ drop (length old) bytes ≡ bytes
-  parts = ap (λ start. start ++ drop (length old) bytes) (sym front) ∙ take-append-drop (length old) bytes
-
-  by : (b : Bool) → nat_lt k (length old / 512) ≡ b → begins_magic (drop (512 * k) bytes) ≡ false
-  by true e =
-      let below = ltb-true k (length old / 512) e in
-      ap (λ all. begins_magic (drop (512 * k) all)) (sym parts)
-      ∙ quiet_before old (drop (length old) bytes) before k (omega (arith, below))
-  by false e =
-      let behind = ltb-false k (length old / 512) e in
-      let whole : 512 * (length old / 512) + 512 * (k - length old / 512) ≡ 512 * k = omega (arith, behind) in
-      ap begins_magic
-      (ap (λ m. drop m bytes) (sym whole)
-      ∙ sym (drop-drop (512 * (k - length old / 512)) (512 * (length old / 512)) bytes)) ∙ after (k - length old / 512)
 
 -- nothing does not begin with the magic bytes
 nothing_begins : begins_magic [] ≡ false

@@ -4,9 +4,8 @@ use Rattle.std.proofs.Common.{◌++◌, List, [], ◌∷◌, Bool, true, false, 
 use Rattle.std.proofs.Common.{Option, Some, None, refl, length, take, drop}
 use Rattle.std.proofs.Common.{arith, Result, Ok, Err, add-one, length-append, length-drop}
 use Rattle.std.proofs.Common.{◌⊎◌, inl, inr, min, append_assoc}
-use Rattle.std.proofs.lemmas.List.{append-nil, drop-append-le, drop-drop, drop-take, nil_from_length}
-use Rattle.std.proofs.lemmas.List.{drop_all, length-take, take-append-drop, take-append-le}
-use Rattle.std.proofs.lemmas.List.{take-take}
+use Rattle.std.proofs.lemmas.List.{append-nil, drop-append-le, drop-drop, nil_from_length}
+use Rattle.std.proofs.lemmas.List.{drop_all, take-append-drop, take-append-le}
 use Rattle.std.proofs.lemmas.Bool.{leb-false, leb-true, ltb-true}
 use Rattle.std.proofs.Math.Seq.{take-add, take-length}
 use Rattle.std.specs.Prelude.{OnErr, nat_le, nat_lt}
@@ -18,8 +17,8 @@ use Rattle.luks_search.specs.Magic.{IsQuiet, begins_magic}
 use Rattle.luks_header.proofs.HorizonLemmas.{header_of_start}
 use Rattle.luks_search.specs.Places.{found_in, header_at, max_searched_sectors}
 use Rattle.luks_search.specs.Places.{place_if, places_below, places_of, sectors_in}
-use Rattle.luks_search.specs.Search.{IsIn, IsNear, ReadsOn, SearchModel}
-use Rattle.luks_search.proofs.MagicLemmas.{nothing_none, quiet_at, quiet_before, quiet_none}
+use Rattle.luks_search.specs.Search.{IsIn, IsNear, SearchModel}
+use Rattle.luks_search.proofs.MagicLemmas.{nothing_none, quiet_at, quiet_none, six_decide}
 
 -- the header of an image is that of its first bytes, if there are 8 MiB of them or more
 header_by_start : (bytes rest : List ℕ) → 8388608 ≤ length bytes → header_of (bytes ++ rest) ≡ header_of bytes
@@ -135,50 +134,28 @@ module _ (image : List ℕ) (search : SearchModel) (left : Option (List ℕ)) (i
 
   -- if no loaded sector begins with the magic bytes, a sector that is loaded as far as it may reach has no header
   module _ (quiet : IsQuiet search.bytes) where
-    none_begins : (j : ℕ) → (search.ended ≡ true) ⊎ (512 * j + 6 ≤ length search.bytes)
+    none_begins : (j : ℕ) → 512 * j + 6 ≤ length search.bytes
         → begins_magic (drop (512 * (search.sector + j)) image) ≡ false
-    none_begins j reach = ap begins_magic here ∙ by reach where
-      same : 512 * (search.sector + j) ≡ 512 * search.sector + 512 * j
-      same = omega arith
+    none_begins j within =
+        ap begins_magic (ahead_is j (omega (arith, within)))
+        ∙ six_decide (drop (512 * j) search.bytes) is.rest (omega (arith, within, length-drop (512 * j) search.bytes))
+        ∙ quiet j
 
-      here : drop (512 * (search.sector + j)) image ≡ drop (512 * j) (search.bytes ++ is.rest)
-      here =
-          ap (λ n. drop n image) same ∙ sym (drop-drop (512 * j) (512 * search.sector) image)
-          ∙ ap (drop (512 * j)) is.here
-
-      by : (search.ended ≡ true) ⊎ (512 * j + 6 ≤ length search.bytes)
-          → begins_magic (drop (512 * j) (search.bytes ++ is.rest)) ≡ false
-      by (inl ended) =
-          ap (λ bytes. begins_magic (drop (512 * j) bytes))
-          (ap (λ rest. search.bytes ++ rest) (is.ends ended) ∙ append-nil search.bytes) ∙ quiet j
-      by (inr within) = quiet_before search.bytes is.rest quiet j within
-
-    pub no_header : (j : ℕ) → (search.ended ≡ true) ⊎ (512 * j + 4194310 ≤ length search.bytes)
+    no_header : (j : ℕ) → 512 * j + 4194310 ≤ length search.bytes
         → found_in (header_at image (512 * (search.sector + j))) ≡ None
-    no_header j reach =
+    no_header j long =
         quiet_none (drop (512 * (search.sector + j)) image)
         (quiet_at image (search.sector + j) (λ k low.
-        ap (λ n. begins_magic (drop (512 * n) image)) (same k) ∙ none_begins (j + k) (by k low reach)))
+        ap (λ n. begins_magic (drop (512 * n) image)) (same k) ∙ none_begins (j + k) (omega (arith, low, long))))
       where
         same : (k : ℕ) → search.sector + j + k ≡ search.sector + (j + k)
         same k = omega arith
 
-        by : (k : ℕ) → k ≤ 8192 → (search.ended ≡ true) ⊎ (512 * j + 4194310 ≤ length search.bytes)
-            → (search.ended ≡ true) ⊎ (512 * (j + k) + 6 ≤ length search.bytes)
-        by k low (inl ended) = inl ended
-        by k low (inr long) = inr (omega (arith, low, long))
-
     -- so no place is among sectors that were left behind
-    pub skipped_none : (count : ℕ)
-        → (search.ended ≡ false → 0 < count → 512 * count + 4194304 ≤ length search.bytes)
+    pub skipped_none : (count : ℕ) → 512 * count + 4194304 ≤ length search.bytes
         → places_below image (search.sector + count) ≡ places_below image search.sector
     skipped_none count loaded =
-        places_none image search.sector count (λ j below. no_header j (by search.ended refl j below))
-      where
-        by : (b : Bool) → search.ended ≡ b → (j : ℕ) → j < count
-            → (search.ended ≡ true) ⊎ (512 * j + 4194310 ≤ length search.bytes)
-        by true e j below = inl e
-        by false e j below = (let far = loaded e (omega (arith, below)) in inr (omega (arith, far, below)))
+        places_none image search.sector count (λ j below. no_header j (omega (arith, below, loaded)))
 
   -- there are no further bytes
   pub nothing_left : search.sector ≤ max_searched_sectors → search.bytes ≡ [] → search.ended ≡ true
@@ -189,19 +166,6 @@ module _ (image : List ℕ) (search : SearchModel) (left : Option (List ℕ)) (i
 
     by_length : length (drop (512 * search.sector) image) ≡ 0 → length image ≤ 512 * search.sector
     by_length e = omega (arith, e, length-drop (512 * search.sector) image)
-
--- the sectors that can be left behind are loaded, or the image ends after them
-pub skips : (search : SearchModel) (count : ℕ)
-    → (search.ended ≡ false → 0 < count → 512 * count + 4194304 ≤ length search.bytes)
-    → (search.ended ≡ true) ⊎ (512 * count ≤ length search.bytes)
-skips search count loaded = by search.ended refl where
-  some_loaded : (n : ℕ) → (0 < n → 512 * n + 4194304 ≤ length search.bytes) → 512 * n ≤ length search.bytes
-  some_loaded zero far = omega arith
-  some_loaded (suc n) far = (let long = far (omega arith) in omega (arith, long))
-
-  by : (b : Bool) → search.ended ≡ b → (search.ended ≡ true) ⊎ (512 * count ≤ length search.bytes)
-  by true e = inl e
-  by false e = inr (some_loaded count (loaded e))
 
 -- no bytes are loaded, although the next sector could be tried
 pub none_left : (image : List ℕ) (search : SearchModel) (left : Option (List ℕ)) → IsIn image search left
@@ -243,75 +207,24 @@ module _ (image : List ℕ) (search : SearchModel) (left : Option (List ℕ)) (i
         (ap found_in (here_is image search left is enough) ∙ some),
   )
 
--- the next bytes of the image, at most so many, were loaded behind others
-pub more_in : (image bytes all known : List ℕ) (left : Option (List ℕ)) (sector count most : ℕ) (ended : Bool)
-    → drop (512 * sector) image ≡ bytes ++ known → all ≡ bytes ++ take count known → left ≡ Some (drop count known)
-    → count ≡ min most (length known) → (ended ≡ true → count < most)
-    → IsIn image (record { sector = sector; bytes = all; ended = ended }) left
-more_in image bytes all known left sector count most ended here loaded left_is count_is short = record {
-  rest = drop count known;
-  left_is = left_is;
-  here = here ∙ ap (λ more. bytes ++ more) (sym (take-append-drop count known))
-      ∙ sym (append_assoc bytes (take count known) (drop count known))
-      ∙ ap (λ start. start ++ drop count known) (sym loaded);
-  ends = λ end. (let few = short end in drop_all count known (omega (arith, count_is, few)));
-}
-
--- they are behind those that were moved to the buffer's front
-pub loaded_in : (image bytes buffer known : List ℕ) (left : Option (List ℕ)) (sector kept count limit : ℕ)
+-- further bytes were loaded behind those that were moved to the buffer's front
+pub loaded_in : (image bytes buffer known : List ℕ) (left : Option (List ℕ)) (sector kept count : ℕ)
     → drop (512 * sector) image ≡ bytes ++ known → take kept buffer ≡ bytes
-    → ConsumedInto known left (drop kept buffer) count → count ≡ min (limit - kept) (length known)
+    → ConsumedInto known left (drop kept buffer) count → count ≡ min (33554432 - kept) (length known)
     → IsIn image (record {
       sector = sector;
       bytes = drop 0 (take (kept + count) buffer);
-      ended = nat_lt (kept + count) limit;
+      ended = nat_lt (kept + count) 33554432;
     }) left
-loaded_in image bytes buffer known left sector kept count limit here front consumed all =
-    more_in image bytes (take (kept + count) buffer) known left sector count (limit - kept)
-    (nat_lt (kept + count) limit) here (
-    take-add kept count buffer ∙ ap (λ start. start ++ take count (drop kept buffer)) front
-    ∙ ap (λ more. bytes ++ more) consumed.1
-    ) consumed.0.left all (λ ended. (let short = ltb-true (kept + count) limit ended in omega (arith, short)))
-
--- the bytes were moved to the buffer's front
-pub moved_front : (items given moved : List ℕ) (start end : ℕ) → start ≤ end → given ≡ items
-    → take (end - start) moved ≡ take (end - start) (drop start given)
-    → take (end - start) moved ≡ drop start (take end items)
-moved_front items given moved start end order same is =
-    let whole : start + (end - start) ≡ end = omega (arith, order) in
-    is ∙ ap (λ all. take (end - start) (drop start all)) same ∙ sym (drop-take start (end - start) items)
-    ∙ ap (λ n. drop start (take n items)) whole
-
--- they are still there
-pub front_follows : (buffer front bytes : List ℕ) (kept count : ℕ) → take kept buffer ≡ front → front ≡ bytes
-    → length front ≡ kept → take (length bytes) (drop 0 (take (kept + count) buffer)) ≡ bytes
-front_follows buffer front bytes kept count is same len =
-    ap (λ n. take n (take (kept + count) buffer)) (sym (ap length same) ∙ len)
-    ∙ take-take kept (kept + count) buffer (omega arith) ∙ is ∙ same
-
--- no bytes are loaded
-pub loads_none : (search : SearchModel) (left : Option (List ℕ)) → ReadsOn search search left left false
-loads_none search left = record {
-  sector = refl;
-  follows = λ _. take-length search.bytes;
-  held = λ _ image is. is;
-  behind = λ failed. absurd cc;
-}
-
--- bytes are loaded, and then some more
-pub loads_then : (before search after : SearchModel) (to_come left rest : Option (List ℕ)) (failed : Bool)
-    → ReadsOn before search to_come left false → ReadsOn search after left rest failed
-    → ReadsOn before after to_come rest failed
-loads_then before search after to_come left rest failed first second = record {
-  sector = second.sector ∙ first.sector;
-  follows = λ ok.
-      (let start = first.follows refl in
-      let long : length before.bytes ≤ length search.bytes =
-      omega (arith, ap length start, length-take (length before.bytes) search.bytes) in
-      sym (take-take (length before.bytes) (length search.bytes) after.bytes long)
-      ∙ ap (take (length before.bytes)) (second.follows ok) ∙ start);
-  held = λ ok image is. second.held ok image (first.held refl image is);
-  behind = λ fault image is. second.behind fault image (first.held refl image is);
+loaded_in image bytes buffer known left sector kept count here front consumed all = record {
+  rest = drop count known;
+  left_is = consumed.0.left;
+  here = here ∙ ap (λ more. bytes ++ more) (sym (take-append-drop count known))
+      ∙ sym (append_assoc bytes (take count known) (drop count known))
+      ∙ ap (λ start. start ++ drop count known) (sym (take-add kept count buffer
+      ∙ ap (λ start. start ++ take count (drop kept buffer)) front ∙ ap (λ more. bytes ++ more) consumed.1));
+  ends = λ end.
+      (let short = ltb-true (kept + count) 33554432 end in drop_all count known (omega (arith, all, short)));
 }
 
 -- what is behind the loaded bytes

@@ -1,4 +1,3 @@
 pub mod Magic
 pub mod Places
-pub mod Ring
 pub mod Search

@@ -1,6 +1,6 @@
 -- A search for headers in an image that is read once, from its start to its end.
 use Rattle.std.specs.Prelude.{◌≡◌, ◌≤◌, ◌+◌, ◌*◌, ◌++◌, ℕ, Bool, true, false, List, [], ◌∷◌, Option, Some, None, Result}
-use Rattle.std.specs.Prelude.{Ok, Err, drop, length, take}
+use Rattle.std.specs.Prelude.{Ok, Err, drop}
 use Rattle.luks_search.specs.Places.{header_at, places_below, places_of}
 use Rattle.luks_search.specs.declared.place.SearchFault.{SearchFault}
 use Rattle.luks_search.specs.declared.place.SearchFault.TheVariants.{Read}
@@ -27,14 +27,6 @@ pub record IsNear (image : List ℕ) (sector : ℕ) (left : Option (List ℕ)) :
   pub read : ℕ
   pub left_is : left ≡ Some (drop read image)
   pub near : read ≤ 512 * sector + 33554432
-
--- a call reads on: the search stays at its sector, and the bytes follow those that were loaded. If the call fails, at
--- most 32 MiB from there on were read
-pub record ReadsOn (before after : SearchModel) (to_come left : Option (List ℕ)) (failed : Bool) : Type 0 where
-  pub sector : after.sector ≡ before.sector
-  pub follows : failed ≡ false → take (length before.bytes) after.bytes ≡ before.bytes
-  pub held : failed ≡ false → (image : List ℕ) → IsIn image before to_come → IsIn image after left
-  pub behind : failed ≡ true → (image : List ℕ) → IsIn image before to_come → IsNear image after.sector left
 
 -- there is this header at a place, the only one from one sector up to another
 abbrev pub FindsPlace : List ℕ → ℕ → ℕ → Place → Type 0

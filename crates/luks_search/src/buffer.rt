@@ -1,26 +1,14 @@
 //! The buffer of a search.
 
-ghost use Rattle.std.specs.Prelude.{◌≡◌, ◌-◌, ◌≤◌, IfOk, MatchResult, drop, is_err, length, min};
-ghost use Rattle.std.specs.Prelude.{take};
-ghost use Rattle.luks_io.specs.Counts.{got_in, Reads};
-ghost use Rattle.luks_io.specs.Devices.{ConsumedInto, IfKnown, is_short_read};
+ghost use Rattle.std.specs.Prelude.{◌≡◌, ◌+◌, ◌-◌, ◌≤◌, IfOk, drop, is_err, length, min, take};
+ghost use Rattle.luks_io.specs.Counts.{got_in};
+ghost use Rattle.luks_io.specs.Devices.{ConsumedInto, IfKnown, counted};
 
 use luks_io::source::{ReadFault, Source, fill};
 
-/// Moves the bytes from `start` to `end` to the front.
-pub(crate) fn move_to_front(buffer: &mut [u8], start: usize, end: usize)
-    requires order { start ≤ end }
-    requires within { end ≤ length buffer.old }
-    ensures { take (end - start) buffer.new ≡ take (end - start) (drop start buffer.old) }
-{
-    if start > 0 {
-        buffer.copy_within(start..end, 0);
-    }
-}
-
-/// Fills the buffer from `start` to `end` with the next bytes of the source, and returns how many
-/// there were.
-pub(crate) fn fill_between<S: Source>(
+/// Moves the bytes from `start` to `end` to the front, fills the rest of the buffer with the next
+/// bytes of the source, and returns how many there were.
+pub(crate) fn refill<S: Source>(
     buffer: &mut [u8],
     start: usize,
     end: usize,
@@ -28,16 +16,16 @@ pub(crate) fn fill_between<S: Source>(
 ) -> Result<usize, ReadFault>
     requires order { start ≤ end }
     requires within { end ≤ length buffer.old }
-    ensures before { take start buffer.new ≡ take start buffer.old }
-    ensures after { drop end buffer.new ≡ drop end buffer.old }
-    ensures bound { MatchResult result (λ count. count ≤ end - start)
-        (λ fault. fault.got ≤ end - start) }
+    ensures kept { take (end - start) buffer.new ≡ drop start (take end buffer.old) }
+    ensures bound { (end - start) + got_in result ≤ length buffer.old }
     ensures bytes { IfKnown (S.to_come source.old) (λ known.
-        ConsumedInto known (S.to_come source.new) (drop start buffer.new) (got_in result)) }
+        ConsumedInto known (S.to_come source.new) (drop (end - start) buffer.new) (got_in result)) }
     ensures end { IfOk result (λ count. IfKnown (S.to_come source.old)
-        (λ known. count ≡ min (end - start) (length known))) }
-    ensures reads { Reads (is_err result) (is_short_read result (end - start))
-        (S.counts source.old) (S.counts source.new) }
+        (λ known. count ≡ min (length buffer.old - (end - start)) (length known))) }
+    ensures failures { (S.counts source.new).failures
+        ≡ counted (is_err result) (S.counts source.old).failures }
 {
-    fill(source, &mut buffer[start..end])
+    let kept = end - start;
+    buffer.copy_within(start..end, 0);
+    fill(source, &mut buffer[kept..])
 }

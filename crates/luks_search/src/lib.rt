@@ -6,5 +6,4 @@
 mod buffer;
 mod magic;
 pub mod place;
-mod ring;
 pub mod search;

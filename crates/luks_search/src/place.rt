@@ -6,8 +6,7 @@ ghost use Rattle.luks_search.specs.Places.{found_in};
 
 use crate::magic::may_have_header;
 use luks_header::fault::HeaderFault;
-use luks_header::header::{Header, read_header};
-use luks_io::memory::MemSource;
+use luks_header::header::{Header, header_in};
 use luks_io::source::ReadFault;
 use std::alloc::{AllocError, Global};
 
@@ -75,8 +74,8 @@ pub(crate) fn header_here(alloc: Global, bytes: &[u8]) -> Result<Option<Header>,
     if !may_have_header(bytes) {
         return Ok(None);
     }
-    match read_header(alloc, &mut MemSource::new(bytes)) {
-        Ok((header, _)) => Ok(Some(header)),
+    match header_in(alloc, bytes) {
+        Ok(header) => Ok(Some(header)),
         Err(fault) => match fault {
             HeaderFault::NotLuks => Ok(None),
             HeaderFault::Cut => Ok(None),

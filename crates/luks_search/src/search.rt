@@ -4,15 +4,12 @@ ghost use Rattle.std.specs.Prelude.{◌≡◌, ◌⊎◌, ◌+◌, ◌*◌, ◌<
 ghost use Rattle.std.specs.Prelude.{IfOk, IfSome, OnErr, OnOk, drop, false, is_err, length, take};
 ghost use Rattle.std.specs.Prelude.{true};
 ghost use Rattle.luks_io.specs.Devices.{counted};
-ghost use Rattle.luks_search.specs.Magic.{IsQuiet};
-ghost use Rattle.luks_search.specs.Search.{FindsNext, FindsNone, IsEnd, IsIn, IsNear, ReadsOn};
-ghost use Rattle.luks_search.specs.Search.{StepsOn};
+ghost use Rattle.luks_search.specs.Search.{FindsNext, FindsNone, IsEnd, IsIn, IsNear, StepsOn};
 ghost use Rattle.luks_search.specs.Search.{reports_failed_read};
 
-use crate::buffer::{fill_between, move_to_front};
+use crate::buffer::refill;
 use crate::magic::{MAX_SECONDARY_OFFSET, SECTOR_LEN, is_quiet};
 use crate::place::{MAX_SECTORS, Place, SearchFault, Step, header_here};
-use crate::ring::{PIECE_LEN, read_on};
 use luks_io::source::Source;
 use std::alloc::{AllocError, Global};
 use std::marker::Model;
@@ -23,6 +20,10 @@ const CAPACITY: usize = 33_554_432;
 /// The length of both headers of LUKS2, if they have the largest length. They decide which header
 /// there is.
 const MAX_PAIR_LEN: usize = 8_388_608;
+
+/// The sectors that have no header if no sector of 32 MiB begins with magic bytes: a secondary
+/// header of theirs would begin there too.
+const QUIET_SECTORS: u64 = 57_344;
 
 /// A search for headers in an image that is read once, from its start to its end. A clause sees the
 /// next sector to try, the loaded bytes from there on, and whether the image ends after them.
@@ -93,76 +94,11 @@ impl Search {
         self.sector += count as u64;
     }
 
-    // Fills the next piece of the buffer with further bytes of the image.
-    fn fill_piece<S: Source>(&mut self, source: &mut S) -> Result<(), SearchFault>
-        requires { length self.old.bytes < 33554432 }
-        ensures reads { ReadsOn self.old self.new (S.to_come source.old) (S.to_come source.new)
-            (is_err result) }
-        ensures more { OnOk result
-            ((self.new.ended ≡ true) ⊎ (length self.old.bytes < length self.new.bytes)) }
-        ensures failures { (S.counts source.new).failures
-            ≡ counted (reports_failed_read result) (S.counts source.old).failures }
-        ensures only { result ≡ Err SearchFault.Memory → ⊥ }
-    {
-        move_to_front(&mut self.buffer, self.start, self.end);
-        let kept = self.end - self.start;
-        let limit = CAPACITY.min(kept + PIECE_LEN);
-        self.start = 0;
-        self.end = kept;
-        let count = fill_between(&mut self.buffer, kept, limit, source)?;
-        self.end = kept + count;
-        self.ended = self.end < limit;
-        Ok(())
-    }
-
-    // Loads a further piece of the image, and returns whether no sector with bytes of the piece
-    // begins with magic bytes.
-    fn load_piece<S: Source>(&mut self, source: &mut S) -> Result<bool, SearchFault>
-        requires { length self.old.bytes < 33554432 }
-        ensures reads { ReadsOn self.old self.new (S.to_come source.old) (S.to_come source.new)
-            (is_err result) }
-        ensures more { OnOk result
-            ((self.new.ended ≡ true) ⊎ (length self.old.bytes < length self.new.bytes)) }
-        ensures quiet { IfOk result (λ quiet. quiet ≡ true
-            → IsQuiet self.old.bytes → IsQuiet self.new.bytes) }
-        ensures failures { (S.counts source.new).failures
-            ≡ counted (reports_failed_read result) (S.counts source.old).failures }
-        ensures only { result ≡ Err SearchFault.Memory → ⊥ }
-    {
-        let whole_sectors = self.bytes().len() / SECTOR_LEN;
-        self.fill_piece(source)?;
-        Ok(is_quiet(&self.bytes()[SECTOR_LEN * whole_sectors..]))
-    }
-
-    // Loads as many further bytes of the image as the buffer can hold, and returns whether no
-    // loaded sector begins with magic bytes.
-    fn load<S: Source>(&mut self, source: &mut S) -> Result<bool, SearchFault>
-        ensures reads { ReadsOn self.old self.new (S.to_come source.old) (S.to_come source.new)
-            (is_err result) }
+    // Loads as many further bytes of the image as the buffer can hold.
+    fn load<S: Source>(&mut self, source: &mut S) -> Result<(), SearchFault>
+        ensures sector { self.new.sector ≡ self.old.sector }
         ensures enough { OnOk result
-            ((self.new.ended ≡ true) ⊎ (33554432 ≤ length self.new.bytes)) }
-        ensures quiet { IfOk result (λ quiet. quiet ≡ true → IsQuiet self.new.bytes) }
-        ensures failures { (S.counts source.new).failures
-            ≡ counted (reports_failed_read result) (S.counts source.old).failures }
-        ensures only { result ≡ Err SearchFault.Memory → ⊥ }
-    {
-        let mut quiet = is_quiet(self.bytes());
-        while !self.ended && self.bytes().len() < CAPACITY {
-            let quiet_piece = self.load_piece(source)?;
-            quiet = quiet && quiet_piece;
-        }
-        Ok(quiet)
-    }
-
-    // If 4 MiB are loaded and no sector of them begins with magic bytes, reads on for as long as
-    // that is so. Leaves sectors behind that have no header, and returns how many.
-    fn read_on<S: Source>(&mut self, source: &mut S) -> Result<u64, SearchFault>
-        requires more { self.old.ended ≡ false }
-        requires range { self.old.sector ≤ 18014398509481984 }
-        ensures sector { IfOk result (λ count. self.new.sector ≡ self.old.sector + count) }
-        ensures range { self.new.sector ≤ 18014398509481984 }
-        ensures none { (image : List ℕ) → IsIn image self.old (S.to_come source.old)
-            → FindsNone image self.old.sector self.new.sector }
+            (self.new.ended ≡ false → 33554432 ≤ length self.new.bytes) }
         ensures held { (image : List ℕ) → IsIn image self.old (S.to_come source.old)
             → OnOk result (IsIn image self.new (S.to_come source.new)) }
         ensures behind { (image : List ℕ) → IsIn image self.old (S.to_come source.old)
@@ -170,55 +106,12 @@ impl Search {
         ensures failures { (S.counts source.new).failures
             ≡ counted (reports_failed_read result) (S.counts source.old).failures }
     {
-        if self.bytes().len() != MAX_SECONDARY_OFFSET || !is_quiet(self.bytes()) {
-            return Ok(0);
-        }
-        let sector = self.sector;
-        move_to_front(&mut self.buffer, self.start, self.end);
+        let kept = self.end - self.start;
+        let count = refill(&mut self.buffer, self.start, self.end, source)?;
         self.start = 0;
-        self.end = MAX_SECONDARY_OFFSET;
-        let loaded = read_on(&mut self.buffer, &mut self.sector, source)?;
-        self.start = loaded.start;
-        self.end = loaded.end;
-        self.ended = loaded.ended;
-        Ok(self.sector - sector)
-    }
-
-    // How many of the next sectors have no header if no loaded sector begins with magic bytes: a
-    // secondary header of theirs would begin among the loaded bytes.
-    fn decidable(&self) -> usize
-        ensures most { result ≤ 65536 }
-        ensures ended { self.now.ended ≡ true → 512 * result ≤ length self.now.bytes + 511 }
-        ensures loaded { self.now.ended ≡ false → 0 < result
-            → 512 * result + 4194304 ≤ length self.now.bytes }
-        ensures some { 0 < length self.now.bytes
-            → (self.now.ended ≡ true) ⊎ (8388608 ≤ length self.now.bytes) → 0 < result }
-    {
-        let len = self.bytes().len();
-        if self.ended {
-            return len.div_ceil(SECTOR_LEN);
-        }
-        len.saturating_sub(MAX_SECONDARY_OFFSET) / SECTOR_LEN
-    }
-
-    // How many of the next sectors can be left behind if no loaded sector begins with magic bytes:
-    // those that have no header then, up to the last one that is searched.
-    fn skippable(&self) -> usize
-        requires { self.now.sector < 18014398509481984 }
-        ensures most { result ≤ 65536 }
-        ensures within { self.now.sector + result ≤ 18014398509481984 }
-        ensures ended { self.now.ended ≡ true → 512 * result ≤ length self.now.bytes + 511 }
-        ensures loaded { self.now.ended ≡ false → 0 < result
-            → 512 * result + 4194304 ≤ length self.now.bytes }
-        ensures some { 0 < length self.now.bytes
-            → (self.now.ended ≡ true) ⊎ (8388608 ≤ length self.now.bytes) → 0 < result }
-    {
-        let left = MAX_SECTORS - self.sector;
-        let count = self.decidable();
-        if left < count as u64 {
-            return left as usize;
-        }
-        count
+        self.end = kept + count;
+        self.ended = self.end < CAPACITY;
+        Ok(())
     }
 
     // Loads further bytes if the next sector cannot be tried with those that are loaded. If then no
@@ -242,17 +135,13 @@ impl Search {
         if self.ended || self.bytes().len() >= MAX_PAIR_LEN {
             return Ok(0);
         }
-        let count = self.read_on(source)?;
-        if count > 0 {
-            return Ok(count);
-        }
-        let quiet = self.load(source)?;
-        if !quiet {
+        self.load(source)?;
+        if self.ended || !is_quiet(self.bytes()) {
             return Ok(0);
         }
-        let count = self.skippable();
-        self.advance(count);
-        Ok(count as u64)
+        let count = QUIET_SECTORS.min(MAX_SECTORS - self.sector);
+        self.advance(count as usize);
+        Ok(count)
     }
 
     // Tries the next sector and leaves it behind, unless there are no further bytes.
@@ -305,9 +194,8 @@ impl Search {
     /// places. The image is the one that the source gave from its start on: each call continues
     /// where the one before ended.
     ///
-    /// A call reads 256 KiB of the source at a time, and never a byte twice. It holds at most
-    /// 32 MiB, and 4 MiB while no sector begins with magic bytes. It reads no further than it has
-    /// to for the last place, up to the next 32 MiB. An image of any length is searched up to its
+    /// A call reads up to 32 MiB of the source at a time, and never a byte twice. It reads no further
+    /// than it has to for the last place, up to the next 32 MiB. An image of any length is searched up to its
     /// first 2^63 bytes; no file is longer.
     ///
     /// # Errors

@@ -2,14 +2,12 @@
 
 ghost use Rattle.std.specs.Prelude.{◌≡◌, ◌⊎◌, [], Bool};
 ghost use Rattle.std.specs.Prelude.{IfOk, IfErr, false, is_err, true};
-ghost use Rattle.luks_key_slots.specs.Fault.{has_fault, is_read_failure, is_untried};
+ghost use Rattle.luks_key_slots.specs.Fault.{has_fault, is_read_failure};
 ghost use Rattle.luks_report.specs.Faults.{message_for_volume};
-ghost use Rattle.luks_request.specs.declared.command.SlotChoice.{SlotChoice};
 ghost use Rattle.luks_io.specs.Counts.{Reads, Writes};
-ghost use Rattle.luks_io.specs.Devices.{Appended, ConsumedExactly, IfKnown, counted};
-ghost use Rattle.luks_runs.specs.Volume.{MatchesHeader};
+ghost use Rattle.luks_io.specs.Devices.{Appended, ConsumedExactly, IfKnown};
 ghost use Rattle.luks_runs.specs.Volume.{OpeningMessage};
-ghost use Rattle.luks_runs.specs.Volume.{CountsTrials, opened_of};
+ghost use Rattle.luks_runs.specs.Volume.{opened_of};
 ghost use Rattle.luks_runs.specs.Volume.{slot_outcome, volume_by, volume_outcome_by};
 ghost use Rattle.luks_report.specs.Texts.{opened_line};
 ghost use Rattle.luks_runs.specs.RunMessages.{PayloadMessage};
@@ -23,7 +21,7 @@ ghost use Rattle.luks_commands.specs.Headline.{CatAllows, CountsCalls, CountsOpe
 ghost use Rattle.luks_commands.specs.Headline.{EndsWithoutKey};
 ghost use Rattle.luks_commands.specs.Headline.{ReadsOnce, ReadsPayload};
 ghost use Rattle.luks_commands.specs.Headline.{RunsAsSpecified};
-ghost use Rattle.luks_commands.specs.Unlocking.{CountsUnlocking, EndsLocked, UnlockEffect, Unlocks};
+ghost use Rattle.luks_commands.specs.Unlocking.{CountsUnlocking, EndsLocked, Unlocks};
 
 use luks_header::area::HeaderArea;
 use luks_io::memory::MemSource;
@@ -49,43 +47,6 @@ struct LoadedVolume {
     /// consumed.
     area: HeaderArea,
     volume: UnlockedVolume,
-}
-
-/// Opens a volume that was found, by the passphrase in the key file.
-fn unlock_found<I: Source, K: Source>(
-    alloc: Global,
-    volume: &mut FoundVolume,
-    image: &mut I,
-    secret: &mut K,
-    work: &mut Work,
-) -> Result<UnlockedVolume, VolumeFault>
-    requires { (slots : SlotChoice) × MatchesHeader slots volume.old }
-    ensures run { IfKnown (I.to_come image.old) (λ rest. IfKnown (K.to_come secret.old)
-        (λ passphrase. (volume.old.area.ended ≡ true → rest ≡ [])
-        → UnlockEffect (record {
-          segment = volume.old.segment;
-          order = volume.old.order;
-          passphrase = passphrase;
-          loaded = volume.old.area.bytes;
-          loaded' = volume.new.area.bytes;
-          further = rest;
-          further' = I.to_come image.new;
-        }) (K.to_come secret.new) result)) }
-    ensures counts { CountsReads ReadsOnce (has_fault is_read_failure result)
-        (record { before = I.counts image.old; after = I.counts image.new })
-        (record { before = K.counts secret.old; after = K.counts secret.new }) }
-    ensures work { IfKnown (K.to_come secret.old) (λ passphrase.
-        (((K.counts secret.new).ends ≡ counted true (K.counts secret.old).ends)
-        × CountsTrials volume.old.order volume.new.area.bytes passphrase result
-        work.old work.new)
-        ⊎ ((has_fault is_untried result ≡ true)
-        × ((K.counts secret.new).ends ≡ (K.counts secret.old).ends) × (work.new ≡ work.old))) }
-    ensures ended { volume.old.area.ended ≡ true → image.new ≡ image.old }
-    ensures still { IfOk result (λ _. (volume.new.area.ended ≡ volume.old.area.ended)
-        × Reads false false (I.counts image.old) (I.counts image.new)) }
-{
-    let passphrase = read_key_file(alloc, secret)?;
-    try_slots(volume, image, &passphrase, work)
 }
 
 /// The loaded bytes of a volume's image. The rest of the found volume is dropped.
@@ -136,11 +97,11 @@ fn unlock<I: Source, K: Source>(
         (I.to_come image.new) (I.counts image.old) (I.counts image.new)) }
 {
     let mut volume = find_volume(alloc, location, slots, image)?;
-    let opened = unlock_found(alloc, &mut volume, image, secret, work);
-    let area = area_of(volume);
+    let passphrase = read_key_file(alloc, secret)?;
+    let opened = try_slots(&mut volume, image, &passphrase, work)?;
     Ok(LoadedVolume {
-        area,
-        volume: opened?,
+        area: area_of(volume),
+        volume: opened,
     })
 }
 

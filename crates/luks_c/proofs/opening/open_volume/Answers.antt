@@ -3,8 +3,8 @@ use Rattle.luks_io.specs.Counts.{MemSourceModel}
 use Rattle.luks_cipher.proofs.ModeLemmas.{max_mode_key}
 use Rattle.luks_report.specs.declared.message.Message.{Message}
 use Rattle.luks_report.specs.declared.message.Message.TheVariants.{Done}
-use Rattle.luks_runs.proofs.PrefixLemmas.{outcome_decided}
-use Rattle.luks_runs.specs.Volume.{OpeningMessage}
+use Rattle.luks_runs.proofs.PrefixLemmas.{opening_decided}
+use Rattle.luks_runs.specs.Volume.{OpeningMessage, VolumeOpening}
 use Rattle.luks_runs.proofs.RunLemmas.{never_failed}
 use Rattle.luks_runs.proofs.VolumeLemmas.{message_says}
 use Rattle.luks_c.specs.Stored.{code_for}
@@ -28,13 +28,9 @@ returns-in-Ok c =
         are = c.in-Some.ensures.made;
         opened = c.in-Ok.opened;
         filled = c.store.ensures;
-        opens = λ image begins. record {
-          loaded = known.opens.loaded;
-          outcome = λ on_opened.
-              outcome_decided c.in-Some.options.location c.in-Some.options.slots image c.args.header.now
-              c.args.passphrase.now on_opened begins
-              ∙ known.opens.outcome on_opened;
-        };
+        opens = λ image begins.
+            ap (λ (o : VolumeOpening). o.result) (opening_decided c.in-Some.options.location c.in-Some.options.slots
+            image c.args.header.now c.args.passphrase.now begins) ∙ known.opens;
         says = c.answer_message.ensures.message;
       };
       refuses = λ some. absurd (some c.answer_message.ensures.code);
@@ -58,14 +54,9 @@ returns-in-Err c =
         is_code = code;
         says = rw c.from.ensures at c.answer_message-in-Err.ensures.message;
         read = never_failed _ c.in-Err.ensures.reads.1.failures;
-        refuses = λ never image begins. record {
-          header_consumed = (known.refuses never).header_consumed;
-          secret_consumed = (known.refuses never).secret_consumed;
-          outcome = λ on_opened.
-              outcome_decided c.in-Some.options.location c.in-Some.options.slots image c.args.header.now
-              c.args.passphrase.now on_opened begins
-              ∙ (known.refuses never).outcome on_opened;
-        };
+        refuses = λ never image begins.
+            ap (λ (o : VolumeOpening). o.result) (opening_decided c.in-Some.options.location c.in-Some.options.slots
+            image c.args.header.now c.args.passphrase.now begins) ∙ known.refuses never;
       };
       cleared = λ some. c.clear-in-Err.ensures;
       bad = search rules;

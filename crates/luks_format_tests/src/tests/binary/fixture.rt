@@ -5,11 +5,11 @@
 
 use luks_header_area::area::HeaderArea;
 use luks_header_area::fault::HeaderFault;
+use luks_header::header::{Header, read_header};
 use luks_io::source::Source;
 use luks_kdf::{Hash, digest};
 use luks_test_support::bytes::{put, range_mut};
 use luks2_binary::header::Header2;
-use luks2_binary::header_search::read_header2;
 use std::alloc::Global;
 use std::process::Abort;
 
@@ -90,17 +90,16 @@ pub fn image_of(rt: &(impl Abort + AllocGlobal), len: usize, headers: &[Sketch<'
     image
 }
 
-/// What is read from a source after its first 592 bytes are loaded. A shorter one has no header.
+/// The LUKS2 header that is read from a source, and the bytes that were read for it.
 pub fn read_from<S: Source>(
     alloc: Global,
     source: &mut S,
 ) -> Result<(Header2, HeaderArea), HeaderFault> {
-    let mut area = HeaderArea::new(alloc);
-    if !area.extend_to(source, 592)? {
-        return Err(HeaderFault::NotLuks);
+    let (header, area) = read_header(alloc, source)?;
+    match header {
+        Header::V1(_header) => Err(HeaderFault::NotLuks),
+        Header::V2(header, _metadata) => Ok((header, area)),
     }
-    let header = read_header2(&mut area, source)?;
-    Ok((header, area))
 }
 
 /// Why a source cannot be read, if it cannot.

@@ -1,6 +1,7 @@
 use Rattle.std.proofs.Common.{sym}
 use Rattle.luks_io.proofs.ErrorLemmas.{given_error}
 use Rattle.luks_runs.proofs.VolumeLemmas.{aborts_without_header, aborts_without_order, aborts_without_segment}
+use Rattle.luks_runs.proofs.VolumeLemmas.{none_remain}
 use Rattle.luks_runs.proofs.found.find_volume.Goals as goal
 
 pub returns-in_err-header-clause-err : goal.returns-in_err-header-clause-err
@@ -30,6 +31,14 @@ returns-clause-found g c =
       slots = record { segment = sym c.in_ok-segment.ensures; order = c.in_ok-order.ensures.answer };
       of_area = read.of_area;
       area = read.whole_area;
-      header = read.consumed;
+      found = λ known is.
+          let whole = read.consumed known is in
+          record {
+            slots = record { segment = sym c.in_ok-segment.ensures; order = c.in_ok-order.ensures.answer };
+            header = whole.0;
+            area = whole.1;
+            consumed = whole.2;
+            ended = none_remain _ _ _ _ _ known _ read.loaded is whole.2.left;
+          };
       loaded = read.loaded;
     }

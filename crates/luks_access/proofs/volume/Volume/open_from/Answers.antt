@@ -1,72 +1,60 @@
-use Rattle.std.proofs.Common.{ap}
+use Rattle.std.proofs.Common.{◌≤◌, ◌<◌, Err, Some, ap, arith, drop, length, refl, sym, ◌+◌}
 use Rattle.luks_io.proofs.ErrorLemmas.{given_error}
-use Rattle.luks_access.proofs.ConsumedLemmas.{consumed_unfound, consumed_unlocked}
-use Rattle.luks_access.proofs.OpeningLemmas.{opened_by, refused_unfound, refused_unopened, volume_opened}
-use Rattle.luks_access.proofs.OpeningLemmas.{fault_unfound, fault_unopened, unfound_long, unopened_long}
-use Rattle.luks_access.proofs.OpeningLemmas.{volume_refused}
-use Rattle.luks_runs.proofs.VolumeLemmas.{none_remain, reads_on}
+use Rattle.luks_key_slots.specs.declared.fault.PassphraseFault.TheVariants.{TooLong}
+use Rattle.luks_access.proofs.OpeningLemmas.{volume_opened, volume_refused}
+use Rattle.luks_runs.proofs.VolumeLemmas.{opens_unfound, opens_unread, reads_on}
+use Rattle.luks_runs.specs.KeyFile.{max_key_file_len}
 use Rattle.luks_access.proofs.volume.Volume.open_from.Goals as goal
 
-pub returns-clause-opens : goal.returns-clause-opens
-returns-clause-opens g c known is =
-    let found = c.in_ok-found.ensures.found in
-    let read = found.header known is in
-    volume_opened c.args.options.now known c.args.pass.now _
-    (opened_by c.args.options.now known c.args.pass.now _ _ found.slots read.0 _ read.1 _
-    (c.in_ok-unlocked.ensures.run _ read.2.left (none_remain _ _ _ _ _ known _ found.loaded is read.2.left)).1)
-
+-- no volume was found
 pub returns-in_err-found-clause-refuses : goal.returns-in_err-found-clause-refuses
 returns-in_err-found-clause-refuses g c =
     rw (given_error _ _ c.from_residual.ensures.1) (λ known is.
-    let stop = c.in_err-found.ensures.err known is in
-    volume_refused c.args.options.now known c.args.pass.now _
-    (λ never. fault_unfound c.args.options.now known c.args.pass.now _ _ never stop)
-    (λ never. refused_unfound c.args.options.now known c.args.pass.now _ _ never stop)
-    (unfound_long c.args.options.now known _ _ stop))
-
-pub returns-in_err-unlocked-clause-refuses : goal.returns-in_err-unlocked-clause-refuses
-returns-in_err-unlocked-clause-refuses g c =
-    rw (given_error _ _ c.from_residual-in_err-unlocked.ensures.1) (λ known is.
-    let found = c.in_ok-found.ensures.found in
-    let read = found.header known is in
-    let run =
-    (c.in_err-unlocked.ensures.run _ read.2.left (none_remain _ _ _ _ _ known _ found.loaded is read.2.left)).1 in
-    volume_refused c.args.options.now known c.args.pass.now _
-    (λ never. fault_unopened c.args.options.now known c.args.pass.now _ _ found.slots read.0 _ read.1 _ never run)
-    (λ never. refused_unopened c.args.options.now known c.args.pass.now _ _ found.slots read.0 _ read.1 _ never run)
-    (unopened_long c.in_ok-found.found c.args.pass.now _ _ _ _ run))
-
-pub returns-clause-consumes : goal.returns-clause-consumes
-returns-clause-consumes g c known is =
-    let found = c.in_ok-found.ensures.found in
-    let read = found.header known is in
-    consumed_unlocked c.args.options.now known c.args.pass.now _ found.slots read.0 _ _ read.1 _
-    (c.in_ok-unlocked.ensures.run _ read.2.left (none_remain _ _ _ _ _ known _ found.loaded is read.2.left)).1
+    let ends = opens_unfound _ _ known c.args.pass.now _ _ (c.in_err-found.ensures.err known is) in
+    volume_refused c.args.options.now known c.args.pass.now _ (λ never. sym (ends.answer never))
+    (λ passphrase same. absurd (c.in_err-found.ensures.only passphrase (ap Err same))))
 
 pub returns-in_err-found-clause-consumes : goal.returns-in_err-found-clause-consumes
 returns-in_err-found-clause-consumes g c =
     rw (given_error _ _ c.from_residual.ensures.1) (λ known is.
-    consumed_unfound c.args.options.now known c.args.pass.now _ _
-    (c.in_err-found.ensures.err known is))
+    (opens_unfound _ _ known c.args.pass.now _ _ (c.in_err-found.ensures.err known is)).consumed)
 
-pub returns-in_err-unlocked-clause-consumes : goal.returns-in_err-unlocked-clause-consumes
-returns-in_err-unlocked-clause-consumes g c =
+-- the passphrase is too long
+pub returns-then-pass-gt-MAX_PASSPHRASE_LEN-clause-refuses : goal.returns-then-pass-gt-MAX_PASSPHRASE_LEN-clause-refuses
+returns-then-pass-gt-MAX_PASSPHRASE_LEN-clause-refuses g c known is =
+    let found = c.in_ok-found.ensures.found.found known is in
+    let long : max_key_file_len < length c.args.pass.now = omega arith in
+    let ends = opens_unread _ _ known c.args.pass.now _ _ found _ TooLong
+    (long, record { within = omega (arith, long); left = refl {a = Some (drop (max_key_file_len + 1) c.args.pass.now)} }) in
+    volume_refused c.args.options.now known c.args.pass.now _ (λ never. sym (ends.0.answer never))
+    (λ passphrase same. cc)
+
+pub returns-then-pass-gt-MAX_PASSPHRASE_LEN-clause-consumes : goal.returns-then-pass-gt-MAX_PASSPHRASE_LEN-clause-consumes
+returns-then-pass-gt-MAX_PASSPHRASE_LEN-clause-consumes g c known is =
+    let found = c.in_ok-found.ensures.found.found known is in
+    let long : max_key_file_len < length c.args.pass.now = omega arith in
+    let ends = opens_unread _ _ known c.args.pass.now _ _ found _ TooLong
+    (long, record { within = omega (arith, long); left = refl {a = Some (drop (max_key_file_len + 1) c.args.pass.now)} }) in
+    ends.0.consumed
+
+-- the key slots were tried
+pub returns-clause-opens : goal.returns-clause-opens
+returns-clause-opens g c known is =
+    let tries = c.in_ok-unlocked.ensures.run _ _ known (c.in_ok-found.ensures.found.found known is) in
+    let short : length c.args.pass.now ≤ max_key_file_len = omega arith in
+    volume_opened c.args.options.now known c.args.pass.now _ (sym ((tries.opens short).answer refl))
+
+pub returns-in_err-unlocked-clause-refuses : goal.returns-in_err-unlocked-clause-refuses
+returns-in_err-unlocked-clause-refuses g c =
     rw (given_error _ _ c.from_residual-in_err-unlocked.ensures.1) (λ known is.
-    let found = c.in_ok-found.ensures.found in
-    let read = found.header known is in
-    consumed_unlocked c.args.options.now known c.args.pass.now _ found.slots read.0 _ _ read.1 _
-    (c.in_err-unlocked.ensures.run _ read.2.left (none_remain _ _ _ _ _ known _ found.loaded is read.2.left)).1)
+    let tries = c.in_err-unlocked.ensures.run _ _ known (c.in_ok-found.ensures.found.found known is) in
+    let short : length c.args.pass.now ≤ max_key_file_len = omega arith in
+    volume_refused c.args.options.now known c.args.pass.now _ (λ never. sym ((tries.opens short).answer never))
+    (λ passphrase same. absurd (c.in_err-unlocked.ensures.only passphrase (ap Err same))))
 
--- the key slots were tried after the volume was found
 pub returns-in_err-unlocked-clause-reads : goal.returns-in_err-unlocked-clause-reads
 returns-in_err-unlocked-clause-reads g c =
     let then = c.in_err-unlocked.ensures in
     rw (given_error _ _ c.from_residual-in_err-unlocked.ensures.1)
     (reads_on _ _ then.reads.0 _ _ _ c.in_ok-found.ensures.found.loaded.reads
     (λ ended. ap g.S.Source.counts (then.ended ended)) then.reads.1)
-
-pub returns-clause-reads : goal.returns-clause-reads
-returns-clause-reads g c =
-    let then = c.in_ok-unlocked.ensures in
-    reads_on _ _ then.reads.0 _ _ _ c.in_ok-found.ensures.found.loaded.reads
-    (λ ended. ap g.S.Source.counts (then.ended ended)) then.reads.1

@@ -1,22 +1,30 @@
-use Rattle.std.proofs.Common.{◌∙◌, ap, refl, subst, sym}
-use Rattle.luks_search.proofs.PlaceLemmas.{advanced_in, skipped_none, skips}
+use Rattle.std.proofs.Common.{◌∙◌, ◌+◌, ◌*◌, ◌≤◌, ap, arith, drop, inr, length, subst, sym}
+use Rattle.luks_search.proofs.PlaceLemmas.{advanced_in, skipped_none}
+use Rattle.luks_search.proofs.search.Search.load_if_needed.Given.{Over}
+use Rattle.luks_search.proofs.search.Search.load_if_needed.Goals.{After-advance}
+use Rattle.luks_search.specs.Magic.{begins_magic}
 use Rattle.luks_search.specs.Places.{places_below}
 use Rattle.luks_search.specs.Search.{IsIn, SearchModel}
 use Rattle.luks_search.proofs.search.Search.load_if_needed.Goals as goal
 
+-- the last secondary header that a sector may have begins among the loaded bytes
+reach : (g : Over) (c : After-advance g) → 512 * c.min-count.result + 4194304 ≤ length c.load.new.self.bytes
+reach g c = omega (
+  arith,
+  c.min-count.ensures,
+  c.in_ok-load.ensures.enough (sym (ap (λ (s : SearchModel). s.ended) c.self-2.view_is) ∙ c.if-self-2.false),
+)
+
 pub returns-clause-none : goal.returns-clause-none
 returns-clause-none g c image is =
-    let search = c.load.new.self in
-    let loaded = c.in_ok-quiet.ensures.reads.held refl image (c.in_ok-count.ensures.held image is) in
     ap (λ (s : SearchModel). places_below image s.sector) c.advance.ensures
-    ∙ skipped_none image search _ loaded (c.in_ok-quiet.ensures.quiet c.if-not-quiet.false) c.skippable-count.result
-    c.skippable-count.ensures.loaded
-    ∙ ap (places_below image) c.in_ok-quiet.ensures.reads.sector ∙ c.in_ok-count.ensures.none image is
+    ∙ skipped_none image c.load.new.self _ (c.in_ok-load.ensures.held image is) (λ k.
+    ap (λ bytes. begins_magic (drop (512 * k) bytes)) (sym c.bytes-else-self-2.ensures.value)
+    ∙ c.is_quiet.ensures c.if-not-is_quiet.false k) c.min-count.result (reach g c)
+    ∙ ap (places_below image) c.in_ok-load.ensures.sector
 
 pub returns-clause-held : goal.returns-clause-held
 returns-clause-held g c image is =
-    let search = c.load.new.self in
-    let loaded = c.in_ok-quiet.ensures.reads.held refl image (c.in_ok-count.ensures.held image is) in
-    let count = c.skippable-count.result in
     subst (λ (s : SearchModel). IsIn image s (g.S.Source.to_come c.load.new.source)) (sym c.advance.ensures)
-    (advanced_in image search _ loaded count (skips search count c.skippable-count.ensures.loaded))
+    (advanced_in image c.load.new.self _ (c.in_ok-load.ensures.held image is) c.min-count.result
+    (inr (omega (arith, reach g c))))

@@ -1,0 +1,294 @@
+-- The loaded start of an image, step by step, until it decides which header the image has.
+use Rattle.std.proofs.Common.{◌≡◌, ◌∙◌, ℕ, ◌+◌, ◌-◌, ◌<◌, ◌≤◌, inl, inr, List, [], ◌++◌, Option, Some, Bool, true, false}
+use Rattle.std.proofs.Common.{Result, Ok, Err, ap, arith, append_assoc, append-nil, drop, length, length-append, length-take-le, max, min}
+use Rattle.std.proofs.Common.{refl, subst, sym, take}
+use Rattle.std.specs.Prelude.{if◌then◌else◌, nat_lt, not, ok_or, option_map, IsTrue, ◌↔◌}
+use Rattle.std.proofs.lemmas.Bool.{le-ltb, lt-ltb, ltb-false, ltb-true}
+use Rattle.std.proofs.lemmas.List.{drop-append-le, drop_all, take-append-drop}
+use Rattle.luks_io.specs.Devices.{ConsumedExactly, counted}
+use Rattle.luks_header_area.specs.Area.{AbortsConsuming, ConsumedOnto, HeaderAreaModel, Loads}
+use Rattle.luks_header_area.specs.declared.fault.HeaderFault.{HeaderFault}
+use Rattle.luks_header_area.specs.declared.fault.HeaderFault.TheVariants.{Json, Read, Memory, NotLuks, Cut}
+use Rattle.luks1_header.specs.Header1.{is_luks1}
+use Rattle.luks2_binary.specs.Choice2.{header2_of}
+use Rattle.luks2_binary.specs.declared.header.Header2.{Header2}
+use Rattle.luks2_binary.proofs.ChoiceLemmas.{decided2, needed_enough as needed2_enough, needed_within as needed2_within}
+use Rattle.luks2_binary.proofs.ChoiceLemmas.{text_more}
+use Rattle.luks2_binary.proofs.ValidLemmas.{at_more, longer}
+use Rattle.luks2_json.specs.Tree.{tree_of}
+use Rattle.luks_header.specs.Header.{HasHeader2, HasNone, ReadsNoHeader, ConsumedHeaderLen, falls_short, header_of}
+use Rattle.luks_header.specs.Header.{header_read_len, needed, probe_len, with_text}
+use Rattle.luks_header.specs.declared.header.Header.{Header}
+use Rattle.luks_header.specs.declared.header.Header.TheVariants.{V2}
+use Rattle.std.proofs.Math.Seq.{take-append_seam}
+use Rattle.luks_header.proofs.KnownLemmas.{probe_is, short_from_not_whole}
+
+-- if the image does not start as LUKS1, it has the LUKS2 header with its JSON text, or none
+pub header_other : (image : List ℕ) → is_luks1 image ≡ false → (read : Result Header2 HeaderFault)
+    → header2_of image ≡ read → header_of image ≡ with_text image read
+unfolding header_of
+header_other image other read is = rw (other, is) refl
+
+-- ---- loaded bytes that reach as far as is read decide which header an image has
+
+-- two images have the same header, and the search for it goes as far
+pub record IsSame (loaded image : List ℕ) : Type 0 where
+  pub header : header_of image ≡ header_of loaded
+  pub probe : probe_len image ≡ probe_len loaded
+  pub second : HasHeader2 loaded → HasHeader2 image
+
+module _ (loaded more image : List ℕ) (is : image ≡ loaded ++ more) where
+  luks1_same : 8 ≤ length loaded → is_luks1 image ≡ is_luks1 loaded
+  unfolding is_luks1
+  luks1_same long = rw (at_more loaded more image is 0 8 (omega (arith, long))) refl
+
+  text_same : (read : Result Header2 HeaderFault) → header2_of loaded ≡ read
+      → with_text image read ≡ with_text loaded read
+  text_same (Ok header) found =
+      ap (λ text. ok_or (option_map (V2 header) (tree_of text)) Json) (text_more loaded more image is header found)
+  text_same (Err fault) found = refl
+
+  pub decided : probe_len loaded ≤ length loaded → IsSame loaded image
+  unfolding header_of probe_len
+  decided whole = by (is_luks1 loaded) refl where
+    alike : is_luks1 image ≡ is_luks1 loaded
+    alike = luks1_same (omega (arith, (probe_is loaded).1, whole))
+
+    by : (b : Bool) → is_luks1 loaded ≡ b → IsSame loaded image
+    by true e =
+        let long : 592 ≤ length loaded = rw e at whole in
+        record {
+          header = rw (
+            alike,
+            e,
+            le-ltb (length loaded) 592 long,
+            le-ltb (length image) 592 (omega (arith, long, longer loaded more image is)),
+            at_more loaded more image is 0 592 (omega (arith, long)),
+          ) refl;
+          probe = rw (alike, e) refl;
+          second = λ has. absurd (let other = has.1 in cc);
+        }
+    by false e =
+        let same = decided2 loaded more image is (rw e at whole) in
+        record {
+          header = rw (alike, e, same.0) (text_same (header2_of loaded) refl);
+          probe = rw (alike, e) same.1;
+          second = λ has. (has.0, alike ∙ e, same.0 ∙ has.2);
+        }
+
+  -- no more bytes are to be loaded next than are read of the image, if any
+  pub needed_within : needed loaded ≤ max (length loaded) (probe_len image)
+  unfolding needed probe_len
+  needed_within = by (nat_lt (length loaded) 592) (is_luks1 loaded) refl refl where
+    some : 592 ≤ probe_len image
+    some = (probe_is image).1
+
+    by : (short first : Bool) → nat_lt (length loaded) 592 ≡ short → is_luks1 loaded ≡ first
+        → needed loaded ≤ max (length loaded) (probe_len image)
+    by true _ s f = rw s (omega (arith, some))
+    by false true s f = rw (s, f) (omega (arith, some))
+    by false false s f =
+        let alike = luks1_same (omega (arith, ltb-false (length loaded) 592 s)) in
+        rw (s, f, alike) (rw f (needed2_within loaded more image is))
+
+-- if no more bytes are to be loaded, all that are read are loaded
+pub needed_enough : (loaded : List ℕ) → needed loaded ≤ length loaded → probe_len loaded ≤ length loaded
+unfolding needed probe_len
+needed_enough loaded within = by (nat_lt (length loaded) 592) (is_luks1 loaded) refl refl where
+  by : (short first : Bool) → nat_lt (length loaded) 592 ≡ short → is_luks1 loaded ≡ first
+      → probe_len loaded ≤ length loaded
+  by true _ s f = (let end = rw s at within in absurd (omega (arith, end, ltb-true (length loaded) 592 s)))
+  by false true s f = rw f (rw (s, f) at within)
+  by false false s f = rw f (needed2_enough loaded (rw (s, f) at within))
+
+-- the first 592 bytes are loaded at once
+pub needed_first : (loaded : List ℕ) → length loaded < 592 → needed loaded ≡ 592
+unfolding needed
+needed_first loaded short = rw (lt-ltb (length loaded) 592 short) refl
+
+-- the search goes no further into an image that starts as LUKS1
+pub first_probe : (image : List ℕ) → is_luks1 image ≡ true → probe_len image ≡ 592
+unfolding probe_len
+first_probe image is = rw is refl
+
+-- ---- loading
+
+-- the loaded bytes are the start of the image, and the rest remains in its source
+pub record IsStart (image : List ℕ) (area : HeaderAreaModel) (left : Option (List ℕ)) : Type 0 where
+  pub rest : List ℕ
+  pub behind : left ≡ Some rest
+  pub is : image ≡ area.bytes ++ rest
+  pub ends : area.ended ≡ true → rest ≡ []
+
+-- further bytes were appended
+pub start_more : (image : List ℕ) (old new : HeaderAreaModel) (left left' : Option (List ℕ)) (count : ℕ)
+    → (start : IsStart image old left) → ConsumedOnto old.bytes new.bytes start.rest left' count
+    → (new.ended ≡ true → length start.rest ≤ count) → IsStart image new left'
+start_more image old new left left' count start consumption all = record {
+  rest = drop count start.rest;
+  behind = consumption.0.left;
+  is = start.is
+      ∙ ap (λ more. old.bytes ++ more) (sym (take-append-drop count start.rest))
+      ∙ sym (append_assoc old.bytes (take count start.rest) (drop count start.rest))
+      ∙ ap (λ bytes. bytes ++ drop count start.rest) (sym consumption.1);
+  ends = λ ended. drop_all count start.rest (all ended);
+}
+
+-- the loaded bytes were consumed
+pub start_consumed : (image : List ℕ) (area : HeaderAreaModel) (left : Option (List ℕ)) → IsStart image area left
+    → ConsumedExactly image left (length area.bytes)
+start_consumed image area left start = record {
+  within = omega (arith, ap length start.is, length-append area.bytes start.rest);
+  left = start.behind ∙ ap Some (sym (ap (drop (length area.bytes)) start.is
+      ∙ drop-append-le (length area.bytes) area.bytes start.rest (omega arith)
+      ∙ ap (λ none. none ++ start.rest) (drop_all (length area.bytes) area.bytes (omega arith))));
+}
+
+-- if more bytes of an image that starts as LUKS1 are to be loaded, its first 592 are not
+pub first_near : (image : List ℕ) (area : HeaderAreaModel) (left : Option (List ℕ)) → IsStart image area left
+    → is_luks1 image ≡ true → length area.bytes < needed area.bytes → length area.bytes < 592
+first_near image area left start begins more =
+    omega (arith, more, needed_within area.bytes start.rest image start.is, first_probe image begins)
+
+-- loading was aborted before `end`
+pub loading_aborted : (image : List ℕ) (old new : HeaderAreaModel) (left left' : Option (List ℕ)) (end ends ends' : ℕ)
+    (fault : HeaderFault) (start : IsStart image old left)
+    → AbortsConsuming (end - length old.bytes) old.bytes new.bytes start.rest left' fault → length new.bytes < end
+    → end ≡ needed old.bytes → length old.bytes < end → new.ended ≡ false
+    → (length old.bytes < 592 → old.bytes ≡ []) → ends' ≡ ends → ReadsNoHeader image left' ends ends' fault
+loading_aborted image old new left left' end ends ends' Read start (count, few, consumption) fewer is more unended first
+    same =
+    let after = start_more image old new left left' count start consumption (λ ended. absurd (cc)) in
+    let all = start_consumed image new left' after in
+    let near = needed_within old.bytes start.rest image start.is in
+    ((length new.bytes, omega (arith, fewer, is, more, near, all.within, probe_is image), all), same)
+loading_aborted image old new left left' end ends ends' Memory start consumption fewer is more unended first same =
+    let after = start_more image old new left left' 0 start consumption (λ ended. absurd (cc)) in
+    let all = start_consumed image new left' after in
+    let near = needed_within old.bytes start.rest image start.is in
+    inl (
+      (length new.bytes, omega (arith, fewer, is, more, near), all),
+      same,
+      λ luks1.
+          let none = first (first_near image old left start luks1 (omega (arith, more, is))) in
+          subst (ConsumedExactly image left') (ap length (consumption.1 ∙ append-nil old.bytes ∙ none)) all,
+    )
+loading_aborted image old new left left' end ends ends' _ start h fewer is more unended first same = absurd h
+
+-- further bytes were loaded, up to `end` or to EOF
+module _ (old new : HeaderAreaModel) (end : ℕ) (whole : Bool) (loads : Loads end old.bytes new.bytes (Ok whole))
+    (unended : old.ended ≡ false) (is : end ≡ needed old.bytes) (more : length old.bytes < end)
+    (ended : new.ended ≡ (if not whole then true else old.ended)) where
+  near : end ≤ probe_len new.bytes
+  near =
+      let longer : new.bytes ≡ old.bytes ++ drop (length old.bytes) new.bytes =
+      sym (take-append-drop (length old.bytes) new.bytes)
+      ∙ ap (λ bytes. bytes ++ drop (length old.bytes) new.bytes) loads.kept in
+      omega (arith, is, more, needed_within old.bytes (drop (length old.bytes) new.bytes) new.bytes longer)
+
+  pub more_within : length new.bytes ≤ probe_len new.bytes
+  more_within = omega (arith, near, more, loads.within)
+
+  pub more_ended : new.ended ≡ not whole
+  more_ended = by whole ended where
+    by : (b : Bool) → new.ended ≡ (if not b then true else old.ended) → new.ended ≡ not b
+    by true e = e ∙ unended
+    by false e = e
+
+  -- EOF was hit, before `end`
+  more_fewer : new.ended ≡ true → length new.bytes < end
+  more_fewer hit = by whole (sym more_ended ∙ hit) loads.whole where
+    by : (b : Bool) → not b ≡ true → (IsTrue b ↔ (end ≤ length new.bytes)) → length new.bytes < end
+    by true wrong iff = absurd (cc)
+    by false _ iff = short_from_not_whole false end (length new.bytes) iff refl
+
+  pub more_short : new.ended ≡ true → length new.bytes < probe_len new.bytes
+  more_short hit = omega (arith, near, more_fewer hit)
+
+  pub more_first : new.ended ≡ false → length new.bytes < 592 → ⊥
+  more_first live few = by whole (sym more_ended ∙ live) loads.whole where
+    by : (b : Bool) → not b ≡ false → (IsTrue b ↔ (end ≤ length new.bytes)) → ⊥
+    by true _ iff = (let all = iff.0 refl in omega (arith, all, few, more, is, needed_first old.bytes (omega (arith, all, few, more))))
+    by false wrong iff = absurd (cc)
+
+  pub more_all : (rest : List ℕ) (left' : Option (List ℕ))
+      → ConsumedOnto old.bytes new.bytes rest left' (min (end - length old.bytes) (length rest))
+      → new.ended ≡ true → length rest ≤ min (end - length old.bytes) (length rest)
+  more_all rest left' consumption hit =
+      let count = min (end - length old.bytes) (length rest) in
+      let long = ap length consumption.1 ∙ length-append old.bytes (take count rest)
+      ∙ ap (λ n. length old.bytes + n) (length-take-le count rest consumption.0.within) in
+      omega (arith, long, more_fewer hit)
+
+-- ---- all bytes that are read for the header are loaded
+
+-- the image has the header of the loaded bytes, they are all that is read, and EOF was hit if it falls short
+pub record IsAll (image : List ℕ) (area : HeaderAreaModel) : Type 0 where
+  pub same : IsSame area.bytes image
+  pub read_len : header_read_len image ≡ length area.bytes
+  pub falls : falls_short image ≡ area.ended
+
+module _ (area : HeaderAreaModel) (within : length area.bytes ≤ probe_len area.bytes)
+    (short : area.ended ≡ true → length area.bytes < probe_len area.bytes)
+    (enough : area.ended ≡ false → needed area.bytes ≤ length area.bytes) where
+  pub all_of : (rest : List ℕ) → (area.ended ≡ true → rest ≡ []) → IsAll (area.bytes ++ rest) area
+  all_of rest ends = by area.ended refl where
+    by : (b : Bool) → area.ended ≡ b → IsAll (area.bytes ++ rest) area
+    by true e =
+        let bytes = ap (λ more. area.bytes ++ more) (ends e) ∙ append-nil area.bytes in
+        let few = short e in
+        rw bytes record {
+          same = record { header = refl; probe = refl; second = λ has. has };
+          read_len = omega (arith, within, (probe_is area.bytes).0);
+          falls = lt-ltb (length area.bytes) (probe_len area.bytes) few ∙ sym e;
+        }
+    by false e =
+        let whole = needed_enough area.bytes (enough e) in
+        let same = decided area.bytes rest (area.bytes ++ rest) refl whole in
+        let long = length-append area.bytes rest in
+        record {
+          same = same;
+          read_len = omega (arith, whole, within, long, same.probe, (probe_is (area.bytes ++ rest)).0);
+          falls = le-ltb (length (area.bytes ++ rest)) (probe_len (area.bytes ++ rest))
+              (omega (arith, whole, long, same.probe)) ∙ sym e;
+        }
+
+  -- the loaded bytes are themselves an image
+  pub all_itself : IsAll area.bytes area
+  all_itself = subst (λ image. IsAll image area) (append-nil area.bytes) (all_of [] (λ _. refl))
+
+  module _ (image : List ℕ) (left : Option (List ℕ)) (start : IsStart image area left) where
+    all_image : IsAll image area
+    all_image = subst (λ image. IsAll image area) (sym start.is) (all_of start.rest start.ends)
+
+    consumed_all : ConsumedExactly image left (header_read_len image)
+    consumed_all = subst (ConsumedExactly image left) (sym all_image.read_len) (start_consumed image area left start)
+
+    -- a header was read
+    pub header_read : (header : Header) → header_of area.bytes ≡ Ok header
+        → (header_of image ≡ Ok header) × (area.bytes ≡ take (header_read_len image) image)
+        × ConsumedExactly image left (header_read_len image)
+    header_read header read = (
+      all_image.same.header ∙ read,
+      sym (ap (λ n. take n image) all_image.read_len ∙ ap (take (length area.bytes)) start.is
+          ∙ take-append_seam area.bytes start.rest),
+      consumed_all,
+    )
+
+    -- there is none
+    pub no_header_read : (fault : HeaderFault) (ends ends' : ℕ) → HasNone area.bytes fault
+        → ends' ≡ counted area.ended ends → ReadsNoHeader image left ends ends' fault
+    no_header_read fault ends ends' none is = by fault none where
+      consumed : ConsumedHeaderLen image left ends ends'
+      consumed = (consumed_all, is ∙ ap (λ b. counted b ends) (sym all_image.falls))
+
+      by : (fault : HeaderFault) → HasNone area.bytes fault → ReadsNoHeader image left ends ends' fault
+      by Read none = absurd none
+      by Memory has = inr (all_image.same.second has, consumed)
+      by NotLuks none = (all_image.same.header ∙ none, consumed)
+      by Cut none = (all_image.same.header ∙ none, consumed)
+      by Json none = (all_image.same.header ∙ none, consumed)
+
+    -- memory does not run out for the tree if the image starts as LUKS1
+    pub no_tree : HasNone area.bytes Memory → is_luks1 image ≡ true → ⊥
+    no_tree has begins = (let second = all_image.same.second has in let other = second.1 in cc)
