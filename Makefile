@@ -8,7 +8,7 @@
 # make test       what CI runs: the gate, which proves everything, tries each must-fail edit and runs the tests, and
 #                 beside it the same scripts on the program that it builds; it prints the processor time that each crate
 #                 took
-# make pages      writes the pages that are made from the sources: docs/HEADLINE.md and docs/proofs/, and the tables of
+# make pages      writes the pages that are made from the sources: docs/HEADLINE.md, out/proofs/, and the tables of
 #                 docs/SPEED.md, which are made from the results in docs/speed/
 # make bench      measures key derivation, decryption and whole volumes beside other implementations, and memory; keeps
 #                 the results in docs/speed/MACHINE.json (the name of the host if MACHINE is not given) and makes the
