@@ -5,7 +5,7 @@ use crate::image::ReadAtFault;
 /// Why a range of a volume's plaintext is not read.
 #[derive(Clone, Copy, PartialEq, Eq, Debug)]
 pub enum RangeFault {
-    /// The range ends past the plaintext. Nothing was read.
+    /// The range ends past the plaintext. The buffer is as it was.
     PastEnd,
     /// A read of the image failed.
     Read,

@@ -157,8 +157,8 @@ impl Volume {
 
     /// Fills the buffer with the plaintext from `offset` on.
     ///
-    /// [`RangeFault::PastEnd`] leaves the buffer as it was: the range ends past the plaintext, and
-    /// nothing was read. After any other fault the buffer is all zero.
+    /// [`RangeFault::PastEnd`] leaves the buffer as it was: the range ends past the plaintext.
+    /// After any other fault the buffer is all zero.
     pub fn read_at<I: ReadAt>(
         &self,
         image: &I,
