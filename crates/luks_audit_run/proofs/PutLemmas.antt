@@ -1,4 +1,4 @@
--- Texts that are written whole, or as far as that was aborted.
+-- Texts that are written whole, or up to where writing was aborted.
 use Rattle.std.proofs.Common.{◌≡◌, ◌∙◌, ℕ, List, [], ◌++◌, Option, Bool, true, false, ap, refl, subst, sym}
 use Rattle.std.proofs.Common.{append_assoc, drop, take}
 use Rattle.std.proofs.lemmas.List.{append-nil, take-append-drop}
@@ -35,7 +35,7 @@ put_whole before after text puts =
     subst (Appended before after)
     (sym (append-nil puts.part) ∙ ap (λ rest. puts.part ++ rest) (sym (puts.all refl)) ∙ puts.text_is) puts.written
 
--- behind another text
+-- after another text
 pub puts_behind : (before now after : Option (List ℕ)) (first text : List ℕ) (aborted : Bool)
     → Appended before now first → Puts now after text aborted → Puts before after (first ++ text) aborted
 puts_behind before now after first text aborted written puts = record {

@@ -69,7 +69,7 @@ unmade_anyway true policy file =
 unmade_anyway false policy file =
     record { found = Err Memory; some = tt; failed_is = refl; audited = (refl, refl) }
 
--- the line was written, or that was aborted; the image was read in one piece, however much of it was read
+-- the line was written, or writing it was aborted, however much of the image was read
 pub start_audits : (policy : Policy) (file : List ℕ) (known left : Option (List ℕ)) (failures failures' : ℕ)
     (before after : Option (List ℕ)) (failed : Bool) (line : List ℕ) (state : State) (result : Result State RunFault)
     → failures' ≡ counted failed failures

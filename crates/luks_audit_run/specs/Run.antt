@@ -114,12 +114,12 @@ bytes_in unknown = []
 
 -- ---- all images
 
--- an image under a name, and how its audit went
+-- an image's name, and the course of its audit
 pub record Audited : Type 0 where
   pub file : List ℕ
   pub course : Course
 
--- everything that is written: the line before all others, and what is written of the images, in their order
+-- the whole output: the first line, then each image's text, in order
 unfoldable pub audit_text : Policy → Scope → (List ℕ → Stored) → List Audited → List ℕ
 audit_text policy scope stored images =
     head_of policy.format
@@ -144,7 +144,7 @@ failures_after failures (one ∷ images) = failures_after (counted (is_failed on
 
 -- ---- what a run does
 
--- a text was written; if that was aborted, a prefix of it
+-- a text was written, or a prefix of it if writing was aborted
 pub record Puts (before after : Option (List ℕ)) (text : List ℕ) (aborted : Bool) : Type 0 where
   pub part : List ℕ
   pub rest : List ℕ
@@ -152,7 +152,7 @@ pub record Puts (before after : Option (List ℕ)) (text : List ℕ) (aborted : 
   pub written : Appended before after part
   pub all : aborted ≡ false → rest ≡ []
 
--- this text and this state are those of one image in this course of its audit
+-- one image's text and state in a possible course of its audit
 pub record Tells (policy : Policy) (scope : Scope) (stored : Stored) (file text : List ℕ) (failed : Bool)
     (state : State) : Type 0 where
   pub course : Course
@@ -161,7 +161,7 @@ pub record Tells (policy : Policy) (scope : Scope) (stored : Stored) (file text 
   pub text_is : text ≡ image_text policy scope file (bytes_in stored) course
   pub state_is : state ≡ image_state policy scope (bytes_in stored) course
 
--- the same of an open image with these bytes; and unless this was aborted, the search came near those that were read
+-- the same for an open image. Unless the run was aborted, the search came near the last byte read
 pub record TellsOpen (policy : Policy) (scope : Scope) (bytes : List ℕ) (left : Option (List ℕ)) (file text : List ℕ)
     (failed : Bool) (state : State) (aborted : Bool) : Type 0 where
   pub tells : Tells policy scope (image bytes) file text failed state
@@ -190,8 +190,8 @@ pub record AuditsFile (policy : Policy) (scope : Scope) (file : List ℕ) (store
   pub shows : IfOk result (λ state. state ≡ shown)
   pub tells : Tells policy scope stored file text failed shown
 
--- these images were audited, or that was aborted in the last of them: what was written; the state is the gravest; and a
--- read of an image failed for each image of which that is written
+-- these images were audited: their text was written, or a prefix of it after an abort; the state is the gravest; one
+-- failed read is counted for each image whose text reports one
 pub record Runs (policy : Policy) (scope : Scope) (stored : List ℕ → Stored) (files : List (List ℕ))
     (failures failures' : ℕ) (before after : Option (List ℕ)) (state : State) (aborted : Bool) : Type 0 where
   pub images : List Audited
@@ -201,7 +201,7 @@ pub record Runs (policy : Policy) (scope : Scope) (stored : List ℕ → Stored)
   pub state_is : state ≡ gravest_state policy scope stored images
   pub failed : failures' ≡ failures_after failures images
 
--- a prefix of what is written of the first images was written
+-- a run was aborted: it wrote a prefix of the text of the first `count` images
 abbrev pub RunsPartly : Policy → Scope → (List ℕ → Stored) → List (List ℕ) → ℕ → ℕ → Option (List ℕ)
     → Option (List ℕ) → Type 0
 RunsPartly policy scope stored files failures failures' before after =

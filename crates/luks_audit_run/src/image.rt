@@ -96,7 +96,7 @@ pub(crate) fn put_line<O: Sink>(made: ImageLine, out: &mut O) -> Result<State, R
     Ok(made.state)
 }
 
-// Writes the line of an image without a header, and returns this state.
+// Writes the line that says why an image has no header, and returns the given state.
 fn put_fault<O: Sink>(
     alloc: Global,
     policy: Policy,

@@ -21,8 +21,8 @@ const CAPACITY: usize = 33_554_432;
 /// there is.
 const MAX_PAIR_LEN: usize = 8_388_608;
 
-/// The sectors that have no header if no sector of 32 MiB begins with magic bytes: a secondary
-/// header of theirs would begin there too.
+/// How many of the first sectors of 32 MiB have no header if none there begins with magic bytes:
+/// all their secondary headers would begin there, too.
 const QUIET_SECTORS: u64 = 57_344;
 
 /// A search for headers in an image that is read once, from its start to its end. A clause sees the
@@ -194,14 +194,14 @@ impl Search {
     /// places. The image is the one that the source gave from its start on: each call continues
     /// where the one before ended.
     ///
-    /// A call reads up to 32 MiB of the source at a time, and never a byte twice. It reads no further
-    /// than it has to for the last place, up to the next 32 MiB. An image of any length is searched up to its
-    /// first 2^63 bytes; no file is longer.
+    /// A call reads up to 32 MiB of the source at a time, and never a byte twice. The search holds
+    /// at most 32 MiB. An image of any length is searched up to its first 2^63 bytes; no file is
+    /// longer.
     ///
     /// # Errors
     ///
     /// A [`SearchFault`]: there is no further place before the next sector to try, and at most
-    /// 32 MiB from there on were read.
+    /// 32 MiB from there on were read. The search is of no use after that.
     pub fn next<S: Source>(
         &mut self,
         alloc: Global,

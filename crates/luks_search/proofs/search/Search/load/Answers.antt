@@ -7,7 +7,8 @@ use Rattle.luks_search.proofs.search.Search.load.Goals as goal
 
 pub returns-clause-held : goal.returns-clause-held
 returns-clause-held g c image is =
-    let inside = subst (λ (s : SearchModel). IsIn image s (g.S.Source.to_come c.args.source.now)) (sym c.self.view_is) is
+    let inside =
+    subst (λ (s : SearchModel). IsIn image s (g.S.Source.to_come c.args.source.now)) (sym c.self.view_is) is
     in
     let buffer = c.self.inside.buffer in
     let filled = c.refill.new.buffer in
@@ -35,7 +36,8 @@ returns-clause-held g c image is =
 
 pub returns-in_err-count-clause-behind : goal.returns-in_err-count-clause-behind
 returns-in_err-count-clause-behind g c image is =
-    let inside = subst (λ (s : SearchModel). IsIn image s (g.S.Source.to_come c.args.source.now)) (sym c.self.view_is) is
+    let inside =
+    subst (λ (s : SearchModel). IsIn image s (g.S.Source.to_come c.args.source.now)) (sym c.self.view_is) is
     in
     let buffer = c.self.inside.buffer in
     on_fault _ _
