@@ -1,12 +1,11 @@
 -- Blocks that are filled row by row.
-use Rattle.std.proofs.Common.{◌≡◌, ℕ, zero, suc, ◌+◌, ◌*◌, ◌<◌, List, [], ◌∷◌, length, map, refl, arith, inl, inr}
-use Rattle.std.proofs.Common.{bit_xor, ◌∙◌, ap, ap₂, sym, Bool, true, false}
+use Rattle.std.proofs.Common.{◌≡◌, ℕ, ◌+◌, ◌<◌, List, [], length, refl, arith, inl, inr}
+use Rattle.std.proofs.Common.{bit_xor, ◌∙◌, ap, sym, Bool, true, false}
 use Rattle.std.proofs.lemmas.Bool.{cases_lt}
 use Rattle.std.proofs.lemmas.List.{ext_get_or, get_or-set_other, get_or-set_same, length-set}
 use Rattle.std.proofs.lemmas.List.FromFn.{get_or-map-range_with_len, length-map-range_with_len}
-use Rattle.std.specs.Prelude.{slice_index, slice_index_or, slice_set}
+use Rattle.std.specs.Prelude.{slice_index, slice_set}
 use Rattle.std.specs.Int.Bits.{xor_assoc, xor_comm}
-use Rattle.std.specs.List.{range_with_len}
 use Rattle.luks_argon2.specs.Block.{block_of, block_row}
 use Rattle.luks_argon2.specs.Compression.{column, columns_permuted, kept_block, compressed, new_block}
 use Rattle.luks_argon2.specs.Compression.{rows_permuted}
@@ -47,7 +46,10 @@ all_rows x f i done rows =
 
 pub same_blocks : (f g : ℕ → List ℕ) → ((k : ℕ) → k < 8 → f k ≡ g k) → block_of f ≡ block_of g
 same_blocks f g same =
-    all_rows (block_of f) g 8 refl (record { long = length-block_of f; each = λ k below. row_of f k below ∙ same k below })
+    all_rows (block_of f) g 8 refl (record {
+      long = length-block_of f;
+      each = λ k below. row_of f k below ∙ same k below;
+    })
 
 -- ---- the order of XOR
 

@@ -25,8 +25,8 @@ pub absorbs_field : (h after : HasherModel) (m bytes : List ℕ) (k : ℕ) → H
 absorbs_field h after m bytes k so_far fits few clause = record {
   is = clause 64 m so_far.is (omega (arith, so_far.short));
   short =
-    let prefix = m ++ le32 (length bytes) in
-    omega (arith, so_far.short, length-append prefix bytes, length-append m (le32 (length bytes)));
+      let prefix = m ++ le32 (length bytes) in
+      omega (arith, so_far.short, length-append prefix bytes, length-append m (le32 (length bytes)));
 }
 
 pub digest_of_absorbed : (h : HasherModel) (out m : List ℕ) (k : ℕ) → HasAbsorbed h m k → k < 2 ^ 64

@@ -1,8 +1,7 @@
 -- Bounds of indices, and the order of the fill.
-use Rattle.std.proofs.Common.{◌≡◌, ℕ, zero, suc, ◌+◌, ◌-◌, ◌*◌, ◌/◌, ◌%◌, ◌^◌, ◌<◌, ◌≤◌, List, [], length, refl, arith}
-use Rattle.std.proofs.Common.{◌∙◌, ap, sym, add-one, mul_comm}
+use Rattle.std.proofs.Common.{◌≡◌, ℕ, zero, suc, ◌+◌, ◌*◌, ◌/◌, ◌^◌, ◌<◌, ◌≤◌, List, refl, arith}
+use Rattle.std.proofs.Common.{◌∙◌, add-one, mul_comm}
 use Rattle.std.proofs.lemmas.Nat.{mul-add-lt}
-use Rattle.std.proofs.lemmas.List.{length-set}
 use Rattle.std.proofs.lemmas.Bool.{cond-false, cond-true, cond_both, le-ltb, lt-ltb}
 use Rattle.std.specs.Prelude.{nat_lt}
 use Rattle.std.proofs.Math.Nat.{mul-le-mul_left, mul-le-mul_right}
@@ -47,7 +46,8 @@ segment_next v s p m n h = rw add-one (cond-false (nat_lt n (first_filled p)) _ 
 
 pub lanes_next : (v : Variant) (s : Layout) (pass slice : ℕ) (m : List (List (List ℕ))) (n : ℕ)
     → lanes_filled v s pass slice m (n + 1)
-    ≡ segment_filled v s (record { pass = pass; slice = slice; lane = n }) (lanes_filled v s pass slice m n) s.segment_len
+    ≡ segment_filled v s (record { pass = pass; slice = slice; lane = n }) (lanes_filled v s pass slice m n)
+    s.segment_len
 unfolding lanes_filled
 lanes_next v s pass slice m n = rw add-one refl
 

@@ -1,7 +1,7 @@
 -- The memory before and after the fill, and the bytes of a block.
-use Rattle.std.proofs.Common.{◌≡◌, ℕ, ◌+◌, ◌-◌, ◌*◌, List, [], ◌∷◌, ◌++◌, length, take, refl, arith, add-one, ◌∙◌, ap, sym}
+use Rattle.std.proofs.Common.{◌≡◌, ℕ, ◌+◌, ◌-◌, ◌*◌, List, [], ◌++◌, length, take, refl, arith, add-one}
 use Rattle.std.proofs.lemmas.Slice.{take-put_mid}
-use Rattle.std.specs.Prelude.{suc, slice_index_or, slice_set, ◌≤◌}
+use Rattle.std.specs.Prelude.{slice_index_or, slice_set, ◌≤◌}
 use Rattle.luks_argon2.specs.Argon2.{with_first_blocks, first_block, last_column_xor, rows_bytes}
 use Rattle.luks_argon2.specs.Block.{block_row, xor_blocks}
 use Rattle.luks_blake2b.specs.Words.{le64_bytes}
@@ -9,7 +9,8 @@ use borrow.Rule.Slice.PartMut.{put_mid}
 
 pub first_blocks_next : (h0 : List ℕ) (q : ℕ) (memory : List (List (List ℕ))) (n : ℕ)
     → with_first_blocks h0 q memory (n + 1)
-    ≡ slice_set (slice_set (with_first_blocks h0 q memory n) (n * q) (first_block h0 0 n)) (n * q + 1) (first_block h0 1 n)
+    ≡ slice_set (slice_set (with_first_blocks h0 q memory n) (n * q) (first_block h0 0 n)) (n * q + 1)
+    (first_block h0 1 n)
 unfolding with_first_blocks
 first_blocks_next h0 q memory n = rw add-one refl
 

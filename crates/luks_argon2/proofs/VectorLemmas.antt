@@ -1,11 +1,11 @@
 -- Operations on vectors of four words, lane by lane.
 use Rattle.std.proofs.Common.{◌≡◌, ℕ, zero, suc, ◌+◌, ◌*◌, ◌/◌, ◌%◌, ◌^◌, ◌<◌, List, [], ◌∷◌, length, replicate, refl, arith}
-use Rattle.std.proofs.Common.{bit_and, bit_or, bit_xor, ◌∙◌, ap, sym}
+use Rattle.std.proofs.Common.{bit_and, bit_or, bit_xor, ◌∙◌, ap}
 use Rattle.std.proofs.lemmas.Nat.{and_mask}
 use Rattle.std.specs.Prelude.{slice_index}
 use Rattle.std.specs.Int.{rotate_right, w64}
 use Rattle.std.specs.Simd.Lanes.{zip2}
-use Rattle.luks_argon2.specs.Permutation.{gb, half_gb, multiply_add, on_columns, on_diagonals, permutation, woven}
+use Rattle.luks_argon2.specs.Permutation.{gb, half_gb, multiply_add, on_columns, on_diagonals, woven}
 use Rattle.luks_argon2.specs.Permutation.{xor_rotated}
 use Rattle.luks_argon2.specs.Vectors.{AreHalves, vector_lane, diagonals_as_columns, columns_as_diagonals, vector_words}
 

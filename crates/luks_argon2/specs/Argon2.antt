@@ -48,7 +48,7 @@ tag_in v s h0 memory n =
     let filled = passes_filled v s (with_first_blocks h0 (lane_len s) memory s.lanes) s.passes in
     variable_length_hash n (rows_bytes (last_column_xor (lane_len s) filled (s.lanes - 1)) 8)
 
--- the tag of n bytes (steps 1 to 8). The memory is zeros at first; what it holds does not matter.
+-- the tag of n bytes (steps 1 to 8). The memory is zeros at first: the RFC reads no block before it fills it.
 unfoldable pub argon2 : Variant → List ℕ → List ℕ → ℕ → ℕ → ℕ → ℕ → List ℕ
 argon2 v password salt passes memory lanes n =
     let s = layout_of passes memory lanes in

@@ -1,5 +1,5 @@
--- Blocks of 1024 bytes, as the matrix R of 8 by 8 registers that the compression function sees (RFC 9106, section 3.5). A
--- register has 16 bytes, which are two words, so a block is eight rows of 16 words.
+-- Blocks of 1024 bytes, as the matrix R of 8 by 8 registers that the compression function sees (RFC 9106, section
+-- 3.5). A register has 16 bytes, which are two words, so a block is eight rows of 16 words.
 use Rattle.std.specs.Prelude.{ℕ, List, [], ◌∷◌, bit_xor, map, replicate, slice_index, slice_index_or}
 use Rattle.std.specs.List.{range_with_len}
 

@@ -34,7 +34,7 @@ compressed x y =
 abbrev pub kept_block : Bool → List (List ℕ) → List (List ℕ) → List (List ℕ)
 kept_block again old r = block_of (λ k. if again then xor_rows (block_row r k) (block_row old k) else block_row r k)
 
--- what replaces a block: G of two blocks, from the second pass on with the XOR of the block that was there (section 3.2,
--- step 6)
+-- what replaces a block: G of two blocks, from the second pass on with the XOR of the block that was there (section
+-- 3.2, step 6)
 abbrev pub new_block : Bool → List (List ℕ) → List (List ℕ) → List (List ℕ) → List (List ℕ)
 new_block again old x y = if again then xor_blocks old (compressed x y) else compressed x y

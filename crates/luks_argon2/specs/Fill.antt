@@ -1,5 +1,5 @@
--- The order in which the blocks are filled (RFC 9106, section 3.2, steps 5 and 6, and section 3.4): pass by pass, slice by
--- slice, lane by lane.
+-- The order in which the blocks are filled (RFC 9106, section 3.2, steps 5 and 6, and section 3.4): pass by pass,
+-- slice by slice, lane by lane.
 use Rattle.std.specs.Prelude.{ℕ, zero, suc, ◌==◌, not, List, [], if◌then◌else◌, nat_lt, slice_index_or, slice_set}
 use Rattle.luks_argon2.specs.declared.layout.Layout.{Layout}
 use Rattle.luks_argon2.specs.declared.layout.Segment.{Segment}
@@ -9,8 +9,8 @@ use Rattle.luks_argon2.specs.Compression.{new_block}
 use Rattle.luks_argon2.specs.Layout.{block_index, is_first_segment}
 use Rattle.luks_argon2.specs.Reference.{reference_index}
 
--- the memory after block i of a segment: G of the previous and the reference block, from the second pass on with the XOR
--- of the block that it replaces
+-- the memory after block i of a segment: G of the previous and the reference block, from the second pass on with the
+-- XOR of the block that it replaces
 unfoldable pub block_filled : Variant → Layout → Segment → List (List (List ℕ)) → ℕ → List (List (List ℕ))
 block_filled v s g memory i =
     let at = block_index s g i in

@@ -1,6 +1,6 @@
--- The memory as a matrix B of p lanes and q columns (RFC 9106, section 3.2, step 2). It is a list of blocks, lane by lane:
--- B[i][j], block j of lane i, is at index i * q + j. A slice is a quarter of the columns, and a segment is the part of a
--- lane that is in a slice (section 3.4).
+-- The memory as a matrix B of p lanes and q columns (RFC 9106, section 3.2, step 2). It is a list of blocks, lane by
+-- lane: B[i][j], block j of lane i, is at index i * q + j. A slice is a quarter of the columns, and a segment is the
+-- part of a lane that is in a slice (section 3.4).
 use Rattle.std.specs.Prelude.{◌<◌, ◌≤◌, ℕ, ◌+◌, ◌*◌, ◌/◌, ◌^◌, Bool, ◌&&◌, ◌==◌}
 use Rattle.luks_argon2.specs.declared.layout.Layout.{Layout}
 use Rattle.luks_argon2.specs.declared.layout.Segment.{Segment}

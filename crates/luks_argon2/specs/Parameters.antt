@@ -1,5 +1,5 @@
--- The ranges of the parameters (RFC 9106, section 3.1), and how many blocks they make (section 3.2, step 2). Upper bounds
--- of 2 ^ 32 - 1 are those of the numbers' type.
+-- The ranges of the parameters (RFC 9106, section 3.1), and how many blocks they make (section 3.2, step 2). Upper
+-- bounds of 2 ^ 32 - 1 are those of the numbers' type.
 use Rattle.std.specs.Prelude.{ℕ, ◌*◌, ◌/◌, ◌^◌, ◌==◌, ◌||◌, Option, Some, None, if◌then◌else◌, nat_le, nat_lt}
 use Rattle.luks_argon2.specs.declared.parameters.ParameterFault.{ParameterFault}
 use Rattle.luks_argon2.specs.declared.parameters.ParameterFault.TheVariants.{Passes, Lanes, Memory}

@@ -1,4 +1,5 @@
--- P, the permutation of 16 words (RFC 9106, section 3.6): a round of BLAKE2b without its message, with another addition.
+-- P, the permutation of 16 words (RFC 9106, section 3.6): a round of BLAKE2b without its message, with another
+-- addition.
 use Rattle.std.specs.Prelude.{ℕ, ◌+◌, ◌*◌, ◌%◌, ◌^◌, List, [], ◌∷◌, bit_xor, slice_index}
 use Rattle.std.specs.Int.{rotate_right, w64}
 

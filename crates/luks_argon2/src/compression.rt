@@ -124,8 +124,9 @@ pub(crate) fn compress_into(
     requires at { at < length memory.old }
     requires previous { previous < length memory.old }
     requires reference { reference < length memory.old }
-    ensures { memory.new ≡ slice_set memory.old at (new_block again (slice_index_or memory.old at [])
-        (slice_index_or memory.old previous []) (slice_index_or memory.old reference [])) }
+    ensures { memory.new ≡ slice_set memory.old at (new_block again
+        (slice_index_or memory.old at []) (slice_index_or memory.old previous [])
+        (slice_index_or memory.old reference [])) }
 {
     combine(
         &memory[previous],

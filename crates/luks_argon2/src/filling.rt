@@ -39,7 +39,14 @@ fn fill_segment(variant: Variant, layout: Layout, segment: Segment, memory: &mut
         let reference = reference_index(layout, segment, i, word);
         let column = segment.slice * layout.segment_len + i;
         let at = segment.lane * (4 * layout.segment_len) + column;
-        compress_into(memory, at, previous, reference, segment.pass != 0, &mut scratch);
+        compress_into(
+            memory,
+            at,
+            previous,
+            reference,
+            segment.pass != 0,
+            &mut scratch,
+        );
     }
 }
 

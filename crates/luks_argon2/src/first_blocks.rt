@@ -1,5 +1,5 @@
-//! H_0, and the first two blocks of each lane, which are made of it (RFC 9106, section 3.2, steps 1,
-//! 3 and 4).
+//! H_0, and the first two blocks of each lane, which are made of it (RFC 9106, section 3.2, steps
+//! 1, 3 and 4).
 
 ghost use Rattle.std.specs.Prelude.{◌≡◌, ℕ, ◌+◌, ◌*◌, ◌++◌, ◌^◌, ◌≤◌, ◌<◌, List, length};
 ghost use Rattle.luks_argon2.specs.Argon2.{block_of_bytes, first_block, first_digest};
@@ -101,12 +101,7 @@ fn first_block(h0: &[u8; 64], column: u32, lane: u32) -> Block
 }
 
 /// Writes the first two blocks of each lane (steps 3 and 4).
-pub(crate) fn write_first_blocks(
-    h0: &[u8; 64],
-    lanes: u32,
-    lane_len: usize,
-    memory: &mut [Block],
-)
+pub(crate) fn write_first_blocks(h0: &[u8; 64], lanes: u32, lane_len: usize, memory: &mut [Block])
     requires lane_len { 2 ≤ lane_len }
     requires size { length memory.old ≡ lanes * lane_len }
     ensures { memory.new ≡ with_first_blocks h0.now lane_len memory.old lanes }

@@ -1,8 +1,9 @@
-//! P, the permutation of 16 words (RFC 9106, section 3.6), with four words in the lanes of a vector.
+//! P, the permutation of 16 words (RFC 9106, section 3.6), four of them in the lanes of a vector.
 
 ghost use Rattle.std.specs.Prelude.{◌≡◌, ℕ, ◌<◌, slice_index};
 ghost use Rattle.luks_argon2.specs.Permutation.{multiply_add, on_columns, permutation, xor_rotated};
-ghost use Rattle.luks_argon2.specs.Vectors.{AreHalves, diagonals_as_columns, columns_as_diagonals, vector_words};
+ghost use Rattle.luks_argon2.specs.Vectors.{AreHalves, columns_as_diagonals};
+ghost use Rattle.luks_argon2.specs.Vectors.{diagonals_as_columns, vector_words};
 
 use std::simd::prelude::*;
 

@@ -44,13 +44,7 @@ fn hash_block(block: &Block, tag: &mut [u8])
 }
 
 // Steps 3 to 8.
-fn derive_in(
-    variant: Variant,
-    layout: Layout,
-    h0: &[u8; 64],
-    memory: &mut [Block],
-    tag: &mut [u8],
-)
+fn derive_in(variant: Variant, layout: Layout, h0: &[u8; 64], memory: &mut [Block], tag: &mut [u8])
     requires layout { IsLayout layout }
     requires size { length memory.old ≡ block_count layout }
     requires some { 1 ≤ length tag.old }

@@ -11,7 +11,8 @@ use Rattle.luks_blake2b.specs.Words.{le64_at, le64_words_at}
 use Rattle.luks_blake2b.proofs.BlakeLemmas.{hash_after_next}
 
 -- an equation of bytes without the sum at 0
-at_start : (xs ys : List ℕ) (i j : ℕ) → slice_index xs (i + 0) ≡ slice_index ys (j + 0) → slice_index xs i ≡ slice_index ys j
+at_start : (xs ys : List ℕ) (i j : ℕ) → slice_index xs (i + 0) ≡ slice_index ys (j + 0)
+    → slice_index xs i ≡ slice_index ys j
 at_start xs ys i j same =
     let left : i ≡ i + 0 = omega arith in
     let right : j + 0 ≡ j = omega arith in
@@ -122,5 +123,6 @@ pub length_of_rest : (m : List ℕ) → length m < 2 ^ 64
 length_of_rest m small = omega (arith, length-drop (128 * blocks_before_last m) m)
 
 -- bytes copied into a block of zeros
-pub padded : (rest : List ℕ) → length rest ≤ 128 → rest ++ drop (length rest) (replicate 128 0) ≡ padded_block rest
-padded rest fits = ap (λ (l : List ℕ). rest ++ l) (drop-replicate (length rest) 128 0)
+pub block_padded : (rest : List ℕ) → length rest ≤ 128
+    → rest ++ drop (length rest) (replicate 128 0) ≡ padded_block rest
+block_padded rest fits = ap (λ (l : List ℕ). rest ++ l) (drop-replicate (length rest) 128 0)

@@ -16,7 +16,8 @@ le64_at b i = from_le_bytes w64
 unfoldable pub le64_words_at : List ℕ → ℕ → List ℕ
 le64_words_at b i =
     le64_at b i ∷ le64_at b (i + 8) ∷ le64_at b (i + 16) ∷ le64_at b (i + 24) ∷ le64_at b (i + 32)
-    ∷ le64_at b (i + 40) ∷ le64_at b (i + 48) ∷ le64_at b (i + 56) ∷ le64_at b (i + 64) ∷ le64_at b (i + 72) ∷ le64_at b (i + 80)
+    ∷ le64_at b (i + 40) ∷ le64_at b (i + 48) ∷ le64_at b (i + 56)
+    ∷ le64_at b (i + 64) ∷ le64_at b (i + 72) ∷ le64_at b (i + 80)
     ∷ le64_at b (i + 88) ∷ le64_at b (i + 96) ∷ le64_at b (i + 104) ∷ le64_at b (i + 112) ∷ le64_at b (i + 120) ∷ []
 
 -- LE64 of each word, one after the other

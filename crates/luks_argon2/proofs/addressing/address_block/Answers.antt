@@ -1,4 +1,4 @@
-use Rattle.std.proofs.Common.{◌≡◌, ◌∙◌, ap, refl}
+use Rattle.std.proofs.Common.{refl}
 use Rattle.luks_argon2.specs.Addressing.{address_block}
 use Rattle.luks_argon2.specs.Block.{zero_block}
 use Rattle.luks_argon2.proofs.addressing.address_block.Goals as goal

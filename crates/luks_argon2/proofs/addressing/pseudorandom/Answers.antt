@@ -1,4 +1,4 @@
-use Rattle.std.proofs.Common.{◌≡◌, ◌∙◌, ◌/◌, ◌%◌, List, ℕ, ap, sym, slice_index}
+use Rattle.std.proofs.Common.{◌∙◌, ◌/◌, ◌%◌, List, ℕ, ap, sym, slice_index}
 use Rattle.std.proofs.lemmas.Bool.{cond-false, cond-true}
 use Rattle.luks_argon2.specs.Block.{block_row}
 use Rattle.luks_argon2.specs.Addressing.{is_data_independent, pseudorandom}

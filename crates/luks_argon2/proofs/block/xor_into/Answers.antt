@@ -1,4 +1,4 @@
-use Rattle.std.proofs.Common.{◌≡◌, ◌∙◌, List, [], ℕ, arith, ap, refl, sym}
+use Rattle.std.proofs.Common.{◌∙◌, List, [], ℕ, arith, ap, refl}
 use Rattle.std.proofs.lemmas.List.{get_or-set_other}
 use Rattle.luks_argon2.specs.Block.{block_row, xor_rows}
 use Rattle.luks_argon2.proofs.BlockLemmas.{all_rows, no_rows, one_more_row}

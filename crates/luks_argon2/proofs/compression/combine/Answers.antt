@@ -16,10 +16,12 @@ rows-preserved c =
     let again = c.args.again in
     let r = xor_blocks previous reference in
     let is : c.xor_rows-row.result ≡ block_row r i =
-    c.xor_rows-row.ensures ∙ sym (row_of (λ k. xor_rows (block_row previous k) (block_row reference k)) i (omega arith)) in (
+    c.xor_rows-row.ensures
+    ∙ sym (row_of (λ k. xor_rows (block_row previous k) (block_row reference k)) i (omega arith)) in (
       one_more_row c.rows.xored (λ k. xor_rows (block_row previous k) (block_row reference k)) i _ (omega arith)
           c.xor_rows-row.ensures c.rows.invariant.0,
-      one_more_row c.rows.kept (λ k. if again then xor_rows (block_row r k) (block_row old k) else block_row r k) i _ (omega arith)
+      one_more_row c.rows.kept (λ k. if again then xor_rows (block_row r k) (block_row old k) else block_row r k) i _
+          (omega arith)
           (c.kept_row.ensures ∙ ap (λ (x : List ℕ). if again then xor_rows x (block_row old i) else x) is)
           c.rows.invariant.1,
     )

@@ -1,4 +1,4 @@
-use Rattle.std.proofs.Common.{◌≡◌, ◌∙◌, arith, ap, sym}
+use Rattle.std.proofs.Common.{◌∙◌, arith, ap, sym}
 use Rattle.luks_argon2.specs.Compression.{column}
 use Rattle.luks_argon2.specs.Block.{block_row, xor_rows}
 use Rattle.luks_argon2.proofs.BlockLemmas.{all_rows, no_rows, one_more_row, row_of}

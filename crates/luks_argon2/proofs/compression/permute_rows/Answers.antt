@@ -1,4 +1,4 @@
-use Rattle.std.proofs.Common.{◌≡◌, ◌∙◌, List, [], ℕ, ap, arith, refl}
+use Rattle.std.proofs.Common.{◌∙◌, [], ap, arith, refl}
 use Rattle.std.proofs.lemmas.List.{get_or-set_other}
 use Rattle.luks_argon2.specs.Block.{block_row}
 use Rattle.luks_argon2.specs.Permutation.{permutation}

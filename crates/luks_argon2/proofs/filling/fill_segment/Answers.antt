@@ -1,6 +1,6 @@
-use Rattle.std.proofs.Common.{◌≡◌, ◌∙◌, ◌+◌, ◌/◌, ◌%◌, ap, arith, refl, sym, length}
+use Rattle.std.proofs.Common.{◌≡◌, ◌∙◌, ◌+◌, ◌/◌, arith, refl, sym}
 use Rattle.luks_argon2.specs.Fill.{block_filled}
-use Rattle.luks_argon2.proofs.FillLemmas.{block_inside, first_filled_small, segment_next, segment_start}
+use Rattle.luks_argon2.proofs.FillLemmas.{first_filled_small, segment_next, segment_start}
 use Rattle.luks_argon2.proofs.filling.fill_segment.Goals as goal
 
 pub columns-init : goal.columns-init
@@ -25,7 +25,11 @@ columns-preserved c =
     let i = c.columns.i in
     let first = c.first_filled-i.ensures in
     let filled : c.compress_into.new.memory ≡ block_filled v s p c.columns.memory i =
-    c.compress_into.ensures ∙ rw (c.reference_index-reference.ensures.value, c.pseudorandom-word.ensures.value, c.previous_index-previous.ensures.value) refl in (
+    c.compress_into.ensures ∙ rw (
+      c.reference_index-reference.ensures.value,
+      c.pseudorandom-word.ensures.value,
+      c.previous_index-previous.ensures.value,
+    ) refl in (
       filled ∙ rw c.columns.invariant.0 (sym (segment_next v s p c.args.memory.now i (omega arith))),
       λ independent some.
           let counter : (i + 1) / 128 ≡ i / 128 = omega arith in

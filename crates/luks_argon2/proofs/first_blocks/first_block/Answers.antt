@@ -5,4 +5,6 @@ use Rattle.luks_argon2.proofs.first_blocks.first_block.Goals as goal
 
 pub returns : goal.returns
 unfolding first_block
-returns c = c.block_of_bytes.ensures ∙ ap block_of_bytes (c.variable_length_hash.ensures ∙ ap (variable_length_hash 1024) c.block_input.ensures)
+returns c =
+    c.block_of_bytes.ensures
+    ∙ ap block_of_bytes (c.variable_length_hash.ensures ∙ ap (variable_length_hash 1024) c.block_input.ensures)

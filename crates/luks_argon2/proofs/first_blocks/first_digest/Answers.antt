@@ -1,6 +1,5 @@
-use Rattle.std.proofs.Common.{◌≡◌, ◌∙◌, ◌+◌, ◌^◌, [], ap, arith, refl}
+use Rattle.std.proofs.Common.{◌+◌, ◌^◌, [], arith}
 use Rattle.luks_argon2.specs.Argon2.{first_digest}
-use Rattle.luks_blake2b.specs.Blake2b.{blake2b}
 use Rattle.luks_argon2.proofs.DigestLemmas.{HasAbsorbed, absorbs_field, absorbs_number, digest_of_absorbed}
 use Rattle.luks_argon2.proofs.first_blocks.first_digest.Goals as goal
 

@@ -1,4 +1,4 @@
-use Rattle.std.proofs.Common.{◌≡◌, ◌∙◌, ap, arith, refl, sym}
+use Rattle.std.proofs.Common.{◌≡◌, arith, refl, sym}
 use Rattle.luks_argon2.specs.Argon2.{with_first_blocks}
 use Rattle.luks_argon2.proofs.TagLemmas.{first_blocks_next}
 use Rattle.luks_argon2.proofs.first_blocks.write_first_blocks.Goals as goal

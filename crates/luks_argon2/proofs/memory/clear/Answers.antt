@@ -1,4 +1,4 @@
-use Rattle.std.proofs.Common.{◌≡◌, ◌∙◌, ◌∷◌, ◌++◌, [], List, ℕ, ap, arith, length, refl, replicate, rules, sym, take}
+use Rattle.std.proofs.Common.{◌≡◌, ◌∙◌, ◌∷◌, ◌++◌, [], List, ℕ, ap, arith, length, rules, sym}
 use Rattle.std.proofs.lemmas.List.{length-set, replicate-append-replicate, take_all, take_more_set}
 use Rattle.luks_argon2.specs.Block.{zero_block}
 use Rattle.luks_argon2.proofs.memory.clear.Goals as goal

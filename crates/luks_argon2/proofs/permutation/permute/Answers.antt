@@ -10,4 +10,5 @@ returns c =
     let first = c.columns-v.ensures ∙ ap on_columns c.load.ensures in
     let between = c.diagonals_as_columns.ensures ∙ ap diagonals_as_columns first in
     let second = c.columns.ensures ∙ ap on_columns between in
-    c.store.ensures ∙ (c.columns_as_diagonals.ensures ∙ (ap columns_as_diagonals second ∙ diagonals_are (on_columns c.args.row)))
+    c.store.ensures
+    ∙ (c.columns_as_diagonals.ensures ∙ (ap columns_as_diagonals second ∙ diagonals_are (on_columns c.args.row)))

@@ -1,4 +1,4 @@
-use Rattle.std.proofs.Common.{◌≡◌, ◌∙◌, ◌*◌, ap, arith, length, length-drop, length-take, refl, sym, rules}
+use Rattle.std.proofs.Common.{◌≡◌, ◌∙◌, ap, arith, length, length-drop, length-take, sym, rules}
 use Rattle.std.proofs.lemmas.List.{take_all}
 use Rattle.std.proofs.lemmas.Slice.{overwrites}
 use Rattle.luks_argon2.specs.Argon2.{rows_bytes}
@@ -21,4 +21,5 @@ pub returns : goal.returns
 returns c =
     let done : c.rows.i ≡ 8 = omega arith in
     let all = rw done at c.rows.invariant.1 in
-    c.variable_length_hash.ensures ∙ ap (variable_length_hash (length c.args.tag.now)) (sym (take_all 1024 c.rows.bytes (omega arith)) ∙ all)
+    c.variable_length_hash.ensures ∙ ap (variable_length_hash (length c.args.tag.now))
+    (sym (take_all 1024 c.rows.bytes (omega arith)) ∙ all)

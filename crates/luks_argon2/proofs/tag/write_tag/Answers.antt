@@ -1,4 +1,4 @@
-use Rattle.std.proofs.Common.{◌≡◌, ◌∙◌, refl}
+use Rattle.std.proofs.Common.{◌∙◌, refl}
 use Rattle.luks_argon2.specs.Argon2.{argon2}
 use Rattle.luks_argon2.proofs.tag.write_tag.Goals as goal
 

@@ -8,5 +8,6 @@ use Rattle.luks_argon2.proofs.wiping.byte_over_zeros.Goals as goal
 pub returns : goal.returns
 returns c =
     let zero : slice_index c.args.zeros.now (c.args.byte % c.args.len) ≡ 0 =
-    rw c.requires.wiped (get_or-replicate c.args.len (c.args.byte % c.args.len) 0 0 (mod-lt c.args.byte c.requires.some)) in
+    rw c.requires.wiped
+    (get_or-replicate c.args.len (c.args.byte % c.args.len) 0 0 (mod-lt c.args.byte c.requires.some)) in
     rw zero (or_zero_r c.args.byte)

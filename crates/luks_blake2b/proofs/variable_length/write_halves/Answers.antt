@@ -10,7 +10,8 @@ unfolding v_at halves
 halves-init c = (
   search rules,
   refl,
-  take_prefix 32 c.copy_from_slice.new.self _ (omega (arith, c.copy_from_slice.ensures.len, length-take 32 c.args.out.now))
+  take_prefix 32 c.copy_from_slice.new.self _
+      (omega (arith, c.copy_from_slice.ensures.len, length-take 32 c.args.out.now))
       ∙ c.copy_from_slice.ensures.after,
 )
 
@@ -39,7 +40,8 @@ returns c =
     let done : c.halves.i ≡ r = omega (arith, c.halves.auto.i-end (omega arith)) in
     let all : length c.halves.out ≡ n = omega arith in
     let inv = rw done at c.halves.invariant in
-    let size : length (take (length c.halves.out - 32 * (c.div_ceil-count.result - 2)) (drop (32 * (c.div_ceil-count.result - 2)) c.halves.out)) ≡ n - 32 * r =
+    let at = 32 * (c.div_ceil-count.result - 2) in
+    let size : length (take (length c.halves.out - at) (drop at c.halves.out)) ≡ n - 32 * r =
     rw (count, all) (simp (length-take, length-drop) (omega arith)) in
     let last : c.blake2b.new.out ≡ blake2b (n - 32 * r) (v_at m (r - 1)) =
     c.blake2b.ensures ∙ rw (size, inv.1) refl in

@@ -6,4 +6,5 @@ use Rattle.luks_blake2b.proofs.hashing.Hasher.finish.Goals as goal
 pub returns : goal.returns
 unfolding blake2b
 returns c = λ m is small.
-    c.copy_from_slice.ensures.after ∙ rw (c.store_words.ensures, c.last_hash-hash.ensures, is, length_of_rest m small) refl
+    c.copy_from_slice.ensures.after
+    ∙ rw (c.store_words.ensures, c.last_hash-hash.ensures, is, length_of_rest m small) refl

@@ -12,10 +12,12 @@ bytes-preserved c = λ n m is small.
     let i = c.bytes.i in
     c.push.ensures n (m ++ take i bytes) (c.bytes.invariant n m is small)
     (omega (arith, length-append m (take i bytes), length-take i bytes))
-    ∙ ap (hasher_after n) (append_assoc m (take i bytes) _ ∙ ap (λ (l : List ℕ). m ++ l) (sym (take_more bytes i 0 (omega arith))))
+    ∙ ap (hasher_after n) (append_assoc m (take i bytes) _
+    ∙ ap (λ (l : List ℕ). m ++ l) (sym (take_more bytes i 0 (omega arith))))
 
 pub returns : goal.returns
 returns c = λ n m is small.
     let bytes = c.args.bytes.now in
     let done : c.bytes.i ≡ length bytes = omega arith in
-    rw done at c.bytes.invariant n m is small ∙ ap (λ (l : List ℕ). hasher_after n (m ++ l)) (take_all (length bytes) bytes (omega arith))
+    rw done at c.bytes.invariant n m is small
+    ∙ ap (λ (l : List ℕ). hasher_after n (m ++ l)) (take_all (length bytes) bytes (omega arith))
