@@ -14,7 +14,7 @@ use crate::block::Block;
 
 /// The bytes of stack that are written over after a derivation: more than it uses. No clause speaks
 /// of the stack.
-const STACK: usize = 24_576;
+const STACK: usize = 32_768;
 
 // The byte, read together with one of the zeros.
 #[inline(never)]
