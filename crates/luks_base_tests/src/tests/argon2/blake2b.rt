@@ -63,18 +63,24 @@ static SHORT_DIGESTS: [(usize, &str); 4] = [
     ),
 ];
 
+fn check_length(rt: &(impl Abort + AllocGlobal), message: &[u8], len: usize, want: &str) {
+    assert!(rt; 0 < len && len <= 64);
+    let mut out = [0xEE; 64];
+    let out = &mut out[..len];
+    blake2b(message, out);
+    assert_bytes(rt, out, want);
+}
+
 #[test]
 fn digest_lengths(rt: HostRuntime) {
     let message = numbered(&rt, 1, 129);
-    let mut out = [0xEE; 64];
     for (len, want) in &SHORT_DIGESTS {
-        let out = &mut out[..*len];
-        blake2b(&message, out);
-        assert_bytes(&rt, out, want);
+        check_length(&rt, &message, *len, want);
     }
 }
 
 fn check_pieces(rt: &(impl Abort + AllocGlobal), message: &[u8], cut: usize, want: &[u8]) {
+    assert!(rt; cut <= message.len());
     let mut hasher = Hasher::new(64);
     hasher.update(&message[..cut]);
     hasher.update(&[]);
@@ -118,13 +124,18 @@ static VARIABLE_LENGTHS: [(usize, &str); 6] = [
     ),
 ];
 
+fn check_variable(rt: &(impl Abort + AllocGlobal), input: &[u8], len: usize, want: &str) {
+    assert!(rt; 0 < len && len <= 128);
+    let mut out = [0xEE; 128];
+    let out = &mut out[..len];
+    variable_length_hash(input, out);
+    assert_bytes(rt, out, want);
+}
+
 #[test]
 fn variable_lengths(rt: HostRuntime) {
     let input = numbered(&rt, 1, 72);
-    let mut out = [0xEE; 128];
     for (len, want) in &VARIABLE_LENGTHS {
-        let out = &mut out[..*len];
-        variable_length_hash(&input, out);
-        assert_bytes(&rt, out, want);
+        check_variable(&rt, &input, *len, want);
     }
 }

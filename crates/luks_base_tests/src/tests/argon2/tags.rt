@@ -1,3 +1,6 @@
+ghost use Rattle.std.specs.Prelude.{◌≡◌, ◌<◌, ◌^◌, length};
+ghost use Rattle.luks_argon2.specs.Parameters.{memory_blocks};
+
 use super::parameters::parameters;
 use super::{assert_bytes, numbered};
 use luks_argon2::{Memory, Parameters, Variant, derive};
@@ -101,10 +104,12 @@ fn check_tag(
     (password, salt): (&[u8], &[u8]),
     want: &str,
 ) {
+    let len = want.len() / 2;
+    assert!(rt; 0 < len && len <= 512 && password.len() < 1 << 32 && salt.len() < 1 << 32);
     let parameters = parameters(rt, numbers);
     let mut memory = Memory::new(rt.alloc(), parameters).expect(rt, "memory");
     let mut tag = [0xEE; 512];
-    let tag = &mut tag[..want.len() / 2];
+    let tag = &mut tag[..len];
     derive(variant, parameters, &mut memory, password, salt, tag);
     assert_bytes(rt, tag, want);
 }
@@ -181,7 +186,9 @@ fn lengths_of_passwords_and_salts(rt: HostRuntime) {
 
 // The tag of a password in this memory.
 fn tag_in(memory: &mut Memory, parameters: Parameters, password: &[u8]) -> [u8; 32]
-    requires { length memory.old ≡ memory_blocks parameters.memory_kib parameters.lanes }
+    requires memory { length memory.old
+        ≡ memory_blocks parameters.memory_kib parameters.lanes }
+    requires password { length password.now < 2 ^ 32 }
     ensures { length memory.new ≡ length memory.old }
 {
     let mut tag = [0; 32];
