@@ -1,5 +1,6 @@
 //! Tests, by the crate that they test.
 
+mod argon2;
 mod cipher;
 mod host;
 mod io;

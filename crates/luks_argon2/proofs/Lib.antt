@@ -1,0 +1,6 @@
+pub mod BlockLemmas
+pub mod DigestLemmas
+pub mod FillLemmas
+pub mod TagLemmas
+pub mod VectorLemmas
+pub mod WordLemmas

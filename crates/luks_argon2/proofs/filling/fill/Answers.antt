@@ -1,0 +1,19 @@
+use Rattle.std.proofs.Common.{◌≡◌, ◌∙◌, arith, refl, sym}
+use Rattle.luks_argon2.specs.Fill.{passes_filled}
+use Rattle.luks_argon2.proofs.FillLemmas.{passes_next}
+use Rattle.luks_argon2.proofs.filling.fill.Goals as goal
+
+pub passes-init : goal.passes-init
+unfolding passes_filled
+passes-init c = refl
+
+pub passes-preserved : goal.passes-preserved
+passes-preserved c =
+    c.fill_pass.ensures
+    ∙ rw c.passes.invariant
+    (sym (passes_next c.args.variant c.args.layout c.args.memory.now c.passes.pass))
+
+pub returns : goal.returns
+returns c =
+    let done : c.passes.pass ≡ c.args.layout.passes = omega arith in
+    rw done at c.passes.invariant

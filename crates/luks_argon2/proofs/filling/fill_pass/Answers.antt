@@ -1,0 +1,19 @@
+use Rattle.std.proofs.Common.{◌≡◌, ◌∙◌, arith, refl, sym}
+use Rattle.luks_argon2.specs.Fill.{slices_filled}
+use Rattle.luks_argon2.proofs.FillLemmas.{slices_next}
+use Rattle.luks_argon2.proofs.filling.fill_pass.Goals as goal
+
+pub slices-init : goal.slices-init
+unfolding slices_filled
+slices-init c = refl
+
+pub slices-preserved : goal.slices-preserved
+slices-preserved c =
+    c.fill_slice.ensures
+    ∙ rw c.slices.invariant
+    (sym (slices_next c.args.variant c.args.layout c.args.pass c.args.memory.now c.slices.slice))
+
+pub returns : goal.returns
+returns c =
+    let done : c.slices.slice ≡ 4 = omega arith in
+    rw done at c.slices.invariant

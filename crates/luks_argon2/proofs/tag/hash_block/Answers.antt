@@ -1,0 +1,25 @@
+use Rattle.std.proofs.Common.{◌≡◌, ◌∙◌, ap, arith, length, length-drop, length-take, sym, rules}
+use Rattle.std.proofs.lemmas.List.{take_all}
+use Rattle.std.proofs.lemmas.Slice.{overwrites}
+use Rattle.luks_argon2.specs.Argon2.{rows_bytes}
+use Rattle.luks_blake2b.specs.VariableLength.{variable_length_hash}
+use Rattle.luks_argon2.proofs.TagLemmas.{rows_bytes_more}
+use Rattle.luks_argon2.proofs.tag.hash_block.Goals as goal
+
+pub rows-init : goal.rows-init
+unfolding rows_bytes
+rows-init c = search rules
+
+pub rows-preserved : goal.rows-preserved
+rows-preserved c = (
+  search (rules, overwrites),
+  rows_bytes_more c.rows.bytes _ c.args.block.now c.rows.i _ c.rows.invariant.1 (omega arith) c.store_words.ensures
+      (c.store_words.auto.bytes ∙ simp (length-take, length-drop) (omega arith)),
+)
+
+pub returns : goal.returns
+returns c =
+    let done : c.rows.i ≡ 8 = omega arith in
+    let all = rw done at c.rows.invariant.1 in
+    c.variable_length_hash.ensures ∙ ap (variable_length_hash (length c.args.tag.now))
+    (sym (take_all 1024 c.rows.bytes (omega arith)) ∙ all)

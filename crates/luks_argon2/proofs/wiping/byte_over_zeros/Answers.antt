@@ -1,0 +1,13 @@
+use Rattle.std.proofs.Common.{◌≡◌, ◌%◌, slice_index}
+use Rattle.std.proofs.Math.Nat.{mod-lt}
+use Rattle.std.proofs.lemmas.List.{get_or-replicate}
+use Rattle.std.specs.Int.Bits.{or_zero_r}
+use Rattle.luks_argon2.proofs.wiping.byte_over_zeros.Goals as goal
+
+-- each of the zeros is 0
+pub returns : goal.returns
+returns c =
+    let zero : slice_index c.args.zeros.now (c.args.byte % c.args.len) ≡ 0 =
+    rw c.requires.wiped
+    (get_or-replicate c.args.len (c.args.byte % c.args.len) 0 0 (mod-lt c.args.byte c.requires.some)) in
+    rw zero (or_zero_r c.args.byte)

@@ -1,0 +1,10 @@
+pub mod Addressing
+pub mod Argon2
+pub mod Block
+pub mod Compression
+pub mod Fill
+pub mod Layout
+pub mod Parameters
+pub mod Permutation
+pub mod Reference
+pub mod Vectors

@@ -1,0 +1,4 @@
+pub mod BlakeLemmas
+pub mod HashingLemmas
+pub mod VariableLengthLemmas
+pub mod WordLemmas

@@ -1,0 +1,23 @@
+use Rattle.std.proofs.Common.{◌≡◌, ◌%◌, ◌/◌, ◌^◌, ◌∙◌, ap, arith, refl, sym}
+use Rattle.luks_blake2b.specs.Blake2b.{compress, folded, rounds}
+use Rattle.luks_blake2b.proofs.BlakeLemmas.{rounds_next, sigma_below}
+use Rattle.luks_blake2b.proofs.compression.compress.Goals as goal
+
+pub rounds-init : goal.rounds-init
+unfolding rounds
+rounds-init c =
+    let low : c.args.count % 2 ^ 64 ≡ c.args.count = omega arith in
+    let high : c.args.count / 2 ^ 64 ≡ 0 = omega arith in
+    rw (low, high, c.final_flag-flag.ensures) refl
+
+pub round-requires : goal.round-requires
+round-requires c = sigma_below _ (omega arith)
+
+pub rounds-preserved : goal.rounds-preserved
+rounds-preserved c = c.round.ensures ∙ rw c.rounds.invariant (sym (rounds_next _ _ c.rounds.r))
+
+pub returns : goal.returns
+unfolding compress
+returns c =
+    let done : c.rounds.r ≡ 12 = omega arith in
+    ap (folded c.args.h.now) (rw done at c.rounds.invariant)
