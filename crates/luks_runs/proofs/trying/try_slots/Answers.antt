@@ -2,7 +2,7 @@ use Rattle.luks_io.proofs.ErrorLemmas.{given_error}
 use Rattle.std.proofs.Common.{◌∙◌, Err, Ok, Some, ap, refl, sym}
 use Rattle.std.specs.Prelude.{not}
 use Rattle.luks_header.proofs.KnownLemmas.{short_from_not_whole}
-use Rattle.luks_key_slots.specs.declared.fault.VolumeFault.TheVariants.{KeyAreaCut, Slots}
+use Rattle.luks_key_slots.specs.declared.fault.VolumeFault.TheVariants.{Header, KeyAreaCut, Slots}
 use Rattle.luks_runs.proofs.VolumeLemmas.{counts_tried, counts_untried, found_start, load_faults, loaded}
 use Rattle.luks_runs.proofs.VolumeLemmas.{opens_aborted, opens_cut, opens_tried}
 use Rattle.luks_runs.specs.Volume.{opened_of}
@@ -15,13 +15,15 @@ returns-in_err-extend_to-clause-run g c =
     let call = c.in_err-extend_to.ensures in
     let few = rw c.key_material_end-end.ensures.value at call.loads.fewer in
     let start = call.start known (found_start location slots known c.args.pass.now c.args.volume.now _ found) in
-    let why = load_faults c.in_err-extend_to.field-0.0 call.loads.only in
+    let fault = c.in_err-extend_to.field-0.0 in
+    let why = load_faults fault call.loads.only in
     record {
-      opens = λ short. opens_aborted location slots known c.args.pass.now c.args.volume.now _ found _ _ start few short _
-          why.1;
+      opens = λ short. opens_aborted location slots known c.args.pass.now c.args.volume.now _ found _ _ start few short
+          (Err (Header fault)) why.1;
       loaded = λ short. tt;
       segment = tt;
-      counts = counts_untried location slots known c.args.pass.now c.args.volume.now _ found _ _ start few _ _ why.0;
+      counts = counts_untried location slots known c.args.pass.now c.args.volume.now _ found _ _ start few
+          (Err (Header fault)) _ why.0;
     })
 
 -- the image ends within them
