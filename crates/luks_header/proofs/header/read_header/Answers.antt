@@ -14,17 +14,17 @@ loop-end-preserved g c =
     let next = c.in-Some.ensures.some in
     let whole = c.in_ok-extend_to.field-0 in
     record {
-      within = more_within old new c.in-Some.end whole call.loads next.0 next.1 next.2 call.ended;
-      short = more_short old new c.in-Some.end whole call.loads next.0 next.1 next.2 call.ended;
+      within = more_within old new c.in-Some.end whole call.loads c.in-Some.ensures.live next.0 next.1 call.ended;
+      short = more_short old new c.in-Some.end whole call.loads c.in-Some.ensures.live next.0 next.1 call.ended;
       start = λ image knows. call.start image (c.loop-end.invariant.start image knows);
       emptied = λ hit image knows.
           let start = c.loop-end.invariant.start image knows in
-          let ended = more_ended old new c.in-Some.end whole call.loads next.0 next.1 next.2 call.ended in
+          let ended = more_ended old new c.in-Some.end whole call.loads c.in-Some.ensures.live next.0 next.1 call.ended in
           call.whole (sym ended ∙ hit) start.rest start.behind;
-      reads = rw (more_ended old new c.in-Some.end whole call.loads next.0 next.1 next.2 call.ended)
-          (reads_more _ _ _ _ _ (rw next.0 at c.loop-end.invariant.reads) call.reads);
+      reads = rw (more_ended old new c.in-Some.end whole call.loads c.in-Some.ensures.live next.0 next.1 call.ended)
+          (reads_more _ _ _ _ _ (rw c.in-Some.ensures.live at c.loop-end.invariant.reads) call.reads);
       first = λ live few.
-          absurd (more_first old new c.in-Some.end whole call.loads next.0 next.1 next.2 call.ended live few);
+          absurd (more_first old new c.in-Some.end whole call.loads c.in-Some.ensures.live next.0 next.1 call.ended live few);
     }
 
 -- a read failed, or memory ran out
@@ -32,20 +32,20 @@ pub returns-in_err-extend_to-clause-no_header : goal.returns-in_err-extend_to-cl
 returns-in_err-extend_to-clause-no_header g c =
     let call = c.in_err-extend_to.ensures in
     let next = c.in-Some.ensures.some in
-    let ends = rw next.0 at c.loop-end.invariant.reads.ends in
+    let ends = rw c.in-Some.ensures.live at c.loop-end.invariant.reads.ends in
     rw (given_error _ _ c.from_residual.ensures.1) (λ image knows.
     let start = c.loop-end.invariant.start image knows in
     loading_aborted image c.loop-end.area c.extend_to.new.self _ _ c.in-Some.end _ _ c.in_err-extend_to.field-0.0 start
-    (call.start image start) call.loads (λ memory. (call.memory (ap Err memory)).0) next.1 next.2
-    (λ few. (c.loop-end.invariant.first next.0 few).0) (call.reads.ends ∙ ends))
+    (call.start image start) call.loads (λ memory. (call.memory (ap Err memory)).0) next.0 next.1
+    (λ few. (c.loop-end.invariant.first c.in-Some.ensures.live few).0) (call.reads.ends ∙ ends))
 
 pub returns-in_err-extend_to-clause-memory : goal.returns-in_err-extend_to-clause-memory
 returns-in_err-extend_to-clause-memory g c image knows begins stops =
     let next = c.in-Some.ensures.some in
     let start = c.loop-end.invariant.start image knows in
-    let few = first_near image c.loop-end.area.bytes _ start begins (omega (arith, next.1, next.2)) in
+    let few = first_near image c.loop-end.area.bytes _ start begins (omega (arith, next.0, next.1)) in
     let same = c.in_err-extend_to.ensures.memory (let given = given_error _ _ c.from_residual.ensures.1 in cc) in
-    same.1 ∙ (c.loop-end.invariant.first next.0 few).1
+    same.1 ∙ (c.loop-end.invariant.first c.in-Some.ensures.live few).1
 
 -- all bytes that are read for the header are loaded
 pub returns-in_err-header-clause-no_header : goal.returns-in_err-header-clause-no_header
