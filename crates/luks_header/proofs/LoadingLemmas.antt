@@ -1,6 +1,6 @@
 -- The loaded start of an image, step by step, until it decides which header the image has.
-use Rattle.std.proofs.Common.{◌≡◌, ◌∙◌, ℕ, ◌+◌, ◌-◌, ◌<◌, ◌≤◌, inl, inr, List, [], ◌++◌, Option, Some, Bool, true, false}
-use Rattle.std.proofs.Common.{Result, Ok, Err, ap, arith, append_assoc, append-nil, drop, length, length-append, length-take-le, max, min}
+use Rattle.std.proofs.Common.{◌≡◌, ◌∙◌, ℕ, ◌<◌, ◌≤◌, inl, inr, List, [], ◌++◌, Option, Some, Bool, true, false}
+use Rattle.std.proofs.Common.{Result, Ok, Err, ap, arith, append-nil, drop, length, length-append, max}
 use Rattle.std.proofs.Common.{refl, subst, sym, take}
 use Rattle.std.specs.Prelude.{if◌then◌else◌, nat_lt, not, ok_or, option_map, IsTrue, ◌↔◌}
 use Rattle.std.proofs.lemmas.Bool.{le-ltb, lt-ltb, ltb-false, ltb-true}
@@ -140,15 +140,15 @@ loading_aborted image old new left left' end ends ends' fault start after loads 
     let near = needed_within old.bytes start.rest image start.is in
     elim loads.only [
       | inl read ↦
-        rw read ((length new.bytes, omega (arith, loads.fewer, is, more, near, all.within, probe_is image), all), same)
+          rw read ((length new.bytes, omega (arith, loads.fewer, is, more, near, all.within, probe_is image), all), same)
       | inr memory ↦
-        rw memory (inl (
-          (length new.bytes, omega (arith, loads.fewer, is, more, near), all),
-          same,
-          λ luks1.
-              let few = first_near image old.bytes left start luks1 (omega (arith, more, is)) in
-              subst (ConsumedExactly image left') (ap (λ area. length area.bytes) (kept memory) ∙ ap length (first few)) all,
-        ))
+          rw memory (inl (
+            (length new.bytes, omega (arith, loads.fewer, is, more, near), all),
+            same,
+            λ luks1.
+                let few = first_near image old.bytes left start luks1 (omega (arith, more, is)) in
+                subst (ConsumedExactly image left') (ap (λ area. length area.bytes) (kept memory) ∙ ap length (first few)) all,
+          ))
     ]
 
 -- further bytes were loaded, up to `end` or to EOF

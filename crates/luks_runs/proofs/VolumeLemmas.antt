@@ -1,6 +1,6 @@
 -- Finding the volume of an image, and the outcome of a command that opens it.
-use Rattle.std.proofs.Common.{◌≡◌, ◌∙◌, ℕ, ◌⊎◌, inl, inr, List, [], ◌∷◌, Option, Some, Ok, Err, true, false, ap, refl}
-use Rattle.std.proofs.Common.{Bool, min, sym, length, append-nil, arith, ◌+◌, ◌-◌, ◌<◌, ◌≤◌, ◌++◌, Result, take, drop}
+use Rattle.std.proofs.Common.{◌≡◌, ◌∙◌, ℕ, ◌⊎◌, inl, inr, List, [], Option, Some, Ok, Err, true, false, ap, refl}
+use Rattle.std.proofs.Common.{Bool, min, sym, length, arith, ◌+◌, ◌<◌, ◌≤◌, ◌++◌, Result, take, drop}
 use Rattle.std.proofs.Common.{length-append, length-take-le, max, subst}
 use Rattle.std.specs.Prelude.{is_err}
 use Rattle.std.proofs.lemmas.Bool.{cases_lt, le-ltb, lt-ltb}
