@@ -342,8 +342,8 @@ module _ (location : HeaderLocation) (slots : SlotChoice) (image pass : List ℕ
 
       -- the image was not read up to the end of the last key material
       module _ (few : length area' < areas_end) where
-        pub counts_untried : (result : Result UnlockedVolume VolumeFault) (work : ℕ) → has_fault is_untried result ≡ true
-            → CountsTrials image (described volume) pass result i work work
+        pub counts_untried : (result : Result UnlockedVolume VolumeFault) (work : ℕ)
+            → has_fault is_untried result ≡ true → CountsTrials image (described volume) pass result i work work
         counts_untried result work untried =
             inr ((length area', omega (arith, few), start_consumed image area' i start), untried, refl)
 
@@ -368,7 +368,8 @@ module _ (location : HeaderLocation) (slots : SlotChoice) (image pass : List ℕ
           (within : length area' ≤ max (length volume.area.bytes) areas_end) where
         len : length area' ≡ unlock_read_len image (described volume)
         len =
-            let prefix = ap length found.area ∙ length-take-le (header_read_len image) image (header_read_len_within image) in
+            let prefix = ap length found.area
+            ∙ length-take-le (header_read_len image) image (header_read_len_within image) in
             omega (arith, enough, ap length loads, length-take (length volume.area.bytes) area', within, prefix)
 
         long : areas_end ≤ length image

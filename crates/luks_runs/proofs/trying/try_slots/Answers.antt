@@ -71,8 +71,9 @@ returns-clause-run g c location slots known found =
     let start = call.start known (found_start location slots known c.args.pass.now c.args.volume.now _ found) in
     record {
       opens = λ short. opens_tried location slots known c.args.pass.now c.args.volume.now _ found _ _ start enough
-          call.loads.kept within short (Ok (opened_of c.new.result)) (rw (c.new.ensures.slot, c.new.ensures.key) (sym c.in_ok-opened.ensures.value))
-          (Ok c.new.result) (rw c.new.ensures.segment refl);
+          call.loads.kept within short (Ok (opened_of c.new.result))
+          (rw (c.new.ensures.slot, c.new.ensures.key) (sym c.in_ok-opened.ensures.value)) (Ok c.new.result)
+          (rw c.new.ensures.segment refl);
       loaded = loaded location slots known c.args.pass.now c.args.volume.now _ found _ _ start enough
           call.loads.kept within;
       segment = c.new.ensures.segment;
@@ -90,7 +91,8 @@ returns-in_err-opened-clause-run g c =
     let start = call.start known (found_start location slots known c.args.pass.now c.args.volume.now _ found) in
     record {
       opens = λ short. opens_tried location slots known c.args.pass.now c.args.volume.now _ found _ _ start enough
-          call.loads.kept within short (Err c.in_err-opened.field-0.0) (sym c.in_err-opened.ensures.value) (Err (Slots c.in_err-opened.field-0.0)) refl;
+          call.loads.kept within short (Err c.in_err-opened.field-0.0) (sym c.in_err-opened.ensures.value)
+          (Err (Slots c.in_err-opened.field-0.0)) refl;
       loaded = λ short. tt;
       segment = tt;
       counts = counts_tried location slots known c.args.pass.now c.args.volume.now _ found _ _ start enough
