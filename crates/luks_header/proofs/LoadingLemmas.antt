@@ -1,12 +1,12 @@
 -- The loaded start of an image, step by step, until it decides which header the image has.
-use Rattle.std.proofs.Common.{◌≡◌, ◌∙◌, ℕ, ◌+◌, ◌-◌, ◌<◌, ◌≤◌, inl, inr, List, [], ◌++◌, Option, Some, Bool, true, false}
-use Rattle.std.proofs.Common.{Result, Ok, Err, ap, arith, append_assoc, append-nil, drop, length, length-append, length-take-le, max, min}
+use Rattle.std.proofs.Common.{◌≡◌, ◌∙◌, ℕ, ◌<◌, ◌≤◌, inl, inr, List, [], ◌++◌, Option, Some, Bool, true, false}
+use Rattle.std.proofs.Common.{Result, Ok, Err, ap, arith, append-nil, drop, length, length-append, max}
 use Rattle.std.proofs.Common.{refl, subst, sym, take}
 use Rattle.std.specs.Prelude.{if◌then◌else◌, nat_lt, not, ok_or, option_map, IsTrue, ◌↔◌}
 use Rattle.std.proofs.lemmas.Bool.{le-ltb, lt-ltb, ltb-false, ltb-true}
 use Rattle.std.proofs.lemmas.List.{drop-append-le, drop_all, take-append-drop}
 use Rattle.luks_io.specs.Devices.{ConsumedExactly, counted}
-use Rattle.luks_header_area.specs.Area.{AbortsConsuming, ConsumedOnto, HeaderAreaModel, Loads}
+use Rattle.luks_header_area.specs.Area.{HeaderAreaModel, IsStart, Loads}
 use Rattle.luks_header_area.specs.declared.fault.HeaderFault.{HeaderFault}
 use Rattle.luks_header_area.specs.declared.fault.HeaderFault.TheVariants.{Json, Read, Memory, NotLuks, Cut}
 use Rattle.luks1_header.specs.Header1.{is_luks1}
@@ -113,67 +113,43 @@ first_probe image is = rw is refl
 
 -- ---- loading
 
--- the loaded bytes are the start of the image, and the rest remains in its source
-pub record IsStart (image : List ℕ) (area : HeaderAreaModel) (left : Option (List ℕ)) : Type 0 where
-  pub rest : List ℕ
-  pub behind : left ≡ Some rest
-  pub is : image ≡ area.bytes ++ rest
-  pub ends : area.ended ≡ true → rest ≡ []
-
--- further bytes were appended
-pub start_more : (image : List ℕ) (old new : HeaderAreaModel) (left left' : Option (List ℕ)) (count : ℕ)
-    → (start : IsStart image old left) → ConsumedOnto old.bytes new.bytes start.rest left' count
-    → (new.ended ≡ true → length start.rest ≤ count) → IsStart image new left'
-start_more image old new left left' count start consumption all = record {
-  rest = drop count start.rest;
-  behind = consumption.0.left;
-  is = start.is
-      ∙ ap (λ more. old.bytes ++ more) (sym (take-append-drop count start.rest))
-      ∙ sym (append_assoc old.bytes (take count start.rest) (drop count start.rest))
-      ∙ ap (λ bytes. bytes ++ drop count start.rest) (sym consumption.1);
-  ends = λ ended. drop_all count start.rest (all ended);
-}
-
 -- the loaded bytes were consumed
-pub start_consumed : (image : List ℕ) (area : HeaderAreaModel) (left : Option (List ℕ)) → IsStart image area left
-    → ConsumedExactly image left (length area.bytes)
-start_consumed image area left start = record {
-  within = omega (arith, ap length start.is, length-append area.bytes start.rest);
-  left = start.behind ∙ ap Some (sym (ap (drop (length area.bytes)) start.is
-      ∙ drop-append-le (length area.bytes) area.bytes start.rest (omega arith)
-      ∙ ap (λ none. none ++ start.rest) (drop_all (length area.bytes) area.bytes (omega arith))));
+pub start_consumed : (image loaded : List ℕ) (left : Option (List ℕ)) → IsStart image loaded left
+    → ConsumedExactly image left (length loaded)
+start_consumed image loaded left start = record {
+  within = omega (arith, ap length start.is, length-append loaded start.rest);
+  left = start.behind ∙ ap Some (sym (ap (drop (length loaded)) start.is
+      ∙ drop-append-le (length loaded) loaded start.rest (omega arith)
+      ∙ ap (λ none. none ++ start.rest) (drop_all (length loaded) loaded (omega arith))));
 }
 
 -- if more bytes of an image that starts as LUKS1 are to be loaded, its first 592 are not
-pub first_near : (image : List ℕ) (area : HeaderAreaModel) (left : Option (List ℕ)) → IsStart image area left
-    → is_luks1 image ≡ true → length area.bytes < needed area.bytes → length area.bytes < 592
-first_near image area left start begins more =
-    omega (arith, more, needed_within area.bytes start.rest image start.is, first_probe image begins)
+pub first_near : (image loaded : List ℕ) (left : Option (List ℕ)) → IsStart image loaded left
+    → is_luks1 image ≡ true → length loaded < needed loaded → length loaded < 592
+first_near image loaded left start begins more =
+    omega (arith, more, needed_within loaded start.rest image start.is, first_probe image begins)
 
 -- loading was aborted before `end`
 pub loading_aborted : (image : List ℕ) (old new : HeaderAreaModel) (left left' : Option (List ℕ)) (end ends ends' : ℕ)
-    (fault : HeaderFault) (start : IsStart image old left)
-    → AbortsConsuming (end - length old.bytes) old.bytes new.bytes start.rest left' fault → length new.bytes < end
-    → end ≡ needed old.bytes → length old.bytes < end → new.ended ≡ false
-    → (length old.bytes < 592 → old.bytes ≡ []) → ends' ≡ ends → ReadsNoHeader image left' ends ends' fault
-loading_aborted image old new left left' end ends ends' Read start (count, few, consumption) fewer is more unended first
-    same =
-    let after = start_more image old new left left' count start consumption (λ ended. absurd (cc)) in
-    let all = start_consumed image new left' after in
+    (fault : HeaderFault) → IsStart image old.bytes left → IsStart image new.bytes left'
+    → Loads end old.bytes new.bytes (Err fault) → (fault ≡ Memory → new ≡ old) → end ≡ needed old.bytes
+    → length old.bytes < end → (length old.bytes < 592 → old.bytes ≡ []) → ends' ≡ ends
+    → ReadsNoHeader image left' ends ends' fault
+loading_aborted image old new left left' end ends ends' fault start after loads kept is more first same =
+    let all = start_consumed image new.bytes left' after in
     let near = needed_within old.bytes start.rest image start.is in
-    ((length new.bytes, omega (arith, fewer, is, more, near, all.within, probe_is image), all), same)
-loading_aborted image old new left left' end ends ends' Memory start consumption fewer is more unended first same =
-    let after = start_more image old new left left' 0 start consumption (λ ended. absurd (cc)) in
-    let all = start_consumed image new left' after in
-    let near = needed_within old.bytes start.rest image start.is in
-    inl (
-      (length new.bytes, omega (arith, fewer, is, more, near), all),
-      same,
-      λ luks1.
-          let none = first (first_near image old left start luks1 (omega (arith, more, is))) in
-          subst (ConsumedExactly image left') (ap length (consumption.1 ∙ append-nil old.bytes ∙ none)) all,
-    )
-loading_aborted image old new left left' end ends ends' _ start h fewer is more unended first same = absurd h
+    elim loads.only [
+      | inl read ↦
+          rw read ((length new.bytes, omega (arith, loads.fewer, is, more, near, all.within, probe_is image), all), same)
+      | inr memory ↦
+          rw memory (inl (
+            (length new.bytes, omega (arith, loads.fewer, is, more, near), all),
+            same,
+            λ luks1.
+                let few = first_near image old.bytes left start luks1 (omega (arith, more, is)) in
+                subst (ConsumedExactly image left') (ap (λ area. length area.bytes) (kept memory) ∙ ap length (first few)) all,
+          ))
+    ]
 
 -- further bytes were loaded, up to `end` or to EOF
 module _ (old new : HeaderAreaModel) (end : ℕ) (whole : Bool) (loads : Loads end old.bytes new.bytes (Ok whole))
@@ -210,15 +186,6 @@ module _ (old new : HeaderAreaModel) (end : ℕ) (whole : Bool) (loads : Loads e
     by : (b : Bool) → not b ≡ false → (IsTrue b ↔ (end ≤ length new.bytes)) → ⊥
     by true _ iff = (let all = iff.0 refl in omega (arith, all, few, more, is, needed_first old.bytes (omega (arith, all, few, more))))
     by false wrong iff = absurd (cc)
-
-  pub more_all : (rest : List ℕ) (left' : Option (List ℕ))
-      → ConsumedOnto old.bytes new.bytes rest left' (min (end - length old.bytes) (length rest))
-      → new.ended ≡ true → length rest ≤ min (end - length old.bytes) (length rest)
-  more_all rest left' consumption hit =
-      let count = min (end - length old.bytes) (length rest) in
-      let long = ap length consumption.1 ∙ length-append old.bytes (take count rest)
-      ∙ ap (λ n. length old.bytes + n) (length-take-le count rest consumption.0.within) in
-      omega (arith, long, more_fewer hit)
 
 -- ---- all bytes that are read for the header are loaded
 
@@ -257,12 +224,15 @@ module _ (area : HeaderAreaModel) (within : length area.bytes ≤ probe_len area
   pub all_itself : IsAll area.bytes area
   all_itself = subst (λ image. IsAll image area) (append-nil area.bytes) (all_of [] (λ _. refl))
 
-  module _ (image : List ℕ) (left : Option (List ℕ)) (start : IsStart image area left) where
+  module _ (image : List ℕ) (left : Option (List ℕ)) (start : IsStart image area.bytes left)
+      (emptied : area.ended ≡ true → left ≡ Some []) where
     all_image : IsAll image area
-    all_image = subst (λ image. IsAll image area) (sym start.is) (all_of start.rest start.ends)
+    all_image = subst (λ image. IsAll image area) (sym start.is) (all_of start.rest ends) where
+      ends : area.ended ≡ true → start.rest ≡ []
+      ends ended = (let same : Some start.rest ≡ Some [] = sym start.behind ∙ emptied ended in cc)
 
     consumed_all : ConsumedExactly image left (header_read_len image)
-    consumed_all = subst (ConsumedExactly image left) (sym all_image.read_len) (start_consumed image area left start)
+    consumed_all = subst (ConsumedExactly image left) (sym all_image.read_len) (start_consumed image area.bytes left start)
 
     -- a header was read
     pub header_read : (header : Header) → header_of area.bytes ≡ Ok header

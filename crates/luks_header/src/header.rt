@@ -99,7 +99,8 @@ fn needed(bytes: &[u8]) -> usize
 
 // The end of the bytes that are to be loaded next, if there are any and EOF was not hit.
 fn lacking(area: &HeaderArea) -> Option<usize>
-    ensures some { IfSome result (λ end. (area.now.ended ≡ false) × (end ≡ needed area.now.bytes)
+    ensures live { IfSome result (λ _. area.now.ended ≡ false) }
+    ensures some { IfSome result (λ end. (end ≡ needed area.now.bytes)
         × (length area.now.bytes < end) × (end ≤ max_loaded_len)) }
     ensures none { result ≡ None → area.now.ended ≡ false
         → needed area.now.bytes ≤ length area.now.bytes }

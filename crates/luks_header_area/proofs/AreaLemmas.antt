@@ -1,11 +1,11 @@
 -- An area that loads further bytes: zeros are appended to its bytes, and a source overwrites the first of these zeros.
-use Rattle.std.proofs.Common.{◌≡◌, ℕ, ◌+◌, ◌-◌, ◌≤◌, List, ◌++◌, Option, ◌∙◌, ap, subst, take, drop, length, min, arith}
-use Rattle.std.proofs.Common.{length-append, length-drop}
-use Rattle.std.proofs.lemmas.List.{take-append-le, take-take, take_rest, length-replicate}
+use Rattle.std.proofs.Common.{◌≡◌, ℕ, ◌+◌, ◌-◌, ◌<◌, ◌≤◌, List, [], ◌++◌, Option, Some, ◌∙◌, ap, sym, take, drop, length, min}
+use Rattle.std.proofs.Common.{append_assoc, arith, length-append, length-drop}
+use Rattle.std.proofs.lemmas.List.{drop_all, take-append-drop, take-append-le, take-take, take_rest, length-replicate}
 use Rattle.std.proofs.Math.ListN.{replicate}
 use Rattle.std.proofs.Math.Seq.{take-append_seam, take-append-add}
 use Rattle.luks_io.specs.Devices.{ConsumedInto}
-use Rattle.luks_header_area.specs.Area.{ConsumedOnto}
+use Rattle.luks_header_area.specs.Area.{IsStart}
 
 module _ (old whole buf : List ℕ) (loaded n : ℕ) (is-whole : whole ≡ old ++ replicate n 0)
     (is-loaded : loaded ≡ length old)
@@ -36,11 +36,18 @@ module _ (old whole buf : List ℕ) (loaded n : ℕ) (is-whole : whole ≡ old +
 
     module _ (known : List ℕ) (left : Option (List ℕ)) (consumed : ConsumedInto known left buf count) where
       -- the bytes that a source gave were appended to those loaded before
-      pub consumed_behind : ConsumedOnto old new known left count
-      consumed_behind = (consumed.0, prefix_filled ∙ ap (λ l. old ++ l) consumed.1)
+      pub start_filled : (image : List ℕ) → image ≡ old ++ known → IsStart image new left
+      start_filled image same = record {
+        rest = drop count known;
+        behind = consumed.0.left;
+        is = same
+            ∙ ap (λ bytes. old ++ bytes) (sym (take-append-drop count known))
+            ∙ sym (append_assoc old (take count known) (drop count known))
+            ∙ ap (λ bytes. bytes ++ drop count known) (sym (prefix_filled ∙ ap (λ l. old ++ l) consumed.1));
+      }
 
-      -- all requested bytes were appended, or all that the source had
-      pub consumed_all_behind : count ≡ min (length buf) (length known)
-          → ConsumedOnto old new known left (min n (length known))
-      consumed_all_behind all =
-          subst (ConsumedOnto old new known left) (all ∙ ap (λ k. min k (length known)) length-capacity) consumed_behind
+-- a source that gave fewer bytes than were requested has no more
+pub none_left : (known buf : List ℕ) (left : Option (List ℕ)) (count : ℕ) → ConsumedInto known left buf count
+    → count ≡ min (length buf) (length known) → count < length buf → left ≡ Some []
+none_left known buf left count consumed all few =
+    consumed.0.left ∙ ap Some (drop_all count known (omega (arith, all, few)))

@@ -1,7 +1,6 @@
 -- The start of an image, and how an area loads further bytes of it.
-use Rattle.std.specs.Prelude.{◌≡◌, ℕ, ◌<◌, ◌≤◌, ◌↔◌, ◌⊎◌, ◌++◌, not, Bool, true, false, List, Option, Result, Ok, Err}
-use Rattle.std.specs.Prelude.{IfErr, IfOk, IsTrue, length, max, min, take}
-use Rattle.luks_io.specs.Devices.{ConsumedExactly}
+use Rattle.std.specs.Prelude.{◌≡◌, ℕ, ◌<◌, ◌≤◌, ◌↔◌, ◌⊎◌, ◌++◌, not, Bool, true, false, List, Option, Some, Result}
+use Rattle.std.specs.Prelude.{Ok, Err, IfErr, IfOk, IsTrue, length, max, take}
 use Rattle.luks_header_area.specs.declared.fault.HeaderFault.{HeaderFault}
 use Rattle.luks_header_area.specs.declared.fault.HeaderFault.TheVariants.{Read, Memory}
 
@@ -14,23 +13,11 @@ pub record HeaderAreaModel : Type 0 where
   pub bytes : List ℕ
   pub ended : Bool
 
--- the first `count` of a source's remaining bytes were consumed, and appended to those already loaded
-abbrev pub ConsumedOnto : List ℕ → List ℕ → List ℕ → Option (List ℕ) → ℕ → Type 0
-ConsumedOnto loaded loaded' known left count = ConsumedExactly known left count × (loaded' ≡ loaded ++ take count known)
-
--- consuming up to `most` bytes was aborted: by a failed read before the last of them, or at the start because memory
--- ran out
-abbrev pub AbortsConsuming : ℕ → List ℕ → List ℕ → List ℕ → Option (List ℕ) → HeaderFault → Type 0
-AbortsConsuming most loaded loaded' known left Read = (count : ℕ) × (count < most)
-    × ConsumedOnto loaded loaded' known left count
-AbortsConsuming most loaded loaded' known left Memory = ConsumedOnto loaded loaded' known left 0
-AbortsConsuming most loaded loaded' known left _ = ⊥
-
--- `most` bytes of a source were consumed, or all if there are fewer, or this was aborted
-abbrev pub ConsumesUpTo : ℕ → List ℕ → List ℕ → List ℕ → Option (List ℕ) → Result Bool HeaderFault → Type 0
-ConsumesUpTo most loaded loaded' known left (Ok whole) =
-    ConsumedOnto loaded loaded' known left (min most (length known))
-ConsumesUpTo most loaded loaded' known left (Err fault) = AbortsConsuming most loaded loaded' known left fault
+-- the loaded bytes are the start of the image, and the rest of it remains in its source
+pub record IsStart (image loaded : List ℕ) (left : Option (List ℕ)) : Type 0 where
+  pub rest : List ℕ
+  pub behind : left ≡ Some rest
+  pub is : image ≡ loaded ++ rest
 
 -- bytes were appended to those already loaded, up to `end` in all, and the answer says whether that many are loaded:
 -- after a fault, they are not

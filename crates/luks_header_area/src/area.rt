@@ -2,10 +2,11 @@
 //! needed.
 
 ghost use Rattle.std.specs.Prelude.{◌≡◌, ◌-◌, ◌<◌, ◌≤◌, ◌++◌, if◌then◌else◌, true, false, [], OnOk};
-ghost use Rattle.std.specs.Prelude.{OnErr, Ok, Err, length, max, replicate, vec_capacity, vec_len};
+ghost use Rattle.std.specs.Prelude.{OnErr, Ok, Err, List, ℕ, Some, length, max, replicate};
+ghost use Rattle.std.specs.Prelude.{vec_capacity, vec_len};
 ghost use Rattle.luks_io.specs.Devices.{IfKnown};
 ghost use Rattle.luks_io.specs.Counts.{Reads};
-ghost use Rattle.luks_header_area.specs.Area.{ConsumesUpTo, Loads, is_read_fault, loading_hits_end};
+ghost use Rattle.luks_header_area.specs.Area.{IsStart, Loads, is_read_fault, loading_hits_end};
 ghost use Rattle.luks_header_area.specs.Area.{max_loaded_len};
 
 use crate::fault::HeaderFault;
@@ -73,9 +74,10 @@ impl HeaderArea {
     /// failed; after [`HeaderFault::Memory`] nothing was consumed. There are no other faults.
     pub fn extend_to<S: Source>(&mut self, source: &mut S, end: usize) -> Result<bool, HeaderFault>
         requires { end ≤ max_loaded_len }
-        ensures consumed { IfKnown (S.to_come source.old) (λ known.
-            ConsumesUpTo (end - length self.old.bytes) self.old.bytes self.new.bytes known
-            (S.to_come source.new) result) }
+        ensures start { (image : List ℕ) → IsStart image self.old.bytes (S.to_come source.old)
+            → IsStart image self.new.bytes (S.to_come source.new) }
+        ensures whole { loading_hits_end result ≡ true → IfKnown (S.to_come source.old) (λ _.
+            S.to_come source.new ≡ Some []) }
 
         // Whether or not the source knows its bytes:
         ensures loads { Loads end self.old.bytes self.new.bytes result }
@@ -120,9 +122,10 @@ fn append_zeros(bytes: &mut Vec<u8>, end: usize) -> Result<(), AllocError>
 // Appends the next bytes of the source, up to `end` in all.
 fn extend<S: Source>(bytes: &mut Vec<u8>, source: &mut S, end: usize) -> Result<bool, HeaderFault>
     requires { vec_len bytes.old < end }
-    ensures consumed { IfKnown (S.to_come source.old) (λ known.
-        ConsumesUpTo (end - vec_len bytes.old) bytes.old.items bytes.new.items known
-        (S.to_come source.new) result) }
+    ensures start { (image : List ℕ) → IsStart image bytes.old.items (S.to_come source.old)
+        → IsStart image bytes.new.items (S.to_come source.new) }
+    ensures whole { loading_hits_end result ≡ true → IfKnown (S.to_come source.old) (λ _.
+        S.to_come source.new ≡ Some []) }
     ensures loads { Loads end bytes.old.items bytes.new.items result }
     ensures memory { result ≡ Err HeaderFault.Memory
         → (bytes.new.items ≡ bytes.old.items) × (source.new ≡ source.old) }

@@ -1,16 +1,16 @@
 -- Finding the volume of an image, and the outcome of a command that opens it.
-use Rattle.std.proofs.Common.{◌≡◌, ◌∙◌, ℕ, ◌⊎◌, inl, inr, List, [], ◌∷◌, Option, Some, Ok, Err, true, false, ap, refl}
-use Rattle.std.proofs.Common.{Bool, min, sym, length, append-nil, arith, ◌+◌, ◌-◌, ◌<◌, ◌≤◌, ◌++◌, Result, take, drop}
-use Rattle.std.proofs.Common.{length-drop, length-take-le, max}
+use Rattle.std.proofs.Common.{◌≡◌, ◌∙◌, ℕ, ◌⊎◌, inl, inr, List, [], Option, Some, Ok, Err, true, false, ap, refl}
+use Rattle.std.proofs.Common.{Bool, min, sym, length, arith, ◌+◌, ◌<◌, ◌≤◌, ◌++◌, Result, take, drop}
+use Rattle.std.proofs.Common.{length-append, length-take-le, max, subst}
 use Rattle.std.specs.Prelude.{is_err}
 use Rattle.std.proofs.lemmas.Bool.{cases_lt, le-ltb, lt-ltb}
-use Rattle.std.proofs.lemmas.List.{drop-drop}
-use Rattle.std.proofs.Math.Seq.{take-add}
+use Rattle.std.proofs.lemmas.List.{length-take, take-append-drop}
+use Rattle.std.proofs.Math.Seq.{take-append_seam}
 use Rattle.luks_io.proofs.EffectLemmas.{reads_more}
 use Rattle.luks_io.specs.Counts.{Reads}
 use Rattle.luks_io.specs.Devices.{ConsumedExactly, counted}
 use Rattle.luks_io.specs.declared.counts.ReadCounts.{ReadCounts}
-use Rattle.luks_header_area.specs.Area.{AbortsConsuming, ConsumedOnto, HeaderAreaModel}
+use Rattle.luks_header_area.specs.Area.{HeaderAreaModel, IsStart}
 use Rattle.luks_header_area.specs.declared.fault.HeaderFault.{HeaderFault}
 use Rattle.luks_header_area.specs.declared.fault.HeaderFault.TheVariants.{Read as HeaderRead, Memory as HeaderMemory}
 use Rattle.luks_header_area.specs.declared.fault.HeaderFault.TheVariants.{NotLuks, Cut as HeaderCut, Json}
@@ -18,6 +18,7 @@ use Rattle.luks_verdict.specs.declared.refusal.SegmentFault.{SegmentFault}
 use Rattle.luks_verdict.specs.declared.segment.Segment.{Segment}
 use Rattle.luks_header.specs.Header.{ReadsNoHeader, header_read_len}
 use Rattle.luks_header.proofs.KnownLemmas.{memory_below}
+use Rattle.luks_header.proofs.LoadingLemmas.{start_consumed}
 use Rattle.luks_header.specs.HeaderSegment.{segment_of}
 use Rattle.luks_header.specs.declared.header.Header.{Header}
 use Rattle.luks_key_slots.specs.Opening.{OrderModel, order_of, key_material_end, opening_of, work_of}
@@ -48,14 +49,6 @@ use Rattle.luks_runs.specs.Volume.{ConsumedUnless, CountsTrials, FoundIn, IsLoad
 use Rattle.luks_runs.specs.declared.unlocked.UnlockedVolume.{UnlockedVolume}
 use Rattle.luks_key_slots.specs.declared.fault.PassphraseFault.{PassphraseFault}
 use Rattle.luks_runs.specs.declared.found.FoundVolume.{FoundVolume}
-
--- if no bytes of an image remain, nothing is consumed from it
-pub none_after_end : (area rest : List ℕ) (left : Option (List ℕ)) (most : ℕ) → left ≡ Some rest → rest ≡ []
-    → ConsumedOnto area area rest left (min most (length rest))
-none_after_end area [] left most there none =
-    let zero : min most 0 ≡ 0 = omega arith in
-    rw zero (record { within = omega arith; left = there }, sym (append-nil area))
-none_after_end area (b ∷ bytes) left most there none = absurd (cc)
 
 -- no bytes remain of an image on which EOF was hit
 pub none_remain : (area : HeaderAreaModel) (left left' : Option (List ℕ)) (counts counts' : ReadCounts)
@@ -230,51 +223,25 @@ pub slot_consumes_loaded : (secret : List ℕ) → ConsumesLoaded secret (slot_o
 slot_consumes_loaded secret =
     record { loaded = λ segment opened loaded. omega arith; whole = λ segment opened loaded. refl }
 
-module _ (image area area' : List ℕ) (i : Option (List ℕ)) (loaded : ℕ)
-    (prefix : area ≡ take (header_read_len image) image) where
-  pub prefix_length : length area ≡ header_read_len image
-  prefix_length = ap length prefix ∙ length-take-le (header_read_len image) image (header_read_len_within image)
+module _ (image area' : List ℕ) (i : Option (List ℕ)) (start : IsStart image area' i) where
+  image_length : length image ≡ length area' + length start.rest
+  image_length = ap length start.is ∙ length-append area' start.rest
 
-  -- if `n` more bytes were appended to the area, it has that many more of the image's first bytes
-  pub area_more : (n : ℕ) → ConsumedOnto area area' (drop (header_read_len image) image) i n
-      → (area' ≡ take (header_read_len image + n) image) × ConsumedExactly image i (header_read_len image + n)
-  area_more n grows = (
-    grows.1 ∙ ap (λ l. l ++ take n (drop (header_read_len image) image)) prefix
-        ∙ sym (take-add (header_read_len image) n image),
-    record {
-      within = omega (arith, grows.0.within, length-drop (header_read_len image) image, header_read_len_within image);
-      left = grows.0.left ∙ ap Some (drop-drop n (header_read_len image) image);
-    },
+  -- if nothing remains, all of the image is loaded and was consumed
+  area_whole : i ≡ Some [] → (length image ≡ length area') × ConsumedExactly image i (length image)
+  area_whole emptied =
+      let same : Some start.rest ≡ Some [] = sym start.behind ∙ emptied in
+      let none : start.rest ≡ [] = cc in
+      let all : length image ≡ length area' = image_length ∙ ap (λ rest. length area' + length rest) none
+      ∙ omega arith in
+      (all, rw all (start_consumed image area' i start))
+
+  -- the loaded bytes are the image's first bytes, and no more were consumed
+  area_loaded : (len : ℕ) → length area' ≡ len → (area' ≡ take len image) × ConsumedExactly image i len
+  area_loaded len is = (
+    sym (ap (λ n. take n image) (sym is) ∙ ap (take (length area')) start.is ∙ take-append_seam area' start.rest),
+    subst (ConsumedExactly image i) is (start_consumed image area' i start),
   )
-
-  module _ (grows : ConsumedOnto area area' (drop (header_read_len image) image) i
-      (min (loaded - length area) (length (drop (header_read_len image) image)))) where
-    -- where loading ends: after as many bytes as were to be loaded, or at the image's end, but not before the header's
-    abbrev end : ℕ
-    end = max (header_read_len image) (min loaded (length image))
-
-    grown : (length area' ≡ end) × (area' ≡ take end image) × ConsumedExactly image i end
-    grown =
-        let more = area_more _ grows in
-        let sum : header_read_len image + min (loaded - length area) (length (drop (header_read_len image) image))
-        ≡ end =
-        omega (arith, prefix_length, length-drop (header_read_len image) image, header_read_len_within image) in
-        (ap length more.0 ∙ length-take-le _ image more.1.within ∙ sum, rw sum at more.0, rw sum at more.1)
-
-    -- if the area has fewer bytes than were to be loaded, the image ended first, and all of it was consumed
-    pub area_cut : length area' < loaded → (length image < loaded) × ConsumedExactly image i (length image)
-    area_cut short =
-        let all : end ≡ length image = omega (arith, grown.0, header_read_len_within image) in
-        (omega (arith, grown.0, header_read_len_within image), rw all at grown.2)
-
-    -- if the area has all bytes that were to be loaded, they are the image's first bytes, and no more were consumed
-    pub area_loaded : loaded ≤ length area'
-        → (loaded ≤ length image) × (length area' ≡ max (header_read_len image) loaded)
-        × (area' ≡ take (max (header_read_len image) loaded) image)
-        × ConsumedExactly image i (max (header_read_len image) loaded)
-    area_loaded enough =
-        let all : end ≡ max (header_read_len image) loaded = omega (arith, grown.0, header_read_len_within image) in
-        (omega (arith, grown.0, header_read_len_within image), grown.0 ∙ all, rw all at grown.1, rw all at grown.2)
 
 -- ---- opening the volume of an image
 
@@ -360,90 +327,87 @@ module _ (location : HeaderLocation) (slots : SlotChoice) (image pass : List ℕ
           (stop.0, omega (arith, stop.1, within.2), stop.2),
         )
 
-    module _ (area' : List ℕ) (i : Option (List ℕ)) where
-      abbrev remaining : List ℕ
-      remaining = drop (header_read_len image) image
+    -- the bytes that are loaded at first are the image's, and the others remain
+    pub found_start : IsStart image volume.area.bytes left
+    found_start = record {
+      rest = drop (header_read_len image) image;
+      behind = found.consumed.left;
+      is = sym (take-append-drop (header_read_len image) image)
+          ∙ ap (λ bytes. bytes ++ drop (header_read_len image) image) (sym found.area);
+    }
 
+    module _ (area' : List ℕ) (i : Option (List ℕ)) (start : IsStart image area' i) where
       abbrev areas_end : ℕ
       areas_end = key_material_end volume.order.entries
 
-      abbrev Grows : ℕ → Type 0
-      Grows = ConsumedOnto volume.area.bytes area' remaining i
+      -- the image was not read up to the end of the last key material
+      module _ (few : length area' < areas_end) where
+        pub counts_untried : (result : Result UnlockedVolume VolumeFault) (work : ℕ)
+            → has_fault is_untried result ≡ true → CountsTrials image (described volume) pass result i work work
+        counts_untried result work untried =
+            inr ((length area', omega (arith, few), start_consumed image area' i start), untried, refl)
 
-      -- the image was not read up to the areas_end of the last key material
-      pub counts_untried : (result : Result UnlockedVolume VolumeFault) (n work : ℕ) → Grows n → length area' < areas_end
-          → has_fault is_untried result ≡ true
-          → CountsTrials image (described volume) pass result i work work
-      counts_untried result n work grows few untried =
-          let more = area_more image volume.area.bytes area' i areas_end found.area n grows in
-          let long = ap length more.0 ∙ length-take-le _ image more.1.within in
-          inr ((header_read_len image + n, omega (arith, few, long), more.1), untried, refl)
+        pub opens_aborted : length pass ≤ max_key_file_len → (result : Result UnlockedVolume VolumeFault)
+            → has_fault aborts_opening result ≡ true → OpensAs opening image result i
+        opens_aborted short result aborts =
+            let within = area_within (described volume) image pass short in
+            let all = start_consumed image area' i start in
+            rw opening_found_is (record {
+              answer = λ never. absurd (cc);
+              consumed = rw aborts (length area', omega (arith, few, within.0, all.within), all);
+            })
 
-      pub counts_aborted : (fault : HeaderFault) (work : ℕ)
-          → AbortsConsuming (areas_end - length volume.area.bytes) volume.area.bytes area' remaining i fault
-          → length area' < areas_end
-          → CountsTrials image (described volume) pass (Err (HeaderNotRead fault)) i work work
-      counts_aborted HeaderRead work stop few = counts_untried (Err (HeaderNotRead HeaderRead)) stop.0 work stop.2 few refl
-      counts_aborted HeaderMemory work stop few = counts_untried (Err (HeaderNotRead HeaderMemory)) 0 work stop few refl
-      counts_aborted _ work stop few = absurd stop
-
-      pub opens_aborted : length pass ≤ max_key_file_len → (fault : HeaderFault)
-          → AbortsConsuming (areas_end - length volume.area.bytes) volume.area.bytes area' remaining i fault
-          → OpensAs opening image (Err (HeaderNotRead fault)) i
-      opens_aborted short HeaderRead stop =
-          let more = area_more image volume.area.bytes area' i areas_end found.area stop.0 stop.2 in
-          let within = area_within (described volume) image pass short in
-          let len = prefix_length image volume.area.bytes area' i areas_end found.area in
-          rw opening_found_is (record {
-            answer = λ never. absurd cc;
-            consumed = (header_read_len image + stop.0, omega (arith, stop.1, len, within.0, more.1.within), more.1);
-          })
-      opens_aborted short HeaderMemory stop =
-          let more = area_more image volume.area.bytes area' i areas_end found.area 0 stop in
-          rw opening_found_is (record {
-            answer = λ never. absurd cc;
-            consumed = (header_read_len image + 0, omega (arith, (found_within (described volume) image pass).0), more.1);
-          })
-      opens_aborted short _ stop = absurd stop
-
-      module _ (grows : Grows (min (areas_end - length volume.area.bytes) (length remaining))) where
-        pub opens_cut : length pass ≤ max_key_file_len → length area' < areas_end
-            → OpensAs opening image (Err KeyAreaCut) i
-        opens_cut short few =
-            let cut = area_cut image volume.area.bytes area' i areas_end found.area grows few in
-            rw (opening_found_is ∙ found_cut (described volume) image pass short cut.0)
+        pub opens_cut : length pass ≤ max_key_file_len → i ≡ Some [] → OpensAs opening image (Err KeyAreaCut) i
+        opens_cut short emptied =
+            let cut = area_whole image area' i start emptied in
+            rw (opening_found_is ∙ found_cut (described volume) image pass short (omega (arith, cut.0, few)))
             (record { answer = λ never. refl; consumed = cut.1 })
 
-        -- the key slots were tried
-        module _ (enough : areas_end ≤ length area') where
-          pub loaded : length pass ≤ max_key_file_len → IsLoaded opening image area'
-          loaded short =
-              let all = area_loaded image volume.area.bytes area' i areas_end found.area grows enough in
-              rw (opening_found_is ∙ found_whole (described volume) image pass short all.0) (all.1, all.2)
+      -- the key slots were tried
+      module _ (enough : areas_end ≤ length area') (loads : take (length volume.area.bytes) area' ≡ volume.area.bytes)
+          (within : length area' ≤ max (length volume.area.bytes) areas_end) where
+        len : length area' ≡ unlock_read_len image (described volume)
+        len =
+            let prefix = ap length found.area
+            ∙ length-take-le (header_read_len image) image (header_read_len_within image) in
+            omega (arith, enough, ap length loads, length-take (length volume.area.bytes) area', within, prefix)
 
-          pub counts_tried : (result : Result UnlockedVolume VolumeFault) (work work' : ℕ)
-              → work' ≡ capped (work + work_of volume.order area' pass)
-              → CountsTrials image (described volume) pass result i work work'
-          counts_tried result work work' counted =
-              let all = area_loaded image volume.area.bytes area' i areas_end found.area grows enough in
-              inl (
-                all.3,
-                counted ∙ ap (λ (cost : ℕ). capped (work + cost))
-                    (ap (λ (bytes : List ℕ). work_of volume.order bytes pass) all.2
-                    ∙ work_prefix volume.order (unlock_read_len image (described volume)) image pass (omega arith)),
-              )
+        long : areas_end ≤ length image
+        long = omega (arith, enough, image_length image area' i start)
 
-          pub opens_tried : length pass ≤ max_key_file_len → (r : Result Opened OpenFault)
-              → opening_of volume.order area' pass ≡ r → (result : Result UnlockedVolume VolumeFault)
-              → opened_result result ≡ result_map_both (λ opened. (volume.segment, opened)) Slots r
-              → OpensAs opening image result i
-          opens_tried short r tried result is =
-              let all = area_loaded image volume.area.bytes area' i areas_end found.area grows enough in
-              let whole : opening_of volume.order image pass ≡ r =
-              sym (opening_prefix volume.order (unlock_read_len image (described volume)) image pass (omega arith))
-              ∙ ap (λ (bytes : List ℕ). opening_of volume.order bytes pass) (sym all.2) ∙ tried in
-              rw (opening_found_is ∙ found_whole (described volume) image pass short all.0) (record {
-                answer = λ never. is
-                    ∙ ap (result_map_both (λ opened. (volume.segment, opened)) Slots) (sym whole);
-                consumed = consumed_all (has_fault aborts_opening result) image i _ all.3;
-              })
+        pub loaded : length pass ≤ max_key_file_len → IsLoaded opening image area'
+        loaded short =
+            rw (opening_found_is ∙ found_whole (described volume) image pass short long)
+            (len, (area_loaded image area' i start _ len).0)
+
+        pub counts_tried : (result : Result UnlockedVolume VolumeFault) (work work' : ℕ)
+            → work' ≡ capped (work + work_of volume.order area' pass)
+            → CountsTrials image (described volume) pass result i work work'
+        counts_tried result work work' counted =
+            let all = area_loaded image area' i start _ len in
+            inl (
+              all.1,
+              counted ∙ ap (λ (cost : ℕ). capped (work + cost))
+                  (ap (λ (bytes : List ℕ). work_of volume.order bytes pass) all.0
+                  ∙ work_prefix volume.order (unlock_read_len image (described volume)) image pass (omega arith)),
+            )
+
+        pub opens_tried : length pass ≤ max_key_file_len → (r : Result Opened OpenFault)
+            → opening_of volume.order area' pass ≡ r → (result : Result UnlockedVolume VolumeFault)
+            → opened_result result ≡ result_map_both (λ opened. (volume.segment, opened)) Slots r
+            → OpensAs opening image result i
+        opens_tried short r tried result is =
+            let all = area_loaded image area' i start _ len in
+            let whole : opening_of volume.order image pass ≡ r =
+            sym (opening_prefix volume.order (unlock_read_len image (described volume)) image pass (omega arith))
+            ∙ ap (λ (bytes : List ℕ). opening_of volume.order bytes pass) (sym all.0) ∙ tried in
+            rw (opening_found_is ∙ found_whole (described volume) image pass short long) (record {
+              answer = λ never. is
+                  ∙ ap (result_map_both (λ opened. (volume.segment, opened)) Slots) (sym whole);
+              consumed = consumed_all (has_fault aborts_opening result) image i _ all.1;
+            })
+
+-- a fault of loading aborts opening, and no key slot was tried before it
+pub load_faults : (fault : HeaderFault) → (fault ≡ HeaderRead) ⊎ (fault ≡ HeaderMemory)
+    → (is_untried (HeaderNotRead fault) ≡ true) × (aborts_opening (HeaderNotRead fault) ≡ true)
+load_faults fault only = elim only [ inl read ↦ rw read (refl, refl) | inr memory ↦ rw memory (refl, refl) ]

@@ -1,8 +1,8 @@
-use Rattle.std.proofs.Common.{◌≡◌, ◌∙◌, Some, ap, arith, sym}
+use Rattle.std.proofs.Common.{◌≡◌, ◌∙◌, Err, ap, arith, sym}
 use Rattle.luks_io.proofs.EffectLemmas.{reads_more}
 use Rattle.luks_io.proofs.ErrorLemmas.{given_error}
-use Rattle.luks_header.proofs.LoadingLemmas.{all_itself, first_near, header_read, loading_aborted, more_all, more_ended}
-use Rattle.luks_header.proofs.LoadingLemmas.{more_first, more_short, more_within, no_header_read, no_tree, start_more}
+use Rattle.luks_header.proofs.LoadingLemmas.{all_itself, first_near, header_read, loading_aborted, more_ended}
+use Rattle.luks_header.proofs.LoadingLemmas.{more_first, more_short, more_within, no_header_read, no_tree}
 use Rattle.luks_header_area.specs.declared.fault.HeaderFault.TheVariants.{Memory}
 use Rattle.luks_header.proofs.header.read_header.Goals as goal
 
@@ -14,17 +14,17 @@ loop-end-preserved g c =
     let next = c.in-Some.ensures.some in
     let whole = c.in_ok-extend_to.field-0 in
     record {
-      within = more_within old new c.in-Some.end whole call.loads next.0 next.1 next.2 call.ended;
-      short = more_short old new c.in-Some.end whole call.loads next.0 next.1 next.2 call.ended;
-      start = λ image knows.
+      within = more_within old new c.in-Some.end whole call.loads c.in-Some.ensures.live next.0 next.1 call.ended;
+      short = more_short old new c.in-Some.end whole call.loads c.in-Some.ensures.live next.0 next.1 call.ended;
+      start = λ image knows. call.start image (c.loop-end.invariant.start image knows);
+      emptied = λ hit image knows.
           let start = c.loop-end.invariant.start image knows in
-          let consumption = call.consumed start.rest start.behind in
-          start_more image old new _ _ _ start consumption
-          (more_all old new c.in-Some.end whole call.loads next.0 next.1 next.2 call.ended start.rest _ consumption);
-      reads = rw (more_ended old new c.in-Some.end whole call.loads next.0 next.1 next.2 call.ended)
-          (reads_more _ _ _ _ _ (rw next.0 at c.loop-end.invariant.reads) call.reads);
+          let ended = more_ended old new c.in-Some.end whole call.loads c.in-Some.ensures.live next.0 next.1 call.ended in
+          call.whole (sym ended ∙ hit) start.rest start.behind;
+      reads = rw (more_ended old new c.in-Some.end whole call.loads c.in-Some.ensures.live next.0 next.1 call.ended)
+          (reads_more _ _ _ _ _ (rw c.in-Some.ensures.live at c.loop-end.invariant.reads) call.reads);
       first = λ live few.
-          absurd (more_first old new c.in-Some.end whole call.loads next.0 next.1 next.2 call.ended live few);
+          absurd (more_first old new c.in-Some.end whole call.loads c.in-Some.ensures.live next.0 next.1 call.ended live few);
     }
 
 -- a read failed, or memory ran out
@@ -32,20 +32,20 @@ pub returns-in_err-extend_to-clause-no_header : goal.returns-in_err-extend_to-cl
 returns-in_err-extend_to-clause-no_header g c =
     let call = c.in_err-extend_to.ensures in
     let next = c.in-Some.ensures.some in
-    let ends = rw next.0 at c.loop-end.invariant.reads.ends in
+    let ends = rw c.in-Some.ensures.live at c.loop-end.invariant.reads.ends in
     rw (given_error _ _ c.from_residual.ensures.1) (λ image knows.
     let start = c.loop-end.invariant.start image knows in
     loading_aborted image c.loop-end.area c.extend_to.new.self _ _ c.in-Some.end _ _ c.in_err-extend_to.field-0.0 start
-    (call.consumed start.rest start.behind) call.loads.fewer next.1 next.2 (call.ended ∙ next.0)
-    (λ few. (c.loop-end.invariant.first next.0 few).0) (call.reads.ends ∙ ends))
+    (call.start image start) call.loads (λ memory. (call.memory (ap Err memory)).0) next.0 next.1
+    (λ few. (c.loop-end.invariant.first c.in-Some.ensures.live few).0) (call.reads.ends ∙ ends))
 
 pub returns-in_err-extend_to-clause-memory : goal.returns-in_err-extend_to-clause-memory
 returns-in_err-extend_to-clause-memory g c image knows begins stops =
     let next = c.in-Some.ensures.some in
     let start = c.loop-end.invariant.start image knows in
-    let few = first_near image c.loop-end.area _ start begins (omega (arith, next.1, next.2)) in
+    let few = first_near image c.loop-end.area.bytes _ start begins (omega (arith, next.0, next.1)) in
     let same = c.in_err-extend_to.ensures.memory (let given = given_error _ _ c.from_residual.ensures.1 in cc) in
-    same.1 ∙ (c.loop-end.invariant.first next.0 few).1
+    same.1 ∙ (c.loop-end.invariant.first c.in-Some.ensures.live few).1
 
 -- all bytes that are read for the header are loaded
 pub returns-in_err-header-clause-no_header : goal.returns-in_err-header-clause-no_header
@@ -54,7 +54,8 @@ returns-in_err-header-clause-no_header g c =
     let none = rw c.as_slice.ensures.value at c.in_err-header.ensures.none in
     rw (given_error _ _ c.from_residual-in_err-header.ensures.1) (λ image knows.
     no_header_read c.loop-end.area loaded.within loaded.short (c.lacking.ensures.none c.in_default.is) image _
-    (loaded.start image knows) c.in_err-header.field-0.0 _ _ none loaded.reads.ends)
+    (loaded.start image knows) (λ ended. loaded.emptied ended image knows) c.in_err-header.field-0.0 _ _ none
+    loaded.reads.ends)
 
 pub returns-in_err-header-clause-memory : goal.returns-in_err-header-clause-memory
 returns-in_err-header-clause-memory g c image knows begins stops =
@@ -62,14 +63,14 @@ returns-in_err-header-clause-memory g c image knows begins stops =
     let fault : c.in_err-header.field-0.0 ≡ Memory = (let given = given_error _ _ c.from_residual-in_err-header.ensures.1 in cc) in
     let none = rw (c.as_slice.ensures.value, fault) at c.in_err-header.ensures.none in
     absurd (no_tree c.loop-end.area loaded.within loaded.short (c.lacking.ensures.none c.in_default.is) image _
-    (loaded.start image knows) none begins)
+    (loaded.start image knows) (λ ended. loaded.emptied ended image knows) none begins)
 
 pub returns-clause-consumed : goal.returns-clause-consumed
 returns-clause-consumed g c image knows =
     let loaded = c.loop-end.invariant in
     let read = rw c.as_slice.ensures.value at c.in_ok-header.ensures.ok in
     header_read c.loop-end.area loaded.within loaded.short (c.lacking.ensures.none c.in_default.is) image _
-    (loaded.start image knows) c.in_ok-header.header read
+    (loaded.start image knows) (λ ended. loaded.emptied ended image knows) c.in_ok-header.header read
 
 pub returns-clause-whole_area : goal.returns-clause-whole_area
 returns-clause-whole_area g c =
@@ -80,7 +81,5 @@ returns-clause-whole_area g c =
 pub returns-clause-ended : goal.returns-clause-ended
 returns-clause-ended g c =
     let loaded = c.loop-end.invariant in
-    let all = all_itself c.loop-end.area loaded.within loaded.short (c.lacking.ensures.none c.in_default.is) in (
-      sym all.falls,
-      λ ended image knows. (let start = loaded.start image knows in start.behind ∙ ap Some (start.ends ended)),
-    )
+    let all = all_itself c.loop-end.area loaded.within loaded.short (c.lacking.ensures.none c.in_default.is) in
+    (sym all.falls, loaded.emptied)

@@ -1,39 +1,40 @@
-use Rattle.std.proofs.Common.{rules, ◌≡◌, ◌-◌, ◌∙◌, ap, sym, length, vec_len, arith}
+use Rattle.std.proofs.Common.{rules, ◌≡◌, ◌-◌, ◌<◌, ◌∙◌, ap, sym, length, vec_len, arith}
 use Rattle.std.proofs.lemmas.Grind.{common_steps}
-use Rattle.luks_header_area.proofs.AreaLemmas.{consumed_all_behind, consumed_behind, length-capacity}
+use Rattle.luks_header_area.proofs.AreaLemmas.{length-capacity, none_left, start_filled}
 use Rattle.luks_header_area.proofs.area.extend.Goals as goal
 
-pub returns-in-Ok-clause-consumed : goal.returns-in-Ok-clause-consumed
-returns-in-Ok-clause-consumed g c =
-    λ reported reports.
+pub returns-in-Ok-clause-start : goal.returns-in-Ok-clause-start
+returns-in-Ok-clause-start g c image start =
     let n = c.args.end - vec_len c.args.bytes.now in
     let is-whole = c.deref_mut.ensures.value ∙ c.in_ok-append_zeros.ensures.ok in
     let is-loaded = c.len-loaded.ensures ∙ c.args.bytes.now.ok.0 in
     let is-len = c.append_zeros.new.bytes.ok.0 ∙ ap length (sym c.deref_mut.ensures.value) in
-    consumed_all_behind c.args.bytes.now.items c.deref_mut.result.now c.fill.new.buf c.len-loaded.result n is-whole
-    is-loaded c.fill.auto.buf _ _ c.truncate.new.self.items c.append_zeros.new.bytes.len c.in-Ok.count is-len
-    c.in-Ok.ensures.bound c.truncate.ensures.items reported _ (c.in-Ok.ensures.bytes reported reports)
-    (c.in-Ok.ensures.end reported reports)
+    start_filled c.args.bytes.now.items c.deref_mut.result.now c.fill.new.buf c.len-loaded.result n is-whole is-loaded
+    c.fill.auto.buf _ _ c.truncate.new.self.items c.append_zeros.new.bytes.len c.in-Ok.count is-len c.in-Ok.ensures.bound
+    c.truncate.ensures.items start.rest _ (c.in-Ok.ensures.bytes start.rest start.behind) image start.is
 
-pub returns-in-Err-clause-consumed : goal.returns-in-Err-clause-consumed
-returns-in-Err-clause-consumed g c =
-    λ reported reports.
-    let old = c.args.bytes.now.items in
+pub returns-in-Err-clause-start : goal.returns-in-Err-clause-start
+returns-in-Err-clause-start g c image start =
     let n = c.args.end - vec_len c.args.bytes.now in
-    let got = c.in-Err.field-0.got in
     let is-whole = c.deref_mut.ensures.value ∙ c.in_ok-append_zeros.ensures.ok in
     let is-loaded = c.len-loaded.ensures ∙ c.args.bytes.now.ok.0 in
     let is-len = c.append_zeros.new.bytes.ok.0 ∙ ap length (sym c.deref_mut.ensures.value) in
     let stops = c.in-Err.ensures.bound in
-    let capacity : length c.fill.new.buf
-    ≡ n = length-capacity old c.deref_mut.result.now c.fill.new.buf c.len-loaded.result n is-whole is-loaded
-    c.fill.auto.buf in (
-      got,
-      omega (arith, stops),
-      consumed_behind old c.deref_mut.result.now c.fill.new.buf c.len-loaded.result n is-whole is-loaded c.fill.auto.buf
-          _ _ c.truncate-in-Err.new.self.items c.append_zeros.new.bytes.len got is-len (omega (arith, stops))
-          c.truncate-in-Err.ensures.items reported _ (c.in-Err.ensures.bytes reported reports),
-    )
+    start_filled c.args.bytes.now.items c.deref_mut.result.now c.fill.new.buf c.len-loaded.result n is-whole is-loaded
+    c.fill.auto.buf _ _ c.truncate-in-Err.new.self.items c.append_zeros.new.bytes.len c.in-Err.field-0.got is-len
+    (omega (arith, stops)) c.truncate-in-Err.ensures.items start.rest _
+    (c.in-Err.ensures.bytes start.rest start.behind) image start.is
+
+pub returns-in-Ok-clause-whole : goal.returns-in-Ok-clause-whole
+returns-in-Ok-clause-whole g c hits known knows =
+    let n = c.args.end - vec_len c.args.bytes.now in
+    let is-whole = c.deref_mut.ensures.value ∙ c.in_ok-append_zeros.ensures.ok in
+    let is-loaded = c.len-loaded.ensures ∙ c.args.bytes.now.ok.0 in
+    let capacity : length c.fill.new.buf ≡ n =
+    length-capacity c.args.bytes.now.items c.deref_mut.result.now c.fill.new.buf c.len-loaded.result n is-whole is-loaded
+    c.fill.auto.buf in
+    let few : c.in-Ok.count < length c.fill.new.buf = grind (arith, hits, capacity, common_steps) in
+    none_left known c.fill.new.buf _ c.in-Ok.count (c.in-Ok.ensures.bytes known knows) (c.in-Ok.ensures.end known knows) few
 
 pub returns-in-Ok-clause-loads : goal.returns-in-Ok-clause-loads
 returns-in-Ok-clause-loads g c = record {

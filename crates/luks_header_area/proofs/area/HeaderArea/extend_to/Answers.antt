@@ -1,9 +1,6 @@
 use Rattle.std.proofs.Common.{rules}
 use Rattle.luks_header_area.proofs.area.HeaderArea.extend_to.Goals as goal
 
-pub returns-clause-consumed : goal.returns-clause-consumed
-returns-clause-consumed g c = search rules
-
 pub returns-clause-loads : goal.returns-clause-loads
 returns-clause-loads g c = search rules
 
