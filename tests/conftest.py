@@ -13,8 +13,11 @@ import pytest
 pytest.register_assert_rewrite("support", "volumes")
 import support  # noqa: E402
 import volumes  # noqa: E402
-from support import MARK, TOP, Program, wait_until  # noqa: E402
+from support import MARK, TOP, Program, built, wait_until  # noqa: E402
 
+# The options of the make that calls pytest are not for those that tests call.
+for variable in "MAKEFLAGS", "MFLAGS", "MAKELEVEL":
+    os.environ.pop(variable, None)
 # Skips for other reasons fail a run with CI=true.
 ALLOWED_SKIPS = {
     "Debian 12 cannot be had here",
@@ -71,66 +74,56 @@ def pytest_runtest_makereport(item):
             report.outcome, report.longrepr = "failed", "passes with an impostor in the place of what it tests"
 
 
-def built(request, name, *parts):
-    """The path of what is built."""
-    if impostor := request.config.getoption("--impostor"):
-        return impostor
-    path = request.config.getoption(f"--{name}").resolve().joinpath(*parts)
-    if not path.exists():
-        pytest.fail(f"{path} is not built")
-    return path
-
-
 @pytest.fixture
 def luksrd(request, tmp_path):
     """The program, which works in the folder of the test."""
-    return Program(built(request, "luksrd"), tmp_path)
+    return Program(built(request.config, "luksrd"), tmp_path)
 
 
 @pytest.fixture(params=["x86-64-v2", "x86-64-v3"])
 def each_luksrd(request, tmp_path):
     """The program for each processor, for what differs between them."""
     if request.param == "x86-64-v2":
-        return Program(built(request, "luksrd"), tmp_path)
+        return Program(built(request.config, "luksrd"), tmp_path)
     if not support.runs_v3():
         pytest.skip("this processor is older")
-    return Program(built(request, "luksrd-v3"), tmp_path)
+    return Program(built(request.config, "luksrd-v3"), tmp_path)
 
 
 @pytest.fixture
 def audit(request, tmp_path):
-    return Program(built(request, "audit"), tmp_path)
+    return Program(built(request.config, "audit"), tmp_path)
 
 
 @pytest.fixture
 def tools(request, tmp_path):
-    return Program(built(request, "tools"), tmp_path)
+    return Program(built(request.config, "tools"), tmp_path)
 
 
 @pytest.fixture
 def library(request):
     """The shared library; its folder has the static one and the link libluksrd.so."""
-    return built(request, "out", "libluksrd.so")
+    return built(request.config, "out", "libluksrd.so")
 
 
 @pytest.fixture(params=["x86-64-v2", "x86-64-v3"])
 def each_library(request):
     """The shared library for each processor."""
     if request.param == "x86-64-v2":
-        return built(request, "out", "libluksrd.so")
+        return built(request.config, "out", "libluksrd.so")
     if not support.runs_v3():
         pytest.skip("this processor is older")
-    return built(request, "out", "glibc-hwcaps/x86-64-v3/libluksrd.so.2")
+    return built(request.config, "out", "glibc-hwcaps/x86-64-v3/libluksrd.so.2")
 
 
 @pytest.fixture
 def plugin(request):
-    return built(request, "out", "nbdkit-luksrd-plugin.so")
+    return built(request.config, "out", "nbdkit-luksrd-plugin.so")
 
 
 @pytest.fixture
 def filter(request):
-    return built(request, "out", "nbdkit-luksrd-filter.so")
+    return built(request.config, "out", "nbdkit-luksrd-filter.so")
 
 
 @pytest.fixture(autouse=True)

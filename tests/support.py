@@ -1,4 +1,5 @@
 """How the tests run a program and compare how it ended, and what they need of the system."""
+import contextlib
 import functools
 import hashlib
 import os
@@ -6,6 +7,7 @@ import pathlib
 import shutil
 import signal
 import subprocess
+import threading
 import time
 import typing
 
@@ -25,6 +27,7 @@ usage: luksrd isLuks [--header FILE] IMAGE
        luksrd luksCat --key-file FILE [--key-slot N] [--max-iterations N] [--header FILE] IMAGE
        luksrd afSplit --hash HASH --stripes N --random FILE KEY
        luksrd afMerge --hash HASH --stripes N --key-bytes N STRIPES"""
+FULL = pathlib.Path("/dev/full")
 NO_KEY = "luksrd: no key opens the volume"
 
 # Tests that install packages or make loop devices run one after the other.
@@ -50,21 +53,29 @@ def end_group(process):
 
 
 def run(*command, stdin=None, stdout=subprocess.PIPE, stderr=subprocess.PIPE, patience=PATIENCE, **how):
-    """Runs a command to its end. Standard input is nothing, bytes, the path of a file, or an open file."""
-    file = open(stdin, "rb") if isinstance(stdin, pathlib.Path) else None
-    given = stdin if isinstance(stdin, bytes) else None
-    source = subprocess.PIPE if given is not None else file or stdin or subprocess.DEVNULL
-    process = subprocess.Popen([os.fspath(word) if isinstance(word, pathlib.Path) else word for word in command],
-                               stdin=source, stdout=stdout, stderr=stderr, start_new_session=True, **how)
-    try:
-        output, message = process.communicate(given, timeout=patience)
-    except subprocess.TimeoutExpired:
-        pytest.fail(f"no end within {patience} seconds: {command}")
-    finally:
-        if process.poll() is None:
-            end_group(process)
-        if file:
-            file.close()
+    """Runs a command to its end. Standard input is nothing, bytes on a pipe, what is at a path, or an open file; what is
+    at a path can be the outputs, too, which are opened for reading and writing and not truncated."""
+    with contextlib.ExitStack() as kept:
+        def opened(stream, flags):
+            if not isinstance(stream, pathlib.Path):
+                return stream
+            descriptor = os.open(stream, flags)
+            kept.callback(os.close, descriptor)
+            return descriptor
+
+        given = stdin if isinstance(stdin, bytes) else None
+        source = subprocess.DEVNULL if stdin is None else opened(stdin, os.O_RDONLY)
+        process = subprocess.Popen(
+            [os.fspath(word) if isinstance(word, pathlib.Path) else word for word in command], start_new_session=True,
+            stdin=subprocess.PIPE if given is not None else source, stdout=opened(stdout, os.O_RDWR),
+            stderr=opened(stderr, os.O_RDWR), **how)
+        try:
+            output, message = process.communicate(given, timeout=patience)
+        except subprocess.TimeoutExpired:
+            pytest.fail(f"no end within {patience} seconds: {command}")
+        finally:
+            if process.poll() is None:
+                end_group(process)
     return Ended(process.returncode, output or b"", (message or b"").decode(errors="backslashreplace"))
 
 
@@ -99,11 +110,38 @@ class Program:
         return run(*self.command(line, *arguments), **{"cwd": self.folder, **how})
 
 
+def built(config, name, *parts):
+    """The path of what is built: `luksrd`, `luksrd-v3`, `audit`, `tools`, or a file in the folder `out`."""
+    if impostor := config.getoption("--impostor"):
+        return impostor
+    path = config.getoption(f"--{name}").resolve().joinpath(*parts)
+    if not path.exists():
+        pytest.fail(f"{path} is not built")
+    return path
+
+
 def must(*command, **how):
     """The standard output of a command that has to succeed, one that makes what a test needs."""
     ended = run(*command, **how)
     assert ended.status == 0, (command, ended)
     return ended.output
+
+
+def reader_that_goes_away(program, line, stdin=None):
+    """How a run ends whose reader takes ten bytes and closes the pipe."""
+    reading, writing = os.pipe()
+    taken = []
+
+    def take():
+        taken.append(os.read(reading, 10))
+        os.close(reading)
+
+    reader = threading.Thread(target=take)
+    reader.start()
+    ended = program(line, stdin=stdin, stdout=writing)
+    os.close(writing)
+    reader.join()
+    return ended._replace(output=taken[0])
 
 
 def wait_until(condition, patience=PATIENCE):

@@ -1,21 +1,11 @@
-"""Headers for tests/hostile.sh, and what is checked of a run over each.
-
-    hostile.py PROGRAM SEED COUNT PATIENCE COUNTS   # in a folder with pass, pass2, wrong, plain and the volumes below
-
-Some headers are generated: fields at their extremes, JSON of any shape, with checksums recomputed. The others are those
-of volumes that cryptsetup and qemu-img made, changed in places that do not always break them; some changes are
-harmless, and then output, message and status are known. COUNTS gets the number of runs that were as they should be, and
-of the others."""
+"""Headers for test_hostile.py. Some are generated: fields at their extremes, JSON of any shape, with checksums recomputed.
+The others are those of volumes that cryptsetup and qemu-img made, changed in places that do not always break them; some
+changes are harmless, and then output, message and status are known."""
 import base64
-import collections
-import json
-import os
 import hashlib
+import json
 import random
-import re
-import signal
 import struct
-import sys
 
 MAGIC, SECOND_MAGIC, SIZE = b'LUKS\xba\xbe', b'SKUL\xba\xbe', 16384
 IN_USE, NOT_IN_USE = 0x00AC71F3, 0xDEAD
@@ -26,7 +16,7 @@ TEXTS = [b'aes', b'xts-plain64', b'cbc-essiv:sha256', b'sha256', b'SHA1', b'sha5
          b'a\\b', b'serpent', b'\xc3\xa9']
 MODES = ['xts-plain64', 'xts-plain', 'cbc-essiv:sha256', 'cbc-plain64']
 HASHES = ['sha1', 'sha224', 'sha256', 'sha384', 'sha512', 'SHA256']
-draw = random.Random(int(sys.argv[2]))
+draw = random.Random()
 
 
 def number(): return draw.choice(EXTREMES + [draw.getrandbits(64), draw.getrandbits(32), draw.getrandbits(10)])
@@ -271,129 +261,3 @@ class Volume2:
                      lambda: segment.update(iv_tweak=str(number())),
                      lambda: segment.update(encryption='aes-' + draw.choice(MODES))])()
         return self.build(tree)
-
-
-# Runs
-
-REASONS = '(type|member|argon2id?|kdf|hash|encryption|key size|stripes|iterations|area|digest|state)'
-SKIPPED = rf'(; skipped: \d+ \({REASONS}\)(, \d+ \({REASONS}\))*)?'
-MESSAGES = {
-    0: '',
-    1: f'the header has findings|no key slot can be tried{SKIPPED}|segment refused: '
-       '(requirement|segments|member|type|integrity|encryption|hash|key bytes|sector size|offset|size)',
-    2: f'no key opens the volume{SKIPPED}',
-    4: 'LUKS2 JSON area is not readable|not a LUKS image|image ends inside the header or a key area|'
-       r'image ends (before the payload|inside a sector: \d+ bytes left over|\d+ bytes before the segment does)',
-    6: 'write failed',
-}
-OUTPUTS = {'isLuks': rb'', 'luksUUID': rb'[ -~]*\n', 'luksDump': rb'Version: [12]\n[ -~\n]+\n',
-           'luksCheck': rb'clean\n',
-           'testPassphrase': rb'Key slot \d+ opens the volume\.\n'}
-IN_PAYLOAD = re.compile('luksrd: image ends (before the payload|inside a sector|[0-9]+ bytes)|luksrd: write failed')
-Run = collections.namedtuple('Run', 'command status output message')
-
-
-def run_on(image, arguments, piped, full, patience):
-    """How a run ends with this image in a file, or on a pipe, which holds 64 KiB; standard output is a file or a full
-    device."""
-    if piped:
-        source, writer = os.pipe()
-        assert os.write(writer, image) == len(image)
-        os.close(writer)
-    else:
-        source = os.open('image', os.O_RDWR | os.O_CREAT, 0o600)
-        os.pwrite(source, image, 0)
-        os.ftruncate(source, len(image))
-    printed = [os.open(name, os.O_RDWR | os.O_CREAT | os.O_TRUNC, 0o600) for name in ('out', 'err')]
-    streams = [source, os.open('/dev/full', os.O_WRONLY) if full else printed[0], printed[1]]
-    child = os.posix_spawn(arguments[0], arguments, {},
-                           file_actions=[(os.POSIX_SPAWN_DUP2, stream, to) for to, stream in enumerate(streams)])
-    signal.signal(signal.SIGALRM, lambda *_: os.kill(child, signal.SIGKILL))
-    signal.alarm(patience)
-    status = os.waitstatus_to_exitcode(os.waitpid(child, 0)[1])
-    signal.alarm(0)
-    output, message = [os.pread(stream, os.fstat(stream).st_size, 0) for stream in printed]
-    for stream in {*streams, *printed}: os.close(stream)
-    return Run(arguments[1], status, output, message.decode('latin-1'))
-
-
-def reached_payload(run):
-    return run.command == 'luksCat' and (run.status == 0 or IN_PAYLOAD.match(run.message) is not None)
-
-
-def is_proper(run, full):
-    """The status is a known one, the message one of its messages, and the output that of such a run."""
-    if run.status not in MESSAGES or (run.status == 6) > full: return False
-    silent = run.status == 0 or run.command == 'isLuks' and run.status == 1
-    pattern = '' if silent else rf'luksrd: ({MESSAGES[run.status]})\n'
-    if not re.fullmatch(pattern, run.message): return False
-    if full: return run.output == b'' and (run.status != 0 or run.command in ('isLuks', 'luksCat'))
-    if run.command == 'luksCat': return len(run.output) % 512 == 0 and (run.output == b'' or reached_payload(run))
-    if run.status == 0: return re.fullmatch(OUTPUTS[run.command], run.output) is not None
-    if run.status == 1 and run.command == 'luksCheck': return re.fullmatch(rb'([ -~]+\n)+', run.output) is not None
-    return run.output == b''
-
-
-def known(command, volume, key, full, plain):
-    """Status, output and message of a run over a volume whose change is harmless."""
-    if command == 'isLuks': return 0, b'', ''
-    if key == 'wrong': return 2, b'', 'luksrd: no key opens the volume\n'
-    if full: return 6, b'', 'luksrd: write failed\n'
-    return 0, plain if command == 'luksCat' else b'Key slot %d opens the volume.\n' % volume.slots[key], ''
-
-
-COMMANDS = ['isLuks', 'luksUUID', 'luksDump', 'luksCheck', 'testPassphrase', 'luksCat']
-
-
-def one_run(program, volumes, plain, patience):
-    """Another run, whether it was as it should be."""
-    full, apart, at_input = draw.random() < 0.02, draw.random() < 0.3, draw.random() < 0.5
-    if draw.random() < 0.42:
-        image, wanted, at_input, piped = generated(), None, True, True
-        command = draw.choice(COMMANDS)
-        key = ['--key-file', '/dev/null', '--max-iterations', '100']
-    else:
-        volume, piped = draw.choices(volumes, [3, 1, 1, 3])[0], False
-        kind = draw.choices(['kept', 'moved', 'changed', 'cut'], [30, 25, 25, 20])[0]
-        image = getattr(volume, 'kept' if kind == 'cut' else kind)()
-        command = draw.choices(['luksCat', 'testPassphrase', 'isLuks' if kind == 'kept' else draw.choice(COMMANDS)],
-                               [85, 10, 5])[0]
-        file = draw.choices(['pass', 'pass2', 'wrong'], [85, 8, 7])[0]
-        wanted = known(command, volume, file, full, plain) if kind == 'kept' else None
-        if kind == 'cut':
-            length = draw.choice([draw.randrange(len(plain)), draw.randrange(len(plain)), 0, -1,
-                                  draw.randrange(-volume.start, 0)])
-            image = image[:volume.start + length]
-        key = ['--key-file', file, '--max-iterations', '2000']
-    arguments = [program, command] + (key if command in COMMANDS[4:] else [])
-    name = '-' if at_input else 'image'
-    arguments += ['--header', name, '/dev/null' if piped else 'image'] if apart else [name]
-    run = run_on(bytes(image), arguments, piped, full, patience)
-    return run, is_proper(run, full) and wanted in (None, run[1:]), arguments
-
-
-def main():
-    program, seed, count, patience, counts = sys.argv[1], *map(int, sys.argv[2:5]), sys.argv[5]
-    with open('plain', 'rb') as file: plain = file.read()
-    volumes = [kind(name, len(plain)) for kind, name in ((Volume1, 'essiv'), (Volume1, 'xts'), (Volume2, 'sealed'),
-                                                         (Volume2, 'sealed4096'))]
-    print('seed', seed, flush=True)
-    ended, wrong, tried, decrypted = collections.Counter(), 0, 0, 0
-    for n in range(count):
-        run, is_right, arguments = one_run(program, volumes, plain, patience)
-        ended[run.command, run.status] += 1
-        decrypted += reached_payload(run)
-        tried += reached_payload(run) or run.status == 2 or run.command == 'testPassphrase' and run.status == 0
-        if not is_right:
-            wrong += 1
-            if wrong <= 20: print(f'FAILED: run {n}:', *arguments[1:], 'status', run.status, run.output[:100],
-                                  run.message[:200])
-            if run.status == -signal.SIGKILL: break
-    for (command, status), number_of in sorted(ended.items()): print(f'{command} ended with {status}: {number_of}')
-    print(f'{tried} runs tried a key slot, {decrypted} reached the payload')
-    few_of = [what for what, reached in (('a key slot', tried), ('the payload', decrypted)) if 3 * reached < count]
-    for what in few_of: print(f'FAILED: fewer than a third of the runs reached {what}')
-    with open(counts, 'w') as file: print(sum(ended.values()) - wrong, wrong + len(few_of), file=file)
-
-
-main()
