@@ -1,5 +1,5 @@
-"""What luksrd-audit lists of headers, field by field beside what cryptsetup reports about them; what
-it calls weak; its search for headers; and the recipes of docs/AUDIT.md and its man page.
+"""What luksrd-audit lists of headers, field by field beside what cryptsetup reports about them;
+what it calls weak; its search for headers; and the recipes of docs/AUDIT.md and its man page.
 
 What is judged (findings, weak, and whether luksrd can try a slot) cryptsetup does not report."""
 import json
@@ -12,9 +12,9 @@ import documents
 import pytest
 from documents import SHELLS, Cook, commands_in, document, example
 from kinds import each_kind
-from payloads import FAST, format2, make_several
+from payloads import OF_LUKS2, format2, make_several
 from reported import dump_of, reported
-from support import TOP, must, needs, run
+from support import FULL, TOP, must, needs, run
 from volumes import copy_of, cryptsetup, edit_metadata, overwrite, passphrases, with_checksum
 
 PAGE = TOP / "docs/luksrd-audit.1"
@@ -78,7 +78,8 @@ def check_listed(audit, luksrd, file, image=None, role="primary", other=None):
     """What is listed of a header is what cryptsetup reports, and its findings are luksCheck's."""
     [found] = listed(audit, "", file)
     check_facts(found, reported(file, image, role, other))
-    assert (found["findings"] or ["clean"]) == luksrd("luksCheck", file).output.decode().split("\n")[:-1]
+    check = luksrd("luksCheck", file).output.decode().splitlines()
+    assert (found["findings"] or ["clean"]) == check
     return found
 
 
@@ -142,12 +143,9 @@ def test_converted(audit, luksrd, made1, image, bits):
 
 
 def test_requirements_of_a_volume_that_is_being_encrypted(audit, image):
-    format2(image, "--sector-size 512")
-    begun = run("cryptsetup", "-q", "reencrypt", "--encrypt", "--init-only", "--type", "luks2",
-                "--reduce-device-size", "4M", "--key-file", image.parent / "pass",
-                *FAST.split(), image)
-    if begun.status != 0:
-        pytest.skip("cryptsetup does not begin to encrypt here")
+    image.write_bytes(bytes(20 << 20))
+    cryptsetup(f"reencrypt --encrypt --init-only --reduce-device-size 4M {OF_LUKS2} image",
+               cwd=image.parent)
     tree = cryptsetup("luksDump --dump-json-metadata", copy_of(image, image.parent / "copy"))
     [found] = listed(audit, "image")
     assert found["requirements"] == json.loads(tree)["config"]["requirements"]["mandatory"]
@@ -248,40 +246,38 @@ def test_columns(audit, here):
 
 
 def test_output_that_cannot_be_written(audit, here):
-    with open("/dev/full", "wb") as full:
-        ended = audit("several", stdout=full)
-    assert ended == (6, b"", "luksrd-audit: write failed\n")
-    closed = run("sh", "-c", 'exec "$0" several >&-', audit.path, cwd=here)
-    assert closed == (6, b"", "luksrd-audit: write failed\n")
+    failed = (6, b"", "luksrd-audit: write failed\n")
+    assert audit("several", stdout=FULL) == failed
+    assert run("sh", "-c", 'exec "$0" several >&-', audit.path, cwd=here) == failed
+
+
+@pytest.fixture
+def target(here):
+    """An image that the output goes to, which stays as it is."""
+    target = copy_of(here / "sha1", here / "target")
+    yield target
+    assert target.read_bytes() == (here / "sha1").read_bytes()
+
+
+REFUSED = (4, b"", "luksrd-audit: standard output is one of the images\n")
 
 
 @pytest.mark.parametrize("line", ["target", "several target", "target several", "./target"])
 @pytest.mark.parametrize("options", ["", "--tsv"])
-def test_output_to_an_image(audit, here, options, line):
-    """The image stays as it is, whatever the order of the images, and nothing is written."""
-    check_refused_output(audit, here, f"{options} {line}", "r+b")
+def test_output_to_an_image(audit, target, options, line):
+    assert audit(f"{options} {line}", stdout=target) == REFUSED
 
 
-def test_output_appended_to_an_image(audit, here):
-    check_refused_output(audit, here, "target", "ab")
-
-
-def test_output_to_standard_input(audit, here):
-    target = copy_of(here / "sha1", here / "target")
-    check_refused_output(audit, here, "-", "r+b", stdin=target)
-
-
-def check_refused_output(audit, here, line, mode, **how):
-    target = copy_of(here / "sha1", here / "target")
-    with open(target, mode) as output:
-        ended = audit(line, stdout=output, **how)
-    assert ended == (4, b"", "luksrd-audit: standard output is one of the images\n")
-    assert target.read_bytes() == (here / "sha1").read_bytes()
+def test_output_to_an_image_otherwise(audit, target):
+    """The output is appended to it, or it is standard input."""
+    with open(target, "ab") as output:
+        assert audit("target", stdout=output) == REFUSED
+    assert audit("-", stdin=target, stdout=target) == REFUSED
 
 
 def test_output_to_another_file(audit, here):
-    with open(here / "other", "wb") as output:
-        assert audit("sha1 several", stdout=output).status == 1
+    (here / "other").touch()
+    assert audit("sha1 several", stdout=here / "other") == (1, b"", "")
     assert len((here / "other").read_bytes().splitlines()) == 2
 
 
@@ -428,8 +424,8 @@ def test_little_memory(audit, here, options):
 
 @pytest.fixture
 def shell(audit, here):
-    """Runs commands as they are written in a page, in a folder with two images, and with a disk that
-    has a header at its start and another one after a MiB."""
+    """Runs commands as they are written in a page, with a folder of two images, and a disk that has
+    a header at its start and another one after a MiB."""
     (here / "bin").mkdir()
     (here / "bin/luksrd-audit").symlink_to(audit.path)
     (here / "images").mkdir()
