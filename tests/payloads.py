@@ -73,63 +73,59 @@ class Volumes:
 
         return Volume(self.cached(" ".join(["luks2", mode, str(bits), *options]), make), PLAIN)
 
-    def detached(self, name, make):
-        """A volume in a folder of its own; MAKE makes it there, and gives its payload, if that is
-        not PLAIN."""
+    def in_folder(self, name, make):
+        """A volume in a folder of its own, with its header in a file. MAKE makes it there, and
+        gives its payload."""
         def make_all(folder):
             folder.mkdir()
             passphrases(folder)
-            (folder / "plain").write_bytes(make(folder) or PLAIN)
+            (folder / "plain").write_bytes(make(folder))
 
         folder = self.cached(name, make_all)
         return Volume(folder / "image", (folder / "plain").read_bytes(), folder / "header")
 
-    def detached1(self, mode, bits):
-        """A LUKS1 header for an image of noise, and that header converted to LUKS2."""
+    def formatted(self, version, mode, bits, sector=512):
+        """A detached header for an image of noise, and that header as LUKS2."""
         def make(folder):
-            format_detached(folder, OF_LUKS1, mode, bits)
-            add_key(folder / "header", "--key-slot 5")
+            (folder / "image").write_bytes(NOISE)
+            format_header(folder, version, mode, bits, sector)
             copy_of(folder / "header", folder / "converted")
-            cryptsetup("convert --type luks2 converted", cwd=folder)
+            if version == 1:
+                cryptsetup("convert --type luks2 converted", cwd=folder)
             return decrypted(folder, "converted")
 
-        return self.detached(f"detached1 {mode} {bits}", make)
+        return self.in_folder(f"formatted{version} {mode} {bits} {sector}", make)
 
-    def formatted2(self, mode, bits, sector):
-        """A LUKS2 header for an image of noise."""
-        def make(folder):
-            format_detached(folder, f"{OF_LUKS2} {SMALL}", mode, bits, f"--sector-size {sector}")
-            add_key(folder / "header", "--pbkdf pbkdf2")
-            return decrypted(folder, "header")
-
-        return self.detached(f"formatted2 {mode} {bits} {sector}", make)
-
-    def detached2(self, mode, bits, sector):
-        """A LUKS2 header for an image that cryptsetup encrypts under it."""
+    def encrypted2(self, mode, bits, sector):
+        """A detached LUKS2 header for an image that cryptsetup encrypts under it."""
         def make(folder):
             (folder / "image").write_bytes(PLAIN)
             cryptsetup(f"reencrypt --encrypt --force-offline-reencrypt {OF_LUKS2} {SMALL} --cipher "
                        f"aes-{mode} --key-size {bits} --sector-size {sector} --header header image",
                        cwd=folder)
-            add_key(folder / "header", "--pbkdf pbkdf2")
+            add_key(folder, "--pbkdf pbkdf2")
             assert decrypted(folder, "header") == PLAIN
+            return PLAIN
 
-        return self.detached(f"detached2 {mode} {bits} {sector}", make)
+        return self.in_folder(f"encrypted2 {mode} {bits} {sector}", make)
 
-    def moved(self, whole, line):
-        """A detached header with the key of this volume, whose payload starts at sector 8192 of the
-        image; LINE has the options of luksFormat. cryptsetup decrypts no such image."""
+    def moved(self, version, bits, sector=512):
+        """A detached header with the key of another volume, whose payload starts at sector 8192 of
+        the image. cryptsetup decrypts no such image."""
+        mode = "xts-plain64"
+        whole = (self.formatted(1, mode, bits) if version == 1 else
+                 self.encrypted2(mode, bits, sector))
+
         def make(folder):
             cryptsetup("luksDump --dump-volume-key --volume-key-file key --key-file pass",
                        whole.header, cwd=folder)
             noise = random.Random("moved").randbytes(8192 * 512)
             (folder / "image").write_bytes(noise + whole.image.read_bytes())
-            cryptsetup(f"luksFormat {line} --offset 8192 --volume-key-file key --header header "
-                       "image", cwd=folder)
-            add_key(folder / "header", "--key-slot 5" if "luks1" in line else "--pbkdf pbkdf2")
+            format_header(folder, version, mode, bits, sector,
+                          "--offset 8192 --volume-key-file key")
             return whole.plain
 
-        return self.detached(f"{whole.header.parent.name}, moved", make)
+        return self.in_folder(f"moved{version} {bits} {sector}", make)
 
 
 def format2(image, line):
@@ -158,16 +154,18 @@ def make_several(image):
     cryptsetup("token import --token-id 3 --json-file token", image, cwd=image.parent)
 
 
-def format_detached(folder, line, mode, bits, options=""):
-    (folder / "image").write_bytes(NOISE)
+def format_header(folder, version, mode, bits, sector, options=""):
+    """A detached header for the file image."""
+    line = OF_LUKS1 if version == 1 else f"{OF_LUKS2} {SMALL} --sector-size {sector}"
     cryptsetup(f"luksFormat {line} --cipher aes-{mode} --key-size {bits} {options} --header header "
                "image", cwd=folder)
+    add_key(folder, "--key-slot 5" if version == 1 else "--pbkdf pbkdf2")
 
 
-def add_key(header, options):
-    """The passphrase in pass2 opens this header too."""
-    cryptsetup(f"luksAddKey --pbkdf-force-iterations 1200 --key-file pass {options}", header,
-               "pass2", cwd=header.parent)
+def add_key(folder, options):
+    """The passphrase in pass2 opens the file header too."""
+    cryptsetup(f"luksAddKey --pbkdf-force-iterations 1200 --key-file pass {options} header pass2",
+               cwd=folder)
 
 
 def decrypted(folder, header):

@@ -4,8 +4,8 @@ reports about these headers."""
 import os
 
 import pytest
-from payloads import (BEFORE, IN_AREA, NOT_LUKS, OF_LUKS1, OF_LUKS2, SMALL, Volume, Volumes,
-                      area_end, check_header, check_opening, check_truncated, left_over)
+from payloads import (BEFORE, IN_AREA, NOT_LUKS, Volume, Volumes, area_end, check_header,
+                      check_opening, check_truncated, left_over)
 from reported import reported
 from support import USAGE, expect
 from volumes import copy_of, cryptsetup, overwrite, passphrases, payload_start
@@ -67,7 +67,7 @@ def test_backup_of_luks2(each_luksrd, made, mode, bits, sector, replacement):
 
 @pytest.mark.parametrize("mode, bits", MODES)
 def test_luks1(each_luksrd, made, mode, bits):
-    volume = made.detached1(mode, bits)
+    volume = made.formatted(1, mode, bits)
     for header in "header", "converted":
         same = volume._replace(header=volume.header.with_name(header))
         check_header(each_luksrd, same)
@@ -78,40 +78,27 @@ def test_luks1(each_luksrd, made, mode, bits):
 @pytest.mark.parametrize("mode, bits", MODES)
 def test_luks2(each_luksrd, made, tmp_path, mode, bits, sector):
     """A header for existing bytes, one for bytes that are encrypted under it, and its backup."""
-    encrypted = made.detached2(mode, bits, sector)
+    encrypted = made.encrypted2(mode, bits, sector)
     backup = copy_of(encrypted.header, tmp_path / "header")
     cryptsetup("luksHeaderBackup --header-backup-file backup", backup, cwd=tmp_path)
-    for volume in (made.formatted2(mode, bits, sector), encrypted,
+    for volume in (made.formatted(2, mode, bits, sector), encrypted,
                    encrypted._replace(header=tmp_path / "backup")):
         check_header(each_luksrd, volume)
         check_opening(each_luksrd, volume)
 
 
-@pytest.fixture
-def moved(made):
-    """Volumes whose payload starts at sector 8192, by the sector size; None is for LUKS1."""
-    def get(bits, sector):
-        cipher = f"--cipher aes-xts-plain64 --key-size {bits}"
-        if sector:
-            line = f"{OF_LUKS2} {SMALL} {cipher} --sector-size {sector}"
-            return made.moved(made.detached2("xts-plain64", bits, sector), line)
-        return made.moved(made.detached1("xts-plain64", bits), f"{OF_LUKS1} {cipher}")
-
-    return get
-
-
 @pytest.mark.parametrize("bits", [256, 512])
-@pytest.mark.parametrize("sector", [None, 512, 4096])
-def test_payload_further_on(each_luksrd, moved, bits, sector):
-    volume = moved(bits, sector)
+@pytest.mark.parametrize("version, sector", [(1, 512), (2, 512), (2, 4096)])
+def test_payload_further_on(each_luksrd, made, version, bits, sector):
+    volume = made.moved(version, bits, sector)
     check_header(each_luksrd, volume)
     check_opening(each_luksrd, volume)
 
 
 def detached(made, version):
     if version == 1:
-        return made.detached1("xts-plain64", 512)
-    return made.detached2("xts-plain64", 512, 4096)
+        return made.formatted(1, "xts-plain64", 512)
+    return made.encrypted2("xts-plain64", 512, 4096)
 
 
 # the version, the bytes of the header, how luksCat ends, and what the commands on headers report:
@@ -188,8 +175,8 @@ def test_truncated_image(luksrd, made, version, size, plain_size, left):
     (100000, 98304, left_over(1696)),
     *((-1 - size, 0, BEFORE) for size in (0, 1, 512, 4096, 100000)),
 ])
-def test_truncated_image_of_payload_further_on(luksrd, moved, bits, size, plain_size, message):
-    check_cut(luksrd, moved(bits, 4096), (4 << 20) + size, plain_size, message)
+def test_truncated_image_of_payload_further_on(luksrd, made, bits, size, plain_size, message):
+    check_cut(luksrd, made.moved(2, bits, 4096), (4 << 20) + size, plain_size, message)
 
 
 @LOST
