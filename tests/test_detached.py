@@ -139,15 +139,6 @@ def test_truncated_header(luksrd, made, tmp_path, version, size, message, report
             expect(luksrd(command, "--header", "short", whole.image), message=report, status=4)
 
 
-FIRST = "Key slot 0 opens the volume.\n"
-
-
-def check_cut(luksrd, volume, size, plain_size, message):
-    """A truncated image, with its header in a file of its own, which opens it all the same."""
-    check_truncated(luksrd, volume, size, plain_size, message)
-    expect(luksrd("testPassphrase --key-file pass", *volume.names[:-1], "cut"), FIRST)
-
-
 @pytest.mark.parametrize("version, size, plain_size, left", [
     (1, 0, 0, 0),
     (1, 1, 0, 1),
@@ -163,7 +154,7 @@ def check_cut(luksrd, volume, size, plain_size, message):
 def test_truncated_image(luksrd, made, version, size, plain_size, left):
     """All its whole sectors are written."""
     message = left_over(left) if left else ""
-    check_cut(luksrd, detached(made, version), size, plain_size, message)
+    check_truncated(luksrd, detached(made, version), size, plain_size, message)
 
 
 @pytest.mark.parametrize("bits", [256, 512])
@@ -176,7 +167,7 @@ def test_truncated_image(luksrd, made, version, size, plain_size, left):
     *((-1 - size, 0, BEFORE) for size in (0, 1, 512, 4096, 100000)),
 ])
 def test_truncated_image_of_payload_further_on(luksrd, made, bits, size, plain_size, message):
-    check_cut(luksrd, made.moved(2, bits, 4096), (4 << 20) + size, plain_size, message)
+    check_truncated(luksrd, made.moved(2, bits, 4096), (4 << 20) + size, plain_size, message)
 
 
 @LOST
@@ -194,7 +185,7 @@ def test_truncated_image_of_lost_start(luksrd, made, tmp_path, replacement, size
     image = copy_of(whole.image, tmp_path / "image")
     overwrite(image, 0, replacement(start))
     lost = Volume(image, whole.plain, tmp_path / "backup")
-    check_cut(luksrd, lost, 0 if size is None else start + size, plain_size, message)
+    check_truncated(luksrd, lost, 0 if size is None else start + size, plain_size, message)
 
 
 def test_files_in_other_places(luksrd, made):

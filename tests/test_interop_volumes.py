@@ -4,13 +4,12 @@ runs end on wrong passphrases and on truncated images."""
 import random
 
 import pytest
-from payloads import (BEFORE, IN_AREA, NOT_LUKS, PLAIN, PLAIN1, Volume, Volumes, area_end,
+from payloads import (BEFORE, FIRST, IN_AREA, NOT_LUKS, PLAIN, PLAIN1, Volume, Volumes, area_end,
                       check_opening, check_truncated, left_over)
 from support import NO_KEY, expect, must, run
 from volumes import (by_qemu, copy_of, cryptsetup, fill1, overwrite, passphrases,
                      payload_start)
 
-FIRST = "Key slot 0 opens the volume.\n"
 MODES = [("xts-plain64", 256), ("xts-plain64", 512), ("xts-plain", 256), ("xts-plain", 512),
          ("cbc-essiv:sha256", 128), ("cbc-essiv:sha256", 256), ("cbc-plain64", 128),
          ("cbc-plain64", 256)]
