@@ -390,11 +390,9 @@ def test_little_memory(audit, here, options):
     header = with_checksum((BINARY_HEADER.ljust(4096, b"\0") + text).ljust(4 << 20, b"\0"))
     (here / "deep").write_bytes(header)
     limit = 200000 * 1024
-    ended = audit(f"{options} deep sha1",
-                  preexec_fn=lambda: resource.setrlimit(resource.RLIMIT_AS, (limit, limit)))
-    found = [json.loads(line) for line in ended.output.splitlines()]
+    found = listed(audit, f"{options} deep sha1", status=4,
+                   preexec_fn=lambda: resource.setrlimit(resource.RLIMIT_AS, (limit, limit)))
     assert members(found, "error", "version") == [["out of memory", None], [None, 1]]
-    assert (ended.status, ended.message) == (4, "luksrd-audit: out of memory\n")
 
 
 @pytest.fixture
@@ -448,7 +446,7 @@ def test_search_with_limits(shell, here, many):
 @needs("jq")
 def test_examples_of_the_man_page(audit, shell, here):
     ended = shell("\n".join(example(PAGE.name, "What is weak in a hundred images")))
-    assert ended == (1, f"""\
+    assert ended == (0, f"""\
 images/a.img\t-\t{', '.join(WEAK_SHA1)}
 images/b.img\t-\t{', '.join(WEAK_SEVERAL)}
 """.encode(), "")
