@@ -1,16 +1,12 @@
-#!/usr/bin/python3
-"""damage.py HEADER COUNT FOLDER
+"""Copies of a LUKS header with other bytes in the fields that a reader takes apart. In LUKS2 the
+checksum is made again, so that it does not hide them. The same header gives the same copies."""
 
-Writes COUNT copies of a LUKS header to a new folder, each with other bytes in the fields that a reader takes apart. In
-LUKS2 the checksum is made right again, so that it does not hide them. The same header gives the same places."""
-import hashlib
-import os
 import random
-import sys
+
+from volumes import with_checksum
 
 FIELDS1 = 592
 FIELDS2 = 512
-CHECKSUM = slice(448, 512)
 
 
 def other_bytes(chance, header, first, end):
@@ -21,7 +17,7 @@ def other_bytes(chance, header, first, end):
 
 
 def damage_text(chance, header, size):
-    """Damages the JSON text of the header of this size: another byte or digit, or a part of it moved."""
+    """Damages the JSON text: another byte or digit, or a part of it moved."""
     end = header.index(0, 4096)
     if chance.random() < 0.4:
         other_bytes(chance, header, 4096, end)
@@ -42,24 +38,15 @@ def damaged2(chance, header):
         other_bytes(chance, header, 0, FIELDS2)
     else:
         damage_text(chance, header, size)
-    header[CHECKSUM] = bytes(64)
-    header[CHECKSUM] = hashlib.sha256(header[:size]).digest() + bytes(32)
+    header[:size] = with_checksum(header[:size])
     header[size:size + 8] = bytes(8)
 
 
-def main():
-    with open(sys.argv[1], "rb") as file:
-        whole = file.read()
-    os.mkdir(sys.argv[3])
-    for number in range(int(sys.argv[2])):
-        chance, header = random.Random(number), bytearray(whole)
+def damaged_headers(path, count):
+    for number in range(count):
+        chance, header = random.Random(number), bytearray(path.read_bytes())
         if header[7] == 1:
             other_bytes(chance, header, 0, FIELDS1)
         else:
             damaged2(chance, header)
-        with open(f"{sys.argv[3]}/{number}", "wb") as file:
-            file.write(header)
-
-
-if __name__ == "__main__":
-    main()
+        yield bytes(header)
