@@ -187,7 +187,7 @@ test: toolchain
 	@rm -f $(PROGRAM_V2) $(AUDIT) $(TOOLS_V2) && mkdir -p out
 	@{ tests/times rt ci 2>&1; echo $$? >out/gate.status; } | tee out/gate.log
 	@tests/built; $(MAKE) -k $(PROGRAM_V3) library nbdkit; { $(run_tests); }; tests=$$?; gate=$$(cat out/gate.status); \
-	    grep -E '^rt: .*(FAILED|NOT PROVED)' out/gate.log; grep -E '^[0-9]+ passed, [0-9]+ failed' out/gate.log; \
+	    grep -E '^rt: .*(FAILED|NOT PROVED)' out/gate.log; grep -xE '[0-9]+ passed, [0-9]+ failed' out/gate.log | tail -n 1; \
 	    exit $$((gate ? gate : tests))
 
 pages:
