@@ -52,7 +52,8 @@ BUILT = {"luksrd", "each_luksrd", "audit", "tools", "library", "each_library", "
 
 def pytest_collection_modifyitems(config, items):
     if config.getoption("--impostor"):
-        items[:] = [item for item in items if BUILT & set(item.fixturenames)]
+        items[:] = [item for item in items
+                    if BUILT & set(item.fixturenames) and not item.get_closest_marker("of_script")]
 
 
 def pytest_runtest_setup(item):
