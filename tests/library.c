@@ -1,4 +1,4 @@
-/* What tests/library.sh runs over luksrd.h, built with AddressSanitizer and under valgrind.
+/* What tests/test_library.py runs over luksrd.h, built with AddressSanitizer and under valgrind.
  *
  *     library IMAGE HEADER PASSPHRASE
  *

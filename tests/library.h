@@ -1,4 +1,4 @@
-/* What the programs over luksrd.h share that tests/library.sh runs. */
+/* What the programs over luksrd.h share that tests/test_library.py runs. */
 #include "luksrd.h"
 
 #include <stdbool.h>

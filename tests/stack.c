@@ -1,4 +1,4 @@
-/* What tests/library.sh runs to see what calls of luksrd.h do to the stack of their thread.
+/* What tests/test_library.py runs to see what calls of luksrd.h do to the stack of their thread.
  *
  *     stack IMAGE PASSPHRASE DERIVED
  *

@@ -2,7 +2,7 @@
 //!
 //! A function for C does its work in one call, which is not inlined, and then calls a function of
 //! this module, whose array of zeros is where the stack of that call was. No clause speaks of the
-//! stack: that the array covers all that was used is tested (`tests/library.sh`).
+//! stack: that the array covers all that was used is tested (`tests/test_library.py`).
 
 ghost use Rattle.std.specs.Prelude.{◌≡◌, ◌<◌, replicate};
 

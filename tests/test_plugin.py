@@ -1,0 +1,594 @@
+"""Volumes that nbdkit serves, by the plugin and by the filter: what clients read is the plaintext;
+what is refused, what stays in memory, and the C of both under valgrind and AddressSanitizer."""
+
+import errno
+import os
+import random
+import re
+import shutil
+import subprocess
+import termios
+import threading
+import time
+
+import pytest
+from damage import damaged_headers
+from kinds import ESSIV, KINDS, START, VOLUME1, VOLUME2, each_kind
+from serving import (SIZE, Way, by_kind, by_plugin, connected, in_threads,  # noqa: F401
+                     needs_nbdkit, read, reads_ranges, reads_shorter, way)
+from support import TOP, alone, expect, must, needs, run, wait_until
+from volumes import copy_of, cryptsetup
+
+pytestmark = needs_nbdkit
+PASS, WRONG = "key-file=pass", "key-file=wrong"
+NO_KEY = "luksrd: no key opens the volume"
+NO_LUKS = "luksrd: not a LUKS image"
+CUT = "luksrd: image ends inside the header or a key area"
+OTHER_KEY = "luksrd: volume key does not match the digest in the header"
+NOT_COMPARED = f"{VOLUME2}.key: the volume key is not compared with a header"
+LONG_KEY_FILE = "luksrd: key file is longer than 8388608 bytes"
+ABSENT = "luksrd: cannot open absent: No such file or directory"
+IS_FOLDER = "luksrd: cannot open .: Is a directory"
+NEED_VOLUME_KEY = ("cipher=, payload-offset=, sector-size=, iv-offset= and size= need "
+                   "volume-key-file=")
+KEY1, KEY2, KEY3 = (f"volume-key-file={image}.key" for image in (VOLUME1, VOLUME2, ESSIV))
+AT, PAGES = f"payload-offset={START}", "sector-size=4096"
+LOST1 = [f"{VOLUME1}.lost", KEY1]
+LOST2 = [f"{VOLUME2}.lost", KEY2, PAGES]
+
+
+@pytest.fixture
+def piped(start):
+    """piped(FILE) is the name of a pipe with the contents of a file, and how a server gets it."""
+    def get(path):
+        descriptor = start("cat", path, stdout=subprocess.PIPE).stdout.fileno()
+        return f"/dev/fd/{descriptor}", {"pass_fds": [descriptor], "stdin": descriptor}
+
+    return get
+
+
+@each_kind
+def test_kinds(way, kind, each_library, tmp_path):
+    library = shutil.copy(each_library, tmp_path / "libluksrd.so.2")
+    server = way.serve(*by_kind(kind.image), env=os.environ | {"LD_LIBRARY_PATH": str(tmp_path)})
+    with open(f"/proc/{server.process.pid}/maps") as maps:
+        assert str(library) in maps.read()
+    text = way.kinds.text(kind.image)
+    must("nbdcopy", server.uri, tmp_path / "copy")
+    assert (tmp_path / "copy").read_bytes() == text
+    said = server.said()
+    if kind.message:
+        assert way.named(kind.image) + kind.message in said
+        assert f": only its whole sectors are served: {len(text)} bytes" in said
+    else:
+        assert said == ""
+    reads_ranges(server.uri, text, 40)
+
+
+@pytest.mark.parametrize("image", [VOLUME1, "luks2 xts-plain64 512 512", VOLUME2,
+                                   "luks2 xts-plain64 256 1024", "luks2 xts-plain64 512 2048"])
+def test_many_ranges(way, image):
+    reads_ranges(way.serve(image, PASS).uri, way.kinds.text(image), 2000)
+
+
+def test_one_sector_at_once(way):
+    server = way.serve(VOLUME2, PASS, "--filter=blocksize", "minblock=4096", "maxdata=4096")
+    reads_ranges(server.uri, way.kinds.text(VOLUME2), 2001)
+
+
+def test_announced(way):
+    """What is announced by a request to cache it is not changed by that."""
+    text = way.kinds.text(VOLUME2)
+    handle = connected(way.serve(VOLUME2, PASS).uri)
+    for offset in range(0, len(text), 65536):
+        count = min(65536, len(text) - offset)
+        handle.cache(count, offset)
+        assert read(handle, count, offset) == text[offset:offset + count]
+
+
+@needs("qemu-img")
+def test_compared_by_qemu(way, tmp_path):
+    server, text = way.serve(VOLUME1, PASS), way.kinds.text(VOLUME1)
+    plain = tmp_path / "plain"
+    compare = ["qemu-img", "compare", "-f", "raw", "-F", "raw", server.uri, plain]
+    plain.write_bytes(text)
+    expect(run(*compare), "Images are identical.\n")
+    plain.write_bytes(text[:-1] + bytes([text[-1] ^ 255]))
+    assert run(*compare).status == 1
+
+
+@alone
+@needs("root", "loop")
+def test_block_device(way, loop):
+    way.gives_kind(VOLUME1, loop(way.kinds / VOLUME1), PASS)
+
+
+# ---- passphrases, headers and volume keys
+
+@pytest.mark.parametrize("parameters", [
+    ["passphrase=a passphrase"], ["passphrase=+pass"], ["passphrase=+zero"],
+    ["key-file=pass2", "key-slot=5"], ["key-file=pass2", "key-slot=0000000005"],
+    [PASS, "max-iterations=1000"], [PASS, "max-iterations=4294967295"]], ids=str)
+def test_opens(way, parameters):
+    way.gives_kind(VOLUME1, VOLUME1, *parameters)
+
+
+@pytest.mark.parametrize("form", ["key-file={}", "key-file=/dev/stdin", "passphrase=-{}"])
+def test_passphrase_from_a_pipe(way, piped, form):
+    name, how = piped(way.kinds / "pass")
+    source = name if form == "key-file={}" else how["stdin"]
+    way.gives_kind(VOLUME1, VOLUME1, form.format(source), **how)
+
+
+@pytest.mark.parametrize("image", ["detached1", "detached2"])
+def test_header_from_a_pipe(way, piped, image):
+    name, how = piped(way.kinds / KINDS[image].header)
+    way.gives_kind(image, image, f"header={name}", PASS, **how)
+
+
+def typed(way, answer, image=VOLUME1):
+    """A server that asks for a passphrase on a terminal, on which this is typed."""
+    terminal, its_end = os.openpty()
+
+    def answers():
+        said = b""
+        while b"assword" not in said:
+            said += os.read(terminal, 4096)
+        # what is typed before the server has turned the echo off is lost
+        wait_until(lambda: not termios.tcgetattr(terminal)[3] & termios.ECHO)
+        os.write(terminal, answer + b"\n")
+
+    threading.Thread(target=answers, daemon=True).start()
+    return way.serve(image, "passphrase=-", stdin=its_end, stdout=its_end)
+
+
+@pytest.mark.parametrize("answer, status", [(b"a passphrase", 0), (b"a wrong one", 1)])
+def test_typed_passphrase(way, answer, status):
+    server = typed(way, answer)
+    assert run("nbdinfo", "--size", server.uri).status == status
+    if status == 0:
+        assert read(connected(server.uri), 300032, 0) == way.kinds.text(VOLUME1)
+    else:
+        assert NO_KEY in server.said()
+
+
+# an image and what it is served with, which part of its text that gives, and what nbdkit says
+BY_VOLUME_KEY = [
+    (VOLUME1, 0, None, [*LOST1, AT], []),
+    (VOLUME1, 0, None, [*LOST1, AT, "cipher=aes-xts-plain64", "sector-size=512"], []),
+    (VOLUME1, 1024, None, [*LOST1, f"payload-offset={START + 1024}", "iv-offset=0000000002"], []),
+    (VOLUME2, 0, None, [*LOST2, AT], []),
+    (VOLUME2, 0, None, [VOLUME2, KEY2, PAGES, AT], []),
+    (VOLUME2, 0, None, [*LOST2, AT, f"header={VOLUME2}"], []),
+    (VOLUME2, 0, None, ["of no digest", KEY2, PAGES, AT], [NOT_COMPARED]),
+    (VOLUME2, 0, None, [VOLUME2, KEY2, PAGES, AT, "max-iterations=1"],
+     ["luksrd: no digest to compare the volume key with"]),
+    (VOLUME2, 0, None, [*LOST2, AT, "header=plain"], [f"plain: {NO_LUKS}", NOT_COMPARED]),
+    (VOLUME2, 0, None, [*LOST2, AT, "header=/dev/null"], [f"/dev/null: {NO_LUKS}", NOT_COMPARED]),
+    (VOLUME2, 8192, None, [*LOST2, f"payload-offset={START + 8192}", "iv-offset=16"], []),
+    *((VOLUME2, 0, size, [*LOST2, AT, f"size={size}"], []) for size in (0, 8192, 303104)),
+    (VOLUME2, 0, None, [*LOST2, AT, "size=307200"],
+     ["luksrd: image ends 4096 bytes before the segment does"]),
+    (ESSIV, 0, None, [f"{ESSIV}.lost", KEY3, PAGES, AT, "cipher=aes-cbc-essiv:sha256"], []),
+]
+
+
+@pytest.mark.parametrize("image, first, end, parameters, messages", BY_VOLUME_KEY, ids=str)
+def test_volume_key(way, image, first, end, parameters, messages):
+    said = way.gives(way.kinds.text(image)[first:end], *parameters)
+    assert all(message in said for message in messages) and (messages or said == "")
+
+
+def test_volume_key_from_a_pipe(way, piped):
+    name, how = piped(way.kinds / f"{VOLUME1}.key")
+    way.gives_kind(VOLUME1, f"{VOLUME1}.lost", f"volume-key-file={name}", AT, **how)
+
+
+@pytest.mark.parametrize("size, message, parameters", [
+    (300032, "", [AT, "iv-offset=18446744073709551615", "size=9223372036854775296"]),
+    (0, "luksrd: image ends before the payload", ["payload-offset=9223372036854775807"])])
+def test_greatest_numbers(way, size, message, parameters):
+    ended = way.run(SIZE, VOLUME1, KEY1, *parameters)
+    said = ended.output.decode()
+    assert ended.status == 0 and str(size) in said.splitlines() and message in said
+
+
+# ---- what is refused: a message, which begins with the image's name after *, and the parameters
+
+REFUSED = [
+    # headers
+    ("luksrd: segment refused: offset", "header2", PASS),
+    (f"*{NO_LUKS}", "detached2", PASS),
+    (f"detached2: {NO_LUKS}", "header2", "header=detached2", PASS),
+    (f"header2: {NO_KEY}", "detached2", "header=header2", WRONG),
+    (f"short_header: {CUT}", "detached1", "header=short_header", PASS),
+    (ABSENT, VOLUME1, "header=absent", PASS),
+    (IS_FOLDER, VOLUME1, "header=.", PASS),
+    # images
+    (f"*{CUT}", "short", PASS),
+    (f"*{NO_LUKS}", "plain", PASS),
+    # passphrases and key slots
+    (f"*{NO_KEY}", VOLUME1, WRONG),
+    (NO_KEY, VOLUME1, "key-file=newline"),
+    (NO_KEY, VOLUME1, PASS, "key-slot=5"),
+    ("luksrd: key slot 8 is not there", VOLUME1, PASS, "key-slot=8"),
+    ("luksrd: key slot 1 is disabled", VOLUME1, PASS, "key-slot=1"),
+    ("luksrd: no key slot can be tried; skipped: 0 (iterations), 5 (iterations)", VOLUME1, PASS,
+     "max-iterations=999"),
+    (f"{NO_KEY}; skipped: 1 (argon2id)", "argon2", "key-file=pass2"),
+    ("luksrd: cannot open -: No such file or directory", VOLUME1, "key-file=-"),
+    (ABSENT, VOLUME1, "key-file=absent"),
+    (IS_FOLDER, VOLUME1, "key-file=."),
+    (f"long: {LONG_KEY_FILE}", VOLUME1, "key-file=long"),
+    (f"huge: {LONG_KEY_FILE}", VOLUME1, "key-file=huge"),
+    (LONG_KEY_FILE, VOLUME1, "key-file=/dev/zero"),
+    (NO_KEY, VOLUME1, "key-file=longest"),
+    ("key-file=FILE or passphrase=PASSPHRASE is needed", VOLUME1),
+    ("key-file= and passphrase= do not go together", VOLUME1, PASS, "passphrase=+pass"),
+    # volume keys
+    (f"*{OTHER_KEY}", VOLUME2, "volume-key-file=other_key", PAGES, AT),
+    (f"*{OTHER_KEY}", VOLUME2, KEY1, PAGES, AT),
+    (f"header2: {OTHER_KEY}", *LOST2, AT, "header=header2"),
+    ("volume-key-file= needs payload-offset=", VOLUME1, KEY1),
+    *((NEED_VOLUME_KEY, VOLUME1, PASS, more) for more in (
+        "payload-offset=512", "cipher=aes-xts-plain64", "sector-size=512", "iv-offset=0")),
+    *(("volume-key-file= does not go with key-file=, passphrase= or key-slot=", VOLUME1, KEY1,
+       "payload-offset=512", more) for more in (PASS, "passphrase=+pass", "key-slot=0")),
+    ("cipher=aes-ecb: none of aes-xts-plain64 aes-xts-plain aes-cbc-essiv:sha256 aes-cbc-plain64",
+     VOLUME1, KEY1, "payload-offset=512", "cipher=aes-ecb"),
+    (f"{VOLUME1}.key: a key of 64 bytes, this cipher and this sector size do not go together",
+     VOLUME1, KEY1, "payload-offset=512", "cipher=aes-cbc-plain64"),
+    *((f"{key}: longer than the longest volume key, 64 bytes", VOLUME1, f"volume-key-file={key}",
+       "payload-offset=512") for key in ("plain", "huge")),
+    *((f"sector-size={size}: none of 512 1024 2048 4096", VOLUME1, KEY1, f"sector-size={size}")
+      for size in (513, 1536, 4095)),
+    ("size=513: not a multiple of the sector size, 512", VOLUME1, KEY1, "payload-offset=512",
+     "size=513"),
+    ("size=512: not a multiple of the sector size, 4096", VOLUME1, KEY1, "payload-offset=512",
+     "size=512", PAGES),
+    ("size= is given twice", VOLUME1, KEY1, "size=512", "size=512"),
+    # one twice
+    *((f"{twice.partition('=')[0]}= is given twice", VOLUME1, twice, twice) for twice in (
+        "header=pipe", PASS, "key-slot=5", "max-iterations=9", "passphrase=+pass",
+        "volume-key-file=pass", "payload-offset=512", "cipher=aes-xts-plain64", "sector-size=512",
+        "iv-offset=0")),
+]
+NO_NUMBERS = {
+    ("key-slot", "0 to 31", PASS): "|32|-1|+1| 1|1x|0x1|00000000001|4294967296",
+    ("max-iterations", "1 to 4294967295", PASS): "|0|-1|1x|4294967296|00000000001",
+    ("payload-offset", "0 to 9223372036854775807", KEY1):
+        "|1M|-1|+1| 1|1x|0x1|9223372036854775808|18446744073709551617|00000000000000000001",
+    ("size", "0 to 9223372036854775807", KEY1):
+        "|1M|-1|+1| 1|1x|0x1|9223372036854775808|18446744073709551617|00000000000000000001",
+    ("iv-offset", "0 to 18446744073709551615", KEY1):
+        "|1M|-1|18446744073709551616|99999999999999999999|000000000000000000001",
+    ("sector-size", "512 to 4096", KEY1): "|511|4097|1k",
+}
+REFUSED += [(f"{name}={number}: not a number from {numbers}", VOLUME1, by, f"{name}={number}")
+            for (name, numbers, by), wrong in NO_NUMBERS.items() for number in wrong.split("|")]
+
+
+@pytest.mark.parametrize("row", REFUSED, ids=lambda row: " ".join(row[1:]))
+def test_refused(way, row):
+    message, *parameters = row
+    way.refuses(message.replace("*", way.named(parameters[0])), *parameters)
+
+
+@pytest.mark.parametrize("message, parameters", [
+    (ABSENT, ["absent", PASS]),
+    (IS_FOLDER, [".", PASS]),
+    ("luksrd: cannot open pipe: neither a regular file nor a block device", ["pipe", PASS]),
+    ("luksrd: cannot open /dev/null: neither a regular file nor a block device",
+     ["/dev/null", PASS]),
+    ("file=IMAGE is needed", [PASS]),
+    ("file= is given twice", [VOLUME1, "file=plain", PASS]),
+    ("unknown parameter 'keyfile'", [VOLUME1, "keyfile=pass"]),
+    (NEED_VOLUME_KEY, [VOLUME1, PASS, "size=512"])])
+def test_refused_by_the_plugin(by_plugin, message, parameters):
+    by_plugin.refuses(message, *parameters)
+
+
+# ---- images that change, and reads that fail
+
+def test_shrinks(by_plugin, tmp_path):
+    """While the image becomes shorter, the bytes read are the text's, or the read failed with EIO,
+    as every read of the missing part does; the payload ends with the image."""
+    text, image = by_plugin.kinds.text(VOLUME1), copy_of(by_plugin.kinds / VOLUME1, tmp_path / "image")
+    server, remaining = by_plugin.serve(image, PASS), [len(text)]
+
+    def work(number):
+        chance, handle = random.Random(number), connected(server.uri)
+        while remaining[0] > 0:
+            count = chance.randrange(1, 20000)
+            offset = chance.randrange(0, len(text) - count)
+            gone = remaining[0] < offset + 1
+            got = read(handle, count, offset)
+            assert got == errno.EIO or (not gone and got == text[offset:offset + count])
+        assert read(handle, 1, 0) == errno.EIO
+
+    def shrink():
+        for size in [*range(len(text), 0, -(len(text) // 241 + 1)), 0]:
+            os.truncate(image, START + size)
+            remaining[0] = size
+            time.sleep(0.005)
+
+    shrinking = threading.Timer(0.2, shrink)
+    shrinking.start()
+    in_threads(work)
+    shrinking.join()
+    assert f"{image}: reading " in server.said()
+    assert ": the image has become shorter" in server.said()
+
+
+def test_shorter(way, tmp_path):
+    image = copy_of(way.kinds / VOLUME1, tmp_path / "image")
+    server = way.serve(image, PASS)
+    reads_shorter(server.uri, way.kinds.text(VOLUME1), image)
+    assert ": reading " in server.said()
+
+
+@needs("strace")
+@pytest.mark.parametrize("call, status, after", [(1, 1, 0), (2, 0, START + 300032)])
+def test_a_read_fails(by_plugin, tmp_path, call, status, after):
+    """Bytes after the header that cannot be read do not keep a volume from being opened."""
+    trace = ["strace", "-f", "-qq", "-o", tmp_path / "trace", "-P", by_plugin.kinds / VOLUME1,
+             "-e", "trace=read", "-e", f"inject=read:error=EIO:when={call}"]
+    ended = by_plugin.run(SIZE, VOLUME1, PASS, before=trace)
+    assert ended.status == status
+    said = ended.output.decode()
+    assert ("300032" in said.splitlines()) == (status == 0)
+    assert f"{VOLUME1}: luksrd: read failed: after {after} bytes: " in said
+
+
+# ---- what they report about themselves
+
+@pytest.mark.parametrize("line", [
+    "name=luksrd", "magic_config_key=file", "max_thread_model=parallel",
+    r"luksrd_library_version=[0-9]*\.[0-9]*\.[0-9]*", "luksrd_formats=luks1 luks2"])
+def test_dump_plugin(plugin, line):
+    assert re.search(f"^{line}$", must("nbdkit", plugin, "--dump-plugin").decode(), re.MULTILINE)
+
+
+def test_help(way):
+    said = must("nbdkit", *way.arguments, "--help").decode()
+    for parameter in ("key-file", "passphrase", "header", "key-slot", "max-iterations", "cipher",
+                      "volume-key-file", "payload-offset", "sector-size", "iv-offset", "size"):
+        assert len(re.findall(f"^{parameter}=", said, re.MULTILINE)) == 1
+    assert way.name == "filter" or "\nfile=" in said
+
+
+def test_properties(way):
+    said = way.run('nbdinfo --json "$uri"', VOLUME2, PASS).output.decode()
+    for line in ('"is_read_only": true', '"can_multi_conn": true', '"can_cache": true',
+                 '"can_flush": false', '"can_trim": false', '"can_zero": false',
+                 '"can_fua": false', '"block_size_minimum": 1', '"block_size_preferred": 4096',
+                 '"block_size_maximum": 4294967295'):
+        assert line in said
+
+
+# ---- what stays in memory
+
+def found(secret, process):
+    """Whether a piece of the secret, 16 bytes, is in the memory that the process may write to:
+    `everywhere`, in its `arguments` alone, or `nowhere`. What frees memory may write over a part
+    of the secret."""
+    pieces = [secret[first:first + 16] for first in range(0, len(secret) - 15, 16)]
+    with open(f"/proc/{process}/stat", "rb") as stat:
+        # fields 48 and 49; the second is a name in brackets
+        first, end = map(int, stat.read().rsplit(b")", 1)[1].split()[45:47])
+    places = set()
+    with open(f"/proc/{process}/maps") as maps, open(f"/proc/{process}/mem", "rb", 0) as memory:
+        for line in maps:
+            addresses, rights, *_ = line.split()
+            if not rights.startswith("rw"):
+                continue
+            start, stop = (int(digits, 16) for digits in addresses.split("-"))
+            memory.seek(start)
+            content = memory.read(stop - start)
+            for piece in map(re.escape, pieces):
+                places |= {first <= start + match.start() < end
+                           for match in re.finditer(piece, content)}
+    return "everywhere" if False in places else "arguments" if places else "nowhere"
+
+
+@pytest.mark.parametrize("form, wanted", [
+    ("key-file={file}", "nowhere"), ("passphrase=+{file}", "nowhere"), ("-9", "nowhere"),
+    ("typed", "nowhere"), ("passphrase={secret}", "arguments"), ("passphrase=+{both}", "nowhere")])
+@pytest.mark.parametrize("length", [80, 400])
+def test_memory(way, piped, tmp_path, length, form, wanted):
+    """While the volume is served, no piece of its passphrase is in memory, but for one that is an
+    argument. The volume key is, which shows that it would be found."""
+    secret = random.Random(length).randbytes(length // 2).hex()
+    file, both = tmp_path / "secret", tmp_path / "both"
+    file.write_text(secret)
+    both.write_text(f"{secret}\0{'and what follows it ' * 20}")
+    image = copy_of(way.kinds / VOLUME1, tmp_path / "image")
+    cryptsetup("luksAddKey --pbkdf-force-iterations 1000 --key-file", way.kinds / "pass", image, file)
+    if form == "typed":
+        server = typed(way, secret.encode(), image)
+    elif form == "-9":
+        _, how = piped(file)
+        server = way.serve(image, f"passphrase=-{how['stdin']}", **how)
+    else:
+        server = way.serve(image, form.format(file=file, both=both, secret=secret))
+    assert connected(server.uri).get_size() == 300032
+    process = server.process.pid
+    assert found(secret.encode(), process) == wanted
+    if form.endswith("{both}"):
+        assert found(b"and what follows it " * 20, process) == "nowhere"
+    assert found((way.kinds / f"{VOLUME1}.key").read_bytes(), process) == "everywhere"
+
+
+@needs("gcc", "qemu-x86_64")
+@pytest.mark.parametrize("on", [[], ["qemu-x86_64", "-cpu", "Nehalem"]], ids=["here", "no AVX"])
+def test_registers(library, tmp_path, on):
+    """What copies leave in the vector registers is cleared, with AVX and without."""
+    shutil.copy(library, tmp_path / "libluksrd.so.2")
+    program = tmp_path / "registers"
+    must("gcc", "-O0", "-std=c11", "-D_GNU_SOURCE", "-Wno-unused", f"-I{TOP}/nbdkit", f"-I{TOP}/c",
+         "-o", program, TOP / "tests/registers.c", library, f"-Wl,-rpath,{tmp_path}")
+    expect(run(*on, program), "0\n")
+    expect(run(*on, program, "left"), "16\n")
+
+
+def test_out_of_memory(way):
+    """With less memory they end with a message, not by a signal."""
+    def within(mib, *arguments):
+        command = f'ulimit -Sv {mib * 1024}; exec nbdkit -U - "$@" --run "ulimit -Sv unlimited; $0"'
+        return run("bash", "-c", command, SIZE, *arguments, cwd=way.kinds.folder,
+                   stderr=subprocess.STDOUT)
+
+    # with too little for nbdkit alone, that ends by a signal
+    first = next(mib for mib in range(8, 300, 4) if within(mib, "null").status == 0)
+    starved = 0
+    for mib in range(first, 300, 2):
+        ended = within(mib, *way.arguments, VOLUME1, PASS)
+        if ended.status == 0:
+            break
+        starved += b"luksrd: out of memory" in ended.output
+        assert 0 < ended.status < 124 and ended.output, ended
+    assert ended.status == 0 and starved > 0
+
+
+# ---- the C of both
+
+# nbdkit loses some memory of its own if it ends while clients are connected, and the loader
+# compares words of which the end may be no part of a name
+SUPPRESSED = """
+{
+    what nbdkit itself takes
+    Memcheck:Leak
+    fun:*alloc
+    obj:*/nbdkit
+}
+{
+    a thread of nbdkit that still runs when it ends
+    Memcheck:Leak
+    fun:calloc
+    ...
+    fun:pthread_create*
+    obj:*/nbdkit
+}
+{
+    the loader looks for $ORIGIN in the names of the plugin's folders, eight bytes at a time
+    Memcheck:Addr8
+    fun:strncmp
+    fun:is_dst
+    ...
+    fun:_dl_map_object
+}
+"""
+SANITIZED = "-O1 -g -fsanitize=address,undefined -fno-sanitize-recover=all"
+
+
+@pytest.fixture(params=["valgrind", "AddressSanitizer"])
+def checked(request, way, library, tmp_path):
+    """A way whose C is built again, and runs under valgrind or with AddressSanitizer, which find
+    nothing."""
+    flags = "-O1 -g" if request.param == "valgrind" else SANITIZED
+    built = [tmp_path / "plugin.so", tmp_path / "filter.so"]
+    shutil.copy(library, tmp_path / "libluksrd.so.2")
+    must("make", "-s", "-C", TOP, f"PLUGIN={built[0]}", f"FILTER={built[1]}", f"SHARED={library}",
+         f"CFLAGS={flags}", *built)
+    suppressed, log = tmp_path / "suppressed", tmp_path / "log"
+    suppressed.write_text(SUPPRESSED)
+    if request.param == "valgrind":
+        before = ["valgrind", "-q", "--leak-check=full", f"--suppressions={suppressed}",
+                  f"--log-file={log}.%p"]
+    else:
+        before = sanitized_by(tmp_path)
+    arguments = built[:1] if way.name == "plugin" else [f"--filter={built[1]}", "file"]
+    yield CheckedWay(before, way.name, arguments, way.start, way.kinds, tmp_path)
+    reports = [path.read_text() for path in tmp_path.glob("log.*")]
+    assert not "".join(reports)
+
+
+def sanitized_by(folder):
+    """The command before one that is built with AddressSanitizer. valgrind checks for leaks. Under
+    the sanitizer the C library's strerror leaves a lock that libraries of nbdkit wait for at the
+    end, to free a locale; here freeing one does nothing."""
+    must("gcc", "-shared", "-fPIC", "-x", "c", "-", "-o", folder / "left.so",
+         stdin=b"void freelocale(void *locale) { (void)locale; }")
+    libraries = [must("gcc", f"-print-file-name={name}").decode().strip()
+                 for name in ("libasan.so", "libubsan.so")]
+    return ["env", f"ASAN_OPTIONS=log_path={folder}/log:detect_leaks=0",
+            f"LD_PRELOAD={' '.join(libraries)} {folder}/left.so"]
+
+
+class CheckedWay(Way):
+    def __init__(self, before, *arguments):
+        super().__init__(*arguments)
+        self.before = before
+
+    def run(self, command, *arguments, **how):
+        return super().run(f"unset LD_PRELOAD; {command}", *arguments, before=self.before, **how)
+
+    def serve(self, *arguments, **how):
+        return super().serve(*arguments, before=self.before, **how)
+
+
+needs_checkers = needs("valgrind", "gcc", "make", "pkg-config")
+
+
+@needs_checkers
+@pytest.mark.parametrize("image", [VOLUME1, VOLUME2])
+def test_checked_ranges(checked, image):
+    server = checked.serve(image, PASS)
+    reads_ranges(server.uri, checked.kinds.text(image), 200)
+    server.stop()
+
+
+@needs_checkers
+def test_checked_shorter(checked, tmp_path):
+    image = copy_of(checked.kinds / VOLUME1, tmp_path / "image")
+    server = checked.serve(image, PASS)
+    reads_shorter(server.uri, checked.kinds.text(VOLUME1), image)
+    server.stop()
+
+
+@needs_checkers
+def test_checked_openings(checked):
+    text = checked.kinds.text(VOLUME2)
+    for wanted, parameters in [
+            (checked.kinds.text("detached2"), ["detached2", "header=header2", PASS]),
+            (text[8192:][:200704], [*LOST2, "header=plain", "iv-offset=16", "size=200704",
+                                    f"payload-offset={START + 8192}"])]:
+        server = checked.serve(*parameters)
+        assert read(connected(server.uri), len(wanted), 0) == wanted
+        server.stop()
+    names = "; ".join(f'nbdinfo --size "nbd+unix:///{name}?socket=$unixsocket"' for name in "ab")
+    ended = checked.run(names, VOLUME2, PASS)
+    assert (ended.status, ended.output.decode()) == (0, f"{len(text)}\n" * 2)
+
+
+@needs_checkers
+@pytest.mark.parametrize("message, parameters", [
+    (NO_KEY, [VOLUME1, WRONG]), (LONG_KEY_FILE, [VOLUME1, "key-file=long"]),
+    (NO_KEY, [VOLUME1, "passphrase=+wrong"]), (ABSENT, [VOLUME1, "key-file=absent"]),
+    ("not a number", [VOLUME1, "key-slot=x"]), (NO_LUKS, [VOLUME1, PASS, "header=wrong"]),
+    (OTHER_KEY, [VOLUME2, "volume-key-file=other_key", AT, PAGES]),
+    ("longer than", [VOLUME2, "volume-key-file=huge", AT, PAGES])], ids=str)
+def test_checked_refusals(checked, message, parameters):
+    ended = checked.run(f"{SIZE}; {SIZE}", *parameters)
+    assert (ended.status, message in ended.output.decode()) == (1, True), ended
+
+
+@needs_checkers
+@pytest.mark.parametrize("checked", ["AddressSanitizer"], indirect=True)
+@pytest.mark.parametrize("version", [1, 2])
+def test_damaged_headers(checked, luksrd, version, tmp_path):
+    """Both refuse what luksCat refuses, by the same message, and serve what it writes."""
+    for number, header in enumerate(damaged_headers(checked.kinds / f"header{version}", 40)):
+        path = tmp_path / f"header{number}"
+        path.write_bytes(header)
+        image = checked.kinds / f"detached{version}"
+        wanted = luksrd("luksCat --max-iterations 5000 --key-file", checked.kinds / "pass",
+                        "--header", path, image)
+        copy = tmp_path / f"copy{number}"
+        ended = checked.run(f'nbdcopy "$uri" "{copy}"', image, f"header={path}", PASS,
+                            "max-iterations=5000")
+        message = wanted.message.strip()
+        if re.fullmatch("(luksrd: image ends (inside a sector|.*before the ).*)?", message):
+            assert (ended.status, copy.read_bytes()) == (0, wanted.output)
+        else:
+            assert (ended.status, f"{path}: {message}" in ended.output.decode()) == (1, True)

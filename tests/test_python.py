@@ -1,0 +1,796 @@
+"""The module for Python: what it gives is the plaintext of volumes of all kinds; how it refuses,
+warns and closes, and what is left of keys and passphrases when that is interrupted."""
+
+import concurrent.futures
+import contextlib
+import copy
+import ctypes
+import errno
+import functools
+import gc
+import io
+import mmap
+import os
+import pathlib
+import pickle
+import random
+import re
+import signal
+import subprocess
+import sys
+import threading
+import time
+import warnings
+import zipfile
+
+import pytest
+import volumes
+from kinds import KINDS, START, VOLUME1, VOLUME2, each_kind
+from support import TOP, expect, must, needs, run
+
+sys.path.insert(0, str(TOP / "python"))
+sys.dont_write_bytecode = True
+import luksrd  # noqa: E402
+
+NO_KEY = "luksrd: no key opens the volume"
+
+
+@pytest.fixture(autouse=True)
+def folder(library, kinds, monkeypatch):
+    """The module loads the built library, and names of files are below that of the kinds."""
+    monkeypatch.setenv("LUKSRD_LIBRARY", str(library))
+    monkeypatch.chdir(kinds.folder)
+    assert luksrd.library_version()[:1] == (1,)
+
+
+@pytest.fixture
+def text(kinds):
+    """text(IMAGE) is what was encrypted."""
+    return kinds.text
+
+
+def open_kind(image):
+    kind = KINDS[image]
+    with warnings.catch_warnings():
+        warnings.simplefilter("ignore", luksrd.IncompleteImageWarning)
+        return luksrd.open(image, key_file=kind.key, header=kind.header or None)
+
+
+@pytest.fixture
+def volume():
+    with open_kind(VOLUME2) as opened:
+        yield opened
+
+
+def descriptors():
+    return len(os.listdir("/proc/self/fd"))
+
+
+@each_kind
+def test_whole(kind, text):
+    with open_kind(kind.image) as volume:
+        assert volume.size == len(text(kind.image))
+        assert volume.read() == text(kind.image)
+        assert volume.read() == b"" and volume.tell() == volume.size
+
+
+@each_kind
+def test_ranges(kind, text):
+    chance, wanted = random.Random(kind.image), text(kind.image)
+    with open_kind(kind.image) as volume:
+        for _ in range(40):
+            length = chance.choice((0, 1, 511, 512, 513, 4096, 4097, chance.randrange(70000),
+                                    300000))
+            offset = chance.choice((0, 1, chance.randrange(len(wanted) + 1),
+                                    max(0, len(wanted) - length)))
+            part = wanted[offset:offset + length]
+            assert volume.pread(length, offset) == part
+            volume.seek(offset)
+            buffer = bytearray(b"x" * length)
+            got = volume.readinto(buffer)
+            assert buffer == part + b"x" * (length - got)
+            assert volume.tell() == offset + got
+
+
+@each_kind
+def test_ending(kind):
+    """An incomplete image has luksCat's message and status, and opening it warns of that."""
+    with open_kind(kind.image) as volume:
+        ending = volume.incomplete
+    assert (ending.status, str(ending)) == (4, kind.message) if kind.message else ending is None
+    with warnings.catch_warnings(record=True) as caught:
+        warnings.simplefilter("always")
+        luksrd.open(kind.image, key_file=kind.key, header=kind.header or None).close()
+    said = [str(warning.message) for warning in caught
+            if warning.category is luksrd.IncompleteImageWarning]
+    assert said == ([f"{kind.image}: {kind.message}"] if kind.message else [])
+
+
+def test_past_the_end(volume):
+    assert volume.pread(10, volume.size) == volume.pread(10, volume.size + 2 ** 70) == b""
+    assert volume.seek(5, os.SEEK_END) == volume.size + 5
+    assert volume.read(10) == b"" and volume.read() == b"" and volume.tell() == volume.size + 5
+
+
+def test_seek(volume, text):
+    wanted = text(VOLUME2)
+    assert volume.seek(100) == volume.tell() == 100
+    assert volume.read(7) == wanted[100:107] and volume.tell() == 107
+    assert volume.seek(-3, os.SEEK_CUR) == 104 and volume.seek(-2, 2) == volume.size - 2
+    assert volume.read(10) == wanted[-2:]
+    for offset, whence in ((-1, 0), (-volume.size - 1, 2), (0, 3)):
+        with pytest.raises(ValueError):
+            volume.seek(offset, whence)
+    for arguments in ((-1, 0), (1, -1)):
+        with pytest.raises(ValueError):
+            volume.pread(*arguments)
+
+
+def test_whole_numbers_alone(volume, text):
+    for wrong in 1.5, "1", None:
+        for call in (volume.seek, functools.partial(volume.pread, 1),
+                     functools.partial(volume.pread_into, bytearray(1))):
+            with pytest.raises(TypeError):
+                call(wrong)
+    assert volume.seek(True) == 1 and volume.read(2) == text(VOLUME2)[1:3]
+
+
+def test_buffers(volume, text):
+    """Any writable buffer is filled; one of several dimensions or items as bytes."""
+    numbers = (ctypes.c_uint32 * 1000)()
+    assert volume.pread_into(numbers, 3) == 4000 and bytes(numbers) == text(VOLUME2)[3:4003]
+    with pytest.raises(TypeError):
+        volume.readinto(b"read-only")
+    assert volume.tell() == 0
+
+
+def test_read_only(volume):
+    assert volume.readable() and volume.seekable()
+    assert not volume.writable() and not volume.isatty()
+    for change in (lambda: volume.write(b"x"), lambda: volume.truncate(5), volume.fileno):
+        with pytest.raises(io.UnsupportedOperation):
+            change()
+    assert isinstance(volume, io.RawIOBase) and volume.mode == "rb"
+
+
+def test_facts(volume):
+    assert (volume.key_slot, volume.sector_size, volume.name) == (0, 4096, VOLUME2)
+    assert VOLUME2 in repr(volume) and f" {volume.size} bytes" in repr(volume)
+    with luksrd.open(VOLUME1, key_file="pass2") as other:
+        assert (other.key_slot, other.sector_size) == (5, 512)
+
+
+def test_buffered_reader(volume, text):
+    wanted = text(VOLUME2)
+    with io.BufferedReader(volume, 1000) as reader:
+        reader.seek(4000)
+        assert reader.peek(1)[:1] == wanted[4000:4001] and reader.read(5000) == wanted[4000:9000]
+        assert b"".join(reader) == wanted[9000:]
+    assert volume.closed
+
+
+def sealed(made1, plain):
+    plain += bytes(-len(plain) % 512)
+    return made1("aes-xts-plain64", "sha256", 512, plain=plain)
+
+
+def test_zipfile(made1):
+    packed = io.BytesIO()
+    with zipfile.ZipFile(packed, "w") as archive:
+        archive.writestr("inside", "inside\n" * 90)
+    image = sealed(made1, bytes(-len(packed.getvalue()) % 512) + packed.getvalue())
+    with luksrd.open(image, key_file="pass") as volume, zipfile.ZipFile(volume) as archive:
+        assert archive.read("inside") == b"inside\n" * 90
+
+
+@needs("mke2fs", "debugfs")
+def test_pytsk3(made1, tmp_path):
+    import pytsk3
+
+    class Image(pytsk3.Img_Info):
+        def __init__(self, volume):
+            self.volume = volume
+            super().__init__(url="", type=pytsk3.TSK_IMG_TYPE_EXTERNAL)
+
+        def read(self, offset, length):
+            return self.volume.pread(length, offset)
+
+        def get_size(self):
+            return self.volume.size
+
+    (tmp_path / "inside").write_text("inside\n")
+    plain = tmp_path / "plain"
+    must("mke2fs", "-q", "-t", "ext4", plain, "4M")
+    must("debugfs", "-w", "-R", "write inside inside", plain, cwd=tmp_path)
+    with luksrd.open(sealed(made1, plain.read_bytes()), key_file="pass") as volume:
+        image = Image(volume)
+        file = pytsk3.FS_Info(image).open("/inside")
+        assert file.read_random(0, file.info.meta.size) == b"inside\n"
+
+
+@pytest.mark.parametrize("kind_of_text", [str, bytes, bytearray, memoryview])
+def test_passphrases(kind_of_text, text):
+    """A passphrase of any kind opens the volume, and is not changed."""
+    given = "a passphrase" if kind_of_text is str else kind_of_text(b"a passphrase")
+    with luksrd.open(VOLUME1, passphrase=given) as volume:
+        assert volume.read() == text(VOLUME1)
+    assert given == ("a passphrase" if kind_of_text is str else b"a passphrase")
+
+
+@pytest.mark.parametrize("path", ["detached2", b"detached2", pathlib.Path("detached2")], ids=repr)
+def test_names_of_files(path, text, start):
+    """Paths of any kind; key file and header from pipes."""
+    pipes = [start("cat", file, cwd=None, stdout=subprocess.PIPE) for file in ("pass", "header2")]
+    key, header = (f"/dev/fd/{process.stdout.fileno()}" for process in pipes)
+    with luksrd.open(path, key_file=key, header=header) as volume:
+        assert volume.read() == text("detached2")
+
+
+@pytest.mark.parametrize("image, options, code, status, message", [
+    (VOLUME1, {"key_file": "wrong"}, 10, 2, NO_KEY),
+    (VOLUME1, {"key_file": None, "passphrase": ""}, 10, 2, NO_KEY),
+    ("plain", {}, 1, 4, "luksrd: not a LUKS image"),
+    ("empty", {}, 1, 4, "luksrd: not a LUKS image"),
+    ("short", {}, 2, 4, "luksrd: image ends inside the header or a key area"),
+    ("header2", {}, 4, 1, "luksrd: segment refused: offset"),
+    (VOLUME1, {"key_slot": 8}, 5, 1, "luksrd: key slot 8 is not there"),
+    (VOLUME1, {"key_slot": 1}, 6, 1, "luksrd: key slot 1 is disabled"),
+    (VOLUME1, {"key_slot": 5}, 10, 2, NO_KEY),
+    (VOLUME1, {"max_iterations": 999}, 8, 1,
+     "luksrd: no key slot can be tried; skipped: 0 (iterations), 5 (iterations)"),
+    (VOLUME1, {"key_file": "long"}, 9, 1, "luksrd: key file is longer than 8388608 bytes"),
+], ids=str)
+def test_refused(image, options, code, status, message):
+    with pytest.raises(luksrd.LuksError) as caught:
+        luksrd.open(image, **{"key_file": "pass"} | options)
+    for error in (caught.value, pickle.loads(pickle.dumps(caught.value))):
+        assert (error.code, error.status, error.message) == (code, status, message)
+        assert str(error) == message
+
+
+@pytest.mark.parametrize("options, error", [
+    ({}, TypeError),
+    ({"passphrase": "a passphrase", "key_file": "pass"}, TypeError),
+    ({"passphrase": 5}, TypeError),
+    ({"key_file": "pass", "key_slot": 32}, ValueError),
+    ({"key_file": "pass", "key_slot": -1}, ValueError),
+    ({"key_file": "pass", "max_iterations": 0}, ValueError),
+    ({"key_file": "pass", "max_iterations": 2 ** 32}, ValueError),
+    ({"key_file": "absent"}, FileNotFoundError),
+    ({"key_file": "."}, IsADirectoryError),
+    ({"key_file": "pass", "header": "absent"}, FileNotFoundError),
+    ({"key_file": "pass", "header": "."}, IsADirectoryError),
+    ({"key_file": 0}, TypeError),
+    ({"key_file": "pass", "header": 0}, TypeError),
+], ids=str)
+def test_wrong_arguments(options, error):
+    before = descriptors()
+    with pytest.raises(error):
+        luksrd.open(VOLUME1, **options)
+    assert descriptors() == before
+
+
+@pytest.mark.parametrize("image, error", [
+    ("absent", FileNotFoundError), (".", IsADirectoryError), ("pipe", OSError),
+    ("/dev/null", OSError)])
+def test_wrong_image(image, error):
+    before = descriptors()
+    with pytest.raises(error) as caught:
+        luksrd.open(image, passphrase="a passphrase")
+    assert os.fspath(caught.value.filename) == image
+    if caught.value.errno == errno.EINVAL:
+        assert "neither a regular file nor a block device" in str(caught.value)
+    assert descriptors() == before
+    with pytest.raises(TypeError):
+        luksrd.open(0, passphrase="a passphrase")
+
+
+# ---- volume keys
+
+def by_key(image, key=VOLUME2, **options):
+    """The volume in this image, by the volume key of this one."""
+    given = {"volume_key_file": f"{key}.key", "payload_offset": START,
+             "sector_size": 4096 if key == VOLUME2 else 512}
+    return luksrd.open_by_volume_key(image, **given | options)
+
+
+@pytest.mark.parametrize("key", [VOLUME1, VOLUME2])
+def test_volume_key(key, text):
+    """A volume key opens its volume, whether or not the header is there, without a warning."""
+    volume_key = bytearray(pathlib.Path(f"{key}.key").read_bytes())
+    given = {"volume_key_file": None, "volume_key": volume_key, "header": key}
+    with warnings.catch_warnings():
+        warnings.simplefilter("error")
+        for image, options in ((key, {}), (f"{key}.lost", {}), (f"{key}.lost", given)):
+            with by_key(image, key, **options) as volume:
+                assert volume.read() == text(key)
+    assert volume_key == pathlib.Path(f"{key}.key").read_bytes()
+
+
+@pytest.mark.parametrize("changed", [0, 63])
+def test_another_volume_key(changed, text):
+    """It is refused if a header is there, and gives noise if there is none."""
+    other = bytearray(pathlib.Path(f"{VOLUME2}.key").read_bytes())
+    other[changed] ^= 1
+    for image, header in ((VOLUME2, None), (f"{VOLUME2}.lost", VOLUME2)):
+        with pytest.raises(luksrd.LuksError) as caught:
+            by_key(image, volume_key_file=None, volume_key=other, header=header)
+        assert (caught.value.code, caught.value.status) == (18, 2)
+        assert str(caught.value) == "luksrd: volume key does not match the digest in the header"
+    with by_key(f"{VOLUME2}.lost", volume_key_file=None, volume_key=other) as volume:
+        assert volume.key_slot is None
+        assert volume.size == len(text(VOLUME2)) and volume.read() != text(VOLUME2)
+
+
+@pytest.mark.parametrize("image, options, reason", [
+    ("of no digest", {}, "no digest to compare the volume key with"),
+    (VOLUME2, {"max_iterations": 1}, "no digest to compare the volume key with"),
+    (VOLUME2, {"header": "plain"}, "not a LUKS image"),
+    (f"{VOLUME2}.lost", {"header": "/dev/null"}, "not a LUKS image")])
+def test_unchecked_volume_key(image, options, reason, text):
+    """A header that cannot tell is warned of, and the volume is read."""
+    with pytest.warns(luksrd.UncheckedKeyWarning, match=reason):
+        volume = by_key(image, **options)
+    with volume:
+        assert volume.read() == text(VOLUME2)
+
+
+def test_what_a_header_said(text):
+    """The numbers of data units, and the size, that the header of another volume said."""
+    wanted, lost = text(VOLUME2), f"{VOLUME2}.lost"
+    with by_key(lost, payload_offset=START + 8192, iv_offset=16) as volume:
+        assert volume.read() == wanted[8192:]
+    with by_key(lost, payload_offset=START + 8192) as volume:
+        assert volume.read()[:4096] != wanted[8192:12288]
+    for size in (0, 4096, 200704):
+        with by_key(lost, size=size) as volume:
+            assert volume.size == size and volume.incomplete is None
+            assert volume.read() == wanted[:size]
+    said = "image ends 4096 bytes before the segment does"
+    with pytest.warns(luksrd.IncompleteImageWarning, match=said):
+        volume = by_key(lost, size=len(wanted) + 4096)
+    with volume:
+        assert volume.read() == wanted
+
+
+@pytest.mark.parametrize("options, error", [
+    ({"volume_key": b"k" * 64}, TypeError),
+    ({"volume_key_file": None}, TypeError),
+    ({"cipher": "aes-ecb"}, ValueError),
+    ({"cipher": "aes-cbc-plain64"}, ValueError),
+    ({"sector_size": 513}, ValueError),
+    ({"payload_offset": -1}, ValueError),
+    ({"payload_offset": 2 ** 64}, ValueError),
+    ({"payload_offset": 1.5}, TypeError),
+    ({"iv_offset": -1}, ValueError),
+    ({"iv_offset": 2 ** 64}, ValueError),
+    ({"iv_offset": "1"}, TypeError),
+    ({"size": -4096}, ValueError),
+    ({"size": 2 ** 64}, ValueError),
+    ({"size": 512}, ValueError),
+    ({"volume_key_file": None, "volume_key": "k" * 64}, TypeError),
+    ({"max_iterations": 0}, ValueError),
+    ({"volume_key_file": None, "volume_key": b""}, ValueError),
+    ({"volume_key_file": None, "volume_key": b"k" * 65}, ValueError),
+    ({"volume_key_file": "plain"}, ValueError),
+    ({"volume_key_file": "absent"}, FileNotFoundError),
+], ids=str)
+def test_wrong_volume_key_arguments(options, error):
+    before = descriptors()
+    with pytest.raises(error):
+        by_key(VOLUME2, **options)
+    assert descriptors() == before
+
+
+def test_huge_secrets():
+    """A passphrase or a volume key is refused by its whole length, and not read to its end."""
+    with open("huge", "rb") as file, mmap.mmap(file.fileno(), 0, prot=mmap.PROT_READ) as given:
+        for options in ({"passphrase": given}, {"key_file": "huge"}):
+            with pytest.raises(luksrd.LuksError, match="key file is longer than 8388608 bytes"):
+                luksrd.open(VOLUME1, **options)
+        for options in ({"volume_key": given, "volume_key_file": None},
+                        {"volume_key_file": "huge"}):
+            with pytest.raises(ValueError, match="longer than 64 bytes"):
+                by_key(f"{VOLUME1}.lost", VOLUME1, **options)
+
+
+def test_structs():
+    """The module's structs have the fields, sizes and offsets that luksrd.h states."""
+    stated = re.findall(
+        r"_Static_assert\((sizeof|offsetof)\(struct luksrd_(\w+)(?:, (\w+))?\) == (\d+)",
+        (TOP / "c/luksrd.h").read_text())
+    structs = {"options": luksrd._Options, "volume": luksrd._Opened, "cipher": luksrd._Cipher,
+               "step": luksrd._Step, "message": luksrd._Message}
+    assert {struct for _, struct, _, _ in stated} == set(structs)
+    for what, struct, field, number in stated:
+        ours = structs[struct]
+        got = ctypes.sizeof(ours) if what == "sizeof" else getattr(ours, field).offset
+        assert int(number) == got, (struct, field)
+    for name, struct in structs.items():
+        assert [field for field, *_ in struct._fields_] == [
+            field for what, other, field, _ in stated if other == name and what == "offsetof"]
+
+
+# ---- closing, and what is left
+
+def key_of(volume):
+    """The bytes in which the module keeps the key."""
+    return bytes(volume._key._opened) + bytes(volume._key._cipher)
+
+
+def test_close():
+    """The key is wiped, the descriptor is closed, and nothing is read any more; a second time does
+    nothing."""
+    before = descriptors()
+    volume = open_kind(VOLUME2)
+    assert any(bytes(volume._key._opened)) and any(bytes(volume._key._cipher))
+    volume.close()
+    volume.close()
+    assert volume.closed and "closed" in repr(volume) and not any(key_of(volume))
+    assert descriptors() == before
+    for use in (volume.read, volume.tell, volume.readable, volume.seekable, lambda: volume.seek(0),
+                lambda: volume.pread(1, 0), lambda: volume.readinto(bytearray(1)),
+                volume.__enter__):
+        with pytest.raises(ValueError):
+            use()
+
+
+class Left:
+    """What a block leaves: descriptors, and bytes of the keys and secrets that the module made."""
+
+    def __init__(self, monkeypatch):
+        self.keys, self.secrets = [], []
+        make_keys, fill = luksrd._Keys, luksrd._zero
+
+        def keys():
+            self.keys.append(make_keys())
+            return self.keys[-1]
+
+        def zero(buffer):
+            self.secrets.append((any(buffer), buffer))
+            fill(buffer)
+
+        monkeypatch.setattr(luksrd, "_Keys", keys)
+        monkeypatch.setattr(luksrd, "_zero", zero)
+
+    def __enter__(self):
+        gc.collect()
+        self.descriptors = descriptors()
+        return self
+
+    def __exit__(self, *_):
+        gc.collect()
+        assert descriptors() == self.descriptors
+        assert self.keys and not any(any(bytes(key)) for key in self.keys)
+        # a secret was there, and is no more
+        assert any(had for had, _ in self.secrets)
+        assert not any(any(buffer) for _, buffer in self.secrets)
+
+
+@pytest.fixture
+def left(monkeypatch):
+    return Left(monkeypatch)
+
+
+@pytest.mark.parametrize("use, warning", [
+    (lambda: open_kind("truncated inside a sector"), None),
+    (lambda: luksrd.open("truncated inside a sector", key_file="pass"),
+     luksrd.IncompleteImageWarning),
+    (lambda: by_key("of no digest"), luksrd.UncheckedKeyWarning),
+    (lambda: by_key(VOLUME2, size=2 ** 40), luksrd.IncompleteImageWarning)])
+def test_warnings_as_errors(left, use, warning):
+    """Nothing is left, though the error itself is kept."""
+    with warnings.catch_warnings(), left:
+        warnings.simplefilter("error")
+        if warning is None:
+            use().close()
+        else:
+            with pytest.raises(warning) as caught:
+                use()
+    assert warning is None or caught.value is not None
+
+
+@pytest.mark.parametrize("is_done", [False, True])
+@pytest.mark.parametrize("owner, name, turn", [
+    (luksrd, "_library", 2), (luksrd, "_library", 3), (luksrd, "_library", 4),
+    (luksrd, "_read_header", 1), (luksrd._Key, "unlock", 1), (luksrd._Key, "_prepare", 1),
+    (luksrd._Key, "plain_len", 1), (luksrd._Key, "ending", 1), (warnings, "warn", 1)])
+def test_open_interrupted(left, monkeypatch, owner, name, turn, is_done):
+    """Nothing is left if opening is interrupted before or after one of these calls."""
+    call, calls = getattr(owner, name), []
+
+    def interrupted(*arguments, **named):
+        calls.append(name)
+        if len(calls) == turn and not is_done:
+            raise KeyboardInterrupt
+        answer = call(*arguments, **named)
+        if len(calls) == turn:
+            raise KeyboardInterrupt
+        return answer
+
+    with left:
+        # one that is opened, so that there is a secret
+        luksrd.open(VOLUME1, key_file="pass").close()
+        monkeypatch.setattr(owner, name, interrupted)
+        with pytest.raises(KeyboardInterrupt), warnings.catch_warnings():
+            warnings.simplefilter("always")
+            luksrd.open("truncated inside a sector", key_file="pass")
+        assert len(calls) >= turn
+
+
+def test_reading_a_secret_fails(left, monkeypatch):
+    """What was read before is wiped."""
+    readv, reads = os.readv, []
+
+    def failing(descriptor, buffers):
+        if not os.readlink(f"/proc/self/fd/{descriptor}").endswith("/pass"):
+            return readv(descriptor, buffers)
+        reads.append(descriptor)
+        if len(reads) > 1:
+            raise OSError(errno.EIO, "a part of the disk is gone")
+        return readv(descriptor, [buffers[0][:5]])
+
+    monkeypatch.setattr(os, "readv", failing)
+    with left, pytest.raises(OSError, match="a part of the disk is gone"):
+        luksrd.open(VOLUME1, key_file="pass")
+    assert [len(buffer) for _, buffer in left.secrets] == [8388609]
+
+
+@pytest.mark.parametrize("image", [VOLUME1, VOLUME2])
+def test_bytes_after_the_header_cannot_be_read(image, text, monkeypatch):
+    """The volume is opened all the same, unless the header is not whole."""
+    readv, ends = os.readv, [os.stat(image).st_size - 4096]
+
+    def failing(descriptor, buffers):
+        if os.readlink(f"/proc/self/fd/{descriptor}").endswith("/pass"):
+            return readv(descriptor, buffers)
+        there = ends[-1] - os.lseek(descriptor, 0, os.SEEK_CUR)
+        if there <= 0:
+            raise OSError(errno.EIO, "a part of the disk is gone")
+        return readv(descriptor, [buffers[0][:there]])
+
+    monkeypatch.setattr(os, "readv", failing)
+    with pytest.warns(luksrd.IncompleteImageWarning, match=f"ended after {ends[0]} bytes"):
+        volume = luksrd.open(image, key_file="pass")
+    with volume:
+        assert volume.pread(1000, 5000) == text(image)[5000:6000]
+    for end in 0, 500:
+        ends.append(end)
+        with pytest.raises(OSError, match="a part of the disk is gone"):
+            luksrd.open(image, key_file="pass")
+
+
+def test_close_in_a_child_of_a_fork(volume):
+    """It waits for no thread of its parent that reads, and takes no lock that one holds."""
+    reading, go = threading.Event(), threading.Event()
+
+    def holds():
+        with volume._moving, volume._idle:
+            volume._readers[reading] = threading.get_ident()
+            reading.set()
+            go.wait()
+            del volume._readers[reading]
+
+    reader = threading.Thread(target=holds)
+    reader.start()
+    reading.wait()
+    child = os.fork()
+    if child == 0:
+        signal.alarm(60)
+        volume.close()
+        os._exit(0)
+    go.set()
+    reader.join()
+    assert os.waitpid(child, 0)[1] == 0
+
+
+def interrupts(call):
+    """The call, which is interrupted the first time, before it does anything."""
+    calls = []
+
+    def interrupted(*arguments):
+        calls.append(arguments)
+        if len(calls) == 1:
+            raise KeyboardInterrupt
+        return call(*arguments)
+
+    return interrupted
+
+
+@pytest.mark.parametrize("ending", ["close", "forget"])
+@pytest.mark.parametrize("step", ["wait", "wipe", "closing", "marking"])
+def test_close_interrupted(left, monkeypatch, step, ending):
+    """A close that is interrupted leaves a volume that cannot be read, and the next one, or the end
+    of the object, completes it."""
+    with left:
+        volume = open_kind(VOLUME2)
+        reading = contextlib.ExitStack()
+        if step == "wait":
+            with concurrent.futures.ThreadPoolExecutor(1) as threads:
+                threads.submit(reading.enter_context, volume._reading()).result()
+        owner, name = {"wait": (volume._idle, "wait"), "wipe": (volume._key, "wipe"),
+                       "closing": (volume, "_release"), "marking": (volume, "flush")}[step]
+        monkeypatch.setattr(owner, name, interrupts(getattr(owner, name)))
+        with pytest.raises(KeyboardInterrupt):
+            volume.close()
+        # Python itself takes it for closed once nothing is left to do
+        assert volume.closed == (step == "marking")
+        for use in (volume.read, volume.tell, lambda: volume.pread(1, 0)):
+            with pytest.raises(ValueError):
+                use()
+        if step == "wait":
+            # the read that ends last does what close() could not
+            assert any(key_of(volume)) and not volume._file.closed
+            reading.close()
+            assert not any(key_of(volume)) and volume._file.closed
+        monkeypatch.undo()
+        if ending == "close":
+            volume.close()
+            assert volume.closed
+        del volume, reading, use, owner
+
+
+@pytest.mark.parametrize("read", [lambda volume: volume.pread(5000, 300),
+                                  lambda volume: volume.read(5000)], ids=["pread", "read"])
+def test_close_by_a_handler(left, monkeypatch, read, text):
+    """A close in the midst of a read of the same thread, as by a signal handler, does not wait for
+    that read, which ends as usual and then does what close() could not."""
+    with left:
+        volume, read_exactly = open_kind(VOLUME2), luksrd._read_exactly
+
+        def interrupted(*arguments):
+            volume.close()
+            with pytest.raises(ValueError):
+                volume.seek(0)
+            read_exactly(*arguments)
+
+        volume.seek(300)
+        monkeypatch.setattr(luksrd, "_read_exactly", interrupted)
+        assert read(volume) == text(VOLUME2)[300:5300]
+        assert not any(key_of(volume)) and volume._file.closed
+        volume.close()
+        assert volume.closed
+        del volume
+
+
+def test_read_by_a_handler(left, monkeypatch, text):
+    """A read in the midst of a read of the same thread, as by a signal handler: the next one goes
+    on after the latter."""
+    with left, open_kind(VOLUME2) as volume:
+        read_exactly, inner = luksrd._read_exactly, []
+
+        def interrupted(*arguments):
+            read_exactly(*arguments)
+            if not inner:
+                inner.append(None)
+                inner.append(volume.read(50))
+                volume.seek(7)
+
+        monkeypatch.setattr(luksrd, "_read_exactly", interrupted)
+        wanted = text(VOLUME2)
+        assert volume.read(100) == wanted[:100] and inner[1] == wanted[:50]
+        assert volume.read(100) == wanted[100:200]
+
+
+def test_close_in_threads(left, text):
+    """The image is closed once, and no close returns before that: none closes a file of another
+    that has got the same descriptor."""
+    wanted = text(VOLUME2)
+    with left, concurrent.futures.ThreadPoolExecutor(8) as threads:
+        for _ in range(50):
+            volume, gate = open_kind(VOLUME2), threading.Barrier(8)
+
+            def close(number):
+                gate.wait()
+                if number == 0:
+                    with contextlib.suppress(ValueError):
+                        assert volume.pread(9000, 100) == wanted[100:9100]
+                volume.close()
+                assert volume.closed and volume._file.closed and not any(key_of(volume))
+                with open("pass", "rb") as other:
+                    time.sleep(0.001)
+                    return other.read()
+
+            assert set(threads.map(close, range(8))) == {volumes.PASS}
+
+
+STRICT = """
+import gc, sys, warnings, luksrd
+image, key, short = sys.argv[1:]
+luksrd.open(image, key_file=key).close()
+volume = luksrd.open(image, key_file=key)
+del volume
+for options in ({"key_file": key + ".absent"}, {"passphrase": "a wrong one"},
+                {"key_file": key, "header": key}):
+    try:
+        luksrd.open(image, **options)
+        print("opened")
+    except (OSError, luksrd.LuksError):
+        pass
+try:
+    luksrd.open(short, key_file=key)
+    print("opened")
+except luksrd.IncompleteImageWarning:
+    pass
+gc.collect()
+volume = luksrd.open(image, key_file=key)
+"""
+
+
+def test_strict():
+    """Python reports no file that was not closed, and no error that it ignores, when all warnings
+    are errors."""
+    expect(run(sys.executable, "-B", "-W", "error", "-X", "dev", "-c", STRICT, VOLUME1, "pass",
+               "truncated inside a sector", env=os.environ | {"PYTHONPATH": str(TOP / "python")}))
+
+
+def test_no_copies(volume, text):
+    """A volume cannot be copied or pickled."""
+    for copies in (copy.copy, copy.deepcopy, pickle.dumps):
+        with pytest.raises(TypeError, match="a volume cannot be copied or pickled"):
+            copies(volume)
+    assert volume.read() == text(VOLUME2)
+
+
+def test_forgotten():
+    """A volume that is no longer used is closed."""
+    before = descriptors()
+    volume = open_kind(VOLUME2)
+    assert descriptors() == before + 1
+    del volume
+    assert descriptors() == before
+
+
+def test_threads(volume, text):
+    """Threads read ranges of one volume at once, and each of its bytes once by readinto."""
+    wanted = text(VOLUME2)
+
+    def ranges(number):
+        chance = random.Random(number)
+        for _ in range(200):
+            offset, length = chance.randrange(len(wanted)), chance.randrange(20000)
+            assert volume.pread(length, offset) == wanted[offset:offset + length]
+
+    with concurrent.futures.ThreadPoolExecutor(8) as threads:
+        list(threads.map(ranges, range(8)))
+        pieces = list(threads.map(lambda _: volume.read(1000), range(len(wanted) // 1000 + 1)))
+    assert sorted(pieces) == sorted(wanted[at:at + 1000] for at in range(0, len(wanted), 1000))
+
+
+def test_close_while_threads_read(text):
+    """A read gives the text or says that the volume is closed, and never reads a file that got the
+    same descriptor."""
+    wanted = text(VOLUME2)
+    for number in range(20):
+        volume, started = open_kind(VOLUME2), threading.Event()
+
+        def reads():
+            try:
+                while True:
+                    assert volume.pread(9000, 100) == wanted[100:9100]
+                    started.set()
+            except ValueError:
+                return "closed"
+
+        with concurrent.futures.ThreadPoolExecutor(4) as threads:
+            running = [threads.submit(reads) for _ in range(4)]
+            assert started.wait(60)
+            time.sleep(number / 2000)
+            volume.close()
+            with open("plain", "rb") as other:
+                assert [future.result() for future in running] == ["closed"] * 4
+                assert other.tell() == 0
+
+
+def test_shorter(tmp_path, text):
+    """An image that becomes shorter gives no bytes where it is gone, and the buffer is zeroed."""
+    image = volumes.copy_of(VOLUME1, tmp_path / "image")
+    with luksrd.open(image, key_file="pass") as volume:
+        os.truncate(image, image.stat().st_size - 2000)
+        buffer = bytearray(b"x" * 8000)
+        with pytest.raises(OSError) as caught:
+            volume.pread_into(buffer, volume.size - 8000)
+        assert caught.value.errno == errno.EIO
+        assert "the image has become shorter" in str(caught.value)
+        assert buffer == bytes(8000)
+        assert volume.pread(8000, 0) == text(VOLUME1)[:8000]
