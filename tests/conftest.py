@@ -24,6 +24,7 @@ for variable in "MAKEFLAGS", "MFLAGS", "MAKELEVEL":
 ALLOWED_SKIPS = {
     "Debian 12 cannot be had here",
     "Debian 13 cannot be had here",
+    "cryptsetup does not begin to encrypt here",
     "file systems number their files otherwise here",
     "no loop device can be made here",
     "nothing can be mounted by FUSE",
