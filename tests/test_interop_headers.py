@@ -87,7 +87,7 @@ def test_a_header_backup(luksrd, several):
 @pytest.mark.parametrize("role, offset, damage", [
     ("secondary", 0, bytes(512)),
     ("primary", 20000, b"x"),
-])
+], ids=["the primary header", "the secondary header"])
 def test_a_damaged_header(luksrd, several, role, offset, damage):
     """cryptsetup reports about the undamaged one, as it repairs what it reads."""
     dump = dump_of({**reported(several), "header": role})

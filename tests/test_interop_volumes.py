@@ -69,7 +69,7 @@ LIMITED = "luksrd: no key slot can be tried; skipped: 0 (iterations), {} (iterat
 
 
 @pytest.mark.parametrize("version, line, output, message, status", [
-    (1, "luksCat --key-slot 5 --key-file pass2", PLAIN1, "", 0),
+    (1, "testPassphrase --key-slot 5 --key-file pass2", "Key slot 5 opens the volume.\n", "", 0),
     (1, "luksCat --key-slot 5 --key-file pass", "", NO_KEY, 2),
     (1, "luksCat --key-slot 1 --key-file pass2", "", "luksrd: key slot 1 is disabled", 1),
     (1, "luksCat --key-slot 8 --key-file pass", "", "luksrd: key slot 8 is not there", 1),
@@ -84,6 +84,10 @@ LIMITED = "luksrd: no key slot can be tried; skipped: 0 (iterations), {} (iterat
 def test_slots_by_number_and_limit(luksrd, made, version, line, output, message, status):
     image = (made.luks1() if version == 1 else made.luks2()).image
     expect(luksrd(line, image), output, message, status)
+
+
+def test_payload_by_a_slot_of_this_number(luksrd, made):
+    expect(luksrd("luksCat --key-slot 5 --key-file pass2", made.luks1().image), PLAIN1)
 
 
 def test_slot_to_be_ignored(luksrd, made, tmp_path):
