@@ -23,16 +23,12 @@ import time
 import warnings
 import zipfile
 
+import luksrd
 import pytest
 import volumes
 from kinds import (BY_VOLUME_KEY, KINDS, REFUSED, START, VOLUME1, VOLUME2, each_kind,
                    volume_key_options)
 from support import TOP, expect, must, needs, run
-
-sys.path.insert(0, str(TOP / "python"))
-sys.dont_write_bytecode = True
-import luksrd  # noqa: E402
-
 
 
 @pytest.fixture(autouse=True)
@@ -204,7 +200,9 @@ def test_pytsk3(made1, tmp_path):
     must("debugfs", "-w", "-R", "write inside inside", plain, cwd=tmp_path)
     with luksrd.open(sealed(made1, plain.read_bytes()), key_file="pass") as volume:
         image = Image(volume)
-        file = pytsk3.FS_Info(image).open("/inside")
+        # pytsk3 keeps no reference to the file system
+        system = pytsk3.FS_Info(image)
+        file = system.open("/inside")
         assert file.read_random(0, file.info.meta.size) == b"inside\n"
 
 
