@@ -6,6 +6,7 @@ import os
 import pathlib
 import signal
 import subprocess
+import time
 import types
 
 import pytest
@@ -51,7 +52,8 @@ BUILT = {"luksrd", "each_luksrd", "audit", "tools", "library", "each_library", "
 
 def pytest_collection_modifyitems(config, items):
     if config.getoption("--impostor"):
-        items[:] = [item for item in items if BUILT & set(item.fixturenames)]
+        items[:] = [item for item in items
+                    if BUILT & set(item.fixturenames) and not item.get_closest_marker("of_script")]
 
 
 def pytest_runtest_setup(item):
@@ -133,7 +135,10 @@ def no_process_stays(tmp_path, monkeypatch):
     the test, unless it is one of `start`."""
     monkeypatch.setenv(MARK, str(tmp_path))
     yield
-    left = support.processes_of(tmp_path)
+    # (those that were ended may take a moment)
+    deadline = time.monotonic() + 10
+    while (left := support.processes_of(tmp_path)) and time.monotonic() < deadline:
+        time.sleep(0.05)
     names = []
     for process in left:
         with contextlib.suppress(OSError):

@@ -161,16 +161,13 @@ def test_an_output_that_fails(candidates, tmp_path, how):
     assert (tmp_path / "-state").read_text() == "3\n"
 
 
-@pytest.mark.parametrize("arguments, message, status, runs", [
-    (["lines", "absent"], "luksrd: cannot open absent", 4, None),
-    (["lines", "lines"], "luksrd: not a LUKS image", 4, None),
-    (["lines", "--key-slot", "7", "volume"], "luksrd: key slot 7 is disabled", 1, None),
-    (["absent", "volume"], "luksrd-candidates: cannot open absent", 4, 0),
-    (["/proc/self/mem", "volume"], "luksrd-candidates: cannot read the candidates", 4, 0),
+@pytest.mark.parametrize("arguments, message, status", [
+    (["lines", "absent"], "luksrd: cannot open absent", 4),
+    (["lines", "lines"], "luksrd: not a LUKS image", 4),
+    (["lines", "--key-slot", "7", "volume"], "luksrd: key slot 7 is disabled", 1),
 ])
-def test_refusals(candidates, arguments, message, status, runs):
+def test_refusals(candidates, arguments, message, status):
     gives(candidates(*arguments), message=message + "\n", status=status)
-    assert runs in (None, candidates.runs())
 
 
 @pytest.mark.parametrize("arguments", [["lines", "-"], ["lines", "--key-file", "pass", "volume"]])
@@ -180,6 +177,15 @@ def test_arguments_that_luksrd_refuses(candidates, arguments):
     assert ended.message.startswith("usage: luksrd isLuks")
 
 
+@pytest.mark.of_script
+@pytest.mark.parametrize("file, message", [("absent", "cannot open absent"),
+                                           ("/proc/self/mem", "cannot read the candidates")])
+def test_files_that_cannot_be_read(candidates, file, message):
+    gives(candidates(file, "volume"), message=f"luksrd-candidates: {message}\n", status=4)
+    assert candidates.runs() == 0
+
+
+@pytest.mark.of_script
 @pytest.mark.parametrize("line", ["", "lines", "-j 0 lines volume", "-j two lines volume", "-x lines volume", "-s"])
 def test_arguments_that_are_wrong(candidates, line):
     gives(candidates(*line.split()), message="luksrd-candidates: usage: luksrd-candidates [-j N] [-s STATE] CANDIDATES "

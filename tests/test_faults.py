@@ -62,9 +62,9 @@ def inputs(made2, long_volume, tmp_path):
 
 def fill_pipe(descriptor, content):
     """Writes this into a pipe that holds all of it, at once."""
-    fcntl.fcntl(descriptor, fcntl.F_SETPIPE_SZ, 1 << 20)
-    assert os.write(descriptor, content) == len(content)
-    os.close(descriptor)
+    with open(descriptor, "wb", buffering=0) as pipe:
+        fcntl.fcntl(pipe, fcntl.F_SETPIPE_SZ, 1 << 20)
+        assert pipe.write(content) == len(content)
 
 
 class Offered:

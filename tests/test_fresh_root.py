@@ -73,7 +73,7 @@ class Root:
 def given(made, sample, tmp_path):  # noqa: F811
     """A folder that anyone can read, with the sample volume, the sources of C, and programs of the documents."""
     folder = tmp_path / "given"
-    for name in "c", "nbdkit", "sample":
+    for name in "c", "nbdkit", "packaging", "sample":
         shutil.copytree(TOP / name, folder / name)
     shutil.copy(TOP / "Makefile", folder)
     shutil.copy(sample.volume, folder / "disk.img")

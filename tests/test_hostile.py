@@ -14,7 +14,7 @@ from volumes import overwrite, passphrases, with_checksum
 
 SEED = int(os.environ.get("SEED", time.time()))
 RUNS = int(os.environ.get("RUNS", 50000))
-PARTS = 20
+PARTS = 10  # for each processor
 
 REASONS = "(type|member|argon2id?|kdf|hash|encryption|key size|stripes|iterations|area|digest|state)"
 SKIPPED = rf"(; skipped: \d+ \({REASONS}\)(, \d+ \({REASONS}\))*)?"
@@ -132,7 +132,7 @@ def one_run(program, volumes, plain):
 
 
 @pytest.mark.parametrize("part", range(PARTS))
-def test_generated_headers(luksrd, made1, made2, tmp_path, monkeypatch, part):
+def test_generated_headers(each_luksrd, made1, made2, tmp_path, monkeypatch, part):
     monkeypatch.chdir(passphrases(tmp_path))
     draw.seed(1)
     plain = draw.randbytes(16384)
@@ -143,12 +143,12 @@ def test_generated_headers(luksrd, made1, made2, tmp_path, monkeypatch, part):
                Volume2(made2("aes-cbc-plain64", 128, "--sector-size", "4096", plain=plain), len(plain))]
     draw.seed(SEED + part)
     wrong, tried, decrypted = [], 0, 0
-    for number in range(RUNS // PARTS):
-        command, ended, is_right, words = one_run(luksrd, volumes, plain)
+    for number in range(RUNS // PARTS // 2):
+        command, ended, is_right, words = one_run(each_luksrd, volumes, plain)
         decrypted += reached_payload(command, ended)
         tried += tried_a_slot(command, ended)
         if not is_right:
             wrong.append((number, command, words, ended.status, ended.output[:100], ended.message[:200]))
     assert wrong[:5] == [], f"SEED={SEED}"
-    assert 3 * min(tried, decrypted) >= RUNS // PARTS, f"SEED={SEED}: {tried} runs tried a key slot, {decrypted} " \
+    assert 3 * min(tried, decrypted) >= RUNS // PARTS // 2, f"SEED={SEED}: {tried} runs tried a key slot, {decrypted} " \
         "reached the payload"

@@ -66,7 +66,7 @@ class Make:
 
 
 @pytest.fixture
-def tools(tmp_path):
+def stand_ins(tmp_path):
     """A folder of tools that stand in the place of others: a dpkg-query that knows the files in `owned`, a pkg-config that
     names folders for nbdkit, and an ldconfig that knows two folders and notes in `notes` that it is to note libraries."""
     folder = tmp_path / "tools"
@@ -87,7 +87,7 @@ esac""",
 
 
 @pytest.fixture
-def make(tmp_path, tools):
+def make(tmp_path, stand_ins):
     """make with any files in the place of what is built, and with the tools above."""
     folder = tmp_path / "made"
     folder.mkdir()
@@ -95,7 +95,7 @@ def make(tmp_path, tools):
     for name in "PROGRAM", "AUDIT", "LIBRARY", "SHARED", "SHARED_V3", "PLUGIN", "FILTER":
         variables[name] = folder / name.lower()
         shutil.copy("/bin/true", variables[name])
-    return Make(variables, tools)
+    return Make(variables, stand_ins)
 
 
 @pytest.fixture
@@ -256,12 +256,12 @@ def test_plugin_and_filter_of_the_system(make, tmp_path, prefix):
     assert files_in(there) == []
 
 
-def test_another_prefix_leaves_folders_of_nbdkit(make, tools, tmp_path):
+def test_another_prefix_leaves_folders_of_nbdkit(make, stand_ins, tmp_path):
     """An empty file in the place of a plugin that this PREFIX did not get stays."""
     nbdkit = tmp_path / "nbdkit"
     nbdkit.mkdir()
     (nbdkit / PLUGIN).touch()
-    (tools / "pkg-config").write_text(f"#!/bin/sh\necho '{nbdkit}'\n")
+    (stand_ins / "pkg-config").write_text(f"#!/bin/sh\necho '{nbdkit}'\n")
     for target in "install", "uninstall":
         assert make(target, PREFIX=tmp_path / "own").status == 0
         assert (files_in(nbdkit), (nbdkit / PLUGIN).stat().st_size) == ([PLUGIN], 0)

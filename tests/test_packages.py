@@ -276,7 +276,7 @@ LIBRARY_VERSION = "0x%x\n" % int(re.search(r"#define LUKSRD_VERSION (0x\w+)", (T
 
 
 @needs("root", "zsh")
-def test_installed_packages(installed, here, sample, tmp_path):
+def test_installed_packages(installed, made, here, sample, tmp_path):
     """They run from where they are; make installs over none of their files, and removes none."""
     reads_the_sample("/usr/bin/luksrd", here, sample)
     expect(run("python3", "-c", VERSION_OF_LIBRARY), LIBRARY_VERSION)
@@ -284,8 +284,7 @@ def test_installed_packages(installed, here, sample, tmp_path):
     nbdkit_serves("luksrd", "luksrd", here, sample)
     module_gives(f"/{MODULES}", here, sample)
     expect(run("zsh", "-fc", "autoload -Uz compinit; compinit -D -u; print -r -- $_comps[luksrd]"), "_luksrd\n")
-    make = Make({"PROGRAM": "/bin/true", "AUDIT": "no", "LIBRARY": "/bin/true", "SHARED": "/bin/true",
-                 "SHARED_V3": "/bin/true", "PLUGIN": "/bin/true", "FILTER": "/bin/true", "DESTDIR": ""})
+    make = Make({**made[0].variables, "AUDIT": "no-audit", "DESTDIR": ""})
     late = tmp_path / "late"
     nbdkit = f"/{LIBRARIES}/nbdkit"
     for words, variables, package, file in [

@@ -84,7 +84,7 @@ def test_nothing_of_an_image_whose_header_is_dumped(consumed, luksrd, here, samp
 @pytest.fixture
 def extended(made2, tmp_path):
     """A volume of 400 sectors: its file, and the text."""
-    plain = bytes(range(250)) * 820 + bytes(400 * 512 - 250 * 820)
+    plain = (bytes(range(251)) * 820)[:400 * 512]
     made = made2("aes-cbc-essiv:sha256", 128, "--sector-size", "512", plain=plain)
     (tmp_path / "pass").write_bytes(b"a passphrase")
     return copy_of(made, tmp_path / "extended"), plain

@@ -1,25 +1,17 @@
-"""Both builds write the same bytes, report the same and end alike, on volumes of every mode and sector size, whole,
-truncated and damaged, and on stripes. Processors that qemu imitates: which programs they run, what they lack, and which
-of both libraries the loader takes. Last, that neither build takes the place of the other."""
+"""Processors that qemu imitates: which programs they run, what they lack, and which of both libraries the loader takes,
+from a folder that a program, the plugin or LD_LIBRARY_PATH names, and by ldconfig's cache. Then, that neither build takes
+the place of the other."""
 import os
-import random
 import re
 import shutil
 import signal
 
 import pytest
-from support import TOP, USAGE, built, expect, must, needs, run, runs_v3
+from support import TOP, built, expect, must, needs, run
 from test_install import Make
-from volumes import copy_of, passphrases
+from volumes import copy_of
 
 V3 = "glibc-hwcaps/x86-64-v3/libluksrd.so.2"
-PLAIN = random.Random(7).randbytes(303104)
-CIPHERS1 = [("aes-xts-plain64", 512, "sha256"), ("aes-xts-plain64", 256, "sha512"), ("aes-xts-plain", 512, "sha1"),
-            ("aes-cbc-essiv:sha256", 128, "sha256"), ("aes-cbc-essiv:sha256", 256, "sha512"),
-            ("aes-cbc-plain64", 256, "sha1")]
-CIPHERS2 = [("aes-xts-plain64", 512, 512), ("aes-xts-plain64", 256, 1024), ("aes-xts-plain64", 512, 2048),
-            ("aes-xts-plain64", 512, 4096), ("aes-xts-plain", 512, 512), ("aes-cbc-essiv:sha256", 256, 4096),
-            ("aes-cbc-plain64", 128, 512)]
 
 
 def emulated(processor, *words, **how):
@@ -27,87 +19,6 @@ def emulated(processor, *words, **how):
     ended = run("qemu-x86_64", "-cpu", processor, *words, **how)
     lines = [line for line in ended.message.splitlines() if not line.startswith("qemu-x86_64: warning: ")]
     return ended._replace(message="".join(line + "\n" for line in lines))
-
-
-@pytest.fixture
-def both(request, luksrd, tmp_path):
-    """How the run of a command line ends, which is the same for both programs. Haswell was the first processor of
-    x86-64-v3."""
-    program_v3 = built(request.config, "luksrd-v3")
-
-    def ends(line, *words, stdin=None):
-        ended = luksrd(line, *words, stdin=stdin)
-        command = [program_v3, *line.split(), *words]
-        other = (run if runs_v3() else lambda *it, **how: emulated("Haswell", *it, **how))
-        assert other(*command, stdin=stdin, cwd=tmp_path) == ended
-        return ended
-
-    return ends
-
-
-def all_alike(both, folder, plain):
-    """Every command on the volume `image`, and its payload from a pipe and truncated."""
-    passphrases(folder)
-    image = folder / "image"
-    for command in "isLuks", "luksUUID", "luksDump", "luksCheck":
-        assert both(command, "image").status == 0
-    expect(both("testPassphrase --key-file pass image"), "Key slot 0 opens the volume.\n")
-    assert both("testPassphrase --key-file wrong image").status == 2
-    assert both("luksCat --key-file pass --max-iterations 999 image").status == 1
-    for ended in (both("luksCat --key-file pass image"), both("luksCat --key-file pass -", stdin=image.read_bytes()),
-                  both("luksCat --key-file pass --header image image")):
-        assert (ended.status, ended.message, ended.output[:len(plain)] == plain) == (0, "", True)
-    with open(image, "r+b") as file:
-        file.truncate(image.stat().st_size - 700)
-        assert both("luksCat --key-file pass image").status == 4
-        file.truncate(20000)
-        assert both("luksCat --key-file pass image").status == 4
-
-
-@pytest.mark.parametrize("cipher, bits, hash_", CIPHERS1)
-def test_luks1(both, made1, tmp_path, cipher, bits, hash_):
-    plain = PLAIN[:300032]
-    copy_of(made1(cipher, hash_, bits, plain=plain), tmp_path / "image")
-    all_alike(both, tmp_path, plain)
-
-
-@pytest.mark.parametrize("cipher, bits, sector", CIPHERS2)
-def test_luks2(both, made2, tmp_path, cipher, bits, sector):
-    copy_of(made2(cipher, bits, "--sector-size", str(sector), plain=PLAIN), tmp_path / "image")
-    all_alike(both, tmp_path, PLAIN)
-
-
-@pytest.mark.parametrize("version", [1, 2])
-def test_damaged_headers(both, made1, made2, tmp_path, version):
-    """Copies with one other byte each, at places and with values that follow from a count."""
-    made = (made1(*CIPHERS1[0][::2], 512, plain=PLAIN[:300032]) if version == 1
-            else made2("aes-xts-plain64", 512, "--sector-size", "4096", plain=PLAIN))
-    passphrases(tmp_path)
-    content = bytearray(made.read_bytes())
-    ends = set()
-    for count in range(100):
-        place = count * 7919 % 32768
-        kept, content[place] = content[place], count * 37 % 256
-        (tmp_path / "image").write_bytes(content)
-        content[place] = kept
-        ends.add(both("luksCat --key-file pass image").status)
-    assert {0, 4} <= ends
-
-
-@pytest.mark.parametrize("hash_", ["sha1", "sha224", "sha256", "sha384", "sha512"])
-def test_stripes(both, tmp_path, hash_):
-    (tmp_path / "key").write_bytes(PLAIN[:64])
-    (tmp_path / "random").write_bytes(PLAIN[64:200 * 64])
-    split = both(f"afSplit --hash {hash_} --stripes 200 --random random key")
-    assert split.output.startswith(PLAIN[64:200 * 64])
-    expect(both(f"afMerge --hash {hash_} --stripes 200 --key-bytes 64 -", stdin=split.output), PLAIN[:64])
-
-
-def test_usage(both):
-    expect(both("--help"), message=USAGE, status=1)
-
-
-# Processors that qemu imitates
 
 
 def lack(level):

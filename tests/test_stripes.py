@@ -1,4 +1,5 @@
 """The commands afSplit and afMerge, on files and on pipes. What is expected was computed by Python's hashlib."""
+import hashlib
 import os
 
 import pytest
@@ -28,11 +29,11 @@ BAD_KEY = "luksrd: key must be 1 to 512 bytes"
     ("sha256", 2, bytes(513), bytes(513), b"", BAD_KEY, 4),
 ])
 @pytest.mark.parametrize("is_pipe", [False, True])
-def test_split(luksrd, tmp_path, hash_, stripes, key, random, output, message, status, is_pipe):
+def test_split(each_luksrd, tmp_path, hash_, stripes, key, random, output, message, status, is_pipe):
     (tmp_path / "key").write_bytes(key)
     (tmp_path / "random").write_bytes(random)
     line = f"afSplit --hash {hash_} --stripes {stripes} --random"
-    ended = luksrd(line, "-", "key", stdin=random) if is_pipe else luksrd(line, "random", "key")
+    ended = each_luksrd(line, "-", "key", stdin=random) if is_pipe else each_luksrd(line, "random", "key")
     expect(ended, output, message, status)
 
 
@@ -45,11 +46,33 @@ def test_split(luksrd, tmp_path, hash_, stripes, key, random, output, message, s
     ("sha256", 2, (ZEROS + LAST)[:-1], b"", "luksrd: stripes are too few", 4),
 ])
 @pytest.mark.parametrize("way", ["file", "standard input", "pipe"])
-def test_merge(luksrd, tmp_path, hash_, stripes, stored, output, message, status, way):
+def test_merge(each_luksrd, tmp_path, hash_, stripes, stored, output, message, status, way):
     (tmp_path / "stripes").write_bytes(stored)
     line = f"afMerge --hash={hash_} --stripes={stripes} --key-bytes={len(output) or len(KEY)}"
     stdin = {"file": None, "standard input": tmp_path / "stripes", "pipe": stored}[way]
-    expect(luksrd(line, "stripes" if way == "file" else "-", stdin=stdin), output, message, status)
+    expect(each_luksrd(line, "stripes" if way == "file" else "-", stdin=stdin), output, message, status)
+
+
+def split(hash_, key, random):
+    """The stripes of a key, as the LUKS1 standard has it, by hashlib."""
+    size, chain = hashlib.new(hash_).digest_size, bytes(len(key))
+    for at in range(0, len(random), len(key)):
+        mixed = bytes(a ^ b for a, b in zip(chain, random[at:at + len(key)]))
+        pieces = [mixed[begin:begin + size] for begin in range(0, len(key), size)]
+        hashes = [hashlib.new(hash_, number.to_bytes(4, "big") + piece).digest()[:len(piece)]
+                  for number, piece in enumerate(pieces)]
+        chain = b"".join(hashes)
+    return random + bytes(a ^ b for a, b in zip(chain, key))
+
+
+@pytest.mark.parametrize("hash_", ["sha1", "sha224", "sha256", "sha384", "sha512"])
+@pytest.mark.parametrize("length", [16, 64, 100])
+def test_beside_hashlib(each_luksrd, tmp_path, hash_, length):
+    key, random = bytes(range(length)), bytes(i * i % 251 for i in range(199 * length))
+    (tmp_path / "key").write_bytes(key)
+    stripes = split(hash_, key, random)
+    expect(each_luksrd(f"afSplit --hash {hash_} --stripes 200 --random - key", stdin=random), stripes)
+    expect(each_luksrd(f"afMerge --hash {hash_} --stripes 200 --key-bytes {length} -", stdin=stripes), key)
 
 
 def test_the_rest_of_a_pipe_is_there_for_the_next_program(luksrd):

@@ -83,7 +83,7 @@ fn run<'a>(rt: &HostRuntime, command: &Command<'a>) -> Result<ExitCode, StartFau
 /// Flushes the output, prints the message of a report, and returns the exit status.
 ///
 /// It is not inlined: the buffers of its lines would be on the stack during the run, and may not
-/// fit into a limited address space (`tests/memory.sh`).
+/// fit into a limited address space (`tests/test_memory.py`).
 #[inline(never)]
 fn finish<O: RawFlush>(rt: &HostRuntime, report: &Report, output: &mut O) -> ExitCode {
     let (line, lost) = (report.message.line(), Message::WriteFailed.line());

@@ -1,4 +1,4 @@
-//! Tools for `interop/` and `bench/`. The first argument names one: `derive` derives keys,
+//! Tools for `tests/` and `bench/`. The first argument names one: `derive` derives keys,
 //! `crypt` times sectors, and `seal` writes a sealed volume. The module of each says which
 //! arguments follow. With no arguments the program does nothing.
 #![tactic(auto)]

@@ -2,7 +2,7 @@
 //! `luks2`, MODE the name of a mode and SECTOR the length of a sector in bytes (LUKS1 has only
 //! 512). The volume holds 32,768 plain bytes that count modulo 251, and has two key slots, 0 with
 //! the passphrase `one` and 1 with the passphrase `two`. With no further arguments it does nothing.
-//! `interop/sealed.sh` shows its volumes to other programs.
+//! `tests/test_sealed.py` shows its volumes to other programs.
 
 use crate::mode_key::key_of;
 use crate::usage::print_usage;

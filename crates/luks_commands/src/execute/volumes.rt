@@ -160,7 +160,7 @@ pub(super) fn test_passphrase<I: Source, K: Source, O: Sink>(
 /// Writes the plaintext of an open volume's payload. `loaded` holds the first bytes of its image.
 ///
 /// It is not inlined. `cat` calls it for several types of sources, and a stack with all frames may
-/// not fit into a limited address space (`tests/memory.sh`).
+/// not fit into a limited address space (`tests/test_memory.py`).
 #[inline(never)]
 fn write_plain<I: Source, O: Sink>(
     volume: &UnlockedVolume,

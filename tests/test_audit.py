@@ -1,0 +1,521 @@
+"""What luksrd-audit lists of headers, field by field beside what cryptsetup reports about them;
+what it calls weak; its search for headers; and the recipes of docs/AUDIT.md and its man page.
+
+What is judged (findings, weak, and whether luksrd can try a slot) cryptsetup does not report."""
+import json
+import os
+import re
+import resource
+import struct
+
+import documents
+import pytest
+from documents import SHELLS, Cook, commands_in, document, example
+from kinds import each_kind
+from payloads import OF_LUKS2, format2, make_several
+from reported import dump_of, reported
+from support import FULL, TOP, must, needs, run
+from volumes import copy_of, cryptsetup, edit_metadata, overwrite, passphrases, with_checksum
+
+PAGE = TOP / "docs/luksrd-audit.1"
+GUIDE = TOP / "docs/AUDIT.md"
+HASHES = ["sha1", "sha224", "sha256", "sha384", "sha512", "ripemd160"]
+JUDGED = ("file", "findings", "weak")
+JUDGED_OF_SLOT = ("state", "reason", "can_try")
+WEAK1 = ["slot 0 iterations", "slot 5 iterations"]
+WEAK_SHA1 = ["slot 0 iterations", "slot 0 sha1", "slot 5 iterations", "slot 5 sha1",
+             "digest 0 sha1"]
+WEAK_SEVERAL = ["slot 0 iterations", "slot 1 iterations", "slot 10 iterations",
+                "slot 31 argon2-memory"]
+
+
+@pytest.fixture
+def here(made1, cached, tmp_path):
+    """The folder of the test, with volumes and an empty image: wiped is several without its primary
+    header."""
+    passphrases(tmp_path)
+    copy_of(made1("aes-xts-plain64", "sha1", 512), tmp_path / "sha1")
+    copy_of(cached("several", make_several), tmp_path / "several")
+    copy_of(tmp_path / "several", tmp_path / "wiped")
+    overwrite(tmp_path / "wiped", 0, bytes(4096))
+    (tmp_path / "empty").write_bytes(bytes(1 << 20))
+    return tmp_path
+
+
+@pytest.fixture
+def image(tmp_path):
+    return passphrases(tmp_path) / "image"
+
+
+def listed(audit, line, *arguments, status=1, **how):
+    """The objects that are listed, of a line each. The volumes here have few iterations, and so
+    they are weak."""
+    ended = audit(line, *arguments, **how)
+    assert (ended.status, ended.message) == (status, "")
+    return [json.loads(text) for text in ended.output.splitlines()]
+
+
+def members(found, *names):
+    return [[each.get(name) for name in names] for each in found]
+
+
+def weak(found):
+    return [f"{each['place']} {each['name']}" for each in found["weak"]]
+
+
+def check_facts(found, wanted):
+    """An object is as cryptsetup reports, apart from what is judged: a number and a text that reads
+    like it differ."""
+    facts = {name: value for name, value in found.items() if name not in JUDGED}
+    facts["slots"] = [
+        {"number": slot["number"], "state": "disabled"} if slot["state"] == "disabled" else
+        {name: value for name, value in slot.items() if name not in JUDGED_OF_SLOT}
+        for slot in found["slots"]]
+    assert (json.dumps(facts, indent=1, sort_keys=True) ==
+            json.dumps(wanted, indent=1, sort_keys=True))
+
+
+def check_listed(audit, luksrd, file, image=None, role="primary", other=None):
+    """What is listed of a header is what cryptsetup reports, and its findings are luksCheck's."""
+    [found] = listed(audit, "", file)
+    check_facts(found, reported(file, image, role, other))
+    check = luksrd("luksCheck", file).output.decode().splitlines()
+    assert (found["findings"] or ["clean"]) == check
+    return found
+
+
+@pytest.mark.parametrize("mode, hash_, bits, names", [
+    ("xts-plain64", "sha1", 512, WEAK_SHA1),
+    *(("xts-plain64", hash_, 512, WEAK1) for hash_ in HASHES[1:]),
+    ("cbc-essiv:sha256", "sha256", 128,
+     ["segment cbc", "segment short-key", "slot 0 iterations", "slot 0 cbc", "slot 0 short-key",
+      "slot 5 iterations", "slot 5 cbc", "slot 5 short-key"]),
+])
+def test_luks1(audit, luksrd, made1, mode, hash_, bits, names):
+    found = check_listed(audit, luksrd, made1(f"aes-{mode}", hash_, bits))
+    assert weak(found) == names
+
+
+@pytest.mark.parametrize("header, areas", [(16, 252), (32, 256), (64, 512), (128, 1024),
+                                           (256, 2048), (512, 4096), (1024, 8192), (2048, 1024),
+                                           (4096, 256)])
+def test_luks2_lengths(audit, luksrd, image, header, areas):
+    format2(image, f"--luks2-metadata-size {header}k --luks2-keyslots-size {areas}k")
+    assert check_listed(audit, luksrd, image)["header_size"] == header * 1024
+    overwrite(image, 4096, b"x")
+    check_listed(audit, luksrd, image, role="secondary", other="not valid")
+
+
+@pytest.mark.parametrize("line, names", [
+    ("--hash sha1", ["slot 0 iterations", "slot 0 sha1", "digest 0 sha1"]),
+    *((f"--hash {hash_}", ["slot 0 iterations"]) for hash_ in HASHES[1:]),
+    ("--cipher aes-xts-plain64 --key-size 512 --sector-size 512", ["slot 0 iterations"]),
+    ("--cipher aes-xts-plain64 --key-size 256 --sector-size 4096", ["slot 0 iterations"]),
+    ("--cipher aes-cbc-essiv:sha256 --key-size 128 --sector-size 512",
+     ["segment cbc", "segment short-key", "slot 0 iterations", "slot 0 cbc", "slot 0 short-key"]),
+])
+def test_luks2(audit, luksrd, image, line, names):
+    format2(image, line)
+    assert weak(check_listed(audit, luksrd, image)) == names
+
+
+def test_several_slots(audit, luksrd, here):
+    found = check_listed(audit, luksrd, here / "several")
+    assert members(found["slots"], "number", "state", "reason", "can_try") == [
+        [0, "usable", None, True],
+        [1, "usable", None, True],
+        [2, "skipped", "argon2id", False],
+        [10, "usable", None, True],
+        [31, "skipped", "argon2i", False],
+    ]
+    assert weak(found) == WEAK_SEVERAL
+
+
+@each_kind
+def test_kinds(audit, luksrd, kinds, kind):
+    if kind.header:
+        check_listed(audit, luksrd, kinds / kind.header, kinds / kind.image)
+    else:
+        check_listed(audit, luksrd, kinds / kind.image)
+
+
+@pytest.mark.parametrize("bits", [256, 512])
+def test_converted(audit, luksrd, made1, image, bits):
+    """cryptsetup converts a volume of LUKS1 to LUKS2 and back."""
+    copy_of(made1("aes-xts-plain64", "sha512", bits), image)
+    before = check_listed(audit, luksrd, image)
+    cryptsetup("convert --type luks2", image)
+    check_listed(audit, luksrd, image)
+    cryptsetup("convert --type luks1", image)
+    assert check_listed(audit, luksrd, image) == before
+
+
+def test_requirements_of_a_volume_that_is_being_encrypted(audit, image):
+    image.write_bytes(bytes(20 << 20))
+    cryptsetup(f"reencrypt --encrypt --init-only --reduce-device-size 4M {OF_LUKS2} image",
+               cwd=image.parent)
+    tree = cryptsetup("luksDump --dump-json-metadata", copy_of(image, image.parent / "copy"))
+    [found] = listed(audit, "image")
+    assert found["requirements"] == json.loads(tree)["config"]["requirements"]["mandatory"]
+
+
+def test_requirements(audit, luksrd, image):
+    """One of them cryptsetup does not know."""
+    format2(image, "--sector-size 512")
+    wanted = ["offline-reencrypt", "mine"]
+    edit_metadata(image, lambda tree: tree["config"].update(requirements={"mandatory": wanted}))
+    assert check_listed(audit, luksrd, image)["requirements"] == wanted
+
+
+def test_wiped_headers(audit, luksrd, here):
+    found = check_listed(audit, luksrd, here / "wiped", role="secondary", other="not valid")
+    assert found["findings"] == ["primary header: not valid"]
+    overwrite(here / "several", 4 * 4096, bytes(4096))
+    [found] = listed(audit, "several")
+    assert (found["header"], found["other_header"]) == ("primary", "not valid")
+
+
+@pytest.mark.parametrize("hash_, count, options, names", [
+    ("sha512", 209999, "", ["slot 0 iterations"]),
+    ("sha512", 210000, "", []),
+    ("sha256", 599999, "", ["slot 0 iterations"]),
+    ("sha256", 600000, "", []),
+    ("sha256", 599999, "--min-iterations 599999", []),
+    ("sha256", 600000, "--min-iterations=600001", ["slot 0 iterations"]),
+])
+def test_iterations(audit, image, hash_, count, options, names):
+    """The figures of OWASP, and a minimum of one's own."""
+    image.touch()
+    os.truncate(image, 3 << 20)
+    cryptsetup(f"luksFormat --type luks1 --pbkdf-force-iterations {count} --hash {hash_} "
+               "--key-size 512 --key-file pass image", cwd=image.parent)
+    [found] = listed(audit, f"{options} image", status=1 if names else 0)
+    assert weak(found) == names
+
+
+def test_several_images(audit, here):
+    """One is missing, and one has no header."""
+    found = listed(audit, "several missing empty sha1 -", stdin=here / "sha1", status=4)
+    assert members(found, "file", "error", "version") == [
+        ["several", None, 2],
+        ["missing", "cannot be opened", None],
+        ["empty", "no LUKS header", None],
+        ["sha1", None, 1],
+        ["-", None, 1],
+    ]
+
+
+def test_columns(audit, here):
+    rows = [line.split("\t") for line in
+            audit("--tsv several missing empty").output.decode().splitlines()]
+    assert [[len(row), row[0], row[2], row[3]] for row in rows] == [
+        [25, "file", "error", "version"],
+        [25, "several", "", "2"],
+        [25, "missing", "cannot be opened", ""],
+        [25, "empty", "no LUKS header", ""],
+    ]
+    [found] = listed(audit, "several")
+    assert json.loads(rows[1][17]) == found["tokens"]
+    binary = [str(found[name]) for name in ("seqid", "header_size", "checksum_hash", "iv_tweak")]
+    assert [*rows[1][20:23], rows[1][24]] == binary
+
+
+def test_output_that_cannot_be_written(audit, here):
+    failed = (6, b"", "luksrd-audit: write failed\n")
+    assert audit("several", stdout=FULL) == failed
+    assert run("sh", "-c", 'exec "$0" several >&-', audit.path, cwd=here) == failed
+
+
+@pytest.fixture
+def target(here):
+    """An image that the output goes to, which stays as it is."""
+    target = copy_of(here / "sha1", here / "target")
+    yield target
+    assert target.read_bytes() == (here / "sha1").read_bytes()
+
+
+REFUSED = (4, b"", "luksrd-audit: standard output is one of the images\n")
+
+
+@pytest.mark.parametrize("line", ["target", "several target", "target several", "./target"])
+@pytest.mark.parametrize("options", ["", "--tsv"])
+def test_output_to_an_image(audit, target, options, line):
+    assert audit(f"{options} {line}", stdout=target) == REFUSED
+
+
+def test_output_to_an_image_otherwise(audit, target):
+    """The output is appended to it, or it is standard input."""
+    with open(target, "ab") as output:
+        assert audit("target", stdout=output) == REFUSED
+    assert audit("-", stdin=target, stdout=target) == REFUSED
+
+
+def test_output_to_another_file(audit, here):
+    (here / "other").touch()
+    assert audit("sha1 several", stdout=here / "other") == (1, b"", "")
+    assert len((here / "other").read_bytes().splitlines()) == 2
+
+
+def test_arguments(audit, here):
+    assert audit(".") == (4, b'{"error":"cannot be opened","file":"."}\n', "")
+    not_utf8 = audit("several", os.fsdecode(b"a\xff"))
+    assert not_utf8 == (2, b"", "luksrd-audit: an argument is not UTF-8\n")
+    ended = audit("--help")
+    assert (ended.status, ended.output.decode().splitlines()[0]) == (
+        0, "Lists what is in LUKS headers, and what is weak about them, as JSON.")
+    for line in "", "- -":
+        assert audit(line).status == 2
+    version = re.search(r"^\.Os luksrd (.*)$", PAGE.read_text(), re.M)[1]
+    assert audit("--version") == (0, f"luksrd-audit {version}\n".encode(), "")
+
+
+def test_a_hostile_text_forges_no_field(audit, here):
+    overwrite(here / "sha1", 168, b'x","weak":[],"y":"\n\t\\\0')
+    [found] = listed(audit, "sha1")
+    assert (found["uuid"], len(found["weak"])) == ('x","weak":[],"y":"\\x0a\\x09\\x5c', 5)
+    assert len(audit("--tsv sha1").output.splitlines()) == 2
+
+
+@pytest.mark.parametrize("name, size, wanted", [
+    ("sha1", 591, [None, None, None, "header is truncated"]),
+    ("sha1", 592, [1, None, None, None]),
+    ("several", 16383, [None, None, None, "no LUKS header"]),
+    ("several", 32767, [2, "primary", "not valid", None]),
+    ("several", 32768, [2, "primary", None, None]),
+    ("wiped", 32767, [None, None, None, "no LUKS header"]),
+])
+def test_truncated(audit, here, name, size, wanted):
+    found = listed(audit, "-", stdin=(here / name).read_bytes()[:size])
+    assert members(found, "version", "header", "other_header", "error") == [wanted]
+
+
+def test_json_that_cannot_be_read(audit, here):
+    header = bytearray((here / "several").read_bytes()[:16384])
+    header[4096:4097] = b"["
+    [found] = listed(audit, "-", stdin=with_checksum(header))
+    assert found["error"] == "JSON area cannot be read"
+
+
+@pytest.mark.parametrize("name, consumed", [("sha1", 592), ("several", 32768)])
+def test_how_much_is_read(audit, here, name, consumed):
+    with open(here / name, "rb", buffering=0) as file:
+        assert len(listed(audit, "-", stdin=file)) == 1
+        assert file.seek(0, os.SEEK_CUR) == consumed
+
+
+# the volumes in the disk, with which header is listed and what is wrong with the other one
+PLACES = {
+    1 << 20: ("sha1", None, None),
+    20 << 20: ("several", "primary", None),
+    100001 * 512: ("wiped", "secondary", "not valid"),
+}
+
+
+def places(audit, name, **how):
+    found = listed(audit, "--search", name, **how)
+    return members(found, "offset", "version", "header", "error")
+
+
+@pytest.fixture
+def disk(here):
+    """A disk with volumes, and partitions for two of them."""
+    disk = here / "disk"
+    disk.touch()
+    os.truncate(disk, 100 << 20)
+    for offset, (name, *_) in PLACES.items():
+        overwrite(disk, offset, (here / name).read_bytes())
+    must("sfdisk", "-q", disk, stdin=b"label: dos\n2048 8192 83\n40960 40960 83\n")
+    return disk
+
+
+@needs("sfdisk")
+def test_search_of_a_disk(audit, here, disk):
+    wanted = [[offset, 1 if name == "sha1" else 2, role, None]
+              for offset, (name, role, _) in PLACES.items()]
+    assert places(audit, "disk") == wanted
+    table = must("sfdisk", "-d", disk).decode()
+    assert re.findall(r"start= *(\d+),", table) == ["2048", "40960"]
+    overwrite(disk, 0, bytes(512))
+    assert places(audit, "disk") == wanted
+    assert places(audit, "-", stdin=disk.read_bytes()) == wanted
+
+
+@needs("sfdisk")
+def test_what_a_search_finds(audit, luksrd, here, disk):
+    """It is what cryptsetup reports of the volume there, and so is luksrd's dump from there on."""
+    found = listed(audit, "--search disk")
+    for each, (offset, (name, role, other)) in zip(found, PLACES.items(), strict=True):
+        wanted = reported(here / name, None, role, other)
+        check_facts({**each, "offset": 0}, wanted)
+        rest = disk.read_bytes()[offset:]
+        assert luksrd("luksDump -", stdin=rest) == (0, dump_of(wanted).encode(), "")
+        [alone] = listed(audit, "-", stdin=rest)
+        assert {**alone, "file": "disk", "offset": offset} == each
+
+
+def test_search_of_one_volume(audit, here):
+    assert places(audit, "wiped") == [[0, 2, "secondary", None]]
+    assert places(audit, "empty") == [[None, None, None, "no LUKS header"]]
+    image = here / "magic"
+    format2(image, "--sector-size 512")
+    overwrite(image, 35000 * 512, b"LUKS\xba\xbe\0\2")
+    overwrite(image, 36000 * 512, b"SKUL\xba\xbe\0\2")
+    assert places(audit, "magic") == [[0, 2, "primary", None]]
+
+
+BINARY_HEADER = struct.pack(">6sHQQ48s32s64s40s48sQ", b"LUKS\xba\xbe", 2, 4 << 20, 1, b"",
+                            b"sha256", b"", b"", b"", 0)
+
+
+@pytest.fixture
+def many(here):
+    """As a hostile image may have it: primary headers of 4 MiB, all of which fit and have a wrong
+    checksum, side by side; and one of LUKS1."""
+    many = here / "many"
+    many.write_bytes(BINARY_HEADER.ljust(512, b"\0") * 64 + bytes(4 << 20))
+    overwrite(many, 64 * 512, (here / "sha1").read_bytes())
+    return many
+
+
+def test_search_of_headers_with_wrong_checksums(audit, many):
+    assert places(audit, "many") == [[32768, 1, None, None]]
+
+
+@pytest.mark.parametrize("options", ["", "--search"])
+def test_little_memory(audit, here, options):
+    """A text of 4 MiB whose tree is much larger."""
+    nested = b'{"":' * 120 + b"0" + b"}" * 120 + b","
+    text = (b'{"keyslots":{},"segments":{},"digests":{},"config":{},"x":['
+            + nested * (4000000 // len(nested)) + b"0]}")
+    header = with_checksum((BINARY_HEADER.ljust(4096, b"\0") + text).ljust(4 << 20, b"\0"))
+    (here / "deep").write_bytes(header)
+    limit = 200000 * 1024
+    found = listed(audit, f"{options} deep sha1", status=4,
+                   preexec_fn=lambda: resource.setrlimit(resource.RLIMIT_AS, (limit, limit)))
+    assert members(found, "error", "version") == [["out of memory", None], [None, 1]]
+
+
+@pytest.fixture
+def shell(audit, here):
+    """Runs commands as they are written in a page, with a folder of two images, and a disk that has
+    a header at its start and another one after a MiB."""
+    (here / "bin").mkdir()
+    (here / "bin/luksrd-audit").symlink_to(audit.path)
+    (here / "images").mkdir()
+    copy_of(here / "sha1", here / "images/a.img")
+    copy_of(here / "wiped", here / "images/b.img")
+    copy_of(here / "several", here / "disk.img")
+    overwrite(here / "disk.img", 1 << 20, (here / "sha1").read_bytes()[:1 << 20])
+    path = f"{here / 'bin'}:{os.environ['PATH']}"
+    return lambda script: run("bash", "-c", script, cwd=here, env={**os.environ, "PATH": path})
+
+
+def commands(first, last):
+    """The commands of the guide between two headings."""
+    section = GUIDE.read_text().partition(f"\n## {first}")[2].partition(f"\n## {last}")[0]
+    return "\n".join(re.findall(r"^    (.*)$", section, re.M))
+
+
+@needs("jq")
+def test_recipes(shell):
+    ended = shell(commands("Recipes", "What is proved"))
+    said = re.sub(r'^\{.*"version":1,.*', "LUKS1", ended.output.decode(), flags=re.M)
+    assert said == f"""\
+images/a.img\t1\t-\t{', '.join(WEAK_SHA1)}
+images/b.img\t2\t-\t{', '.join(WEAK_SEVERAL)}
+["images/a.img",0,1000]
+["images/a.img",5,1300]
+["images/b.img",0,1000]
+["images/b.img",1,1000]
+["images/b.img",10,1000]
+images/b.img
+[0,1,10]
+[0,2,true]
+[1048576,1,true]
+LUKS1
+"""
+
+
+def test_search_with_limits(shell, here, many):
+    many.rename(here / "suspect.img")
+    assert shell(commands("What a hostile image costs", "Recipes")).status == 1
+    [found] = map(json.loads, (here / "headers").read_text().splitlines())
+    assert found["offset"] == 32768
+
+
+@needs("jq")
+def test_examples_of_the_man_page(audit, shell, here):
+    ended = shell("\n".join(example(PAGE.name, "What is weak in a hundred images")))
+    assert ended == (0, f"""\
+images/a.img\t-\t{', '.join(WEAK_SHA1)}
+images/b.img\t-\t{', '.join(WEAK_SEVERAL)}
+""".encode(), "")
+    ended = shell("\n".join(example(PAGE.name, "A partition that begins after")))
+    [alone] = listed(audit, "sha1")
+    assert json.loads(ended.output) == {**alone, "file": "-"}
+
+
+@needs("man", "mandoc")
+def test_man_page():
+    assert run("man", "--warnings", "-l", PAGE)[::2] == (0, "")
+    assert run("mandoc", "-Tlint", "-Wwarning", PAGE) == (0, b"", "")
+
+
+README_AUDIT = "README.md:4. Audit of a folder"
+RESCUE_SEARCH = "RESCUE.md:# The place, version and UUID"
+
+
+@pytest.fixture(params=SHELLS)
+def cook(request, audit, tmp_path, monkeypatch):
+    """Runs recipes with luksrd-audit, in each shell, in a folder with volumes of both versions."""
+    monkeypatch.setattr(documents, "LEFT_OUT", re.compile("/dev/sd"))
+    (tmp_path / "bin").mkdir()
+    (tmp_path / "bin/luksrd-audit").symlink_to(audit.path)
+    path = f"{tmp_path / 'bin'}:{os.environ['PATH']}"
+    return Cook(request.param, tmp_path, {**os.environ, "PATH": path})
+
+
+@pytest.fixture
+def images(cook, made1, made2):
+    copy_of(made1("aes-cbc-essiv:sha256", "sha1", 256), cook.images / "disk.img")
+    copy_of(made2("aes-xts-plain64", 512, plain=bytes(1 << 20)), cook.images / "second.img")
+    return cook.images
+
+
+def columns(*words):
+    return "\t".join(map(str, words)) + "\n"
+
+
+@needs("jq", "zsh")
+def test_audit_of_a_folder(cook, images):
+    """One image ends in its second header, one is empty, and one is short."""
+    (images / "empty.img").touch()
+    (images / "cut.img").write_bytes((images / "second.img").read_bytes()[:20000])
+    (images / "short.img").write_bytes((images / "disk.img").read_bytes()[:500])
+    weak2 = [2, "slot 0 iterations", "slot 1 iterations"]
+    assert (columns("../cut.img", *weak2, "secondary header: not valid")
+            + columns("../disk.img", 1, "segment cbc", "slot 0 iterations", "slot 0 sha1",
+                      "slot 0 cbc", "slot 5 iterations", "slot 5 sha1", "slot 5 cbc",
+                      "digest 0 sha1")
+            + columns("../empty.img", "no LUKS header")
+            + columns("../second.img", *weak2)
+            + columns("../short.img", "header is truncated")) in cook([README_AUDIT]).said
+
+
+@needs("jq", "zsh")
+def test_search_of_a_disk_without_a_partition_table(cook, images):
+    whole = images / "whole.img"
+    whole.touch()
+    os.truncate(whole, 16 << 20)
+    wanted = ""
+    for version, sector, name in (1, 2048, "disk.img"), (2, 12288, "second.img"):
+        overwrite(whole, sector * 512, (images / name).read_bytes())
+        wanted += columns(sector * 512, version, cryptsetup("luksUUID", images / name).strip())
+    assert wanted in cook([RESCUE_SEARCH], ["whole.img"]).said
+
+
+@pytest.mark.parametrize("name, place", [("README.md", README_AUDIT), ("RESCUE.md", RESCUE_SEARCH)])
+def test_each_command_of_a_page_is_run(name, place):
+    commands = re.findall(r"^    (luksrd-audit .*)", document(name).read_text(), re.M)
+    assert commands
+    assert set(commands) <= set(commands_in(place))
