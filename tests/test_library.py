@@ -214,7 +214,7 @@ def test_volume_key(in_c, of_key, tmp_path, key, wanted):
 
 def test_volume_key_and_limit(in_c, of_key, tmp_path):
     said = cryptsetup("luksDump", of_key)
-    found = re.search(r"MK iterations: *(\d+)|Digests:(?:.|\n)*?\tIterations: *(\d+)", said)
+    found = re.search(r"MK iterations:\s*(\d+)|Digests:(?:.|\n)*?\tIterations: *(\d+)", said)
     iterations = int(found[1] or found[2])
     expect(finds(in_c, of_key, KEY, tmp_path, iterations), SAME)
     expect(finds(in_c, of_key, KEY, tmp_path, iterations - 1), NONE)
@@ -226,8 +226,9 @@ def test_volume_key_and_headers(in_c, of_key, tmp_path):
     cryptsetup("luksErase", erased)
     expect(finds(in_c, erased, KEY, tmp_path), SAME)
     expect(finds(in_c, "empty", KEY, tmp_path), f"1 4 {NO_LUKS}\n")
-    os.truncate(erased, 500)
-    expect(finds(in_c, erased, KEY, tmp_path), f"2 4 {CUT}\n")
+    if of_key.name.endswith("luks1"):
+        os.truncate(erased, 500)
+        expect(finds(in_c, erased, KEY, tmp_path), f"2 4 {CUT}\n")
 
 
 def moved(tree, **members):
