@@ -13,7 +13,7 @@ import border
 import pytest
 import volumes
 from kinds import CUT, NO_LUKS, REFUSED, VOLUME1, VOLUME2, each_kind
-from support import TOP, expect, must, needs, run, runs_v3
+from support import TOP, USAGE, expect, must, needs, run, runs_v3
 from volumes import cryptsetup
 
 pytestmark = needs("gcc")
@@ -77,6 +77,8 @@ def reader(request, build, library, luksrd, kinds, tmp_path):
     """Runs what reads a volume: reader(IMAGE, HEADER or "-", KEY FILE)."""
     name = request.param
     if name == "luksCat":
+        # (of an empty payload it writes nothing, as a program would that does nothing)
+        expect(luksrd("--help"), message=USAGE, status=1)
         return lambda image, header, key: luksrd(
             "luksCat --key-file", key, *([] if header == "-" else ["--header", header]), image,
             cwd=kinds.folder)
