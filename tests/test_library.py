@@ -12,8 +12,8 @@ import shutil
 import border
 import pytest
 import volumes
-from kinds import VOLUME1, VOLUME2, each_kind
-from support import NO_KEY, TOP, expect, must, needs, run, runs_v3
+from kinds import CUT, NO_LUKS, REFUSED, VOLUME1, VOLUME2, each_kind
+from support import TOP, USAGE, expect, must, needs, run, runs_v3
 from volumes import cryptsetup
 
 pytestmark = needs("gcc")
@@ -21,8 +21,6 @@ GCC = ["gcc", "-std=c11", "-D_GNU_SOURCE", "-Wall", "-Wextra", "-Werror"]
 SANITIZED = ["-fsanitize=address,undefined", "-fno-sanitize-recover=all"]
 VALGRIND = ["valgrind", "-q", "--error-exitcode=98", "--leak-check=full",
             "--errors-for-leak-kinds=definite"]
-NO_LUKS = "luksrd: not a LUKS image"
-CUT = "luksrd: image ends inside the header or a key area"
 BEFORE = "luksrd: image ends before the payload"
 # a reader over the module for Python, which loads the library by ctypes
 PYTHON = """
@@ -79,6 +77,8 @@ def reader(request, build, library, luksrd, kinds, tmp_path):
     """Runs what reads a volume: reader(IMAGE, HEADER or "-", KEY FILE)."""
     name = request.param
     if name == "luksCat":
+        # (of an empty payload it writes nothing, as a program would that does nothing)
+        expect(luksrd("--help"), message=USAGE, status=1)
         return lambda image, header, key: luksrd(
             "luksCat --key-file", key, *([] if header == "-" else ["--header", header]), image,
             cwd=kinds.folder)
@@ -99,16 +99,14 @@ def test_kinds(reader, kind, kinds):
     expect(ended, kinds.text(kind.image), kind.message, 4 if kind.message else 0)
 
 
-@pytest.mark.parametrize("image, header, key, message, status", [
-    *((image, "-", key, NO_KEY, 2) for image in (VOLUME1, VOLUME2) for key in ("wrong", "empty")),
-    *(("empty", image, "pass", BEFORE, 4) for image in (VOLUME1, VOLUME2)),
-    *((image, image, "pass", "", 0) for image in (VOLUME1, VOLUME2)),
-    (VOLUME1, "-", "long", "luksrd: key file is longer than 8388608 bytes", 1),
-    ("pass", "-", "pass", NO_LUKS, 4),
-    ("empty", "-", "pass", NO_LUKS, 4),
-    ("short", "-", "pass", CUT, 4)])
-def test_openings(reader, kinds, image, header, key, message, status):
-    expect(reader(image, header, key), b"" if message else kinds.text(image), message, status)
+@pytest.mark.parametrize("image, options, message, status", [
+    *((image, options, message, status) for image, options, _, status, message in REFUSED
+      if not {"key_slot", "max_iterations"} & options.keys()),
+    *(("empty", {"header": image}, BEFORE, 4) for image in (VOLUME1, VOLUME2)),
+    *((image, {"header": image}, "", 0) for image in (VOLUME1, VOLUME2))], ids=str)
+def test_openings(reader, kinds, image, options, message, status):
+    ended = reader(image, options.get("header", "-"), options.get("key_file", "pass"))
+    expect(ended, b"" if message else kinds.text(image), message, status)
 
 
 # ---- each field of a volume
@@ -218,7 +216,7 @@ def test_volume_key(in_c, of_key, tmp_path, key, wanted):
 
 def test_volume_key_and_limit(in_c, of_key, tmp_path):
     said = cryptsetup("luksDump", of_key)
-    found = re.search(r"MK iterations: *(\d+)|Digests:(?:.|\n)*?\tIterations: *(\d+)", said)
+    found = re.search(r"MK iterations:\s*(\d+)|Digests:(?:.|\n)*?\tIterations: *(\d+)", said)
     iterations = int(found[1] or found[2])
     expect(finds(in_c, of_key, KEY, tmp_path, iterations), SAME)
     expect(finds(in_c, of_key, KEY, tmp_path, iterations - 1), NONE)
@@ -230,8 +228,9 @@ def test_volume_key_and_headers(in_c, of_key, tmp_path):
     cryptsetup("luksErase", erased)
     expect(finds(in_c, erased, KEY, tmp_path), SAME)
     expect(finds(in_c, "empty", KEY, tmp_path), f"1 4 {NO_LUKS}\n")
-    os.truncate(erased, 500)
-    expect(finds(in_c, erased, KEY, tmp_path), f"2 4 {CUT}\n")
+    if of_key.name.endswith("luks1"):
+        os.truncate(erased, 500)
+        expect(finds(in_c, erased, KEY, tmp_path), f"2 4 {CUT}\n")
 
 
 def moved(tree, **members):

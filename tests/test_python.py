@@ -23,16 +23,12 @@ import time
 import warnings
 import zipfile
 
+import luksrd
 import pytest
 import volumes
-from kinds import KINDS, START, VOLUME1, VOLUME2, each_kind
+from kinds import (BY_VOLUME_KEY, KINDS, REFUSED, START, VOLUME1, VOLUME2, each_kind,
+                   volume_key_options)
 from support import TOP, expect, must, needs, run
-
-sys.path.insert(0, str(TOP / "python"))
-sys.dont_write_bytecode = True
-import luksrd  # noqa: E402
-
-NO_KEY = "luksrd: no key opens the volume"
 
 
 @pytest.fixture(autouse=True)
@@ -204,7 +200,9 @@ def test_pytsk3(made1, tmp_path):
     must("debugfs", "-w", "-R", "write inside inside", plain, cwd=tmp_path)
     with luksrd.open(sealed(made1, plain.read_bytes()), key_file="pass") as volume:
         image = Image(volume)
-        file = pytsk3.FS_Info(image).open("/inside")
+        # pytsk3 keeps no reference to the file system
+        system = pytsk3.FS_Info(image)
+        file = system.open("/inside")
         assert file.read_random(0, file.info.meta.size) == b"inside\n"
 
 
@@ -226,20 +224,7 @@ def test_names_of_files(path, text, start):
         assert volume.read() == text("detached2")
 
 
-@pytest.mark.parametrize("image, options, code, status, message", [
-    (VOLUME1, {"key_file": "wrong"}, 10, 2, NO_KEY),
-    (VOLUME1, {"key_file": None, "passphrase": ""}, 10, 2, NO_KEY),
-    ("plain", {}, 1, 4, "luksrd: not a LUKS image"),
-    ("empty", {}, 1, 4, "luksrd: not a LUKS image"),
-    ("short", {}, 2, 4, "luksrd: image ends inside the header or a key area"),
-    ("header2", {}, 4, 1, "luksrd: segment refused: offset"),
-    (VOLUME1, {"key_slot": 8}, 5, 1, "luksrd: key slot 8 is not there"),
-    (VOLUME1, {"key_slot": 1}, 6, 1, "luksrd: key slot 1 is disabled"),
-    (VOLUME1, {"key_slot": 5}, 10, 2, NO_KEY),
-    (VOLUME1, {"max_iterations": 999}, 8, 1,
-     "luksrd: no key slot can be tried; skipped: 0 (iterations), 5 (iterations)"),
-    (VOLUME1, {"key_file": "long"}, 9, 1, "luksrd: key file is longer than 8388608 bytes"),
-], ids=str)
+@pytest.mark.parametrize("image, options, code, status, message", REFUSED, ids=str)
 def test_refused(image, options, code, status, message):
     with pytest.raises(luksrd.LuksError) as caught:
         luksrd.open(image, **{"key_file": "pass"} | options)
@@ -248,25 +233,23 @@ def test_refused(image, options, code, status, message):
         assert str(error) == message
 
 
-@pytest.mark.parametrize("options, error", [
-    ({}, TypeError),
-    ({"passphrase": "a passphrase", "key_file": "pass"}, TypeError),
-    ({"passphrase": 5}, TypeError),
-    ({"key_file": "pass", "key_slot": 32}, ValueError),
-    ({"key_file": "pass", "key_slot": -1}, ValueError),
-    ({"key_file": "pass", "max_iterations": 0}, ValueError),
-    ({"key_file": "pass", "max_iterations": 2 ** 32}, ValueError),
-    ({"key_file": "absent"}, FileNotFoundError),
-    ({"key_file": "."}, IsADirectoryError),
-    ({"key_file": "pass", "header": "absent"}, FileNotFoundError),
-    ({"key_file": "pass", "header": "."}, IsADirectoryError),
-    ({"key_file": 0}, TypeError),
-    ({"key_file": "pass", "header": 0}, TypeError),
-], ids=str)
+def each_error(table):
+    """Rows of options and the error that they lead to."""
+    return pytest.mark.parametrize("options, error", [
+        (options, error) for error, rows in table.items() for options in rows], ids=str)
+
+
+@each_error({
+    TypeError: [{"key_file": None}, {"passphrase": "a passphrase"}, {"key_file": 0}, {"header": 0},
+                {"key_file": None, "passphrase": 5}],
+    ValueError: [{"key_slot": 32}, {"key_slot": -1}, {"max_iterations": 0},
+                 {"max_iterations": 2 ** 32}],
+    FileNotFoundError: [{"key_file": "absent"}, {"header": "absent"}],
+    IsADirectoryError: [{"key_file": "."}, {"header": "."}]})
 def test_wrong_arguments(options, error):
     before = descriptors()
     with pytest.raises(error):
-        luksrd.open(VOLUME1, **options)
+        luksrd.open(VOLUME1, **{"key_file": "pass"} | options)
     assert descriptors() == before
 
 
@@ -289,22 +272,31 @@ def test_wrong_image(image, error):
 
 def by_key(image, key=VOLUME2, **options):
     """The volume in this image, by the volume key of this one."""
-    given = {"volume_key_file": f"{key}.key", "payload_offset": START,
-             "sector_size": 4096 if key == VOLUME2 else 512}
-    return luksrd.open_by_volume_key(image, **given | options)
+    return luksrd.open_by_volume_key(image, **volume_key_options(key, options))
 
 
-@pytest.mark.parametrize("key", [VOLUME1, VOLUME2])
-def test_volume_key(key, text):
-    """A volume key opens its volume, whether or not the header is there, without a warning."""
-    volume_key = bytearray(pathlib.Path(f"{key}.key").read_bytes())
-    given = {"volume_key_file": None, "volume_key": volume_key, "header": key}
-    with warnings.catch_warnings():
-        warnings.simplefilter("error")
-        for image, options in ((key, {}), (f"{key}.lost", {}), (f"{key}.lost", given)):
-            with by_key(image, key, **options) as volume:
-                assert volume.read() == text(key)
-    assert volume_key == pathlib.Path(f"{key}.key").read_bytes()
+@pytest.mark.parametrize("of, image, options, first, end, message", BY_VOLUME_KEY, ids=str)
+def test_volume_key(of, image, options, first, end, message, text):
+    """A volume key opens its volume, whether or not the header is there; one that cannot tell is
+    warned of, and an image that ends too early."""
+    with warnings.catch_warnings(record=True) as caught:
+        warnings.simplefilter("always")
+        volume = by_key(image, of, **options)
+    kind = luksrd.IncompleteImageWarning if " ends " in message else luksrd.UncheckedKeyWarning
+    assert [warning.category for warning in caught] == ([kind] if message else [])
+    assert not message or message.removeprefix("luksrd: ") in str(caught[0].message)
+    with volume:
+        assert volume.read() == text(of)[first:end]
+
+
+def test_volume_key_as_bytes(text):
+    """It is not changed; with other numbers of data units it gives noise."""
+    volume_key = bytearray(pathlib.Path(f"{VOLUME2}.key").read_bytes())
+    with by_key(VOLUME2, volume_key_file=None, volume_key=volume_key) as volume:
+        assert volume.read() == text(VOLUME2)
+    assert volume_key == pathlib.Path(f"{VOLUME2}.key").read_bytes()
+    with by_key(f"{VOLUME2}.lost", payload_offset=START + 8192) as volume:
+        assert volume.read()[:4096] != text(VOLUME2)[8192:12288]
 
 
 @pytest.mark.parametrize("changed", [0, 63])
@@ -322,59 +314,15 @@ def test_another_volume_key(changed, text):
         assert volume.size == len(text(VOLUME2)) and volume.read() != text(VOLUME2)
 
 
-@pytest.mark.parametrize("image, options, reason", [
-    ("of no digest", {}, "no digest to compare the volume key with"),
-    (VOLUME2, {"max_iterations": 1}, "no digest to compare the volume key with"),
-    (VOLUME2, {"header": "plain"}, "not a LUKS image"),
-    (f"{VOLUME2}.lost", {"header": "/dev/null"}, "not a LUKS image")])
-def test_unchecked_volume_key(image, options, reason, text):
-    """A header that cannot tell is warned of, and the volume is read."""
-    with pytest.warns(luksrd.UncheckedKeyWarning, match=reason):
-        volume = by_key(image, **options)
-    with volume:
-        assert volume.read() == text(VOLUME2)
-
-
-def test_what_a_header_said(text):
-    """The numbers of data units, and the size, that the header of another volume said."""
-    wanted, lost = text(VOLUME2), f"{VOLUME2}.lost"
-    with by_key(lost, payload_offset=START + 8192, iv_offset=16) as volume:
-        assert volume.read() == wanted[8192:]
-    with by_key(lost, payload_offset=START + 8192) as volume:
-        assert volume.read()[:4096] != wanted[8192:12288]
-    for size in (0, 4096, 200704):
-        with by_key(lost, size=size) as volume:
-            assert volume.size == size and volume.incomplete is None
-            assert volume.read() == wanted[:size]
-    said = "image ends 4096 bytes before the segment does"
-    with pytest.warns(luksrd.IncompleteImageWarning, match=said):
-        volume = by_key(lost, size=len(wanted) + 4096)
-    with volume:
-        assert volume.read() == wanted
-
-
-@pytest.mark.parametrize("options, error", [
-    ({"volume_key": b"k" * 64}, TypeError),
-    ({"volume_key_file": None}, TypeError),
-    ({"cipher": "aes-ecb"}, ValueError),
-    ({"cipher": "aes-cbc-plain64"}, ValueError),
-    ({"sector_size": 513}, ValueError),
-    ({"payload_offset": -1}, ValueError),
-    ({"payload_offset": 2 ** 64}, ValueError),
-    ({"payload_offset": 1.5}, TypeError),
-    ({"iv_offset": -1}, ValueError),
-    ({"iv_offset": 2 ** 64}, ValueError),
-    ({"iv_offset": "1"}, TypeError),
-    ({"size": -4096}, ValueError),
-    ({"size": 2 ** 64}, ValueError),
-    ({"size": 512}, ValueError),
-    ({"volume_key_file": None, "volume_key": "k" * 64}, TypeError),
-    ({"max_iterations": 0}, ValueError),
-    ({"volume_key_file": None, "volume_key": b""}, ValueError),
-    ({"volume_key_file": None, "volume_key": b"k" * 65}, ValueError),
-    ({"volume_key_file": "plain"}, ValueError),
-    ({"volume_key_file": "absent"}, FileNotFoundError),
-], ids=str)
+@each_error({
+    TypeError: [{"volume_key": b"k" * 64}, {"volume_key_file": None}, {"payload_offset": 1.5},
+                {"iv_offset": "1"}, {"volume_key_file": None, "volume_key": "k" * 64}],
+    ValueError: [{"cipher": "aes-ecb"}, {"cipher": "aes-cbc-plain64"}, {"sector_size": 513},
+                 {"payload_offset": -1}, {"payload_offset": 2 ** 64}, {"iv_offset": -1},
+                 {"iv_offset": 2 ** 64}, {"size": -4096}, {"size": 2 ** 64}, {"size": 512},
+                 {"max_iterations": 0}, {"volume_key_file": None, "volume_key": b""},
+                 {"volume_key_file": None, "volume_key": b"k" * 65}, {"volume_key_file": "plain"}],
+    FileNotFoundError: [{"volume_key_file": "absent"}]})
 def test_wrong_volume_key_arguments(options, error):
     before = descriptors()
     with pytest.raises(error):
