@@ -112,7 +112,7 @@ def test_partition_that_ends_past_the_file(opener, volume):
 
 
 def test_no_volume_in_a_partition(disk):
-    for offset, length in (0, None), (START, 0), (START, 591), (1 << 62, None), (START + 1, 1 << 20):
+    for offset, length in (0, None), (START, 0), (1 << 62, None), (START + 1, 1 << 20):
         with warnings.catch_warnings(), pytest.raises(luksrd.NotLuksError) as caught:
             warnings.simplefilter("ignore")
             by_passphrase(disk, offset=offset, length=length)
