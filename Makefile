@@ -72,6 +72,7 @@ MODULES ?= $(if $(and $(filter /usr/local,$(PREFIX:/=)),$(python_folder)),$(firs
     $(python_folder)),$(PREFIX)/lib/python3/dist-packages)
 BINARIES = $(DESTDIR)$(PREFIX)/bin
 PAGES = $(DESTDIR)$(PREFIX)/share/man/man1
+LIBRARY_PAGES = $(DESTDIR)$(PREFIX)/share/man/man3
 DOCUMENTS = $(DESTDIR)$(PREFIX)/share/doc/luksrd
 BASH_COMPLETIONS = $(DESTDIR)$(PREFIX)/share/bash-completion/completions
 ZSH_COMPLETIONS = $(DESTDIR)$(ZSH_FUNCTIONS)
@@ -377,6 +378,7 @@ install-library: library-built install-shared
 	@$(call refuse_packaged,$(HEADERS)/luksrd.h)
 	install -d "$(LIBRARIES)/pkgconfig" "$(HEADERS)"
 	install -m 644 c/luksrd.h "$(HEADERS)/luksrd.h"
+	umask 022 && packaging/manual "$(LIBRARY_PAGES)" >/dev/null
 	install -m 644 "$(LIBRARY)" "$(LIBRARIES)/libluksrd.a"
 	ln -sf $(word 2,$(SHARED_NAMES)) "$(LIBRARIES)/$(word 3,$(SHARED_NAMES))"
 	$(call package_config,$(LIBRARIES)/pkgconfig/luksrd.pc)
@@ -440,7 +442,7 @@ INSTALLED = "$(BINARIES)/luksrd" "$(PAGES)/luksrd.1" \
     "$(BINARIES)/luksrd-audit" "$(PAGES)/luksrd-audit.1" \
     "$(BASH_COMPLETIONS)/luksrd-audit" "$(ZSH_COMPLETIONS)/_luksrd-audit" \
     "$(HEADERS)/luksrd.h" "$(LIBRARIES)/libluksrd.a" $(SHARED_NAMES:%="$(LIBRARIES)/%") \
-    "$(LIBRARIES)/pkgconfig/luksrd.pc" \
+    "$(LIBRARIES)/pkgconfig/luksrd.pc" "$(LIBRARY_PAGES)/luksrd.3" "$(LIBRARY_PAGES)"/luksrd_*.3 \
     "$(LIBRARIES)/$(HWCAPS)/$(word 2,$(SHARED_NAMES))" \
     "$(UNIT_FILE)" "$(PAGES)/nbdkit-luksrd-plugin.1" $(if $(PLUGINS),"$(PLUGIN_FILE)") \
     "$(PAGES)/nbdkit-luksrd-filter.1" $(if $(FILTERS),"$(FILTER_FILE)") \
