@@ -109,7 +109,7 @@ class NotLuksError(LuksError):
 
 
 class WrongKeyError(LuksError):
-    """The passphrase opens no key slot that was tried, or the volume key is that of another volume."""
+    """The passphrase opens no key slot that was tried, or the volume key is another volume's."""
 
 
 # The codes that have a class of their own
@@ -132,9 +132,9 @@ class Image(Protocol):
         """The length in bytes, which does not change."""
 
     def pread_into(self, view: memoryview, offset: int) -> int:
-        """Fills the view from this byte on, or a part of it from its beginning, and returns how many
-        bytes these are: 0 only at the end. Raises OSError if they cannot be read. If threads read
-        the volume at the same time, they call this at the same time."""
+        """Fills the view from this byte on, or a part of it from its beginning, and returns how
+        many bytes these are: 0 only at the end. Raises OSError if they cannot be read. If threads
+        read the volume at the same time, they call this at the same time."""
 
 
 def _warn(message: str, category: type[Warning]) -> None:
@@ -402,8 +402,8 @@ def _part_of(path: Union[_Path, Image], source: Image, offset: int, length: Opti
     if length is None:
         return _Part(source, offset, behind)
     if behind < length:
-        what = f"{_shown(path)}: it ends {length - behind} bytes before the part of it that is named"
-        _warn(what, IncompleteImageWarning)
+        missing = f"it ends {length - behind} bytes before the part of it that is named"
+        _warn(f"{_shown(path)}: {missing}", IncompleteImageWarning)
     return _Part(source, offset, min(length, behind))
 
 
@@ -793,8 +793,8 @@ def _begin(cleanup: contextlib.ExitStack, path: Union[_Path, Image], header: Opt
 
 
 def _read_header(header: Optional[_Path], image: _Part, head: Optional[_Bytes]) -> memoryview:
-    """The first bytes of the image, which the caller may have read, or of the file with the detached
-    header."""
+    """The first bytes of the image, which the caller may have read, or of the file with the
+    detached header."""
     if header is not None:
         return _read_file(header, bytearray(_HEADER_BYTES), True)
     wanted = min(_HEADER_BYTES, image.size)
@@ -825,8 +825,8 @@ def open(path: Union[_Path, Image], *, passphrase: Optional[_Passphrase] = None,
          buffering: int = 0) -> Union[Volume, io.BufferedReader]:
     """Opens the volume in an image by a passphrase.
 
-    path            the image, a regular file or a block device; or an object that is an Image, which
-                    is not closed with the volume
+    path            the image, a regular file or a block device; or an object that is an Image,
+                    which is not closed with the volume
     passphrase      the passphrase; a str is encoded in UTF-8. Python does not wipe a str or bytes
     key_file        in its place, the file whose bytes are the passphrase, all of them; it may be a
                     pipe
@@ -836,9 +836,9 @@ def open(path: Union[_Path, Image], *, passphrase: Optional[_Passphrase] = None,
                     digest. Without it there is no limit, and a hostile header may take days
     offset, length  the image is this part of the file, as a partition is of a disk: so many bytes
                     from this one on. Without a length it ends with the file
-    head            the first bytes of the image, if the caller has read them: at least its headers
-                    and the key areas that are tried, of which more than 33554432 bytes are not used.
-                    Then they are not read from the image
+    head            the first bytes of the image, if the caller has them: at least its headers and
+                    the key areas that are tried, at most the first 33554432 bytes. Then nothing is
+                    read from the image to open the volume
     buffering       0 gives a Volume, each of whose reads decrypts. Otherwise an io.BufferedReader
                     over that, its `raw`, with a buffer of so many bytes; of 65536 if it is negative
 
@@ -879,13 +879,14 @@ def open_by_volume_key(path: Union[_Path, Image], *, payload_offset: int,
     iv_offset        the data unit number of the first sector, in units of 512 bytes
     size             the payload's length in bytes, if that is fixed; else it ends with the image
     header           the file with the detached header, if there is one
-    max_iterations   a digest with more iterations of PBKDF2 is not compared with the key. Without it
-                     there is no limit
+    max_iterations   a digest with more iterations of PBKDF2 is not compared with the key. Without
+                     it there is no limit
 
-    path, offset, length, head and buffering are those of open. If the image, or the detached header,
-    has the digest of another key, this raises WrongKeyError. If there is no header, nothing can tell
-    that the key is a wrong one: it gives noise. Warns by UncheckedKeyWarning of a header that cannot
-    tell, as of a file with a detached header that has none, and raises and warns as open does."""
+    path, offset, length, head and buffering are those of open. If the image, or the detached
+    header, has the digest of another key, this raises WrongKeyError. If there is no header, nothing
+    can tell that the key is a wrong one: it gives noise. Warns by UncheckedKeyWarning of a header
+    that cannot tell, as of a file with a detached header that has none, and raises and warns as
+    open does."""
     if (volume_key is None) == (volume_key_file is None):
         raise TypeError("either volume_key or volume_key_file is needed")
     fields = _fields(cipher, payload_offset, sector_size, iv_offset, size)

@@ -1,5 +1,5 @@
 """What programs meet at the edges of the library: reading by luksrd_read over luksrd.h, the names of modes, its man
-pages, and how the plugin and the filter for nbdkit open a volume on little stack, after signals, and without threads."""
+pages, and how the plugin and the filter for nbdkit open a volume on little stack, after signals and without threads."""
 import random
 import re
 import shutil
@@ -30,8 +30,8 @@ def volume(made1, tmp_path):
 def program(library, tmp_path):
     """program(ARGUMENT..) runs edges.c, which AddressSanitizer watches."""
     built = tmp_path / "edges"
-    must("gcc", "-std=c11", "-D_GNU_SOURCE", "-O1", *STRICT, "-fsanitize=address,undefined", "-fno-sanitize-recover=all",
-         f"-I{TOP}/c", TOP / "tests/edges.c", library, f"-Wl,-rpath,{library.parent}", "-o", built)
+    must("gcc", "-std=c11", "-D_GNU_SOURCE", "-O1", *STRICT, "-fsanitize=address,undefined",
+         "-fno-sanitize-recover=all", f"-I{TOP}/c", TOP / "tests/edges.c", library, f"-Wl,-rpath,{library.parent}", "-o", built)
     return lambda *arguments: run(built, *map(str, arguments), cwd=tmp_path)
 
 
@@ -174,7 +174,8 @@ def test_little_stack_and_a_wrong_passphrase(way, volume):
 @needs("strace")
 def test_no_thread(by_plugin, volume):
     """The volume is refused with a sentence if no thread can be started."""
-    failing = ["strace", "-qq", "-f", "-o", "/dev/null", "-e", "trace=clone3", "-e", "inject=clone3:error=EAGAIN:when=1"]
+    failing = ["strace", "-qq", "-f", "-o", "/dev/null", "-e", "trace=clone3", "-e",
+               "inject=clone3:error=EAGAIN:when=1"]
     expect(by_plugin.copied("volume", "key-file=pass", before=failing), status=1,
            message="nbdkit: error: luksrd: no thread to derive keys on: Resource temporarily unavailable")
 

@@ -104,7 +104,7 @@ def test_partition(opener, disk, volume):
 
 def test_partition_that_ends_past_the_file(opener, volume):
     length = volume.stat().st_size
-    with pytest.warns(luksrd.IncompleteImageWarning, match=f"{volume}: it ends 512 bytes before the part of it") as seen:
+    with pytest.warns(luksrd.IncompleteImageWarning, match=f"{volume}: it ends 512 bytes before the part") as seen:
         part = opener(volume, length=length + 512)
     with part:
         assert part.read() == TEXT
