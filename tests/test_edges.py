@@ -202,7 +202,8 @@ def slow(volume):
 
 
 def busy(process):
-    """Whether a process has used the processor for a second."""
+    """Whether a process, which still runs, has used the processor for a second."""
+    assert process.poll() is None
     with open(f"/proc/{process.pid}/stat") as file:
         return int(file.read().rpartition(")")[2].split()[11]) >= 100
 

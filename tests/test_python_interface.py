@@ -29,13 +29,14 @@ START = 1049088  # of a partition in a disk
 AFTER = 777777
 
 
-@pytest.fixture(autouse=True)
+@pytest.fixture
 def loaded(library, monkeypatch):
+    """The module loads the built library."""
     monkeypatch.setenv("LUKSRD_LIBRARY", str(library))
 
 
-@pytest.fixture(scope="session")
-def volume(made1):
+@pytest.fixture
+def volume(loaded, made1):
     """A volume of LUKS1 whose dynamic segment has TEXT."""
     assert len(TEXT) % 512 == 0
     return made1("aes-xts-plain64", "sha256", 512, plain=TEXT)
@@ -213,7 +214,7 @@ def test_object_that_answers_wrongly(volume, answer, error):
 
 
 @pytest.mark.parametrize("wrong", [0, object(), None, ["volume"]])
-def test_neither_a_path_nor_an_object(wrong):
+def test_neither_a_path_nor_an_object(loaded, wrong):
     with pytest.raises(TypeError):
         by_passphrase(wrong)
 
@@ -360,12 +361,12 @@ def test_what_is_public():
     assert all(getattr(luksrd, name).__doc__ for name in luksrd.__all__)
 
 
-def test_version():
+def test_version(loaded):
     wanted = re.search(r"^VERSION := (.*)$", (TOP / "Makefile").read_text(), re.MULTILINE)[1]
     assert luksrd.__version__ == wanted == ".".join(map(str, luksrd.library_version()))
 
 
-def test_what_it_is(library, tmp_path):
+def test_what_it_is(loaded, library, tmp_path):
     ended = run(sys.executable, MODULE, cwd=tmp_path)
     assert ended.status == 0 and ended.output.decode().splitlines()[:2] == [
         f"luksrd {luksrd.__version__}: Any part of the plaintext of a LUKS1 or LUKS2 volume, as a file.",
