@@ -33,6 +33,7 @@ AFTER = 777777
 def loaded(library, monkeypatch):
     """The module loads the built library."""
     monkeypatch.setenv("LUKSRD_LIBRARY", str(library))
+    assert luksrd.library_version()[:1] == (1,)
 
 
 @pytest.fixture
