@@ -64,6 +64,7 @@ MODULES ?= $(if $(and $(filter /usr/local,$(PREFIX:/=)),$(python_folder)),$(firs
     $(python_folder)),$(PREFIX)/lib/python3/dist-packages)
 BINARIES = $(DESTDIR)$(PREFIX)/bin
 PAGES = $(DESTDIR)$(PREFIX)/share/man/man1
+LIBRARY_PAGES = $(DESTDIR)$(PREFIX)/share/man/man3
 DOCUMENTS = $(DESTDIR)$(PREFIX)/share/doc/luksrd
 BASH_COMPLETIONS = $(DESTDIR)$(PREFIX)/share/bash-completion/completions
 ZSH_COMPLETIONS = $(DESTDIR)$(ZSH_FUNCTIONS)

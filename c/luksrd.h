@@ -2,26 +2,27 @@
  * luksrd.h: any part of the plaintext of a LUKS1 or LUKS2 volume, from C.
  *
  * luksrd_open opens a volume from the first bytes of its image, or of its detached header, and
- * luksrd_prepare expands its key once. After that any range of the plaintext is read in steps, at
- * most three of them: luksrd_plan says which bytes of the image the next step reads, the caller
- * reads them, and luksrd_finish decrypts them.
+ * luksrd_prepare expands its key once. After that luksrd_read reads any range of the plaintext,
+ * over a function of the caller that reads the image as pread does:
  *
- *     while (len > 0) {
- *       struct luksrd_step step;
- *       uint8_t sector[LUKSRD_SECTOR_BYTES];
- *       if (luksrd_plan(&cipher, image_len, offset, len, &step))
- *         return failed;
- *       uint8_t *bytes = step.read_len == step.count ? to : sector;
- *       if (!read_all(fd, bytes, step.read_len, step.read_offset) ||
- *           luksrd_finish(&cipher, &step, bytes, step.read_len))
- *         return failed;
- *       if (bytes == sector)
- *         memcpy(to, sector, step.count);
- *       to += step.count, offset += step.count, len -= step.count;
+ *     static int64_t read_image(void *from, uint8_t *to, size_t len, uint64_t offset)
+ *     {
+ *       return pread(*(int *)from, to, len, (off_t)offset);
  *     }
  *
- * read_all is the caller's: it repeats pread until all bytes are there, since one call may be
- * interrupted or give fewer. If the image ends before that, or a read fails, it returns false.
+ *     struct luksrd_options options = { .size = sizeof options };
+ *     if (luksrd_open(header, header_len, passphrase, passphrase_len, &options, &volume,
+ *                     &message) ||
+ *         luksrd_prepare(&volume, &cipher) ||
+ *         luksrd_read(&cipher, image_len, read_image, &fd, offset, to, len))
+ *       return failed;
+ *
+ * These options set no limit of iterations, so that a hostile header may make luksrd_open take
+ * days: `max_iterations` sets one, and its default, 0, is none.
+ *
+ * luksrd_read is written here, in C, over two functions: luksrd_plan says which bytes of the image
+ * the next step reads, and luksrd_finish decrypts them. A caller that cannot wait for a read calls
+ * these itself, as luksrd_read does. A range has at most three steps.
  *
  * Sector n of the payload begins at byte `offset + n * sector_size` of the image, and holds the
  * bytes from `n * sector_size` on of what `luksrd luksCat` writes. luksrd_decrypt decrypts sectors
@@ -38,8 +39,9 @@
  * too. Only luksrd_open and luksrd_check_key allocate memory, by malloc, realloc and free. They may
  * not be called from a signal handler, nor from the forked child of a process with threads.
  *
- * luksrd_open and luksrd_check_key need at most 256 KiB of stack, luksrd_prepare 128 KiB, and every
- * other function 32 KiB, except luksrd_wipe_stack, which needs 257 KiB.
+ * luksrd_open and luksrd_check_key need at most 256 KiB of stack, luksrd_prepare 128 KiB,
+ * luksrd_wipe_stack 257 KiB, luksrd_read 40 KiB and what `read` needs, and every other function 32
+ * KiB.
  *
  * What is left of keys: luksrd_open, luksrd_check_key and luksrd_prepare write over the stack that
  * they used before they return, whatever they return. The caller wipes the passphrase, the volume
@@ -53,6 +55,7 @@
 
 #include <stddef.h>
 #include <stdint.h>
+#include <string.h>
 
 #ifdef __cplusplus
 extern "C" {
@@ -61,9 +64,11 @@ extern "C" {
 #ifdef __GNUC__
 #define LUKSRD_NONNULL __attribute__((nonnull))
 #define LUKSRD_CHECKED __attribute__((nonnull, warn_unused_result))
+#define LUKSRD_INLINE __inline__ __attribute__((unused))
 #else
 #define LUKSRD_NONNULL
 #define LUKSRD_CHECKED
+#define LUKSRD_INLINE
 #endif
 
 /* The number of first bytes of an image or of a detached header that decide everything about
@@ -110,13 +115,14 @@ enum luksrd_code {
 };
 
 /* How a volume is opened. `{ .size = sizeof(struct luksrd_options) }` is an attached header, every
- * key slot, and no limit. */
+ * key slot, and no limit of iterations, so that a hostile header may make opening take days. */
 struct luksrd_options {
   uint32_t size;           /* sizeof(struct luksrd_options) */
   uint32_t detached;       /* not 0: the bytes are those of a detached header */
   uint32_t has_key_slot;   /* not 0: only key slot number `key_slot` is tried */
   uint32_t key_slot;       /* 0 to 31 */
-  uint32_t max_iterations; /* the limit of PBKDF2 iterations of a slot or a digest; 0: no limit */
+  uint32_t max_iterations; /* the limit of PBKDF2 iterations of a slot or a digest; 0, the default:
+                            * no limit */
   uint8_t reserved[44];    /* 0 */
 };
 
@@ -127,6 +133,34 @@ enum luksrd_mode {
   LUKSRD_CBC_ESSIV_SHA256 = 3,
   LUKSRD_CBC_PLAIN64 = 4
 };
+
+/* The name of a mode in headers and in `cryptsetup luksDump`, or NULL if it is none of enum
+ * luksrd_mode. */
+static LUKSRD_INLINE const char *luksrd_mode_name(uint32_t mode)
+{
+  switch (mode) {
+  case LUKSRD_XTS_PLAIN64:
+    return "aes-xts-plain64";
+  case LUKSRD_XTS_PLAIN:
+    return "aes-xts-plain";
+  case LUKSRD_CBC_ESSIV_SHA256:
+    return "aes-cbc-essiv:sha256";
+  case LUKSRD_CBC_PLAIN64:
+    return "aes-cbc-plain64";
+  default:
+    return NULL;
+  }
+}
+
+/* The mode of this name, or 0 if none has it. */
+static LUKSRD_INLINE uint32_t luksrd_mode_of(const char *name)
+{
+  uint32_t mode;
+  for (mode = LUKSRD_XTS_PLAIN64; mode <= LUKSRD_CBC_PLAIN64; mode++)
+    if (strcmp(name, luksrd_mode_name(mode)) == 0)
+      return mode;
+  return 0;
+}
 
 /* An open volume. It belongs to the caller, has no pointers and may be copied. It contains the
  * volume key: wipe it (luksrd_wipe) when it is no longer needed.
@@ -269,6 +303,79 @@ uint32_t luksrd_plan(const struct luksrd_cipher *cipher, uint64_t image_len, uin
 uint32_t luksrd_finish(const struct luksrd_cipher *cipher, const struct luksrd_step *step,
                        uint8_t *bytes, size_t len) LUKSRD_CHECKED;
 
+/* Fills the bytes with zeros, also if nothing reads them afterwards. */
+void luksrd_wipe(void *bytes, size_t len) LUKSRD_NONNULL;
+
+/* Reads bytes of an image, as pread does: at most `len` of them, which is not 0, from byte `offset`
+ * on. Returns how many it put there, 0 only if the image ends; or -1 if it could not read. */
+typedef int64_t luksrd_pread(void *from, uint8_t *to, size_t len, uint64_t offset);
+
+/* Calls `read` until all of these bytes are there. Returns 0; or -1 if it does not give them. */
+static LUKSRD_INLINE int luksrd_read_image(luksrd_pread *read, void *from, uint8_t *to, size_t len,
+                                           uint64_t offset)
+{
+  while (len > 0) {
+    const int64_t got = read(from, to, len, offset);
+    if (got <= 0 || (uint64_t)got > len)
+      return -1;
+    to += got;
+    len -= (size_t)got;
+    offset += (uint64_t)got;
+  }
+  return 0;
+}
+
+/* Puts the next bytes of a range into `to`: at least one of its `len` bytes, which are not 0, and
+ * at most all; `got` is how many. Returns as luksrd_read does. */
+static LUKSRD_INLINE int luksrd_read_step(const struct luksrd_cipher *cipher, uint64_t image_len,
+                                          luksrd_pread *read, void *from, uint64_t offset,
+                                          uint8_t *to, size_t len, size_t *got)
+{
+  uint8_t sector[LUKSRD_SECTOR_BYTES];
+  struct luksrd_step step;
+  uint8_t *bytes = to;
+  int status = (int)luksrd_plan(cipher, image_len, offset, len, &step);
+  if (step.count != step.read_len)
+    bytes = sector;
+  if (status == 0)
+    status = luksrd_read_image(read, from, bytes, (size_t)step.read_len, step.read_offset);
+  if (status == 0)
+    status = (int)luksrd_finish(cipher, &step, bytes, (size_t)step.read_len);
+  if (status == 0 && bytes == sector)
+    memcpy(to, sector, (size_t)step.count);
+  *got = (size_t)step.count;
+  return status;
+}
+
+/* Puts the `len` bytes of the plaintext from byte `offset` on into `to`, if the payload's image has
+ * `image_len` bytes. `read` reads that image, and gets `from`, which may be NULL. It is called
+ * until all bytes of a step are there. No byte outside the sectors of the range is read, and none
+ * if the range is refused.
+ *
+ * Returns LUKSRD_OK, which is 0. Or fills `to` with zeros, and returns a code of luksrd_plan or of
+ * luksrd_finish; or -1 if the image ends before a byte of the range, or `read` failed. It leaves
+ * errno as `read` has set it. */
+static LUKSRD_INLINE int luksrd_read(const struct luksrd_cipher *cipher, uint64_t image_len,
+                                     luksrd_pread *read, void *from, uint64_t offset, uint8_t *to,
+                                     size_t len)
+{
+  /* (more would leave the processor's cache before it is decrypted) */
+  const size_t most = 262144;
+  struct luksrd_step step;
+  size_t done = 0;
+  int status = (int)luksrd_plan(cipher, image_len, offset, len, &step);
+  while (status == 0 && done < len) {
+    const size_t piece = most - (size_t)((offset + done) % most), remaining = len - done;
+    size_t got = 0;
+    status = luksrd_read_step(cipher, image_len, read, from, offset + done, to + done,
+                              remaining < piece ? remaining : piece, &got);
+    done += got;
+  }
+  if (status != 0)
+    luksrd_wipe(to, len);
+  return status;
+}
+
 /* Decrypts whole sectors in place, from sector `first_sector` of the payload on.
  *
  * The bytes are those of the image from byte `offset + first_sector * sector_size` on: a caller
@@ -281,9 +388,6 @@ uint32_t luksrd_finish(const struct luksrd_cipher *cipher, const struct luksrd_s
  *     `first_sector + len / sector_size` is above 2^64 - 1. */
 uint32_t luksrd_decrypt(const struct luksrd_cipher *cipher, uint64_t first_sector, uint8_t *bytes,
                         size_t len) LUKSRD_CHECKED;
-
-/* Fills the bytes with zeros, also if nothing reads them afterwards. */
-void luksrd_wipe(void *bytes, size_t len) LUKSRD_NONNULL;
 
 #ifdef __GNUC__
 static __attribute__((noinline, unused)) void luksrd_wipe_below(void)

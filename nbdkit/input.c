@@ -38,13 +38,23 @@ static int refuse(const char *name, int fd, const char *why)
   return -1;
 }
 
+/* Opens a file to be read, again if a signal interrupts that. */
+static int open_read_only(const char *name, int flags)
+{
+  int fd;
+  do
+    fd = open(name, O_RDONLY | O_CLOEXEC | O_NOCTTY | flags);
+  while (fd < 0 && errno == EINTR);
+  return fd;
+}
+
 /* Opens a file that is not a folder. */
 static int open_file(const char *name, int flags, struct stat *found)
 {
-  int fd = open(name, O_RDONLY | O_CLOEXEC | O_NOCTTY | flags);
+  int fd = open_read_only(name, flags);
   /* Another program has a lease on a regular file, and the kernel asks for it: this waits. */
   if (fd < 0 && errno == EWOULDBLOCK)
-    fd = open(name, O_RDONLY | O_CLOEXEC | O_NOCTTY);
+    fd = open_read_only(name, 0);
   if (fd < 0 || fstat(fd, found) < 0)
     return refuse(name, fd, strerror(errno));
   if (S_ISDIR(found->st_mode))

@@ -2,15 +2,13 @@
 
 #include <errno.h>
 #include <inttypes.h>
+#include <pthread.h>
+#include <signal.h>
 #include <stdio.h>
 #include <string.h>
 
 #define NBDKIT_API_VERSION 2
 #include <nbdkit-plugin.h>
-
-/* The number of bytes that are read and decrypted at once, whole sectors of any size: more would
- * leave the processor's cache before they are decrypted. */
-#define PIECE 262144
 
 /* Reports luksrd's own message on the file of this name, or on an image without a name. */
 static void report(const char *name, const struct luksrd_message *message)
@@ -44,26 +42,73 @@ int read_header(const char *name, int fd, const struct parameters *parameters, s
              : -1;
 }
 
-/* The ciphers by their names in a header and in `cryptsetup luksDump`. */
-static const struct {
-  const char *cipher;
-  enum luksrd_mode mode;
-} modes[] = {
-  { "aes-xts-plain64", LUKSRD_XTS_PLAIN64 },
-  { "aes-xts-plain", LUKSRD_XTS_PLAIN },
-  { "aes-cbc-essiv:sha256", LUKSRD_CBC_ESSIV_SHA256 },
-  { "aes-cbc-plain64", LUKSRD_CBC_PLAIN64 },
-};
+/* The ciphers that are read, as luksrd_mode_name has them. */
 #define CIPHERS "aes-xts-plain64 aes-xts-plain aes-cbc-essiv:sha256 aes-cbc-plain64"
 
-/* The mode of a cipher; or 0, and reports that there is none of this name. */
-static uint32_t mode_of(const char *cipher)
+/* The stack for a call of the library: luksrd.h states 257 KiB for the one that needs most, and the
+ * rest is for what the C library keeps there itself. */
+#define STACK (512 * 1024)
+
+/* Calls the function on a thread with that stack, and waits for its end: `ulimit -s` may leave
+ * nbdkit's own threads less. No signal is handled there, since the kernel would save registers,
+ * with parts of keys. Returns 0; or -1 and reports that there is no such thread. */
+static int call_on_stack(void *(*function)(void *), void *argument)
 {
-  for (size_t i = 0; i < sizeof modes / sizeof modes[0]; i++)
-    if (strcmp(cipher, modes[i].cipher) == 0)
-      return modes[i].mode;
-  nbdkit_error("cipher=%s: none of " CIPHERS, cipher);
-  return 0;
+  pthread_attr_t attributes;
+  pthread_t thread;
+  sigset_t all, before;
+  int error = pthread_attr_init(&attributes);
+  if (error == 0) {
+    sigfillset(&all);
+    pthread_sigmask(SIG_SETMASK, &all, &before);
+    error = pthread_attr_setstacksize(&attributes, STACK);
+    if (error == 0)
+      error = pthread_create(&thread, &attributes, function, argument);
+    pthread_sigmask(SIG_SETMASK, &before, NULL);
+    pthread_attr_destroy(&attributes);
+  }
+  if (error == 0)
+    error = pthread_join(thread, NULL);
+  if (error != 0)
+    nbdkit_error("luksrd: no thread to derive keys on: %s", strerror(error));
+  return error == 0 ? 0 : -1;
+}
+
+/* A call that derives or expands keys, and what it returns. Not each has all of these arguments. */
+struct call {
+  const struct bytes *header, *secret;
+  const struct luksrd_options *options;
+  struct volume *volume;
+  struct luksrd_message *message;
+  uint32_t code;
+};
+
+static void *call_prepare(void *argument)
+{
+  struct call *call = argument;
+  call->code = luksrd_prepare(&call->volume->opened, &call->volume->cipher);
+  forget_copies();
+  return NULL;
+}
+
+static void *call_open(void *argument)
+{
+  struct call *call = argument;
+  call->code = luksrd_open(call->header->at, call->header->len, call->secret->at,
+                           call->secret->len, call->options, &call->volume->opened, call->message);
+  if (call->code == LUKSRD_OK)
+    call->code = luksrd_prepare(&call->volume->opened, &call->volume->cipher);
+  forget_copies();
+  return NULL;
+}
+
+static void *call_check_key(void *argument)
+{
+  struct call *call = argument;
+  call->code = luksrd_check_key(call->header->at, call->header->len, call->secret->at,
+                                call->secret->len, call->options, call->message);
+  forget_copies();
+  return NULL;
 }
 
 /* Compares the volume key with the header, if one is there. A volume whose header is lost or
@@ -78,8 +123,15 @@ static enum outcome check_volume_key(const struct volume *volume, const struct b
   };
   const char *name = parameters->header ? parameters->header : volume->name;
   struct luksrd_message message;
-  const uint32_t code =
-      luksrd_check_key(header->at, header->len, key->at, key->len, &options, &message);
+  struct call call = {
+    .header = header,
+    .secret = key,
+    .options = &options,
+    .message = &message,
+  };
+  if (call_on_stack(call_check_key, &call) < 0)
+    return TRY_LATER;
+  const uint32_t code = call.code;
   if (code == LUKSRD_OK || (code == LUKSRD_NOT_LUKS && !parameters->header))
     return OPENED;
   report(name, &message);
@@ -107,13 +159,18 @@ static enum outcome use_volume_key(struct volume *volume, const struct bytes *he
     .iv_tweak = parameters->iv_offset,
     .has_size = parameters->has_size,
     .sector_size = parameters->sector_size > 0 ? parameters->sector_size : 512,
-    .mode = mode_of(parameters->cipher ? parameters->cipher : "aes-xts-plain64"),
+    .mode = parameters->cipher ? luksrd_mode_of(parameters->cipher) : LUKSRD_XTS_PLAIN64,
     .key_size = (uint32_t)key->len,
   };
-  if (opened->mode == 0)
+  if (opened->mode == 0) {
+    nbdkit_error("cipher=%s: none of " CIPHERS, parameters->cipher);
     return REFUSED;
+  }
   memcpy(opened->key, key->at, key->len);
-  if (luksrd_prepare(opened, &volume->cipher) == LUKSRD_OK)
+  struct call call = { .volume = volume };
+  if (call_on_stack(call_prepare, &call) < 0)
+    return TRY_LATER;
+  if (call.code == LUKSRD_OK)
     return check_volume_key(volume, header, key, parameters);
   nbdkit_error("%s: a key of %zu bytes, this cipher and this sector size do not go together",
                parameters->volume_key_file, key->len);
@@ -133,10 +190,16 @@ static enum outcome use_passphrase(struct volume *volume, const struct bytes *he
     .max_iterations = parameters->max_iterations,
   };
   struct luksrd_message message;
-  uint32_t code = luksrd_open(header->at, header->len, passphrase->at, passphrase->len, &options,
-                              &volume->opened, &message);
-  if (code == LUKSRD_OK)
-    code = luksrd_prepare(&volume->opened, &volume->cipher);
+  struct call call = {
+    .header = header,
+    .secret = passphrase,
+    .options = &options,
+    .volume = volume,
+    .message = &message,
+  };
+  if (call_on_stack(call_open, &call) < 0)
+    return TRY_LATER;
+  const uint32_t code = call.code;
   if (code == LUKSRD_OK)
     return OPENED;
   if (code == LUKSRD_KEY_FILE_LENGTH && parameters->key_file)
@@ -184,9 +247,35 @@ static void clear_registers(void)
 }
 #endif
 
+/* How much of the stack of this thread is left below the caller, or 0 if that is not known. */
+static size_t stack_left(void)
+{
+  const uintptr_t here = (uintptr_t)__builtin_frame_address(0);
+  pthread_attr_t attributes;
+  void *lowest;
+  size_t size;
+  if (pthread_getattr_np(pthread_self(), &attributes) != 0)
+    return 0;
+  const int error = pthread_attr_getstack(&attributes, &lowest, &size);
+  pthread_attr_destroy(&attributes);
+  return error == 0 && here > (uintptr_t)lowest ? here - (uintptr_t)lowest : 0;
+}
+
+static __attribute__((noinline)) void wipe_below(size_t len)
+{
+  uint8_t below[len];
+  explicit_bzero(below, len);
+}
+
 void forget_copies(void)
 {
-  luksrd_wipe_stack();
+  /* what luksrd_wipe_stack needs and what is around it, and what explicit_bzero needs */
+  enum { WIPING = 272 * 1024, REST = 8 * 1024 };
+  const size_t left = stack_left();
+  if (left >= WIPING)
+    luksrd_wipe_stack();
+  else if (left > REST)
+    wipe_below(left - REST);
 #ifdef __x86_64__
   clear_registers();
 #endif
@@ -213,51 +302,39 @@ void report_ending(const struct volume *volume, uint64_t image_len)
                volume->name ? volume->name : "luksrd", plain_len(volume, image_len));
 }
 
-/* Reports that bytes were not read or not decrypted. Returns 0. */
-static uint32_t fail(const struct volume *volume, const char *what, uint64_t len, uint64_t offset,
-                     const char *why)
+/* Reports that bytes were not read or not decrypted. */
+static void report_failure(const struct volume *volume, const char *what, uint64_t len,
+                           uint64_t offset, const char *why)
 {
   nbdkit_error("%s: %s %" PRIu64 " bytes at offset %" PRIu64 ": %s",
                volume->name ? volume->name : "luksrd", what, len, offset, why);
-  return 0;
 }
 
-/* Puts the next bytes of a range into the buffer: at least one of them, and at most all. Returns
- * their number, or 0 and reports why there are none. */
-static uint32_t read_step(const struct volume *volume, const struct image *image, uint8_t *to,
-                          uint32_t count, uint64_t offset)
+/* The image of a volume, for luksrd_read. */
+struct source {
+  const struct volume *volume;
+  const struct image *image;
+};
+
+static int64_t read_source(void *from, uint8_t *to, size_t len, uint64_t offset)
 {
-  uint8_t sector[LUKSRD_SECTOR_BYTES];
-  struct luksrd_step step;
-  if (luksrd_plan(&volume->cipher, image->len, offset, count, &step) != LUKSRD_OK)
-    return fail(volume, "decrypting", count, offset, "luksrd refuses the range");
-  uint8_t *bytes = step.count == step.read_len ? to : sector;
-  if (!image->read(image->from, bytes, step.read_len, step.read_offset))
-    return fail(volume, "reading", step.read_len, step.read_offset,
-                errno ? strerror(errno) : "the image has become shorter");
-  if (luksrd_finish(&volume->cipher, &step, bytes, step.read_len) != LUKSRD_OK)
-    return fail(volume, "decrypting", step.read_len, step.read_offset, "luksrd refuses the bytes");
-  if (bytes == sector)
-    memcpy(to, sector, step.count);
-  return (uint32_t)step.count;
+  const struct source *source = from;
+  if (source->image->read(source->image->from, to, len, offset))
+    return (int64_t)len;
+  report_failure(source->volume, "reading", len, offset,
+                 errno ? strerror(errno) : "the image has become shorter");
+  return -1;
 }
 
 int read_plain(const struct volume *volume, const struct image *image, uint8_t *to, uint32_t count,
                uint64_t offset)
 {
-  uint32_t done = 0;
-  while (done < count) {
-    const uint32_t piece = PIECE - (uint32_t)((offset + done) % PIECE), remaining = count - done;
-    const uint32_t read = read_step(volume, image, to + done, remaining < piece ? remaining : piece,
-                                    offset + done);
-    if (read == 0) {
-      /* Neither the bytes decrypted before nor those still encrypted are a reply. */
-      memset(to, 0, count);
-      return -1;
-    }
-    done += read;
-  }
-  return 0;
+  struct source source = { .volume = volume, .image = image };
+  const int status =
+      luksrd_read(&volume->cipher, image->len, read_source, &source, offset, to, count);
+  if (status > 0)
+    report_failure(volume, "decrypting", count, offset, "luksrd refuses the range");
+  return status == 0 ? 0 : -1;
 }
 
 void close_volume(struct volume *volume)

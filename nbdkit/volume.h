@@ -53,9 +53,9 @@ enum outcome { OPENED, REFUSED, TRY_LATER };
 enum outcome unlock(struct volume *volume, const struct bytes *header, const struct bytes *secret,
                     const struct parameters *parameters);
 
-/* Writes over what functions that the caller called before have left on the stack, and clears the
- * vector registers, in which copying leaves bytes: the loader saves these on the stack when it
- * looks up a function. Called after a secret was read or used. */
+/* Writes over what functions that the caller called before have left on the stack: 256 KiB of it,
+ * or what there is. Clears the vector registers, in which copying leaves bytes: the loader saves
+ * these on the stack when it looks up a function. Called after a secret was read or used. */
 void forget_copies(void);
 
 /* The length of the plaintext that is served, whole sectors, if the image has this length. */

@@ -64,6 +64,7 @@ install-library: library-built install-shared
 	@$(call refuse_packaged,$(HEADERS)/luksrd.h)
 	install -d "$(LIBRARIES)/pkgconfig" "$(HEADERS)"
 	install -m 644 c/luksrd.h "$(HEADERS)/luksrd.h"
+	umask 022 && packaging/manual "$(LIBRARY_PAGES)" >/dev/null
 	install -m 644 "$(LIBRARY)" "$(LIBRARIES)/libluksrd.a"
 	ln -sf $(word 2,$(SHARED_NAMES)) "$(LIBRARIES)/$(word 3,$(SHARED_NAMES))"
 	$(call package_config,$(LIBRARIES)/pkgconfig/luksrd.pc)
@@ -128,6 +129,7 @@ INSTALLED = "$(BINARIES)/luksrd" "$(PAGES)/luksrd.1" \
     "$(BASH_COMPLETIONS)/luksrd-audit" "$(ZSH_COMPLETIONS)/_luksrd-audit" \
     "$(HEADERS)/luksrd.h" "$(LIBRARIES)/libluksrd.a" $(SHARED_NAMES:%="$(LIBRARIES)/%") \
     "$(LIBRARIES)/pkgconfig/luksrd.pc" \
+    "$(LIBRARY_PAGES)/luksrd.3" "$(LIBRARY_PAGES)"/luksrd_*.3 \
     "$(LIBRARIES)/$(HWCAPS)/$(word 2,$(SHARED_NAMES))" \
     "$(UNIT_FILE)" "$(PAGES)/nbdkit-luksrd-plugin.1" $(if $(PLUGINS),"$(PLUGIN_FILE)") \
     "$(PAGES)/nbdkit-luksrd-filter.1" $(if $(FILTERS),"$(FILTER_FILE)") \

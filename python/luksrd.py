@@ -8,13 +8,16 @@
         superblock = volume.read(1024)
 
 A volume is an io.RawIOBase that is read-only and seekable, so that whatever takes a binary file
-takes it: io.BufferedReader(volume), zipfile.ZipFile(volume). Reading needs no privileges and writes
-nothing.
+takes it: zipfile.ZipFile(volume), shutil.copyfileobj(volume, file). Each of its reads decrypts. For
+lines and other small reads open it with `buffering=-1`, which gives an io.BufferedReader over it.
+Reading needs no privileges and writes nothing.
 
-This module is one file over luksrd's library for C, libluksrd.so, whose functions are proved to
-meet their contracts. The module itself is tested, not proved. It loads the library that the
-environment variable LUKSRD_LIBRARY names, or one that is installed below the same folder as the
-module, or else the one that the loader finds.
+This module is one file over luksrd's library for C, libluksrd.so.2, whose functions are proved to
+meet their contracts. The module itself is tested, not proved. A wheel, as pip makes it, has the
+module and no library. The library that is loaded is the file that the environment variable
+LUKSRD_LIBRARY names; without that, PREFIX/lib/libluksrd.so.2 if the module is
+PREFIX/lib/*/dist-packages/luksrd.py; or else the one that the loader finds, in the folders of
+LD_LIBRARY_PATH and of ldconfig. `python3 -m luksrd` prints which one that is.
 
 Secrets: `close` wipes the volume key and its expanded forms, and the module overwrites its own copy
 of a passphrase or volume key once the volume is open or refused. Python cannot overwrite a str or
@@ -28,6 +31,7 @@ from __future__ import annotations
 
 import contextlib
 import ctypes
+import enum
 import errno
 import functools
 import io
@@ -35,21 +39,52 @@ import operator
 import os
 import pathlib
 import stat
+import sys
 import threading
 import warnings
 import weakref
-from typing import Iterator, NoReturn, Optional, Union
+from typing import Callable, Iterator, NamedTuple, NoReturn, Optional, Protocol, Union
 
-__all__ = ["IncompleteImageWarning", "LuksError", "UncheckedKeyWarning", "Volume", "library_version",
-           "open", "open_by_volume_key"]
+__all__ = ["Code", "Image", "IncompleteImageWarning", "LuksError", "NotLuksError",
+           "UncheckedKeyWarning", "Volume", "WrongKeyError", "library_version", "open",
+           "open_by_volume_key"]
+__version__ = "1.2.0"
 
-Path = Union[str, bytes, "os.PathLike[str]", "os.PathLike[bytes]"]
-Passphrase = Union[str, bytes, bytearray, memoryview]
-KeyBytes = Union[bytes, bytearray, memoryview]
+_Path = Union[str, bytes, "os.PathLike[str]", "os.PathLike[bytes]"]
+_Passphrase = Union[str, bytes, bytearray, memoryview]
+_Bytes = Union[bytes, bytearray, memoryview]
 
 # How many bytes are read and decrypted at once, whole sectors of any size: more would leave the
 # processor's cache
 _PIECE = 262144
+
+# How many bytes of plaintext are buffered, if the caller does not say
+_BUFFER = 65536
+
+
+class Code(enum.IntEnum):
+    """Why luksrd refuses a volume: enum luksrd_code in luksrd.h."""
+
+    OK = 0
+    NOT_LUKS = 1
+    TRUNCATED = 2
+    JSON = 3
+    SEGMENT_REFUSED = 4
+    NO_SUCH_SLOT = 5
+    SLOT_DISABLED = 6
+    SLOT_SKIPPED = 7
+    NOTHING_TRIED = 8
+    KEY_FILE_LENGTH = 9
+    NO_KEY = 10
+    OUT_OF_MEMORY = 11
+    ENDS_BEFORE_PAYLOAD = 12
+    ENDS_INSIDE_SECTOR = 13
+    ENDS_BEFORE_SEGMENT = 14
+    BAD_OPTIONS = 15
+    BAD_VOLUME = 16
+    BAD_RANGE = 17
+    OTHER_KEY = 18
+    NO_DIGEST = 19
 
 
 class LuksError(Exception):
@@ -57,8 +92,8 @@ class LuksError(Exception):
 
     def __init__(self, code: int, status: int, message: str) -> None:
         super().__init__(message)
-        #: one of enum luksrd_code in luksrd.h
-        self.code = code
+        #: a Code, or the number that a newer library gave
+        self.code = Code(code) if code in Code.__members__.values() else code
         #: the exit status of `luksrd luksCat`: 1 refused, 2 no key opens the volume, 3 out of
         #: memory, 4 the image is not as it has to be
         self.status = status
@@ -69,12 +104,45 @@ class LuksError(Exception):
         return type(self), (self.code, self.status, self.message)
 
 
+class NotLuksError(LuksError):
+    """The image, or the file with the detached header, has no LUKS header."""
+
+
+class WrongKeyError(LuksError):
+    """The passphrase opens no key slot that was tried, or the volume key is another volume's."""
+
+
+# The codes that have a class of their own
+_ERRORS = {Code.NOT_LUKS: NotLuksError, Code.NO_KEY: WrongKeyError, Code.OTHER_KEY: WrongKeyError}
+
+
 class IncompleteImageWarning(UserWarning):
     """The image ends inside a sector, or before its payload does: its whole sectors are read."""
 
 
 class UncheckedKeyWarning(UserWarning):
     """A header is there, but the volume key was not compared with it."""
+
+
+class Image(Protocol):
+    """What a volume can be in besides a file: any object with these two, such as another Volume."""
+
+    @property
+    def size(self) -> int:
+        """The length in bytes, which does not change."""
+
+    def pread_into(self, view: memoryview, offset: int) -> int:
+        """Fills the view from this byte on, or a part of it from its beginning, and returns how
+        many bytes these are: 0 only at the end. Raises OSError if they cannot be read. If threads
+        read the volume at the same time, they call this at the same time."""
+
+
+def _warn(message: str, category: type[Warning]) -> None:
+    """Warns, and points to the line that called this module."""
+    level, frame = 1, sys._getframe()
+    while frame.f_back and frame.f_globals is globals():
+        level, frame = level + 1, frame.f_back
+    warnings.warn(message, category, stacklevel=level)
 
 
 # The library: its structs and functions. Nothing after this part calls it.
@@ -89,9 +157,7 @@ _PASSPHRASE_BYTES = 8388608
 _KEY_BYTES = 64
 _MODES = {"aes-xts-plain64": 1, "aes-xts-plain": 2, "aes-cbc-essiv:sha256": 3,
           "aes-cbc-plain64": 4}
-
-# What comparing a volume key with a header gives, besides refusals
-_NOT_LUKS, _OUT_OF_MEMORY, _OTHER_KEY = 1, 11, 18
+_CIPHERS = {number: name for name, number in _MODES.items()}
 
 
 class _Options(ctypes.Structure):
@@ -125,7 +191,8 @@ class _Message(ctypes.Structure):
         ("status", ctypes.c_uint32), ("len", ctypes.c_uint32), ("text", ctypes.c_char * 1016)]
 
     def error(self, code: int) -> LuksError:
-        return LuksError(code, self.status, self.text.decode("ascii"))
+        kind = _ERRORS.get(code, LuksError)
+        return kind(code, self.status, self.text.decode("ascii"))
 
 
 def _library_name() -> str:
@@ -222,6 +289,10 @@ class _Key:
     def sector_size(self) -> int:
         return self._opened.sector_size
 
+    @property
+    def cipher(self) -> str:
+        return _CIPHERS.get(self._opened.mode, f"mode {self._opened.mode}")
+
     def plain_len(self) -> int:
         return _library().luksrd_len(ctypes.byref(self._opened), self._image_len)
 
@@ -274,28 +345,75 @@ def library_version() -> tuple[int, int, int]:
 _NOT_AN_IMAGE = "neither a regular file nor a block device"
 
 
-def _open_file(path: Path, flags: int = 0) -> io.FileIO:
+def _open_file(path: _Path, flags: int = 0, kind: type[io.FileIO] = io.FileIO) -> io.FileIO:
     """A file that is not a folder. It closes its descriptor once, whoever interrupts that."""
+
+    def opened(_: object, mode: int) -> int:
+        try:
+            return os.open(path, mode | os.O_NOCTTY | flags)
+        except BlockingIOError:
+            # another program has a lease on a regular file, and the kernel asks for it: this waits
+            return os.open(path, mode | os.O_NOCTTY)
+
     # (a number would be taken for a descriptor)
-    return io.FileIO(os.fspath(path), opener=lambda name, mode: os.open(
-        path, mode | os.O_NOCTTY | flags))
+    return kind(os.fspath(path), opener=opened)
 
 
-def _open_image(path: Path) -> tuple[io.FileIO, int]:
-    """An image, which is read at offsets, and its length in bytes."""
+class _ImageFile(io.FileIO):
+    """A regular file or a block device, as an Image."""
+
+    size = 0
+
+    def pread_into(self, view: memoryview, offset: int) -> int:
+        got = os.preadv(self.fileno(), [view], offset)
+        # a file that is truncated while it is read may give zeros from its last page, so its length
+        # is checked after that
+        found = os.fstat(self.fileno())
+        return 0 if stat.S_ISREG(found.st_mode) and found.st_size < offset + got else got
+
+
+def _open_image(path: _Path) -> _ImageFile:
+    """An image, which is read at offsets."""
     # a blocking open would wait for the writer of a pipe
-    file = _open_file(path, os.O_NONBLOCK)
+    file = _open_file(path, os.O_NONBLOCK, _ImageFile)
     try:
         mode = os.fstat(file.fileno()).st_mode
         if not stat.S_ISREG(mode) and not stat.S_ISBLK(mode):
             raise OSError(errno.EINVAL, _NOT_AN_IMAGE, path)
         # the length of a block device is known only by its end
-        image_len = file.seek(0, os.SEEK_END)
-        file.seek(0)
+        file.size = file.seek(0, os.SEEK_END)
     except BaseException:
         file.close()
         raise
-    return file, image_len
+    return file
+
+
+class _Part(NamedTuple):
+    """The image of a volume: so many bytes of a file or of an object, from this one on."""
+
+    source: Image
+    start: int
+    size: int
+
+
+def _part_of(path: Union[_Path, Image], source: Image, offset: int, length: Optional[int]) -> _Part:
+    """The part that the caller names; warns if the source ends before that."""
+    behind = max(0, operator.index(source.size) - offset)
+    if length is None:
+        return _Part(source, offset, behind)
+    if behind < length:
+        missing = f"it ends {length - behind} bytes before the part of it that is named"
+        _warn(f"{_shown(path)}: {missing}", IncompleteImageWarning)
+    return _Part(source, offset, min(length, behind))
+
+
+def _is_path(path: Union[_Path, Image]) -> bool:
+    """Whether this names a file; what is neither a name nor an Image is taken for a wrong name."""
+    return isinstance(path, (str, bytes, os.PathLike)) or not hasattr(path, "pread_into")
+
+
+def _shown(path: Union[_Path, Image]) -> str:
+    return os.fsdecode(path) if _is_path(path) else repr(path)
 
 
 def _has_headers(start: memoryview) -> bool:
@@ -306,19 +424,22 @@ def _has_headers(start: memoryview) -> bool:
     return start[7] == 1 or int.from_bytes(start[8:16], "big") <= len(start) // 2
 
 
-def _read_first(file: io.FileIO, buffer: bytearray, is_header: bool = False) -> memoryview:
-    """The file, or as many of its first bytes as the buffer has room for: a part of the buffer. If a
-    read fails after a whole header, the bytes before: luksrd needs few of the others, the key areas,
-    and refuses the volume if one of those is not there."""
+# Reads the next bytes, of which so many come before them
+_Read = Callable[[memoryview, int], int]
+
+
+def _read_first(read: _Read, buffer: bytearray, is_header: bool = False) -> memoryview:
+    """The first bytes, as many as the buffer has room for, or all: a part of the buffer. If a read
+    fails after a whole header, the bytes before: luksrd needs few of the others, the key areas, and
+    refuses the volume if one of those is not there."""
     view, done = memoryview(buffer), 0
     while done < len(view):
         try:
-            got = os.readv(file.fileno(), [view[done:]])
+            got = read(view[done:], done)
         except OSError as error:
             if not is_header or not _has_headers(view[:done]):
                 raise
-            warnings.warn(f"reading the header ended after {done} bytes: {error}",
-                          IncompleteImageWarning, stacklevel=5)
+            _warn(f"reading the header ended after {done} bytes: {error}", IncompleteImageWarning)
             break
         if not got:
             break
@@ -326,29 +447,52 @@ def _read_first(file: io.FileIO, buffer: bytearray, is_header: bool = False) -> 
     return view[:done]
 
 
-def _read_file(path: Path, buffer: bytearray, is_header: bool = False) -> memoryview:
+def _next_of(file: io.FileIO) -> _Read:
+    return lambda view, _: os.readv(file.fileno(), [view])
+
+
+def _first_of(part: _Part) -> _Read:
+    """Reads an image from its first byte on."""
+    if isinstance(part.source, io.FileIO):
+        part.source.seek(part.start)
+        return _next_of(part.source)
+
+    def read(view: memoryview, done: int) -> int:
+        try:
+            return _read_some(part.source, view[:_PIECE], part.start + done)
+        except OSError:
+            # (what comes before the byte that cannot be read may be enough)
+            return _read_some(part.source, view[:512], part.start + done)
+
+    return read
+
+
+def _read_file(path: _Path, buffer: bytearray, is_header: bool = False) -> memoryview:
     with _open_file(path) as file:
-        return _read_first(file, buffer, is_header)
+        return _read_first(_next_of(file), buffer, is_header)
 
 
-def _read_exactly(descriptor: int, view: memoryview, offset: int) -> None:
-    """Fills the view from this byte of the image on."""
+def _read_some(source: Image, view: memoryview, offset: int) -> int:
+    """Reads from this byte of the source on, and returns how many bytes it gave."""
+    got = operator.index(source.pread_into(view, offset))
+    if not 0 <= got <= len(view):
+        raise OSError(errno.EIO, f"pread_into of {len(view)} bytes gave {got}")
+    return got
+
+
+def _read_exactly(source: Image, view: memoryview, offset: int) -> None:
+    """Fills the view from this byte of the source on."""
     done = 0
     while done < len(view):
-        got = os.preadv(descriptor, [view[done:]], offset + done)
+        got = _read_some(source, view[done:], offset + done)
         if not got:
-            break
+            what = f"reading {len(view)} bytes at offset {offset}"
+            raise OSError(errno.EIO, f"{what}: the image has become shorter")
         done += got
-    # a file that is truncated while it is read may give zeros from its last page, so its length is
-    # checked after that
-    found = os.fstat(descriptor)
-    if done < len(view) or stat.S_ISREG(found.st_mode) and found.st_size < offset + done:
-        what = f"reading {len(view)} bytes at offset {offset}"
-        raise OSError(errno.EIO, f"{what}: the image has become shorter")
 
 
 @contextlib.contextmanager
-def _secret(given: Optional[KeyBytes], path: Optional[Path], longest: int) -> Iterator[memoryview]:
+def _secret(given: Optional[_Bytes], path: Optional[_Path], longest: int) -> Iterator[memoryview]:
     """A copy of a passphrase or of a volume key, or what its file has: a part of a bytearray that
     is wiped at the end of the block, however that ends. One that is too long is cut after one byte
     more than the longest one, and refused for its length later."""
@@ -391,24 +535,50 @@ class Volume(io.RawIOBase):
 
     mode = "rb"
 
-    def __init__(self, name: Path, file: io.FileIO, key: _Key) -> None:
-        self._file, self._key = file, key
+    def __init__(self, name: Union[_Path, Image], image: _Part, key: _Key,
+                 key_slot: Optional[int]) -> None:
+        self._image, self._key = image, key
+        # what is closed with the volume: its own file, and no object of the caller
+        self._file = image.source if isinstance(image.source, _ImageFile) else None
         # (a signal handler may read in the thread that it interrupts)
         self._position, self._moving = 0, threading.RLock()
         # one object for each read that runs, with its thread
         self._readers: dict[object, int] = {}
         self._idle, self._is_closing = threading.Condition(), False
         _volumes.add(self)
-        #: the path of the image
-        self.name = name
-        #: the length of the plaintext in bytes, whole sectors
-        self.size = key.plain_len()
-        #: the length of a sector in bytes
-        self.sector_size = key.sector_size
-        #: the number of the key slot that opened, or None if the volume was opened by its key
-        self.key_slot: Optional[int] = key.slot
-        #: the error with which luksCat ends if the image is incomplete, or None
-        self.incomplete: Optional[LuksError] = key.ending()
+        self._name, self._key_slot = name, key_slot
+        self._size, self._incomplete = key.plain_len(), key.ending()
+        self._sector_size, self._cipher = key.sector_size, key.cipher
+
+    @property
+    def name(self) -> Union[_Path, Image]:
+        """The path of the image, or the object that it is read from."""
+        return self._name
+
+    @property
+    def size(self) -> int:
+        """The length of the plaintext in bytes, whole sectors."""
+        return self._size
+
+    @property
+    def sector_size(self) -> int:
+        """The length of a sector in bytes."""
+        return self._sector_size
+
+    @property
+    def cipher(self) -> str:
+        """The cipher of the payload as headers name it, such as aes-xts-plain64."""
+        return self._cipher
+
+    @property
+    def key_slot(self) -> Optional[int]:
+        """The number of the key slot that opened, or None if the volume was opened by its key."""
+        return self._key_slot
+
+    @property
+    def incomplete(self) -> Optional[LuksError]:
+        """The error with which luksCat ends if the image is incomplete, or None."""
+        return self._incomplete
 
     def __repr__(self) -> str:
         closed = ", closed" if self.closed else ""
@@ -419,14 +589,14 @@ class Volume(io.RawIOBase):
         raise TypeError("a volume cannot be copied or pickled")
 
     @contextlib.contextmanager
-    def _reading(self) -> Iterator[int]:
-        """The descriptor, which stays open until the end of the block."""
+    def _reading(self) -> Iterator[None]:
+        """The image stays open until the end of the block."""
         reader = object()
         try:
             with self._idle:
                 self._check_open()
                 self._readers[reader] = threading.get_ident()
-            yield self._file.fileno()
+            yield
         finally:
             # (first of all, since waiting for the lock may be interrupted)
             self._readers.pop(reader, None)
@@ -441,7 +611,8 @@ class Volume(io.RawIOBase):
         try:
             self._key.wipe()
         finally:
-            self._file.close()
+            if self._file:
+                self._file.close()
 
     def close(self) -> None:
         """Waits for reads that run, wipes the volume key and closes the image.
@@ -463,13 +634,13 @@ class Volume(io.RawIOBase):
             self._release()
         super().close()
 
-    def _read_step(self, descriptor: int, view: memoryview, offset: int) -> int:
+    def _read_step(self, view: memoryview, offset: int) -> int:
         """Puts the first bytes of the plaintext from this offset on into the view, and returns how
         many these are."""
         step = self._key.plan(offset, min(len(view), _PIECE - offset % _PIECE))
         is_whole = step.count == step.read_len
         read = view[:step.count] if is_whole else memoryview(bytearray(step.read_len))
-        _read_exactly(descriptor, read, step.read_offset)
+        _read_exactly(self._image.source, read, self._image.start + step.read_offset)
         self._key.finish(step, read)
         if not is_whole:
             view[:step.count] = read[:step.count]
@@ -486,10 +657,10 @@ class Volume(io.RawIOBase):
         view = memoryview(buffer).cast("B")
         view = view[:max(0, min(len(view), self.size - offset))]
         done = 0
-        with self._reading() as descriptor:
+        with self._reading():
             try:
                 while done < len(view):
-                    done += self._read_step(descriptor, view[done:], offset + done)
+                    done += self._read_step(view[done:], offset + done)
             except BaseException:
                 # neither what was decrypted before nor what is still encrypted is an answer
                 _zero(view)
@@ -558,7 +729,7 @@ class Volume(io.RawIOBase):
             raise ValueError("I/O operation on closed volume")
 
 
-def _options(header: Optional[Path], key_slot: Optional[int],
+def _options(header: Optional[_Path], key_slot: Optional[int],
              max_iterations: Optional[int]) -> _Options:
     if key_slot is not None and not 0 <= key_slot <= 31:
         raise ValueError(f"key_slot is {key_slot}, not from 0 to 31")
@@ -590,81 +761,117 @@ def _unchecked(head: memoryview, secret: memoryview, options: _Options) -> Optio
     """Why the volume key was not compared with a header, if one is there or was named; raises what
     was found if that is another key."""
     answer = _compared(head, secret, options)
-    if answer and answer.code in (_OTHER_KEY, _OUT_OF_MEMORY):
+    if answer and answer.code in (Code.OTHER_KEY, Code.OUT_OF_MEMORY):
         raise answer
-    is_lost = answer and answer.code == _NOT_LUKS and not options.detached
+    is_lost = answer and answer.code == Code.NOT_LUKS and not options.detached
     return None if is_lost else answer
 
 
-def open(path: Path, *, passphrase: Optional[Passphrase] = None, key_file: Optional[Path] = None,
-         header: Optional[Path] = None, key_slot: Optional[int] = None,
-         max_iterations: Optional[int] = None) -> Volume:
-    """Opens the volume in an image, a regular file or a block device, by a passphrase.
+def _check_part(offset: int, length: Optional[int], head: Optional[_Bytes],
+                header: Optional[_Path]) -> None:
+    for name, value in (("offset", offset), ("length", 0 if length is None else length)):
+        if not 0 <= operator.index(value) < 1 << 63:
+            raise ValueError(f"{name} is {value}, not from 0 to 2**63 - 1")
+    if head is not None and header is not None:
+        raise TypeError("head and header do not go together")
 
+
+def _begin(cleanup: contextlib.ExitStack, path: Union[_Path, Image], header: Optional[_Path],
+           offset: int, length: Optional[int],
+           head: Optional[_Bytes]) -> tuple[_Part, memoryview, _Key]:
+    """The image, the first bytes of its header, and a key that has to be opened. Unless the caller
+    takes that back, the image is closed and the key wiped in the end."""
+    _check_part(offset, length, head, header)
+    # (before anything that has to be undone)
+    _library()
+    source = cleanup.enter_context(_open_image(path)) if _is_path(path) else path
+    image = _part_of(path, source, offset, length)
+    first = _read_header(header, image, head)
+    key = _Key(image.size)
+    cleanup.callback(key.wipe)
+    return image, first, key
+
+
+def _read_header(header: Optional[_Path], image: _Part, head: Optional[_Bytes]) -> memoryview:
+    """The first bytes of the image, which the caller may have read, or of the file with the
+    detached header."""
+    if header is not None:
+        return _read_file(header, bytearray(_HEADER_BYTES), True)
+    wanted = min(_HEADER_BYTES, image.size)
+    if head is None:
+        buffer = bytearray(wanted or 1)
+        return _read_first(_first_of(image), buffer, True) if wanted else memoryview(buffer)[:0]
+    given = memoryview(head).cast("B")[:wanted]
+    buffer = bytearray(len(given) or 1)
+    buffer[:len(given)] = given
+    return memoryview(buffer)[:len(given)]
+
+
+def _opened_volume(path: Union[_Path, Image], image: _Part, key: _Key, key_slot: Optional[int],
+                   buffering: int) -> Union[Volume, io.BufferedReader]:
+    """The volume, in a buffer if the caller wants one; warns if its image is incomplete."""
+    volume = Volume(path, image, key, key_slot)
+    if volume.incomplete:
+        _warn(f"{_shown(path)}: {volume.incomplete}", IncompleteImageWarning)
+    if buffering == 0:
+        return volume
+    return io.BufferedReader(volume, buffering if buffering > 0 else _BUFFER)
+
+
+def open(path: Union[_Path, Image], *, passphrase: Optional[_Passphrase] = None,
+         key_file: Optional[_Path] = None, header: Optional[_Path] = None,
+         key_slot: Optional[int] = None, max_iterations: Optional[int] = None, offset: int = 0,
+         length: Optional[int] = None, head: Optional[_Bytes] = None,
+         buffering: int = 0) -> Union[Volume, io.BufferedReader]:
+    """Opens the volume in an image by a passphrase.
+
+    path            the image, a regular file or a block device; or an object that is an Image,
+                    which is not closed with the volume
     passphrase      the passphrase; a str is encoded in UTF-8. Python does not wipe a str or bytes
     key_file        in its place, the file whose bytes are the passphrase, all of them; it may be a
                     pipe
     header          the file with the detached header; it may be a pipe
     key_slot        the only key slot to try, 0 to 31
     max_iterations  skip each key slot that needs more iterations of PBKDF2, for itself or for its
-                    digest
+                    digest. Without it there is no limit, and a hostile header may take days
+    offset, length  the image is this part of the file, as a partition is of a disk: so many bytes
+                    from this one on. Without a length it ends with the file
+    head            the first bytes of the image, if the caller has them: at least its headers and
+                    the key areas that are tried, at most the first 33554432 bytes. Then nothing is
+                    read from the image to open the volume
+    buffering       0 gives a Volume, each of whose reads decrypts. Otherwise an io.BufferedReader
+                    over that, its `raw`, with a buffer of so many bytes; of 65536 if it is negative
 
-    Raises LuksError if luksrd refuses the volume or no key opens it, OSError if a file cannot be
-    opened or read, and TypeError or ValueError for arguments that cannot be. Warns by
-    IncompleteImageWarning of an image that is incomplete, or of which bytes after the header cannot
-    be read."""
+    Raises LuksError if luksrd refuses the volume: NotLuksError if there is no header, WrongKeyError
+    if no key opens it. Raises OSError if a file cannot be opened or read, and TypeError or
+    ValueError for arguments that cannot be. Warns by IncompleteImageWarning of an image that is
+    incomplete, of a part that ends past its file, or of bytes after the header that cannot be
+    read."""
     if (passphrase is None) == (key_file is None):
         raise TypeError("either passphrase or key_file is needed")
-    options = _options(header, key_slot, max_iterations)
+    options, buffering = _options(header, key_slot, max_iterations), operator.index(buffering)
     with contextlib.ExitStack() as cleanup:
-        file, head, key = _begin(cleanup, path, header)
+        image, first, key = _begin(cleanup, path, header, offset, length, head)
         given = passphrase.encode() if isinstance(passphrase, str) else passphrase
         with _secret(given, key_file, _PASSPHRASE_BYTES) as secret:
-            key.unlock(head, secret, options)
-        volume = _opened_volume(path, file, key)
+            key.unlock(first, secret, options)
+        volume = _opened_volume(path, image, key, key.slot, buffering)
         cleanup.pop_all()
     return volume
 
 
-def _begin(cleanup: contextlib.ExitStack, path: Path,
-           header: Optional[Path]) -> tuple[io.FileIO, memoryview, _Key]:
-    """The image, the first bytes of its header, and a key that has to be opened. Unless the caller
-    takes that back, the image is closed and the key wiped in the end."""
-    # (before anything that has to be undone)
-    _library()
-    file, image_len = _open_image(path)
-    cleanup.enter_context(file)
-    head = _read_header(header, file, image_len)
-    key = _Key(image_len)
-    cleanup.callback(key.wipe)
-    return file, head, key
-
-
-def _read_header(header: Optional[Path], file: io.FileIO, image_len: int) -> memoryview:
-    """The first bytes of the image, or of the file with the detached header."""
-    if header is not None:
-        return _read_file(header, bytearray(_HEADER_BYTES), True)
-    return _read_first(file, bytearray(min(_HEADER_BYTES, image_len or 1)), True)
-
-
-def _opened_volume(path: Path, file: io.FileIO, key: _Key) -> Volume:
-    """The volume; warns if its image is incomplete."""
-    volume = Volume(path, file, key)
-    if volume.incomplete:
-        message = f"{os.fsdecode(path)}: {volume.incomplete}"
-        warnings.warn(message, IncompleteImageWarning, stacklevel=3)
-    return volume
-
-
-def open_by_volume_key(path: Path, *, payload_offset: int, volume_key: Optional[KeyBytes] = None,
-                       volume_key_file: Optional[Path] = None, cipher: str = "aes-xts-plain64",
+def open_by_volume_key(path: Union[_Path, Image], *, payload_offset: int,
+                       volume_key: Optional[_Bytes] = None,
+                       volume_key_file: Optional[_Path] = None, cipher: str = "aes-xts-plain64",
                        sector_size: int = 512, iv_offset: int = 0, size: Optional[int] = None,
-                       header: Optional[Path] = None,
-                       max_iterations: Optional[int] = None) -> Volume:
+                       header: Optional[_Path] = None, max_iterations: Optional[int] = None,
+                       offset: int = 0, length: Optional[int] = None,
+                       head: Optional[_Bytes] = None,
+                       buffering: int = 0) -> Union[Volume, io.BufferedReader]:
     """Opens a volume by its volume key, as `cryptsetup luksDump --dump-volume-key` saves it: one
     whose header is lost, too.
 
-    payload_offset   the first byte of the payload
+    payload_offset   the first byte of the payload in the image
     volume_key       the volume key. Python does not wipe bytes
     volume_key_file  in its place, the file with the volume key
     cipher           as headers name it: also aes-xts-plain, aes-cbc-essiv:sha256, aes-cbc-plain64
@@ -672,25 +879,44 @@ def open_by_volume_key(path: Path, *, payload_offset: int, volume_key: Optional[
     iv_offset        the data unit number of the first sector, in units of 512 bytes
     size             the payload's length in bytes, if that is fixed; else it ends with the image
     header           the file with the detached header, if there is one
-    max_iterations   a digest with more iterations of PBKDF2 is not compared with the key
+    max_iterations   a digest with more iterations of PBKDF2 is not compared with the key. Without
+                     it there is no limit
 
-    If the image, or the detached header, has the digest of another key, this raises LuksError. If
-    there is no header, nothing can tell that the key is a wrong one: it gives noise. Warns by
-    UncheckedKeyWarning of a header that cannot tell, as of a file with a detached header that has
-    none, and raises and warns as open does."""
+    path, offset, length, head and buffering are those of open. If the image, or the detached
+    header, has the digest of another key, this raises WrongKeyError. If there is no header, nothing
+    can tell that the key is a wrong one: it gives noise. Warns by UncheckedKeyWarning of a header
+    that cannot tell, as of a file with a detached header that has none, and raises and warns as
+    open does."""
     if (volume_key is None) == (volume_key_file is None):
         raise TypeError("either volume_key or volume_key_file is needed")
     fields = _fields(cipher, payload_offset, sector_size, iv_offset, size)
-    options = _options(header, None, max_iterations)
+    options, buffering = _options(header, None, max_iterations), operator.index(buffering)
     with contextlib.ExitStack() as cleanup:
-        file, head, key = _begin(cleanup, path, header)
+        image, first, key = _begin(cleanup, path, header, offset, length, head)
         with _secret(volume_key, volume_key_file, _KEY_BYTES) as secret:
             key.use(secret, fields)
-            unchecked = _unchecked(head, secret, options)
+            unchecked = _unchecked(first, secret, options)
         if unchecked:
-            message = f"{os.fsdecode(path)}: the volume key is not compared: {unchecked}"
-            warnings.warn(message, UncheckedKeyWarning, stacklevel=2)
-        volume = _opened_volume(path, file, key)
-        volume.key_slot = None
+            _warn(f"{_shown(path)}: the volume key is not compared: {unchecked}",
+                  UncheckedKeyWarning)
+        volume = _opened_volume(path, image, key, None, buffering)
         cleanup.pop_all()
     return volume
+
+
+def _main() -> int:
+    """Prints what this is, and which library it loads; 1 if it finds none."""
+    print(f"luksrd {__version__}: {(__doc__ or '').splitlines()[0]}")
+    try:
+        version = ".".join(map(str, library_version()))
+    except OSError as error:
+        print(f"the library is not found: {error}")
+        return 1
+    print(f"library: {_library()._name}, version {version}")
+    print(f"ciphers: {' '.join(_MODES)}")
+    print('use: import luksrd; help(luksrd)')
+    return 0
+
+
+if __name__ == "__main__":
+    sys.exit(_main())

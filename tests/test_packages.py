@@ -8,7 +8,7 @@ import re
 import pytest
 from links import broken_links
 from support import TOP, alone, built, expect, must, needs, run, runs_v3
-from test_install import FILTER, GUIDES, PLUGIN, VERSION, Make, files_in
+from test_install import FILTER, GUIDES, LIBRARY_PAGES, PLUGIN, VERSION, Make, files_in
 
 pytestmark = [alone, needs("dh", "dh_python3", "chrpath", "lintian", "/usr/include/nbdkit-plugin.h")]
 LIBRARIES = "usr/lib/x86_64-linux-gnu"
@@ -24,7 +24,8 @@ FILES = {
     "libluksrd2": [f"{LIBRARIES}/{V3}", f"{LIBRARIES}/libluksrd.so.{VERSION}",
                    f"lrwxrwxrwx {LIBRARIES}/libluksrd.so.2"],
     "libluksrd-dev": ["usr/include/luksrd.h", f"{LIBRARIES}/libluksrd.a", f"{LIBRARIES}/pkgconfig/luksrd.pc",
-                      f"lrwxrwxrwx {LIBRARIES}/libluksrd.so"],
+                      f"lrwxrwxrwx {LIBRARIES}/libluksrd.so",
+                      *[f"usr/share/man/man3/{page}.gz" for page in LIBRARY_PAGES]],
     "python3-luksrd": [f"{MODULES}/luksrd.py", "usr/share/man/man1/luksrd-lvm.1.gz", "-rwxr-xr-x usr/bin/luksrd-lvm"],
     "nbdkit-plugin-luksrd": [f"{LIBRARIES}/nbdkit/filters/{FILTER}", f"{LIBRARIES}/nbdkit/plugins/{PLUGIN}",
                              "usr/lib/systemd/system/nbdkit-luksrd@.service",

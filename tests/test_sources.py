@@ -68,6 +68,8 @@ VERSIONS = {
     "c/luksrd.h": r"^#define LUKSRD_VERSION 0x(.*)$",
     "crates/luks_c/src/lib.rt": r"^const VERSION: u32 = 0x00(.*);$",
     "crates/luksrd_audit/src/arguments.rt": r'\.version\("(.*)"\)$',
+    "python/luksrd.py": r'^__version__ = "(.*)"$',
+    "python/pyproject.toml": r'^version = "(.*)"$',
     **{f"docs/{page.name}": r"^\.Os luksrd (.*)$" for page in TOP.glob("docs/*.[0-9]")},
 }
 INTERFACES = {
