@@ -98,7 +98,7 @@ def test_number_of_the_interface(path):
 
 def test_links():
     number, broken = broken_links(TOP)
-    assert number > 300
+    assert number > 100
     assert broken == []
 
 
