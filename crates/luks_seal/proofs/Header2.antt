@@ -23,7 +23,7 @@ use Rattle.luks_seal.specs.Ranges2.{AreParameters2, is_header_size, Seal2}
 use Rattle.luks_seal.proofs.Bounds.{long_header, short_header}
 
 -- the first 24 bytes of a header have its offset's magic, its size and its sequence number; the offset is 0 or the size
-pub record IsStart (p : Seal2) (magic : List ℕ) (offset : ℕ) : Type 0 where
+pub record IsHeaderStart (p : Seal2) (magic : List ℕ) (offset : ℕ) : Type 0 where
   pub len : length (start_of p magic) ≡ 24
   pub begins : at 0 8 (start_of p magic) ≡ beginning_at offset
   pub size : at 8 8 (start_of p magic) ≡ to_be_bytes w64 p.hdr_size
@@ -32,11 +32,11 @@ pub record IsStart (p : Seal2) (magic : List ℕ) (offset : ℕ) : Type 0 where
   pub within : offset ≤ p.hdr_size
 
 -- both headers start with such bytes
-pub primary_start : (p : Seal2) → IsStart p primary_magic 0
+pub primary_start : (p : Seal2) → IsHeaderStart p primary_magic 0
 unfolding start_of beginning_at
 primary_start p = record { len = refl; begins = refl; size = refl; sequence = refl; own = refl; within = omega arith }
 
-pub secondary_start : (p : Seal2) → AreParameters2 p → IsStart p secondary_magic p.hdr_size
+pub secondary_start : (p : Seal2) → AreParameters2 p → IsHeaderStart p secondary_magic p.hdr_size
 unfolding start_of beginning_at
 secondary_start p fits =
     let some : p.hdr_size ≢ 0 = λ none. omega (arith, none, long_header p fits) in
@@ -67,7 +67,7 @@ zeroed_of prefix checksum rest zeros long filled =
     rw (first, last) refl
 
 module _ (p : Seal2) (fits : AreParameters2 p) (json : FitsJson p) (magic salt : List ℕ) (offset : ℕ)
-    (start : IsStart p magic offset) (salted : length salt ≡ 64) where
+    (start : IsHeaderStart p magic offset) (salted : length salt ≡ 64) where
   -- ---- parts and lengths
 
   abbrev made_header : List ℕ
