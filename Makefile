@@ -2,6 +2,7 @@
 #                 proves all that they use. They run on every x86-64-v2 processor. With CPU=x86-64-v3 it builds
 #                 out/x86-64-v3/luksrd over the same proofs, for processors of that level (AVX2)
 # make demo       reads both sample volumes with a program that is built without proofs
+# make quick      what to run while changing things: most of what a change breaks, in ten minutes, without a proof
 # make check      builds all, and runs the tests (tests/*.py) on it; JOBS tests at once
 # make test       what CI runs: the gate, which proves everything, tries each must-fail edit and runs the tests of the
 #                 crates; then `make check`; it prints the processor time that each crate took
@@ -83,7 +84,7 @@ CFLAGS ?= -O2 -D_FORTIFY_SOURCE=2 -fstack-protector-strong
 # the library's file, and the two names that lead to it
 SHARED_NAMES = libluksrd.so.$(VERSION) libluksrd.so.$(INTERFACE) libluksrd.so
 
-.PHONY: all demo check test pages bench library nbdkit tools toolchain built library-built nbdkit-folders runs-here \
+.PHONY: all demo quick check test pages bench library nbdkit tools toolchain built library-built nbdkit-folders runs-here \
     install install-parts not-packaged install-program install-audit install-library install-shared install-plugin \
     install-filter install-python uninstall deb FORCE
 
@@ -171,6 +172,9 @@ out/nbdkit.version: FORCE
 
 demo: toolchain
 	@tests/demo
+
+quick: toolchain
+	@tests/quick
 
 toolchain:
 	@command -v rt >/dev/null || { echo "rt is missing: put the Rattle toolchain on the path" >&2; exit 1; }
