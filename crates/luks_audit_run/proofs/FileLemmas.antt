@@ -10,7 +10,8 @@ use Rattle.luks_audit_run.specs.Host.Stored.{image, absent, unknown}
 use Rattle.luks_audit_run.specs.Run.{Audits, AuditsFile, Puts, Tells, TellsOpen}
 use Rattle.luks_audit_run.specs.Run.{image_state, image_text, unopened_line}
 use Rattle.luks_audit_run.specs.Run.Course.{not_opened}
-use Rattle.luks_audit_run.specs.declared.host.NotOpened.{NotOpened}
+use Rattle.luks_audit_run.specs.declared.host.ImageFault.{ImageFault}
+use Rattle.luks_audit_run.specs.declared.host.ImageFault.TheVariants.{NotOpened, Memory}
 use Rattle.luks_audit_run.specs.declared.image.RunFault.{RunFault}
 use Rattle.luks_audit_run.specs.declared.image.Scope.{Scope}
 
@@ -26,15 +27,17 @@ module _ (policy : Policy) (scope : Scope) (file : List ℕ) where
   opened_tells to_come unknown source text left failed state aborted opens told anyway = anyway
 
   -- one that was not opened
-  pub unopened_tells : {I : Type 0} (to_come : I → Option (List ℕ)) (stored : Stored) (error : NotOpened)
-      → OpensAs to_come stored (Err error)
-      → Tells policy scope stored file (unopened_line policy.format file) false Unread
+  pub unopened_tells : {I : Type 0} (to_come : I → Option (List ℕ)) (stored : Stored) (fault : ImageFault)
+      → OpensAs to_come stored (Err fault)
+      → Tells policy scope stored file (unopened_line policy.format file fault) false Unread
   unfolding image_text image_state
-  unopened_tells to_come (image bytes) error opens = absurd opens
-  unopened_tells to_come absent error opens =
-      record { course = not_opened; possible = tt; failed_is = refl; text_is = refl; state_is = refl }
-  unopened_tells to_come unknown error opens =
-      record { course = not_opened; possible = tt; failed_is = refl; text_is = refl; state_is = refl }
+  unopened_tells to_come (image bytes) NotOpened opens = absurd opens
+  unopened_tells to_come (image bytes) Memory opens =
+      record { course = not_opened Memory; possible = tt; failed_is = refl; text_is = refl; state_is = refl }
+  unopened_tells to_come absent fault opens =
+      record { course = not_opened fault; possible = tt; failed_is = refl; text_is = refl; state_is = refl }
+  unopened_tells to_come unknown fault opens =
+      record { course = not_opened fault; possible = tt; failed_is = refl; text_is = refl; state_is = refl }
 
 -- an image that was not read before is counted if one of its reads has failed
 pub failed_count : (failed : Bool) (before after : ℕ) → before ≡ 0 → after ≡ counted failed before
@@ -71,18 +74,18 @@ module _ (policy : Policy) (scope : Scope) (file : List ℕ) where
       }
 
   -- it was not opened
-  pub file_unopened : {I : Type 0} (to_come : I → Option (List ℕ)) (stored : Stored) (error : NotOpened)
+  pub file_unopened : {I : Type 0} (to_come : I → Option (List ℕ)) (stored : Stored) (fault : ImageFault)
       (failures failures1 : ℕ) (before after : Option (List ℕ)) (result : Result State RunFault)
-      → OpensAs to_come stored (Err error) → failures1 ≡ failures
-      → Puts before after (unopened_line policy.format file) (is_err result)
+      → OpensAs to_come stored (Err fault) → failures1 ≡ failures
+      → Puts before after (unopened_line policy.format file fault) (is_err result)
       → IfOk result (λ state. state ≡ Unread)
       → AuditsFile policy scope file stored failures failures1 before after result
-  file_unopened to_come stored error failures failures1 before after result opens same puts shows = record {
-    text = unopened_line policy.format file;
+  file_unopened to_come stored fault failures failures1 before after result opens same puts shows = record {
+    text = unopened_line policy.format file fault;
     failed = false;
     shown = Unread;
     puts = puts;
     failures_is = same;
     shows = shows;
-    tells = unopened_tells policy scope file to_come stored error opens;
+    tells = unopened_tells policy scope file to_come stored fault opens;
   }

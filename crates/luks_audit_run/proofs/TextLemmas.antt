@@ -10,6 +10,7 @@ use Rattle.luks_audit_run.specs.Host.Stored.{image}
 use Rattle.luks_audit_run.specs.Run.{Course, IsPossible, Tells, image_text}
 use Rattle.luks_audit_run.specs.Run.Course.{whole, not_opened, not_read, no_memory, found, untold}
 use Rattle.luks_audit_run.specs.Searched.{place_lines, searched_lines}
+use Rattle.luks_audit_run.specs.declared.host.ImageFault.TheVariants.{NotOpened, Memory as MemoryToOpen}
 use Rattle.luks_audit_run.specs.declared.image.Scope.TheVariants.{Start, Everywhere}
 
 module _ (policy : Policy) (file bytes text : List ℕ) where
@@ -21,7 +22,8 @@ module _ (policy : Policy) (file bytes text : List ℕ) where
   start_by whole possible is = inl is
   start_by (not_read sector) possible is = inr (inl is)
   start_by (no_memory sector) possible is = inr (inr is)
-  start_by not_opened possible is = absurd possible
+  start_by (not_opened NotOpened) possible is = absurd possible
+  start_by (not_opened MemoryToOpen) possible is = inr (inr is)
   start_by (found header) possible is = absurd possible
   start_by (untold failed other state) possible is = absurd possible
 
@@ -37,11 +39,12 @@ module _ (policy : Policy) (file bytes text : List ℕ) where
       ⊎ ((sector : ℕ) × ((text ≡ place_lines policy file bytes (places_below bytes sector)
       ++ fault_line policy.format file Read)
       ⊎ (text ≡ place_lines policy file bytes (places_below bytes sector) ++ fault_line policy.format file Memory)))
-  unfolding image_text
+  unfolding image_text places_below place_lines
   search_by whole possible is = inl is
   search_by (not_read sector) possible is = inr (sector, inl is)
   search_by (no_memory sector) possible is = inr (sector, inr is)
-  search_by not_opened possible is = absurd possible
+  search_by (not_opened NotOpened) possible is = absurd possible
+  search_by (not_opened MemoryToOpen) possible is = inr (0, inr is)
   search_by (found header) possible is = absurd possible
   search_by (untold failed other state) possible is = absurd possible
 

@@ -17,6 +17,8 @@ use Rattle.luks_audit.specs.declared.line.Format.{Format}
 use Rattle.luks_audit_run.specs.Host.{Stored}
 use Rattle.luks_audit_run.specs.Host.Stored.{image, absent, unknown}
 use Rattle.luks_audit_run.specs.Searched.{graver, place_lines, searched_lines, searched_state}
+use Rattle.luks_audit_run.specs.declared.host.ImageFault.{ImageFault}
+use Rattle.luks_audit_run.specs.declared.host.ImageFault.TheVariants.{NotOpened, Memory as MemoryToOpen}
 use Rattle.luks_audit_run.specs.declared.image.Scope.{Scope}
 use Rattle.luks_audit_run.specs.declared.image.Scope.TheVariants.{Start, Everywhere}
 use Rattle.luks_audit_run.specs.declared.image.RunFault.{RunFault}
@@ -26,12 +28,13 @@ use Rattle.luks_audit_run.specs.declared.run.Ending.TheVariants.{Done, OutOfMemo
 
 -- ---- one image
 
--- how the audit of an image went: it was read as far as it has to be; it was not opened; a read failed, or memory ran
--- out, when the search had tried this many sectors. If its bytes are not known: this header, or this fault, was found
--- at its start; or nobody can tell whether a read failed, what was written, and which state that showed
+-- how the audit of an image went: it was read as far as it has to be; it was not opened, for this reason; a read
+-- failed, or memory ran out, when the search had tried this many sectors. If its bytes are not known: this header, or
+-- this fault, was found at its start; or nobody can tell whether a read failed, what was written, and which state that
+-- showed
 pub data Course : Type 0 where
   whole : Course
-  not_opened : Course
+  not_opened : ImageFault → Course
   not_read : ℕ → Course
   no_memory : ℕ → Course
   found : Result Header HeaderFault → Course
@@ -50,14 +53,19 @@ abbrev pub finished_state : Policy → Scope → List ℕ → State
 finished_state policy Start bytes = state_by policy (header_of bytes)
 finished_state policy Everywhere bytes = searched_state policy bytes
 
+-- why an image was not opened, as it is printed
+abbrev pub unopened_text : ImageFault → List ℕ
+unopened_text NotOpened = codes "cannot be opened"
+unopened_text MemoryToOpen = codes "out of memory"
+
 -- the line of an image that was not opened
-abbrev pub unopened_line : Format → List ℕ → List ℕ
-unopened_line format file = line_text format (error_value file (codes "cannot be opened"))
+abbrev pub unopened_line : Format → List ℕ → ImageFault → List ℕ
+unopened_line format file fault = line_text format (error_value file (unopened_text fault))
 
 -- what is written of an image with these bytes
 unfoldable pub image_text : Policy → Scope → List ℕ → List ℕ → Course → List ℕ
 image_text policy scope file bytes whole = finished_text policy scope file bytes
-image_text policy scope file bytes not_opened = unopened_line policy.format file
+image_text policy scope file bytes (not_opened fault) = unopened_line policy.format file fault
 image_text policy scope file bytes (not_read sector) =
     lines_before policy scope file bytes sector ++ fault_line policy.format file Read
 image_text policy scope file bytes (no_memory sector) =
@@ -68,7 +76,7 @@ image_text policy scope file bytes (untold failed text state) = text
 -- what its audit shows
 unfoldable pub image_state : Policy → Scope → List ℕ → Course → State
 image_state policy scope bytes whole = finished_state policy scope bytes
-image_state policy scope bytes not_opened = Unread
+image_state policy scope bytes (not_opened fault) = Unread
 image_state policy scope bytes (not_read sector) = Unread
 image_state policy scope bytes (no_memory sector) = Unread
 image_state policy scope bytes (found header) = state_by policy header
@@ -86,15 +94,15 @@ abbrev pub IsSearched : Scope → Type 0
 IsSearched Start = ⊥
 IsSearched Everywhere = Unit {0}
 
--- the audit can go in this way: an image that is there is opened, and an absent one is not
+-- the audit can go in this way: an image that is there is opened unless memory runs out, and an absent one is not
 abbrev pub IsPossible : Scope → Stored → Course → Type 0
-IsPossible scope (image bytes) not_opened = ⊥
+IsPossible scope (image bytes) (not_opened NotOpened) = ⊥
 IsPossible scope (image bytes) (found header) = ⊥
 IsPossible scope (image bytes) (untold failed text state) = ⊥
 IsPossible scope (image bytes) _ = Unit {0}
-IsPossible scope absent not_opened = Unit {0}
+IsPossible scope absent (not_opened fault) = Unit {0}
 IsPossible scope absent _ = ⊥
-IsPossible scope unknown not_opened = Unit {0}
+IsPossible scope unknown (not_opened fault) = Unit {0}
 IsPossible scope unknown (found header) = IsSomeHeader header
 IsPossible scope unknown (untold failed text state) = IsSearched scope
 IsPossible scope unknown _ = ⊥

@@ -6,9 +6,14 @@ ghost use Rattle.luks_audit_run.specs.Host.{OpensAs, Stored};
 
 use luks_io::source::Source;
 
-/// An image was not opened.
+/// Why an image was not opened.
 #[derive(Clone, Copy)]
-pub struct NotOpened;
+pub enum ImageFault {
+    /// There is no such image, or it may not be read, or it is refused.
+    NotOpened,
+    /// Memory ran out.
+    Memory,
+}
 
 /// Opens images by their names.
 pub trait Images {
@@ -22,7 +27,7 @@ pub trait Images {
     ghost failures: { Self → ℕ };
 
     /// Opens the image of this name.
-    fn open(&mut self, name: &str) -> Result<Self::Image, NotOpened>
+    fn open(&mut self, name: &str) -> Result<Self::Image, ImageFault>
         ensures kept { stored self.new ≡ stored self.old }
         ensures failures { failures self.new ≡ failures self.old }
         ensures image { OpensAs Self.Image.to_come (stored self.old name.now) result }

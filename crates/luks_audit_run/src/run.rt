@@ -6,9 +6,9 @@ ghost use Rattle.luks_audit.specs.Line.{error_value, head_of, line_text};
 ghost use Rattle.luks_audit_run.specs.Run.{Audits, AuditsFile, EndsAudit, Puts, Runs, RunsPartly};
 ghost use Rattle.luks_audit_run.specs.Run.{ending_status};
 ghost use Rattle.luks_audit_run.specs.Run.{ends_unwritten};
-ghost use Rattle.luks_audit_run.specs.Run.{is_unwritten, unopened_line};
+ghost use Rattle.luks_audit_run.specs.Run.{is_unwritten, unopened_line, unopened_text};
 
-use crate::host::{Images, NotOpened};
+use crate::host::{ImageFault, Images};
 use crate::image::{RunFault, Scope, audit_start, graver, put, put_line, search_image};
 use luks_audit::image::{ImageLine, Policy, State};
 use luks_audit::line::{Format, error_tree, head_of, line_text};
@@ -42,11 +42,26 @@ impl Ending {
     }
 }
 
-// The line of an image that was not opened.
-fn unopened_line(alloc: Global, format: Format, file: &str) -> Result<Vec<u8>, AllocError>
-    ensures { IfOk result (λ line. line.items ≡ unopened_line format file.now) }
+// What is printed of an image that was not opened.
+fn unopened_text(fault: ImageFault) -> &'static str
+    ensures { result.now ≡ unopened_text fault }
 {
-    let tree = error_tree(alloc, file, "cannot be opened")?;
+    match fault {
+        ImageFault::NotOpened => "cannot be opened",
+        ImageFault::Memory => "out of memory",
+    }
+}
+
+// The line of an image that was not opened.
+fn unopened_line(
+    alloc: Global,
+    format: Format,
+    file: &str,
+    fault: ImageFault,
+) -> Result<Vec<u8>, AllocError>
+    ensures { IfOk result (λ line. line.items ≡ unopened_line format file.now fault) }
+{
+    let tree = error_tree(alloc, file, unopened_text(fault))?;
     line_text(alloc, format, &tree)
 }
 
@@ -55,15 +70,16 @@ fn put_unopened<O: Sink>(
     alloc: Global,
     format: Format,
     file: &str,
+    fault: ImageFault,
     out: &mut O,
 ) -> Result<State, RunFault>
     ensures puts { Puts (O.written out.old) (O.written out.new)
-        (unopened_line format file.now) (is_err result) }
+        (unopened_line format file.now fault) (is_err result) }
     ensures shows { IfOk result (λ state. state ≡ State.Unread) }
     ensures writes { (O.counts out.new).failures
         ≡ counted (is_unwritten result) (O.counts out.old).failures }
 {
-    let line = unopened_line(alloc, format, file)?;
+    let line = unopened_line(alloc, format, file, fault)?;
     let state = State::Unread;
     put_line(ImageLine { line, state }, out)
 }
@@ -111,7 +127,7 @@ fn audit_file<H: Images, O: Sink>(
             host.close(image);
             shown
         }
-        Err(NotOpened) => put_unopened(alloc, policy.format, file, out),
+        Err(fault) => put_unopened(alloc, policy.format, file, fault, out),
     }
 }
 

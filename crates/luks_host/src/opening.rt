@@ -7,7 +7,7 @@ use crate::input::{Access, access_to};
 use crate::is_output::is_output;
 use crate::storage::FileFacts;
 use crate::system::{InputFault, System};
-use std::alloc::Global;
+use std::alloc::{AllocError, Global};
 
 /// An input that is open, and how it is read.
 #[derive(Drop)]
@@ -46,7 +46,7 @@ fn open_standard<S: System>(system: &S, alloc: Global) -> Result<OpenedInput<S::
     ensures { IsStandardInput (S.finds system.now) (S.shows system.now) result }
 {
     match system.facts_at("/proc/self/fd/0") {
-        Some(facts) => match access_of(system, alloc, &facts) {
+        Some(facts) => match access_of(system, alloc, &facts)? {
             Access::Refused => Err(InputFault::NotOpened),
             Access::Buffered | Access::AsRequested => Ok(OpenedInput::Standard),
         },
@@ -65,7 +65,7 @@ fn open_file<S: System>(
 {
     let file = system.open(name)?;
     let facts = system.facts_of(&file)?;
-    match access_of(system, alloc, &facts) {
+    match access_of(system, alloc, &facts)? {
         Access::Refused => Err(InputFault::NotOpened),
         Access::Buffered => Ok(OpenedInput::Buffered(file)),
         Access::AsRequested => Ok(OpenedInput::AsRequested(file)),
@@ -73,8 +73,9 @@ fn open_file<S: System>(
 }
 
 /// How the input with these facts is read.
-fn access_of<S: System>(system: &S, alloc: Global, facts: &FileFacts) -> Access
+fn access_of<S: System>(system: &S, alloc: Global, facts: &FileFacts) -> Result<Access, AllocError>
     ensures { IsAccess (S.finds system.now) (S.shows system.now) facts.now result }
 {
-    access_to(facts.kind, is_output(system, alloc, facts))
+    let is_output = is_output(system, alloc, facts)?;
+    Ok(access_to(facts.kind, is_output))
 }

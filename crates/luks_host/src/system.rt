@@ -1,13 +1,14 @@
 //! What the programs ask of the system about files: four calls, which decide nothing.
 
-ghost use Rattle.std.specs.Prelude.{◌≡◌, ◌≢◌, List, ℕ, Option, Result, option_map, string_bytes};
+ghost use Rattle.std.specs.Prelude.{◌≡◌, ◌≢◌, List, ℕ, IfOk, Option, Result, option_map};
+ghost use Rattle.std.specs.Prelude.{string_bytes};
 ghost use Rattle.std.specs.Fs.{metadata_mode};
 ghost use Rattle.std.specs.IoError.{error_kind};
 ghost use Rattle.luks_host.specs.Modes.{kind_of_mode};
 
 use crate::file_kind::kind_of_mode;
 use crate::storage::FileFacts;
-use std::alloc::Global;
+use std::alloc::{AllocError, Global};
 use std::fs::{self, File, Metadata};
 use std::io::{self, ErrorKind};
 use std::os::fd::AsRawFd;
@@ -20,6 +21,16 @@ pub enum InputFault {
     NotOpened,
     /// Memory ran out.
     Memory,
+}
+
+impl From<AllocError> for InputFault {
+    ghost use Rattle.luks_host.specs.declared.system.InputFault.{InputFault};
+
+    ghost from_gives = { λ _ fault. fault ≡ InputFault.Memory };
+
+    fn from(_error: AllocError) -> InputFault {
+        InputFault::Memory
+    }
 }
 
 /// A system with files. Its ghost members say what it may answer, so that a clause can say what was
@@ -47,9 +58,9 @@ pub trait System {
     fn facts_at(&self, name: &str) -> Option<FileFacts>
         ensures { finds self.now name.now result };
 
-    /// The text of the file with this name, if there is one, it is UTF-8, and it fits into memory.
-    fn text_at(&self, alloc: Global, name: &str) -> Option<String>
-        ensures { shows self.now name.now (option_map string_bytes result) };
+    /// The text of the file with this name, if there is one that can be read, and it is UTF-8.
+    fn text_at(&self, alloc: Global, name: &str) -> Result<Option<String>, AllocError>
+        ensures { IfOk result (λ text. shows self.now name.now (option_map string_bytes text)) };
 
     /// Opens the file with this name for reading.
     fn open(&self, name: &str) -> Result<Self::File, InputFault>
@@ -78,8 +89,12 @@ impl System for HostRuntime {
         Some(facts_in(&found))
     }
 
-    fn text_at(&self, _alloc: Global, name: &str) -> Option<String> {
-        fs::read_to_string(self, name).ok()
+    fn text_at(&self, _alloc: Global, name: &str) -> Result<Option<String>, AllocError> {
+        match fs::read_to_string(self, name) {
+            Ok(text) => Ok(Some(text)),
+            Err(e) if e.kind() == ErrorKind::OutOfMemory => Err(AllocError),
+            Err(_) => Ok(None),
+        }
     }
 
     fn open(&self, name: &str) -> Result<File, InputFault> {

@@ -1,9 +1,10 @@
 //! Opens images, with the readers of this program.
 
 use luks_audit_run::counted::CountedSource;
-use luks_audit_run::host::{Images, NotOpened};
+use luks_audit_run::host::{ImageFault, Images};
 use luks_host::input::Input;
 use luks_host::opening::{OpenedInput, open_input};
+use luks_host::system::InputFault;
 use luks_io::adapters::ReadSource;
 use std::fs::File;
 use std::io::Stdin;
@@ -34,7 +35,7 @@ impl<'r> Images for HostImages<'r> {
 
     ghost failures = { λ host. host.failures };
 
-    fn open(&mut self, name: &str) -> Result<CountedSource<ReadSource<HostImage>>, NotOpened> {
+    fn open(&mut self, name: &str) -> Result<CountedSource<ReadSource<HostImage>>, ImageFault> {
         let source = ReadSource::new(open_image(self.rt, name)?);
         Ok(CountedSource::new(source))
     }
@@ -47,10 +48,11 @@ impl<'r> Images for HostImages<'r> {
 }
 
 /// Opens the image of this name, unless standard output writes to it.
-fn open_image(rt: &HostRuntime, name: &str) -> Result<HostImage, NotOpened> {
+fn open_image(rt: &HostRuntime, name: &str) -> Result<HostImage, ImageFault> {
     match open_input(rt, rt.alloc(), name) {
         Ok(OpenedInput::Standard) => Ok(Input::Standard(rt.stdin())),
         Ok(OpenedInput::Buffered(file) | OpenedInput::AsRequested(file)) => Ok(Input::Stream(file)),
-        Err(_) => Err(NotOpened),
+        Err(InputFault::NotOpened) => Err(ImageFault::NotOpened),
+        Err(InputFault::Memory) => Err(ImageFault::Memory),
     }
 }

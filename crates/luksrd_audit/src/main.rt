@@ -16,6 +16,7 @@ use luks_host::descriptors::stand_ins;
 use luks_host::is_output::is_output_named;
 use luks_host::output::{RawFlush, RetryingWriter};
 use luks_io::adapters::WriteSink;
+use std::alloc::AllocError;
 use std::env;
 use std::io::{BufWriter, ErrorKind};
 use std::process::ExitCode;
@@ -70,17 +71,24 @@ fn show(rt: &HostRuntime, error: &clap::Error) -> ExitCode {
 }
 
 /// Whether standard output writes to one of these images.
-fn is_overwritten(rt: &HostRuntime, images: &[&str]) -> bool {
-    images
-        .iter()
-        .any(|name| is_output_named(rt, rt.alloc(), name))
+fn is_overwritten(rt: &HostRuntime, images: &[&str]) -> Result<bool, AllocError> {
+    for name in images {
+        if is_output_named(rt, rt.alloc(), name)? {
+            return Ok(true);
+        }
+    }
+    Ok(false)
 }
 
 /// Audits the requested images, unless the output would go into one of them.
 fn audit(rt: &HostRuntime, request: &Request<'_, '_>) -> ExitCode {
-    if is_overwritten(rt, request.files) {
-        let _ = eprintln!(rt; "luksrd-audit: standard output is one of the images");
-        return end(rt, Ending::Done(State::Unread));
+    match is_overwritten(rt, request.files) {
+        Ok(false) => {}
+        Ok(true) => {
+            let _ = eprintln!(rt; "luksrd-audit: standard output is one of the images");
+            return end(rt, Ending::Done(State::Unread));
+        }
+        Err(_) => return end(rt, Ending::OutOfMemory),
     }
     let Ok(writer) = BufWriter::with_capacity(rt.alloc(), BUFFER, RetryingWriter::new(rt.stdout()))
     else {

@@ -3,7 +3,7 @@
 use super::fixture::{COLUMNS, PLAIN, assert_of, header1, image2};
 use luks_audit::image::Policy;
 use luks_audit_run::counted::CountedSource;
-use luks_audit_run::host::{Images, NotOpened};
+use luks_audit_run::host::{ImageFault, Images};
 use luks_audit_run::image::Scope;
 use luks_audit_run::run::run;
 use luks_test_support::bytes::put;
@@ -29,7 +29,7 @@ impl<'a> Images for Table<'a> {
 
     ghost failures = { λ table. table.failures };
 
-    fn open(&mut self, name: &str) -> Result<CountedSource<BrokenSource<'a>>, NotOpened> {
+    fn open(&mut self, name: &str) -> Result<CountedSource<BrokenSource<'a>>, ImageFault> {
         let source = match name {
             "good" => BrokenSource::new(self.good, 592),
             "weak" => BrokenSource::new(self.weak, 592),
@@ -37,7 +37,8 @@ impl<'a> Images for Table<'a> {
             "disk" => BrokenSource::new(self.disk, 10_000_000),
             "broken disk" => BrokenSource::new(self.disk, 5000),
             "none" => BrokenSource::new(b"no header", 1000),
-            _ => return Err(NotOpened),
+            "heavy" => return Err(ImageFault::Memory),
+            _ => return Err(ImageFault::NotOpened),
         };
         Ok(CountedSource::new(source))
     }
@@ -77,13 +78,14 @@ fn run_of(
 }
 
 // The names of images, the exit status, and the lines after the header's own.
-static RUNS: [(&[&str], u8, usize); 7] = [
+static RUNS: [(&[&str], u8, usize); 8] = [
     (&["good"], 0, 1),
     (&["good", "weak"], 1, 2),
     (&["weak", "good"], 1, 2),
     (&["none"], 1, 1),
     (&["broken"], 4, 1),
     (&["weak", "missing", "good"], 4, 3),
+    (&["weak", "heavy", "good"], 4, 3),
     (&["missing", "weak", "none", "broken", "good"], 4, 5),
 ];
 
@@ -104,14 +106,14 @@ fn statuses(rt: HostRuntime) {
     }
 }
 
-// The names of the columns, and two lines of errors.
+// The names of the columns, and three lines of errors.
 const ERRORS: &[u8] =
-    b"file\toffset\terror\tversion\tuuid\tlabel\tsubsystem\theader\tother_header\tcipher\tkey_bytes\tsector_size\tsegment_offset\tsegment_size\trequirements\tslots\tdigests\ttokens\tfindings\tweak\tseqid\theader_size\tchecksum_hash\tsalt\tiv_tweak\nnone\t\tno LUKS header\t\t\t\t\t\t\t\t\t\t\t\t\t\t\t\t\t\t\t\t\t\t\nmissing\t\tcannot be opened\t\t\t\t\t\t\t\t\t\t\t\t\t\t\t\t\t\t\t\t\t\t\n";
+    b"file\toffset\terror\tversion\tuuid\tlabel\tsubsystem\theader\tother_header\tcipher\tkey_bytes\tsector_size\tsegment_offset\tsegment_size\trequirements\tslots\tdigests\ttokens\tfindings\tweak\tseqid\theader_size\tchecksum_hash\tsalt\tiv_tweak\nnone\t\tno LUKS header\t\t\t\t\t\t\t\t\t\t\t\t\t\t\t\t\t\t\t\t\t\t\nmissing\t\tcannot be opened\t\t\t\t\t\t\t\t\t\t\t\t\t\t\t\t\t\t\t\t\t\t\nheavy\t\tout of memory\t\t\t\t\t\t\t\t\t\t\t\t\t\t\t\t\t\t\t\t\t\t\n";
 
 #[test]
 fn columns(rt: HostRuntime) {
     let mut host = Table::new(b"", b"", b"");
-    let files = ["none", "missing"];
+    let files = ["none", "missing", "heavy"];
     let (_, out) = run_of(&rt, COLUMNS, Scope::Start, &files, &mut host, u64::MAX);
     assert_of(&rt, "columns", out.as_slice() == ERRORS);
 }

@@ -11,5 +11,5 @@ returns-in-Ok-clause-audits g c =
 pub returns-in-Err-clause-audits : goal.returns-in-Err-clause-audits
 returns-in-Err-clause-audits g c =
     file_unopened c.args.policy c.args.scope c.args.file.now g.H.Image.Source.to_come
-    (g.H.Images.stored c.args.host.now c.args.file.now) c.in-Err.field-0 _ _ _ _ c.put_unopened.result
+    (g.H.Images.stored c.args.host.now c.args.file.now) c.in-Err.fault _ _ _ _ c.put_unopened.result
     c.in-Err.ensures.image c.in-Err.ensures.failures c.put_unopened.ensures.puts c.put_unopened.ensures.shows

@@ -8,7 +8,7 @@ use luks_host::is_output::{is_output, is_output_named};
 use luks_host::opening::{OpenedInput, open_input};
 use luks_host::storage::{FileFacts, FileKind};
 use luks_host::system::{InputFault, System};
-use std::alloc::Global;
+use std::alloc::{AllocError, Global};
 use std::os::fd::RawFd;
 use std::process::Abort;
 
@@ -79,8 +79,12 @@ impl System for Table<'_> {
         Some(self.row(name)?.facts)
     }
 
-    fn text_at(&self, alloc: Global, name: &str) -> Option<String> {
-        String::from_str(alloc, self.row(name)?.text).ok()
+    fn text_at(&self, alloc: Global, name: &str) -> Result<Option<String>, AllocError> {
+        match self.row(name) {
+            Some(row) if row.descriptor < 0 => Err(AllocError),
+            Some(row) => Ok(Some(String::from_str(alloc, row.text)?)),
+            None => Ok(None),
+        }
     }
 
     fn open(&self, name: &str) -> Result<RawFd, InputFault> {
@@ -180,11 +184,8 @@ fn assert_outputs(rt: &(impl Abort + AllocGlobal), rows: &[Row], outputs: &[&str
         "-", "volume", "other", "loop0", "loop1", "loop2", "loop3", "missing", "",
     ] {
         let is_listed = outputs.contains(&name);
-        assert_that(
-            rt,
-            name,
-            is_output_named(&system, rt.alloc(), name) == is_listed,
-        );
+        let answer = is_output_named(&system, rt.alloc(), name).ok();
+        assert_that(rt, name, answer == Some(is_listed));
     }
 }
 
@@ -227,7 +228,40 @@ fn outputs_are_refused(rt: HostRuntime) {
     assert_outputs(&rt, &[], &[]);
     let unseen = Table { rows: &[] };
     let facts = listed("", FileKind::Regular, 1, 0).facts;
-    assert_that(&rt, "unseen", !is_output(&unseen, rt.alloc(), &facts));
+    let answer = is_output(&unseen, rt.alloc(), &facts).ok();
+    assert_that(&rt, "unseen", answer == Some(false));
+}
+
+/// The entry of a loop device, whose text does not fit into memory.
+fn heavy_entry(name: &'static str) -> Row {
+    listed(name, FileKind::Regular, 0, -1)
+}
+
+#[test]
+fn loop_devices_are_not_missed_for_want_of_memory(rt: HostRuntime) {
+    let input = [
+        listed("/proc/self/fd/1", FileKind::Regular, 10, 1),
+        listed("volume", FileKind::Regular, 10, 5),
+        listed("other", FileKind::Regular, 11, 6),
+        listed("loop0", FileKind::BlockDevice, 0x700, 7),
+        heavy_entry("/sys/dev/block/7:0/loop/backing_file"),
+    ];
+    let expected = [
+        ("volume", "not opened", 0),
+        ("other", "buffered", 6),
+        ("loop0", "memory", 0),
+    ];
+    assert_opened(&rt, &input, &expected);
+    let output = [
+        listed("/proc/self/fd/0", FileKind::Regular, 10, 0),
+        listed("/proc/self/fd/1", FileKind::BlockDevice, 0x700, 1),
+        listed("volume", FileKind::Regular, 10, 5),
+        heavy_entry("/sys/dev/block/7:0/loop/backing_file"),
+    ];
+    assert_opened(&rt, &output, &[("-", "memory", 0), ("volume", "memory", 0)]);
+    let system = Table { rows: &output };
+    let answer = is_output_named(&system, rt.alloc(), "volume");
+    assert_that(&rt, "an output", answer.is_err());
 }
 
 #[test]
