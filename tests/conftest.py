@@ -184,15 +184,15 @@ def loop(tmp_path):
 
 @pytest.fixture(scope="session")
 def cached(tmp_path_factory):
-    """cached(NAME, MAKE) gives the file of this name, which MAKE(path) makes once for all processes of a run. A test
-    changes copies alone."""
+    """cached(NAME, MAKE) gives the file of this name, which MAKE(path) makes once for all processes of a run. Each module
+    that makes files has names of its own. A test changes copies alone."""
     base = tmp_path_factory.getbasetemp()
     if os.environ.get("PYTEST_XDIST_WORKER"):
         base = base.parent
-    folder = base / "cached"
-    folder.mkdir(exist_ok=True)
 
     def get(name, make):
+        folder = base / "cached" / make.__module__
+        folder.mkdir(parents=True, exist_ok=True)
         place = folder / name
         with open(folder / f"{name}.lock", "w") as lock:
             fcntl.flock(lock, fcntl.LOCK_EX)

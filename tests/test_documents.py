@@ -451,7 +451,8 @@ def test_detached_header(cook, stock):
 
 def test_many_images(cook, stock, luksrd):
     said = cooked(cook, stock, MORE["many images"]).said
-    uuids = [cryptsetup("luksUUID", stock(MORE["many images"].given[name])).strip()
+    # of copies, since cryptsetup mends a damaged header even when it only reads
+    uuids = [cryptsetup("luksUUID", copy_of(stock(MORE["many images"].given[name]), cook.folder / name)).strip()
              for name in ("1.img", "3.img")]
     assert f"""../1.img:
 Version: 1
