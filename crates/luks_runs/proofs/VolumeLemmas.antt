@@ -1,14 +1,14 @@
 -- Finding the volume of an image, and the outcome of a command that opens it.
 use Rattle.std.proofs.Common.{◌≡◌, ◌∙◌, ℕ, ◌⊎◌, inl, inr, List, [], ◌∷◌, Option, Some, Ok, Err, true, false, ap, refl}
 use Rattle.std.proofs.Common.{Bool, min, sym, length, append-nil, arith, ◌+◌, ◌-◌, ◌<◌, ◌≤◌, ◌++◌, Result, take, drop}
-use Rattle.std.proofs.Common.{length-drop, length-take-le, max}
+use Rattle.std.proofs.Common.{length-drop, length-take-le, max, subst}
 use Rattle.std.specs.Prelude.{is_err}
 use Rattle.std.proofs.lemmas.Bool.{cases_lt, le-ltb, lt-ltb}
 use Rattle.std.proofs.lemmas.List.{drop-drop}
 use Rattle.std.proofs.Math.Seq.{take-add}
 use Rattle.luks_io.proofs.EffectLemmas.{reads_more}
 use Rattle.luks_io.specs.Counts.{Reads}
-use Rattle.luks_io.specs.Devices.{ConsumedExactly, counted}
+use Rattle.luks_io.specs.Devices.{ConsumedExactly, ConsumedFewer, counted}
 use Rattle.luks_io.specs.declared.counts.ReadCounts.{ReadCounts}
 use Rattle.luks_header_area.specs.Area.{AbortsConsuming, ConsumedOnto, HeaderAreaModel}
 use Rattle.luks_header_area.specs.declared.fault.HeaderFault.{HeaderFault}
@@ -44,7 +44,8 @@ use Rattle.luks_runs.specs.KeyFile.{NoKeyFileRead, max_key_file_len}
 use Rattle.luks_runs.specs.Volume.{FindsNoVolume, FindsVolume, OnOpened, OpeningMessage, ends_untried, volume_by}
 use Rattle.luks_runs.specs.Volume.{ConsumesLoaded, Volume, VolumeOpening, opening_found, opening_tried, slot_outcome}
 use Rattle.luks_runs.specs.Volume.{unlock_read_len, volume_opening_by, outcome_after, outcome_by, opening_after}
-use Rattle.luks_runs.specs.Volume.{ConsumedUnless, CountsTrials, FoundIn, IsLoaded, OpensAs, described, opened_result}
+use Rattle.luks_runs.specs.Volume.{ConsumedUnless, ConsumesMaterial, CountsTrials, FoundIn, IsLoaded, OpensAs}
+use Rattle.luks_runs.specs.Volume.{TriesSlots, described, opened_of, opened_result}
 use Rattle.luks_runs.specs.declared.unlocked.UnlockedVolume.{UnlockedVolume}
 use Rattle.luks_key_slots.specs.declared.fault.PassphraseFault.{PassphraseFault}
 use Rattle.luks_runs.specs.declared.found.FoundVolume.{FoundVolume}
@@ -370,24 +371,7 @@ module _ (location : HeaderLocation) (slots : SlotChoice) (image pass : List ℕ
       abbrev Grows : ℕ → Type 0
       Grows = ConsumedOnto volume.area.bytes area' remaining i
 
-      -- the image was not read up to the areas_end of the last key material
-      pub counts_untried : (result : Result UnlockedVolume VolumeFault) (n work : ℕ) → Grows n → length area' < areas_end
-          → has_fault is_untried result ≡ true
-          → CountsTrials image (described volume) pass result i work work
-      counts_untried result n work grows few untried =
-          let more = area_more image volume.area.bytes area' i areas_end found.area n grows in
-          let long = ap length more.0 ∙ length-take-le _ image more.1.within in
-          inr ((header_read_len image + n, omega (arith, few, long), more.1), untried, refl)
-
-      pub counts_aborted : (fault : HeaderFault) (work : ℕ)
-          → AbortsConsuming (areas_end - length volume.area.bytes) volume.area.bytes area' remaining i fault
-          → length area' < areas_end
-          → CountsTrials image (described volume) pass (Err (HeaderNotRead fault)) i work work
-      counts_aborted HeaderRead work stop few = counts_untried (Err (HeaderNotRead HeaderRead)) stop.0 work stop.2 few refl
-      counts_aborted HeaderMemory work stop few = counts_untried (Err (HeaderNotRead HeaderMemory)) 0 work stop few refl
-      counts_aborted _ work stop few = absurd stop
-
-      pub opens_aborted : length pass ≤ max_key_file_len → (fault : HeaderFault)
+      opens_aborted : length pass ≤ max_key_file_len → (fault : HeaderFault)
           → AbortsConsuming (areas_end - length volume.area.bytes) volume.area.bytes area' remaining i fault
           → OpensAs opening image (Err (HeaderNotRead fault)) i
       opens_aborted short HeaderRead stop =
@@ -407,7 +391,7 @@ module _ (location : HeaderLocation) (slots : SlotChoice) (image pass : List ℕ
       opens_aborted short _ stop = absurd stop
 
       module _ (grows : Grows (min (areas_end - length volume.area.bytes) (length remaining))) where
-        pub opens_cut : length pass ≤ max_key_file_len → length area' < areas_end
+        opens_cut : length pass ≤ max_key_file_len → length area' < areas_end
             → OpensAs opening image (Err KeyAreaCut) i
         opens_cut short few =
             let cut = area_cut image volume.area.bytes area' i areas_end found.area grows few in
@@ -416,24 +400,12 @@ module _ (location : HeaderLocation) (slots : SlotChoice) (image pass : List ℕ
 
         -- the key slots were tried
         module _ (enough : areas_end ≤ length area') where
-          pub loaded : length pass ≤ max_key_file_len → IsLoaded opening image area'
+          loaded : length pass ≤ max_key_file_len → IsLoaded opening image area'
           loaded short =
               let all = area_loaded image volume.area.bytes area' i areas_end found.area grows enough in
               rw (opening_found_is ∙ found_whole (described volume) image pass short all.0) (all.1, all.2)
 
-          pub counts_tried : (result : Result UnlockedVolume VolumeFault) (work work' : ℕ)
-              → work' ≡ capped (work + work_of volume.order area' pass)
-              → CountsTrials image (described volume) pass result i work work'
-          counts_tried result work work' counted =
-              let all = area_loaded image volume.area.bytes area' i areas_end found.area grows enough in
-              inl (
-                all.3,
-                counted ∙ ap (λ (cost : ℕ). capped (work + cost))
-                    (ap (λ (bytes : List ℕ). work_of volume.order bytes pass) all.2
-                    ∙ work_prefix volume.order (unlock_read_len image (described volume)) image pass (omega arith)),
-              )
-
-          pub opens_tried : length pass ≤ max_key_file_len → (r : Result Opened OpenFault)
+          opens_tried : length pass ≤ max_key_file_len → (r : Result Opened OpenFault)
               → opening_of volume.order area' pass ≡ r → (result : Result UnlockedVolume VolumeFault)
               → opened_result result ≡ result_map_both (λ opened. (volume.segment, opened)) Slots r
               → OpensAs opening image result i
@@ -447,3 +419,64 @@ module _ (location : HeaderLocation) (slots : SlotChoice) (image pass : List ℕ
                     ∙ ap (result_map_both (λ opened. (volume.segment, opened)) Slots) (sym whole);
                 consumed = consumed_all (has_fault aborts_opening result) image i _ all.3;
               })
+
+      -- the key slots were tried, or loading the key areas ended before that
+      module _ (result : Result UnlockedVolume VolumeFault) (tries : TriesSlots (described volume) area' pass result)
+          (consumes : ConsumesMaterial volume.order volume.area.bytes area' remaining i result) where
+        pub opens_as : length pass ≤ max_key_file_len → OpensAs opening image result i
+        opens_as short = by result tries consumes
+          where
+            by : (r : Result UnlockedVolume VolumeFault) → TriesSlots (described volume) area' pass r
+                → ConsumesMaterial volume.order volume.area.bytes area' remaining i r → OpensAs opening image r i
+            by (Ok opened) tries grows =
+                opens_tried grows tries.0 short (Ok (opened_of opened)) tries.2 (Ok opened) (rw tries.1 refl)
+            by (Err (Slots fault)) tries grows =
+                opens_tried grows tries.0 short (Err fault) tries.1 (Err (Slots fault)) refl
+            by (Err KeyAreaCut) few grows = opens_cut grows short few
+            by (Err (HeaderNotRead fault)) tries stop = opens_aborted short fault stop
+            by (Err _) never grows = absurd never
+
+        -- how many bytes were appended to those of the header: up to the last key material, if all of it is loaded
+        appended : (n : ℕ) × Grows n
+            × (areas_end ≤ length area' → n ≡ min (areas_end - length volume.area.bytes) (length remaining))
+        appended = by result tries consumes
+          where
+            by : (r : Result UnlockedVolume VolumeFault) → TriesSlots (described volume) area' pass r
+                → ConsumesMaterial volume.order volume.area.bytes area' remaining i r → (n : ℕ) × Grows n
+                × (areas_end ≤ length area' → n ≡ min (areas_end - length volume.area.bytes) (length remaining))
+            by (Ok opened) tries grows = (_, grows, λ enough. refl)
+            by (Err (Slots fault)) tries grows = (_, grows, λ enough. refl)
+            by (Err KeyAreaCut) few grows = (_, grows, λ enough. refl)
+            by (Err (HeaderNotRead HeaderRead)) tries stop = (stop.0, stop.2, λ enough. absurd (omega (arith, tries.0, enough)))
+            by (Err (HeaderNotRead HeaderMemory)) tries stop = (0, stop, λ enough. absurd (omega (arith, tries.0, enough)))
+            by (Err (HeaderNotRead _)) tries stop = absurd stop
+            by (Err _) never grows = absurd never
+
+        -- the image was consumed up to the last key material, and the count of work raised by what trying costs; or
+        -- not as far, and the count is what it was
+        pub counts_of_trials : (work work' : ℕ) → CountsTrials volume.order area' pass result work work'
+            → (ConsumedExactly image i (unlock_read_len image (described volume))
+            × (work' ≡ capped (work + work_of volume.order image pass)))
+            ⊎ (ConsumedFewer image i (unlock_read_len image (described volume))
+            × (has_fault is_untried result ≡ true) × (work' ≡ work))
+        counts_of_trials work work' counts = elim counts [
+          | inl tried ↦
+              let all = area_loaded image volume.area.bytes area' i areas_end found.area
+              (subst Grows (appended.2 tried.0) appended.1) tried.0 in
+              inl (
+                all.3,
+                tried.1 ∙ ap (λ (cost : ℕ). capped (work + cost))
+                    (ap (λ (bytes : List ℕ). work_of volume.order bytes pass) all.2
+                    ∙ work_prefix volume.order (unlock_read_len image (described volume)) image pass (omega arith)),
+              )
+          | inr few ↦
+              let more = area_more image volume.area.bytes area' i areas_end found.area appended.0 appended.1 in
+              let long = ap length more.0 ∙ length-take-le _ image more.1.within in
+              inr ((header_read_len image + appended.0, omega (arith, few.0, long), more.1), few.1, few.2)
+        ]
+
+      -- a key slot opened: the bytes that were consumed are loaded
+      pub loaded_as : length pass ≤ max_key_file_len → (opened : UnlockedVolume)
+          → TriesSlots (described volume) area' pass (Ok opened)
+          → ConsumesMaterial volume.order volume.area.bytes area' remaining i (Ok opened) → IsLoaded opening image area'
+      loaded_as short opened tries grows = loaded grows tries.0 short

@@ -1,12 +1,14 @@
 -- The outcomes of the commands that open volumes: first the volume that an image's header describes, before any key
 -- slot is tried, then the outcome of a run. Then what finding a volume and trying its key slots leave in the device.
 use Rattle.std.specs.Prelude.{ℕ, ◌+◌, List, length, max, nat_lt, if◌then◌else◌, Option, Result, Ok, Err, ◌≡◌, take}
-use Rattle.std.specs.Prelude.{◌≤◌, ◌⊎◌, Bool, false, true, IfOk, MatchBool, drop, []}
+use Rattle.std.specs.Prelude.{◌-◌, ◌<◌, ◌≤◌, ◌⊎◌, min, Bool, false, true, MatchBool, drop, []}
 use Rattle.std.specs.Result.{result_map_both}
 use Rattle.luks_header.specs.Header.{header_read_len, header_of}
 use Rattle.luks_header.specs.HeaderSegment.{segment_of}
 use Rattle.luks_header.specs.declared.header.Header.{Header}
+use Rattle.luks_header_area.specs.Area.{AbortsConsuming, ConsumedOnto}
 use Rattle.luks_header_area.specs.declared.fault.HeaderFault.{HeaderFault}
+use Rattle.luks_header_area.specs.declared.fault.HeaderFault.TheVariants.{Read as HeaderRead, Memory as HeaderMemory}
 use Rattle.luks_verdict.specs.declared.refusal.SegmentFault.{SegmentFault}
 use Rattle.luks_verdict.specs.declared.segment.Segment.{Segment}
 use Rattle.luks_key_slots.specs.Opening.{OrderModel, key_material_end, order_of, opening_of, work_of}
@@ -28,7 +30,7 @@ use Rattle.luks_runs.specs.KeyFile.{max_key_file_len}
 use Rattle.luks_runs.specs.Run.{Outcome, no_output}
 use Rattle.luks_runs.specs.Location.{HeaderReader, LoadedFrom, reader_for}
 use Rattle.luks_report.specs.declared.message.Message.{Message}
-use Rattle.luks_io.specs.Devices.{ConsumedExactly, ConsumedAtMost, ConsumedFewer, IfKnown}
+use Rattle.luks_io.specs.Devices.{ConsumedExactly, ConsumedAtMost, IfKnown}
 use Rattle.luks_io.specs.declared.counts.ReadCounts.{ReadCounts}
 use Rattle.luks_runs.specs.declared.location.HeaderLocation.{HeaderLocation}
 use Rattle.luks_runs.specs.declared.location.HeaderLocation.TheVariants.{Attached, Detached}
@@ -253,31 +255,38 @@ pub record OpensAs (opening : VolumeOpening) (image : List ℕ) (result : Result
   pub answer : has_fault aborts_opening result ≡ false → opened_result result ≡ opening.result
   pub consumed : ConsumedUnless (has_fault aborts_opening result) image left opening.consumed
 
--- all key areas were consumed, the key slots were tried, and the count of work was raised once by the evaluations of
+-- the key slots of a volume were tried under a passphrase, with these bytes of its image loaded: the result is the
+-- volume that they open, or their fault. Otherwise not all key material was loaded: the image ended before, a read
+-- failed, or memory ran out
+abbrev pub TriesSlots : Volume → List ℕ → List ℕ → Result UnlockedVolume VolumeFault → Type 0
+TriesSlots volume area pass (Ok opened) = (key_material_end volume.order.entries ≤ length area)
+    × (opened.segment ≡ volume.segment) × (opening_of volume.order area pass ≡ Ok (opened_of opened))
+TriesSlots volume area pass (Err (V.Slots fault)) = (key_material_end volume.order.entries ≤ length area)
+    × (opening_of volume.order area pass ≡ Err fault)
+TriesSlots volume area pass (Err V.KeyAreaCut) = length area < key_material_end volume.order.entries
+TriesSlots volume area pass (Err (V.Header fault)) = (length area < key_material_end volume.order.entries)
+    × (fault ≡ HeaderRead ⊎ fault ≡ HeaderMemory)
+TriesSlots volume area pass _ = ⊥
+
+-- for that, an image was consumed up to the end of the last key material, or up to its own end if that comes first,
+-- unless this was aborted
+abbrev pub ConsumesMaterial : OrderModel → List ℕ → List ℕ → List ℕ → Option (List ℕ)
+    → Result UnlockedVolume VolumeFault → Type 0
+ConsumesMaterial order area area' rest left (Err (V.Header fault)) =
+    AbortsConsuming (key_material_end order.entries - length area) area area' rest left fault
+ConsumesMaterial order area area' rest left _ =
+    ConsumedOnto area area' rest left (min (key_material_end order.entries - length area) (length rest))
+
+-- if all key material is loaded, the key slots were tried, and the count of work was raised once by the evaluations of
 -- HMAC that this costs; otherwise they were not tried, and the count is what it was
-abbrev pub CountsTrials : List ℕ → Volume → List ℕ → Result UnlockedVolume VolumeFault → Option (List ℕ) → ℕ → ℕ
-    → Type 0
-CountsTrials image volume pass result left work work' =
-    (ConsumedExactly image left (unlock_read_len image volume)
-    × (work' ≡ capped (work + work_of volume.order image pass)))
-    ⊎ (ConsumedFewer image left (unlock_read_len image volume) × (has_fault is_untried result ≡ true)
-    × (work' ≡ work))
+abbrev pub CountsTrials : OrderModel → List ℕ → List ℕ → Result UnlockedVolume VolumeFault → ℕ → ℕ → Type 0
+CountsTrials order area pass result work work' =
+    ((key_material_end order.entries ≤ length area) × (work' ≡ capped (work + work_of order area pass)))
+    ⊎ ((length area < key_material_end order.entries) × (has_fault is_untried result ≡ true) × (work' ≡ work))
 
 -- all bytes that opening the volume consumes are loaded
 abbrev pub IsLoaded : VolumeOpening → List ℕ → List ℕ → Type 0
 IsLoaded opening image area = (length area ≡ opening.consumed) × (area ≡ take opening.consumed image)
-
--- the key slots of a volume that was found in this image were tried under a passphrase that is not too long: opening it
--- ended as specified, and if a key slot opened, the bytes that were consumed are loaded
-pub record TriesSlots (location : HeaderLocation) (slots : SlotChoice) (image pass : List ℕ) (volume : Volume)
-    (area : List ℕ) (result : Result UnlockedVolume VolumeFault) (left : Option (List ℕ)) (work work' : ℕ) : Type 0
-  where
-    pub opens : length pass ≤ max_key_file_len
-        → OpensAs (volume_opening_by (reader_for location) slots image pass) image result left
-    pub loaded : length pass ≤ max_key_file_len → IfOk result (λ _.
-        IsLoaded (volume_opening_by (reader_for location) slots image pass) image area)
-    pub segment : IfOk result (λ opened. opened.segment ≡ volume.segment)
-    pub counts : CountsTrials image volume pass result left work work'
 
 -- trying the key slots hit EOF on the image only if the image ended inside a key area
 abbrev pub HitsMaterialEof : Result UnlockedVolume VolumeFault → Bool → Type 0
