@@ -18,10 +18,10 @@ use luks_key_slots::opening::open;
 use luks_key_slots::order::key_material_end;
 
 /// Tries the key slots of a volume under a passphrase, after reading on in the image up to the end
-/// of the last key material. Nothing is read if EOF was hit on the image before. If all key
-/// material was loaded, the slots were tried, and the count of work is raised by what that costs,
-/// once; otherwise the count stays. `image` is the image with an attached header, or the file of a
-/// detached one.
+/// of the last key material. Nothing is read if EOF was hit on the image before, or if memory runs
+/// out. If all key material was loaded, the slots were tried, and the count of work is raised by
+/// what that costs, once; otherwise the count stays. `image` is the image with an attached header,
+/// or the file of a detached one.
 pub fn try_slots<I: Source>(
     volume: &mut FoundVolume,
     image: &mut I,
