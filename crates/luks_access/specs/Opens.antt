@@ -28,8 +28,7 @@ cipher_of v = (v.segment.mode, v.key)
 abbrev pub plaintext_of : UnlockedVolume → List ℕ → List ℕ
 plaintext_of v image = plain_of v.segment (cipher_of v) image
 
--- how every command with these options that opens a volume opens it under this passphrase, from this image or detached
--- header
+-- how opening ends for every command that opens a volume, with these options and this passphrase
 abbrev pub opening_with : Options → List ℕ → List ℕ → VolumeOpening
 opening_with options header pass = volume_opening_by (reader_for options.location) options.slots header pass
 
@@ -37,7 +36,7 @@ opening_with options header pass = volume_opening_by (reader_for options.locatio
 abbrev pub Opens : Options → List ℕ → List ℕ → UnlockedVolume → Type 0
 Opens options header pass v = (opening_with options header pass).result ≡ Ok (v.segment, opened_of v)
 
--- every such command ends with this fault, and no output
+-- every such command reports this fault and writes nothing
 abbrev pub Refuses : Options → List ℕ → List ℕ → VolumeFault → Type 0
 Refuses options header pass fault = (opening_with options header pass).result ≡ Err fault
 

@@ -1,6 +1,6 @@
 -- How the commands on volumes end if their volume is not opened, and what holds if it is.
-use Rattle.std.proofs.Common.{◌≡◌, ℕ, ◌+◌, ◌-◌, ◌*◌, ◌/◌, ◌≤◌, ◌⊎◌, inl, inr, Bool, List, Option, Some, Result, Ok, Err, ◌∙◌}
-use Rattle.std.proofs.Common.{ap, sym, refl, length, max, arith, false, true, is_err}
+use Rattle.std.proofs.Common.{◌≡◌, ℕ, ◌+◌, ◌-◌, ◌*◌, ◌/◌, ◌≤◌, ◌⊎◌, inl, inr, Bool, List, Option, Some, Result, Ok, Err}
+use Rattle.std.proofs.Common.{◌∙◌, ap, sym, refl, length, max, arith, false, true, is_err}
 use Rattle.std.specs.Prelude.{MatchBool}
 use Rattle.std.specs.Result.{result_map_both}
 use Rattle.std.proofs.Math.Nat.{zero-div}
@@ -24,14 +24,16 @@ use Rattle.luks_report.specs.declared.message.Message.{Message}
 use Rattle.luks_report.specs.declared.message.Message.TheVariants.{OutOfMemory, ReadFailed, WriteFailed}
 use Rattle.luks_request.specs.declared.command.SlotChoice.{SlotChoice}
 use Rattle.luks_runs.proofs.RunLemmas.{aborted_unwritten}
-use Rattle.luks_runs.proofs.VolumeLemmas.{aborted_untried, area_within, consumed_all, found_within, is_volume}
-use Rattle.luks_runs.proofs.VolumeLemmas.{message_says, opening_consumed, opening_found_is, opening_is, opens_unfound}
-use Rattle.luks_runs.proofs.VolumeLemmas.{opens_unread}
+use Rattle.luks_runs.proofs.OpeningLemmas.{area_within, consumed_all, found_within, is_volume, opening_consumed}
+use Rattle.luks_runs.proofs.OpeningLemmas.{opening_found_is, opening_is, opens_unfound}
+use Rattle.luks_runs.proofs.OpeningLemmas.{counts_of_trials, loaded_as, opens_as, opens_unread}
+use Rattle.luks_runs.proofs.VolumeLemmas.{aborted_untried, message_says}
 use Rattle.luks_runs.specs.KeyFile.{NoKeyFileRead, max_key_file_len}
 use Rattle.luks_runs.specs.Location.{HeaderReader, reader_for}
 use Rattle.luks_runs.specs.Run.{Aborted, Completed, ConsumedNothing, IsPrefixLen}
-use Rattle.luks_runs.specs.Volume.{ConsumedUnless, FindsNoVolume, FoundIn, HasSegmentBy, OpeningMessage}
-use Rattle.luks_runs.specs.Volume.{OpensAs, TriesSlots, Volume, VolumeOpening, described, ends_untried, opened_of}
+use Rattle.luks_runs.specs.Volume.{ConsumedUnless, ConsumesMaterial, CountsTrials, FindsNoVolume, FoundIn}
+use Rattle.luks_runs.specs.Volume.{HasSegmentBy, OpeningMatches, OpeningMessage, TriesSlots, Volume, VolumeOpening}
+use Rattle.luks_runs.specs.Volume.{described, ends_untried, opened_of}
 use Rattle.luks_runs.specs.Volume.{opening_after, outcome_after, outcome_by, volume_by, volume_opening_by}
 use Rattle.luks_runs.specs.Volume.{unlock_read_len, volume_outcome_by}
 use Rattle.luks_runs.specs.declared.found.FoundVolume.{FoundVolume}
@@ -125,7 +127,7 @@ module _ (location : HeaderLocation) (slots : SlotChoice) (image pass : List ℕ
 
   -- the volume was not opened, so whatever the command does with open volumes, the run has its outcome
   pub ends_locked : (fault : VolumeFault)
-      → OpensAs opening image (Err fault) i
+      → OpeningMatches opening image (Err fault) i
       → ConsumedUnless (aborts_opening fault) pass s
       opening.secret_consumed
       → EndsLocked location slots image pass (message_for_volume fault) i s
@@ -187,78 +189,89 @@ module _ (location : HeaderLocation) (slots : SlotChoice) (image pass : List ℕ
         let ends = opens_unread location slots image pass volume left found s fault stop in
         ends_locked (Passphrase fault) (rw same ends.0) ends.1
 
-    -- the key slots were tried under a passphrase that is not too long
-    module _ (short : length pass ≤ max_key_file_len) (read : ConsumedExactly pass s (length pass))
-        (area' : List ℕ) where
-      -- none of them opens
-      pub locked_tried : (fault : VolumeFault) (work work' : ℕ)
-          → TriesSlots location slots image pass (described volume) area' (Err fault) i work work'
-          → EndsLocked location slots image pass (message_for_volume fault) i s
-      locked_tried fault work work' tries =
-          let whole : opening.secret_consumed ≡ length pass =
-          ap (λ (o : VolumeOpening). o.secret_consumed)
-          (opening_found_is location slots image pass volume left found)
-          ∙ (area_within (described volume) image pass short).2 in
-          ends_locked fault (tries.opens short) (rw whole (consumed_all (aborts_opening fault) pass s _ read))
+    module _ (area' : List ℕ) (result : Result UnlockedVolume VolumeFault)
+        (tries : TriesSlots (described volume) area' pass result)
+        (consumes : ConsumesMaterial volume area' left i result) where
+      -- the key slots were tried under a passphrase that is not too long
+      module _ (short : length pass ≤ max_key_file_len) (read : ConsumedExactly pass s (length pass)) where
+        opens : OpeningMatches opening image result i
+        opens = opens_as location slots image pass volume left found area' i result consumes tries short
 
-      -- one of them opened
-      pub unlocked_tried : (opened : UnlockedVolume) (work work' : ℕ)
-          → TriesSlots location slots image pass (described volume) area' (Ok opened) i work work'
-          → Unlocks (unlocking location slots image pass i s) opened.segment (opened_of opened) area'
-      unfolding volume_outcome_by
-      unlocked_tried opened work work' tries =
-          let opens = tries.opens short in
-          let loaded = tries.loaded short in
+        -- none of them opens
+        pub locked_tried : (fault : VolumeFault) → result ≡ Err fault
+            → EndsLocked location slots image pass (message_for_volume fault) i s
+        locked_tried fault is =
+            let whole : opening.secret_consumed ≡ length pass =
+            ap (λ (o : VolumeOpening). o.secret_consumed)
+            (opening_found_is location slots image pass volume left found)
+            ∙ (area_within (described volume) image pass short).2 in
+            ends_locked fault (rw is at opens) (rw whole (consumed_all (aborts_opening fault) pass s _ read))
+
+        -- one of them opened
+        pub unlocked_tried : (opened : UnlockedVolume) → result ≡ Ok opened
+            → Unlocks (unlocking location slots image pass i s) opened.segment (opened_of opened) area'
+        unfolding volume_outcome_by
+        unlocked_tried opened is =
+            let ends = rw is at opens in
+            let all = rw is at tries in
+            let has : HasSegmentBy (reader_for location) image opened.segment =
+            (volume.header, found.header, rw all.1 found.slots.segment) in
+            let loaded = loaded_as location slots image pass volume left found area' i result consumes all.0 short in
+            record {
+              outcome = λ on_opened.
+                  ap (outcome_by on_opened opening.consumed
+                  opening.secret_consumed) (sym (ends.answer refl))
+                  ∙ ap (on_opened opened.segment (opened_of opened)) (sym loaded.0);
+              has = has;
+              no_further = λ attached. rw loaded.0 (no_further location slots image pass opened.segment attached has);
+              prefix = rw loaded.0 loaded.1;
+              input_consumed = rw loaded.0 ends.consumed;
+              secret_consumed = read;
+            }
+
+      -- whether or not the key slots were tried, the count of work is that of trying them, or what it was
+      module _ (trial : Trial) (same : i ≡ trial.image.after)
+          (counts : CountsTrials volume.order area' pass result trial.work.before trial.work.after)
+          (ended : trial.key_file.after.ends ≡ counted true trial.key_file.before.ends) where
+        tried : ConsumedExactly image i (unlock_read_len image (described volume))
+            → trial.work.after ≡ capped (trial.work.before + work_of volume.order image pass)
+            → CountsTried location slots image pass trial
+        tried consumed counts = (
+          described volume,
           record {
-            outcome = λ on_opened.
-                ap (outcome_by on_opened opening.consumed
-                opening.secret_consumed) (sym (opens.answer refl))
-                ∙ ap (on_opened opened.segment (opened_of opened)) (sym loaded.0);
-            has = (volume.header, found.header, rw tries.segment found.slots.segment);
-            no_further = λ attached. rw loaded.0 (no_further location slots image pass opened.segment attached
-                (volume.header, found.header, rw tries.segment found.slots.segment));
-            prefix = rw loaded.0 loaded.1;
-            input_consumed = rw loaded.0 opens.consumed;
-            secret_consumed = read;
-          }
+            is_volume = is_volume location slots image pass volume left found;
+            key_file = ended;
+            material = λ countable. (_, omega arith, rw same at consumed);
+          },
+          counts,
+        )
 
-    -- whether or not the key slots were tried, the count of work is that of trying them, or what it was
-    module _ (area' : List ℕ) (result : Result UnlockedVolume VolumeFault) (trial : Trial)
-        (tries : TriesSlots location slots image pass (described volume) area' result trial.image.after
-        trial.work.before trial.work.after)
-        (ended : trial.key_file.after.ends ≡ counted true trial.key_file.before.ends) where
-      tried : ConsumedExactly image trial.image.after (unlock_read_len image (described volume))
-          → trial.work.after ≡ capped (trial.work.before + work_of volume.order image pass)
-          → CountsTried location slots image pass trial
-      tried consumed counts = (
-        described volume,
-        record {
-          is_volume = is_volume location slots image pass volume left found;
-          key_file = ended;
-          material = λ countable. (_, omega arith, consumed);
-        },
-        counts,
-      )
+        pub counts_unopened : (fault : VolumeFault) → result ≡ Err fault → CountsTried location slots image pass trial
+            ⊎ (EndsUntried location slots image (message_for_volume fault) trial
+            × (trial.work.after ≡ trial.work.before))
+        counts_unopened fault is =
+            elim (counts_of_trials location slots image pass volume left found area' i result consumes _ _ counts) [
+              | inl all ↦ inl (tried all.0 all.1)
+              | inr few ↦
+                  let untried : is_untried fault ≡ true =
+                  ap (has_fault is_untried) (sym is) ∙ few.1 in
+                  inr (
+                    record {
+                      unread = inr (
+                        described volume,
+                        is_volume location slots image pass volume left found,
+                        rw same at few.0,
+                      );
+                      early = inr ((message_says fault).untried ∙ untried);
+                    },
+                    few.2,
+                  )
+            ]
 
-      pub counts_unopened : (fault : VolumeFault) → result ≡ Err fault → CountsTried location slots image pass trial
-          ⊎ (EndsUntried location slots image (message_for_volume fault) trial
-          × (trial.work.after ≡ trial.work.before))
-      counts_unopened fault is = elim tries.counts [
-        | inl all ↦ inl (tried all.0 all.1)
-        | inr few ↦
-            let untried : is_untried fault ≡ true =
-            ap (has_fault is_untried) (sym is) ∙ few.1 in
-            inr (
-              record {
-                unread = inr (described volume, is_volume location slots image pass volume left found, few.0);
-                early = inr ((message_says fault).untried ∙ untried);
-              },
-              few.2,
-            )
-      ]
-
-      pub counts_opened : (opened : UnlockedVolume) → result ≡ Ok opened → CountsTried location slots image pass trial
-      counts_opened opened is = elim tries.counts [
-        | inl all ↦ tried all.0 all.1
-        | inr few ↦ absurd (let wrong : false ≡ true = ap (has_fault is_untried) (sym is) ∙ few.1 in cc)
-      ]
+        pub counts_opened : (opened : UnlockedVolume) → result ≡ Ok opened
+            → CountsTried location slots image pass trial
+        counts_opened opened is =
+            elim (counts_of_trials location slots image pass volume left found area' i result consumes _ _ counts) [
+              | inl all ↦ tried all.0 all.1
+              | inr few ↦ absurd (let wrong : false ≡ true = ap (has_fault is_untried) (sym is) ∙ few.1 in cc)
+            ]

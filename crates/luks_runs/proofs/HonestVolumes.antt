@@ -58,7 +58,8 @@ use Rattle.luks_runs.specs.Volume.{Volume, unlock_read_len, outcome_after, outco
 use Rattle.luks_runs.specs.Volume.{volume_outcome_by}
 use Rattle.std.specs.Result.{result_map_both}
 use Rattle.luks_key_slots.specs.declared.fault.VolumeFault.TheVariants.{Slots}
-use Rattle.luks_runs.proofs.VolumeLemmas.{found_whole, opening_is, volume_is}
+use Rattle.luks_runs.proofs.OpeningLemmas.{found_whole, opening_is}
+use Rattle.luks_runs.proofs.VolumeLemmas.{volume_is}
 
 -- ---- decryption of a sector undoes its encryption, in every mode
 

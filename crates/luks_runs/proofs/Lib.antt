@@ -1,4 +1,5 @@
 pub mod HonestVolumes
+pub mod OpeningLemmas
 pub mod PayloadLemmas
 pub mod PrefixLemmas
 pub mod RunLemmas

@@ -1,12 +1,14 @@
--- The outcomes of the commands that open volumes: first the volume that an image's header describes, before any key
--- slot is tried, then the outcome of a run. Then what finding a volume and trying its key slots leave in the device.
+-- The outcomes of the commands that open volumes: first the volume that an image's header describes, then how opening
+-- it ends, then the outcome of a run. Then what finding a volume and trying its key slots leave in the device.
 use Rattle.std.specs.Prelude.{ℕ, ◌+◌, List, length, max, nat_lt, if◌then◌else◌, Option, Result, Ok, Err, ◌≡◌, take}
-use Rattle.std.specs.Prelude.{◌≤◌, ◌⊎◌, Bool, false, true, IfOk, MatchBool, drop, []}
+use Rattle.std.specs.Prelude.{◌<◌, ◌≤◌, ◌⊎◌, Some, Bool, false, true, MatchBool, drop, []}
 use Rattle.std.specs.Result.{result_map_both}
 use Rattle.luks_header.specs.Header.{header_read_len, header_of}
 use Rattle.luks_header.specs.HeaderSegment.{segment_of}
 use Rattle.luks_header.specs.declared.header.Header.{Header}
+use Rattle.luks_header_area.specs.Area.{IsStart}
 use Rattle.luks_header_area.specs.declared.fault.HeaderFault.{HeaderFault}
+use Rattle.luks_header_area.specs.declared.fault.HeaderFault.TheVariants.{Read as HeaderRead, Memory as HeaderMemory}
 use Rattle.luks_verdict.specs.declared.refusal.SegmentFault.{SegmentFault}
 use Rattle.luks_verdict.specs.declared.segment.Segment.{Segment}
 use Rattle.luks_key_slots.specs.Opening.{OrderModel, key_material_end, order_of, opening_of, work_of}
@@ -28,7 +30,7 @@ use Rattle.luks_runs.specs.KeyFile.{max_key_file_len}
 use Rattle.luks_runs.specs.Run.{Outcome, no_output}
 use Rattle.luks_runs.specs.Location.{HeaderReader, LoadedFrom, reader_for}
 use Rattle.luks_report.specs.declared.message.Message.{Message}
-use Rattle.luks_io.specs.Devices.{ConsumedExactly, ConsumedAtMost, ConsumedFewer, IfKnown}
+use Rattle.luks_io.specs.Devices.{ConsumedExactly, ConsumedAtMost, IfKnown}
 use Rattle.luks_io.specs.declared.counts.ReadCounts.{ReadCounts}
 use Rattle.luks_runs.specs.declared.location.HeaderLocation.{HeaderLocation}
 use Rattle.luks_runs.specs.declared.location.HeaderLocation.TheVariants.{Attached, Detached}
@@ -129,8 +131,8 @@ payload_outcome Detached image secret segment opened loaded = record {
   consumed = record { input = loaded; payload = payload_end_of segment image; secret = length secret };
 }
 
--- how opening a volume ends: with the segment of its payload and the key slot that opens, or with a fault; and how many
--- bytes of its image, or of the file with its header, and of the passphrase are consumed for that
+-- how opening a volume ends: with its payload's segment and the key slot that opens, or with a fault. How many bytes it
+-- consumes, of the image or the header's file, and of the passphrase
 pub record VolumeOpening : Type 0 where
   pub result : Result (Segment × Opened) VolumeFault
   pub consumed : ℕ
@@ -173,7 +175,7 @@ outcome_by on_opened consumed secret_consumed (Ok opened) = on_opened opened.0 o
 outcome_by on_opened consumed secret_consumed (Err fault) =
     no_output (message_for_volume fault) consumed secret_consumed
 
--- the same by how opening the volume ended
+-- a command's outcome, by how opening its volume ended
 abbrev pub outcome_after : OnOpened → VolumeOpening → Outcome
 outcome_after on_opened opening = outcome_by on_opened opening.consumed opening.secret_consumed opening.result
 
@@ -192,7 +194,7 @@ volume_outcome = volume_outcome_by header_of
 abbrev pub HasSegmentBy : HeaderReader → List ℕ → Segment → Type 0
 HasSegmentBy read image segment = (header : Header) × (read image ≡ Ok header) × (segment_of header ≡ Ok segment)
 
--- this many of a source's bytes were consumed, or no more than these if that was aborted
+-- exactly this many bytes were consumed; after an abort, at most this many
 abbrev pub ConsumedUnless : Bool → List ℕ → Option (List ℕ) → ℕ → Type 0
 ConsumedUnless aborted known left count =
     MatchBool aborted (ConsumedAtMost known left count) (ConsumedExactly known left count)
@@ -232,7 +234,7 @@ pub record FindsVolume (location : HeaderLocation) (choice : SlotChoice) (volume
 abbrev pub described : FoundVolume → Volume
 described volume = record { header = volume.header; segment = volume.segment; order = volume.order }
 
--- no passphrase was refused
+-- the fault is not one of the passphrase
 abbrev pub NoPassphraseFault : {T : Type 0} → Result T VolumeFault → Type 0
 NoPassphraseFault result = (fault : PassphraseFault) → result ≡ Err (V.Passphrase fault) → ⊥
 
@@ -248,36 +250,44 @@ opened_result (Ok volume) = Ok (volume.segment, opened_of volume)
 opened_result (Err fault) = Err fault
 
 -- opening a volume ended as specified, with as many bytes of its image consumed, or was aborted
-pub record OpensAs (opening : VolumeOpening) (image : List ℕ) (result : Result UnlockedVolume VolumeFault)
+pub record OpeningMatches (opening : VolumeOpening) (image : List ℕ) (result : Result UnlockedVolume VolumeFault)
     (left : Option (List ℕ)) : Type 0 where
   pub answer : has_fault aborts_opening result ≡ false → opened_result result ≡ opening.result
   pub consumed : ConsumedUnless (has_fault aborts_opening result) image left opening.consumed
 
--- all key areas were consumed, the key slots were tried, and the count of work was raised once by the evaluations of
+-- the key slots of a volume were tried under a passphrase, with these bytes of its image loaded: the result is the
+-- volume that they open, or their fault. Otherwise not all key material was loaded: the image ended before, a read
+-- failed, or memory ran out
+abbrev pub TriesSlots : Volume → List ℕ → List ℕ → Result UnlockedVolume VolumeFault → Type 0
+TriesSlots volume area pass (Ok opened) = (key_material_end volume.order.entries ≤ length area)
+    × (opened.segment ≡ volume.segment) × (opening_of volume.order area pass ≡ Ok (opened_of opened))
+TriesSlots volume area pass (Err (V.Slots fault)) = (key_material_end volume.order.entries ≤ length area)
+    × (opening_of volume.order area pass ≡ Err fault)
+TriesSlots volume area pass (Err V.KeyAreaCut) = length area < key_material_end volume.order.entries
+TriesSlots volume area pass (Err (V.Header fault)) = (length area < key_material_end volume.order.entries)
+    × (fault ≡ HeaderRead ⊎ fault ≡ HeaderMemory)
+TriesSlots volume area pass _ = ⊥
+
+-- for that, bytes of the image were consumed and appended to those already loaded, none of them after the end of the
+-- last key material. If the image ended before that, all of it was consumed
+pub record ConsumesMaterial (volume : FoundVolume) (area : List ℕ) (before after : Option (List ℕ))
+    (result : Result UnlockedVolume VolumeFault) : Type 0 where
+  pub start : (image : List ℕ) → IsStart image volume.area.bytes before → IsStart image area after
+  pub kept : take (length volume.area.bytes) area ≡ volume.area.bytes
+  pub within : length area ≤ max (length volume.area.bytes) (key_material_end volume.order.entries)
+  pub cut : result ≡ Err V.KeyAreaCut → IfKnown before (λ known.
+      (volume.area.ended ≡ true → known ≡ []) → after ≡ Some [])
+
+-- if all key material is loaded, the key slots were tried, and the count of work was raised once by the evaluations of
 -- HMAC that this costs; otherwise they were not tried, and the count is what it was
-abbrev pub CountsTrials : List ℕ → Volume → List ℕ → Result UnlockedVolume VolumeFault → Option (List ℕ) → ℕ → ℕ
-    → Type 0
-CountsTrials image volume pass result left work work' =
-    (ConsumedExactly image left (unlock_read_len image volume)
-    × (work' ≡ capped (work + work_of volume.order image pass)))
-    ⊎ (ConsumedFewer image left (unlock_read_len image volume) × (has_fault is_untried result ≡ true)
-    × (work' ≡ work))
+abbrev pub CountsTrials : OrderModel → List ℕ → List ℕ → Result UnlockedVolume VolumeFault → ℕ → ℕ → Type 0
+CountsTrials order area pass result work work' =
+    ((key_material_end order.entries ≤ length area) × (work' ≡ capped (work + work_of order area pass)))
+    ⊎ ((length area < key_material_end order.entries) × (has_fault is_untried result ≡ true) × (work' ≡ work))
 
 -- all bytes that opening the volume consumes are loaded
 abbrev pub IsLoaded : VolumeOpening → List ℕ → List ℕ → Type 0
 IsLoaded opening image area = (length area ≡ opening.consumed) × (area ≡ take opening.consumed image)
-
--- the key slots of a volume that was found in this image were tried under a passphrase that is not too long: opening it
--- ended as specified, and if a key slot opened, the bytes that were consumed are loaded
-pub record TriesSlots (location : HeaderLocation) (slots : SlotChoice) (image pass : List ℕ) (volume : Volume)
-    (area : List ℕ) (result : Result UnlockedVolume VolumeFault) (left : Option (List ℕ)) (work work' : ℕ) : Type 0
-  where
-    pub opens : length pass ≤ max_key_file_len
-        → OpensAs (volume_opening_by (reader_for location) slots image pass) image result left
-    pub loaded : length pass ≤ max_key_file_len → IfOk result (λ _.
-        IsLoaded (volume_opening_by (reader_for location) slots image pass) image area)
-    pub segment : IfOk result (λ opened. opened.segment ≡ volume.segment)
-    pub counts : CountsTrials image volume pass result left work work'
 
 -- trying the key slots hit EOF on the image only if the image ended inside a key area
 abbrev pub HitsMaterialEof : Result UnlockedVolume VolumeFault → Bool → Type 0

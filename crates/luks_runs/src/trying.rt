@@ -1,12 +1,12 @@
 //! Trying the key slots of a volume under a passphrase.
 
-ghost use Rattle.std.specs.Prelude.{◌≡◌, ◌<◌, ◌≤◌, ℕ, Bool, List, IfOk, false, length, true};
+ghost use Rattle.std.specs.Prelude.{◌≡◌, ◌<◌, ◌≤◌, Bool, Err, IfOk, false, length, true};
+ghost use Rattle.luks_header_area.specs.declared.fault.HeaderFault.TheVariants.{Memory};
 ghost use Rattle.luks_io.specs.Counts.{Reads};
 ghost use Rattle.luks_key_slots.specs.Fault.{has_fault, is_read_failure};
 ghost use Rattle.luks_request.specs.declared.command.SlotChoice.{SlotChoice};
-ghost use Rattle.luks_runs.specs.Volume.{FoundIn, HitsMaterialEof, MatchesHeader, NoPassphraseFault};
-ghost use Rattle.luks_runs.specs.Volume.{TriesSlots, described};
-ghost use Rattle.luks_runs.specs.declared.location.HeaderLocation.{HeaderLocation};
+ghost use Rattle.luks_runs.specs.Volume.{ConsumesMaterial, CountsTrials, HitsMaterialEof};
+ghost use Rattle.luks_runs.specs.Volume.{MatchesHeader, TriesSlots, described};
 
 use crate::found::FoundVolume;
 use crate::unlocked::UnlockedVolume;
@@ -18,10 +18,10 @@ use luks_key_slots::opening::open;
 use luks_key_slots::order::key_material_end;
 
 /// Tries the key slots of a volume under a passphrase, after reading on in the image up to the end
-/// of the last key material. Nothing is read if EOF was hit on the image before. If all key
-/// material was loaded, the slots were tried, and the count of work is raised by what that costs,
-/// once; otherwise the count stays. `image` is the image with an attached header, or the file of a
-/// detached one.
+/// of the last key material. Nothing is read if EOF was hit on the image before, or if memory runs
+/// out. If all key material was loaded, the slots were tried, and the count of work is raised by
+/// what that costs, once; otherwise the count stays. `image` is the image with an attached header,
+/// or the file of a detached one.
 pub fn try_slots<I: Source>(
     volume: &mut FoundVolume,
     image: &mut I,
@@ -29,11 +29,13 @@ pub fn try_slots<I: Source>(
     work: &mut Work,
 ) -> Result<UnlockedVolume, VolumeFault>
     requires { (slots : SlotChoice) × MatchesHeader slots volume.old }
-    ensures run { (location : HeaderLocation) (slots : SlotChoice) (known : List ℕ)
-        → FoundIn location slots known volume.old (I.to_come image.old)
-        → TriesSlots location slots known pass.now (described volume.old) volume.new.area.bytes
-        result (I.to_come image.new) work.old work.new }
-    ensures only { NoPassphraseFault result }
+    ensures tries { TriesSlots (described volume.old) volume.new.area.bytes pass.now result }
+    ensures run { ConsumesMaterial volume.old volume.new.area.bytes (I.to_come image.old)
+        (I.to_come image.new) result }
+    ensures memory { result ≡ Err (VolumeFault.Header Memory)
+        → (volume.new ≡ volume.old) × (image.new ≡ image.old) }
+    ensures work { CountsTrials volume.old.order volume.new.area.bytes pass.now result
+        work.old work.new }
     ensures kept { volume.new ≡ record volume.old { area = volume.new.area } }
     ensures reads { (ended : Bool)
         × Reads (has_fault is_read_failure result) ended

@@ -4,7 +4,7 @@ use Rattle.luks_runs.specs.Volume.{slot_outcome}
 use Rattle.luks_runs.proofs.VolumeLemmas.{message_says}
 use Rattle.luks_runs.specs.Run.{AnyPromptness, ConsumedNothing, result_message}
 use Rattle.luks_commands.proofs.OpenedRuns.{no_write_unopened, runs_at, runs_slot, slot_message}
-use Rattle.luks_runs.proofs.VolumeLemmas.{slot_consumes_loaded}
+use Rattle.luks_runs.proofs.OpeningLemmas.{slot_consumes_loaded}
 use Rattle.luks_commands.proofs.execute.volumes.test_passphrase.Goals as goal
 
 pub returns-in_err-unlocked-clause-run : goal.returns-in_err-unlocked-clause-run

@@ -1,11 +1,12 @@
-use Rattle.std.proofs.Common.{◌≤◌, Some, ap, arith, false, inl, inr, length, refl, true}
+use Rattle.std.proofs.Common.{◌∙◌, ◌≤◌, Err, Ok, Some, subst, ap, arith, false, inl, inr, length, refl, true}
 use Rattle.luks_key_slots.specs.declared.fault.VolumeFault.TheVariants.{Passphrase}
 use Rattle.luks_io.proofs.ErrorLemmas.{given_error}
 use Rattle.luks_runs.proofs.VolumeLemmas.{message_says, reads_on, there_is_volume}
 use Rattle.luks_runs.specs.KeyFile.{max_key_file_len}
+use Rattle.luks_runs.specs.Volume.{TriesSlots, described}
 use Rattle.luks_commands.proofs.OpenedRuns.{reads_of_image}
-use Rattle.luks_commands.proofs.VolumeRuns.{counts_opened, counts_unopened, early_unfound, locked_tried, locked_unfound, locked_unread}
-use Rattle.luks_commands.proofs.VolumeRuns.{unlocked_tried}
+use Rattle.luks_commands.proofs.VolumeRuns.{counts_opened, counts_unopened, early_unfound, locked_tried}
+use Rattle.luks_commands.proofs.VolumeRuns.{locked_unfound, locked_unread, unlocked_tried}
 use Rattle.luks_commands.proofs.execute.volumes.unlock.Goals as goal
 
 -- ---- no volume was found
@@ -20,7 +21,8 @@ returns-in_err-volume-clause-work g c =
     rw (given_error _ _ c.from_residual.ensures.1) (λ known is pass has. inr (
       record {
         unread = inl refl;
-        early = early_unfound c.args.location c.args.slots known pass _ (Some pass) _ (c.in_err-volume.ensures.err known is);
+        early = early_unfound c.args.location c.args.slots known pass _ (Some pass) _
+            (c.in_err-volume.ensures.err known is);
       },
       refl,
     ))
@@ -40,7 +42,10 @@ returns-in_err-passphrase-clause-err g c =
 pub returns-in_err-passphrase-clause-work : goal.returns-in_err-passphrase-clause-work
 returns-in_err-passphrase-clause-work g c =
     rw (given_error _ _ c.from_residual-in_err-passphrase.ensures.1) (λ known is pass has. inr (
-      record { unread = inl c.in_err-passphrase.ensures.reads.ends; early = inr (message_says (Passphrase c.in_err-passphrase.field-0.0)).untried },
+      record {
+        unread = inl c.in_err-passphrase.ensures.reads.ends;
+        early = inr (message_says (Passphrase c.in_err-passphrase.field-0.0)).untried;
+      },
       refl,
     ))
 
@@ -66,8 +71,10 @@ returns-in_err-opened-clause-err g c =
     let short : length pass ≤ max_key_file_len =
     omega (arith, ap length whole.0, c.in_ok-passphrase.passphrase.ok.0, few) in
     let found = c.in_ok-volume.ensures.found.found known is in
-    locked_tried c.args.location c.args.slots known pass _ _ _ _ found short whole.1 _ _ _ _
-    (rw (c.deref.ensures.value, whole.0) at (c.in_err-opened.ensures.run _ _ known found)))
+    locked_tried c.args.location c.args.slots known pass _ _ _ _ found _ (Err c.in_err-opened.field-0.0)
+    (subst (λ p. TriesSlots (described c.in_ok-volume.volume) c.try_slots.new.volume.area.bytes p
+    (Err c.in_err-opened.field-0.0)) (c.deref.ensures.value ∙ whole.0) c.in_err-opened.ensures.tries)
+    c.in_err-opened.ensures.run short whole.1 _ refl)
 
 pub returns-in_err-opened-clause-unneeded : goal.returns-in_err-opened-clause-unneeded
 returns-in_err-opened-clause-unneeded g c known is none =
@@ -88,9 +95,11 @@ returns-in_err-opened-clause-work g c =
     rw (given_error _ _ c.from_residual-in_err-opened.ensures.1) (λ known is pass has.
     let whole = c.in_ok-passphrase.ensures.ok pass has in
     let found = c.in_ok-volume.ensures.found.found known is in
-    counts_unopened c.args.location c.args.slots known pass (Some pass) (Some pass) _ _ found _ _ _
-    (rw (c.deref.ensures.value, whole.0) at (c.in_err-opened.ensures.run _ _ known found))
-    c.in_ok-passphrase.ensures.reads.ends _ refl)
+    counts_unopened c.args.location c.args.slots known pass _ (Some pass) _ _ found _ (Err c.in_err-opened.field-0.0)
+    (subst (λ p. TriesSlots (described c.in_ok-volume.volume) c.try_slots.new.volume.area.bytes p
+    (Err c.in_err-opened.field-0.0)) (c.deref.ensures.value ∙ whole.0) c.in_err-opened.ensures.tries)
+    c.in_err-opened.ensures.run _ refl
+    (rw (c.deref.ensures.value, whole.0) at c.in_err-opened.ensures.work) c.in_ok-passphrase.ensures.reads.ends _ refl)
 
 -- ---- one of them opened
 
@@ -101,8 +110,9 @@ returns-clause-ok g c known is pass has =
     let short : length pass ≤ max_key_file_len =
     omega (arith, ap length whole.0, c.in_ok-passphrase.passphrase.ok.0, few) in
     let found = c.in_ok-volume.ensures.found.found known is in
-    rw c.area_of.ensures (unlocked_tried c.args.location c.args.slots known pass _ _ _ _ found short whole.1 _ _ _ _
-    (rw (c.deref.ensures.value, whole.0) at (c.in_ok-opened.ensures.run _ _ known found)))
+    rw c.area_of.ensures (unlocked_tried c.args.location c.args.slots known pass _ _ _ _ found _
+    (Ok c.in_ok-opened.opened) (rw (c.deref.ensures.value, whole.0) at c.in_ok-opened.ensures.tries)
+    c.in_ok-opened.ensures.run short whole.1 _ refl)
 
 pub returns-clause-unneeded : goal.returns-clause-unneeded
 returns-clause-unneeded g c known is none =
@@ -112,9 +122,10 @@ pub returns-clause-work : goal.returns-clause-work
 returns-clause-work g c known is pass has =
     let whole = c.in_ok-passphrase.ensures.ok pass has in
     let found = c.in_ok-volume.ensures.found.found known is in
-    counts_opened c.args.location c.args.slots known pass (Some pass) (Some pass) _ _ found _ _ _
-    (rw (c.deref.ensures.value, whole.0) at (c.in_ok-opened.ensures.run _ _ known found))
-    c.in_ok-passphrase.ensures.reads.ends _ refl
+    counts_opened c.args.location c.args.slots known pass _ (Some pass) _ _ found _ (Ok c.in_ok-opened.opened)
+    (rw (c.deref.ensures.value, whole.0) at c.in_ok-opened.ensures.tries)
+    c.in_ok-opened.ensures.run _ refl
+    (rw (c.deref.ensures.value, whole.0) at c.in_ok-opened.ensures.work) c.in_ok-passphrase.ensures.reads.ends _ refl
 
 pub returns-clause-counts : goal.returns-clause-counts
 returns-clause-counts g c =
