@@ -1,88 +1,111 @@
 -- The search for the first valid header: what it has checked need not be checked again when more bytes are loaded.
 use Rattle.std.proofs.Common.{◌≡◌, ◌∙◌, ℕ, ◌+◌, ◌<◌, ◌≤◌, ◌==◌, List, [], ◌∷◌, ◌++◌, Option, Some, None, Bool, true, false}
-use Rattle.std.proofs.Common.{add-one, ap, append-nil, append_assoc, arith, drop, drop-cons, get_or, length, refl, sym}
-use Rattle.std.proofs.lemmas.List.{drop_all}
+use Rattle.std.proofs.Common.{add-one, ap, arith, drop, drop-cons, get_or, length, max, refl, sym, take}
+use Rattle.std.proofs.lemmas.List.{take-append-drop, take_all, take_more}
+use Rattle.std.proofs.lemmas.List.Folds.{find-append}
 use Rattle.std.specs.Prelude.{option_and_then, if◌then◌else◌, ◌*◌}
 use Rattle.std.specs.List.{find}
 use Rattle.std.proofs.lemmas.Bool.{ne_eqb}
 use Rattle.luks2_binary.specs.Choice2.{chosen2_of, found_at, is_valid, size_at, with_valid_primary}
 use Rattle.luks2_binary.specs.Header2.{size_in, sizes}
 use Rattle.luks2_binary.specs.ReadLen2.{IsNextEnd, probe2_len, probe_end}
-use Rattle.luks2_binary.specs.Search2.{IsSearchOf, IsSearched, furthest, left_of, offsets, walk}
+use Rattle.luks2_binary.specs.Search2.{IsSearchOf, checked, furthest, offsets, walk}
 use Rattle.luks2_binary.specs.declared.header_search.Search.{Search}
 use Rattle.luks2_binary.specs.declared.header_search.Search.TheVariants.{Found, Passed}
 use Rattle.luks2_binary.proofs.ChoiceLemmas.{probe_primary, walk_is, walk_within}
-use Rattle.luks2_binary.proofs.ValidLemmas.{at_more, found_passes, longer, probe_fit, probe_grows, probe_least, probe_more}
-use Rattle.luks2_binary.proofs.ValidLemmas.{valid_more, valid_parts, valid_range}
+use Rattle.luks2_binary.proofs.ValidLemmas.{at_more, found_passes, longer, probe_fit, probe_grows}
+use Rattle.luks2_binary.proofs.ValidLemmas.{valid_more, valid_parts, valid_range, walk_same}
 
 -- more bytes are loaded
-pub search_more : (loaded more image : List ℕ) (search : Search) → image ≡ loaded ++ more
+pub search_more : (loaded more image : List ℕ) → image ≡ loaded ++ more → (search : Search)
     → IsSearchOf loaded search → IsSearchOf image search
-unfolding IsSearchOf
-search_more loaded more image search is before whole rest same =
-    let old = before whole (more ++ rest) (same ∙ ap (λ bytes. bytes ++ rest) is ∙ append_assoc loaded more rest) in
-    record { first = old.first; behind = omega (arith, old.behind, longer loaded more image is); ahead = old.ahead }
+search_more loaded more image is search before =
+    let same = walk_same loaded more image is (checked search) before.whole in
+    record {
+      first = same.0 ∙ before.first;
+      whole = omega (arith, same.1, before.whole, longer loaded more image is);
+    }
 
--- one more offset is checked
-module _ (loaded : List ℕ) (index offset : ℕ) (within : index < length offsets) (at : offset ≡ get_or offsets index 0)
-    (before : IsSearchOf loaded (Passed index)) where
-  left : drop index offsets ≡ offset ∷ drop (index + 1) offsets
-  left = rw (at, add-one index) (drop-cons offsets index 0 within)
+-- the walk goes on behind offsets without a valid header
+walk_on : (image passed left : List ℕ) → find (is_valid image) passed ≡ None
+    → walk image (passed ++ left) ≡ max (walk image passed) (walk image left)
+unfolding furthest
+walk_on image [] left none = omega arith
+walk_on image (offset ∷ passed) left none = by (is_valid image offset) refl (walk_on image passed left) where
+  by : (b : Bool) → is_valid image offset ≡ b
+      → (find (is_valid image) passed ≡ None → walk image (passed ++ left) ≡ max (walk image passed) (walk image left))
+      → walk image (offset ∷ passed ++ left) ≡ max (walk image (offset ∷ passed)) (walk image left)
+  by true e on = absurd (let wrong = rw e at none in cc)
+  by false e on = rw e (omega (arith, on (rw e at none)))
 
-  module _ (image more : List ℕ) (is : image ≡ loaded ++ more) where
-    old : IsSearched image (length loaded) (Passed index)
-    unfolding IsSearchOf
-    old = before image more is
+module _ (loaded : List ℕ) (count : ℕ) (before : IsSearchOf loaded (Passed count)) where
+  -- the walk over all offsets goes on over those that are left
+  walk_left : walk loaded offsets ≡ max (walk loaded (take count offsets)) (walk loaded (drop count offsets))
+  walk_left =
+      sym (ap (walk loaded) (take-append-drop count offsets))
+      ∙ walk_on loaded (take count offsets) (drop count offsets) before.first
 
-    -- the offset is read as far as the loaded bytes are to be
-    ahead : probe_end loaded offset ≤ walk image offsets
+  -- the first valid header is at one of the offsets that are left
+  pub first_left : find (is_valid loaded) (drop count offsets) ≡ find (is_valid loaded) offsets
+  first_left =
+      sym (sym (ap (find (is_valid loaded)) (take-append-drop count offsets))
+      ∙ find-append {X = ℕ} (is_valid loaded) (take count offsets) (drop count offsets)
+      ∙ rw before.first refl)
+
+-- the primary header is not valid, and all bytes that are read are loaded
+next_none : (loaded : List ℕ) → is_valid loaded 0 ≡ false → walk loaded offsets ≤ length loaded
+    → IsNextEnd probe2_len loaded 0
+next_none loaded other whole = record {
+  within = λ image more is. omega arith;
+  enough = λ all. omega (arith, whole, walk_is loaded other);
+}
+
+module _ (loaded : List ℕ) (count : ℕ) (before : IsSearchOf loaded (Passed count)) where
+  -- no offset is left
+  pub next_passed : length offsets ≤ count → IsNextEnd probe2_len loaded 0
+  unfolding offsets
+  next_passed all = next_none loaded (by (is_valid loaded 0) refl) (rw all_checked at before.whole) where
+    all_checked : take count offsets ≡ offsets
+    all_checked = take_all count offsets all
+
+    by : (b : Bool) → is_valid loaded 0 ≡ b → is_valid loaded 0 ≡ false
+    by true e = absurd (let wrong = rw (all_checked, e) at before.first in cc)
+    by false e = e
+
+  -- one more offset is checked
+  module _ (offset : ℕ) (within : count < length offsets) (at : offset ≡ get_or offsets count 0) where
+    up_to : take (count + 1) offsets ≡ take count offsets ++ offset ∷ []
+    up_to = rw at (take_more offsets count 0 within)
+
+    left : drop count offsets ≡ offset ∷ drop (count + 1) offsets
+    left = rw (at, add-one count) (drop-cons offsets count 0 within)
+
+    -- not all bytes that are read to check it are loaded
+    pub next_more : length loaded < probe_end loaded offset → IsNextEnd probe2_len loaded (probe_end loaded offset)
     unfolding furthest
-    ahead = (let here = rw left at old.ahead in omega (arith, here, probe_grows loaded more image is offset))
+    next_more short = record {
+      within = λ image more is.
+          let now = search_more loaded more image is (Passed count) before in
+          let far = rw left at (walk_left image count now) in
+          omega (arith, far, walk_within image, probe_grows loaded more image is offset);
+      enough = λ all. absurd (omega (arith, all, short));
+    }
 
-    module _ (all : probe_end loaded offset ≤ length loaded) where
-      valid : is_valid image offset ≡ is_valid loaded offset
-      valid = valid_more loaded more image is offset all
-
-      probe : probe_end image offset ≡ probe_end loaded offset
-      probe = probe_more loaded more image is offset (omega (arith, all, probe_least loaded offset))
-
-      passed : is_valid loaded offset ≡ false → IsSearched image (length loaded) (Passed (index + 1))
+    module _ (whole : probe_end loaded offset ≤ length loaded) where
+      pub search_passed : is_valid loaded offset ≡ false → IsSearchOf loaded (Passed (count + 1))
       unfolding furthest
-      passed none =
-          let behind = rw (left, valid, none) at old.behind in
-          let before = rw (left, valid, none) at old.ahead in
-          record {
-            first = old.first ∙ rw (left, valid, none) refl;
-            behind = omega (arith, behind, probe, all);
-            ahead = omega (arith, before);
-          }
+      search_passed none = record {
+        first = rw (up_to, find-append {X = ℕ} (is_valid loaded) (take count offsets) (offset ∷ []), before.first, none) refl;
+        whole = rw (up_to, walk_on loaded (take count offsets) (offset ∷ []) before.first, none)
+            (omega (arith, before.whole, whole));
+      }
 
-      found : is_valid loaded offset ≡ true → IsSearched image (length loaded) (Found offset)
+      pub search_found : is_valid loaded offset ≡ true → IsSearchOf loaded (Found offset)
       unfolding furthest
-      found here =
-          let behind = rw (left, valid, here) at old.behind in
-          record {
-            first = old.first ∙ rw (left, valid, here) refl;
-            behind = omega (arith, behind, probe, all);
-            ahead = omega arith;
-          }
-
-  pub search_passed : probe_end loaded offset ≤ length loaded → is_valid loaded offset ≡ false
-      → IsSearchOf loaded (Passed (index + 1))
-  unfolding IsSearchOf
-  search_passed all none image more is = passed image more is all none
-
-  pub search_found : probe_end loaded offset ≤ length loaded → is_valid loaded offset ≡ true
-      → IsSearchOf loaded (Found offset)
-  unfolding IsSearchOf
-  search_found all here image more is = found image more is all here
-
-  -- not all bytes that are read to check it are loaded
-  pub next_more : length loaded < probe_end loaded offset → IsNextEnd probe2_len loaded (probe_end loaded offset)
-  next_more short = record {
-    within = λ image more is. omega (arith, ahead image more is, walk_within image);
-    enough = λ all. absurd (omega (arith, all, short));
-  }
+      search_found here = record {
+        first = sym (first_left loaded count before) ∙ rw (left, here) refl;
+        whole = (let far = rw (left, here) at (walk_left loaded count before) in omega (arith, far, before.whole, whole));
+      }
 
 -- the first valid header is the primary one if and only if that is valid
 primary_found : (image : List ℕ) (offset : ℕ) → find (is_valid image) offsets ≡ Some offset
@@ -95,39 +118,14 @@ primary_found image offset first = by (is_valid image 0) refl where
       let valid = (found_passes (is_valid image) (0 ∷ sizes) offset first).0 in
       ne_eqb offset 0 (λ zero. (let wrong : true ≡ false = sym valid ∙ ap (is_valid image) zero ∙ e in absurd (cc))) ∙ sym e
 
-module _ (loaded : List ℕ) (search : Search) (is : IsSearchOf loaded search) where
-  pub itself : IsSearched loaded (length loaded) search
-  unfolding IsSearchOf
-  itself = is loaded [] (sym (append-nil loaded))
-
-  -- all bytes that are read are loaded if no offset is left, and the primary header is not valid
-  next_none : left_of search ≡ [] → is_valid loaded 0 ≡ false → IsNextEnd probe2_len loaded 0
-  unfolding furthest
-  next_none none other = record {
-    within = λ image more same. omega arith;
-    enough = λ all. (let behind = rw none at itself.behind in omega (arith, behind, walk_is loaded other));
-  }
-
--- no offset is left to check
-pub next_passed : (loaded : List ℕ) (index : ℕ) → IsSearchOf loaded (Passed index) → length offsets ≤ index
-    → IsNextEnd probe2_len loaded 0
-unfolding offsets
-next_passed loaded index is all = next_none loaded (Passed index) is none (by (is_valid loaded 0) refl) where
-  none : drop index offsets ≡ []
-  none = drop_all index offsets all
-
-  by : (b : Bool) → is_valid loaded 0 ≡ b → is_valid loaded 0 ≡ false
-  by true e = absurd (let wrong = rw (none, e) at (itself loaded (Passed index) is).first in cc)
-  by false e = e
-
 module _ (loaded : List ℕ) (offset : ℕ) (is : IsSearchOf loaded (Found offset)) where
   primary : (offset == 0) ≡ is_valid loaded 0
-  primary = primary_found loaded offset (itself loaded (Found offset) is).first
+  primary = primary_found loaded offset is.first
 
   -- a valid header was found, and it is not the primary one
   pub next_found : 0 < offset → IsNextEnd probe2_len loaded 0
   next_found some =
-      next_none loaded (Found offset) is refl (sym primary ∙ ne_eqb offset 0 (λ none. absurd (omega (arith, some, none))))
+      next_none loaded (sym primary ∙ ne_eqb offset 0 (λ none. absurd (omega (arith, some, none)))) is.whole
 
   -- the primary header is valid, so both are to be loaded
   pub next_both : offset ≤ 0 → IsNextEnd probe2_len loaded (2 * probe_end loaded 0)

@@ -24,7 +24,7 @@ pub enum Search {
 
 impl Search {
     /// A search that has not begun.
-    #[tactic(auto, unfolding(crate::specs::Search2::IsSearchOf))]
+    #[tactic(auto, unfolding(crate::specs::Search2::furthest))]
     pub fn new() -> Search
         ensures { (loaded : List ℕ) → IsSearchOf loaded result }
     {

@@ -154,7 +154,7 @@ module _ (old new : HeaderAreaModel) (end : ℕ) (whole : Bool) (loads : Loads e
 
   -- what was checked before need not be checked again
   pub more_searched : (search : Search) → IsSearchOf old.bytes search → IsSearchOf new.bytes search
-  more_searched search = search_more old.bytes (drop (length old.bytes) new.bytes) new.bytes search grown
+  more_searched = search_more old.bytes (drop (length old.bytes) new.bytes) new.bytes grown
 
   pub more_within : length new.bytes ≤ probe_len new.bytes
   more_within = omega (arith, near, more, loads.within)
