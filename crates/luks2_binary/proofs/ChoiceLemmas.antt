@@ -111,7 +111,7 @@ module _ (loaded more image : List ℕ) (is : image ≡ loaded ++ more) where
       → option_and_then (found_at image) first ≡ option_and_then (found_at loaded) first
   found_same None is_first = refl
   found_same (Some offset) is_first =
-      let range = valid_range loaded offset (found_passes (is_valid loaded) sizes offset is_first).0 in
+      let range = valid_range loaded offset (found_passes (is_valid loaded) sizes offset is_first) in
       ap (header2_from Secondary (Some PrimaryNotValid)) (at_more loaded more image is offset 4096 range.0)
 
   -- if all bytes to be read are loaded, the image has the same header, and as many of its bytes are to be read
@@ -215,9 +215,9 @@ module _ (image : List ℕ) (header : Header2) where
   search_result_at none offset least is =
       let one = found_passes (is_valid image) sizes offset least in
       let some : offset ≡ 0 → ⊥ =
-      λ start. (let wrong : true ≡ false = sym one.0 ∙ ap (is_valid image) start ∙ none in cc) in
-      let own = own_size image offset (valid_parts image offset one.0).0 some in
-      header_at Secondary (Some PrimaryNotValid) offset one.0 own is
+      λ start. (let wrong : true ≡ false = sym one ∙ ap (is_valid image) start ∙ none in cc) in
+      let own = own_size image offset (valid_parts image offset one).0 some in
+      header_at Secondary (Some PrimaryNotValid) offset one own is
 
   -- the header that is chosen is at an offset of the image
   chosen_header_at : chosen2_of image ≡ Some header → (offset : ℕ) × HasHeaderAt image header offset

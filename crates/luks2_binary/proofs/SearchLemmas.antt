@@ -115,7 +115,7 @@ primary_found image offset first = by (is_valid image 0) refl where
   by : (b : Bool) → is_valid image 0 ≡ b → (offset == 0) ≡ is_valid image 0
   by true e = (let same : Some 0 ≡ Some offset = rw e at first in let zero : offset ≡ 0 = cc in rw (e, zero) refl)
   by false e =
-      let valid = (found_passes (is_valid image) (0 ∷ sizes) offset first).0 in
+      let valid = found_passes (is_valid image) (0 ∷ sizes) offset first in
       ne_eqb offset 0 (λ zero. (let wrong : true ≡ false = sym valid ∙ ap (is_valid image) zero ∙ e in absurd (cc))) ∙ sym e
 
 module _ (loaded : List ℕ) (offset : ℕ) (is : IsSearchOf loaded (Found offset)) where

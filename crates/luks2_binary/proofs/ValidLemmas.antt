@@ -184,18 +184,14 @@ pub search_len_is : (image : List ℕ) → search_len image ≡ furthest (is_val
 unfolding search_len is_tried
 search_len_is image = sym (are_one (is_valid image) (probe_end image))
 
--- an offset that is found among others passes the test, and is no greater than their maximum
+-- an offset that is found among others passes the test
 pub found_passes : (test : ℕ → Bool) (offsets : List ℕ) (offset : ℕ) → find test offsets ≡ Some offset
-    → (test offset ≡ true) × (offset ≤ max_of offsets)
+    → test offset ≡ true
 found_passes test [] offset is = absurd (cc)
 found_passes test (here ∷ offsets) offset is = by (test here) refl (found_passes test offsets offset) where
-  by : (b : Bool) → test here ≡ b
-      → (find test offsets ≡ Some offset → (test offset ≡ true) × (offset ≤ max_of offsets))
-      → (test offset ≡ true) × (offset ≤ max here (max_of offsets))
-  by true e behind =
-      let same : here ≡ offset = (let first : Some here ≡ Some offset = rw e at is in cc) in
-      (ap test (sym same) ∙ e, omega (arith, same))
-  by false e behind = (let rest = behind (rw e at is) in (rest.0, omega (arith, rest.1)))
+  by : (b : Bool) → test here ≡ b → (find test offsets ≡ Some offset → test offset ≡ true) → test offset ≡ true
+  by true e behind = (let first : Some here ≡ Some offset = rw e at is in let same : offset ≡ here = cc in ap test same ∙ e)
+  by false e behind = behind (rw e at is)
 
 module _ (loaded more image : List ℕ) (is : image ≡ loaded ++ more) where
   -- loaded bytes that reach as far as is read have the same first valid offset as the image, and as many are read

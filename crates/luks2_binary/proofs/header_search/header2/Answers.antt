@@ -7,7 +7,7 @@ use Rattle.luks2_binary.proofs.header_search.header2.Goals as goal
 
 pub chosen_at-requires : goal.chosen_at-requires
 chosen_at-requires c =
-    (let found = found_passes (is_valid c.args.bytes.now) offsets _ (sym c.first_valid.ensures ∙ c.in_ok-first_valid.was) in found.0)
+    found_passes (is_valid c.args.bytes.now) offsets _ (sym c.first_valid.ensures ∙ c.in_ok-first_valid.was)
 
 pub returns-in_err-first_valid : goal.returns-in_err-first_valid
 returns-in_err-first_valid c =
