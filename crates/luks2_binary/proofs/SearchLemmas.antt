@@ -1,6 +1,6 @@
 -- The search for the first valid header: what it has checked need not be checked again when more bytes are loaded.
-use Rattle.std.proofs.Common.{◌≡◌, ◌∙◌, ℕ, ◌+◌, ◌<◌, ◌≤◌, ◌==◌, List, [], ◌∷◌, ◌++◌, Option, Some, None, Bool, true, false}
-use Rattle.std.proofs.Common.{add-one, ap, arith, drop, drop-cons, get_or, length, max, refl, sym, take}
+use Rattle.std.proofs.Common.{◌≡◌, ◌∙◌, ℕ, ◌+◌, ◌<◌, ◌≤◌, ◌==◌, List, [], ◌∷◌, ◌++◌, Option, Some, None, Bool, true}
+use Rattle.std.proofs.Common.{false, add-one, ap, arith, drop, drop-cons, get_or, length, max, refl, sym, take}
 use Rattle.std.proofs.lemmas.List.{take-append-drop, take_all, take_more}
 use Rattle.std.proofs.lemmas.List.Folds.{find-append}
 use Rattle.std.specs.Prelude.{option_and_then, if◌then◌else◌, ◌*◌}
@@ -95,7 +95,8 @@ module _ (loaded : List ℕ) (count : ℕ) (before : IsSearchOf loaded (Passed c
       pub search_passed : is_valid loaded offset ≡ false → IsSearchOf loaded (Passed (count + 1))
       unfolding furthest
       search_passed none = record {
-        first = rw (up_to, find-append {X = ℕ} (is_valid loaded) (take count offsets) (offset ∷ []), before.first, none) refl;
+        first =
+            rw (up_to, find-append {X = ℕ} (is_valid loaded) (take count offsets) (offset ∷ []), before.first, none) refl;
         whole = rw (up_to, walk_on loaded (take count offsets) (offset ∷ []) before.first, none)
             (omega (arith, before.whole, whole));
       }
@@ -104,7 +105,9 @@ module _ (loaded : List ℕ) (count : ℕ) (before : IsSearchOf loaded (Passed c
       unfolding furthest
       search_found here = record {
         first = sym (first_left loaded count before) ∙ rw (left, here) refl;
-        whole = (let far = rw (left, here) at (walk_left loaded count before) in omega (arith, far, before.whole, whole));
+        whole =
+            let far = rw (left, here) at (walk_left loaded count before) in
+            omega (arith, far, before.whole, whole);
       }
 
 -- the first valid header is the primary one if and only if that is valid
@@ -116,7 +119,8 @@ primary_found image offset first = by (is_valid image 0) refl where
   by true e = (let same : Some 0 ≡ Some offset = rw e at first in let zero : offset ≡ 0 = cc in rw (e, zero) refl)
   by false e =
       let valid = found_passes (is_valid image) (0 ∷ sizes) offset first in
-      ne_eqb offset 0 (λ zero. (let wrong : true ≡ false = sym valid ∙ ap (is_valid image) zero ∙ e in absurd (cc))) ∙ sym e
+      let some : offset ≡ 0 → ⊥ = λ zero. (let wrong : true ≡ false = sym valid ∙ ap (is_valid image) zero ∙ e in cc) in
+      ne_eqb offset 0 some ∙ sym e
 
 module _ (loaded : List ℕ) (offset : ℕ) (is : IsSearchOf loaded (Found offset)) where
   primary : (offset == 0) ≡ is_valid loaded 0

@@ -190,7 +190,10 @@ pub found_passes : (test : ℕ → Bool) (offsets : List ℕ) (offset : ℕ) →
 found_passes test [] offset is = absurd (cc)
 found_passes test (here ∷ offsets) offset is = by (test here) refl (found_passes test offsets offset) where
   by : (b : Bool) → test here ≡ b → (find test offsets ≡ Some offset → test offset ≡ true) → test offset ≡ true
-  by true e behind = (let first : Some here ≡ Some offset = rw e at is in let same : offset ≡ here = cc in ap test same ∙ e)
+  by true e behind =
+      let first : Some here ≡ Some offset = rw e at is in
+      let same : offset ≡ here = cc in
+      ap test same ∙ e
   by false e behind = behind (rw e at is)
 
 module _ (loaded more image : List ℕ) (is : image ≡ loaded ++ more) where

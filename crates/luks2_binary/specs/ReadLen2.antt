@@ -24,8 +24,8 @@ probe2_len image =
     if is_valid image 0 then 2 * size_at image 0
     else max (probe_end image 0) (search_len image)
 
--- the bytes up to this end are to be loaded next: no image that starts with the loaded bytes is read further than `probe`
--- has it, and if no more bytes are to be loaded, all that are read are
+-- how far to load next an image that starts with these bytes: no further than `probe`, the end of the bytes that are
+-- read for its header, and past the loaded bytes, unless all those are loaded
 pub record IsNextEnd (probe : List ℕ → ℕ) (loaded : List ℕ) (end : ℕ) : Type 0 where
   pub within : (image more : List ℕ) → image ≡ loaded ++ more → end ≤ max (length loaded) (probe image)
   pub enough : end ≤ length loaded → probe loaded ≤ length loaded

@@ -106,8 +106,8 @@ fn found_end(bytes: &[u8], offset: u32, search: &mut Search) -> usize
 }
 
 /// How far to load next an image that starts with these bytes: past them, unless all bytes that are
-/// read for its header are loaded. The image is one that does not start as LUKS1. The search goes on
-/// as far as the loaded bytes allow.
+/// read for its header are loaded. The image is one that does not start as LUKS1. This carries on
+/// the search as far as the loaded bytes allow.
 pub fn next_end2(bytes: &[u8], search: &mut Search) -> usize
     requires { IsSearchOf bytes.now search.old }
     ensures next { IsNextEnd probe2_len bytes.now result }
@@ -120,6 +120,8 @@ pub fn next_end2(bytes: &[u8], search: &mut Search) -> usize
     let offsets = offsets();
     for index in count..offsets.len() {
         let end = probe_end(bytes, offsets[index]);
+        // The walk over the offsets stops here if bytes that are read to check it are missing, or
+        // a valid header is there.
         if bytes.len() < end {
             return end;
         }

@@ -16,4 +16,5 @@ returns-in_err-first_valid c =
 pub returns : goal.returns
 returns c =
     c.chosen_at.ensures
-    ∙ chosen_by c.args.bytes.now (Some c.in_ok-first_valid.field-0) (sym c.first_valid.ensures ∙ c.in_ok-first_valid.was)
+    ∙ chosen_by c.args.bytes.now (Some c.in_ok-first_valid.field-0)
+    (sym c.first_valid.ensures ∙ c.in_ok-first_valid.was)

@@ -24,7 +24,8 @@ found_end-requires-then-is_valid c =
 pub loop-index-preserved : goal.loop-index-preserved
 loop-index-preserved c = record {
   searched =
-      search_passed c.args.bytes.now c.loop-index.index (rw c.loop-index.invariant.at at c.loop-index.invariant.searched) _
+      search_passed c.args.bytes.now c.loop-index.index
+      (rw c.loop-index.invariant.at at c.loop-index.invariant.searched) _
       (rw c.offsets-offsets.ensures at c.loop-index-test.true)
       (ap (λ l. slice_index_or l c.loop-index.index 0) c.offsets-offsets.ensures)
       (rw c.probe_end-end.ensures.value at c.if-bytes-end.false) (sym c.is_valid.ensures ∙ c.if-is_valid.false);

@@ -2,7 +2,8 @@ use Rattle.std.proofs.Common.{◌≡◌, ◌∙◌, Err, ap, sym}
 use Rattle.luks_io.proofs.EffectLemmas.{reads_more}
 use Rattle.luks_io.proofs.ErrorLemmas.{given_error}
 use Rattle.luks_header.proofs.LoadingLemmas.{all_itself, first_near, header_read, loading_aborted, more_ended}
-use Rattle.luks_header.proofs.LoadingLemmas.{more_first, more_searched, more_short, more_within, no_header_read, no_tree}
+use Rattle.luks_header.proofs.LoadingLemmas.{more_first, more_searched, more_short, more_within}
+use Rattle.luks_header.proofs.LoadingLemmas.{no_header_read, no_tree}
 use Rattle.luks_header_area.specs.declared.fault.HeaderFault.TheVariants.{Memory}
 use Rattle.luks_header.proofs.header.read_header.Goals as goal
 
@@ -26,8 +27,8 @@ loop-end-preserved g c =
       searched = more_searched old new c.in-Some.end whole call.loads c.in-Some.ensures.live next.0 next.1 call.ended _
           c.missing_end.ensures.searched;
       first = λ live few.
-          absurd (more_first old new c.in-Some.end whole call.loads c.in-Some.ensures.live next.0 next.1 call.ended next.2
-          live few);
+          absurd (more_first old new c.in-Some.end whole call.loads c.in-Some.ensures.live next.0 next.1 call.ended
+          next.2 live few);
     }
 
 -- a read failed, or memory ran out
