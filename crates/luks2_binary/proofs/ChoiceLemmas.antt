@@ -3,7 +3,6 @@ use Rattle.std.proofs.Common.{◌≡◌, ◌∙◌, ℕ, ◌+◌, ◌-◌, ◌*�
 use Rattle.std.proofs.Common.{false, ap, sym, refl, length, max, arith}
 use Rattle.std.specs.Prelude.{Ok, Err, nat_lt, ok_or, option_and_then}
 use Rattle.std.specs.List.{find}
-use Rattle.std.proofs.lemmas.Bool.{ltb-false, ltb-true}
 use Rattle.std.proofs.lemmas.Option.{option_and_then_some}
 use Rattle.luks_kdf.specs.declared.hash.Hash.{Hash}
 use Rattle.luks_header_area.specs.declared.fault.HeaderFault.TheVariants.{NotLuks}
@@ -11,7 +10,8 @@ use Rattle.luks_header_area.specs.Fields.{text_of}
 use Rattle.luks2_binary.specs.Choice2.{with_valid_primary, binary_at, chosen2_of, found_at, header2_of, is_valid}
 use Rattle.luks2_binary.specs.Choice2.{fits, size_at}
 use Rattle.luks2_binary.specs.Header2.{binary_len, checksum_hash_in, header2_from, sequence_in, size_in, sizes}
-use Rattle.luks2_binary.specs.ReadLen2.{needed2, probe2_len, probe_end, search_len}
+use Rattle.luks2_binary.specs.ReadLen2.{probe2_len, probe_end, search_len}
+use Rattle.luks2_binary.specs.Search2.{furthest, offsets, walk}
 use Rattle.luks2_binary.specs.Text2.{json_text_of, header_offset}
 use Rattle.luks2_binary.specs.declared.header.PairFinding.{PairFinding}
 use Rattle.luks2_binary.specs.declared.header.PairFinding.TheVariants.{PrimaryNotValid, SecondaryNotValid}
@@ -19,8 +19,8 @@ use Rattle.luks2_binary.specs.declared.header.PairFinding.TheVariants.{Sequences
 use Rattle.luks2_binary.specs.declared.header.Header2.{Header2}
 use Rattle.luks2_binary.specs.declared.header.HeaderRole.{HeaderRole}
 use Rattle.luks2_binary.specs.declared.header.HeaderRole.TheVariants.{Primary, Secondary}
-use Rattle.luks2_binary.proofs.ValidLemmas.{at_more, found_passes, furthest, next_enough, next_within, own_size, probe_fit}
-use Rattle.luks2_binary.proofs.ValidLemmas.{probe_grows, probe_least, probe_more, probe_unfit, search_len_is, short-fits}
+use Rattle.luks2_binary.proofs.ValidLemmas.{at_more, found_passes, own_size, probe_fit}
+use Rattle.luks2_binary.proofs.ValidLemmas.{probe_least, probe_more, probe_unfit, search_len_is, short-fits}
 use Rattle.luks2_binary.proofs.ValidLemmas.{unfit-is_valid, valid_more, valid_parts, valid_range, walk_same}
 
 module _ (image : List ℕ) where
@@ -57,6 +57,18 @@ module _ (image : List ℕ) where
   pub probe_some : 4096 ≤ probe2_len image
   probe_some = omega (arith, probe_first, probe_least image 0)
 
+  -- the search checks the offsets as far as is read of an image without a valid primary header, and no further
+  pub walk_is : is_valid image 0 ≡ false → walk image offsets ≡ probe2_len image
+  unfolding offsets furthest
+  walk_is e = rw e (sym (probe_other e ∙ ap (max (probe_end image 0)) (search_len_is image)))
+
+  pub walk_within : walk image offsets ≤ probe2_len image
+  unfolding offsets furthest
+  walk_within = by (is_valid image 0) refl where
+    by : (b : Bool) → is_valid image 0 ≡ b → walk image offsets ≤ probe2_len image
+    by true e = rw e (omega (arith, probe_first))
+    by false e = omega (arith, walk_is e)
+
 -- if no offset is valid, there is no first valid one
 none_first : (valid : ℕ → Bool) (offsets : List ℕ) → ((offset : ℕ) → valid offset ≡ false) → find valid offsets ≡ None
 none_first valid [] none = refl
@@ -73,49 +85,9 @@ none_short image short =
 
 -- ---- loading the image step by step
 
--- if no more bytes are to be loaded, all that are read are loaded
-pub needed_enough : (loaded : List ℕ) → needed2 loaded ≤ length loaded → probe2_len loaded ≤ length loaded
-unfolding needed2
-needed_enough loaded within =
-    by (is_valid loaded 0) (nat_lt (length loaded) (probe_end loaded 0)) refl refl
-  where
-    by : (valid short : Bool) → is_valid loaded 0 ≡ valid → nat_lt (length loaded) (probe_end loaded 0) ≡ short
-        → probe2_len loaded ≤ length loaded
-    by true short v s =
-        let end = rw v at within in
-        omega (arith, end, probe_primary loaded v, probe_fit loaded 0 (valid_parts loaded 0 v).0)
-    by false true v s = (let end = rw (v, s) at within in absurd (omega (arith, end, ltb-true (length loaded) _ s)))
-    by false false v s =
-        let end = next_enough loaded sizes (rw (v, s) at within) in
-        omega (arith, end, probe_other loaded v, search_len_is loaded, ltb-false (length loaded) _ s)
-
 module _ (loaded more image : List ℕ) (is : image ≡ loaded ++ more) where
   first_valid : probe_end loaded 0 ≤ length loaded → is_valid image 0 ≡ is_valid loaded 0
   first_valid = valid_more loaded more image is 0
-
-  -- no more bytes are to be loaded next than are read of the image, if any
-  pub needed_within : needed2 loaded ≤ max (length loaded) (probe2_len image)
-  unfolding needed2
-  needed_within = by (is_valid loaded 0) (nat_lt (length loaded) (probe_end loaded 0)) refl refl where
-    by : (valid short : Bool) → is_valid loaded 0 ≡ valid → nat_lt (length loaded) (probe_end loaded 0) ≡ short
-        → needed2 loaded ≤ max (length loaded) (probe2_len image)
-    by true short v s =
-        let fit = valid_parts loaded 0 v in
-        let range = valid_range loaded 0 v in
-        let end : probe_end loaded 0 ≡ size_at loaded 0 = omega (arith, probe_fit loaded 0 fit.0, range.1) in
-        let first = first_valid (omega (arith, end, fit.1)) in
-        let size = ap size_in (at_more loaded more image is 0 4096 (omega (arith, range.0))) in
-        rw v (omega (arith, end, size, probe_primary image (first ∙ v)))
-    by false true v s =
-        rw (v, s) (omega (arith, probe_grows loaded more image is 0, probe_first image))
-    by false false v s =
-        let first = first_valid (ltb-false (length loaded) _ s) in
-        rw (v, s) (omega (
-          arith,
-          next_within loaded more image is sizes,
-          probe_other image (first ∙ v),
-          search_len_is image,
-        ))
 
   choice_with_primary_same : is_valid loaded 0 ≡ true → 2 * size_at loaded 0 ≤ length loaded
       → with_valid_primary image ≡ with_valid_primary loaded
@@ -139,7 +111,7 @@ module _ (loaded more image : List ℕ) (is : image ≡ loaded ++ more) where
       → option_and_then (found_at image) first ≡ option_and_then (found_at loaded) first
   found_same None is_first = refl
   found_same (Some offset) is_first =
-      let range = valid_range loaded offset (found_passes (is_valid loaded) sizes offset is_first).0 in
+      let range = valid_range loaded offset (found_passes (is_valid loaded) sizes offset is_first) in
       ap (header2_from Secondary (Some PrimaryNotValid)) (at_more loaded more image is offset 4096 range.0)
 
   -- if all bytes to be read are loaded, the image has the same header, and as many of its bytes are to be read
@@ -243,9 +215,9 @@ module _ (image : List ℕ) (header : Header2) where
   search_result_at none offset least is =
       let one = found_passes (is_valid image) sizes offset least in
       let some : offset ≡ 0 → ⊥ =
-      λ start. (let wrong : true ≡ false = sym one.0 ∙ ap (is_valid image) start ∙ none in cc) in
-      let own = own_size image offset (valid_parts image offset one.0).0 some in
-      header_at Secondary (Some PrimaryNotValid) offset one.0 own is
+      λ start. (let wrong : true ≡ false = sym one ∙ ap (is_valid image) start ∙ none in cc) in
+      let own = own_size image offset (valid_parts image offset one).0 some in
+      header_at Secondary (Some PrimaryNotValid) offset one own is
 
   -- the header that is chosen is at an offset of the image
   chosen_header_at : chosen2_of image ≡ Some header → (offset : ℕ) × HasHeaderAt image header offset

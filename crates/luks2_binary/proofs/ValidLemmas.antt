@@ -1,16 +1,16 @@
 -- Properties of a header that fits or is valid, in an image and in its loaded start.
 use Rattle.std.proofs.Common.{◌≡◌, ◌∙◌, ◌==◌, ◌||◌, ℕ, ◌+◌, ◌<◌, ◌≤◌, List, Some, Bool, true, false, ap, sym}
-use Rattle.std.proofs.Common.{refl, length, max, arith, ◌&&◌, [], ◌∷◌, ◌++◌, Option, drop, take, inl, inr}
+use Rattle.std.proofs.Common.{refl, length, max, arith, ◌&&◌, [], ◌∷◌, ◌++◌, drop, take, inl, inr}
 use Rattle.std.proofs.Common.{length-append, length-drop}
-use Rattle.std.specs.Prelude.{if◌then◌else◌, filter, map, nat_lt, not}
+use Rattle.std.specs.Prelude.{filter, map, nat_lt, not}
 use Rattle.std.specs.List.{list_any, find}
-use Rattle.std.specs.Option.{option_map_or}
-use Rattle.std.proofs.lemmas.Bool.{and_parts, cases_lt, leb-true, eqb-true, le-leb, lt-leb, ltb-false, ltb-true, ne_eqb}
+use Rattle.std.proofs.lemmas.Bool.{and_parts, cases_lt, leb-true, eqb-true, le-leb, lt-leb, ne_eqb}
 use Rattle.std.proofs.lemmas.Bool.Decides.{nat_tests}
 use Rattle.std.proofs.lemmas.List.{drop-append-le, take-append-le}
 use Rattle.luks_header_area.specs.Fields.{at}
 use Rattle.luks2_binary.specs.Choice2.{binary_at, fits, is_binary_of, is_valid, size_at, is_tried}
-use Rattle.luks2_binary.specs.ReadLen2.{probe_end, max_of, search_len, stops}
+use Rattle.luks2_binary.specs.ReadLen2.{probe_end, max_of, search_len}
+use Rattle.luks2_binary.specs.Search2.{furthest}
 use Rattle.luks2_binary.specs.Header2.{size_in, sizes}
 
 -- the range of a length that is one of the nine
@@ -150,11 +150,6 @@ module _ (loaded more image : List ℕ) (is : image ≡ loaded ++ more) where
 
 -- ---- the search for a secondary header, offset by offset: it gives what its definition states
 
--- the end of the bytes that are read to check these offsets, up to the first with a valid header
-unfoldable pub furthest : (ℕ → Bool) → (ℕ → ℕ) → List ℕ → ℕ
-furthest valid probe [] = 0
-furthest valid probe (offset ∷ offsets) = max (probe offset) (if valid offset then 0 else furthest valid probe offsets)
-
 module _ (valid : ℕ → Bool) (probe : ℕ → ℕ) where
   -- no lower one of the nine offsets has a valid header
   abbrev pub tried : ℕ → Bool
@@ -189,51 +184,19 @@ pub search_len_is : (image : List ℕ) → search_len image ≡ furthest (is_val
 unfolding search_len is_tried
 search_len_is image = sym (are_one (is_valid image) (probe_end image))
 
--- an offset that is found among others passes the test, and is no greater than their maximum
+-- an offset that is found among others passes the test
 pub found_passes : (test : ℕ → Bool) (offsets : List ℕ) (offset : ℕ) → find test offsets ≡ Some offset
-    → (test offset ≡ true) × (offset ≤ max_of offsets)
+    → test offset ≡ true
 found_passes test [] offset is = absurd (cc)
 found_passes test (here ∷ offsets) offset is = by (test here) refl (found_passes test offsets offset) where
-  by : (b : Bool) → test here ≡ b
-      → (find test offsets ≡ Some offset → (test offset ≡ true) × (offset ≤ max_of offsets))
-      → (test offset ≡ true) × (offset ≤ max here (max_of offsets))
+  by : (b : Bool) → test here ≡ b → (find test offsets ≡ Some offset → test offset ≡ true) → test offset ≡ true
   by true e behind =
-      let same : here ≡ offset = (let first : Some here ≡ Some offset = rw e at is in cc) in
-      (ap test (sym same) ∙ e, omega (arith, same))
-  by false e behind = (let rest = behind (rw e at is) in (rest.0, omega (arith, rest.1)))
-
--- ---- loading step by step
-
--- the end of the bytes that are to be loaded next for these offsets
-abbrev pub next_end : List ℕ → Option ℕ → ℕ
-next_end loaded found = option_map_or (probe_end loaded) found 0
-
--- loading does not stop at an offset: all bytes that are read to check it are loaded, and no valid header is there
-goes_on : (loaded : List ℕ) (offset : ℕ) → stops loaded offset ≡ false
-    → (is_valid loaded offset ≡ false) × (probe_end loaded offset ≤ length loaded)
-unfolding stops
-goes_on loaded offset is = by (is_valid loaded offset) is where
-  by : (b : Bool) → (b || nat_lt (length loaded) (probe_end loaded offset)) ≡ false
-      → (b ≡ false) × (probe_end loaded offset ≤ length loaded)
-  by true e = absurd (cc)
-  by false e = (refl, ltb-false (length loaded) (probe_end loaded offset) e)
+      let first : Some here ≡ Some offset = rw e at is in
+      let same : offset ≡ here = cc in
+      ap test same ∙ e
+  by false e behind = behind (rw e at is)
 
 module _ (loaded more image : List ℕ) (is : image ≡ loaded ++ more) where
-  -- no more bytes are to be loaded next than are read to check the offsets
-  pub next_within : (offsets : List ℕ)
-      → next_end loaded (find (stops loaded) offsets) ≤ furthest (is_valid image) (probe_end image) offsets
-  unfolding furthest
-  next_within [] = omega arith
-  next_within (offset ∷ offsets) = by (stops loaded offset) refl (next_within offsets) where
-    by : (b : Bool) → stops loaded offset ≡ b
-        → next_end loaded (find (stops loaded) offsets) ≤ furthest (is_valid image) (probe_end image) offsets
-        → next_end loaded (find (stops loaded) (offset ∷ offsets))
-        ≤ furthest (is_valid image) (probe_end image) (offset ∷ offsets)
-    by true e rest = rw e (omega (arith, probe_grows loaded more image is offset))
-    by false e rest =
-        let on = goes_on loaded offset e in
-        rw (e, valid_more loaded more image is offset on.1, on.0) (omega (arith, rest))
-
   -- loaded bytes that reach as far as is read have the same first valid offset as the image, and as many are read
   abbrev AreSame : List ℕ → Type 0
   AreSame offsets = (find (is_valid image) offsets ≡ find (is_valid loaded) offsets)
@@ -260,24 +223,3 @@ module _ (loaded more image : List ℕ) (is : image ≡ loaded ++ more) where
     by false e next =
         let rest = next (let inside = (rw e at within) in omega (arith, inside)) in
         (rw (valid, e) rest.0, rw (valid, probe, e) (ap (max (probe_end loaded offset)) rest.1))
-
--- if no more bytes are to be loaded, all that are read to check the offsets are loaded
-pub next_enough : (loaded offsets : List ℕ) → next_end loaded (find (stops loaded) offsets) ≤ length loaded
-    → furthest (is_valid loaded) (probe_end loaded) offsets ≤ length loaded
-unfolding furthest stops
-next_enough loaded [] within = omega arith
-next_enough loaded (offset ∷ offsets) within =
-    by (is_valid loaded offset) (nat_lt (length loaded) (probe_end loaded offset)) refl refl
-    (next_enough loaded offsets)
-  where
-    by : (valid short : Bool) → is_valid loaded offset ≡ valid
-        → nat_lt (length loaded) (probe_end loaded offset) ≡ short
-        → (next_end loaded (find (stops loaded) offsets) ≤ length loaded
-        → furthest (is_valid loaded) (probe_end loaded) offsets ≤ length loaded)
-        → furthest (is_valid loaded) (probe_end loaded) (offset ∷ offsets) ≤ length loaded
-    by true short v s rest = (let end = rw v at within in rw v (omega (arith, end)))
-    by false true v s rest =
-        (let end = rw (v, s) at within in absurd (omega (arith, end, ltb-true (length loaded) _ s)))
-    by false false v s rest =
-        let end = rest (rw (v, s) at within) in
-        rw v (omega (arith, end, ltb-false (length loaded) (probe_end loaded offset) s))

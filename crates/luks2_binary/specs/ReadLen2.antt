@@ -1,8 +1,5 @@
 -- The number of bytes of an image that are read to learn which LUKS2 header it has.
-use Rattle.std.specs.Prelude.{ℕ, ◌+◌, ◌*◌, ◌||◌, if◌then◌else◌, Bool, List, [], ◌∷◌, filter, length, map, max}
-use Rattle.std.specs.Prelude.{nat_lt}
-use Rattle.std.specs.List.{find}
-use Rattle.std.specs.Option.{option_map_or}
+use Rattle.std.specs.Prelude.{◌≡◌, ℕ, ◌+◌, ◌*◌, ◌≤◌, ◌++◌, if◌then◌else◌, List, [], ◌∷◌, filter, length, map, max}
 use Rattle.luks2_binary.specs.Choice2.{fits, is_tried, is_valid, size_at}
 use Rattle.luks2_binary.specs.Header2.{binary_len, sizes}
 
@@ -27,16 +24,8 @@ probe2_len image =
     if is_valid image 0 then 2 * size_at image 0
     else max (probe_end image 0) (search_len image)
 
--- ---- loading the image step by step
-
--- loading stops at an offset: a valid header is there, or not all bytes that are read to check it are loaded
-unfoldable pub stops : List ℕ → ℕ → Bool
-stops loaded offset = is_valid loaded offset || nat_lt (length loaded) (probe_end loaded offset)
-
--- the end of the bytes that are to be loaded next of an image that starts with these, and no more than are loaded if
--- they decide which header it has
-unfoldable pub needed2 : List ℕ → ℕ
-needed2 loaded =
-    if is_valid loaded 0 then 2 * probe_end loaded 0
-    else if nat_lt (length loaded) (probe_end loaded 0) then probe_end loaded 0
-    else option_map_or (probe_end loaded) (find (stops loaded) sizes) 0
+-- how far to load next an image that starts with these bytes: no further than `probe`, the end of the bytes that are
+-- read for its header, and past the loaded bytes, unless all those are loaded
+pub record IsNextEnd (probe : List ℕ → ℕ) (loaded : List ℕ) (end : ℕ) : Type 0 where
+  pub within : (image more : List ℕ) → image ≡ loaded ++ more → end ≤ max (length loaded) (probe image)
+  pub enough : end ≤ length loaded → probe loaded ≤ length loaded

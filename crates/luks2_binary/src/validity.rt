@@ -9,6 +9,7 @@ ghost use Rattle.luks2_binary.specs.Checksum2.{checksum_matches, without_checksu
 ghost use Rattle.luks2_binary.specs.Choice2.{beginning_at, binary_at, fits, is_binary_of, is_valid};
 ghost use Rattle.luks2_binary.specs.Choice2.{size_at};
 ghost use Rattle.luks2_binary.specs.Header2.{checksum_hash_in, size_in, sizes};
+ghost use Rattle.luks2_binary.specs.Search2.{offsets};
 
 use crate::header::{BINARY_LEN, checksum_hash_in, hdr_offset_in, size_in};
 use luks_kdf::{Hash, digest};
@@ -17,6 +18,11 @@ use luks_kdf::{Hash, digest};
 /// offsets of secondary headers.
 static SIZES: [u64; 9] = [
     16_384, 32_768, 65_536, 131_072, 262_144, 524_288, 1_048_576, 2_097_152, 4_194_304,
+];
+
+/// The offsets at which a header may be.
+static OFFSETS: [u32; 10] = [
+    0, 16_384, 32_768, 65_536, 131_072, 262_144, 524_288, 1_048_576, 2_097_152, 4_194_304,
 ];
 
 /// The first bytes of a primary header: the magic bytes and the version 2.
@@ -137,10 +143,10 @@ pub(crate) fn fitting_size(bytes: &[u8], offset: usize) -> Option<usize>
     }
 }
 
-/// The offsets at which a secondary header may be, ascending.
-#[tactic(auto, unfolding(crate::specs::Header2::sizes))]
-pub(crate) fn offsets() -> &'static [u64]
-    ensures { result.now ≡ sizes }
+/// The offsets at which a header may be, ascending.
+#[tactic(auto, unfolding(crate::specs::Header2::sizes, crate::specs::Search2::offsets))]
+pub(crate) fn offsets() -> &'static [u32]
+    ensures { result.now ≡ offsets }
 {
-    &SIZES
+    &OFFSETS
 }

@@ -6,13 +6,14 @@ use Rattle.std.proofs.lemmas.List.{take-append-drop}
 use Rattle.luks1_header.specs.Header1.{is_luks1}
 use Rattle.luks2_binary.specs.Choice2.{binary_at, fits, is_valid}
 use Rattle.luks2_binary.specs.Header2.{sizes}
-use Rattle.luks2_binary.specs.ReadLen2.{max_of, probe2_len, probe_end, search_len}
+use Rattle.luks2_binary.specs.ReadLen2.{IsNextEnd, max_of, probe2_len, probe_end, search_len}
+use Rattle.luks2_binary.specs.Search2.{furthest}
 use Rattle.luks2_binary.proofs.ChoiceLemmas.{probe_other, probe_primary}
-use Rattle.luks2_binary.proofs.ValidLemmas.{fits_parts, furthest, probe_fit, probe_unfit, search_len_is}
+use Rattle.luks2_binary.proofs.ValidLemmas.{fits_parts, probe_fit, probe_unfit, search_len_is}
 use Rattle.luks2_binary.proofs.ValidLemmas.{size_range, valid_range}
-use Rattle.luks_header.specs.Header.{header_of, header_read_len, needed, probe_len}
+use Rattle.luks_header.specs.Header.{header_of, header_read_len, probe_len}
 use Rattle.luks_header.proofs.KnownLemmas.{probe_is}
-use Rattle.luks_header.proofs.LoadingLemmas.{decided, needed_within}
+use Rattle.luks_header.proofs.LoadingLemmas.{decided}
 
 -- ---- no more than 8 MiB are read
 
@@ -53,9 +54,9 @@ module _ (image : List ℕ) where
     by false is = rw is all_near
 
 -- no bytes after them are to be loaded next
-pub needed_near : (loaded : List ℕ) → length loaded < needed loaded → needed loaded ≤ 8388608
-needed_near loaded more =
-    omega (arith, more, needed_within loaded [] loaded (sym (append-nil loaded)), probe_all_near loaded)
+pub next_near : (loaded : List ℕ) (end : ℕ) → IsNextEnd probe_len loaded end → length loaded < end → end ≤ 8388608
+next_near loaded end need more =
+    omega (arith, more, need.within loaded [] (sym (append-nil loaded)), probe_all_near loaded)
 
 -- the first bytes of an image have the header of the whole image, and reading it consumes as many bytes
 pub header_of_start : (image : List ℕ) (n : ℕ) → 8388608 ≤ n → n ≤ length image

@@ -1,9 +1,9 @@
 -- The loaded start of an image, step by step, until it decides which header the image has.
 use Rattle.std.proofs.Common.{◌≡◌, ◌∙◌, ℕ, ◌<◌, ◌≤◌, inl, inr, List, [], ◌++◌, Option, Some, Bool, true, false}
-use Rattle.std.proofs.Common.{Result, Ok, Err, ap, arith, append-nil, drop, length, length-append, max}
+use Rattle.std.proofs.Common.{Result, Ok, Err, ap, arith, append-nil, drop, length, length-append}
 use Rattle.std.proofs.Common.{refl, subst, sym, take}
-use Rattle.std.specs.Prelude.{if◌then◌else◌, nat_lt, not, ok_or, option_map, IsTrue, ◌↔◌}
-use Rattle.std.proofs.lemmas.Bool.{le-ltb, lt-ltb, ltb-false, ltb-true}
+use Rattle.std.specs.Prelude.{if◌then◌else◌, not, ok_or, option_map, IsTrue, ◌↔◌}
+use Rattle.std.proofs.lemmas.Bool.{le-ltb, lt-ltb}
 use Rattle.std.proofs.lemmas.List.{drop-append-le, drop_all, take-append-drop}
 use Rattle.luks_io.specs.Devices.{ConsumedExactly, counted}
 use Rattle.luks_header_area.specs.Area.{HeaderAreaModel, IsStart, Loads}
@@ -12,12 +12,15 @@ use Rattle.luks_header_area.specs.declared.fault.HeaderFault.TheVariants.{Json, 
 use Rattle.luks1_header.specs.Header1.{is_luks1}
 use Rattle.luks2_binary.specs.Choice2.{header2_of}
 use Rattle.luks2_binary.specs.declared.header.Header2.{Header2}
-use Rattle.luks2_binary.proofs.ChoiceLemmas.{decided2, needed_enough as needed2_enough, needed_within as needed2_within}
-use Rattle.luks2_binary.proofs.ChoiceLemmas.{text_more}
+use Rattle.luks2_binary.specs.ReadLen2.{IsNextEnd, probe2_len}
+use Rattle.luks2_binary.specs.Search2.{IsSearchOf}
+use Rattle.luks2_binary.specs.declared.header_search.Search.{Search}
+use Rattle.luks2_binary.proofs.ChoiceLemmas.{decided2, text_more}
+use Rattle.luks2_binary.proofs.SearchLemmas.{search_more}
 use Rattle.luks2_binary.proofs.ValidLemmas.{at_more, longer}
 use Rattle.luks2_json.specs.Tree.{tree_of}
-use Rattle.luks_header.specs.Header.{HasHeader2, HasNone, ReadsNoHeader, ConsumedHeaderLen, falls_short, header_of}
-use Rattle.luks_header.specs.Header.{header_read_len, needed, probe_len, with_text}
+use Rattle.luks_header.specs.Header.{HasHeader2, HasNoHeader, ReadsNoHeader, ConsumedHeaderLen, falls_short, header_of}
+use Rattle.luks_header.specs.Header.{header_read_len, probe_len, with_text}
 use Rattle.luks_header.specs.declared.header.Header.{Header}
 use Rattle.luks_header.specs.declared.header.Header.TheVariants.{V2}
 use Rattle.std.proofs.Math.Seq.{take-append_seam}
@@ -32,7 +35,7 @@ header_other image other read is = rw (other, is) refl
 -- ---- loaded bytes that reach as far as is read decide which header an image has
 
 -- two images have the same header, and the search for it goes as far
-pub record IsSame (loaded image : List ℕ) : Type 0 where
+pub record HaveOneHeader (loaded image : List ℕ) : Type 0 where
   pub header : header_of image ≡ header_of loaded
   pub probe : probe_len image ≡ probe_len loaded
   pub second : HasHeader2 loaded → HasHeader2 image
@@ -48,13 +51,13 @@ module _ (loaded more image : List ℕ) (is : image ≡ loaded ++ more) where
       ap (λ text. ok_or (option_map (V2 header) (tree_of text)) Json) (text_more loaded more image is header found)
   text_same (Err fault) found = refl
 
-  pub decided : probe_len loaded ≤ length loaded → IsSame loaded image
+  pub decided : probe_len loaded ≤ length loaded → HaveOneHeader loaded image
   unfolding header_of probe_len
   decided whole = by (is_luks1 loaded) refl where
     alike : is_luks1 image ≡ is_luks1 loaded
     alike = luks1_same (omega (arith, (probe_is loaded).1, whole))
 
-    by : (b : Bool) → is_luks1 loaded ≡ b → IsSame loaded image
+    by : (b : Bool) → is_luks1 loaded ≡ b → HaveOneHeader loaded image
     by true e =
         let long : 592 ≤ length loaded = rw e at whole in
         record {
@@ -76,40 +79,27 @@ module _ (loaded more image : List ℕ) (is : image ≡ loaded ++ more) where
           second = λ has. (has.0, alike ∙ e, same.0 ∙ has.2);
         }
 
-  -- no more bytes are to be loaded next than are read of the image, if any
-  pub needed_within : needed loaded ≤ max (length loaded) (probe_len image)
-  unfolding needed probe_len
-  needed_within = by (nat_lt (length loaded) 592) (is_luks1 loaded) refl refl where
-    some : 592 ≤ probe_len image
-    some = (probe_is image).1
-
-    by : (short first : Bool) → nat_lt (length loaded) 592 ≡ short → is_luks1 loaded ≡ first
-        → needed loaded ≤ max (length loaded) (probe_len image)
-    by true _ s f = rw s (omega (arith, some))
-    by false true s f = rw (s, f) (omega (arith, some))
-    by false false s f =
-        let alike = luks1_same (omega (arith, ltb-false (length loaded) 592 s)) in
-        rw (s, f, alike) (rw f (needed2_within loaded more image is))
-
--- if no more bytes are to be loaded, all that are read are loaded
-pub needed_enough : (loaded : List ℕ) → needed loaded ≤ length loaded → probe_len loaded ≤ length loaded
-unfolding needed probe_len
-needed_enough loaded within = by (nat_lt (length loaded) 592) (is_luks1 loaded) refl refl where
-  by : (short first : Bool) → nat_lt (length loaded) 592 ≡ short → is_luks1 loaded ≡ first
-      → probe_len loaded ≤ length loaded
-  by true _ s f = (let end = rw s at within in absurd (omega (arith, end, ltb-true (length loaded) 592 s)))
-  by false true s f = rw f (rw (s, f) at within)
-  by false false s f = rw f (needed2_enough loaded (rw (s, f) at within))
-
--- the first 592 bytes are loaded at once
-pub needed_first : (loaded : List ℕ) → length loaded < 592 → needed loaded ≡ 592
-unfolding needed
-needed_first loaded short = rw (lt-ltb (length loaded) 592 short) refl
-
 -- the search goes no further into an image that starts as LUKS1
 pub first_probe : (image : List ℕ) → is_luks1 image ≡ true → probe_len image ≡ 592
 unfolding probe_len
 first_probe image is = rw is refl
+
+-- the first 592 bytes are to be loaded next
+pub next_first : (loaded : List ℕ) → (592 ≤ length loaded → is_luks1 loaded ≡ true) → IsNextEnd probe_len loaded 592
+next_first loaded first = record {
+  within = λ image more is. omega (arith, (probe_is image).1);
+  enough = λ all. omega (arith, all, first_probe loaded (first all));
+}
+
+-- the bytes that are to be loaded next of an image that does not start as LUKS1
+pub next_other : (loaded : List ℕ) (end : ℕ) → 592 ≤ length loaded → is_luks1 loaded ≡ false
+    → IsNextEnd probe2_len loaded end → IsNextEnd probe_len loaded end
+unfolding probe_len
+next_other loaded end long other need = record {
+  within = λ image more is.
+      rw (luks1_same loaded more image is (omega (arith, long)), other) (need.within image more is);
+  enough = rw other need.enough;
+}
 
 -- ---- loading
 
@@ -125,42 +115,46 @@ start_consumed image loaded left start = record {
 
 -- if more bytes of an image that starts as LUKS1 are to be loaded, its first 592 are not
 pub first_near : (image loaded : List ℕ) (left : Option (List ℕ)) → IsStart image loaded left
-    → is_luks1 image ≡ true → length loaded < needed loaded → length loaded < 592
-first_near image loaded left start begins more =
-    omega (arith, more, needed_within loaded start.rest image start.is, first_probe image begins)
+    → is_luks1 image ≡ true → (end : ℕ) → IsNextEnd probe_len loaded end → length loaded < end → length loaded < 592
+first_near image loaded left start begins end need more =
+    omega (arith, more, need.within image start.rest start.is, first_probe image begins)
 
 -- loading was aborted before `end`
 pub loading_aborted : (image : List ℕ) (old new : HeaderAreaModel) (left left' : Option (List ℕ)) (end ends ends' : ℕ)
     (fault : HeaderFault) → IsStart image old.bytes left → IsStart image new.bytes left'
-    → Loads end old.bytes new.bytes (Err fault) → (fault ≡ Memory → new ≡ old) → end ≡ needed old.bytes
+    → Loads end old.bytes new.bytes (Err fault) → (fault ≡ Memory → new ≡ old) → IsNextEnd probe_len old.bytes end
     → length old.bytes < end → (length old.bytes < 592 → old.bytes ≡ []) → ends' ≡ ends
     → ReadsNoHeader image left' ends ends' fault
-loading_aborted image old new left left' end ends ends' fault start after loads kept is more first same =
+loading_aborted image old new left left' end ends ends' fault start after loads kept need more first same =
     let all = start_consumed image new.bytes left' after in
-    let near = needed_within old.bytes start.rest image start.is in
+    let near = need.within image start.rest start.is in
     elim loads.only [
       | inl read ↦
-          rw read ((length new.bytes, omega (arith, loads.fewer, is, more, near, all.within, probe_is image), all), same)
+          rw read ((length new.bytes, omega (arith, loads.fewer, more, near, all.within, probe_is image), all), same)
       | inr memory ↦
           rw memory (inl (
-            (length new.bytes, omega (arith, loads.fewer, is, more, near), all),
+            (length new.bytes, omega (arith, loads.fewer, more, near), all),
             same,
             λ luks1.
-                let few = first_near image old.bytes left start luks1 (omega (arith, more, is)) in
+                let few = first_near image old.bytes left start luks1 end need more in
                 subst (ConsumedExactly image left') (ap (λ area. length area.bytes) (kept memory) ∙ ap length (first few)) all,
           ))
     ]
 
 -- further bytes were loaded, up to `end` or to EOF
 module _ (old new : HeaderAreaModel) (end : ℕ) (whole : Bool) (loads : Loads end old.bytes new.bytes (Ok whole))
-    (unended : old.ended ≡ false) (is : end ≡ needed old.bytes) (more : length old.bytes < end)
+    (unended : old.ended ≡ false) (need : IsNextEnd probe_len old.bytes end) (more : length old.bytes < end)
     (ended : new.ended ≡ (if not whole then true else old.ended)) where
+  grown : new.bytes ≡ old.bytes ++ drop (length old.bytes) new.bytes
+  grown = sym (take-append-drop (length old.bytes) new.bytes)
+      ∙ ap (λ bytes. bytes ++ drop (length old.bytes) new.bytes) loads.kept
+
   near : end ≤ probe_len new.bytes
-  near =
-      let longer : new.bytes ≡ old.bytes ++ drop (length old.bytes) new.bytes =
-      sym (take-append-drop (length old.bytes) new.bytes)
-      ∙ ap (λ bytes. bytes ++ drop (length old.bytes) new.bytes) loads.kept in
-      omega (arith, is, more, needed_within old.bytes (drop (length old.bytes) new.bytes) new.bytes longer)
+  near = omega (arith, more, need.within new.bytes (drop (length old.bytes) new.bytes) grown)
+
+  -- what was checked before need not be checked again
+  pub more_searched : (search : Search) → IsSearchOf old.bytes search → IsSearchOf new.bytes search
+  more_searched = search_more old.bytes (drop (length old.bytes) new.bytes) new.bytes grown
 
   pub more_within : length new.bytes ≤ probe_len new.bytes
   more_within = omega (arith, near, more, loads.within)
@@ -181,23 +175,23 @@ module _ (old new : HeaderAreaModel) (end : ℕ) (whole : Bool) (loads : Loads e
   pub more_short : new.ended ≡ true → length new.bytes < probe_len new.bytes
   more_short hit = omega (arith, near, more_fewer hit)
 
-  pub more_first : new.ended ≡ false → length new.bytes < 592 → ⊥
-  more_first live few = by whole (sym more_ended ∙ live) loads.whole where
+  pub more_first : 592 ≤ end → new.ended ≡ false → length new.bytes < 592 → ⊥
+  more_first least live few = by whole (sym more_ended ∙ live) loads.whole where
     by : (b : Bool) → not b ≡ false → (IsTrue b ↔ (end ≤ length new.bytes)) → ⊥
-    by true _ iff = (let all = iff.0 refl in omega (arith, all, few, more, is, needed_first old.bytes (omega (arith, all, few, more))))
+    by true _ iff = (let all = iff.0 refl in omega (arith, all, few, least))
     by false wrong iff = absurd (cc)
 
 -- ---- all bytes that are read for the header are loaded
 
 -- the image has the header of the loaded bytes, they are all that is read, and EOF was hit if it falls short
 pub record IsAll (image : List ℕ) (area : HeaderAreaModel) : Type 0 where
-  pub same : IsSame area.bytes image
+  pub same : HaveOneHeader area.bytes image
   pub read_len : header_read_len image ≡ length area.bytes
   pub falls : falls_short image ≡ area.ended
 
 module _ (area : HeaderAreaModel) (within : length area.bytes ≤ probe_len area.bytes)
     (short : area.ended ≡ true → length area.bytes < probe_len area.bytes)
-    (enough : area.ended ≡ false → needed area.bytes ≤ length area.bytes) where
+    (enough : area.ended ≡ false → probe_len area.bytes ≤ length area.bytes) where
   pub all_of : (rest : List ℕ) → (area.ended ≡ true → rest ≡ []) → IsAll (area.bytes ++ rest) area
   all_of rest ends = by area.ended refl where
     by : (b : Bool) → area.ended ≡ b → IsAll (area.bytes ++ rest) area
@@ -210,7 +204,7 @@ module _ (area : HeaderAreaModel) (within : length area.bytes ≤ probe_len area
           falls = lt-ltb (length area.bytes) (probe_len area.bytes) few ∙ sym e;
         }
     by false e =
-        let whole = needed_enough area.bytes (enough e) in
+        let whole = enough e in
         let same = decided area.bytes rest (area.bytes ++ rest) refl whole in
         let long = length-append area.bytes rest in
         record {
@@ -246,13 +240,13 @@ module _ (area : HeaderAreaModel) (within : length area.bytes ≤ probe_len area
     )
 
     -- there is none
-    pub no_header_read : (fault : HeaderFault) (ends ends' : ℕ) → HasNone area.bytes fault
+    pub no_header_read : (fault : HeaderFault) (ends ends' : ℕ) → HasNoHeader area.bytes fault
         → ends' ≡ counted area.ended ends → ReadsNoHeader image left ends ends' fault
     no_header_read fault ends ends' none is = by fault none where
       consumed : ConsumedHeaderLen image left ends ends'
       consumed = (consumed_all, is ∙ ap (λ b. counted b ends) (sym all_image.falls))
 
-      by : (fault : HeaderFault) → HasNone area.bytes fault → ReadsNoHeader image left ends ends' fault
+      by : (fault : HeaderFault) → HasNoHeader area.bytes fault → ReadsNoHeader image left ends ends' fault
       by Read none = absurd none
       by Memory has = inr (all_image.same.second has, consumed)
       by NotLuks none = (all_image.same.header ∙ none, consumed)
@@ -260,5 +254,5 @@ module _ (area : HeaderAreaModel) (within : length area.bytes ≤ probe_len area
       by Json none = (all_image.same.header ∙ none, consumed)
 
     -- memory does not run out for the tree if the image starts as LUKS1
-    pub no_tree : HasNone area.bytes Memory → is_luks1 image ≡ true → ⊥
+    pub no_tree : HasNoHeader area.bytes Memory → is_luks1 image ≡ true → ⊥
     no_tree has begins = (let second = all_image.same.second has in let other = second.1 in cc)

@@ -1,11 +1,11 @@
 -- Which header an image has, and how many of its bytes are read for it.
 use Rattle.std.specs.Prelude.{◌≡◌, ◌⊎◌, ℕ, Bool, true, false, List, Option, Result, Ok, Err, length, min}
-use Rattle.std.specs.Prelude.{◌*◌, ◌||◌, nat_lt, if◌then◌else◌, ok_or, option_map}
+use Rattle.std.specs.Prelude.{◌*◌, nat_lt, if◌then◌else◌, ok_or, option_map}
 use Rattle.luks_io.specs.Devices.{ConsumedExactly, ConsumedFewer, ConsumedAtMost, counted}
 use Rattle.luks_header_area.specs.Fields.{at}
 use Rattle.luks1_header.specs.Header1.{header1_len, header1_of, is_luks1}
 use Rattle.luks2_binary.specs.Choice2.{header2_of}
-use Rattle.luks2_binary.specs.ReadLen2.{needed2, probe2_len}
+use Rattle.luks2_binary.specs.ReadLen2.{probe2_len}
 use Rattle.luks2_binary.specs.Text2.{json_text_of}
 use Rattle.luks2_binary.specs.declared.header.Header2.{Header2}
 use Rattle.luks2_json.specs.Tree.{tree_of}
@@ -77,12 +77,7 @@ ReadsNoHeader image left ends ends' Memory =
 ReadsNoHeader image left ends ends' fault = (header_of image ≡ Err fault) × ConsumedHeaderLen image left ends ends'
 
 -- an image with these bytes has no header for this reason, or memory ran out for the tree of its JSON text
-abbrev pub HasNone : List ℕ → HeaderFault → Type 0
-HasNone image Read = ⊥
-HasNone image Memory = HasHeader2 image
-HasNone image fault = header_of image ≡ Err fault
-
--- the end of the bytes that are to be loaded next of an image that starts with these, and no more than are loaded if
--- they decide which header it has
-unfoldable pub needed : List ℕ → ℕ
-needed loaded = if nat_lt (length loaded) header1_len || is_luks1 loaded then header1_len else needed2 loaded
+abbrev pub HasNoHeader : List ℕ → HeaderFault → Type 0
+HasNoHeader image Read = ⊥
+HasNoHeader image Memory = HasHeader2 image
+HasNoHeader image fault = header_of image ≡ Err fault

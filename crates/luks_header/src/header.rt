@@ -6,8 +6,11 @@ ghost use Rattle.luks_io.specs.Devices.{ConsumedExactly, IfKnown};
 ghost use Rattle.luks_io.specs.Counts.{Reads};
 ghost use Rattle.luks_header_area.specs.Area.{is_read_fault, max_loaded_len};
 ghost use Rattle.luks1_header.specs.Header1.{is_luks1};
-ghost use Rattle.luks_header.specs.Header.{HasNone, ReadsNoHeader, bounds2_of};
-ghost use Rattle.luks_header.specs.Header.{header_read_len, detached_of, falls_short, header_of, needed};
+ghost use Rattle.luks2_binary.specs.ReadLen2.{IsNextEnd};
+ghost use Rattle.luks2_binary.specs.Search2.{IsSearchOf};
+ghost use Rattle.luks_header.specs.Header.{HasNoHeader, ReadsNoHeader, bounds2_of};
+ghost use Rattle.luks_header.specs.Header.{header_read_len, detached_of, falls_short, header_of};
+ghost use Rattle.luks_header.specs.Header.{probe_len};
 
 use luks_header_area::area::HeaderArea;
 use luks_header_area::fault::HeaderFault;
@@ -15,7 +18,7 @@ use luks_io::source::Source;
 use luks1_header::header::{HEADER1_LEN, is_header1};
 pub use luks1_header::header::{Header1, SlotState, StoredSlot};
 pub use luks2_binary::header::{Header2, HeaderRole, PairFinding};
-use luks2_binary::header_search::{header2, needed2};
+use luks2_binary::header_search::{Search, header2, next_end2};
 pub use luks2_json::tree::Metadata;
 pub use luks2_metadata::bounds::Bounds;
 use std::alloc::Global;
@@ -66,10 +69,19 @@ pub fn bounds(header: &Header2) -> Bounds
 /// [`HeaderFault::Cut`] for one that starts as LUKS1 and is shorter than the header,
 /// [`HeaderFault::Json`] for a LUKS2 header whose JSON area cannot be read, and
 /// [`HeaderFault::Memory`] if memory ran out.
-#[tactic(auto, unfolding(crate::specs::Header::header_of, luks2_binary::specs::Choice2::header2_of))]
-pub fn header_in(alloc: Global, bytes: &[u8]) -> Result<Header, HeaderFault>
+pub fn header_of_bytes(alloc: Global, bytes: &[u8]) -> Result<Header, HeaderFault>
     ensures ok { IfOk result (λ header. header_of bytes.now ≡ Ok header) }
-    ensures none { IfErr result (HasNone bytes.now) }
+    ensures none { IfErr result (HasNoHeader bytes.now) }
+{
+    header_found(alloc, bytes, Search::new())
+}
+
+// The same, if the search for a LUKS2 header came so far in these bytes.
+#[tactic(auto, unfolding(crate::specs::Header::header_of, luks2_binary::specs::Choice2::header2_of))]
+fn header_found(alloc: Global, bytes: &[u8], search: Search) -> Result<Header, HeaderFault>
+    requires { IsSearchOf bytes.now search }
+    ensures ok { IfOk result (λ header. header_of bytes.now ≡ Ok header) }
+    ensures none { IfErr result (HasNoHeader bytes.now) }
 {
     if is_header1(bytes) {
         if bytes.len() < HEADER1_LEN {
@@ -77,39 +89,43 @@ pub fn header_in(alloc: Global, bytes: &[u8]) -> Result<Header, HeaderFault>
         }
         return Ok(Header::V1(Header1::from_bytes(&bytes[..HEADER1_LEN])));
     }
-    let Some(header) = header2(bytes) else {
+    let Some(header) = header2(bytes, search) else {
         return Err(HeaderFault::NotLuks);
     };
     let metadata = Metadata::read(alloc, header.json_text(bytes))?;
     Ok(Header::V2(header, metadata))
 }
 
-// The end of the bytes that are to be loaded next of an image that starts with these, and no more
-// than are loaded if they decide which header it has.
-#[tactic(auto, unfolding(crate::specs::Header::needed))]
-fn needed(bytes: &[u8]) -> usize
-    ensures { result ≡ needed bytes.now }
+// How far to load next an image that starts with these bytes: past them, unless all bytes that are
+// read for its header are loaded.
+fn next_end(bytes: &[u8], search: &mut Search) -> usize
+    requires { IsSearchOf bytes.now search.old }
+    ensures next { IsNextEnd probe_len bytes.now result }
+    ensures least { length bytes.now < result → 592 ≤ result }
+    ensures searched { IsSearchOf bytes.now search.new }
 {
     if bytes.len() < HEADER1_LEN || is_header1(bytes) {
-        HEADER1_LEN
-    } else {
-        needed2(bytes)
+        return HEADER1_LEN;
     }
+    next_end2(bytes, search)
 }
 
-// The end of the bytes that are to be loaded next, if there are any and EOF was not hit.
-fn lacking(area: &HeaderArea) -> Option<usize>
+// How far to load an image next, if bytes that are read for its header are missing and EOF was not
+// hit.
+fn missing_end(area: &HeaderArea, search: &mut Search) -> Option<usize>
+    requires { IsSearchOf area.now.bytes search.old }
     ensures live { IfSome result (λ _. area.now.ended ≡ false) }
-    ensures some { IfSome result (λ end. (end ≡ needed area.now.bytes)
-        × (length area.now.bytes < end) × (end ≤ max_loaded_len)) }
+    ensures some { IfSome result (λ end. IsNextEnd probe_len area.now.bytes end
+        × (length area.now.bytes < end) × (592 ≤ end) × (end ≤ max_loaded_len)) }
     ensures none { result ≡ None → area.now.ended ≡ false
-        → needed area.now.bytes ≤ length area.now.bytes }
+        → probe_len area.now.bytes ≤ length area.now.bytes }
+    ensures searched { IsSearchOf area.now.bytes search.new }
 {
     if area.has_ended() {
         return None;
     }
     let bytes = area.as_slice();
-    let end = needed(bytes);
+    let end = next_end(bytes, search);
     if bytes.len() < end { Some(end) } else { None }
 }
 
@@ -148,9 +164,10 @@ pub fn read_header<S: Source>(
         → IfKnown (S.to_come source.old) (λ _. S.to_come source.new ≡ Some []))) }
 {
     let mut area = HeaderArea::new(alloc);
-    while let Some(end) = lacking(&area) {
+    let mut search = Search::new();
+    while let Some(end) = missing_end(&area, &mut search) {
         area.extend_to(source, end)?;
     }
-    let header = header_in(alloc, area.as_slice())?;
+    let header = header_found(alloc, area.as_slice(), search)?;
     Ok((header, area))
 }

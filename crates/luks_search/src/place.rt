@@ -6,7 +6,7 @@ ghost use Rattle.luks_search.specs.Places.{found_in};
 
 use crate::magic::may_have_header;
 use luks_header::fault::HeaderFault;
-use luks_header::header::{Header, header_in};
+use luks_header::header::{Header, header_of_bytes};
 use luks_io::source::ReadFault;
 use std::alloc::{AllocError, Global};
 
@@ -74,7 +74,7 @@ pub(crate) fn header_here(alloc: Global, bytes: &[u8]) -> Result<Option<Header>,
     if !may_have_header(bytes) {
         return Ok(None);
     }
-    match header_in(alloc, bytes) {
+    match header_of_bytes(alloc, bytes) {
         Ok(header) => Ok(Some(header)),
         Err(fault) => match fault {
             HeaderFault::NotLuks => Ok(None),

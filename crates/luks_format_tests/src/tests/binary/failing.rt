@@ -10,7 +10,7 @@ use luks_test_support::bytes::{put, range_mut};
 use luks_test_support::devices::{BrokenSource, FlakySource};
 use luks_test_support::scarce::Scarcity;
 use luks2_binary::header::{Header2, HeaderRole, PairFinding};
-use luks2_binary::header_search::header2;
+use luks2_binary::header_search::{Search, header2};
 use std::alloc::Global;
 use std::process::Abort;
 
@@ -127,7 +127,7 @@ fn a_json_area_without_a_zero_byte_is_text_to_its_end(rt: HostRuntime) {
     let header = range_mut(image.as_mut_slice(), 16_384, 16_384);
     range_mut(header, 4096, 12_288).fill(b'j');
     seal(header, Hash::Sha256);
-    let header = header2(&image).expect(&rt, "a header");
+    let header = header2(&image, Search::new()).expect(&rt, "a header");
     check_text(&rt, &header, &image);
 }
 

@@ -3,6 +3,7 @@ use Rattle.std.specs.Prelude.{if◌then◌else◌}
 use Rattle.luks_io.specs.Counts.{Reads}
 use Rattle.luks_io.specs.Devices.{IfKnown}
 use Rattle.luks_header_area.specs.Area.{IsStart}
+use Rattle.luks2_binary.specs.Search2.{IsSearchOf}
 use Rattle.luks_header.specs.Header.{probe_len}
 use Rattle.luks_header.proofs.header.read_header.Given as goal
 
@@ -15,6 +16,7 @@ invariant-loop-end g l = record {
   emptied : l.area.ended ≡ true
       → IfKnown (g.S.Source.to_come l.fn.source) (λ _. g.S.Source.to_come l.source ≡ Some []);
   reads : Reads false l.area.ended (g.S.Source.counts l.fn.source) (g.S.Source.counts l.source);
+  searched : IsSearchOf l.area.bytes l.search;
   first : l.area.ended ≡ false → length l.area.bytes < 592 → (l.area.bytes ≡ []) × (l.source ≡ l.fn.source);
 }
 

@@ -1,0 +1,164 @@
+-- The search for the first valid header: what it has checked need not be checked again when more bytes are loaded.
+use Rattle.std.proofs.Common.{◌≡◌, ◌∙◌, ℕ, ◌+◌, ◌<◌, ◌≤◌, ◌==◌, List, [], ◌∷◌, ◌++◌, Option, Some, None, Bool, true}
+use Rattle.std.proofs.Common.{false, add-one, ap, arith, drop, drop-cons, get_or, length, max, refl, sym, take}
+use Rattle.std.proofs.lemmas.List.{take-append-drop, take_all, take_more}
+use Rattle.std.proofs.lemmas.List.Folds.{find-append}
+use Rattle.std.specs.Prelude.{option_and_then, if◌then◌else◌, ◌*◌}
+use Rattle.std.specs.List.{find}
+use Rattle.std.proofs.lemmas.Bool.{ne_eqb}
+use Rattle.luks2_binary.specs.Choice2.{chosen2_of, found_at, is_valid, size_at, with_valid_primary}
+use Rattle.luks2_binary.specs.Header2.{size_in, sizes}
+use Rattle.luks2_binary.specs.ReadLen2.{IsNextEnd, probe2_len, probe_end}
+use Rattle.luks2_binary.specs.Search2.{IsSearchOf, checked, furthest, offsets, walk}
+use Rattle.luks2_binary.specs.declared.header_search.Search.{Search}
+use Rattle.luks2_binary.specs.declared.header_search.Search.TheVariants.{Found, Passed}
+use Rattle.luks2_binary.proofs.ChoiceLemmas.{probe_primary, walk_is, walk_within}
+use Rattle.luks2_binary.proofs.ValidLemmas.{at_more, found_passes, longer, probe_fit, probe_grows}
+use Rattle.luks2_binary.proofs.ValidLemmas.{valid_more, valid_parts, valid_range, walk_same}
+
+-- more bytes are loaded
+pub search_more : (loaded more image : List ℕ) → image ≡ loaded ++ more → (search : Search)
+    → IsSearchOf loaded search → IsSearchOf image search
+search_more loaded more image is search before =
+    let same = walk_same loaded more image is (checked search) before.whole in
+    record {
+      first = same.0 ∙ before.first;
+      whole = omega (arith, same.1, before.whole, longer loaded more image is);
+    }
+
+-- the walk goes on behind offsets without a valid header
+walk_on : (image passed left : List ℕ) → find (is_valid image) passed ≡ None
+    → walk image (passed ++ left) ≡ max (walk image passed) (walk image left)
+unfolding furthest
+walk_on image [] left none = omega arith
+walk_on image (offset ∷ passed) left none = by (is_valid image offset) refl (walk_on image passed left) where
+  by : (b : Bool) → is_valid image offset ≡ b
+      → (find (is_valid image) passed ≡ None → walk image (passed ++ left) ≡ max (walk image passed) (walk image left))
+      → walk image (offset ∷ passed ++ left) ≡ max (walk image (offset ∷ passed)) (walk image left)
+  by true e on = absurd (let wrong = rw e at none in cc)
+  by false e on = rw e (omega (arith, on (rw e at none)))
+
+module _ (loaded : List ℕ) (count : ℕ) (before : IsSearchOf loaded (Passed count)) where
+  -- the walk over all offsets goes on over those that are left
+  walk_left : walk loaded offsets ≡ max (walk loaded (take count offsets)) (walk loaded (drop count offsets))
+  walk_left =
+      sym (ap (walk loaded) (take-append-drop count offsets))
+      ∙ walk_on loaded (take count offsets) (drop count offsets) before.first
+
+  -- the first valid header is at one of the offsets that are left
+  pub first_left : find (is_valid loaded) (drop count offsets) ≡ find (is_valid loaded) offsets
+  first_left =
+      sym (sym (ap (find (is_valid loaded)) (take-append-drop count offsets))
+      ∙ find-append {X = ℕ} (is_valid loaded) (take count offsets) (drop count offsets)
+      ∙ rw before.first refl)
+
+-- the primary header is not valid, and all bytes that are read are loaded
+next_none : (loaded : List ℕ) → is_valid loaded 0 ≡ false → walk loaded offsets ≤ length loaded
+    → IsNextEnd probe2_len loaded 0
+next_none loaded other whole = record {
+  within = λ image more is. omega arith;
+  enough = λ all. omega (arith, whole, walk_is loaded other);
+}
+
+module _ (loaded : List ℕ) (count : ℕ) (before : IsSearchOf loaded (Passed count)) where
+  -- no offset is left
+  pub next_passed : length offsets ≤ count → IsNextEnd probe2_len loaded 0
+  unfolding offsets
+  next_passed all = next_none loaded (by (is_valid loaded 0) refl) (rw all_checked at before.whole) where
+    all_checked : take count offsets ≡ offsets
+    all_checked = take_all count offsets all
+
+    by : (b : Bool) → is_valid loaded 0 ≡ b → is_valid loaded 0 ≡ false
+    by true e = absurd (let wrong = rw (all_checked, e) at before.first in cc)
+    by false e = e
+
+  -- one more offset is checked
+  module _ (offset : ℕ) (within : count < length offsets) (at : offset ≡ get_or offsets count 0) where
+    up_to : take (count + 1) offsets ≡ take count offsets ++ offset ∷ []
+    up_to = rw at (take_more offsets count 0 within)
+
+    left : drop count offsets ≡ offset ∷ drop (count + 1) offsets
+    left = rw (at, add-one count) (drop-cons offsets count 0 within)
+
+    -- not all bytes that are read to check it are loaded
+    pub next_more : length loaded < probe_end loaded offset → IsNextEnd probe2_len loaded (probe_end loaded offset)
+    unfolding furthest
+    next_more short = record {
+      within = λ image more is.
+          let now = search_more loaded more image is (Passed count) before in
+          let far = rw left at (walk_left image count now) in
+          omega (arith, far, walk_within image, probe_grows loaded more image is offset);
+      enough = λ all. absurd (omega (arith, all, short));
+    }
+
+    module _ (whole : probe_end loaded offset ≤ length loaded) where
+      pub search_passed : is_valid loaded offset ≡ false → IsSearchOf loaded (Passed (count + 1))
+      unfolding furthest
+      search_passed none = record {
+        first =
+            rw (up_to, find-append {X = ℕ} (is_valid loaded) (take count offsets) (offset ∷ []), before.first, none) refl;
+        whole = rw (up_to, walk_on loaded (take count offsets) (offset ∷ []) before.first, none)
+            (omega (arith, before.whole, whole));
+      }
+
+      pub search_found : is_valid loaded offset ≡ true → IsSearchOf loaded (Found offset)
+      unfolding furthest
+      search_found here = record {
+        first = sym (first_left loaded count before) ∙ rw (left, here) refl;
+        whole =
+            let far = rw (left, here) at (walk_left loaded count before) in
+            omega (arith, far, before.whole, whole);
+      }
+
+-- the first valid header is the primary one if and only if that is valid
+primary_found : (image : List ℕ) (offset : ℕ) → find (is_valid image) offsets ≡ Some offset
+    → (offset == 0) ≡ is_valid image 0
+unfolding offsets
+primary_found image offset first = by (is_valid image 0) refl where
+  by : (b : Bool) → is_valid image 0 ≡ b → (offset == 0) ≡ is_valid image 0
+  by true e = (let same : Some 0 ≡ Some offset = rw e at first in let zero : offset ≡ 0 = cc in rw (e, zero) refl)
+  by false e =
+      let valid = found_passes (is_valid image) (0 ∷ sizes) offset first in
+      let some : offset ≡ 0 → ⊥ = λ zero. (let wrong : true ≡ false = sym valid ∙ ap (is_valid image) zero ∙ e in cc) in
+      ne_eqb offset 0 some ∙ sym e
+
+module _ (loaded : List ℕ) (offset : ℕ) (is : IsSearchOf loaded (Found offset)) where
+  primary : (offset == 0) ≡ is_valid loaded 0
+  primary = primary_found loaded offset is.first
+
+  -- a valid header was found, and it is not the primary one
+  pub next_found : 0 < offset → IsNextEnd probe2_len loaded 0
+  next_found some =
+      next_none loaded (sym primary ∙ ne_eqb offset 0 (λ none. absurd (omega (arith, some, none)))) is.whole
+
+  -- the primary header is valid, so both are to be loaded
+  pub next_both : offset ≤ 0 → IsNextEnd probe2_len loaded (2 * probe_end loaded 0)
+  next_both first =
+      let zero : offset ≡ 0 = omega (arith, first) in
+      let valid = sym primary ∙ ap (λ n. n == 0) zero in
+      let fit = valid_parts loaded 0 valid in
+      let range = valid_range loaded 0 valid in
+      let end : probe_end loaded 0 ≡ size_at loaded 0 = omega (arith, probe_fit loaded 0 fit.0, range.1) in
+      record {
+        within = λ image more is.
+            let both = valid_more loaded more image is 0 (omega (arith, end, fit.1)) ∙ valid in
+            let size = ap size_in (at_more loaded more image is 0 4096 (omega (arith, range.0))) in
+            omega (arith, end, size, probe_primary image both);
+        enough = λ all. omega (arith, all, end, probe_primary loaded valid);
+      }
+
+-- ---- the header that is chosen
+
+-- the header at the first offset with a valid one
+pub chosen_by : (image : List ℕ) (first : Option ℕ) → find (is_valid image) offsets ≡ first
+    → option_and_then (λ offset. if offset == 0 then with_valid_primary image else found_at image offset) first
+    ≡ chosen2_of image
+unfolding offsets chosen2_of
+chosen_by image first is = by (is_valid image 0) refl first is where
+  by : (b : Bool) → is_valid image 0 ≡ b → (first : Option ℕ) → find (is_valid image) (0 ∷ sizes) ≡ first
+      → option_and_then (λ offset. if offset == 0 then with_valid_primary image else found_at image offset) first
+      ≡ chosen2_of image
+  by true e first is = (let same : Some 0 ≡ first = rw e at is in rw (e, sym same) refl)
+  by false e None is = (let none = rw e at is in rw (e, none) refl)
+  by false e (Some offset) is =
+      (let found = rw e at is in rw (primary_found image offset is, e, found) refl)

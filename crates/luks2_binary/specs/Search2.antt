@@ -1,0 +1,36 @@
+-- How far the search for the first valid header of an image came in its loaded bytes, so that nothing is checked twice.
+use Rattle.std.specs.Prelude.{◌≡◌, ℕ, ◌≤◌, if◌then◌else◌, Bool, List, [], ◌∷◌, Option, Some, None, take, length, max}
+use Rattle.std.specs.List.{find}
+use Rattle.luks2_binary.specs.Choice2.{is_valid}
+use Rattle.luks2_binary.specs.Header2.{sizes}
+use Rattle.luks2_binary.specs.ReadLen2.{probe_end}
+use Rattle.luks2_binary.specs.declared.header_search.Search.{Search}
+use Rattle.luks2_binary.specs.declared.header_search.Search.TheVariants.{Found, Passed}
+
+-- the offsets at which a header may be, in the order in which they are checked
+unfoldable pub offsets : List ℕ
+offsets = 0 ∷ sizes
+
+-- the end of the bytes that are read to check these offsets, up to the first with a valid header
+unfoldable pub furthest : (ℕ → Bool) → (ℕ → ℕ) → List ℕ → ℕ
+furthest valid probe [] = 0
+furthest valid probe (offset ∷ offsets) = max (probe offset) (if valid offset then 0 else furthest valid probe offsets)
+
+-- the same for the image
+abbrev pub walk : List ℕ → List ℕ → ℕ
+walk image = furthest (is_valid image) (probe_end image)
+
+-- the offsets that were checked
+abbrev pub checked : Search → List ℕ
+checked (Found offset) = offsets
+checked (Passed count) = take count offsets
+
+-- the first of them with a valid header
+abbrev pub found : Search → Option ℕ
+found (Found offset) = Some offset
+found (Passed count) = None
+
+-- the search came so far in these bytes; all that are read to check these offsets are there, so no more bytes change it
+pub record IsSearchOf (loaded : List ℕ) (search : Search) : Type 0 where
+  pub first : find (is_valid loaded) (checked search) ≡ found search
+  pub whole : walk loaded (checked search) ≤ length loaded
