@@ -292,8 +292,7 @@ uint32_t luksrd_plan(const struct luksrd_cipher *cipher, uint64_t image_len, uin
                      uint64_t len, struct luksrd_step *step) LUKSRD_CHECKED;
 
 /* Decrypts the bytes that a step reads, and moves the part that the range gets to their beginning:
- * the first `step->count` of the bytes are those of the range. The bytes after them are
- * unspecified.
+ * the first `step->count` of the bytes are those of the range. The bytes after them are zeros.
  *
  * A caller that read fewer bytes than the step names must not pass the rest.
  *

@@ -100,6 +100,7 @@ static void read_range(const struct job *job, uint64_t offset, uint64_t len)
     must(luksrd_finish(job->cipher, &step, bytes.at, bytes.len) == LUKSRD_OK, "a step");
     must(step.count > 0 && step.count <= len && ++steps <= 3, "the length of a step");
     must(memcmp(bytes.at, job->plain.at + offset, step.count) == 0, "a step's bytes in the ranges of seed " SEED);
+    must(all_zero(bytes.at + step.count, bytes.len - step.count), "the bytes after a step's");
     free(bytes.at);
     offset += step.count;
     len -= step.count;

@@ -4,8 +4,8 @@
 //! pointers that C passes; the C caller must pass pointers as the header requires.
 #![tactic(auto)]
 
-ghost use Rattle.std.specs.Prelude.{◌≡◌, ◌≢◌, ◌+◌, ◌*◌, ◌/◌, ◌%◌, ◌^◌, ◌<◌, List, ℕ, length};
-ghost use Rattle.std.specs.Prelude.{if◌then◌else◌, replicate, take};
+ghost use Rattle.std.specs.Prelude.{◌≡◌, ◌≢◌, ◌+◌, ◌-◌, ◌*◌, ◌/◌, ◌%◌, ◌^◌, ◌<◌, ◌≤◌, List, ℕ};
+ghost use Rattle.std.specs.Prelude.{if◌then◌else◌, drop, length, replicate, take};
 ghost use Rattle.std.specs.Prelude.{false, nat_le, true};
 ghost use Rattle.luks_access.specs.Opens.{cipher_of, plaintext_of};
 ghost use Rattle.luks_access.specs.Sectors.{AreStored, IsRangeOf, plain_at};
@@ -199,7 +199,7 @@ pub extern "C" fn luksrd_plan(
 }
 
 /// Decrypts the bytes that a step has read, and moves those that the range gets to their beginning.
-/// If the code is not 0, the bytes are as they were.
+/// The bytes after them become zeros. If the code is not 0, the bytes are as they were.
 #[unsafe(no_mangle)]
 pub extern "C" fn luksrd_finish(cipher: &LuksrdCipher, step: &LuksrdStep, bytes: &mut [u8]) -> u32
     ensures value { result ≡ 0 → IsPrepared cipher.now
@@ -210,6 +210,8 @@ pub extern "C" fn luksrd_finish(cipher: &LuksrdCipher, step: &LuksrdStep, bytes:
         → IsRangeOf (plaintext_of v image)
         (step.now.first_sector * sector_len v.segment + step.now.skip)
         (take step.now.count bytes.new) }
+    ensures rest { result ≡ 0 → drop step.now.count bytes.new
+        ≡ replicate (length bytes.old - step.now.count) 0 }
     ensures kept { result ≢ 0 → bytes.new ≡ bytes.old }
     ensures code { result ≡ finish_code cipher.now.volume step.now (length bytes.old) }
 {
@@ -223,7 +225,17 @@ pub extern "C" fn luksrd_finish(cipher: &LuksrdCipher, step: &LuksrdStep, bytes:
         return BAD_RANGE;
     }
     finish(&segment, &cipher.keys, &step.stored(), bytes);
+    clear_after(bytes, step.count as usize);
     OK
+}
+
+/// Fills the bytes after the first `count` with zeros.
+fn clear_after(bytes: &mut [u8], count: usize)
+    requires { count ≤ length bytes.old }
+    ensures first { take count bytes.new ≡ take count bytes.old }
+    ensures rest { drop count bytes.new ≡ replicate (length bytes.old - count) 0 }
+{
+    bytes[count..].fill(0);
 }
 
 /// Decrypts whole sectors in place, the first of which has this number. If the code is not 0, the
