@@ -42,7 +42,7 @@ last_column_xor q memory zero = slice_index_or memory (q - 1) []
 last_column_xor q memory (suc n) =
     xor_blocks (last_column_xor q memory n) (slice_index_or memory (suc n * q + (q - 1)) [])
 
--- the tag of n bytes, from H_0 and the memory before the first step (steps 3 to 8)
+-- the tag of n bytes, from H_0 and the memory before step 3 (steps 3 to 8)
 unfoldable pub tag_in : Variant → Layout → List ℕ → List (List (List ℕ)) → ℕ → List ℕ
 tag_in v s h0 memory n =
     let filled = passes_filled v s (with_first_blocks h0 (lane_len s) memory s.lanes) s.passes in

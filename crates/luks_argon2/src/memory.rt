@@ -45,8 +45,8 @@ impl Memory {
 
     /// Writes zeros over all blocks. To be called before the memory is freed, which does not do so.
     ///
-    /// Returns `code`, which is any value that the caller uses afterwards: that keeps the compiler
-    /// from dropping the writes.
+    /// Returns `code`, a value that the compiler cannot know. The caller uses the result in its
+    /// place: that keeps the compiler from dropping the writes.
     pub fn wipe(&mut self, code: u64) -> u64
         ensures zeros { self.new ≡ replicate (length self.old) zero_block }
         ensures code { result ≡ code }

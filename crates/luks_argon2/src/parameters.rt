@@ -66,8 +66,8 @@ impl Parameters {
         lanes * (4 * (self.memory_kib as usize / (4 * lanes)))
     }
 
-    /// How many blocks all passes fill, those included that the first step writes: the work of a
-    /// derivation.
+    /// How many blocks all passes fill, those included that steps 3 and 4 write. Blocks of
+    /// addresses come on top, up to two for each block of a short segment.
     pub fn filled_blocks(self) -> u64
         ensures { result ≡ filled_blocks self.passes self.memory_kib self.lanes }
     {

@@ -1,8 +1,9 @@
 //! Writing over the memory that held what was derived from a password.
 //!
 //! A compiler may drop a write to memory that nothing reads afterwards. So a value that the caller
-//! needs is read together with one of the zeros; the compiler can know neither which one nor that
-//! it is a zero, so it has to write all of them.
+//! needs is read together with one of the zeros, in a call that is not inlined. That keeps today's
+//! compiler from dropping the writes, and promises nothing: one that looks into the call may keep
+//! only the zeros that can be read.
 //!
 //! Not wiped: what the processor's registers hold, copies of them that the kernel makes, the stack
 //! of a caller, and the caller's password, salt and tag.
@@ -12,8 +13,8 @@ ghost use Rattle.luks_argon2.specs.Block.{zero_block};
 
 use crate::block::Block;
 
-/// The bytes of stack that are written over after a derivation: more than it uses. No clause speaks
-/// of the stack.
+/// The bytes of stack that are written over after a derivation: more than it uses, by reading its
+/// code. No clause speaks of the stack.
 const STACK: usize = 32_768;
 
 // The byte, read together with one of the zeros.

@@ -1,4 +1,4 @@
--- Numbers as bytes, the least significant byte first (RFC 7693, section 2.4; RFC 9106, section 3.1, "LE32" and "LE64").
+-- Numbers as bytes, the least significant byte first (RFC 7693, section 2.4; RFC 9106, section 2, "LE32" and "LE64").
 use Rattle.std.specs.Prelude.{ℕ, ◌+◌, List, [], ◌∷◌, ◌++◌, slice_index}
 use Rattle.std.specs.Int.{from_le_bytes, to_le_bytes, w32, w64}
 

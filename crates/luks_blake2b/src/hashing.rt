@@ -104,7 +104,8 @@ impl Hasher {
         self.used += 1;
     }
 
-    /// Fills `out`, 1 to 64 bytes, with the digest of all that was absorbed.
+    /// Fills `out`, 1 to 64 bytes, with the digest of all that was absorbed. `out` has the length
+    /// that was given to `new`; with another one the result is no digest.
     pub fn finish(self, out: &mut [u8])
         requires some { 1 ≤ length out.old }
         requires capacity { length out.old ≤ 64 }

@@ -9,7 +9,7 @@ use std::process::Abort;
 
 // The variant; passes, KiB and lanes; password, salt and tag. The tags are those of Debian's
 // program argon2 (0~20171227), and libargon2 gives the same.
-static TAGS: [(Variant, [u32; 3], &str, &str, &str); 13] = [
+static TAGS: [(Variant, [u32; 3], &str, &str, &str); 15] = [
     (
         Variant::Argon2i,
         [1, 8, 1],
@@ -87,6 +87,20 @@ static TAGS: [(Variant, [u32; 3], &str, &str, &str); 13] = [
         "many addresses",
         "salt of words",
         "933e90cb50e0aa1fdf8569f6b3af93b828b3b9d647d8c3f0640c0b78054d0ae194",
+    ),
+    (
+        Variant::Argon2i,
+        [2, 1028, 1],
+        "many addresses",
+        "salt of words",
+        "3d5e2838670a54c1ebbc69e6904882dd4772bb7bf69c4da533564d17af7184c4",
+    ),
+    (
+        Variant::Argon2id,
+        [2, 1040, 2],
+        "many addresses",
+        "salt of words",
+        "69300b4a05c6f4580276ecd10d2d00538572af11a8ce2fbb3cbe828de9988f04",
     ),
     (
         Variant::Argon2id,
