@@ -25,8 +25,8 @@ pub trait ReadAt {
     fn len(&self) -> u64
         ensures { IfKnown (image self.now) (λ known. result ≡ length known) };
 
-    /// Fills the buffer with the bytes from this offset on. A read of no bytes does not fail. After
-    /// a fault the buffer may hold any bytes.
+    /// Fills the buffer with the bytes from this offset on. After a fault the buffer may hold any
+    /// bytes.
     fn read_at(&self, offset: u64, buf: &mut [u8]) -> Result<(), ReadAtFault>
         ensures bytes { OnOk result (IfKnown (image self.now)
             (λ known. IsAt known offset buf.new)) }
