@@ -15,7 +15,7 @@ from pathlib import Path
 import volumes
 from reported import dump_of, reported
 from support import NO_KEY, expect
-from volumes import copy_of, cryptsetup, passphrases, payload_start, slot_by_cryptsetup
+from volumes import copy_of, cryptsetup, passphrases, payload_start, slot_by_cryptsetup, with_own_uuid
 
 PLAIN = random.Random("plain").randbytes(303104)
 # whole sectors of 512 bytes, but not of 1024
@@ -171,7 +171,7 @@ def add_key(folder, options):
 
 def decrypted(folder, header):
     """What cryptsetup decrypts in a copy of the image, under a copy of this LUKS2 header."""
-    copy_of(folder / header, folder / "copied header")
+    with_own_uuid(copy_of(folder / header, folder / "copied header"))
     copy = copy_of(folder / "image", folder / "copy")
     cryptsetup("reencrypt --decrypt --force-offline-reencrypt --key-file pass --header",
                "copied header", copy, cwd=folder)

@@ -534,7 +534,7 @@ def test_damaged_key_area(cook, stock, luksrd):
 def reencrypting(stock, path):
     """A volume of which reencryption is under way."""
     volumes.passphrases(path.parent)
-    copy_of(stock("one_slot ext4"), path)
+    volumes.with_own_uuid(copy_of(stock("one_slot ext4"), path))
     if run("cryptsetup", "-q", "reencrypt", "--init-only", *QUICK.split(), "--key-file", "pass", path,
            cwd=path.parent).status:
         pytest.skip("cryptsetup does not begin to encrypt here")
