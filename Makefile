@@ -167,8 +167,8 @@ $(FILTER): nbdkit/filter.c nbdkit/below.c $(NBDKIT_PARTS) $(NBDKIT_HEADERS) $(SH
 	$(call link_nbdkit,$@,nbdkit/filter.c nbdkit/below.c $(NBDKIT_PARTS))
 
 out/nbdkit.version: FORCE
-	@mkdir -p out && pkg-config nbdkit --modversion >$@.new
-	@if cmp -s $@.new $@; then rm $@.new; else mv $@.new $@; fi
+	@mkdir -p out && pkg-config nbdkit --modversion >$@.$$$$ && \
+	    if cmp -s $@.$$$$ $@; then rm $@.$$$$; else mv $@.$$$$ $@; fi
 
 demo: toolchain
 	@tests/demo
