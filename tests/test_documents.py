@@ -285,6 +285,8 @@ CASES = {
     "a damaged header by the man page": Case(
         BACKUP, ["luksrd.1:Decrypt a volume whose header is damaged"], {"plain.img": "inside"}),
     "Argon2": Case(ARGON2_ALONE, ["README.md:Argon2 key slots only: add"], {"plain5.img": "inside"}),
+    "Argon2 by the recipes": Case(
+        ARGON2_ALONE, ["RECIPES.md:# Argon2 key slots only: add"], {"plain5.img": "inside", "copy": None}),
     "Argon2 by the man page": Case(
         ARGON2_ALONE, ["luksrd.1:Decrypt a LUKS2 volume that has key slots by Argon2"],
         {"plain.img": "inside"}),
