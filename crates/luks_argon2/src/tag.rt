@@ -1,7 +1,8 @@
 //! The tag, which is the derived key (RFC 9106, section 3.2).
 
-ghost use Rattle.std.specs.Prelude.{◌≡◌, ◌-◌, ◌*◌, ◌^◌, ◌≤◌, ◌<◌, length};
+ghost use Rattle.std.specs.Prelude.{◌≡◌, ◌-◌, ◌*◌, ◌^◌, ◌≤◌, ◌<◌, length, replicate};
 ghost use Rattle.luks_argon2.specs.Argon2.{argon2, last_column_xor, rows_bytes, tag_in};
+ghost use Rattle.luks_argon2.specs.Block.{zero_block};
 ghost use Rattle.luks_argon2.specs.Layout.{IsLayout, block_count};
 ghost use Rattle.luks_argon2.specs.Parameters.{memory_blocks};
 ghost use Rattle.luks_blake2b.specs.VariableLength.{variable_length_hash};
@@ -61,8 +62,8 @@ fn derive_in(variant: Variant, layout: Layout, h0: &[u8; 64], memory: &mut [Bloc
 /// Fills `tag`, 1 to 2^32 - 1 bytes, with the key that Argon2 derives from the password and the
 /// salt. The standard has tags of 4 bytes at least.
 ///
-/// The memory is that of these parameters. Whatever it held before, the tag is the same; afterwards
-/// it holds what was derived from the password, until it is wiped.
+/// The memory is that of these parameters. What it held of the password is written over, as is the
+/// stack.
 pub fn derive(
     variant: Variant,
     parameters: Parameters,
@@ -71,21 +72,22 @@ pub fn derive(
     salt: &[u8],
     tag: &mut [u8],
 )
-    requires memory { length memory.old
-        ≡ memory_blocks parameters.memory_kib parameters.lanes }
+    requires memory { memory.old ≡ memory_blocks parameters.memory_kib parameters.lanes }
     requires password { length password.now < 2 ^ 32 }
     requires salt { length salt.now < 2 ^ 32 }
     requires some { 1 ≤ length tag.old }
     requires capacity { length tag.old < 2 ^ 32 }
     ensures tag { tag.new ≡ argon2 variant password.now salt.now parameters.passes
         parameters.memory_kib parameters.lanes (length tag.old) }
-    ensures memory { length memory.new ≡ length memory.old }
+    ensures memory { memory.new ≡ memory.old }
 {
+    let count = memory.blocks.len();
     write_tag(variant, parameters, &mut memory.blocks, password, salt, tag);
-    tag[0] = wiped_after_tag(tag[0]);
+    tag[0] = wiped_after_tag(tag[0], count);
 }
 
-// The whole derivation. It is a call of its own, so that its stack can be written over.
+// The whole derivation. It is a call of its own, so that its stack can be written over, and so that
+// the compiler cannot drop the zeros, which the caller could read.
 #[inline(never)]
 fn write_tag(
     variant: Variant,
@@ -95,17 +97,18 @@ fn write_tag(
     salt: &[u8],
     tag: &mut [u8],
 )
-    requires memory { length memory.old
-        ≡ memory_blocks parameters.memory_kib parameters.lanes }
+    requires memory { memory.old
+        ≡ replicate (memory_blocks parameters.memory_kib parameters.lanes) zero_block }
     requires password { length password.now < 2 ^ 32 }
     requires salt { length salt.now < 2 ^ 32 }
     requires some { 1 ≤ length tag.old }
     requires capacity { length tag.old < 2 ^ 32 }
-    ensures { tag.new ≡ argon2 variant password.now salt.now parameters.passes
+    ensures memory { memory.new ≡ memory.old }
+    ensures tag { tag.new ≡ argon2 variant password.now salt.now parameters.passes
         parameters.memory_kib parameters.lanes (length tag.old) }
 {
     let layout = layout_of(parameters);
     let h0 = first_digest(variant, parameters, password, salt, tag.len() as u32);
-    clear(memory);
     derive_in(variant, layout, &h0, memory, tag);
+    clear(memory);
 }

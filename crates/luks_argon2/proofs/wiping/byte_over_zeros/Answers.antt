@@ -7,7 +7,7 @@ use Rattle.luks_argon2.proofs.wiping.byte_over_zeros.Goals as goal
 -- each of the zeros is 0
 pub returns : goal.returns
 returns c =
-    let zero : slice_index c.args.zeros.now (c.args.byte % c.args.len) ≡ 0 =
+    let zero : slice_index c.args.zeros.now (c.args.index % c.args.len) ≡ 0 =
     rw c.requires.wiped
-    (get_or-replicate c.args.len (c.args.byte % c.args.len) 0 0 (mod-lt c.args.byte c.requires.some)) in
+    (get_or-replicate c.args.len (c.args.index % c.args.len) 0 0 (mod-lt c.args.index c.requires.some)) in
     rw zero (or_zero_r c.args.byte)
