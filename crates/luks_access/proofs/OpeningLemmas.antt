@@ -1,11 +1,15 @@
 -- The outcome of opening a volume, compared with that of `luksCat`.
 use Rattle.std.proofs.Common.{◌≡◌, ℕ, List, Result, Ok, Err, ◌∙◌, ap, sym, refl, subst, ◌-◌, length, Bool, true, false}
-use Rattle.std.specs.Prelude.{nat_lt, if◌then◌else◌}
+use Rattle.std.proofs.Common.{Option, arith, take}
+use Rattle.std.proofs.lemmas.List.{take-take}
+use Rattle.std.specs.Prelude.{IfErr, nat_lt, if◌then◌else◌}
+use Rattle.luks_header_area.specs.Area.{max_loaded_len}
 use Rattle.luks_key_slots.specs.Fault.{aborts_opening}
 use Rattle.luks_key_slots.specs.declared.fault.PassphraseFault.{PassphraseFault}
 use Rattle.luks_key_slots.specs.declared.fault.PassphraseFault.TheVariants.{TooLong}
 use Rattle.luks_key_slots.specs.declared.fault.VolumeFault.{VolumeFault}
-use Rattle.luks_key_slots.specs.declared.fault.VolumeFault.TheVariants.{Passphrase}
+use Rattle.luks_key_slots.specs.declared.fault.OpenFault.TheVariants.{Memory}
+use Rattle.luks_key_slots.specs.declared.fault.VolumeFault.TheVariants.{Passphrase, Slots}
 use Rattle.luks_key_slots.specs.declared.opening.Opened.{Opened}
 use Rattle.luks_report.specs.Faults.{message_at_end}
 use Rattle.luks_report.specs.declared.message.Message.TheVariants.{Done}
@@ -14,8 +18,10 @@ use Rattle.luks_runs.specs.Location.{reader_for}
 use Rattle.luks_runs.specs.declared.location.HeaderLocation.{HeaderLocation}
 use Rattle.luks_runs.specs.declared.location.HeaderLocation.TheVariants.{Attached, Detached}
 use Rattle.luks_runs.proofs.HonestVolumes.{unsealed}
+use Rattle.luks_runs.proofs.PrefixLemmas.{opening_decided}
 use Rattle.luks_runs.proofs.VolumeLemmas.{message_says}
-use Rattle.luks_runs.specs.Volume.{OnOpened, OpeningMessage, opened_of, outcome_by, payload_outcome, volume_outcome_by}
+use Rattle.luks_runs.specs.Volume.{CanBeTried, OnOpened, OpeningMatches, OpeningMessage, VolumeOpening, opened_of}
+use Rattle.luks_runs.specs.Volume.{outcome_by, payload_outcome, volume_outcome_by}
 use Rattle.luks_runs.specs.declared.unlocked.UnlockedVolume.{UnlockedVolume}
 use Rattle.luks_verdict.specs.declared.segment.Segment.{Segment}
 use Rattle.luks_payload.proofs.SectorLemmas.{by_ending}
@@ -24,7 +30,7 @@ use Rattle.luks_payload.specs.declared.fault.PayloadFault.{PayloadFault}
 use Rattle.luks_payload.specs.declared.fault.PayloadFault.TheVariants.{CutBeforePayload as VolumeCutBeforePayload}
 use Rattle.luks_payload.specs.declared.state.Step.{Step}
 use Rattle.luks_payload.specs.declared.state.Step.TheVariants.{End}
-use Rattle.luks_access.specs.Opens.{HasPlaintext, Opens, OpensVolume, Refuses, RefusesVolume, cat_outcome_of}
+use Rattle.luks_access.specs.Opens.{EndsOpening, HasPlaintext, Opens, OpensVolume, Refuses, RefusesVolume, cat_outcome_of}
 use Rattle.luks_access.specs.Opens.{opening_with, payload_image_of}
 use Rattle.luks_access.specs.declared.options.Options.{Options}
 
@@ -74,7 +80,7 @@ ends_whole s image = by (nat_lt (length image) s.offset)
 
 -- ---- the statements about a volume that is opened, and about a refusal
 
-pub volume_opened : (options : Options) (image pass : List ℕ) (v : UnlockedVolume) → Opens options image pass v
+volume_opened : (options : Options) (image pass : List ℕ) (v : UnlockedVolume) → Opens options image pass v
     → OpensVolume options image pass v
 volume_opened options image pass v opens = record {
   opens = opens;
@@ -85,12 +91,14 @@ volume_opened options image pass v opens = record {
       (sym cat.0 ∙ sealed.0, ends_whole v.segment image (sym cat.1 ∙ sealed.1));
 }
 
-pub volume_refused : (options : Options) (image pass : List ℕ) (fault : VolumeFault)
+volume_refused : (options : Options) (image pass : List ℕ) (fault : VolumeFault)
     → (aborts_opening fault ≡ false → Refuses options image pass fault)
+    → (fault ≡ Slots Memory → CanBeTried (opening_with options image pass).result)
     → ((passphrase : PassphraseFault) → fault ≡ Passphrase passphrase → passphrase ≡ TooLong)
     → RefusesVolume options image pass fault
-volume_refused options image pass fault refuses only_long = record {
+volume_refused options image pass fault refuses memory only_long = record {
   refuses = refuses;
+  memory = memory;
   only_long = only_long;
   no_honest = λ plain attached never honest.
       let refused = rw attached at
@@ -99,3 +107,41 @@ volume_refused options image pass fault refuses only_long = record {
       let done = sym (ap (λ (out : Outcome). out.message) refused) ∙ sealed.1 in
       subst OpeningMessage done (message_says fault).opening;
 }
+
+-- opening a volume ended as specified, or was aborted
+pub ends_opening : (options : Options) (image pass : List ℕ) (result : Result UnlockedVolume VolumeFault)
+    (left : Option (List ℕ)) → OpeningMatches (opening_with options image pass) image result left
+    → IfErr result (λ fault. (passphrase : PassphraseFault) → fault ≡ Passphrase passphrase → passphrase ≡ TooLong)
+    → EndsOpening options image pass result left
+ends_opening options image pass (Ok v) left ends only_long = record {
+  opens = volume_opened options image pass v (sym (ends.answer refl));
+  refuses = tt;
+  consumes = ends.consumed;
+}
+ends_opening options image pass (Err fault) left ends only_long = record {
+  opens = tt;
+  refuses = volume_refused options image pass fault (λ never. sym (ends.answer never)) (λ is. ends.memory (ap Err is))
+      only_long;
+  consumes = ends.consumed;
+}
+
+-- ---- the first bytes of an image, which decide how it is opened
+
+module _ (options : Options) (image pass : List ℕ) where
+  same_at_start : opening_with options (take max_loaded_len image) pass ≡ opening_with options image pass
+  same_at_start =
+      opening_decided options.location options.slots (take max_loaded_len image) image pass
+      (take-take max_loaded_len max_loaded_len image (omega arith))
+
+  pub opened_at_start : (v : UnlockedVolume) → OpensVolume options (take max_loaded_len image) pass v
+      → OpensVolume options image pass v
+  opened_at_start v opened =
+      volume_opened options image pass v (sym (ap (λ (o : VolumeOpening). o.result) same_at_start) ∙ opened.opens)
+
+  pub refused_at_start : (fault : VolumeFault) → RefusesVolume options (take max_loaded_len image) pass fault
+      → RefusesVolume options image pass fault
+  refused_at_start fault refused =
+      volume_refused options image pass fault
+      (λ never. sym (ap (λ (o : VolumeOpening). o.result) same_at_start) ∙ refused.refuses never)
+      (λ ran_out. subst (λ (o : VolumeOpening). CanBeTried o.result) same_at_start (refused.memory ran_out))
+      refused.only_long

@@ -1,7 +1,8 @@
 -- Which volume is opened, compared with `luksCat`.
-use Rattle.std.specs.Prelude.{ℕ, ◌≡◌, List, Ok, false, Option, Result, Err}
+use Rattle.std.specs.Prelude.{ℕ, ◌≡◌, List, Ok, IfErr, IfOk, false, Option, Result, Err}
 use Rattle.luks_cipher.specs.Sector.{Cipher}
 use Rattle.luks_key_slots.specs.Fault.{aborts_opening, has_fault}
+use Rattle.luks_key_slots.specs.declared.fault.OpenFault.TheVariants.{Memory}
 use Rattle.luks_key_slots.specs.declared.fault.PassphraseFault.{PassphraseFault}
 use Rattle.luks_key_slots.specs.declared.fault.PassphraseFault.TheVariants.{TooLong}
 use Rattle.luks_key_slots.specs.declared.fault.VolumeFault.{VolumeFault}
@@ -13,7 +14,7 @@ use Rattle.luks_runs.specs.Location.{detached_header_of, reader_for}
 use Rattle.luks_runs.specs.declared.location.HeaderLocation.{HeaderLocation}
 use Rattle.luks_runs.specs.declared.location.HeaderLocation.TheVariants.{Attached, Detached}
 use Rattle.luks_runs.specs.Honest.{OpensHonest}
-use Rattle.luks_runs.specs.Volume.{ConsumedUnless, VolumeOpening, opened_of, payload_outcome, volume_opening_by}
+use Rattle.luks_runs.specs.Volume.{CanBeTried, ConsumedUnless, VolumeOpening, opened_of, payload_outcome, volume_opening_by}
 use Rattle.luks_runs.specs.Volume.{volume_outcome, volume_outcome_by}
 use Rattle.luks_runs.specs.declared.unlocked.UnlockedVolume.{UnlockedVolume}
 use Rattle.luks_payload.specs.Plain.{ending_of, plain_of}
@@ -39,12 +40,6 @@ Opens options header pass v = (opening_with options header pass).result ≡ Ok (
 -- every such command reports this fault and writes nothing
 abbrev pub Refuses : Options → List ℕ → List ℕ → VolumeFault → Type 0
 Refuses options header pass fault = (opening_with options header pass).result ≡ Err fault
-
--- opening ended in this way: it consumed as many bytes as every such command consumes to open the volume, or no more
--- than these if a read failed or memory ran out
-abbrev pub ConsumesToOpen : {T : Type 0} → Options → List ℕ → List ℕ → Result T VolumeFault → Option (List ℕ) → Type 0
-ConsumesToOpen options header pass result left =
-    ConsumedUnless (has_fault aborts_opening result) header left (opening_with options header pass).consumed
 
 -- the image of the payload: the one that the header is attached to, or another
 abbrev pub payload_image_of : HeaderLocation → List ℕ → List ℕ → List ℕ
@@ -73,10 +68,21 @@ pub record OpensVolume (options : Options) (header pass : List ℕ) (v : Unlocke
       → (plaintext_of v header ≡ plain) × (ending_of v.segment header ≡ Ok End)
 
 -- no volume was opened. Unless memory ran out or a read failed, every command ends with this fault (`refuses`), and the
--- image is no honestly sealed volume, with an attached header, that this passphrase opens (`no_honest`)
+-- image is no honestly sealed volume, with an attached header, that this passphrase opens (`no_honest`). Memory for the
+-- key slots runs out only if some can be tried (`memory`)
 pub record RefusesVolume (options : Options) (header pass : List ℕ) (fault : VolumeFault) : Type 0 where
   pub refuses : aborts_opening fault ≡ false → Refuses options header pass fault
+  pub memory : fault ≡ V.Slots Memory → CanBeTried (opening_with options header pass).result
   -- the passphrase is there and is not read: it can only be too long
   pub only_long : (passphrase : PassphraseFault) → fault ≡ V.Passphrase passphrase → passphrase ≡ TooLong
   pub no_honest : (plain : List ℕ) → options.location ≡ Attached → aborts_opening fault ≡ false
       → OpensHonest options.slots header pass plain → ⊥
+
+-- what opening a volume answers, and what it leaves of the bytes of its source: it consumed as many bytes as every such
+-- command consumes to open the volume, or no more than these if a read failed or memory ran out
+pub record EndsOpening (options : Options) (header pass : List ℕ) (result : Result UnlockedVolume VolumeFault)
+    (left : Option (List ℕ)) : Type 0 where
+  pub opens : IfOk result (OpensVolume options header pass)
+  pub refuses : IfErr result (RefusesVolume options header pass)
+  pub consumes
+      : ConsumedUnless (has_fault aborts_opening result) header left (opening_with options header pass).consumed

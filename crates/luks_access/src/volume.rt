@@ -2,14 +2,14 @@
 
 ghost use Rattle.std.specs.Prelude.{◌≡◌, ◌≢◌, ◌+◌, ◌-◌, ◌%◌, ◌^◌, ◌<◌};
 ghost use Rattle.std.specs.Prelude.{◌≤◌, Bool, List, ℕ, Err};
-ghost use Rattle.std.specs.Prelude.{IfErr, IfOk, OnOk, length, replicate};
+ghost use Rattle.std.specs.Prelude.{IfErr, IfOk, OnOk, length, replicate, true};
 ghost use Rattle.luks_cipher.specs.Expanded.{AreExpanded};
 ghost use Rattle.luks_io.specs.Counts.{Reads};
 ghost use Rattle.luks_io.specs.Devices.{IfKnown};
 ghost use Rattle.luks_key_slots.specs.Fault.{has_fault, is_read_failure};
 ghost use Rattle.luks_payload.specs.Plain.{ending_of, sector_len};
-ghost use Rattle.luks_access.specs.Sectors.{FailsInRange, IsRangeOf};
-ghost use Rattle.luks_access.specs.Opens.{ConsumesToOpen, OpensVolume, RefusesVolume};
+ghost use Rattle.luks_access.specs.Sectors.{FailsAtStart, FailsInRange, IsRangeOf};
+ghost use Rattle.luks_access.specs.Opens.{EndsOpening, OpensVolume, RefusesVolume};
 ghost use Rattle.luks_access.specs.Opens.{plaintext_of};
 
 use crate::fault::RangeFault;
@@ -17,7 +17,7 @@ use crate::image::ReadAt;
 use crate::options::Options;
 use crate::range::Plaintext;
 use crate::sectors::{payload_ending, plaintext_len};
-use crate::source::ImageSource;
+use crate::source::{FailedRead, StartSource};
 use crate::step::is_within;
 use luks_cipher::ExpandedKeys;
 use luks_header::segment::Segment;
@@ -30,7 +30,7 @@ use luks_runs::found::find_volume;
 use luks_runs::trying::try_slots;
 use luks_runs::unlocked::UnlockedVolume;
 use std::alloc::Global;
-use std::marker::Model;
+use std::marker::{Brand, Model};
 
 /// The length of the longest passphrase in bytes, which is also that of the longest key file.
 pub const MAX_PASSPHRASE_LEN: usize = 8_388_608;
@@ -67,11 +67,7 @@ impl Volume {
         source: &mut S,
         pass: &[u8],
     ) -> Result<Volume, VolumeFault>
-        ensures opens { IfOk result (λ volume. IfKnown (S.to_come source.old)
-            (λ known. OpensVolume options.now known pass.now volume)) }
-        ensures refuses { IfErr result (λ fault. IfKnown (S.to_come source.old)
-            (λ known. RefusesVolume options.now known pass.now fault)) }
-        ensures consumes { IfKnown (S.to_come source.old) (λ known. ConsumesToOpen options.now known
+        ensures answers { IfKnown (S.to_come source.old) (λ known. EndsOpening options.now known
             pass.now result (S.to_come source.new)) }
         ensures reads { (ended : Bool) × Reads (has_fault is_read_failure result) ended
             (S.counts source.old) (S.counts source.new) }
@@ -86,19 +82,24 @@ impl Volume {
     }
 
     /// Opens a volume by a passphrase, as [`Volume::open_from`] does, from its image or its
-    /// detached header.
+    /// detached header. At most the first 33,554,432 bytes of it are read.
+    ///
+    /// A failed read is reported only if a read of one of these bytes fails, or if the image has
+    /// become shorter.
     pub fn open<I: ReadAt>(
         alloc: Global,
         options: &Options,
         image: &I,
         pass: &[u8],
     ) -> Result<Volume, VolumeFault>
-        ensures opens { IfOk result (λ volume. IfKnown (I.image image.now)
-            (λ known. OpensVolume options.now known pass.now volume)) }
-        ensures refuses { IfErr result (λ fault. IfKnown (I.image image.now)
-            (λ known. RefusesVolume options.now known pass.now fault)) }
+        ensures opens { IfKnown (I.image image.now)
+            (λ known. IfOk result (OpensVolume options.now known pass.now)) }
+        ensures refuses { IfKnown (I.image image.now)
+            (λ known. IfErr result (RefusesVolume options.now known pass.now)) }
+        ensures failed { has_fault is_read_failure result ≡ true
+            → FailsAtStart (I.image image.now) (I.fails image.now) }
     {
-        Volume::open_from(alloc, options, &mut ImageSource::new(image), pass)
+        open_start::<I, Brand>(alloc, options, image, pass)
     }
 
     /// The segment: where the payload is in its image.
@@ -194,4 +195,23 @@ impl Volume {
         }
         answer
     }
+}
+
+/// Opens a volume from the start of its image or its detached header. `B` says whether a read of it
+/// may fail.
+fn open_start<I: ReadAt, B: FailedRead>(
+    alloc: Global,
+    options: &Options,
+    image: &I,
+    pass: &[u8],
+) -> Result<Volume, VolumeFault>
+    requires { FailsAtStart (I.image image.now) (I.fails image.now) → B.may_fail ≡ true }
+    ensures opens { IfKnown (I.image image.now)
+        (λ known. IfOk result (OpensVolume options.now known pass.now)) }
+    ensures refuses { IfKnown (I.image image.now)
+        (λ known. IfErr result (RefusesVolume options.now known pass.now)) }
+    ensures failed { has_fault is_read_failure result ≡ true → B.may_fail ≡ true }
+{
+    let mut source = StartSource::<I, B>::new(image);
+    Volume::open_from(alloc, options, &mut source, pass)
 }

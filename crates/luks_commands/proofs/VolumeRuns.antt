@@ -5,7 +5,6 @@ use Rattle.std.specs.Prelude.{MatchBool}
 use Rattle.std.specs.Result.{result_map_both}
 use Rattle.std.proofs.Math.Nat.{zero-div}
 use Rattle.luks_header.specs.Header.{header_read_len, header_of}
-use Rattle.luks_header.specs.declared.header.Header.{Header}
 use Rattle.luks_header.proofs.KnownLemmas.{is_attached}
 use Rattle.luks_verdict.specs.declared.segment.Segment.{Segment}
 use Rattle.luks_key_slots.proofs.CallerLemmas.{key_areas_before_payload}
@@ -27,12 +26,12 @@ use Rattle.luks_runs.proofs.RunLemmas.{aborted_unwritten}
 use Rattle.luks_runs.proofs.OpeningLemmas.{area_within, consumed_all, found_within, is_volume, opening_consumed}
 use Rattle.luks_runs.proofs.OpeningLemmas.{opening_found_is, opening_is, opens_unfound}
 use Rattle.luks_runs.proofs.OpeningLemmas.{counts_of_trials, loaded_as, opens_as, opens_unread}
-use Rattle.luks_runs.proofs.VolumeLemmas.{aborted_untried, message_says}
+use Rattle.luks_runs.proofs.VolumeLemmas.{aborted_untried, message_says, volume_with}
 use Rattle.luks_runs.specs.KeyFile.{NoKeyFileRead, max_key_file_len}
 use Rattle.luks_runs.specs.Location.{HeaderReader, reader_for}
 use Rattle.luks_runs.specs.Run.{Aborted, Completed, ConsumedNothing, IsPrefixLen}
 use Rattle.luks_runs.specs.Volume.{ConsumedUnless, ConsumesMaterial, CountsTrials, FindsNoVolume, FoundIn}
-use Rattle.luks_runs.specs.Volume.{HasSegmentBy, OpeningMatches, OpeningMessage, TriesSlots, Volume, VolumeOpening}
+use Rattle.luks_runs.specs.Volume.{HasSegmentBy, OpeningMatches, OpeningMessage, TriesSlots, VolumeOpening}
 use Rattle.luks_runs.specs.Volume.{described, ends_untried, opened_of}
 use Rattle.luks_runs.specs.Volume.{opening_after, outcome_after, outcome_by, volume_by, volume_opening_by}
 use Rattle.luks_runs.specs.Volume.{unlock_read_len, volume_outcome_by}
@@ -75,10 +74,6 @@ prompt_early segment header_len ReadFailed consumed few = λ is_past_header. eli
 ]
 prompt_early segment header_len WriteFailed consumed few = omega arith
 prompt_early segment header_len _ consumed few = tt
-
--- the volume with this header, this segment and this order
-abbrev volume_with : Header → Segment → OrderModel → Volume
-volume_with header segment order = record { header = header; segment = segment; order = order }
 
 -- opening a volume with an attached header consumes nothing past the header's end or the payload's start
 before_payload : (slots : SlotChoice) (image pass : List ℕ) (segment : Segment) → HasSegmentBy header_of image segment

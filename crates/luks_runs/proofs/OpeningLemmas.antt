@@ -1,7 +1,8 @@
 -- How opening the volume of an image ends, and what trying its key slots consumes and counts.
 use Rattle.std.proofs.Common.{◌≡◌, ◌∙◌, ℕ, ◌⊎◌, inl, inr, List, [], Option, Some, Ok, Err, true, false, ap, refl}
 use Rattle.std.proofs.Common.{Bool, min, sym, length, arith, ◌+◌, ◌<◌, ◌≤◌, ◌++◌, Result, take, drop}
-use Rattle.std.proofs.Common.{length-append, length-take-le, subst}
+use Rattle.std.proofs.Common.{length-append, length-take-le, subst, None}
+use Rattle.std.specs.Prelude.{IsOk, ok_or}
 use Rattle.std.proofs.lemmas.Bool.{cases_lt, le-ltb, lt-ltb}
 use Rattle.std.proofs.lemmas.List.{length-take, take-append-drop}
 use Rattle.std.proofs.Math.Seq.{take-append_seam}
@@ -12,8 +13,9 @@ use Rattle.luks_header_area.specs.declared.fault.HeaderFault.TheVariants.{Read a
 use Rattle.luks_verdict.specs.declared.segment.Segment.{Segment}
 use Rattle.luks_header.specs.Header.{header_read_len}
 use Rattle.luks_header.proofs.LoadingLemmas.{start_consumed}
-use Rattle.luks_key_slots.specs.Opening.{key_material_end, opening_of, work_of}
+use Rattle.luks_key_slots.specs.Opening.{first_opening, key_material_end, opening_of, work_of}
 use Rattle.luks_key_slots.specs.declared.fault.OpenFault.{OpenFault}
+use Rattle.luks_key_slots.specs.declared.fault.OpenFault.TheVariants.{Memory, NoKey}
 use Rattle.luks_key_slots.specs.Fault.{aborts_opening, has_fault, is_untried}
 use Rattle.luks_kdf.specs.Pbkdf2.{capped}
 use Rattle.std.specs.Result.{result_map_both}
@@ -33,7 +35,7 @@ use Rattle.luks_runs.specs.KeyFile.{NoKeyFileRead, max_key_file_len}
 use Rattle.luks_runs.specs.Volume.{FindsNoVolume, OnOpened, volume_by}
 use Rattle.luks_runs.specs.Volume.{ConsumesLoaded, Volume, VolumeOpening, opening_found, opening_tried, slot_outcome}
 use Rattle.luks_runs.specs.Volume.{unlock_read_len, volume_opening_by, outcome_after, outcome_by, opening_after}
-use Rattle.luks_runs.specs.Volume.{ConsumedUnless, ConsumesMaterial, CountsTrials, FoundIn, IsLoaded, OpeningMatches}
+use Rattle.luks_runs.specs.Volume.{CanBeTried, ConsumedUnless, ConsumesMaterial, CountsTrials, FoundIn, IsLoaded, OpeningMatches}
 use Rattle.luks_runs.specs.Volume.{TriesSlots, described, opened_of, opened_result}
 use Rattle.luks_runs.specs.declared.unlocked.UnlockedVolume.{UnlockedVolume}
 use Rattle.luks_key_slots.specs.declared.fault.PassphraseFault.{PassphraseFault}
@@ -93,6 +95,23 @@ module _ (v : Volume) (image secret : List ℕ) where
         let all = area_within short in
         (omega (arith, all.0, header_read_len_within image), all.1, omega (arith, all.2))
   ]
+
+-- the key slots of a volume can be tried
+pub found_tried : (v : Volume) (image secret : List ℕ) → CanBeTried (opening_found v image secret).result
+unfolding opening_of
+found_tried v image secret = elim (cases_lt max_key_file_len (length secret)) [
+  | inl long ↦ rw (found_long v image secret long) tt
+  | inr short ↦ elim (cases_lt (length image) (key_material_end v.order.entries)) [
+    | inl few ↦ rw (found_cut v image secret short few) tt
+    | inr enough ↦ rw (found_whole v image secret short enough) (tried (first_opening v.order.entries image secret))
+  ]
+]
+  where
+    tried : (r : Option Opened)
+        → CanBeTried {T = Segment × Opened}
+        (result_map_both (λ opened. (v.segment, opened)) Slots (ok_or r (NoKey v.order.skipped)))
+    tried (Some opened) = tt
+    tried None = tt
 
 pub slot_consumes_loaded : (secret : List ℕ) → ConsumesLoaded secret (slot_outcome secret)
 slot_consumes_loaded secret =
@@ -163,11 +182,21 @@ module _ (location : HeaderLocation) (slots : SlotChoice) (image pass : List ℕ
       )
       by (Err fault) = (omega arith, omega arith)
 
+  -- the key slots of the image's volume can be tried, if it has one
+  tried_if_found : IsOk (volume_by (reader_for location) slots image) → CanBeTried opening.result
+  unfolding volume_opening_by
+  tried_if_found = by (volume_by (reader_for location) slots image)
+    where
+      by : (r : Result Volume VolumeFault) → IsOk r → CanBeTried (opening_after image pass r).result
+      by (Ok v) there = found_tried v image pass
+      by (Err _) there = absurd cc
+
   -- no volume was found
   pub opens_unfound : (fault : VolumeFault) (left : Option (List ℕ))
       → FindsNoVolume (reader_for location) slots image left fault → OpeningMatches opening image (Err fault) left
   opens_unfound fault left finds = record {
     answer = λ never. sym (ap (λ (o : VolumeOpening). o.result) (opening_is (Err fault) (finds.none never)));
+    memory = λ is. let same : fault ≡ Slots Memory = cc in tried_if_found (finds.memory same);
     consumed = by (aborts_opening fault)
         (λ never. ap (λ (o : VolumeOpening). o.consumed) (opening_is (Err fault) (finds.none never))) finds.consumed;
   }
@@ -193,17 +222,17 @@ module _ (location : HeaderLocation) (slots : SlotChoice) (image pass : List ℕ
         × ConsumedUnless (aborts_opening (Passphrase fault)) pass secret' opening.secret_consumed
     opens_unread secret' TooLong stop =
         rw (opening_found_is ∙ found_long (described volume) image pass stop.0)
-        (record { answer = λ never. refl; consumed = found.consumed }, stop.1)
+        (record { answer = λ never. refl; memory = λ is. tt; consumed = found.consumed }, stop.1)
     opens_unread secret' PassphraseMemory stop =
         let within = found_within (described volume) image pass in
         rw opening_found_is (
-          record { answer = λ never. absurd cc; consumed = (_, within.0, found.consumed) },
+          record { answer = λ never. absurd cc; memory = λ is. absurd cc; consumed = (_, within.0, found.consumed) },
           (stop.0, omega (arith, stop.1, within.2), stop.2),
         )
     opens_unread secret' PassphraseRead stop =
         let within = found_within (described volume) image pass in
         rw opening_found_is (
-          record { answer = λ never. absurd cc; consumed = (_, within.0, found.consumed) },
+          record { answer = λ never. absurd cc; memory = λ is. absurd cc; consumed = (_, within.0, found.consumed) },
           (stop.0, omega (arith, stop.1, within.2), stop.2),
         )
 
@@ -231,6 +260,7 @@ module _ (location : HeaderLocation) (slots : SlotChoice) (image pass : List ℕ
             let all = start_consumed image area' i start in
             rw opening_found_is (record {
               answer = λ never. absurd cc;
+              memory = λ is. absurd cc;
               consumed = rw aborted (length area', omega (arith, few, within.0, all.within), all);
             })
 
@@ -238,7 +268,7 @@ module _ (location : HeaderLocation) (slots : SlotChoice) (image pass : List ℕ
         opens_cut cut =
             let all = area_whole image area' i start (consumes.cut cut _ found.consumed.left found.ended) in
             rw (opening_found_is ∙ found_cut (described volume) image pass short (omega (arith, all.0, few)))
-            (record { answer = λ never. refl; consumed = all.1 })
+            (record { answer = λ never. refl; memory = λ is. tt; consumed = all.1 })
 
       -- all of it was loaded
       module _ (enough : areas_end ≤ length area') where
@@ -266,9 +296,13 @@ module _ (location : HeaderLocation) (slots : SlotChoice) (image pass : List ℕ
             let whole : opening_of volume.order image pass ≡ r =
             sym (opening_prefix volume.order (unlock_read_len image (described volume)) image pass (omega arith))
             ∙ ap (λ (bytes : List ℕ). opening_of volume.order bytes pass) (sym all.0) ∙ opens in
-            rw (opening_found_is ∙ found_whole (described volume) image pass short long) (record {
+            let as_tried = opening_found_is ∙ found_whole (described volume) image pass short long in
+            let can = subst (λ (o : VolumeOpening). CanBeTried o.result) as_tried (tried_if_found (rw is_volume refl))
+            in
+            rw as_tried (record {
               answer = λ never. is
                   ∙ ap (result_map_both (λ opened. (volume.segment, opened)) Slots) (sym whole);
+              memory = λ ran_out. can;
               consumed = consumed_all (has_fault aborts_opening tried) image i _ all.1;
             })
 

@@ -1,7 +1,8 @@
 -- Finding the volume of an image, the messages for the faults of opening it, and counts of its reads.
 use Rattle.std.proofs.Common.{◌≡◌, ◌∙◌, ℕ, ◌⊎◌, inl, inr, List, [], Option, Some, Ok, Err, true, false, ap, refl}
 use Rattle.std.proofs.Common.{Bool, sym, arith}
-use Rattle.std.specs.Prelude.{is_err}
+use Rattle.std.specs.Prelude.{IsOk, Result, is_err}
+use Rattle.std.specs.Result.{result_map_both}
 use Rattle.luks_io.proofs.EffectLemmas.{reads_more}
 use Rattle.luks_io.specs.Counts.{Reads}
 use Rattle.luks_io.specs.Devices.{ConsumedExactly, counted}
@@ -32,7 +33,7 @@ use Rattle.luks_runs.proofs.RunLemmas.{reading_fault}
 use Rattle.luks_runs.specs.Run.{aborts, is_run_read_failure}
 use Rattle.luks_runs.specs.Location.{LoadedFrom, reader_for}
 use Rattle.luks_runs.specs.declared.location.HeaderLocation.{HeaderLocation}
-use Rattle.luks_runs.specs.Volume.{FindsNoVolume, FindsVolume, OpeningMessage, ends_untried, volume_by}
+use Rattle.luks_runs.specs.Volume.{FindsNoVolume, FindsVolume, OpeningMessage, Volume, ends_untried, volume_by}
 use Rattle.luks_runs.specs.declared.found.FoundVolume.{FoundVolume}
 
 -- no bytes remain of an image on which EOF was hit
@@ -100,16 +101,27 @@ reads_within failed false a b c first kept next = reads_more failed false a b c 
 
 -- ---- the header of an image
 
+-- the volume with this header, this segment and this order
+abbrev pub volume_with : Header → Segment → OrderModel → Volume
+volume_with header segment order = record { header = header; segment = segment; order = order }
+
 module _ (location : HeaderLocation) (slots : SlotChoice) (image : List ℕ) (left : Option (List ℕ)) where
   -- if there is no header, or reading it was aborted, no volume is found
   pub aborts_without_header : (ends ends' : ℕ) (fault : HeaderFault) → ReadsNoHeader image left ends ends' fault
       → FindsNoVolume (reader_for location) slots image left (HeaderNotRead fault)
   unfolding volume_by
-  aborts_without_header ends ends' HeaderRead stop = record { none = λ never. absurd cc; consumed = stop.0 }
-  aborts_without_header ends ends' HeaderMemory stop =
-      record { none = λ never. absurd cc; consumed = memory_below image left ends ends' stop }
-  aborts_without_header ends ends' fault stop =
-      record { none = λ never. rw (reading_fault location image fault stop.0) refl; consumed = stop.1.0 }
+  aborts_without_header ends ends' HeaderRead stop =
+      record { none = λ never. absurd cc; memory = λ is. absurd cc; consumed = stop.0 }
+  aborts_without_header ends ends' HeaderMemory stop = record {
+    none = λ never. absurd cc;
+    memory = λ is. absurd cc;
+    consumed = memory_below image left ends ends' stop;
+  }
+  aborts_without_header ends ends' fault stop = record {
+    none = λ never. rw (reading_fault location image fault stop.0) refl;
+    memory = λ is. absurd cc;
+    consumed = stop.1.0;
+  }
 
   module _ (header : Header) (found : reader_for location image ≡ Ok header)
       (rest : ConsumedExactly image left (header_read_len image)) where
@@ -117,18 +129,28 @@ module _ (location : HeaderLocation) (slots : SlotChoice) (image : List ℕ) (le
     pub aborts_without_segment : (fault : SegmentFault) → segment_of header ≡ Err fault
         → FindsNoVolume (reader_for location) slots image left (SegmentRefused fault)
     unfolding volume_by
-    aborts_without_segment fault is = record { none = λ never. rw (found, is) refl; consumed = rest }
+    aborts_without_segment fault is =
+        record { none = λ never. rw (found, is) refl; memory = λ is. absurd cc; consumed = rest }
 
     -- if there is no order of its key slots, or memory for that ran out, no volume is found
     pub aborts_without_order : (segment : Segment) → segment_of header ≡ Ok segment → (fault : OpenFault)
         → (fault ≡ Memory) ⊎ (order_of header slots.named slots.max_iterations ≡ Err fault)
+        → (fault ≡ Memory → IsOk (order_of header slots.named slots.max_iterations))
         → FindsNoVolume (reader_for location) slots image left (Slots fault)
     unfolding volume_by
-    aborts_without_order segment is Memory why =
-        record { none = λ never. absurd cc; consumed = (header_read_len image, omega arith, rest) }
-    aborts_without_order segment is _ (inl memory) = cc
-    aborts_without_order segment is _ (inr none) =
-        record { none = λ never. rw (found, is, none) refl; consumed = rest }
+    aborts_without_order segment is Memory why ordered = record {
+      none = λ never. absurd cc;
+      memory = λ same. rw (found, is) (in_order (order_of header slots.named slots.max_iterations) (ordered refl));
+      consumed = (header_read_len image, omega arith, rest);
+    }
+      where
+        in_order : (r : Result OrderModel OpenFault) → IsOk r
+            → IsOk (result_map_both (volume_with header segment) Slots r)
+        in_order (Ok order) there = refl
+        in_order (Err _) there = absurd cc
+    aborts_without_order segment is _ (inl memory) ordered = cc
+    aborts_without_order segment is _ (inr none) ordered =
+        record { none = λ never. rw (found, is, none) refl; memory = λ same. absurd cc; consumed = rest }
 
 -- the header of an image, its segment and its order make its volume
 pub volume_is : (location : HeaderLocation) (slots : SlotChoice) (image : List ℕ) (header : Header) (segment : Segment)

@@ -1,7 +1,7 @@
 -- The outcomes of the commands that open volumes: first the volume that an image's header describes, then how opening
 -- it ends, then the outcome of a run. Then what finding a volume and trying its key slots leave in the device.
 use Rattle.std.specs.Prelude.{ℕ, ◌+◌, List, length, max, nat_lt, if◌then◌else◌, Option, Result, Ok, Err, ◌≡◌, take}
-use Rattle.std.specs.Prelude.{◌<◌, ◌≤◌, ◌⊎◌, Some, Bool, false, true, MatchBool, drop, []}
+use Rattle.std.specs.Prelude.{◌<◌, ◌≤◌, ◌⊎◌, Some, IsOk, Bool, false, true, MatchBool, drop, []}
 use Rattle.std.specs.Result.{result_map_both}
 use Rattle.luks_header.specs.Header.{header_read_len, header_of}
 use Rattle.luks_header.specs.HeaderSegment.{segment_of}
@@ -12,6 +12,7 @@ use Rattle.luks_header_area.specs.declared.fault.HeaderFault.TheVariants.{Read a
 use Rattle.luks_verdict.specs.declared.refusal.SegmentFault.{SegmentFault}
 use Rattle.luks_verdict.specs.declared.segment.Segment.{Segment}
 use Rattle.luks_key_slots.specs.Opening.{OrderModel, key_material_end, order_of, opening_of, work_of}
+use Rattle.luks_key_slots.specs.declared.fault.OpenFault.TheVariants.{Memory, NoKey as NoOpening}
 use Rattle.luks_key_slots.specs.declared.fault.PassphraseFault.{PassphraseFault}
 use Rattle.luks_key_slots.specs.declared.fault.PassphraseFault.TheVariants.{TooLong}
 use Rattle.luks_key_slots.specs.declared.fault.VolumeFault.{VolumeFault}
@@ -138,6 +139,14 @@ pub record VolumeOpening : Type 0 where
   pub consumed : ℕ
   pub secret_consumed : ℕ
 
+-- key slots can be tried: opening ends with a volume, or with a fault that comes only if there are such key slots
+abbrev pub CanBeTried : {T : Type 0} → Result T VolumeFault → Type 0
+CanBeTried (Ok _) = Unit {0}
+CanBeTried (Err (V.Passphrase _)) = Unit {0}
+CanBeTried (Err V.KeyAreaCut) = Unit {0}
+CanBeTried (Err (V.Slots (NoOpening _))) = Unit {0}
+CanBeTried _ = ⊥
+
 -- all key areas are loaded, and the key slots are tried
 abbrev pub opening_tried : Volume → List ℕ → List ℕ → VolumeOpening
 opening_tried volume image secret = record {
@@ -200,10 +209,11 @@ ConsumedUnless aborted known left count =
     MatchBool aborted (ConsumedAtMost known left count) (ConsumedExactly known left count)
 
 -- no volume whose header is read in this way was found, for this reason: a read failed, memory ran out, or the image
--- has none. No passphrase and no key area is read for that
+-- has none. No passphrase and no key area is read for that. Memory for key slots runs out only if some can be tried
 pub record FindsNoVolume (read : HeaderReader) (slots : SlotChoice) (image : List ℕ) (left : Option (List ℕ))
     (fault : VolumeFault) : Type 0 where
   pub none : aborts_opening fault ≡ false → volume_by read slots image ≡ Err fault
+  pub memory : fault ≡ V.Slots Memory → IsOk (volume_by read slots image)
   pub consumed : ConsumedUnless (aborts_opening fault) image left (header_read_len image)
 
 -- a volume has the segment of its header, and the order of its header's key slots
@@ -249,10 +259,12 @@ abbrev pub opened_result : Result UnlockedVolume VolumeFault → Result (Segment
 opened_result (Ok volume) = Ok (volume.segment, opened_of volume)
 opened_result (Err fault) = Err fault
 
--- opening a volume ended as specified, with as many bytes of its image consumed, or was aborted
+-- opening a volume ended as specified, with as many bytes of its image consumed, or was aborted. Memory for key slots
+-- runs out only if some can be tried
 pub record OpeningMatches (opening : VolumeOpening) (image : List ℕ) (result : Result UnlockedVolume VolumeFault)
     (left : Option (List ℕ)) : Type 0 where
   pub answer : has_fault aborts_opening result ≡ false → opened_result result ≡ opening.result
+  pub memory : result ≡ Err (V.Slots Memory) → CanBeTried opening.result
   pub consumed : ConsumedUnless (has_fault aborts_opening result) image left opening.consumed
 
 -- the key slots of a volume were tried under a passphrase, with these bytes of its image loaded: the result is the

@@ -21,7 +21,7 @@ store-requires c = max_mode_key _ _ c.in-Ok.opened.key_length
 -- a volume was opened
 pub returns-in-Ok : goal.returns-in-Ok
 returns-in-Ok c =
-    let known = c.in-Ok.ensures.opens c.args.header.now (ap (λ (g : MemSourceModel). Some g.left) c.new.ensures) in
+    let answers = c.in-Ok.ensures.answers c.args.header.now (ap (λ (g : MemSourceModel). Some g.left) c.new.ensures) in
     record {
       opens = λ done. record {
         options = c.in-Some.options;
@@ -30,7 +30,7 @@ returns-in-Ok c =
         filled = c.store.ensures;
         opens = λ image begins.
             ap (λ (o : VolumeOpening). o.result) (opening_decided c.in-Some.options.location c.in-Some.options.slots
-            image c.args.header.now c.args.passphrase.now begins) ∙ known.opens;
+            image c.args.header.now c.args.passphrase.now begins) ∙ answers.opens.opens;
         says = c.answer_message.ensures.message;
       };
       refuses = λ some. absurd (some c.answer_message.ensures.code);
@@ -42,7 +42,7 @@ returns-in-Ok c =
 -- none was, and the struct is all zero
 pub returns-in-Err : goal.returns-in-Err
 returns-in-Err c =
-    let known = c.in-Err.ensures.refuses c.args.header.now (ap (λ (g : MemSourceModel). Some g.left) c.new.ensures) in
+    let answers = c.in-Err.ensures.answers c.args.header.now (ap (λ (g : MemSourceModel). Some g.left) c.new.ensures) in
     let code = c.answer_message-in-Err.ensures.code ∙ ap code_for c.from.ensures in
     let codes = refusal_code _ (message_says c.in-Err.fault).opening in
     record {
@@ -56,7 +56,7 @@ returns-in-Err c =
         read = never_failed _ c.in-Err.ensures.reads.1.failures;
         refuses = λ never image begins.
             ap (λ (o : VolumeOpening). o.result) (opening_decided c.in-Some.options.location c.in-Some.options.slots
-            image c.args.header.now c.args.passphrase.now begins) ∙ known.refuses never;
+            image c.args.header.now c.args.passphrase.now begins) ∙ answers.refuses.refuses never;
       };
       cleared = λ some. c.clear-in-Err.ensures;
       bad = search rules;

@@ -1,4 +1,4 @@
-use Rattle.std.proofs.Common.{sym}
+use Rattle.std.proofs.Common.{Err, ap, sym}
 use Rattle.luks_io.proofs.ErrorLemmas.{given_error}
 use Rattle.luks_runs.proofs.VolumeLemmas.{aborts_without_header, aborts_without_order, aborts_without_segment}
 use Rattle.luks_runs.proofs.VolumeLemmas.{none_remain}
@@ -22,7 +22,8 @@ returns-in_err-order-clause-err g c =
     rw (given_error _ _ c.from_residual-in_err-order.ensures.1) (λ known is.
     let read = c.in_ok-header.ensures.consumed known is in
     aborts_without_order c.args.location c.args.slots known _ c.in_ok-header.header read.0 read.2
-    c.in_ok-segment.segment (sym c.in_ok-segment.ensures) _ c.in_err-order.ensures.answer)
+    c.in_ok-segment.segment (sym c.in_ok-segment.ensures) _ c.in_err-order.ensures.answer
+    (λ memory. c.in_err-order.ensures.memory (ap Err memory)))
 
 pub returns-clause-found : goal.returns-clause-found
 returns-clause-found g c =

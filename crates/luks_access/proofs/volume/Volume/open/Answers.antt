@@ -1,14 +1,10 @@
-use Rattle.std.proofs.Common.{◌∙◌, refl}
-use Rattle.std.proofs.lemmas.Result.{IfErr-weaker, IfOk-weaker}
+use Rattle.luks_access.proofs.FailingLemmas.{at_start_if, at_start_only}
 use Rattle.luks_access.proofs.volume.Volume.open.Goals as goal
 
--- before any byte is read, all bytes of the image remain in its source
-pub returns-clause-opens : goal.returns-clause-opens
-returns-clause-opens g c =
-    IfOk-weaker c.open_from.result _ _ (λ volume has known there. has known (c.new.ensures.bytes ∙ rw there refl))
-    c.open_from.ensures.opens
+pub open_start-requires : goal.open_start-requires
+open_start-requires g c = at_start_if (g.I.ReadAt.image c.args.image.now) (g.I.ReadAt.fails c.args.image.now)
 
-pub returns-clause-refuses : goal.returns-clause-refuses
-returns-clause-refuses g c =
-    IfErr-weaker c.open_from.result _ _ (λ fault has known there. has known (c.new.ensures.bytes ∙ rw there refl))
-    c.open_from.ensures.refuses
+pub returns-clause-failed : goal.returns-clause-failed
+returns-clause-failed g c failed =
+    at_start_only (g.I.ReadAt.image c.args.image.now) (g.I.ReadAt.fails c.args.image.now)
+    (c.open_start.ensures.failed failed)
