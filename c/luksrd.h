@@ -36,15 +36,16 @@
  *     returns.
  *
  * No function keeps state, so threads may call all of them at once, with the same volume and cipher
- * too. Only luksrd_open and luksrd_check_key allocate memory, by malloc, realloc and free. They may
- * not be called from a signal handler, nor from the forked child of a process with threads.
+ * too. Only luksrd_open, luksrd_open_by_key and luksrd_check_key allocate memory, by malloc, realloc
+ * and free. They may not be called from a signal handler, nor from the forked child of a process
+ * with threads.
  *
- * luksrd_open and luksrd_check_key need at most 256 KiB of stack, luksrd_prepare 128 KiB,
- * luksrd_wipe_stack 257 KiB, luksrd_read 40 KiB and what `read` needs, and every other function 32
- * KiB.
+ * luksrd_open, luksrd_open_by_key and luksrd_check_key need at most 256 KiB of stack, luksrd_prepare
+ * 128 KiB, luksrd_wipe_stack 257 KiB, luksrd_read 40 KiB and what `read` needs, and every other
+ * function 32 KiB.
  *
- * What is left of keys: luksrd_open, luksrd_check_key and luksrd_prepare write over the stack that
- * they used before they return, whatever they return. The caller wipes the passphrase, the volume
+ * What is left of keys: luksrd_open, luksrd_open_by_key, luksrd_check_key and luksrd_prepare write
+ * over the stack that they used before they return, whatever they return. The caller wipes the passphrase, the volume
  * and the cipher (luksrd_wipe), and what its own functions leave on the stack (luksrd_wipe_stack).
  * Parts of keys can stay in registers that nothing has used since. The loader saves registers on the
  * stack when it looks up a function for the first time, unless the program is linked with
@@ -109,7 +110,7 @@ enum luksrd_code {
   LUKSRD_BAD_RANGE = 17,   /* no whole sectors, sector numbers that are too large, or a range that
                             * ends past the plaintext */
 
-  /* what luksrd_check_key finds */
+  /* what luksrd_check_key and luksrd_open_by_key find */
   LUKSRD_OTHER_KEY = 18, /* the volume key does not match the digest in the header */
   LUKSRD_NO_DIGEST = 19  /* the header has no digest that the volume key can be compared with */
 };
@@ -168,7 +169,8 @@ static LUKSRD_INLINE uint32_t luksrd_mode_of(const char *name)
  * If the volume key is known, the caller can fill the struct by hand, without a passphrase and even
  * without a header: each field as stated here, all others 0. luksrd_prepare refuses a struct whose
  * fields do not go together; luksrd_len and luksrd_ending use `offset`, `size`, `has_size` and
- * `sector_size` alone. luksrd_check_key compares the key with a header, if there is one. */
+ * `sector_size` alone. luksrd_check_key compares the key with a header, if there is one, and
+ * luksrd_open_by_key also fills the struct. */
 struct luksrd_volume {
   uint64_t offset;      /* the first byte of the payload in its image */
   uint64_t size;        /* the payload's length in bytes, if has_size is 1; else 0 */
@@ -177,7 +179,7 @@ struct luksrd_volume {
   uint32_t sector_size; /* 512, 1024, 2048 or 4096 bytes */
   uint32_t mode;        /* one of enum luksrd_mode */
   uint32_t key_size;    /* the volume key's length in bytes: 16, 32 or 64 */
-  uint32_t key_slot;    /* the number of the key slot that opened */
+  uint32_t key_slot;    /* the number of the key slot that opened; 0 if none did */
   uint32_t reserved;    /* 0 */
   uint8_t key[64];      /* the volume key; the bytes past key_size are 0 */
 };
@@ -251,6 +253,24 @@ uint32_t luksrd_open(const uint8_t *header, size_t header_len, const uint8_t *pa
 uint32_t luksrd_check_key(const uint8_t *header, size_t header_len, const uint8_t *key,
                           size_t key_len, const struct luksrd_options *options,
                           struct luksrd_message *message) LUKSRD_CHECKED;
+
+/* Opens a volume by a volume key that is known, if it matches the digest in a header.
+ *
+ * The header, the key and the options are those of luksrd_check_key, and so are the result, the
+ * message and the time. If it returns LUKSRD_OK, the volume is filled: with the payload as the
+ * header describes it, with the key, and with 0 for `key_slot`, since no key slot opened. Otherwise
+ * the volume is all zero. */
+uint32_t luksrd_open_by_key(const uint8_t *header, size_t header_len, const uint8_t *key,
+                            size_t key_len, const struct luksrd_options *options,
+                            struct luksrd_volume *volume, struct luksrd_message *message)
+    LUKSRD_CHECKED;
+
+/* The number of first bytes of an image, or of the file of a detached header, that hold its
+ * headers, as far as `header`, its first bytes, say so: 592 for LUKS1, and both headers for LUKS2,
+ * of which one is whole in these bytes and valid. LUKSRD_HEADER_BYTES if they do not say.
+ *
+ * So the headers are there if it is at most `len`. Key areas lie after them. */
+uint64_t luksrd_header_len(const uint8_t *header, size_t len) LUKSRD_CHECKED;
 
 /* The length in bytes of a volume's plaintext, if its payload's image has `image_len` bytes: its
  * whole sectors, a multiple of the sector size. 0 if `sector_size` is none of its four values, as

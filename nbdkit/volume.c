@@ -17,17 +17,10 @@ static void report(const char *name, const struct luksrd_message *message)
 }
 
 /* Whether an image that starts with these bytes has its whole header in them: that of LUKS1, or both
- * of LUKS2, which have the length that the first one names. */
+ * of LUKS2. */
 static bool has_headers(const struct bytes *start)
 {
-  static const uint8_t magic[] = { 'L', 'U', 'K', 'S', 0xba, 0xbe, 0 };
-  enum { VERSION_AT = 7, LEN_AT = 8, LUKS1_LEN = 592 };
-  uint64_t len = 0;
-  if (start->len < LUKS1_LEN || memcmp(start->at, magic, sizeof magic) != 0)
-    return false;
-  for (size_t i = LEN_AT; i < LEN_AT + sizeof len; i++)
-    len = len << 8 | start->at[i];
-  return start->at[VERSION_AT] == 1 || len <= start->len / 2;
+  return luksrd_header_len(start->at, start->len) <= start->len;
 }
 
 bool are_enough(const struct bytes *start, const struct parameters *parameters)

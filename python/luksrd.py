@@ -215,6 +215,7 @@ def _library() -> ctypes.CDLL:
     for name, result, arguments in (
         ("luksrd_open", u32, [pointer, size, pointer, size, pointer, pointer, pointer]),
         ("luksrd_check_key", u32, [pointer, size, pointer, size, pointer, pointer]),
+        ("luksrd_header_len", u64, [pointer, size]),
         ("luksrd_len", u64, [pointer, u64]),
         ("luksrd_ending", u32, [pointer, u64, pointer, pointer]),
         ("luksrd_prepare", u32, [pointer, pointer]),
@@ -418,10 +419,8 @@ def _shown(path: Union[_Path, Image]) -> str:
 
 def _has_headers(start: memoryview) -> bool:
     """Whether an image that starts with these bytes has its whole header in them: that of LUKS1, or
-    both of LUKS2, which have the length that the first one names."""
-    if len(start) < 592 or start[:7] != b"LUKS\xba\xbe\0":
-        return False
-    return start[7] == 1 or int.from_bytes(start[8:16], "big") <= len(start) // 2
+    both of LUKS2."""
+    return _library().luksrd_header_len(_bytes_at(start.obj), len(start)) <= len(start)
 
 
 # Reads the next bytes, of which so many come before them

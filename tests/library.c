@@ -326,17 +326,69 @@ static void print_ending(const struct luksrd_volume *volume, uint64_t image_len)
          image_len, luksrd_len(volume, image_len), code, bytes, message.status, message.text);
 }
 
+/* Opens the volume by its key: all fields are the same, except that no key slot opened. */
+static void open_again(struct bytes header, const struct luksrd_options *options,
+                       const struct luksrd_volume *volume)
+{
+  struct luksrd_message message;
+  struct luksrd_volume by_key;
+  memset(&by_key, 0xff, sizeof by_key);
+  must(luksrd_open_by_key(header.at, header.len, volume->key, volume->key_size, options, &by_key,
+                          &message) == LUKSRD_OK,
+       "the volume by its key");
+  must(all_zero(&message, sizeof message), "the message of a volume that its key opens");
+  must(by_key.key_slot == 0, "the key slot of a volume that its key opens");
+  by_key.key_slot = volume->key_slot;
+  must(memcmp(&by_key, volume, sizeof by_key) == 0, "the fields of a volume that its key opens");
+}
+
 static int print_volume(int lengths, char **argv)
 {
   struct luksrd_options options = { .size = sizeof options };
   struct luksrd_volume volume;
   struct bytes header = header_in(argv[0]), passphrase = contents(argv[1]);
   open_volume(header, passphrase, &options, &volume);
+  open_again(header, &options, &volume);
   print_fields(&volume);
   for (int i = 0; i < lengths; i++)
     print_ending(&volume, strtoull(argv[2 + i], NULL, 10));
   free(header.at);
   free(passphrase.at);
+  return 0;
+}
+
+/* Opens the volume by a key, with the message that comparing it had; a refusal clears the struct. */
+static uint32_t fill_by_key(struct bytes header, struct bytes key,
+                            const struct luksrd_options *options,
+                            const struct luksrd_message *compared)
+{
+  struct luksrd_message message;
+  struct luksrd_volume volume;
+  memset(&volume, 0xff, sizeof volume);
+  const uint32_t code = luksrd_open_by_key(header.at, header.len, key.at, key.len, options, &volume,
+                                           &message);
+  must(memcmp(&message, compared, sizeof message) == 0, "the message of opening by a key");
+  if (code == LUKSRD_OK)
+    must(volume.key_size == key.len && memcmp(volume.key, key.at, key.len) == 0 &&
+             volume.key_slot == 0,
+         "the volume of a key that matches");
+  else
+    must(all_zero(&volume, sizeof volume), "a volume that its key does not open");
+  return code;
+}
+
+/* Where the headers end, by so many first bytes of the image. */
+static int print_headers(int lengths, char **argv)
+{
+  struct bytes header = header_in(argv[0]);
+  for (int i = 0; i < lengths; i++) {
+    const size_t len = strtoul(argv[1 + i], NULL, 10);
+    must(len <= header.len, "the length");
+    struct bytes first = copy_of(header.at, len);
+    printf("%zu: %" PRIu64 "\n", len, luksrd_header_len(first.at, first.len));
+    free(first.at);
+  }
+  free(header.at);
   return 0;
 }
 
@@ -362,6 +414,7 @@ static int print_check(char **argv)
     must(all_zero(&message, sizeof message), "the message of a key that matches");
   else
     check_message(&message);
+  must(fill_by_key(header, key, &options, &message) == code, "the code of opening by the key");
   printf("%" PRIu32 " %" PRIu32 " %s\n", code, message.status, message.text);
   free(header.at);
   free(key.at);
@@ -373,6 +426,8 @@ int main(int argc, char **argv)
   must(luksrd_version() == LUKSRD_VERSION, "the version");
   if (argc == 6 && strcmp(argv[1], "key") == 0)
     return print_check(argv + 2);
+  if (argc > 3 && strcmp(argv[1], "headers") == 0)
+    return print_headers(argc - 3, argv + 2);
   if (argc > 4 && strcmp(argv[1], "fields") == 0)
     return print_volume(argc - 4, argv + 2);
   must(argc == 4, "the arguments");

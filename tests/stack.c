@@ -96,6 +96,23 @@ static uint32_t check_with_bad_options(struct calls *calls)
                           calls->volume.key_size, &calls->bad_options, &calls->message);
 }
 
+static uint32_t open_by_key_well(struct calls *calls)
+{
+  return luksrd_open_by_key(calls->header.at, calls->header.len, calls->volume.key,
+                            calls->volume.key_size, &calls->options, &calls->none, &calls->message);
+}
+
+static uint32_t open_by_another_key(struct calls *calls)
+{
+  return luksrd_open_by_key(calls->header.at, calls->header.len, calls->another_key,
+                            calls->volume.key_size, &calls->options, &calls->none, &calls->message);
+}
+
+static uint32_t header_len(struct calls *calls)
+{
+  return luksrd_header_len(calls->header.at, calls->header.len) > calls->header.len;
+}
+
 static uint32_t prepare_well(struct calls *calls)
 {
   return luksrd_prepare(&calls->volume, &calls->cipher);
@@ -199,6 +216,9 @@ static struct call calls_of_each[] = {
   { "luksrd_check_key, another key", check_another, LUKSRD_OTHER_KEY, OPEN, true, 0, 0 },
   { "luksrd_check_key, no header", check_without_a_header, LUKSRD_NOT_LUKS, OPEN, true, 0, 0 },
   { "luksrd_check_key, bad options", check_with_bad_options, LUKSRD_BAD_OPTIONS, OPEN, true, 0, 0 },
+  { "luksrd_open_by_key", open_by_key_well, LUKSRD_OK, OPEN, true, 0, 0 },
+  { "luksrd_open_by_key, another key", open_by_another_key, LUKSRD_OTHER_KEY, OPEN, true, 0, 0 },
+  { "luksrd_header_len", header_len, 0, READ, true, 0, 0 },
   { "luksrd_prepare", prepare_well, LUKSRD_OK, PREPARE, true, 0, 0 },
   { "luksrd_prepare, no volume", prepare_wrong, LUKSRD_BAD_VOLUME, PREPARE, true, 0, 0 },
   { "luksrd_plan", plan, LUKSRD_OK, READ, false, 0, 0 },

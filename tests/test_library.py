@@ -6,6 +6,7 @@ the stack. What luksrd.h declares is what the library's source does."""
 import base64
 import hashlib
 import os
+import random
 import re
 import shutil
 
@@ -266,6 +267,49 @@ def test_digests(in_c, cached, kinds, tmp_path, change, wanted):
     expect(finds(in_c, image, KEY, tmp_path), wanted)
 
 
+# ---- where the headers end
+
+UNKNOWN = 33554432
+
+
+def expect_ends(in_c, image, **ends):
+    """By so many first bytes of the image, its headers end there."""
+    lengths = [name[1:] for name in ends]
+    wanted = "".join(f"{length}: {end}\n" for length, end in zip(lengths, ends.values()))
+    expect(in_c("headers", image, *lengths), wanted)
+
+
+def test_headers_of_luks1(in_c, cached, kinds):
+    image = make_of_key("luks1", cached, kinds)
+    expect_ends(in_c, image, _0=UNKNOWN, _7=UNKNOWN, _8=592, _591=592, _592=592, _65536=592)
+
+
+@pytest.mark.parametrize("size", [16384, 65536])
+def test_headers_of_luks2(in_c, cached, kinds, tmp_path, size):
+    """Both have the size that cryptsetup was asked for. One that is whole and valid is enough."""
+    def make(path):
+        path.write_bytes(b"")
+        os.truncate(path, 20 << 20)
+        cryptsetup("luksFormat --type luks2 --pbkdf pbkdf2 --pbkdf-force-iterations 1000 "
+                   f"--luks2-metadata-size {size} --key-file", kinds / "pass", path)
+
+    image = cached(f"headers-{size}", make)
+    lengths = [0, 4096, size - 1, size, 2 * size - 1, 2 * size, 4 * size]
+    valid_from = [(image, size)]
+    # the first one is damaged, and the second one is found
+    damaged = volumes.copy_of(image, tmp_path / "damaged")
+    volumes.overwrite(damaged, 4096, b"!")
+    valid_from.append((damaged, 2 * size))
+    for file, least in valid_from:
+        expect_ends(in_c, file, **{
+            f"_{length}": 2 * size if length >= least else UNKNOWN for length in lengths})
+
+
+def test_headers_of_noise(in_c, tmp_path):
+    (tmp_path / "noise").write_bytes(random.Random(1).randbytes(1 << 20))
+    expect_ends(in_c, tmp_path / "noise", _0=UNKNOWN, _592=UNKNOWN, _1048576=UNKNOWN)
+
+
 # ---- the stack
 
 SECRET = bytes(range(90, 130))
@@ -279,6 +323,9 @@ luksrd_check_key: enough, no part of a key
 luksrd_check_key, another key: enough, no part of a key
 luksrd_check_key, no header: enough, no part of a key
 luksrd_check_key, bad options: enough, no part of a key
+luksrd_open_by_key: enough, no part of a key
+luksrd_open_by_key, another key: enough, no part of a key
+luksrd_header_len: enough, no part of a key
 luksrd_prepare: enough, no part of a key
 luksrd_prepare, no volume: enough, no part of a key
 luksrd_plan: enough, no part of a key
@@ -342,9 +389,9 @@ def test_declarations(tmp_path):
     assert [row for row in rows if row[1] != row[2]] == []
 
 
-NAMES = ["luksrd_check_key", "luksrd_decrypt", "luksrd_ending", "luksrd_finish", "luksrd_len",
-         "luksrd_open", "luksrd_plan", "luksrd_prepare", "luksrd_status_text", "luksrd_version",
-         "luksrd_wipe"]
+NAMES = ["luksrd_check_key", "luksrd_decrypt", "luksrd_ending", "luksrd_finish",
+         "luksrd_header_len", "luksrd_len", "luksrd_open", "luksrd_open_by_key", "luksrd_plan",
+         "luksrd_prepare", "luksrd_status_text", "luksrd_version", "luksrd_wipe"]
 
 
 @needs("nm", "readelf")

@@ -1,10 +1,13 @@
--- What comparing a known volume key with the header of an image gives.
-use Rattle.std.specs.Prelude.{ℕ, List, MatchBool, Option, Result, Ok, Err, if◌then◌else◌, length}
+-- What comparing a known volume key with the header of an image gives, and where its headers end.
+use Rattle.std.specs.Prelude.{ℕ, ◌*◌, List, MatchBool, Option, Some, option_map, Result, Ok, Err, if◌then◌else◌, length}
 use Rattle.luks_io.specs.Devices.{ConsumedAtMost, ConsumedExactly}
 use Rattle.luks_cipher.specs.Sector.{is_mode_key_length}
 use Rattle.luks_header_area.specs.declared.fault.HeaderFault.{HeaderFault}
 use Rattle.luks_verdict.specs.declared.refusal.SegmentFault.{SegmentFault}
 use Rattle.luks_verdict.specs.declared.segment.Segment.{Segment}
+use Rattle.luks1_header.specs.Header1.{header1_len, is_luks1}
+use Rattle.luks2_binary.specs.Choice2.{chosen2_of}
+use Rattle.luks2_binary.specs.declared.header.Header2.{Header2}
 use Rattle.luks_header.specs.Header.{header_read_len}
 use Rattle.luks_header.specs.HeaderSegment.{segment_of}
 use Rattle.luks_header.specs.declared.header.Header.{Header}
@@ -42,7 +45,13 @@ key_check_of location limit image key = check_in_header limit key (reader_for lo
 
 -- comparing a key ended in this way: the bytes that are read for the header were consumed, or no more than these if a
 -- read failed or memory ran out
-abbrev pub ConsumesToCheck : List ℕ → Result KeyCheck VolumeFault → Option (List ℕ) → Type 0
+abbrev pub ConsumesToCheck : {T : Type 0} → List ℕ → Result T VolumeFault → Option (List ℕ) → Type 0
 ConsumesToCheck header result left =
     MatchBool (has_fault aborts_opening result) (ConsumedAtMost header left (header_read_len header))
     (ConsumedExactly header left (header_read_len header))
+
+-- the number of first bytes of an image that hold its headers, if these bytes of it say so: those of LUKS1, or the
+-- LUKS2 header that is chosen in them and the other one, which is as long
+abbrev pub headers_end : List ℕ → Option ℕ
+headers_end image =
+    if is_luks1 image then Some header1_len else option_map (λ (header : Header2). 2 * header.size) (chosen2_of image)

@@ -1,12 +1,16 @@
 //! Comparing a known volume key with a header.
 
-ghost use Rattle.std.specs.Prelude.{◌≡◌, Bool, IfErr, IfOk, Ok, Err, false};
+ghost use Rattle.std.specs.Prelude.{◌≡◌, Bool, IfErr, IfOk, Ok, Err, false, length, true};
+ghost use Rattle.luks_cipher.specs.Sector.{is_mode_key_length};
 ghost use Rattle.luks_io.specs.Counts.{Reads};
 ghost use Rattle.luks_io.specs.Devices.{IfKnown};
 ghost use Rattle.luks_key_slots.specs.Fault.{aborts_opening, has_fault, is_read_failure};
+ghost use Rattle.luks_runs.specs.Location.{reader_for};
+ghost use Rattle.luks_runs.specs.Volume.{HasSegmentBy};
 ghost use Rattle.luks_access.specs.Keys.{ConsumesToCheck, KeyCheckFault, key_check_of};
 
 use luks_header::payload::segment;
+use luks_header::segment::Segment;
 use luks_io::source::Source;
 use luks_kdf::Work;
 use luks_key_slots::fault::VolumeFault;
@@ -18,7 +22,8 @@ use std::alloc::Global;
 /// Compares a volume key with the digest in a header: the lowest-numbered usable digest that lists
 /// segment 0; LUKS1 has one digest. A key whose length is not one of the cipher's differs. The
 /// source gives the bytes of the image, or of the detached header. As many of them are consumed as
-/// `luksUUID` consumes, which are those that are read for the header, and none for a key area.
+/// `luksUUID` consumes, which are those that are read for the header, and none for a key area. The
+/// header's segment is returned with the answer: the key is one of its cipher if it matches.
 ///
 /// PBKDF2 does not distinguish a key from the same key with zeros after it, up to the block length
 /// of the hash function.
@@ -33,9 +38,13 @@ pub fn check_key_from<S: Source>(
     max_iterations: Option<u32>,
     source: &mut S,
     key: &[u8],
-) -> Result<KeyCheck, VolumeFault>
-    ensures checks { IfOk result (λ check. IfKnown (S.to_come source.old)
-        (λ known. key_check_of location max_iterations known key.now ≡ Ok check)) }
+) -> Result<(KeyCheck, Segment), VolumeFault>
+    ensures checks { IfOk result (λ checked. IfKnown (S.to_come source.old)
+        (λ known. key_check_of location max_iterations known key.now ≡ Ok checked.0)) }
+    ensures segment { IfOk result (λ checked. IfKnown (S.to_come source.old)
+        (λ known. HasSegmentBy (reader_for location) known checked.1)) }
+    ensures length { IfOk result (λ checked. checked.0 ≡ KeyCheck.Matches
+        → is_mode_key_length checked.1.mode (length key.now) ≡ true) }
     ensures refuses { IfErr result (λ fault. aborts_opening fault ≡ false
         → IfKnown (S.to_come source.old)
         (λ known. key_check_of location max_iterations known key.now ≡ Err fault)) }
@@ -48,9 +57,9 @@ pub fn check_key_from<S: Source>(
     let (header, _area) = read_header_at(alloc, location, source)?;
     let segment = segment(&header)?;
     if !segment.mode.has_key_length(key.len()) {
-        return Ok(KeyCheck::Differs);
+        return Ok((KeyCheck::Differs, segment));
     }
     let work = &mut Work::new(0);
     let check = volume_key::check_key(alloc, &header, max_iterations, key, work)?;
-    Ok(check)
+    Ok((check, segment))
 }

@@ -13,6 +13,7 @@ pub use luks_runs::location::HeaderLocation;
 
 pub mod fault;
 pub mod file;
+pub mod headers;
 pub mod image;
 pub mod key;
 pub mod memory;

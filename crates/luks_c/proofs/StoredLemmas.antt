@@ -60,7 +60,7 @@ module _ (c : LuksrdVolume) (v : UnlockedVolume) (stored : Stores c v) where
   for_volume P s is_segment holds =
       let same : s ≡ v.segment = same_Some s v.segment (is_segment ∙ stored_segment) in
       let of_volume : cipher_in c v.segment.mode ≡ cipher_of v =
-      ap (λ (key : List ℕ). (v.segment.mode, key)) stored.key in
+      ap (λ (key : List ℕ). (v.segment.mode, key)) stored.key_bytes in
       subst (P v.segment) of_volume (subst (λ (t : Segment). P t (cipher_in c t.mode)) same holds)
 
   -- the length that is computed from the fields is that of the plaintext

@@ -135,23 +135,31 @@ abbrev pub has_size_of : Option ℕ → ℕ
 has_size_of None = 0
 has_size_of (Some size) = 1
 
--- the struct holds this volume
-pub record Stores (c : LuksrdVolume) (v : UnlockedVolume) : Type 0 where
-  pub offset : c.offset ≡ v.segment.offset
-  pub has_size : c.has_size ≡ has_size_of v.segment.size
-  pub size : c.size ≡ unwrap_or v.segment.size 0
-  pub iv_tweak : c.iv_tweak ≡ v.segment.iv_tweak
-  pub sector_size : c.sector_size ≡ bytes_of v.segment.sector_size
-  pub mode : c.mode ≡ mode_number v.segment.mode
-  pub key_slot : c.key_slot ≡ v.slot
-  pub key : take c.key_size c.key ≡ v.key
+-- the struct holds this segment, this number of a key slot and this volume key
+pub record StoresBy (c : LuksrdVolume) (segment : Segment) (slot : ℕ) (key : List ℕ) : Type 0 where
+  pub offset : c.offset ≡ segment.offset
+  pub has_size : c.has_size ≡ has_size_of segment.size
+  pub size : c.size ≡ unwrap_or segment.size 0
+  pub iv_tweak : c.iv_tweak ≡ segment.iv_tweak
+  pub sector_size : c.sector_size ≡ bytes_of segment.sector_size
+  pub mode : c.mode ≡ mode_number segment.mode
+  pub key_slot : c.key_slot ≡ slot
+  pub key_bytes : take c.key_size c.key ≡ key
 
--- the same, with zeros in all bytes that the volume does not need
-pub record Filled (c : LuksrdVolume) (v : UnlockedVolume) : Type 0 where
-  pub stores : Stores c v
-  pub key_size : c.key_size ≡ length v.key
+-- the same, with zeros in all bytes that these do not need
+pub record FilledBy (c : LuksrdVolume) (segment : Segment) (slot : ℕ) (key : List ℕ) : Type 0 where
+  pub stores : StoresBy c segment slot key
+  pub key_size : c.key_size ≡ length key
   pub rest : drop c.key_size c.key ≡ replicate (64 - c.key_size) 0
   pub reserved : c.reserved ≡ 0
+
+-- the struct holds this volume
+abbrev pub Stores : LuksrdVolume → UnlockedVolume → Type 0
+Stores c v = StoresBy c v.segment v.slot v.key
+
+-- the same, with zeros in all bytes that the volume does not need
+abbrev pub Filled : LuksrdVolume → UnlockedVolume → Type 0
+Filled c v = FilledBy c v.segment v.slot v.key
 
 -- the struct holds no volume: all of it is zero
 pub record IsCleared (c : LuksrdVolume) : Type 0 where

@@ -6,14 +6,16 @@
 
 ghost use Rattle.std.specs.Prelude.{◌≡◌, ◌≢◌, ◌+◌, ◌-◌, ◌*◌, ◌/◌, ◌%◌, ◌^◌, ◌<◌, ◌≤◌, List, ℕ};
 ghost use Rattle.std.specs.Prelude.{if◌then◌else◌, drop, length, replicate, take};
-ghost use Rattle.std.specs.Prelude.{false, nat_le, true};
+ghost use Rattle.std.specs.Prelude.{false, nat_le, true, unwrap_or};
 ghost use Rattle.luks_access.specs.Opens.{cipher_of, plaintext_of};
 ghost use Rattle.luks_access.specs.Sectors.{AreStored, IsRangeOf, plain_at};
 ghost use Rattle.luks_access.specs.Steps.{IsNextStep};
 ghost use Rattle.luks_runs.specs.declared.unlocked.UnlockedVolume.{UnlockedVolume};
 ghost use Rattle.luks_payload.specs.Plain.{ending_of, sector_len};
 ghost use Rattle.luks_verdict.specs.SectorSize.{bytes_of};
-ghost use Rattle.luks_c.specs.Keys.{AnswersComparing};
+ghost use Rattle.luks_header_area.specs.Area.{max_loaded_len};
+ghost use Rattle.luks_access.specs.Keys.{headers_end};
+ghost use Rattle.luks_c.specs.Keys.{AnswersComparing, AnswersOpeningByKey};
 ghost use Rattle.luks_c.specs.Stored.{AnswersOpening, DecryptsAs, EndsAs, EndsIn, Filled};
 ghost use Rattle.luks_c.specs.Stored.{Stores, StoresCode, decrypt_code, fault_bytes, is_range};
 ghost use Rattle.luks_c.specs.Stored.{plaintext_len_in};
@@ -23,11 +25,12 @@ ghost use Rattle.luks_c.specs.Steps.{finish_code, plan_code, prepare_code, step_
 use crate::cipher::{LuksrdCipher, prepare};
 use crate::code::{BAD_RANGE, BAD_VOLUME, OK, answer_code, answer_message};
 use crate::message::LuksrdMessage;
-use crate::opening::{compare_key, open_volume};
+use crate::opening::{compare_key, open_by_key, open_volume};
 use crate::options::LuksrdOptions;
 use crate::step::LuksrdStep;
 use crate::volume::LuksrdVolume;
 use crate::wiping::{wiped_after_opening, wiped_after_preparing};
+use luks_access::headers::headers_end;
 use luks_access::sectors::{decrypt_sectors, payload_ending, plaintext_len};
 use luks_access::step::{finish, plan};
 use luks_payload::fault::PayloadFault;
@@ -46,6 +49,9 @@ mod wiping;
 
 /// The version of this library: major * 65536 + minor * 256 + patch.
 const VERSION: u32 = 0x0001_0200;
+
+/// The number of an image's first bytes that decide everything about opening.
+const HEADER_BYTES: u64 = 33_554_432;
 
 /// Opens a volume by a passphrase, from the first bytes of its image or of its detached header.
 ///
@@ -78,6 +84,32 @@ pub extern "C" fn luksrd_check_key(
     ensures { AnswersComparing options.now header.now key.now result message.new }
 {
     wiped_after_opening(compare_key(alloc, header, key, options, message))
+}
+
+/// Opens a volume by a volume key that is known, from the first bytes of its image or of its
+/// detached header: as `luksrd_check_key`, and if the key matches, the volume is filled.
+#[unsafe(no_mangle)]
+pub extern "C" fn luksrd_open_by_key(
+    alloc: Global,
+    header: &[u8],
+    key: &[u8],
+    options: &LuksrdOptions,
+    volume: &mut LuksrdVolume,
+    message: &mut LuksrdMessage,
+) -> u32
+    ensures { AnswersOpeningByKey options.now header.now key.now
+        result volume.new message.new }
+{
+    wiped_after_opening(open_by_key(alloc, header, key, options, volume, message))
+}
+
+/// The number of first bytes of an image, or of the file of a detached header, that hold its
+/// headers, or 33,554,432 if these first bytes of it do not say.
+#[unsafe(no_mangle)]
+pub extern "C" fn luksrd_header_len(header: &[u8]) -> u64
+    ensures { result ≡ unwrap_or (headers_end header.now) max_loaded_len }
+{
+    headers_end(header).unwrap_or(HEADER_BYTES)
 }
 
 /// The length in bytes of the volume's plaintext, if its payload's image has this length. It is 0

@@ -4,10 +4,9 @@ ghost use Rattle.std.specs.Prelude.{◌≡◌, ◌-◌, ◌≤◌, MatchOption, 
 ghost use Rattle.std.specs.Prelude.{replicate, take, true};
 ghost use Rattle.luks_cipher.specs.Sector.{is_mode_key_length};
 ghost use Rattle.luks_verdict.specs.SectorSize.{sector_size_with};
-ghost use Rattle.luks_c.specs.Stored.{Filled, IsCleared, key_in, mode_in, mode_number};
+ghost use Rattle.luks_c.specs.Stored.{FilledBy, IsCleared, key_in, mode_in, mode_number};
 ghost use Rattle.luks_c.specs.Stored.{segment_in, size_stored_in};
 
-use luks_access::volume::Volume;
 use luks_cipher::Mode;
 use luks_header::segment::{Segment, SegmentParts};
 use luks_verdict::sector_size::SectorSize;
@@ -125,20 +124,20 @@ fn write_key(buf: &mut [u8], key: &[u8]) -> u32
 }
 
 impl LuksrdVolume {
-    /// Stores an open volume.
-    pub(crate) fn store(&mut self, volume: &Volume)
-        requires { length volume.now.key ≤ CAPACITY }
-        ensures { Filled self.new volume.now }
+    /// Stores an open volume: its payload's segment, the number of the key slot that opened, and
+    /// the volume key.
+    pub(crate) fn store(&mut self, segment: &Segment, slot: u8, key: &[u8])
+        requires { length key.now ≤ CAPACITY }
+        ensures { FilledBy self.new segment.now slot key.now }
     {
-        let segment = volume.segment();
         self.offset = segment.offset;
         self.has_size = u32::from(segment.size.is_some());
         self.size = segment.size.unwrap_or(0);
         self.iv_tweak = segment.iv_tweak;
         self.sector_size = segment.sector_size.bytes() as u32;
         self.mode = number_of_mode(segment.mode);
-        self.key_size = write_key(&mut self.key, volume.key());
-        self.key_slot = u32::from(volume.slot());
+        self.key_size = write_key(&mut self.key, key);
+        self.key_slot = u32::from(slot);
         self.reserved = 0;
     }
 

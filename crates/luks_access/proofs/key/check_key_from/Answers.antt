@@ -11,6 +11,7 @@ use Rattle.luks_header.specs.Header.{ReadsNoHeader, header_read_len}
 use Rattle.luks_header.specs.HeaderSegment.{segment_of}
 use Rattle.luks_header.specs.declared.header.Header.{Header}
 use Rattle.luks_key_slots.specs.VolumeKey.{compared, key_digest_of}
+use Rattle.luks_key_slots.specs.declared.volume_key.KeyCheck.{KeyCheck}
 use Rattle.luks_key_slots.specs.declared.volume_key.KeyCheck.TheVariants.{Differs}
 use Rattle.luks_key_slots.specs.Fault.{aborts_opening}
 use Rattle.luks_key_slots.specs.declared.fault.VolumeFault.TheVariants.{Header as HeaderNotRead}
@@ -52,7 +53,7 @@ module _ (location : HeaderLocation) (limit : Option ℕ) (image key : List ℕ)
 
 -- no header was read: the bytes that are read for it were consumed, or no more than these
 consumed_unread : (image : List ℕ) (left : Option (List ℕ)) (ends ends' : ℕ) (fault : HeaderFault)
-    → ReadsNoHeader image left ends ends' fault → ConsumesToCheck image (Err (HeaderNotRead fault)) left
+    → ReadsNoHeader image left ends ends' fault → ConsumesToCheck {T = KeyCheck × Segment} image (Err (HeaderNotRead fault)) left
 consumed_unread image left ends ends' HeaderRead stop = stop.0
 consumed_unread image left ends ends' HeaderMemory stop = memory_below image left ends ends' stop
 consumed_unread image left ends ends' fault stop = stop.1.0
@@ -103,3 +104,11 @@ returns-in_err-check-clause-consumes g c =
 
 pub returns-clause-consumes : goal.returns-clause-consumes
 returns-clause-consumes g c known is = (c.in_ok-header.ensures.consumed known is).2
+
+pub returns-then-not-has_key_length-clause-segment : goal.returns-then-not-has_key_length-clause-segment
+returns-then-not-has_key_length-clause-segment g c known is =
+    (c.in_ok-header.header, (c.in_ok-header.ensures.consumed known is).0, sym c.in_ok-segment.ensures)
+
+pub returns-clause-segment : goal.returns-clause-segment
+returns-clause-segment g c known is =
+    (c.in_ok-header.header, (c.in_ok-header.ensures.consumed known is).0, sym c.in_ok-segment.ensures)

@@ -16,7 +16,7 @@ refusal_code Done only = absurd only
 refusal_code _ only = ((λ is. absurd (omega arith)), (λ is. absurd (omega arith)))
 
 pub store-requires : goal.store-requires
-store-requires c = max_mode_key _ _ c.in-Ok.opened.key_length
+store-requires c = rw c.key.ensures (max_mode_key _ _ c.in-Ok.opened.key_length)
 
 -- a volume was opened
 pub returns-in-Ok : goal.returns-in-Ok
@@ -27,7 +27,7 @@ returns-in-Ok c =
         options = c.in-Some.options;
         are = c.in-Some.ensures.made;
         opened = c.in-Ok.opened;
-        filled = c.store.ensures;
+        filled = rw (c.segment.ensures, c.slot.ensures, c.key.ensures) at c.store.ensures;
         opens = λ image begins.
             ap (λ (o : VolumeOpening). o.result) (opening_decided c.in-Some.options.location c.in-Some.options.slots
             image c.args.header.now c.args.passphrase.now begins) ∙ answers.opens.opens;

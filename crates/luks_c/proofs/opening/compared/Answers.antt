@@ -1,5 +1,6 @@
 use Rattle.std.proofs.Common.{◌∙◌, ◌≡◌, ◌≢◌, ℕ, List, Option, Result, Ok, Err, Some, ap, arith, refl, rules, sym}
-use Rattle.std.proofs.Common.{false, true}
+use Rattle.std.proofs.Common.{None, false, subst, true}
+use Rattle.std.specs.Prelude.{MatchOption}
 use Rattle.luks_io.specs.Counts.{MemSourceModel}
 use Rattle.luks_access.specs.Keys.{check_in_header, key_check_of}
 use Rattle.luks_key_slots.specs.declared.fault.VolumeFault.{VolumeFault}
@@ -10,13 +11,14 @@ use Rattle.luks_report.specs.declared.message.Message.TheVariants.{Done}
 use Rattle.luks_runs.proofs.PrefixLemmas.{header_decided}
 use Rattle.luks_runs.proofs.RunLemmas.{never_failed}
 use Rattle.luks_runs.proofs.VolumeLemmas.{message_says}
-use Rattle.luks_runs.specs.Volume.{OpeningMessage}
-use Rattle.luks_c.specs.Keys.{check_code, is_compared}
+use Rattle.luks_runs.specs.Volume.{HasSegmentBy, OpeningMessage}
+use Rattle.luks_verdict.specs.declared.segment.Segment.{Segment}
+use Rattle.luks_c.specs.Keys.{IsOfKey, check_code, is_compared}
 use Rattle.luks_c.specs.Stored.{BeginsAs, code_for, limit_in, location_in}
 use Rattle.luks_c.specs.declared.options.LuksrdOptions.{LuksrdOptions}
 use Rattle.luks_runs.specs.Location.{reader_for}
 use Rattle.luks_runs.specs.declared.location.HeaderLocation.{HeaderLocation}
-use Rattle.luks_c.proofs.opening.compare_key.Goals as goal
+use Rattle.luks_c.proofs.opening.compared.Goals as goal
 
 -- the code of a comparison is one, and not that of bad options
 compared_code : (check : KeyCheck) → (is_compared (check_code check) ≡ true) × (check_code check ≢ 15)
@@ -40,8 +42,8 @@ decided c location limit image header key r at within begins is =
     ∙ (ap (λ n. check_in_header n key (reader_for location header)) (sym within) ∙ is))
 
 -- the key was compared
-pub returns-in-Ok : goal.returns-in-Ok
-returns-in-Ok c =
+pub returns-in-Ok-clause-compares : goal.returns-in-Ok-clause-compares
+returns-in-Ok-clause-compares c =
     let code = c.answer_code-in-Ok.ensures.code ∙ c.code_of_check.ensures in
     let codes = compared_code c.in-Ok.check in
     record {
@@ -61,8 +63,8 @@ returns-in-Ok c =
     }
 
 -- there was no header to compare it with
-pub returns-in-Err : goal.returns-in-Err
-returns-in-Err c =
+pub returns-in-Err-clause-compares : goal.returns-in-Err-clause-compares
+returns-in-Err-clause-compares c =
     let code = c.answer_message.ensures.code ∙ ap code_for c.from.ensures in
     let codes = refused_code _ (message_says c.in-Err.fault).opening in
     record {
@@ -82,3 +84,35 @@ returns-in-Err c =
       bad = search rules;
       only_bad = λ bad. absurd (codes.1 (sym code ∙ bad));
     }
+
+-- if the key matches, the segment is that of the header of each image that starts with these bytes
+of_each : (c : LuksrdOptions) (location : HeaderLocation) (image header : List ℕ) (segment : Segment)
+    → location ≡ location_in c → BeginsAs image header → HasSegmentBy (reader_for location) header segment
+    → HasSegmentBy (reader_for (location_in c)) image segment
+of_each c location image header segment at begins (read, found, is) =
+    (read, header_decided (location_in c) image header begins ∙ (ap (λ l. reader_for l header) (sym at) ∙ found), is)
+
+module _ (c : LuksrdOptions) (header key : List ℕ) (check : KeyCheck) (segment : Segment) (code : ℕ)
+    (is : code ≡ check_code check) (of_key : check ≡ Matches → IsOfKey c header key segment) where
+  with_segment : (found : Option Segment)
+      → MatchOption found (check_code check ≢ 0) (λ s. (check ≡ Matches) × (s ≡ segment))
+      → MatchOption found (code ≢ 0) (λ s. (code ≡ 0) × IsOfKey c header key s)
+  with_segment None other = λ same. other (sym is ∙ same)
+  with_segment (Some s) (matches, same) = (is ∙ ap check_code matches, subst (IsOfKey c header key) (sym same) (of_key matches))
+
+pub returns-in-Ok-clause-segment : goal.returns-in-Ok-clause-segment
+returns-in-Ok-clause-segment c =
+    let read = ap (λ (g : MemSourceModel). Some g.left) c.new.ensures in
+    with_segment c.args.options.now c.args.header.now c.args.key.now c.in-Ok.check c.in-Ok.segment _
+    (c.answer_code-in-Ok.ensures.code ∙ c.code_of_check.ensures) (λ matches. record {
+      of_header = λ image begins.
+          of_each c.args.options.now c.in-Some.location image c.args.header.now c.in-Ok.segment c.in-Some.ensures.1
+          begins (c.in-Ok.ensures.segment c.args.header.now read);
+      key_length = c.in-Ok.ensures.length matches;
+    }) c.segment_if.result c.segment_if.ensures
+
+pub returns-in-Err-clause-segment : goal.returns-in-Err-clause-segment
+returns-in-Err-clause-segment c is =
+    let codes = refused_code _ (message_says c.in-Err.fault).opening in
+    let code = c.answer_message.ensures.code ∙ ap code_for c.from.ensures in
+    let wrong : true ≡ false = ap is_compared (sym (sym code ∙ is)) ∙ codes.0 in absurd cc
