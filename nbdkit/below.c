@@ -114,11 +114,8 @@ enum likeness compare_start(struct below *below, const struct start *start)
 
 enum likeness compare_uuid(struct below *below, const struct start *start)
 {
-  enum { FORMAT = 7, UUID = 168, UUID_LEN = 40 };
-  /* In LUKS1 all that comes before the key slots stays, too: where the payload begins, and the
-   * digest of its key. In LUKS2 a change of the key slots changes the rest. */
-  const size_t from = start->at[FORMAT] == 1 ? 0 : UUID;
-  return compare(below, start, from, UUID + UUID_LEN - from);
+  enum { UUID = 168, UUID_LEN = 40 };
+  return compare(below, start, UUID, UUID_LEN);
 }
 
 struct blocks blocks_of(const struct below *below, uint32_t count, uint64_t offset)

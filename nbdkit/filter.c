@@ -30,9 +30,13 @@ static uint64_t served_len; /* the length in bytes of what is below that, if it 
 static struct volume volume;
 
 /* The first bytes of the image that was opened, if its header is in it, and all that decides about
- * the one that was refused last. Only the connection that opens the volume changes them. */
+ * the one that was refused last. Only the connection that opens the volume changes them, or one that
+ * finds that the header has changed, which holds the lock. */
 static struct start opened_start;
 static struct bytes refused_header;
+
+/* The first bytes of the changed header that was refused last. The lock guards them. */
+static struct start refused_start;
 
 /* A connection. */
 struct connection {
@@ -171,19 +175,26 @@ static enum outcome try_header(const struct bytes *header)
   return REFUSED;
 }
 
+/* Reads the first bytes below that decide how a volume is opened. Returns whether they are enough; if
+ * not, reports why. The caller frees them. */
+static bool read_header_below(struct below *below, struct bytes *header)
+{
+  if (allocate(header, below->len < MAX_HEADER ? (size_t)below->len : MAX_HEADER) < 0)
+    return false;
+  const size_t wanted = header->len;
+  header->len = read_first_below(below, header->at, wanted);
+  if (header->len < wanted)
+    nbdkit_error("luksrd: reading the first %zu bytes: after %zu: %s", wanted, header->len,
+                 strerror(errno));
+  return header->len == wanted || are_enough(header, &parameters);
+}
+
 /* Reads the header below, and opens the volume. */
 static enum outcome open_below(struct below *below)
 {
   struct bytes header = { 0 };
   enum outcome outcome = TRY_LATER;
-  if (allocate(&header, below->len < MAX_HEADER ? (size_t)below->len : MAX_HEADER) < 0)
-    return TRY_LATER;
-  const size_t wanted = header.len;
-  header.len = read_first_below(below, header.at, wanted);
-  if (header.len < wanted)
-    nbdkit_error("luksrd: reading the first %zu bytes: after %zu: %s", wanted, header.len,
-                 strerror(errno));
-  if (header.len == wanted || are_enough(&header, &parameters))
+  if (read_header_below(below, &header))
     outcome = try_header(&header);
   if (outcome == OPENED)
     keep_start(&opened_start, &header);
@@ -239,20 +250,51 @@ static bool wait_for_volume(void)
   return is_open;
 }
 
+/* Tries the key of the open volume on a header with the same UUID that has changed: key slots may
+ * have been added or removed, but after a reencryption the key would give noise. A header that was
+ * refused is not tried again. */
+static enum likeness compare_changed(struct below *below)
+{
+  struct bytes header = { 0 };
+  struct start start = { .len = 0 };
+  enum outcome outcome = TRY_LATER;
+  if (read_header_below(below, &header)) {
+    keep_start(&start, &header);
+    pthread_mutex_lock(&lock);
+    const bool was_refused = memcmp(&start, &refused_start, sizeof start) == 0;
+    pthread_mutex_unlock(&lock);
+    outcome = was_refused ? REFUSED : compare_header(&volume, &header, &parameters);
+    errno = ENOMEM; /* (why it is tried later) */
+  }
+  free(header.at);
+  pthread_mutex_lock(&lock);
+  if (outcome == OPENED)
+    opened_start = start;
+  else if (outcome == REFUSED)
+    refused_start = start;
+  pthread_mutex_unlock(&lock);
+  return outcome == OPENED ? SAME : outcome == REFUSED ? OTHER : UNREAD;
+}
+
 /* Compares what is below with the volume that is open: another image would give noise with this
- * key. An export of the same name has the same volume unless its UUID is another one; its key slots
- * may have changed. One of another name has the same image, as if what is below does not look at
- * names, if it starts with the same bytes. If these begin no header, an export of the same name has
- * to start with them, too, and one of another name to have the same length. */
+ * key. One that starts with the same bytes is the same image, whatever its export's name is, as if
+ * what is below does not look at names. If they begin no header, an export of another name has to
+ * have the same length, too. If an export of the same name has the same UUID, but another header,
+ * the key decides. */
 static enum likeness compare_volumes(struct below *below, bool is_same_name)
 {
-  const bool has_uuid = has_magic(&opened_start);
-  if (is_same_name && has_uuid)
-    return compare_uuid(below, &opened_start);
+  pthread_mutex_lock(&lock);
+  const struct start opened = opened_start;
+  pthread_mutex_unlock(&lock);
+  const bool has_uuid = has_magic(&opened);
   if (!is_same_name && !has_uuid && below->len != served_len)
     return OTHER;
   /* (if the header is detached, these are no bytes) */
-  return compare_start(below, &opened_start);
+  const enum likeness likeness = compare_start(below, &opened);
+  if (likeness != OTHER || !is_same_name || !has_uuid)
+    return likeness;
+  const enum likeness uuid = compare_uuid(below, &opened);
+  return uuid == SAME ? compare_changed(below) : uuid;
 }
 
 /* Whether this connection is served; reports why not. */
@@ -265,7 +307,8 @@ static bool is_served(struct connection *connection)
   if (likeness == UNREAD)
     nbdkit_error("luksrd: comparing the header with that of the open volume: %s", strerror(errno));
   else if (likeness == OTHER && is_same_name)
-    nbdkit_error("luksrd: the export has another volume than the one that is open");
+    nbdkit_error("luksrd: the export has another volume than the one that is open, or it was "
+                 "reencrypted: start nbdkit again");
   else if (likeness == OTHER)
     nbdkit_error("luksrd: this server has opened another export, and serves no second one");
   return likeness == SAME;

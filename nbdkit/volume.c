@@ -104,6 +104,16 @@ static void *call_check_key(void *argument)
   return NULL;
 }
 
+static void *call_open_by_key(void *argument)
+{
+  struct call *call = argument;
+  call->code = luksrd_open_by_key(call->header->at, call->header->len, call->secret->at,
+                                  call->secret->len, call->options, &call->volume->opened,
+                                  call->message);
+  forget_copies();
+  return NULL;
+}
+
 /* Compares the volume key with the header, if one is there. A volume whose header is lost or
  * damaged is opened without that. This is reported, unless there is none and none was named. */
 static enum outcome check_volume_key(const struct volume *volume, const struct bytes *header,
@@ -210,6 +220,48 @@ enum outcome unlock(struct volume *volume, const struct bytes *header, const str
                                    : use_passphrase(volume, header, secret, parameters);
   if (outcome != OPENED)
     close_volume(volume);
+  forget_copies();
+  return outcome;
+}
+
+/* Whether a key and a payload are those of the open volume, whichever key slot opened it. */
+static bool are_equal(const struct luksrd_volume *found, const struct luksrd_volume *opened)
+{
+  struct luksrd_volume other = *found;
+  other.key_slot = opened->key_slot;
+  const bool is_equal = memcmp(&other, opened, sizeof other) == 0; /* (there is no padding) */
+  luksrd_wipe(&other, sizeof other);
+  return is_equal;
+}
+
+enum outcome compare_header(const struct volume *volume, const struct bytes *header,
+                            const struct parameters *parameters)
+{
+  const struct luksrd_options options = {
+    .size = sizeof options,
+    .max_iterations = parameters->max_iterations,
+  };
+  uint8_t key[MAX_VOLUME_KEY];
+  const struct bytes secret = { .at = key, .len = volume->opened.key_size };
+  struct volume found = { .name = volume->name };
+  struct luksrd_message message;
+  struct call call = {
+    .header = header,
+    .secret = &secret,
+    .options = &options,
+    .volume = &found,
+    .message = &message,
+  };
+  enum outcome outcome = TRY_LATER;
+  memcpy(key, volume->opened.key, sizeof key);
+  if (call_on_stack(call_open_by_key, &call) == 0) {
+    if (call.code == LUKSRD_OUT_OF_MEMORY)
+      report(volume->name, &message);
+    else
+      outcome = call.code == LUKSRD_OK && are_equal(&found.opened, &volume->opened) ? OPENED : REFUSED;
+  }
+  luksrd_wipe(key, sizeof key);
+  close_volume(&found);
   forget_copies();
   return outcome;
 }

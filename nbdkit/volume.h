@@ -53,6 +53,12 @@ enum outcome { OPENED, REFUSED, TRY_LATER };
 enum outcome unlock(struct volume *volume, const struct bytes *header, const struct bytes *secret,
                     const struct parameters *parameters);
 
+/* Compares a header that has changed with the open volume: OPENED if the volume's key matches its
+ * digest, and it describes the payload as before; then another volume would not be served. REFUSED
+ * if not. */
+enum outcome compare_header(const struct volume *volume, const struct bytes *header,
+                            const struct parameters *parameters);
+
 /* Writes over what functions that the caller called before have left on the stack: 256 KiB of it,
  * or what there is. Clears the vector registers, in which copying leaves bytes: the loader saves
  * these on the stack when it looks up a function. Called after a secret was read or used. */

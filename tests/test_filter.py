@@ -15,7 +15,7 @@ from kinds import START, VOLUME1, VOLUME2
 from serving import (SIZE, by_filter, connected, in_threads, needs_nbdkit, read,  # noqa: F401
                      read_all, reads_ranges)
 from support import must, needs
-from volumes import copy_of, overwrite
+from volumes import copy_of, cryptsetup, overwrite, with_own_uuid
 
 pytestmark = needs_nbdkit
 PASS = "key-file=pass"
@@ -45,7 +45,7 @@ def logging(by_filter, log):
 
 
 def test_header_is_read_once(logging, log):
-    """Though all connect at once; each later one reads the UUID alone."""
+    """Though all connect at once; each later one compares the first 4096 bytes."""
     gate = threading.Barrier(16)
 
     def size(_):
@@ -54,8 +54,8 @@ def test_header_is_read_once(logging, log):
 
     assert in_threads(size, 16) == [SIZE2] * 16
     reads = logged(log, "Read")
-    assert reads.count((0xa8, 0x28)) == 15
-    others = [range_ for range_ in reads if range_ != (0xa8, 0x28)]
+    assert reads.count((0, 4096)) == 15
+    others = [range_ for range_ in reads if range_ != (0, 4096)]
     whole = START + SIZE2
     assert others == [(at, min(1 << 20, whole - at)) for at in range(0, whole, 1 << 20)]
 
@@ -241,6 +241,22 @@ def test_another_digest(exports):
     change = {1: lambda: overwrite(exports.folder / "cloned", 107, b"x")}
     sizes, said = exports("cloned cloned", between=change)
     assert sizes == [SIZE1, None] and OTHER_VOLUME in said
+
+
+@needs("cryptsetup")
+def test_changed_in_place(exports, by_filter, tmp_path):
+    """A volume with a new key slot is served. Once it is reencrypted it has the same UUID, and its old key
+    would give noise."""
+    image = with_own_uuid(exports.folder / "two")
+    old, new = by_filter.kinds / "pass", tmp_path / "new"
+    new.write_bytes(b"another passphrase")
+    derivation = "--pbkdf pbkdf2 --pbkdf-force-iterations 1000"
+    sizes, said = exports("two two two two two", between={
+        1: lambda: cryptsetup(f"luksAddKey {derivation} --key-file", old, image, new),
+        3: lambda: cryptsetup(f"reencrypt --force-offline-reencrypt --key-slot 0 {derivation} --key-file",
+                              old, image)})
+    assert sizes == [SIZE2] * 3 + [None] * 2
+    assert said.count(OTHER_VOLUME) == 2
 
 
 @pytest.mark.parametrize("parameters", [
