@@ -1,0 +1,184 @@
+"""The command line of luksrd-rescue: its subcommands, numbers, messages and statuses."""
+
+from __future__ import annotations
+
+import argparse
+import os
+import re
+import sys
+import traceback
+from typing import NoReturn, Optional, Sequence
+
+from . import __version__
+
+# The statuses of luksrd, and that of a program that Ctrl-C ended
+USAGE, NO_KEY, MEMORY, IMAGE, FAILED, INTERRUPTED = 1, 2, 3, 4, 6, 130
+
+PROGRAM = "luksrd-rescue"
+EXAMPLES = """\
+examples:
+  luksrd-rescue look laptop.img                    what is there, and what to type next
+  luksrd-rescue decrypt laptop.img -o plain.img    the plaintext of the only volume in it
+  luksrd-rescue COMMAND --help                     more examples
+
+statuses:
+  0 done; 1 refused, or wrong arguments; 2 no key opens the volume; 3 out of memory;
+  4 the image is not as it has to be; 6 a read or a write failed; 130 interrupted
+"""
+
+# ddrescue's suffixes; `s` is a sector of 512 bytes
+_NUMBER = re.compile(r"(0[xX][0-9a-fA-F]+|0[0-7]*|[1-9][0-9]*)(?:([kMGTPEZY]|[KMGTPEZY]i)B?|([sB]))?")
+
+
+class Refusal(Exception):
+    """Why the command ends, and its status. `what` names a file or an option, or is empty."""
+
+    def __init__(self, status: int, what: object, why: str) -> None:
+        super().__init__(status, what, why)
+        self.status, self.what, self.why = status, what, why
+
+
+def shown(name: object) -> str:
+    """A name as messages have it: what a terminal would obey is escaped."""
+    text = os.fsdecode(name) if isinstance(name, (bytes, os.PathLike)) else str(name)
+    return "".join(letter if letter.isprintable() else _escaped(letter) for letter in text)
+
+
+def _escaped(letter: str) -> str:
+    return "".join(f"\\x{byte:02x}" for byte in letter.encode("utf-8", "surrogateescape"))
+
+
+def say(what: object, why: str) -> None:
+    """Prints a message on standard error; one that cannot be printed changes nothing."""
+    parts = [PROGRAM, shown(what), why] if what != "" else [PROGRAM, why]
+    try:
+        print(*parts, sep=": ", file=sys.stderr, flush=True)
+    except OSError:
+        pass
+
+
+def number(word: str) -> int:
+    """A number of bytes: decimal, hexadecimal or octal, with one of ddrescue's suffixes (k is 1000,
+    Ki 1024, and so on) or `s`, 512."""
+    found = _NUMBER.fullmatch(word)
+    if not found:
+        raise argparse.ArgumentTypeError(
+            f"{word!r} is no number of bytes, such as 1048576, 0x100000, 2048s, 1Mi or 500G")
+    digits, suffix, unit = found.groups()
+    base = 16 if digits[:2] in ("0x", "0X") else 8 if digits[0] == "0" else 10
+    value = int(digits, base) * (512 if unit == "s" else 1)
+    if suffix:
+        factor = 1024 if suffix.endswith("i") else 1000
+        value *= factor ** ("kMGTPEZY".index(suffix[0].replace("K", "k")) + 1)
+    if value >= 1 << 63:
+        raise argparse.ArgumentTypeError(f"{word!r} is 2^63 or more")
+    return value
+
+
+def sized(count: int) -> str:
+    """A number of bytes for people."""
+    if count < 1024:
+        return "1 byte" if count == 1 else f"{count} bytes"
+    value, unit = float(count), 0
+    while value >= 1023.95 and unit < 6:
+        value, unit = value / 1024, unit + 1
+    return f"{value:.1f} {' KMGTPE'[unit]}iB".replace(".0 ", " ")
+
+
+class _Parser(argparse.ArgumentParser):
+    """A parser whose complaints are messages of luksrd-rescue, with the status of luksrd's usage."""
+
+    def __init__(self, *arguments: object, **how: object) -> None:
+        how.setdefault("allow_abbrev", False)
+        how.setdefault("formatter_class", argparse.RawDescriptionHelpFormatter)
+        super().__init__(*arguments, **how)  # type: ignore[arg-type]
+
+    def error(self, message: str) -> NoReturn:
+        self.print_usage(sys.stderr)
+        say("", f"{shown(message)}; {self.prog} --help explains")
+        self.exit(USAGE)
+
+
+def _parser() -> argparse.ArgumentParser:
+    # (they use this module)
+    from . import decrypt, look, serve, trying  # pylint: disable=import-outside-toplevel
+
+    parser = _Parser(
+        prog=PROGRAM, epilog=EXAMPLES,
+        description="Find LUKS volumes in the image of a disk, and bring their plaintext to safety.")
+    parser.add_argument("--version", action="version", version=f"{PROGRAM} {__version__}")
+    subparsers = parser.add_subparsers(metavar="COMMAND", required=True)
+    for module in look, decrypt, trying, serve:
+        module.register(subparsers)
+    return parser
+
+
+def _prepare_streams() -> None:
+    """Descriptors 0 to 2 are open, so that no file gets their number, and names that are not UTF-8
+    can be printed."""
+    for descriptor in range(3):
+        try:
+            os.fstat(descriptor)
+        except OSError:
+            # (for reading alone, so that what is written there fails)
+            os.open(os.devnull, os.O_RDONLY)
+    for name in "stdout", "stderr":
+        if getattr(sys, name) is None:
+            setattr(sys, name, open({"stdout": 1, "stderr": 2}[name], "w", closefd=False))
+        getattr(sys, name).reconfigure(errors="backslashreplace")
+
+
+def _run(words: Optional[Sequence[str]]) -> int:
+    arguments = _parser().parse_args(words)
+    status = arguments.run(arguments)
+    sys.stdout.flush()
+    return status
+
+
+def _unwritable() -> int:
+    """What is left in the buffer of standard output cannot be written."""
+    say("standard output", "write failed")
+    os.dup2(os.open(os.devnull, os.O_WRONLY), 1)
+    return FAILED
+
+
+def _unexpected(error: BaseException) -> int:
+    """A fault of this program: no traceback, but the line where it was found."""
+    place = traceback.extract_tb(error.__traceback__)[-1]
+    say("", f"this is a bug: {type(error).__name__} at {os.path.basename(place.filename)}:"
+        f"{place.lineno}: {shown(error)}")
+    return FAILED
+
+
+def _status_of(error: Exception) -> int:
+    """Prints what ended the command, and gives its status."""
+    if isinstance(error, Refusal):
+        say(error.what, error.why)
+        return error.status
+    if isinstance(error, MemoryError):
+        say("", "out of memory")
+        return MEMORY
+    if isinstance(error, BrokenPipeError):
+        return _unwritable()
+    if isinstance(error, OSError):
+        say(error.filename or "", error.strerror or str(error))
+        return FAILED
+    # (luksrd's own error, which says luksCat's message)
+    if hasattr(error, "status") and hasattr(error, "message"):
+        say("", error.message.removeprefix("luksrd: "))
+        return error.status
+    return _unexpected(error)
+
+
+def main(words: Optional[Sequence[str]] = None) -> int:
+    """Runs the command, and returns its status."""
+    _prepare_streams()
+    try:
+        return _run(words)
+    except KeyboardInterrupt:
+        say("", "interrupted")
+        return INTERRUPTED
+    except SystemExit as ended:  # argparse's own
+        return ended.code if isinstance(ended.code, int) else 0
+    except Exception as error:  # pylint: disable=broad-exception-caught
+        return _status_of(error)

@@ -1,0 +1,97 @@
+"""Going on with the output of an earlier run, by its map."""
+
+from __future__ import annotations
+
+import argparse
+import os
+import stat
+from typing import NamedTuple, Optional
+
+from . import __version__, maps, related
+from .command import USAGE, Refusal, shown
+from .writing import Kept, Target
+
+_MARK = "luksrd-rescue: "
+
+
+class Identity(NamedTuple):
+    """What has to be the same in both runs: the UUID, the byte of the image at which the payload
+    begins, and which pieces of the plaintext are written."""
+
+    uuid: str
+    payload: int
+    pieces: list[tuple[int, int]]
+
+    def _line(self) -> str:
+        pieces = ",".join(f"{offset}:{length}" for offset, length in self.pieces)
+        return f"{_MARK}uuid={shown(self.uuid) or '-'} payload={self.payload} plaintext={pieces}"
+
+    def comments(self, image: str) -> list[str]:
+        """The comments of the map."""
+        return [f"Mapfile. Created by luksrd-rescue {__version__}",
+                "Positions are those of the output: the bytes named below, one after the other",
+                f"Image: {shown(image)}", self._line()]
+
+    def differs_from(self, comments: list[str]) -> Optional[str]:
+        """What of a map with these comments is another one, or None."""
+        line = next((it for it in comments if it.startswith(_MARK)), None)
+        if line is None:
+            return "is not a map of luksrd-rescue"
+        names = {"uuid": "UUID", "payload": "payload offset", "plaintext": "length or range"}
+        ours, theirs = _fields(self._line()), _fields(line)
+        for name, words in names.items():
+            if ours.get(name) != theirs.get(name):
+                return (f"is of another volume or part: its {words} is {theirs.get(name)}, not "
+                        f"{ours.get(name)}")
+        return None
+
+
+def _fields(line: str) -> dict[str, str]:
+    return dict(word.partition("=")[::2] for word in line.removeprefix(_MARK).split(" "))
+
+
+def check_map_path(path: Optional[str], target: Target, kept: list[Kept],
+                   arguments: argparse.Namespace) -> None:
+    """Refuses to write the map over something else."""
+    if path is None:
+        return
+    try:
+        found = os.stat(path)
+    except FileNotFoundError:
+        return
+    except (OSError, ValueError) as error:
+        raise Refusal(USAGE, path, f"cannot be the map: {getattr(error, 'strerror', error)}") from error
+    if not stat.S_ISREG(found.st_mode):
+        raise Refusal(USAGE, path, "cannot be the map: it is not a regular file")
+    for it in [*kept, *([Kept(target.path, os.stat(target.path))] if target.is_there else [])]:
+        if related.are_related(found, it.identity):
+            raise Refusal(USAGE, path, f"cannot be the map: it is {it.path}")
+    if not arguments.resume and arguments.retry is None and not arguments.force:
+        raise Refusal(USAGE, path, "there is such a file, and the map would be written there: --resume "
+                      "goes on by it, --force overwrites it, and --map names another one")
+
+
+def earlier(path: str, identity: Identity, target: Target,
+            arguments: argparse.Namespace) -> Optional[maps.Map]:
+    """The map of the earlier run; None if there is none, so that all is begun anew."""
+    source = arguments.retry if arguments.retry is not None else path
+    if not os.path.exists(source):
+        if arguments.retry is not None:
+            raise Refusal(USAGE, source, "there is no such map")
+        if target.is_there and not arguments.force:
+            raise Refusal(USAGE, target.path, f"there is such a file, but no map {shown(source)} that says "
+                          "what of it is done: --force begins anew")
+        return None
+    found = maps.load(source)
+    difference = identity.differs_from(found.comments)
+    if difference:
+        raise Refusal(USAGE, source, difference)
+    length = sum(it[1] for it in identity.pieces)
+    if found.size != length:
+        raise Refusal(USAGE, source, f"is of {found.size} bytes, not {length}")
+    if target.is_there:
+        return found
+    if arguments.retry is not None:
+        raise Refusal(USAGE, target.path, "there is no such file, in which what is lost could be filled in")
+    # (the output is gone, and with it what the map says)
+    return None
