@@ -144,6 +144,9 @@ def _logical_volume(arguments: argparse.Namespace, volume: object) -> list[tuple
         return [tuple(piece) for piece in luksrd_lvm.find(volume, arguments.lv).pieces]
     except luksrd_lvm.Refused as error:
         raise Refusal(USAGE, arguments.image, str(error.args[0])) from error
+    except OSError as error:
+        raise Refusal(FAILED, arguments.image, "LVM's metadata, in the first bytes of the plaintext, "
+                      f"cannot be read: {error.strerror}") from error
 
 
 def _cut(pieces: list[tuple[int, int]], offset: int, length: int) -> list[tuple[int, int]]:

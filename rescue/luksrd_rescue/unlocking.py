@@ -37,7 +37,7 @@ class Unlocked(NamedTuple):
     payload: int
 
 
-class _Head(NamedTuple):
+class Head(NamedTuple):
     """The first bytes of a volume, and which of them cannot be read, as offsets in the volume."""
 
     content: bytearray
@@ -107,11 +107,11 @@ class _Attempt:
         self._facts, self._slots = volume.facts, []
         self._head = self._header_file = None
         if arguments.header is None:
-            self._head = _head_of(image, volume.offset, volume.length, self._facts)
+            self._head = head_of(image, volume.offset, volume.length, self._facts)
         else:
             with open_image(arguments.header) as header:
-                self._head = _head_of(header, 0, None, self._facts)
-            self._header_file = _in_memory(self._head.content, cleanup)
+                self._head = head_of(header, 0, None, self._facts)
+            self._header_file = in_memory(self._head.content, cleanup)
 
     def _part(self) -> dict[str, object]:
         """The arguments that say where the volume and its header are."""
@@ -241,32 +241,20 @@ class _Attempt:
 
     def by_volume_key(self) -> Unlocked:
         """Opens the volume by its key; its geometry is that of the header, unless options say it."""
-        options, facts = self._arguments, self._facts
-        payload = options.payload_offset
-        if payload is None:
-            payload = facts.segment_offset if facts else None
-        if payload is None:
-            raise Refusal(USAGE, self._image.path, "there is no header to say where the payload begins: "
-                          "add --payload-offset (often 16Mi in LUKS2, 2Mi in LUKS1), and --cipher and "
-                          "--sector-size if they differ")
-        geometry = {"payload_offset": payload,
-                    "cipher": options.cipher or (facts and facts.cipher) or CIPHERS[0],
-                    "sector_size": options.sector_size or (facts.sector_size if facts else 512),
-                    "iv_offset": facts.iv_tweak if facts else 0,
-                    "size": facts.segment_size if facts else None}
+        numbers = geometry(self._arguments, self._facts, self._image.path)
         with contextlib.ExitStack() as cleanup:
-            secret = terminal.read_key_file(options.volume_key_file)
+            secret = terminal.read_key_file(self._arguments.volume_key_file)
             cleanup.callback(terminal.wipe, secret)
             found = terminal.derive("comparing the volume key",
-                                    self._by_key_opener(secret, geometry), self._is_quiet)
-        return Unlocked(found, None, payload)
+                                    self._by_key_opener(secret, numbers), self._is_quiet)
+        return Unlocked(found, None, numbers["payload_offset"])
 
-    def _by_key_opener(self, secret: bytearray, geometry: dict) -> Callable[[], luksrd.Volume]:
+    def _by_key_opener(self, secret: bytearray, numbers: dict) -> Callable[[], luksrd.Volume]:
         def opened() -> luksrd.Volume:
             with warnings.catch_warnings(record=True) as seen:
                 warnings.simplefilter("always")
                 try:
-                    found = luksrd.open_by_volume_key(self._source, volume_key=secret, **geometry,
+                    found = luksrd.open_by_volume_key(self._source, volume_key=secret, **numbers,
                                                       **self._part())
                 except luksrd.WrongKeyError as error:
                     raise Refusal(NO_KEY, self._image.path, "the volume key is not that of the header"
@@ -278,6 +266,21 @@ class _Attempt:
                     "not, the plaintext is noise")
             return found
         return opened
+
+
+def geometry(arguments: argparse.Namespace, facts: Optional[Found], path: str) -> dict:
+    """Where the payload is and how it is encrypted, as luksrd.open_by_volume_key takes it: by the
+    options, or else by the header."""
+    payload = arguments.payload_offset
+    if payload is None:
+        payload = facts.segment_offset if facts else None
+    if payload is None:
+        raise Refusal(USAGE, path, "there is no header to say where the payload begins: add "
+                      "--payload-offset (often 16Mi in LUKS2, 2Mi in LUKS1), and --cipher and "
+                      "--sector-size if they differ")
+    return {"payload_offset": payload, "cipher": arguments.cipher or (facts and facts.cipher) or CIPHERS[0],
+            "sector_size": arguments.sector_size or (facts.sector_size if facts else 512),
+            "iv_offset": facts.iv_tweak if facts else 0, "size": facts.segment_size if facts else None}
 
 
 def _reason(error: luksrd.LuksError) -> str:
@@ -301,7 +304,7 @@ def available_memory() -> Optional[int]:
     return None
 
 
-def _head_of(image: Image, offset: int, length: Optional[int], facts: Optional[Found]) -> _Head:
+def head_of(image: Image, offset: int, length: Optional[int], facts: Optional[Found]) -> Head:
     """The headers and key areas of a volume, with zeros for what cannot be read."""
     patched = image.patched()
     end = image.size if length is None else min(image.size, offset + length)
@@ -310,10 +313,10 @@ def _head_of(image: Image, offset: int, length: Optional[int], facts: Optional[F
     with memoryview(content) as view:
         got = patched.pread_into(view, offset) if content else 0
     del content[got:]
-    return _Head(content, [Lost(it.offset - offset, it.length) for it in patched.lost])
+    return Head(content, [Lost(it.offset - offset, it.length) for it in patched.lost])
 
 
-def _in_memory(content: bytearray, cleanup: contextlib.ExitStack) -> str:
+def in_memory(content: bytearray, cleanup: contextlib.ExitStack) -> str:
     """The name of a file in memory with these bytes, which is gone after the cleanup."""
     descriptor = os.memfd_create("header", os.MFD_CLOEXEC)
     cleanup.callback(os.close, descriptor)
