@@ -15,6 +15,7 @@
 # make nbdkit     builds the plugin and the filter for the installed version of nbdkit, out/nbdkit-luksrd-plugin.so and
 #                 -filter.so, and the library, which both load. With SHARED and SHARED_V3 it takes the library that these
 #                 name, and needs no toolchain
+# make rescue     builds what luksrd-rescue needs, and runs it from the sources, with the arguments in ARGS
 # make install    puts what is built below PREFIX (/usr/local if it is not given), in DESTDIR if that is given: programs,
 #                 man pages, completions and guides, the library with its module for Python, the plugin and the filter:
 #                 for /usr and /usr/local in nbdkit's own folders, with a systemd unit, for any other PREFIX in
@@ -79,14 +80,16 @@ HEADERS = $(DESTDIR)$(PREFIX)/include
 PLUGIN_FILE = $(DESTDIR)$(PLUGINS)/nbdkit-luksrd-plugin.so
 FILTER_FILE = $(DESTDIR)$(FILTERS)/nbdkit-luksrd-filter.so
 MODULE_FILE = $(DESTDIR)$(MODULES)/luksrd.py
+RESCUE := $(wildcard rescue/luksrd_rescue/*.py)
+RESCUE_FOLDER = $(DESTDIR)$(MODULES)/luksrd_rescue
 UNIT_FILE = $(DESTDIR)$(PREFIX)/lib/systemd/system/nbdkit-luksrd@.service
 CFLAGS ?= -O2 -D_FORTIFY_SOURCE=2 -fstack-protector-strong
 # the library's file, and the two names that lead to it
 SHARED_NAMES = libluksrd.so.$(VERSION) libluksrd.so.$(INTERFACE) libluksrd.so
 
-.PHONY: all demo quick check test pages bench library nbdkit tools toolchain built library-built nbdkit-folders runs-here \
+.PHONY: all demo quick check test pages bench library nbdkit rescue tools toolchain built library-built nbdkit-folders runs-here \
     install install-parts not-packaged install-program install-audit install-library install-shared install-plugin \
-    install-filter install-python uninstall deb FORCE
+    install-filter install-python install-rescue uninstall deb FORCE
 
 all: $(PROGRAM) $(AUDIT)
 
@@ -169,6 +172,9 @@ $(FILTER): nbdkit/filter.c nbdkit/below.c $(NBDKIT_PARTS) $(NBDKIT_HEADERS) $(SH
 out/nbdkit.version: FORCE
 	@mkdir -p out && pkg-config nbdkit --modversion >$@.$$$$ && \
 	    if cmp -s $@.$$$$ $@; then rm $@.$$$$; else mv $@.$$$$ $@; fi
+
+rescue: $(AUDIT) library
+	@rescue/luksrd-rescue $(or $(ARGS),--help)
 
 demo: toolchain
 	@tests/demo

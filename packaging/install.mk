@@ -24,7 +24,8 @@ install: built $(if $(filter-out x86-64-v2,$(CPU)),runs-here) \
 
 install-parts: install-program $(if $(wildcard $(PLUGIN)),install-plugin) $(if $(wildcard $(FILTER)),install-filter) \
     $(if $(wildcard $(AUDIT)),install-audit) \
-    $(if $(wildcard $(PLUGIN) $(FILTER) $(LIBRARY)),install-library install-python)
+    $(if $(wildcard $(PLUGIN) $(FILTER) $(LIBRARY)),install-library install-python) \
+    $(if $(wildcard $(AUDIT)),$(if $(wildcard $(PLUGIN) $(FILTER) $(LIBRARY)),install-rescue))
 
 install-audit:
 	@$(call refuse_packaged,$(BINARIES)/luksrd-audit)
@@ -39,8 +40,7 @@ install-program: built $(if $(filter-out x86-64-v2,$(CPU)),runs-here)
 	@$(call refuse_packaged,$(BINARIES)/luksrd)
 	install -d "$(BINARIES)" "$(PAGES)" "$(BASH_COMPLETIONS)" "$(ZSH_COMPLETIONS)"
 	install -m 755 "$(PROGRAM)" "$(BINARIES)/luksrd"
-	install -m 755 scripts/luksrd-candidates "$(BINARIES)/luksrd-candidates"
-	install -m 644 docs/luksrd.1 docs/luksrd-candidates.1 "$(PAGES)"
+	install -m 644 docs/luksrd.1 "$(PAGES)"
 	packaging/documents "$(DOCUMENTS)" $(GUIDES)
 	install -m 644 completions/luksrd.bash "$(BASH_COMPLETIONS)/luksrd"
 	install -m 644 completions/_luksrd "$(ZSH_COMPLETIONS)/_luksrd"
@@ -117,13 +117,21 @@ install-filter: | $(if $(filter-out x86-64-v2,$(CPU)),runs-here)
 
 install-python: | $(if $(filter-out x86-64-v2,$(CPU)),runs-here)
 	@$(call refuse_packaged,$(MODULE_FILE))
-	install -d "$(DESTDIR)$(MODULES)" "$(BINARIES)" "$(PAGES)"
-	install -m 644 python/luksrd.py "$(MODULE_FILE)"
-	install -m 755 scripts/luksrd-lvm "$(BINARIES)/luksrd-lvm"
-	install -m 644 docs/luksrd-lvm.1 "$(PAGES)"
+	install -d "$(DESTDIR)$(MODULES)"
+	install -m 644 python/luksrd.py python/luksrd_lvm.py "$(DESTDIR)$(MODULES)"
+
+# It needs luksrd-audit and the module above.
+install-rescue: | $(if $(filter-out x86-64-v2,$(CPU)),runs-here)
+	@$(call refuse_packaged,$(BINARIES)/luksrd-rescue)
+	install -d "$(BINARIES)" "$(PAGES)" "$(BASH_COMPLETIONS)" "$(ZSH_COMPLETIONS)" "$(RESCUE_FOLDER)"
+	install -m 755 rescue/luksrd-rescue "$(BINARIES)/luksrd-rescue"
+	install -m 644 $(RESCUE) "$(RESCUE_FOLDER)"
+	install -m 644 docs/luksrd-rescue.1 "$(PAGES)/luksrd-rescue.1"
+	install -m 644 completions/luksrd-rescue.bash "$(BASH_COMPLETIONS)/luksrd-rescue"
+	install -m 644 completions/_luksrd-rescue "$(ZSH_COMPLETIONS)/_luksrd-rescue"
 
 INSTALLED = "$(BINARIES)/luksrd" "$(PAGES)/luksrd.1" \
-    "$(BINARIES)/luksrd-candidates" "$(PAGES)/luksrd-candidates.1" $(GUIDES:%="$(DOCUMENTS)/%") \
+    $(GUIDES:%="$(DOCUMENTS)/%") \
     "$(BASH_COMPLETIONS)/luksrd" "$(ZSH_COMPLETIONS)/_luksrd" \
     "$(BINARIES)/luksrd-audit" "$(PAGES)/luksrd-audit.1" \
     "$(BASH_COMPLETIONS)/luksrd-audit" "$(ZSH_COMPLETIONS)/_luksrd-audit" \
@@ -133,8 +141,11 @@ INSTALLED = "$(BINARIES)/luksrd" "$(PAGES)/luksrd.1" \
     "$(LIBRARIES)/$(HWCAPS)/$(word 2,$(SHARED_NAMES))" \
     "$(UNIT_FILE)" "$(PAGES)/nbdkit-luksrd-plugin.1" $(if $(PLUGINS),"$(PLUGIN_FILE)") \
     "$(PAGES)/nbdkit-luksrd-filter.1" $(if $(FILTERS),"$(FILTER_FILE)") \
-    "$(BINARIES)/luksrd-lvm" "$(PAGES)/luksrd-lvm.1" \
-    "$(MODULE_FILE)" "$(DESTDIR)$(MODULES)/__pycache__"/luksrd.*.pyc
+    "$(BINARIES)/luksrd-rescue" "$(PAGES)/luksrd-rescue.1" $(RESCUE:rescue/%="$(DESTDIR)$(MODULES)/%") \
+    "$(BASH_COMPLETIONS)/luksrd-rescue" "$(ZSH_COMPLETIONS)/_luksrd-rescue" \
+    "$(MODULE_FILE)" "$(DESTDIR)$(MODULES)/luksrd_lvm.py" \
+    "$(DESTDIR)$(MODULES)/__pycache__"/luksrd.*.pyc "$(DESTDIR)$(MODULES)/__pycache__"/luksrd_lvm.*.pyc \
+    "$(RESCUE_FOLDER)/__pycache__"/*.pyc
 
 uninstall:
 	@for file in $(INSTALLED); do \
@@ -143,7 +154,7 @@ uninstall:
 	        { echo "rm $$file"; rm "$$file" || exit; }; \
 	done
 	@for folder in "$(DOCUMENTS)/docs" "$(DOCUMENTS)" "$(LIBRARIES)/$(HWCAPS)" "$(LIBRARIES)/glibc-hwcaps" \
-	    "$(DESTDIR)$(MODULES)/__pycache__"; do \
+	    "$(RESCUE_FOLDER)/__pycache__" "$(RESCUE_FOLDER)" "$(DESTDIR)$(MODULES)/__pycache__"; do \
 	    [ ! -d "$$folder" ] || rmdir --ignore-fail-on-non-empty "$$folder"; \
 	done
 	@$(note_library)

@@ -1,0 +1,361 @@
+"""What luksrd-audit says of LUKS headers. Nothing else here looks into a header."""
+
+import json
+import os
+import subprocess
+import threading
+import time
+from typing import Any, Callable, Iterator, NamedTuple, Optional
+
+from . import tools
+from .command import Refusal, shown, sized
+
+# luksrd looks at no more of an image to find its header and its key areas
+HEADER_BYTES = 32 << 20
+PIECE = 1 << 16
+SECTOR = 512
+# The length of a LUKS1 header
+HEADER1_BYTES = 592
+KIB = 1024
+
+# What tokens need, by their types; a slot with another token opens with what that is for
+TOKENS = {"systemd-tpm2": "TPM2", "systemd-fido2": "FIDO2", "systemd-pkcs11": "PKCS#11 card",
+          "clevis": "Clevis"}
+# Tokens for slots that open with a passphrase all the same
+PASSPHRASE_TOKENS = {"systemd-recovery": "a recovery key, typed as a passphrase with its hyphens",
+                     "luks2-keyring": "a passphrase"}
+
+# Why luksrd cannot try a slot, by the word that luksrd-audit has for it
+REASONS = {
+    "type": "it is of an unknown type",
+    "member": "its metadata is damaged",
+    "argon2i": "this version of luksrd does not derive keys by Argon2i",
+    "argon2id": "this version of luksrd does not derive keys by Argon2id",
+    "kdf": "luksrd does not know how its key is derived",
+    "hash": "luksrd does not know its hash function",
+    "encryption": "luksrd does not know the cipher of its key area",
+    "key size": "its key has a length that does not fit the cipher",
+    "stripes": "its number of stripes is damaged",
+    "iterations": "its number of iterations is damaged",
+    "area": "its key area is out of range",
+    "digest": "no digest of the volume key goes with it",
+    "state": "its state is damaged",
+    "memory": "it needs too much memory",
+}
+
+# Why luksrd cannot read a payload
+FAULTS = {
+    "requirement": "reencryption was interrupted, or it needs a feature newer than luksrd:"
+                   " see \"Reencryption under way\" in RESCUE.md",
+    "segments": "it has more than one segment",
+    "member": "the metadata of its segment is damaged",
+    "type": "its segment is of an unknown type",
+    "integrity": "it has integrity protection: cryptsetup opens it",
+    "encryption": "luksrd does not read its cipher: cryptsetup opens it",
+    "sector size": "the size of its sectors is damaged",
+    "offset": "the offset of its payload is damaged",
+    "size": "the size of its payload is damaged",
+    "hash": "luksrd does not know its hash function: cryptsetup opens it",
+    "key bytes": "its key has a length that does not fit the cipher",
+}
+
+# The other findings
+FINDINGS = {
+    "primary header: not valid": "the first of its two headers is damaged; the second one is used",
+    "secondary header: not valid": "the second of its two headers is damaged; the first one is used",
+    "headers: sequence numbers differ": "its two headers are of different days; the later one is used",
+    "keyslots: name out of range": "it has a key slot with a number above 31, which is left out",
+}
+
+
+class Slot(NamedTuple):
+    """A key slot: `raw` is its object in luksrd-audit's line, `tokens` the types of its tokens."""
+
+    raw: dict[str, Any]
+    tokens: tuple[str, ...]
+
+    def _number(self, name: str) -> int:
+        value = self.raw.get(name)
+        return value if isinstance(value, int) else 0
+
+    @property
+    def number(self) -> int:
+        return self._number("number")
+
+    @property
+    def can_try(self) -> bool:
+        """Whether the library can derive its key from a passphrase."""
+        return bool(self.raw.get("library_can_try", self.raw.get("can_try")))
+
+    @property
+    def is_used(self) -> bool:
+        return self.raw.get("state") != "disabled"
+
+    @property
+    def priority(self) -> int:
+        value = self.raw.get("priority")
+        return value if isinstance(value, int) else 1
+
+    @property
+    def kdf(self) -> str:
+        return str(self.raw.get("kdf") or "")
+
+    @property
+    def iterations(self) -> int:
+        return self._number("iterations")
+
+    @property
+    def memory(self) -> int:
+        """The bytes that its key derivation needs; 0 for PBKDF2."""
+        return self._number("memory") * KIB
+
+    @property
+    def area_offset(self) -> int:
+        return self._number("area_offset")
+
+    @property
+    def area_length(self) -> int:
+        """The bytes of its key material, whole sectors; all of the area if its stripes are unknown."""
+        material = self._number("key_bytes") * self._number("stripes")
+        return -(-material // SECTOR) * SECTOR or self._number("area_size")
+
+    @property
+    def device(self) -> Optional[str]:
+        """What the slot needs in place of a passphrase, such as TPM2."""
+        if set(self.tokens) & PASSPHRASE_TOKENS.keys():
+            return None
+        return ", ".join(TOKENS.get(kind, shown(kind)) for kind in self.tokens) or None
+
+    @property
+    def opens(self) -> bool:
+        """Whether a passphrase that a person knows opens it."""
+        return self.can_try and not self.device
+
+    @property
+    def cost(self) -> str:
+        """How its key is derived, and what that costs."""
+        if not self.kdf.startswith("argon2"):
+            name = shown(str(self.raw.get("hash") or "?"))
+            return f"{self.kdf.upper() or '?'}, {name}, {self.iterations:,} iterations"
+        passes = self._number("time")
+        return f"{self.kdf.capitalize()}, {sized(self.memory)}, {passes} pass{'es' * (passes != 1)}"
+
+    @property
+    def words(self) -> str:
+        """What opens it, for people."""
+        if not self.can_try:
+            reason = str(self.raw.get("reason") or "")
+            return f"cannot be opened: {REASONS.get(reason, shown(reason))}"
+        if self.device:
+            return f"needs a token ({self.device})"
+        means = [PASSPHRASE_TOKENS[kind] for kind in self.tokens if kind in PASSPHRASE_TOKENS]
+        only = f", only by --key-slot {self.number}" if self.priority == 0 else ""
+        return f"opens with {(means or ['a passphrase'])[0]}{only} ({self.cost})"
+
+
+class Found(NamedTuple):
+    """A LUKS header: `raw` is luksrd-audit's line, `offset` where the volume begins in its image."""
+
+    raw: dict[str, Any]
+    offset: int
+
+    def _number(self, name: str) -> int:
+        value = self.raw.get(name)
+        return value if isinstance(value, int) else 0
+
+    @property
+    def version(self) -> int:
+        return self._number("version")
+
+    @property
+    def uuid(self) -> str:
+        return str(self.raw.get("uuid") or "")
+
+    @property
+    def label(self) -> str:
+        return str(self.raw.get("label") or "")
+
+    @property
+    def cipher(self) -> str:
+        return str(self.raw.get("cipher") or "")
+
+    @property
+    def sector_size(self) -> int:
+        return self._number("sector_size") or SECTOR
+
+    @property
+    def iv_tweak(self) -> int:
+        return self._number("iv_tweak")
+
+    @property
+    def segment_offset(self) -> Optional[int]:
+        """Where the payload begins, after the volume's first byte."""
+        value = self.raw.get("segment_offset")
+        return value if isinstance(value, int) else None
+
+    @property
+    def segment_size(self) -> Optional[int]:
+        """The length of the payload, or None if it ends with the image."""
+        value = self.raw.get("segment_size")
+        return value if isinstance(value, int) else None
+
+    @property
+    def tokens(self) -> list[dict[str, Any]]:
+        return [each for each in self.raw.get("tokens") or [] if isinstance(each, dict)]
+
+    @property
+    def slots(self) -> list[Slot]:
+        """The key slots that are in use."""
+        slots = [Slot(each, self._types_for(each)) for each in self.raw.get("slots") or []]
+        return [slot for slot in slots if slot.is_used]
+
+    def _types_for(self, slot: dict[str, Any]) -> tuple[str, ...]:
+        """The types of the tokens that name this slot."""
+        name = str(slot.get("number"))
+        return tuple(str(token.get("type")) for token in self.tokens
+                     if name in map(str, token.get("keyslots") or []))
+
+    @property
+    def header_length(self) -> int:
+        """The bytes of the header, or of both headers of LUKS2."""
+        return 2 * self._number("header_size") if self.version == 2 else HEADER1_BYTES
+
+    @property
+    def head_length(self) -> int:
+        """The first bytes that opening it needs: its headers and the key areas of its slots."""
+        ends = [slot.area_offset + slot.area_length for slot in self.slots]
+        return min(HEADER_BYTES, max([self.header_length, *ends]))
+
+    @property
+    def fault(self) -> Optional[str]:
+        """Why luksrd does not read the payload, or None if it does."""
+        for finding in self.all_findings:
+            if finding.startswith("segment: "):
+                name = finding.removeprefix("segment: ")
+                return FAULTS.get(name, shown(name))
+        return None
+
+    @property
+    def all_findings(self) -> list[str]:
+        """What is wrong with the header, and what luksrd does not support, as luksCheck prints it."""
+        listed = [*(self.raw.get("findings") or []), *(self.raw.get("unsupported") or [])]
+        return [each if isinstance(each, str) else f"{each.get('place')}: {each.get('name')}"
+                for each in listed]
+
+    @property
+    def damage(self) -> list[str]:
+        """What is damaged, in words, but for what `fault` and the slots' own words say."""
+        return [FINDINGS.get(each, shown(each)) for each in self.all_findings
+                if not each.startswith(("segment: ", "slot "))]
+
+
+def at(image, offset: int = 0, length: Optional[int] = None) -> Optional[Found]:
+    """The header of the volume that begins here, or None if there is none. An image whose lost
+    sectors are zeros gives them to luksrd-audit as that."""
+    end = image.size if length is None else min(image.size, offset + length)
+    lines = _lines_for(lambda view, done: image.pread_into(view, offset + done),
+                       min(HEADER_BYTES, max(0, end - offset)))
+    headers = [line for line in lines if "error" not in line]
+    return Found(headers[0], offset) if headers else None
+
+
+def of_file(path: str) -> Found:
+    """The header in a file of its own, which may be a pipe."""
+    try:
+        with open(path, "rb", buffering=0) as file:
+            lines = _lines_for(lambda view, _: file.readinto(view), HEADER_BYTES)
+    except OSError as error:
+        raise Refusal(4, path, f"cannot open: {error.strerror}") from None
+    if not lines or "error" in lines[0]:
+        raise Refusal(4, path, lines[0]["error"] if lines else "luksrd-audit says nothing of it")
+    return Found(lines[0], 0)
+
+
+def _lines_for(read: Callable[[memoryview, int], int], length: int) -> list[dict[str, Any]]:
+    """luksrd-audit's lines for these bytes, of which it takes as many as it needs."""
+    with subprocess.Popen([tools.audit_program(), "-"], stdin=subprocess.PIPE,
+                          stdout=subprocess.PIPE) as process:
+        failures: list[OSError] = []
+        writer = threading.Thread(target=_feed, args=(process.stdin, read, length, failures))
+        writer.start()
+        try:
+            output = process.stdout.read()
+        finally:
+            process.stdout.close()
+            writer.join()
+    if failures:
+        raise failures[0]
+    return _parsed(output)
+
+
+def _feed(pipe, read: Callable[[memoryview, int], int], length: int,
+          failures: list[OSError]) -> None:
+    """Writes bytes into a pipe, until its reader has enough of them."""
+    piece, done = memoryview(bytearray(PIECE)), 0
+    try:
+        while done < length:
+            try:
+                got = read(piece[:min(PIECE, length - done)], done)
+            except OSError as error:
+                failures.append(error)
+                break
+            if not got:
+                break
+            pipe.write(piece[:got])
+            done += got
+    except (BrokenPipeError, ValueError):
+        pass
+    finally:
+        try:
+            pipe.close()
+        except BrokenPipeError:
+            pass
+
+
+def _parsed(output: bytes) -> list[dict[str, Any]]:
+    return [json.loads(line) for line in output.splitlines() if line.strip()]
+
+
+class Searched(NamedTuple):
+    """What a search has found, and whether it could read all of the image."""
+
+    headers: list[Found]
+    is_whole: bool
+
+
+def search(image, progress=None) -> Searched:
+    """Every header in an image, also of a lost partition. It reads all of the image; `progress`
+    takes the number of bytes that were read since the last call."""
+    with subprocess.Popen([tools.audit_program(), "--search", "--", image.path],
+                          stdin=subprocess.DEVNULL, stdout=subprocess.PIPE) as process:
+        reader = threading.Thread(target=_follow, args=(process, progress), daemon=True)
+        reader.start()
+        lines = _parsed(process.stdout.read())
+        process.wait()
+        reader.join()
+    failed = [line["error"] for line in lines if line.get("error") not in (None, "no LUKS header")]
+    return Searched([Found(line, line["offset"]) for line in lines if "error" not in line],
+                    not failed)
+
+
+def _follow(process: subprocess.Popen, progress) -> None:
+    """Tells how far a search has read, by the position of its file."""
+    done = 0
+    while progress and process.poll() is None:
+        for position in _positions(process.pid):
+            if position > done:
+                progress.advance(position - done)
+                done = position
+        time.sleep(0.2)
+
+
+def _positions(process: int) -> Iterator[int]:
+    """The positions in the regular files and devices that a process has open."""
+    folder = f"/proc/{process}/fdinfo"
+    try:
+        for name in os.listdir(folder):
+            if int(name) > 2:
+                with open(f"{folder}/{name}", encoding="ascii") as file:
+                    yield int(file.readline().partition(":")[2])
+    except (OSError, ValueError):
+        return
