@@ -11,10 +11,11 @@ import types
 
 import pytest
 
-pytest.register_assert_rewrite("support", "volumes", "kinds", "serving", "documents")
+pytest.register_assert_rewrite("support", "volumes", "kinds", "serving", "documents", "rescuing")
 import support  # noqa: E402
 import volumes  # noqa: E402
 from kinds import kinds  # noqa: E402, F401
+from rescuing import bad_sectors, luks_cat, rescue  # noqa: E402, F401
 from support import MARK, TOP, Program, built, wait_until  # noqa: E402
 
 # The options of the make that calls pytest are not for those that tests call.

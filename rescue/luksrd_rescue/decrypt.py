@@ -94,7 +94,7 @@ def run(arguments: argparse.Namespace) -> int:
         kept = _kept(arguments, image)
         target.check(kept)
         resuming.check_map_path(map_path, target, kept, arguments)
-        volume = choosing.choose(image.patched(), arguments)
+        volume = _chosen(image, arguments)
         loaded = Loaded(image)
         unlocked = unlocking.unlock(image, volume, arguments, loaded)
         terminal.wipe(unlocked.passphrase)
@@ -102,6 +102,14 @@ def run(arguments: argparse.Namespace) -> int:
             payload = working.Payload(unlocked.volume, image, loaded, volume.offset + unlocked.payload)
             begun = _begin(arguments, volume, payload, target, map_path)
             return _finish(arguments, volume, begun, target.open(begun.length, kept, begun.is_new))
+
+
+def _chosen(image: Image, arguments: argparse.Namespace) -> choosing.Volume:
+    """The volume that is meant. With a volume key and the payload's offset it needs no header."""
+    options = arguments.partition, arguments.offset, arguments.length, arguments.header
+    if arguments.payload_offset is not None and all(it is None for it in options):
+        return choosing.find_volumes(image.patched(), offset=0)[0]
+    return choosing.choose(image.patched(), arguments)
 
 
 def _kept(arguments: argparse.Namespace, image: Image) -> list[Kept]:
@@ -117,9 +125,9 @@ def _map_path(arguments: argparse.Namespace, target: Target) -> Optional[str]:
     """Where the map is: beside a file, and nowhere for a pipe or a device unless it is named."""
     if arguments.map is not None or arguments.retry is not None:
         return arguments.map if arguments.map is not None else arguments.retry
+    if target.is_device and arguments.resume:
+        raise Refusal(USAGE, "--resume", "needs --map here: a device has no map beside it")
     if target.is_pipe or target.is_device:
-        if arguments.resume:
-            raise Refusal(USAGE, "--resume", f"needs --map here: {target.path} has no map beside it")
         return None
     return f"{target.path}.map"
 

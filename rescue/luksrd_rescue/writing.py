@@ -225,7 +225,7 @@ class Target:
         try:
             if self.is_pipe:
                 return PipeOutput()
-            return self._device(length) if self.is_device else self._file(length, images, is_new)
+            return self._device(length) if self.is_device else self._file(length, kept, is_new)
         except OSError as error:
             if error.errno == errno.EEXIST:
                 raise Refusal(USAGE, self.path, "another program has just made this file") from error

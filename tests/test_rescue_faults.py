@@ -1,0 +1,310 @@
+"""luksrd-rescue decrypt past what is damaged: bad sectors in payload, headers and key areas, by reads that fail
+(tests/failing_reads.c) and by maps of ddrescue; images that end early; writes that fail. What is expected is the plaintext with
+zeros for the sectors that were injected."""
+import os
+import random
+import re
+import subprocess
+
+import pytest
+import volumes
+from kinds import ESSIV, START, VOLUME1, VOLUME2
+from rescuing import blocks_by_ddrescuelog, merged, with_zeros
+from support import must, namespace, needs, shown
+from test_rescue_decrypt import says
+from volumes import copy_of, metadata
+
+pytestmark = needs("cc")
+
+
+@pytest.fixture
+def volume(kinds, tmp_path):
+    """volume(NAME): a copy of one of the kinds, in the folder of the test, with its key files."""
+    volumes.passphrases(tmp_path)
+    return lambda name: copy_of(kinds / name, tmp_path / "disk.img")
+
+
+def lost_by(places, start, sector, size):
+    """The encryption sectors of a plaintext that are lost with these bytes of the image."""
+    found = []
+    for offset, length in places:
+        first, last = (offset - start) // sector * sector, -(-(offset + length - start) // sector) * sector
+        first, last = max(0, first), min(size, last)
+        if first < last:
+            found.append((first, last - first))
+    return merged(found)
+
+
+def lost_in_map(path):
+    """The places of a map that are marked as bad."""
+    rows = re.findall(r"^(0x\w+)\s+(0x\w+)\s+-$", path.read_text(), re.MULTILINE)
+    return [(int(start, 16), int(length, 16)) for start, length in rows]
+
+
+def listed(message):
+    """What messages say is missing: its place in the image and in the plaintext, and its length."""
+    return [(int(at), int(plain), int(length)) for length, at, plain in re.findall(
+        r": (\d+) bytes at (\d+) cannot be read: zeros at (\d+) of the plaintext$", message, re.MULTILINE)]
+
+
+PLACES = {
+    "one sector": [(START + 4096, 512)],
+    "the first and the last": [(START, 512), (START + 303104 - 512, 512)],
+    "neighbours and others": [(START + 8192, 1536), (START + 9728, 512), (START + 100000, 7), (START + 200704, 65536)],
+    "between sectors": [(START + 4096 * 3 - 1, 2)],
+    "forty": [(START + 7168 * number, 512) for number in range(40)],
+    "all of it": [(START, 303104)],
+}
+
+
+@pytest.mark.parametrize("unit, whole", [(1, None), (1, 1), (4096, None)])
+@pytest.mark.parametrize("places", PLACES.values(), ids=PLACES)
+@pytest.mark.parametrize("name, sector", [("luks2 xts-plain64 512 512", 512), (VOLUME2, 4096), (ESSIV, 4096)])
+def test_bad_sectors(rescue, volume, kinds, bad_sectors, name, sector, places, unit, whole):
+    image, plain = volume(name), kinds.text(name)
+    env = bad_sectors(image, places, unit=unit, **({"whole": 1} if whole else {}))
+    ended = rescue("decrypt", "disk.img", "--key-file", "pass", "-o", "plain", "--map", "map", env=env)
+    # (what is read past the page cache is lost by sectors of 512)
+    by_sectors = [(start // 512 * 512, -(-(start + length) // 512) * 512 - start // 512 * 512) for start, length in places]
+    lost = lost_by(by_sectors, START, sector, len(plain))
+    says(ended, status=6)
+    assert shown((rescue.folder / "plain").read_bytes()) == shown(with_zeros(plain, lost))
+    assert lost_in_map(rescue.folder / "map") == lost
+    assert listed(ended.message) == [(START + start, start, length) for start, length in lost]
+    total = sum(length for _, length in lost)
+    assert re.search(rf"plain: {re.escape(sized(total))} of .* are missing", ended.message), ended.message
+
+
+def sized(count):
+    return f"{count} bytes" if count < 1024 else f"{count / 1024:.1f} KiB".replace(".0 ", " ")
+
+
+@needs("ddrescuelog")
+def test_ddrescuelog_reads_the_map(rescue, volume, kinds, bad_sectors):
+    image, size = volume("luks2 xts-plain64 512 512"), len(kinds.text(VOLUME2))
+    places = PLACES["neighbours and others"]
+    says(rescue("decrypt", "disk.img", "--key-file", "pass", "-o", "plain", env=bad_sectors(image, places)), status=6)
+    path = rescue.folder / "plain.map"
+    must("ddrescuelog", "--show-status", path)
+    lost = lost_by([(it // 512 * 512, 512 * (1 + (length - 1) // 512)) for it, length in places], START, 512, size)
+    assert blocks_by_ddrescuelog(path, "-") == lost
+    assert sum(length for _, length in blocks_by_ddrescuelog(path, "+")) == size - sum(length for _, length in lost)
+    text = path.read_text()
+    assert "disk.img" in text and metadata_uuid(image) in text and str(START) in text
+
+
+def metadata_uuid(image):
+    return must("cryptsetup", "luksUUID", image).decode().strip()
+
+
+def test_ranges_past_bad_sectors(rescue, volume, kinds, bad_sectors):
+    """Whole encryption sectors are lost, but only what of them is in the range."""
+    image, plain = volume(VOLUME2), kinds.text(VOLUME2)
+    env = bad_sectors(image, [(START + 8192 + 512, 512)])
+    for first, length in (8000, 1000), (9000, 8000), (8192, 4096), (12287, 1), (12288, 100), (8191, 1):
+        ended = rescue("decrypt", "disk.img", "--key-file", "pass", "-o", "part", "--force", "--range", f"{first}:{length}", env=env)
+        wanted = with_zeros(plain, [(8192, 4096)])[first:first + length]
+        assert (rescue.folder / "part").read_bytes() == wanted
+        assert ended.status == (6 if first < 12288 and first + length > 8192 else 0), ended
+
+
+def test_pipe_past_bad_sectors(rescue, volume, kinds, bad_sectors):
+    image, plain = volume(VOLUME1), kinds.text(VOLUME1)
+    ended = rescue("decrypt", "disk.img", "--key-file", "pass", "-o", "-", "--map", "map", env=bad_sectors(image, [(START + 1024, 512)]))
+    says(ended, status=6)
+    assert ended.output == with_zeros(plain, [(1024, 512)])
+    assert lost_in_map(rescue.folder / "map") == [(1024, 512)]
+
+
+def test_retry(rescue, volume, kinds, bad_sectors):
+    """What can be read by now is filled in, until nothing is missing."""
+    image, plain = volume(VOLUME1), kinds.text(VOLUME1)
+    places = [(START + 512 * number, 512) for number in (3, 4, 100, 585)]
+    command = ["decrypt", "disk.img", "--key-file", "pass", "-o", "plain"]
+    says(rescue(*command, env=bad_sectors(image, places)), "--retry plain.map", status=6)
+    for left in places[1:], places[2:], []:
+        ended = rescue(*command, "--retry", "plain.map", env=bad_sectors(image, left))
+        says(ended, status=6 if left else 0)
+        lost = lost_by(left, START, 512, len(plain))
+        assert (rescue.folder / "plain").read_bytes() == with_zeros(plain, lost)
+        assert lost_in_map(rescue.folder / "plain.map") == lost
+    assert re.search(r"^0x0+\s+0x\w+\s+\+$", (rescue.folder / "plain.map").read_text(), re.MULTILINE)
+
+
+@pytest.mark.parametrize("lines, lost", [
+    ("0 ? 1\n0 {end} +\n", []),
+    ("0x0 + 1\n0x0 {start} +\n{start} 1024 -\n{rest} {left} +\n", [(0, 1024)]),
+    ("0 ?\n0 {start} +\n{start} 512 ?\n{next} 512 *\n{rest} 512 /\n", [(0, "end")]),
+    ("0 + 2\n0 {start} +\n", [(0, "end")]),
+    ("# a comment\n0 + 1\n0 {start} +\n{rest} {left} +\n", [(0, 1024)]),
+])
+def test_map_of_the_image(rescue, volume, kinds, lines, lost):
+    """What is not finished, or not covered, is not decrypted."""
+    image, plain = volume("luks2 xts-plain64 512 512"), kinds.text("luks2 xts-plain64 512 512")
+    end = image.stat().st_size
+    numbers = {"start": START, "next": START + 512, "rest": START + 1024, "left": end - START - 1024, "end": end}
+    (rescue.folder / "disk.map").write_text(lines.format(**numbers))
+    if lost:
+        volumes.overwrite(image, START, bytes(1024))
+    ended = rescue("decrypt", "disk.img", "--key-file", "pass", "-o", "plain", "--image-map", "disk.map")
+    says(ended, status=6 if lost else 0)
+    places = [(start, len(plain) if length == "end" else length) for start, length in lost]
+    assert (rescue.folder / "plain").read_bytes() == with_zeros(plain, places)
+
+
+@pytest.mark.parametrize("text, line", [("", 0), ("nonsense\n", 1), ("0 + 1\n0 10\n", 2), ("0 + 1\n0 10 x\n", 2), ("0 + 1\n0 0 +\n", 2),
+                                        ("0 + 1\n0 10 +\n5 10 +\n", 3), ("# only\n", 1), ("0 + 1\n-5 10 +\n", 2), ("\0\xff", 1)])
+def test_no_map(rescue, volume, text, line):
+    volume(VOLUME1)
+    (rescue.folder / "disk.map").write_bytes(text.encode("latin-1"))
+    ended = rescue("decrypt", "disk.img", "--key-file", "pass", "-o", "plain", "--image-map", "disk.map")
+    says(ended, f"disk.map: line {line} is not one of a map of ddrescue", status=4)
+    says(rescue("decrypt", "disk.img", "-o", "plain", "--image-map", "none"), "none: cannot open the map", status=4)
+
+
+@needs("ddrescue")
+def test_image_by_ddrescue(rescue, volume, kinds, bad_sectors, tmp_path):
+    """ddrescue's own image and map of a disk with bad sectors."""
+    image, plain = volume("luks2 xts-plain64 512 512"), kinds.text("luks2 xts-plain64 512 512")
+    must("ddrescue", "-q", "--size", str(START + 10240), "disk.img", "copy.img", "copy.map", cwd=tmp_path)
+    os.truncate(tmp_path / "copy.img", image.stat().st_size)
+    ended = rescue("decrypt", "copy.img", "--key-file", "pass", "-o", "plain", "--image-map", "copy.map")
+    says(ended, status=6)
+    assert (tmp_path / "plain").read_bytes() == with_zeros(plain, [(10240, len(plain))])
+
+
+# Headers and key areas
+
+def areas_of(image):
+    return {int(number): (int(slot["area"]["offset"]), int(slot["area"]["size"]))
+            for number, slot in metadata(image)[0]["keyslots"].items()}
+
+
+@pytest.mark.parametrize("at", [0, 4096, 8191])
+def test_bad_sector_in_the_first_header(rescue, volume, kinds, bad_sectors, at):
+    """The second header is used."""
+    image = volume(VOLUME2)
+    ended = rescue("decrypt", "disk.img", "--key-file", "pass", "-o", "plain", env=bad_sectors(image, [(at, 1)]))
+    says(ended, "of the header cannot be read", status=0)
+    assert (rescue.folder / "plain").read_bytes() == kinds.text(VOLUME2)
+
+
+def test_bad_sectors_in_both_headers(rescue, volume, bad_sectors):
+    image = volume(VOLUME2)
+    env = bad_sectors(image, [(0, 512), (16384, 512)])
+    ended = rescue("decrypt", "disk.img", "--offset", "0", "--key-file", "pass", "-o", "plain", env=env)
+    says(ended, "the header cannot be read", "--header", status=6)
+    assert not (rescue.folder / "plain").exists()
+
+
+def test_bad_sector_in_a_key_area(rescue, volume, kinds, bad_sectors):
+    """Its slot is left out, and another one opens; zeros are not key material."""
+    image = volume(VOLUME2)
+    env = bad_sectors(image, [(areas_of(image)[0][0] + 512, 512)])
+    ended = rescue("decrypt", "disk.img", "--key-file", "pass2", "-o", "plain", env=env)
+    says(ended, "key slot 0 is left out: its key area has sectors that cannot be read", status=0)
+    assert "trying key slot 0" not in ended.message
+    assert (rescue.folder / "plain").read_bytes() == kinds.text(VOLUME2)
+    says(rescue("decrypt", "disk.img", "--key-file", "pass", "-o", "other", env=env), "(not tried: 0)", status=2)
+    says(rescue("decrypt", "disk.img", "--key-file", "pass", "--key-slot", "0", "-o", "other", env=env),
+         "no key slot can be read", status=6)
+
+
+def test_bad_sectors_in_all_key_areas(rescue, volume, bad_sectors):
+    image = volume(VOLUME2)
+    env = bad_sectors(image, [(start, 512) for start, _ in areas_of(image).values()])
+    says(rescue("decrypt", "disk.img", "--key-file", "pass", "-o", "plain", env=env), "no key slot can be read", "--header", status=6)
+
+
+def test_bad_sector_after_the_key_material(rescue, volume, kinds, bad_sectors):
+    """The rest of a key area is not used."""
+    image = volume(VOLUME2)
+    start, length = areas_of(image)[0]
+    material = 64 * 4000
+    env = bad_sectors(image, [(start + material, length - material)])
+    ended = rescue("decrypt", "disk.img", "--key-file", "pass", "-o", "plain", env=env)
+    says(ended, status=0)
+    assert "left out" not in ended.message
+
+
+def test_bad_sectors_of_luks1(rescue, volume, kinds, bad_sectors):
+    image = volume(VOLUME1)
+    says(rescue("decrypt", "disk.img", "--offset", "0", "--key-file", "pass", "-o", "x", env=bad_sectors(image, [(512, 1)])),
+         "the header cannot be read", status=6)
+    ended = rescue("decrypt", "disk.img", "--key-file", "pass2", "-o", "plain", env=bad_sectors(image, [(4096, 512)]))
+    says(ended, "key slot 0 is left out", status=0)
+    assert (rescue.folder / "plain").read_bytes() == kinds.text(VOLUME1)
+
+
+def test_map_of_the_image_and_the_header(rescue, volume, kinds):
+    """A map that misses the first header."""
+    image = volume(VOLUME2)
+    (rescue.folder / "map").write_text(f"0 ?\n0 4096 -\n4096 {image.stat().st_size - 4096} +\n")
+    volumes.overwrite(image, 0, bytes(4096))
+    ended = rescue("decrypt", "disk.img", "--offset", "0", "--key-file", "pass", "-o", "plain", "--image-map", "map")
+    says(ended, "of the header cannot be read", status=0)
+    assert (rescue.folder / "plain").read_bytes() == kinds.text(VOLUME2)
+
+
+# Images that end early, and disks that go away
+
+def test_bad_sectors_and_an_early_end(rescue, volume, kinds, bad_sectors):
+    """Status 6 if both are missing."""
+    image, plain = volume(VOLUME1), kinds.text(VOLUME1)
+    os.truncate(image, START + 100000)
+    ended = rescue("decrypt", "disk.img", "--key-file", "pass", "-o", "plain", env=bad_sectors(image, [(START + 512, 512)]))
+    says(ended, "image ends inside a sector: 160 bytes left over", "512 bytes at", status=6)
+    assert (rescue.folder / "plain").read_bytes() == with_zeros(plain[:99840], [(512, 512)])
+
+
+def test_gap_in_memory_is_not_decrypted_noise(rescue, made2, bad_sectors, tmp_path):
+    """Bad sectors in many pieces of a larger volume, whose other pieces are whole."""
+    volumes.passphrases(tmp_path)
+    plain = random.Random("gaps").randbytes(8 << 20)
+    image = copy_of(made2("aes-xts-plain64", 512, "--sector-size", "4096", plain=plain), tmp_path / "disk.img")
+    start = volumes.payload_start(image)
+    places = [(start + (number << 20) - 512, 1024) for number in range(1, 8)]
+    ended = rescue("decrypt", "disk.img", "--key-file", "pass", "-o", "plain", "--range", f"0:{len(plain)}", env=bad_sectors(image, places))
+    lost = lost_by(places, start, 4096, len(plain))
+    assert (ended.status, shown((tmp_path / "plain").read_bytes())) == (6, shown(with_zeros(plain, lost)))
+    assert lost_in_map(tmp_path / "plain.map") == lost
+
+
+# Writes
+
+def test_write_that_fails(rescue, volume, kinds, bad_sectors):
+    """The system's reason; output and map stay, and --resume goes on."""
+    image, plain = volume(VOLUME2), kinds.text(VOLUME2)
+    command = ["decrypt", "disk.img", "--key-file", "pass", "-o", "plain"]
+    ended = rescue(*command, env=bad_sectors(image, [], writes=100000))
+    says(ended, "plain: write failed: No space left on device", "--resume goes on", status=6)
+    assert (rescue.folder / "plain").exists() and (rescue.folder / "plain.map").exists()
+    says(rescue(*command), "there is such a file", status=1)
+    says(rescue(*command, "--resume"), status=0)
+    assert (rescue.folder / "plain").read_bytes() == plain and not (rescue.folder / "plain.map").exists()
+
+
+def test_file_that_may_not_be_so_long(rescue, volume):
+    import resource
+    volume(VOLUME2)
+    ended = rescue("decrypt", "disk.img", "--key-file", "pass", "-o", "plain",
+                   preexec_fn=lambda: resource.setrlimit(resource.RLIMIT_FSIZE, (4096, 4096)))
+    says(ended, "File too large", status=6)
+
+
+@needs("mount")
+def test_full_disk(rescue, made2, tmp_path):
+    """A file system with too little room: a warning before, the reason, and the rest once there is room."""
+    volumes.passphrases(tmp_path)
+    plain = random.Random("full").randbytes(24 << 20)
+    copy_of(made2("aes-xts-plain64", 512, "--sector-size", "4096", plain=plain), tmp_path / "disk.img")
+    (tmp_path / "out").mkdir()
+    command = [*rescue.command("decrypt", "disk.img", "--key-file", "pass", "-o", "out/plain", "--range", f"0:{len(plain)}")]
+    script = ('mount -t tmpfs -o size=10m none out; "$@"; echo first $?; ls out; mount -o remount,size=64m out; '
+              '"$@" --resume; echo second $?; ls out; cp out/plain plain')
+    ended = subprocess.run([*namespace(), "sh", "-c", script, "sh", *command], cwd=tmp_path, env=rescue.variables,
+                           capture_output=True, check=False)
+    assert b"first 6\nplain\nplain.map\n" in ended.stdout and b"second 0\nplain\n" in ended.stdout, ended
+    assert b"there is room for" in ended.stderr and b"may be missing" in ended.stderr
+    assert b"out/plain: write failed: No space left on device" in ended.stderr
+    assert shown((tmp_path / "plain").read_bytes()) == shown(plain)

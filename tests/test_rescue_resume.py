@@ -1,0 +1,272 @@
+"""luksrd-rescue decrypt, interrupted and gone on with: killed at random moments, by Ctrl-C, by a full disk. strace shows that data
+is on the disk before the map says so, and how much is read again."""
+import os
+import random
+import re
+import signal
+import time
+
+import pytest
+import volumes
+from rescuing import Terminal
+from support import needs, shown, wait_until
+from test_rescue_decrypt import says
+
+LENGTH = 160 << 20
+PIECE = 1 << 20
+
+
+def make_large(path):
+    """A volume of LUKS1 with a payload of random bytes, whatever they decrypt to."""
+    volumes.passphrases(path.parent)
+    with open(path, "wb") as file:
+        file.truncate((2 << 20) + LENGTH)
+    volumes.cryptsetup("luksFormat --type luks1 --key-file pass --pbkdf-force-iterations 1000 --cipher aes-xts-plain64 --key-size 256",
+                       path, cwd=path.parent)
+    assert volumes.payload_start(path) == 2 << 20
+    chance = random.Random("large")
+    with open(path, "r+b") as file:
+        file.seek(2 << 20)
+        for _ in range(LENGTH // PIECE):
+            file.write(chance.randbytes(PIECE))
+
+
+@pytest.fixture
+def large(cached, tmp_path):
+    """The volume, in the folder of the test as `disk.img`."""
+    volume = cached("large", make_large)
+    volumes.passphrases(tmp_path)
+    os.symlink(volume, tmp_path / "disk.img")
+    return volume
+
+
+@pytest.fixture
+def plain(cached, rescue, luks_cat, large):
+    """Its plaintext, by luksCat."""
+
+    def make(path):
+        with open(path, "wb") as file:
+            assert luks_cat("--key-file", "pass", "disk.img", stdout=file).status == 0
+
+    return cached("plain", make)
+
+
+COMMAND = ["decrypt", "disk.img", "--key-file", "pass", "-o", "plain"]
+
+
+def same(one, other):
+    """Whether two files have the same bytes."""
+    if one.stat().st_size != other.stat().st_size:
+        return False
+    with open(one, "rb") as first, open(other, "rb") as second:
+        return all(first.read(PIECE) == second.read(PIECE) for _ in range(-(-one.stat().st_size // PIECE)))
+
+
+def blocks_of(path):
+    rows = re.findall(r"^(0x\w+)\s+(0x\w+)\s+(\S)$", path.read_text(), re.MULTILINE)
+    return [(int(start, 16), int(length, 16), status) for start, length, status in rows]
+
+
+@pytest.mark.parametrize("number", range(10))
+def test_killed(rescue, large, plain, number):
+    """What the map calls done is right at each moment, and --resume gives the same bytes."""
+    out, chance = rescue.folder / "plain", random.Random(number)
+    run = rescue.start(*COMMAND)
+    moments = 0
+    while run.poll() is None:
+        time.sleep(chance.uniform(0.05, 0.8))
+        run.kill()
+        ended = run.wait()
+        moments += 1
+        if ended == 0:
+            break
+        if (rescue.folder / "plain.map").exists():
+            with open(out, "rb") as written, open(plain, "rb") as wanted:
+                for start, length, status in blocks_of(rescue.folder / "plain.map"):
+                    if status == "+":
+                        written.seek(start), wanted.seek(start)
+                        assert shown(written.read(length)) == shown(wanted.read(length))
+        run = rescue.start(*COMMAND, "--resume")
+        if moments > 12:
+            # (a busy machine: let it come to an end)
+            run.communicate()
+    says(rescue(*COMMAND, "--resume") if not out.exists() else rescue(*COMMAND, "--resume", "--force"), status=0)
+    assert same(out, plain)
+
+
+def test_killed_and_gone_on_with_once(rescue, large, plain):
+    run = rescue.start(*COMMAND)
+    wait_until(lambda: (rescue.folder / "plain.map").exists() and len(blocks_of(rescue.folder / "plain.map")) > 1)
+    run.kill()
+    run.wait()
+    run.communicate()
+    says(rescue(*COMMAND), "there is such a file", status=1)
+    says(rescue(*COMMAND, "--resume"), status=0)
+    assert same(rescue.folder / "plain", plain) and not (rescue.folder / "plain.map").exists()
+
+
+READ = re.compile(r"preadv2?\((\d+)<.*?>?, .*?, (?:\d+, )?(\d+)(?:, 0)?\) = (\d+)")
+
+
+def payload_reads(trace):
+    """The ranges of the payload that a run has read, in the order in which it did."""
+    found = []
+    for line in trace.read_text(errors="replace").splitlines():
+        row = re.search(r"preadv2?\(.*, 1, (\d+)(?:, 0)?\) = (\d+)", line)
+        if row and int(row[1]) >= 2 << 20:
+            found.append((int(row[1]) - (2 << 20), int(row[2])))
+    return found
+
+
+@needs("strace")
+def test_order_of_the_disk_and_of_the_map(rescue, large, plain):
+    """Reads and writes go forwards; the map is renamed only after the data that it calls done was synced; at most 64 MiB were
+    read that the map does not have."""
+    trace = ["strace", "-f", "-qq", "-o", "trace", "-e", "trace=preadv,preadv2,pwrite64,fdatasync,fsync,rename,renameat,renameat2"]
+    says(rescue(*COMMAND, "--quiet", before=trace), status=0)
+    reads = payload_reads(rescue.folder / "trace")
+    assert reads == sorted(reads) and sum(length for _, length in reads) == LENGTH
+    writes, synced, noted, read, renames = 0, 0, 0, 0, 0
+    at_sync = {}
+    for line in (rescue.folder / "trace").read_text(errors="replace").splitlines():
+        thread = line.split()[0]
+        if found := re.search(r"pwrite64\(.*, (\d+), (\d+)\) = (\d+)", line):
+            assert int(found[2]) == writes
+            writes += int(found[3])
+        elif found := re.search(r"preadv2?\(.*, 1, (\d+)(?:, 0)?\) = (\d+)", line):
+            read += int(found[2]) if int(found[1]) >= 2 << 20 else 0
+            assert read - noted <= 64 << 20
+        elif re.search(r"fdatasync\(\d+", line):
+            # (the line of a call that others interrupt is that of its beginning: what was written by then)
+            at_sync[thread] = writes if "resumed" not in line else at_sync[thread]
+            synced = at_sync[thread]
+        elif "rename" in line and "plain.map" in line:
+            noted, renames = synced, renames + 1
+    assert renames > LENGTH >> 26 and writes == LENGTH
+    assert same(rescue.folder / "plain", plain)
+
+
+@needs("strace")
+def test_what_is_read_again(rescue, large, plain):
+    """Of what a killed run has read, the next one reads at most 64 MiB again."""
+    trace = ["strace", "-f", "-qq", "-e", "trace=preadv,preadv2"]
+    run = rescue.start(*COMMAND, "--quiet", before=[*trace, "-o", "trace1"])
+    wait_until(lambda: sum(length for _, length in payload_reads(rescue.folder / "trace1")) > 96 << 20
+               if (rescue.folder / "trace1").exists() else False)
+    os.killpg(run.pid, signal.SIGKILL)
+    run.communicate()
+    says(rescue(*COMMAND, "--quiet", "--resume", before=[*trace, "-o", "trace2"]), status=0)
+    first, second = (payload_reads(rescue.folder / name) for name in ("trace1", "trace2"))
+    again = sum(length for _, length in first) + sum(length for _, length in second) - LENGTH
+    assert 0 <= again <= 64 << 20
+    assert same(rescue.folder / "plain", plain)
+
+
+def test_interrupted(rescue, large, plain):
+    run = rescue.start(*COMMAND, "--quiet")
+    wait_until(lambda: (rescue.folder / "plain.map").exists() and len(blocks_of(rescue.folder / "plain.map")) > 1)
+    run.send_signal(signal.SIGINT)
+    _, message = run.communicate()
+    assert run.returncode == 130
+    assert re.fullmatch(r"luksrd-rescue: interrupted: [^\n]* are done; --resume goes on by plain\.map\n", message.decode())
+    says(rescue(*COMMAND, "--resume"), status=0)
+    assert same(rescue.folder / "plain", plain)
+
+
+def test_interrupted_while_deriving(rescue, tmp_path):
+    """Ctrl-C does not wait for a key."""
+    volumes.passphrases(tmp_path)
+    with open(tmp_path / "slow", "wb") as file:
+        file.truncate(4 << 20)
+    volumes.cryptsetup("luksFormat --type luks1 --key-file pass --pbkdf-force-iterations 1000", "slow", cwd=tmp_path)
+    # (the iterations of slot 0: hours)
+    volumes.overwrite(tmp_path / "slow", 212, b"\xff\xff\xff\xff")
+    run = rescue.start("decrypt", "slow", "--key-file", "pass", "-o", "plain")
+    assert b"trying key slot 0 (PBKDF2" in run.stderr.readline()
+    run.send_signal(signal.SIGINT)
+    _, message = run.communicate()
+    assert (run.returncode, message) == (130, b"luksrd-rescue: interrupted\n")
+    assert not (tmp_path / "plain").exists()
+
+
+@pytest.fixture
+def begun(rescue, large, bad_sectors):
+    """A run that a full disk has ended; more(WORD, ..) goes on with it."""
+    ended = rescue(*COMMAND, env=bad_sectors(large, [], writes=40 << 20))
+    says(ended, "write failed", status=6)
+    return lambda *words, **how: rescue(*[*COMMAND, "--resume", *words], **how)
+
+
+def test_other_volumes_are_refused(rescue, large, begun, tmp_path):
+    before = (tmp_path / "plain.map").read_bytes()
+    says(begun("--range", "0:1Mi"), "its length or range is", status=1)
+    says(begun("--length", str(100 << 20)), "its length or range is", status=1)
+    link = tmp_path / "disk.img"
+    volume = os.readlink(link)
+    link.unlink()
+    with open(link, "wb") as file, open(volume, "rb") as source:
+        file.write(source.read(2 << 20))
+        file.truncate((2 << 20) + LENGTH)
+    volumes.with_own_uuid(link)
+    says(begun(), "its UUID is", status=1)
+    (tmp_path / "shifted").write_bytes(bytes(512))
+    with open(tmp_path / "shifted", "ab") as file, open(volume, "rb") as source:
+        file.write(source.read(2 << 20))
+        file.truncate((2 << 20) + 512 + LENGTH)
+    ended = rescue("decrypt", "shifted", "--offset", "512", "--key-file", "pass", "-o", "plain", "--resume")
+    says(ended, "its payload offset is", status=1)
+    assert (tmp_path / "plain.map").read_bytes() == before
+
+
+def test_other_names_are_not(rescue, large, plain, begun, tmp_path):
+    """Image, output and map may have other names by then."""
+    (tmp_path / "disk.img").rename(tmp_path / "renamed.img")
+    (tmp_path / "plain").rename(tmp_path / "other")
+    (tmp_path / "plain.map").rename(tmp_path / "other.map")
+    says(rescue("decrypt", "renamed.img", "--key-file", "pass", "-o", "other", "--resume"), status=0)
+    assert same(tmp_path / "other", plain)
+
+
+def test_map_of_something_else(rescue, large, begun, tmp_path):
+    (tmp_path / "plain.map").write_text(f"0 ?\n0 {LENGTH} +\n")
+    says(begun(), "is not a map of luksrd-rescue", status=1)
+
+
+def test_no_map(rescue, large, plain, begun, tmp_path):
+    """Without a map it begins anew, but not over a file that may be another one."""
+    (tmp_path / "plain.map").unlink()
+    says(begun(), "no map plain.map", status=1)
+    says(begun("--force"), status=0)
+    assert same(tmp_path / "plain", plain)
+    (tmp_path / "plain").unlink()
+    says(begun(), status=0)
+    assert same(tmp_path / "plain", plain)
+
+
+def test_file_that_was_changed(rescue, large, begun, tmp_path):
+    os.truncate(tmp_path / "plain", 100)
+    says(begun(), "has 100 bytes, and the map is of a file of", status=1)
+
+
+def test_old_bytes_are_overwritten(rescue, tmp_path):
+    """What an earlier run may have left in the place of zeros does not stay."""
+    volumes.passphrases(tmp_path)
+    chance = random.Random("old")
+    content = chance.randbytes(1 << 20) + bytes(1 << 20)
+    volumes.luks2(tmp_path / "disk.img", content, "aes-xts-plain64", 512, "--sector-size", "4096")
+    command = [*COMMAND, "--range", f"0:{2 << 20}"]
+    says(rescue(*command, "--map", "map"), status=0)
+    text = (tmp_path / "map").read_text()
+    (tmp_path / "map").write_text(re.sub(r"^0x0+  0x0*200000  \+$", "0x0 0x80000 +\n0x80000 0x180000 ?", text, flags=re.MULTILINE))
+    volumes.overwrite(tmp_path / "plain", 1 << 20, b"x" * (1 << 20))
+    says(rescue(*command, "--map", "map", "--resume"), status=0)
+    assert (tmp_path / "plain").read_bytes() == content
+
+
+def test_progress(rescue, large):
+    """On a terminal with rate and time left; --quiet shows nothing."""
+    with Terminal(rescue, *COMMAND) as terminal:
+        assert terminal.ended() == 0
+        assert re.search(rb"\d+%.*MB/s", terminal.shown) and rb"Traceback" not in terminal.shown
+    (rescue.folder / "plain").unlink()
+    assert rescue(*COMMAND, "--quiet").message == ""
